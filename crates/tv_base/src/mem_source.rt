@@ -1,0 +1,107 @@
+//! A source in memory, whose calls fail where they are told to.
+
+ghost use Rattle.std.specs.Prelude.{◌≡◌, ◌<◌, ◌≤◌, ◌↔◌, ◌++◌, length, take, drop, min, Some, Contains, IsTrue, IsErr, IfOk, OnErr};
+ghost use Rattle.std.specs.Io.KnownBytes.{Consumes, IsAtEnd};
+ghost use Rattle.tv_base.specs.Faults.{Rose, one_more};
+
+use crate::{Failed, Source};
+use std::marker::Model;
+
+/// A source of the bytes that it was made with. Its calls are numbered from 1, and those whose
+/// numbers it was given fail and read nothing.
+#[derive(Debug, Drop)]
+pub struct MemSource {
+    bytes: Vec<u8>,
+    at: usize,
+    fail: Vec<u32>,
+    calls: u64,
+    faults: u64,
+}
+
+impl Model for MemSource {
+    ghost use Rattle.std.specs.Prelude.{◌≤◌, length, drop};
+    ghost use Rattle.tv_base.specs.Memory.{SourceState};
+
+    ghost Value = { SourceState };
+
+    ghost view = { λ s. record {
+      left = drop s.at s.bytes.items;
+      fail = s.fail.items;
+      calls = s.calls;
+      faults = s.faults;
+    } };
+
+    ghost invariant = { λ s. s.at ≤ length s.bytes.items };
+}
+
+impl MemSource {
+    /// A source of these bytes, whose calls of the numbers in `fail` fail. A number of a call is
+    /// a `u64` that stays at its greatest value.
+    pub fn new(bytes: Vec<u8>, fail: Vec<u32>) -> Self
+        ensures { result ≡ record { left = bytes.items; fail = fail.items; calls = 0; faults = 0 } }
+    {
+        MemSource {
+            bytes,
+            at: 0,
+            fail,
+            calls: 0,
+            faults: 0,
+        }
+    }
+}
+
+/// Whether the call of this number is one of those that fail.
+fn is_listed(fail: &[u32], call: u64) -> bool
+    ensures { IsTrue result ↔ Contains fail.now call }
+{
+    fail.iter().any(|listed| u64::from(*listed) == call)
+}
+
+/// Copies as many bytes as both have into the front of the room, and says how many.
+fn copy_front(from: &[u8], room: &mut [u8]) -> usize
+    ensures count { result ≡ min (length room.old) (length from.now) }
+    ensures copied { room.new ≡ take result from.now ++ drop result room.old }
+{
+    let count = room.len().min(from.len());
+    room[..count].copy_from_slice(&from[..count]);
+    count
+}
+
+impl Source for MemSource {
+    ghost left = { λ s. Some s.left };
+
+    ghost faults = { λ s. s.faults };
+
+    fn read(&mut self, room: &mut [u8]) -> Result<usize, Failed>
+        ensures later { self.old.faults ≤ self.new.faults }
+        ensures fits { IfOk result (λ n. n ≤ length room.new) }
+        ensures bytes { IfOk result (λ n.
+            Consumes (Some self.old.left) (Some self.new.left) (take n room.new)) }
+        ensures end { IfOk result (λ n.
+            n ≡ 0 → 0 < length room.new → IsAtEnd (Some self.new.left)) }
+        ensures failed { OnErr result (Rose self.old.faults self.new.faults) }
+
+        // A call fails exactly where its number is listed.
+        ensures listed { IsErr result ↔ Contains self.old.fail (one_more self.old.calls) }
+        ensures count { IfOk result (λ n. n ≡ min (length room.old) (length self.old.left)) }
+        ensures copied { IfOk result (λ n. room.new ≡ take n self.old.left ++ drop n room.old) }
+        ensures ok { IfOk result (λ n. self.new ≡ record self.old {
+          left = drop n self.old.left;
+          calls = one_more self.old.calls;
+        }) }
+        ensures room { OnErr result (room.new ≡ room.old) }
+        ensures err { OnErr result (self.new ≡ record self.old {
+          calls = one_more self.old.calls;
+          faults = one_more self.old.faults;
+        }) }
+    {
+        self.calls = self.calls.saturating_add(1);
+        if is_listed(&self.fail, self.calls) {
+            self.faults = self.faults.saturating_add(1);
+            return Err(Failed);
+        }
+        let count = copy_front(&self.bytes[self.at..], room);
+        self.at += count;
+        Ok(count)
+    }
+}

@@ -1,0 +1,29 @@
+//! Where bytes come from.
+
+ghost use Rattle.std.specs.Prelude.{◌≡◌, ℕ, ◌<◌, ◌≤◌, List, Option, length, take, IfOk, OnErr};
+ghost use Rattle.std.specs.Io.KnownBytes.{Consumes, IsAtEnd};
+ghost use Rattle.tv_base.specs.Faults.{Rose};
+
+/// A fault of an object that was handed in.
+#[derive(Clone, Copy, Debug, PartialEq, Eq, Hash)]
+pub struct Failed;
+
+/// Gives bytes from the first to the last, in pieces of any length.
+pub trait Source {
+    /// The bytes that are not yet read, where the source tells them.
+    ghost left: { Self → Option (List ℕ) };
+
+    /// How often the source has failed. The count stands still at the greatest `u64`.
+    ghost faults: { Self → ℕ };
+
+    /// Puts the next bytes into the front of the room, and says how many they are.
+    /// 0 bytes into a room that isn't empty is the end. `Failed` comes only where the count of faults
+    /// rose in this call, and then nothing is said of what is left.
+    fn read(&mut self, room: &mut [u8]) -> Result<usize, Failed>
+        ensures later { faults self.old ≤ faults self.new }
+        ensures fits { IfOk result (λ n. n ≤ length room.new) }
+        ensures bytes { IfOk result (λ n.
+            Consumes (left self.old) (left self.new) (take n room.new)) }
+        ensures end { IfOk result (λ n. n ≡ 0 → 0 < length room.new → IsAtEnd (left self.new)) }
+        ensures failed { OnErr result (Rose (faults self.old) (faults self.new)) };
+}
