@@ -1,0 +1,13 @@
+pub mod Lists
+pub mod ListPlaces
+pub mod Fullness
+pub mod CellOrder
+pub mod SolidOrder
+pub mod Views
+pub mod Styles
+pub mod UnitBox
+pub mod Sheets
+pub mod FirstCells
+pub mod Parts
+pub mod SetsInOrder
+pub mod MaximalStretches

@@ -1,0 +1,94 @@
+-- The drawing of a list of lines: what a file's lines show, each view shifted to least coordinates 0.
+use Rattle.std.specs.Prelude.{◌≡◌, IsTrue, Bool, true, false, not, ◌&&◌, ◌||◌, List, [], ◌∷◌, map, ℤ, pos, ◌+ℤ◌, int_lt, int_le, if◌then◌else◌}
+use Rattle.std.specs.List.{filter, fold}
+use Rattle.std.specs.Int.{int_min}
+use Rattle.std.specs.Ordering.{int_eq}
+use Rattle.solid_model.specs.declared.frame.View.{View}
+use Rattle.solid_model.specs.declared.frame.View.TheVariants.{Front, Top, Side}
+use Rattle.solid_model.specs.declared.segment.Segment.{Segment}
+use Rattle.solid_model.specs.declared.segment.Style.{Style}
+use Rattle.solid_model.specs.declared.segment.Style.TheVariants.{Blank, Dashed, Solid}
+pub use Rattle.solid_model.specs.Frames.{along_of, across_of}
+use Rattle.solid_model.specs.Draws.{start_of, line_of}
+use Rattle.solid_model.specs.Line.{Line}
+
+-- two names of one view
+abbrev pub same_view : View → View → Bool
+same_view Front Front = true
+same_view Top Top = true
+same_view Side Side = true
+same_view _ _ = false
+
+-- two names of one style
+abbrev pub same_style : Style → Style → Bool
+same_style Blank Blank = true
+same_style Dashed Dashed = true
+same_style Solid Solid = true
+same_style _ _ = false
+
+-- z lies in the stretch between the ends a and b, in either order, the greater end left out
+abbrev pub is_between : ℤ → ℤ → ℤ → Bool
+is_between a b z = (int_le a z && int_lt z b) || (int_le b z && int_lt z a)
+
+-- a line covers a segment: both its ends lie on the segment's line, and the segment lies between them
+abbrev pub covers : Line → Segment → Bool
+covers l g = same_view l.of g.view
+    && (int_eq (across_of g.upright l.x0 l.y0) (line_of g)
+    && (int_eq (across_of g.upright l.x1 l.y1) (line_of g)
+    && is_between (along_of g.upright l.x0 l.y0) (along_of g.upright l.x1 l.y1) (start_of g)))
+
+-- a line of that style covers the segment
+abbrev pub is_covered : Style → List Line → Segment → Bool
+is_covered style [] g = false
+is_covered style (l ∷ ls) g = (same_style style l.style && covers l g) || is_covered style ls g
+
+-- some line covers the segment
+abbrev pub is_shown : List Line → Segment → Bool
+is_shown ls g = is_covered Solid ls g || is_covered Dashed ls g
+
+-- the style of a segment on the sheet: solid lines win over dashed ones
+abbrev pub sheet_style : List Line → Segment → Style
+sheet_style ls g = if is_covered Solid ls g then Solid else (if is_covered Dashed ls g then Dashed else Blank)
+
+-- a line of no length covers nothing
+abbrev pub has_length : Line → Bool
+has_length l = not (int_eq l.x0 l.x1 && int_eq l.y0 l.y1)
+
+-- the lines of a view that cover something
+abbrev pub lines_of : View → List Line → List Line
+lines_of v ls = filter (λ l. same_view v l.of && has_length l) ls
+
+-- the least member of a list, and 0 of an empty one
+abbrev pub least : List ℤ → ℤ
+least [] = pos 0
+least (z ∷ zs) = fold int_min z zs
+
+-- the least right coordinate of the segments that a view's lines cover
+abbrev pub least_right : View → List Line → ℤ
+least_right v ls = least (map (λ l. int_min l.x0 l.x1) (lines_of v ls))
+
+-- and the least up coordinate
+abbrev pub least_up : View → List Line → ℤ
+least_up v ls = least (map (λ l. int_min l.y0 l.y1) (lines_of v ls))
+
+-- the segment of the sheet that a segment of the shifted view is
+abbrev pub on_sheet : List Line → Segment → Segment
+on_sheet ls g = record g { right = g.right +ℤ least_right g.view ls; up = g.up +ℤ least_up g.view ls }
+
+-- the drawing of lines
+abbrev pub drawing_of : List Line → Segment → Style
+drawing_of ls g = sheet_style ls (on_sheet ls g)
+
+-- no segment of the view is covered
+abbrev pub IsEmptyView : List Line → View → Type 0
+IsEmptyView ls v = (g : Segment) → g.view ≡ v → IsTrue (is_shown ls g) → ⊥
+
+-- every view shows something
+abbrev pub IsShown : List Line → Type 0
+IsShown ls = (v : View) → IsEmptyView ls v → ⊥
+
+-- the first empty view in the order front, top, side
+abbrev pub IsFirstEmptyView : List Line → View → Type 0
+IsFirstEmptyView ls Front = IsEmptyView ls Front
+IsFirstEmptyView ls Top = (IsEmptyView ls Front → ⊥) × IsEmptyView ls Top
+IsFirstEmptyView ls Side = (IsEmptyView ls Front → ⊥) × (IsEmptyView ls Top → ⊥) × IsEmptyView ls Side

@@ -1,0 +1,34 @@
+-- Edges of a solid: facts of a unit edge and the four cells round it, in space.
+use Rattle.std.specs.Prelude.{Bool, true, false, not, ◌&&◌, ◌||◌, List}
+use Rattle.solid_model.specs.declared.cell.Axis.{Axis}
+use Rattle.solid_model.specs.declared.cell.Axis.TheVariants.{X, Y, Z}
+use Rattle.solid_model.specs.declared.cell.Cell.{Cell}
+use Rattle.solid_model.specs.Cells.{cell_before, is_full}
+
+-- two cells agree: both full or both empty
+abbrev pub agree : Bool → Bool → Bool
+agree true b = b
+agree false b = not b
+
+-- Four cells stand round a unit edge, a and b on one side of a plane through it, c and d on the other, and the second
+-- plane parts a and c from b and d. They make it an edge unless, for one plane, each of the two pairs across it agrees.
+abbrev pub is_edge_of : Bool → Bool → Bool → Bool → Bool
+is_edge_of a b c d = not ((agree a c && agree b d) || (agree a b && agree c d))
+
+-- the next axis, across an axis
+abbrev pub second_axis : Axis → Axis
+second_axis X = Y
+second_axis Y = Z
+second_axis Z = X
+
+-- and the other one across it
+abbrev pub third_axis : Axis → Axis
+third_axis X = Z
+third_axis Y = X
+third_axis Z = Y
+
+-- the unit edge from the point p along the axis a is an edge of the solid
+abbrev pub is_edge : List Cell → Axis → Cell → Bool
+is_edge s a p = is_edge_of
+    (is_full s p) (is_full s (cell_before (second_axis a) p))
+    (is_full s (cell_before (third_axis a) p)) (is_full s (cell_before (second_axis a) (cell_before (third_axis a) p)))

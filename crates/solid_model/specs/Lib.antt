@@ -1,0 +1,14 @@
+pub mod Lists
+pub mod Cells
+pub mod Frames
+pub mod Edges
+pub mod Line
+pub mod Draws
+pub mod Boxes
+pub mod DrawnStyle
+pub mod SmallSolids
+pub mod Drawings
+pub mod Orders
+pub mod Sets
+pub mod Matching
+pub mod Stretches

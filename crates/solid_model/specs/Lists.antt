@@ -1,0 +1,22 @@
+-- Words on lists.
+use Rattle.std.specs.Prelude.{◌≡◌, ◌⊎◌, ℕ, zero, suc, List, [], ◌∷◌, ◌++◌}
+
+-- the list has the member
+abbrev pub Member : {A : Type 0} → List A → A → Type 0
+Member [] x = ⊥
+Member (y ∷ ys) x = (y ≡ x) ⊎ Member ys x
+
+-- P holds of each member
+abbrev pub Each : {A : Type 0} → (A → Type 0) → List A → Type 0
+Each P [] = Unit {0}
+Each P (x ∷ xs) = P x × Each P xs
+
+-- each member stands in the relation to every one that follows it
+abbrev pub Ascends : {A : Type 0} → (A → A → Type 0) → List A → Type 0
+Ascends R [] = Unit {0}
+Ascends R (x ∷ xs) = Each (R x) xs × Ascends R xs
+
+-- the first n pieces, one after another
+abbrev pub pieces : {A : Type 0} → (ℕ → List A) → ℕ → List A
+pieces f zero = []
+pieces f (suc n) = pieces f n ++ f n

@@ -1,0 +1,19 @@
+-- Which solids a drawing shows.
+use Rattle.std.specs.Prelude.{List}
+use Rattle.solid_model.specs.declared.cell.Cell.{Cell}
+use Rattle.solid_model.specs.declared.segment.Segment.{Segment}
+use Rattle.solid_model.specs.declared.segment.Style.{Style}
+use Rattle.solid_model.specs.Cells.{IsSolid, SameCells}
+use Rattle.solid_model.specs.Draws.{Draws}
+use Rattle.solid_model.specs.Lists.{Member, Each, Ascends}
+use Rattle.solid_model.specs.Orders.{IsInStatedForm, Precedes}
+
+-- A solid matches a drawing, which gives each unit segment of each view a style, where its own drawing is the same.
+abbrev pub Matches : (Segment → Style) → List Cell → Type 0
+Matches drawing s = IsSolid s × ((g : Segment) → Draws s g (drawing g))
+
+-- all matching solids: each in the stated form, in the stated order, none left out
+pub record AreSolidsOf (drawing : Segment → Style) (solids : List (List Cell)) : Type 0 where
+  pub matching : Each (λ s. Matches drawing s × IsInStatedForm s) solids
+  pub ordered : Ascends Precedes solids
+  pub complete : (s : List Cell) → Matches drawing s → (t : List Cell) × Member solids t × SameCells s t

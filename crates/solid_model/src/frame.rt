@@ -1,0 +1,100 @@
+//! The views, and how each stands in space.
+
+ghost use Rattle.std.specs.Prelude.{◌≡◌};
+
+use crate::cell::Axis;
+
+/// A view of a drawing.
+#[derive(Clone, Copy, Debug, PartialEq, Eq)]
+pub enum View {
+    /// Seen from the least y.
+    Front,
+    /// Seen from the greatest z.
+    Top,
+    /// The right side, seen from the greatest x.
+    Side,
+}
+
+/// A direction along an axis: forward is that in which the axis' coordinate rises.
+#[derive(Clone, Copy, Debug, PartialEq, Eq)]
+pub struct Direction {
+    pub axis: Axis,
+    pub forward: bool,
+}
+
+/// How a view stands in space: which direction runs to the right, which upwards, and which away from the viewer.
+#[derive(Clone, Copy, Debug, PartialEq, Eq)]
+pub struct Frame {
+    pub right: Direction,
+    pub up: Direction,
+    pub away: Direction,
+}
+
+impl View {
+    ghost use Rattle.solid_model.specs.Frames.{frame_of};
+
+    /// How the view stands in space: a third-angle view.
+    pub fn frame(self) -> Frame
+        ensures { result ≡ frame_of self }
+    {
+        let (right, up, away) = match self {
+            View::Front => (Axis::X, Axis::Z, Direction::forward(Axis::Y)),
+            View::Top => (Axis::X, Axis::Y, Direction::backward(Axis::Z)),
+            View::Side => (Axis::Y, Axis::Z, Direction::backward(Axis::X)),
+        };
+        Frame {
+            right: Direction::forward(right),
+            up: Direction::forward(up),
+            away,
+        }
+    }
+}
+
+impl Frame {
+    ghost use Rattle.solid_model.specs.Frames.{along, across};
+
+    /// The direction in which the level, or the upright, segments of the view run.
+    pub fn along(self, upright: bool) -> Direction
+        ensures { result ≡ along self upright }
+    {
+        if upright { self.up } else { self.right }
+    }
+
+    /// The view's other direction, across those segments.
+    pub fn across(self, upright: bool) -> Direction
+        ensures { result ≡ across self upright }
+    {
+        if upright { self.right } else { self.up }
+    }
+}
+
+impl Direction {
+    ghost use Rattle.solid_model.specs.Frames.{forward, backward, cell_on};
+
+    /// Along the axis, as its coordinate rises.
+    pub fn forward(axis: Axis) -> Direction
+        ensures { result ≡ forward axis }
+    {
+        Direction {
+            axis,
+            forward: true,
+        }
+    }
+
+    /// Along the axis, as its coordinate falls.
+    pub fn backward(axis: Axis) -> Direction
+        ensures { result ≡ backward axis }
+    {
+        Direction {
+            axis,
+            forward: false,
+        }
+    }
+
+    /// The axis' coordinate of the cell that fills `place` to `place + 1` along the direction.
+    pub fn cell(self, place: i64) -> i64
+        ensures { result ≡ cell_on self place }
+    {
+        if self.forward { place } else { -1 - place }
+    }
+}
