@@ -1,0 +1,4 @@
+pub mod PlainForm
+pub mod Decimals
+pub mod Parts
+pub mod Reads
