@@ -1,0 +1,241 @@
+-- The segments that begin in the windows of a box's views, and what a drawing demands there.
+use Rattle.std.proofs.Common.{◌≡◌, ◌≢◌, inl, inr, ⊎_elim, ℕ, ◌+◌, ◌<◌, ◌≤◌, Bool, true, false, List, [], ◌∷◌, ◌++◌, map, ℤ, pos, ◌≤ℤ◌, ◌<ℤ◌, IsTrue, refl, sym, ap, ap₂, subst, add-one, ◌∙◌, append_assoc, arith}
+use Rattle.std.proofs.lemmas.Int.{ints}
+use Rattle.std.proofs.lemmas.List.{map-append}
+use Rattle.solid_model.specs.declared.cell.Axis.TheVariants.{X, Y, Z}
+use Rattle.solid_model.specs.declared.cell.Cell.{Cell}
+use Rattle.solid_model.specs.declared.frame.View.{View}
+use Rattle.solid_model.specs.declared.frame.View.TheVariants.{Front, Top, Side}
+use Rattle.solid_model.specs.declared.segment.Segment.{Segment}
+use Rattle.solid_model.specs.declared.segment.Style.{Style}
+use Rattle.solid_model.specs.declared.segment.Style.TheVariants.{Blank, Dashed, Solid}
+use Rattle.solid_model.specs.Boxes.{place_of, far_right, far_up, LiesWithin, FitsIn}
+use Rattle.solid_model.specs.Cells.{is_full}
+use Rattle.solid_model.specs.Draws.{start_of, line_of, has_edge, Draws}
+use Rattle.solid_model.specs.DrawnStyle.{drawn_style}
+use Rattle.solid_model.specs.Drawings.{drawing_of}
+use Rattle.solid_model.specs.Frames.{frame_of, along, across}
+use Rattle.solid_model.specs.Line.{Line}
+use Rattle.solid_model.specs.Lists.{Member, Each}
+use Rattle.solid_model.specs.Matching.{Matches}
+use Rattle.solid_model.proofs.Fullness.{each_full, each_from_full}
+use Rattle.solid_model.proofs.Lists.{member-append, member-append_left, member-append_right, member-pieces, member-from_pieces, each-at, each-from, each-map, each-from_map}
+use Rattle.solid_model.proofs.Styles.{HasCellBeside, cell_beside_drawn, drawn_style_drawn, edge_not_blank}
+use Rattle.solid_model.proofs.UnitBox.{lies_in_unit_box}
+use Rattle.unit_search.specs.declared.demands.Demand.{Demand}
+use Rattle.unit_search.specs.declared.unit_box.UnitBox.{UnitBox}
+use Rattle.unit_search.specs.Demands.{demand_of, segment_at, row_segments, window_segments, segments_in, view_segments, segments_of, IsMet, IsNearby}
+use Rattle.unit_search.specs.Reach.{width_of, height_of}
+use Rattle.unit_search.specs.UnitBox.{unit_box_of, extent_of, extent_right, extent_up, IsSmall, IsInBox}
+use Rattle.unit_search.proofs.BoxCells.{natural}
+
+-- ---- the segments of the windows
+
+-- segments of a view and a kind that begin at one point are one
+pub same_segment : (v : View) (upright : Bool) {i j k l : ℤ} → i ≡ k → j ≡ l
+    → ◌≡◌ {A = Segment} (record { view = v; upright = upright; right = i; up = j }) (record { view = v; upright = upright; right = k; up = l })
+same_segment v upright p q = λ t. record { view = v; upright = upright; right = p t; up = q t }
+
+-- the segment begins in the window of its view
+abbrev pub StartsInWindow : UnitBox → Segment → Type 0
+StartsInWindow b g = (pos 0 ≤ℤ g.right) × (g.right ≤ℤ pos (extent_right b g.view)) × (pos 0 ≤ℤ g.up) × (g.up ≤ℤ pos (extent_up b g.view))
+
+-- the segments of a row begin right of 0, and before the row's end
+member-row : (first : Segment) (n k : ℕ) → k < n → Member (row_segments first n) (record first { right = pos k })
+member-row first n k l = member-pieces (λ i. (record first { right = pos i }) ∷ []) n k (record first { right = pos k }) l (inl refl)
+
+-- and each is one of these
+row-member : (first : Segment) (n : ℕ) (g : Segment) → Member (row_segments first n) g → (k : ℕ) × (k < n) × (record first { right = pos k } ≡ g)
+row-member first n g m =
+    let p = member-from_pieces (λ i. (record first { right = pos i }) ∷ []) n g m in
+    (p.0, p.1, elim p.2 as (λ _. record first { right = pos p.0 } ≡ g) [ inl e ↦ e | inr none ↦ absurd none ])
+
+-- the segments of a window begin at the places of its rows
+member-window : (v : View) (upright : Bool) (width n i j : ℕ) → i < width → j < n → Member (window_segments v upright width n) (segment_at v upright i j)
+member-window v upright width n i j l m =
+    member-pieces (λ k. row_segments (segment_at v upright 0 k) width) n j (segment_at v upright i j) m (member-row (segment_at v upright 0 j) width i l)
+
+-- and each is one of these
+window-member : (v : View) (upright : Bool) (width n : ℕ) (g : Segment) → Member (window_segments v upright width n) g → (i j : ℕ) × (i < width) × (j < n) × (segment_at v upright i j ≡ g)
+window-member v upright width n g m =
+    let p = member-from_pieces (λ k. row_segments (segment_at v upright 0 k) width) n g m in
+    let q = row-member (segment_at v upright 0 p.0) width g p.2 in
+    (q.0, p.0, q.1, p.1, q.2)
+
+-- the segments of a view, level or upright
+member-view : (b : UnitBox) (v : View) (upright : Bool) (g : Segment) → Member (segments_in b v upright) g → Member (view_segments b v) g
+member-view b v false g m = member-append_left (segments_in b v false) _ g m
+member-view b v true g m = member-append_right (segments_in b v false) _ g m
+
+-- and each is of one of the two kinds
+view-member : (b : UnitBox) (v : View) (g : Segment) → Member (view_segments b v) g → (upright : Bool) × Member (segments_in b v upright) g
+view-member b v g m = elim (member-append (segments_in b v false) (segments_in b v true) g m) as (λ _. (upright : Bool) × Member (segments_in b v upright) g) [ inl l ↦ (false, l) | inr l ↦ (true, l) ]
+
+-- the segments of all views, by the view
+member-all : (b : UnitBox) (v : View) (g : Segment) → Member (view_segments b v) g → Member (segments_of b) g
+member-all b Front g m = member-append_left (view_segments b Front ++ view_segments b Top) _ g (member-append_left (view_segments b Front) _ g m)
+member-all b Top g m = member-append_left (view_segments b Front ++ view_segments b Top) _ g (member-append_right (view_segments b Front) _ g m)
+member-all b Side g m = member-append_right (view_segments b Front ++ view_segments b Top) _ g m
+
+-- and each is of one of the three
+all-member : (b : UnitBox) (g : Segment) → Member (segments_of b) g → (v : View) × Member (view_segments b v) g
+all-member b g m = elim (member-append (view_segments b Front ++ view_segments b Top) (view_segments b Side) g m) as (λ _. (v : View) × Member (view_segments b v) g) [
+  | inl l ↦ (elim (member-append (view_segments b Front) (view_segments b Top) g l) as (λ _. (v : View) × Member (view_segments b v) g) [ inl k ↦ (Front, k) | inr k ↦ (Top, k) ])
+  | inr l ↦ (Side, l)
+]
+
+-- a segment that begins in the window is among the segments demanded
+pub member-segments_of : (b : UnitBox) (g : Segment) → StartsInWindow b g → Member (segments_of b) g
+member-segments_of b g (left, right, bottom, top) =
+    let i = natural g.right left in
+    let j = natural g.up bottom in
+    let at : segment_at g.view g.upright i.0 j.0 ≡ g = λ t. record g { right = i.1 t; up = j.1 t } in
+    let width : i.0 < extent_right b g.view + 1 = omega (arith, ints, i.1) in
+    let height : j.0 < extent_up b g.view + 1 = omega (arith, ints, j.1) in
+    subst (Member (segments_of b)) at (member-all b g.view _ (member-view b g.view g.upright _
+    (member-window g.view g.upright _ _ i.0 j.0 width height)))
+
+-- a segment of the window at a natural place begins in the window
+placed_starts : (b : UnitBox) (v : View) (upright : Bool) (i j : ℕ) → i < extent_right b v + 1 → j < extent_up b v + 1
+    → StartsInWindow b (segment_at v upright i j)
+placed_starts b v upright i j l m = (omega (arith, ints), omega (arith, ints), omega (arith, ints), omega (arith, ints))
+
+-- and each segment demanded begins in the window
+pub segments_of-member : (b : UnitBox) (g : Segment) → Member (segments_of b) g → StartsInWindow b g
+segments_of-member b g m =
+    let v = all-member b g m in
+    let u = view-member b v.0 g v.1 in
+    let p = window-member v.0 u.0 (extent_right b v.0 + 1) (extent_up b v.0 + 1) g u.1 in
+    subst (StartsInWindow b) p.4 (placed_starts b v.0 u.0 p.0 p.1 p.2 p.3)
+
+-- ---- the demands
+
+-- what is demanded of one more list of segments comes after what is demanded of the first
+pub demands-append : (ls : List Line) (old : List Demand) (first more : List Segment) → (old ++ map (demand_of ls) first) ++ map (demand_of ls) more ≡ old ++ map (demand_of ls) (first ++ more)
+demands-append ls old first more = append_assoc old (map (demand_of ls) first) (map (demand_of ls) more) ∙ ap (λ ds. old ++ ds) (sym (map-append (demand_of ls) first more))
+
+-- one segment more of a row
+pub demands-row : (ls : List Line) (old items new : List Demand) (first : Segment) (n : ℕ) (d : Demand) → items ≡ old ++ map (demand_of ls) (row_segments first n)
+    → d ≡ demand_of ls (record first { right = pos n }) → new ≡ items ++ d ∷ [] → new ≡ old ++ map (demand_of ls) (row_segments first (n + 1))
+demands-row ls old items new first n d before this pushed =
+    pushed ∙ ap₂ (λ ds e. ds ++ e ∷ []) before this ∙ demands-append ls old (row_segments first n) (record first { right = pos n } ∷ [])
+    ∙ ap (λ k. old ++ map (demand_of ls) (row_segments first k)) (sym (add-one n))
+
+-- one row more of a window
+pub demands-window : (ls : List Line) (old items new : List Demand) (v : View) (upright : Bool) (width n : ℕ) (first : Segment) (w : ℕ)
+    → items ≡ old ++ map (demand_of ls) (window_segments v upright width n) → new ≡ items ++ map (demand_of ls) (row_segments first w)
+    → first ≡ segment_at v upright 0 n → w ≡ width → new ≡ old ++ map (demand_of ls) (window_segments v upright width (n + 1))
+demands-window ls old items new v upright width n first w before pushed this wide =
+    pushed ∙ ap₂ (λ ds gs. ds ++ map (demand_of ls) gs) before (ap₂ row_segments this wide) ∙ demands-append ls old (window_segments v upright width n) (row_segments (segment_at v upright 0 n) width)
+    ∙ ap (λ k. old ++ map (demand_of ls) (window_segments v upright width k)) (sym (add-one n))
+
+-- what is demanded of the windows of a small box is near the origin
+pub IsNearby-demands : (ls : List Line) (b : UnitBox) → IsSmall b → Each IsNearby (map (demand_of ls) (segments_of b))
+IsNearby-demands ls b small = each-map (demand_of ls) IsNearby (segments_of b) (each-from (λ g. IsNearby (demand_of ls g)) (segments_of b) (λ g m.
+    let starts = segments_of-member b g m in
+    let width = small (frame_of g.view).right.axis in
+    let height = small (frame_of g.view).up.axis in
+    ((omega (arith, ints, starts.0), omega (arith, ints, starts.1)), (omega (arith, ints, starts.2), omega (arith, ints, starts.3)))))
+
+-- a solid that meets the demands draws what the lines show in the windows
+pub draws_in_window : (ls : List Line) (b : UnitBox) (s : List Cell) → Each (IsMet s) (map (demand_of ls) (segments_of b)) → (g : Segment) → StartsInWindow b g → Draws s g (drawing_of ls g)
+draws_in_window ls b s met g starts =
+    each-at (λ h. Draws s h (drawing_of ls h)) (segments_of b) g (each-from_map (demand_of ls) (IsMet s) (segments_of b) met) (member-segments_of b g starts)
+
+-- and a solid that draws it meets them
+pub demands_met : (ls : List Line) (b : UnitBox) (s : List Cell) → ((g : Segment) → StartsInWindow b g → Draws s g (drawing_of ls g)) → Each (IsMet s) (map (demand_of ls) (segments_of b))
+demands_met ls b s draws =
+    each-map (demand_of ls) (IsMet s) (segments_of b) (each-from (λ g. Draws s g (drawing_of ls g)) (segments_of b) (λ g m. draws g (segments_of-member b g m)))
+
+-- ---- outside the windows
+
+-- the places of a box's cells in a view lie in its window
+place_in_window : (b : UnitBox) (c : Cell) → IsInBox b c → (v : View) (upright : Bool)
+    → (pos 0 ≤ℤ place_of (along (frame_of v) upright) c) × (place_of (along (frame_of v) upright) c <ℤ pos (extent_of (along (frame_of v) upright).axis b))
+    × (pos 0 ≤ℤ place_of (across (frame_of v) upright) c) × (place_of (across (frame_of v) upright) c <ℤ pos (extent_of (across (frame_of v) upright).axis b))
+place_in_window b c h Front false = ((h X).0, (h X).1, (h Z).0, (h Z).1)
+place_in_window b c h Front true = ((h Z).0, (h Z).1, (h X).0, (h X).1)
+place_in_window b c h Top false = ((h X).0, (h X).1, (h Y).0, (h Y).1)
+place_in_window b c h Top true = ((h Y).0, (h Y).1, (h X).0, (h X).1)
+place_in_window b c h Side false = ((h Y).0, (h Y).1, (h Z).0, (h Z).1)
+place_in_window b c h Side true = ((h Z).0, (h Z).1, (h Y).0, (h Y).1)
+
+-- a segment lies in the window where it does so along its way and across it
+lies_within_from : (b : UnitBox) (v : View) (upright : Bool) (right up : ℤ) → let g : Segment = record { view = v; upright = upright; right = right; up = up } in
+    pos 0 ≤ℤ start_of g → start_of g <ℤ pos (extent_of (along (frame_of v) upright).axis b) → pos 0 ≤ℤ line_of g → line_of g ≤ℤ pos (extent_of (across (frame_of v) upright).axis b)
+    → LiesWithin (pos (extent_right b v)) (pos (extent_up b v)) g
+lies_within_from b v false right up from to below above = (from, omega (arith, ints), below, above)
+lies_within_from b v true right up from to below above = (below, above, from, omega (arith, ints))
+
+module _ (b : UnitBox) (s : List Cell) (within : Each (IsInBox b) s) where
+  -- a segment beside which a cell of the box is full lies in the window
+  beside_in_window : (g : Segment) → HasCellBeside s g → LiesWithin (pos (extent_right b g.view)) (pos (extent_up b g.view)) g
+  beside_in_window g (c, full, on, beside) =
+      let place = place_in_window b c (each_full (IsInBox b) s within c full) g.view g.upright in
+      let below : pos 0 ≤ℤ line_of g = ⊎_elim (λ e. omega (arith, ints, place.2)) (λ e. omega (arith, ints, place.2)) beside in
+      let above : line_of g ≤ℤ pos (extent_of (across (frame_of g.view) g.upright).axis b) = ⊎_elim (λ e. omega (arith, ints, place.3)) (λ e. omega (arith, ints, place.3)) beside in
+      lies_within_from b g.view g.upright g.right g.up (omega (arith, ints, place.0)) (omega (arith, ints, place.1)) below above
+
+  -- a segment that such a solid draws lies in the window
+  pub drawn_in_window : (g : Segment) (style : Style) → Draws s g style → style ≢ Blank → LiesWithin (pos (extent_right b g.view)) (pos (extent_up b g.view)) g
+  drawn_in_window g style draws shown = beside_in_window g (cell_beside_drawn s g style draws shown)
+
+  -- and so does one on which an edge projects
+  edge_in_window : (g : Segment) (k : ℤ) → IsTrue (has_edge s g k) → LiesWithin (pos (extent_right b g.view)) (pos (extent_up b g.view)) g
+  edge_in_window g k edge = let d = drawn_style_drawn s g in drawn_in_window g (drawn_style s g) d (edge_not_blank s g (drawn_style s g) d k edge)
+
+-- a segment that lies in the window begins there
+pub lies_within-starts : (b : UnitBox) (g : Segment) → LiesWithin (pos (extent_right b g.view)) (pos (extent_up b g.view)) g → StartsInWindow b g
+lies_within-starts b g (left, right, bottom, top) = (left, omega (arith, ints, short.0, right), bottom, omega (arith, ints, short.1, top))
+  where
+    -- the far end isn't before the beginning
+    ends_later : (upright : Bool) (x y : ℤ) → (x ≤ℤ far_right (record g { upright = upright; right = x; up = y })) × (y ≤ℤ far_up (record g { upright = upright; right = x; up = y }))
+    ends_later false x y = (omega (arith, ints), omega (arith, ints))
+    ends_later true x y = (omega (arith, ints), omega (arith, ints))
+
+    short : (g.right ≤ℤ far_right g) × (g.up ≤ℤ far_up g)
+    short = ends_later g.upright g.right g.up
+
+-- ---- drawings that show nothing outside a box's windows
+
+-- all that the drawing shows lies in the windows of the box
+abbrev pub FitsWindows : UnitBox → (Segment → Style) → Type 0
+FitsWindows b drawing = (v : View) → FitsIn drawing v (pos (extent_right b v)) (pos (extent_up b v))
+
+-- the unit box's windows hold each view
+view_in_unit_box : (ls : List Line) (v : View) → (width_of v ls ≤ extent_right (unit_box_of ls) v) × (height_of v ls ≤ extent_up (unit_box_of ls) v)
+view_in_unit_box ls Front = (omega arith, omega arith)
+view_in_unit_box ls Top = (omega arith, omega arith)
+view_in_unit_box ls Side = (omega arith, omega arith)
+
+-- so what fits the extents of each view fits the windows of the unit box
+pub FitsWindows-unit_box : (ls : List Line) (drawing : Segment → Style) → ((v : View) → FitsIn drawing v (pos (width_of v ls)) (pos (height_of v ls))) → FitsWindows (unit_box_of ls) drawing
+FitsWindows-unit_box ls drawing fits v g of shown =
+    let lies = fits v g of shown in
+    let wide = view_in_unit_box ls v in
+    (lies.0, omega (arith, ints, lies.1, wide.0), lies.2, omega (arith, ints, lies.3, wide.1))
+
+-- the cells of a solid that matches the drawing lie in the box
+pub matching-in_box : (b : UnitBox) (drawing : Segment → Style) (s : List Cell) → FitsWindows b drawing → Matches drawing s → Each (IsInBox b) s
+matching-in_box b drawing s fits matches = each_from_full (IsInBox b) s (λ c full a. by c full a)
+  where
+    place : (v : View) (c : Cell) → IsTrue (is_full s c) → (pos 0 ≤ℤ place_of (frame_of v).right c) × (place_of (frame_of v).right c <ℤ pos (extent_right b v)) × (pos 0 ≤ℤ place_of (frame_of v).up c) × (place_of (frame_of v).up c <ℤ pos (extent_up b v))
+    place v c full = lies_in_unit_box drawing s matches v (pos (extent_right b v)) (pos (extent_up b v)) (fits v) c full
+
+    by : (c : Cell) → IsTrue (is_full s c) → IsInBox b c
+    by c full X = let p = place Front c full in (p.0, p.1)
+    by c full Y = let p = place Top c full in (p.2, p.3)
+    by c full Z = let p = place Front c full in (p.2, p.3)
+
+-- a solid of the box that meets the demands has the drawing of the lines
+pub draws_from_demands : (ls : List Line) (b : UnitBox) (s : List Cell) → FitsWindows b (drawing_of ls) → Each (IsInBox b) s → Each (IsMet s) (map (demand_of ls) (segments_of b))
+    → (g : Segment) → Draws s g (drawing_of ls g)
+draws_from_demands ls b s fits within met g = by (drawing_of ls g) refl
+  where
+    in_window : LiesWithin (pos (extent_right b g.view)) (pos (extent_up b g.view)) g → Draws s g (drawing_of ls g)
+    in_window lies = draws_in_window ls b s met g (lies_within-starts b g lies)
+
+    by : (style : Style) → drawing_of ls g ≡ style → Draws s g (drawing_of ls g)
+    by Blank e = subst (Draws s g) (sym e) (λ k edge. (subst (Draws s g) e (in_window (edge_in_window b s within g k edge))) k edge)
+    by Dashed e = in_window (fits g.view g refl (λ none. cc))
+    by Solid e = in_window (fits g.view g refl (λ none. cc))

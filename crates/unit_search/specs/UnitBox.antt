@@ -1,0 +1,96 @@
+-- The unit box of a drawing, and its cells.
+use Rattle.std.specs.Prelude.{ℕ, ◌*◌, ◌≤◌, max, List, [], ◌∷◌, ℤ, pos, neg_ℤ, ◌≤ℤ◌, ◌<ℤ◌, if◌then◌else◌}
+use Rattle.solid_model.specs.declared.cell.Axis.{Axis}
+use Rattle.solid_model.specs.declared.cell.Axis.TheVariants.{X, Y, Z}
+use Rattle.solid_model.specs.declared.cell.Cell.{Cell}
+use Rattle.solid_model.specs.declared.frame.Direction.{Direction}
+use Rattle.solid_model.specs.declared.frame.View.{View}
+use Rattle.solid_model.specs.declared.frame.View.TheVariants.{Front, Top, Side}
+use Rattle.solid_model.specs.Cells.{coordinate}
+use Rattle.solid_model.specs.Frames.{frame_of}
+use Rattle.solid_model.specs.Line.{Line}
+use Rattle.solid_model.specs.Lists.{pieces}
+use Rattle.unit_search.specs.declared.unit_box.UnitBox.{UnitBox}
+use Rattle.unit_search.specs.declared.unit_box.Reaches.{Reaches}
+use Rattle.unit_search.specs.declared.reach.Reach.{Reach}
+use Rattle.unit_search.specs.Reach.{reach_width, reach_height, width_of, height_of, IsReachOf}
+
+-- on each axis the greater extent of the two views that show it, where the views have these widths and heights
+abbrev pub box_with : (View → ℕ) → (View → ℕ) → UnitBox
+box_with width height = record {
+  x = max (width Front) (width Top);
+  y = max (height Top) (width Side);
+  z = max (height Front) (height Side);
+}
+
+-- the unit box of the views of a drawing
+abbrev pub unit_box_of : List Line → UnitBox
+unit_box_of ls = box_with (λ v. width_of v ls) (λ v. height_of v ls)
+
+-- what a view reaches, of the three
+abbrev pub reach_in : Reaches → View → Reach
+reach_in r Front = r.front
+reach_in r Top = r.top
+reach_in r Side = r.side
+
+-- each view's reach is that of its lines
+abbrev pub AreReachesOf : List Line → Reaches → Type 0
+AreReachesOf ls r = (v : View) → IsReachOf v ls (reach_in r v)
+
+-- the unit box of views that reach so far
+abbrev pub box_of : Reaches → UnitBox
+box_of r = box_with (λ v. reach_width (reach_in r v)) (λ v. reach_height (reach_in r v))
+
+-- the number of its cells
+abbrev pub volume_of : UnitBox → ℕ
+volume_of b = b.x * b.y * b.z
+
+-- its extent along an axis
+abbrev pub extent_of : Axis → UnitBox → ℕ
+extent_of X b = b.x
+extent_of Y b = b.y
+extent_of Z b = b.z
+
+-- how far the box reaches to the right in a view
+abbrev pub extent_right : UnitBox → View → ℕ
+extent_right b v = extent_of (frame_of v).right.axis b
+
+-- and upwards
+abbrev pub extent_up : UnitBox → View → ℕ
+extent_up b v = extent_of (frame_of v).up.axis b
+
+-- the greatest number of cells of a unit box whose sets are tried
+abbrev pub most_cells : ℕ
+most_cells = 12
+
+-- no extent of the box is greater than that
+abbrev pub IsSmall : UnitBox → Type 0
+IsSmall b = (a : Axis) → extent_of a b ≤ most_cells
+
+-- the cell lies in the box along each axis
+abbrev pub IsInBox : UnitBox → Cell → Type 0
+IsInBox b c = (a : Axis) → (pos 0 ≤ℤ coordinate a c) × (coordinate a c <ℤ pos (extent_of a b))
+
+-- the least depth of the box's cells in a direction away from the viewer
+abbrev pub first_depth_of : Direction → UnitBox → ℤ
+first_depth_of d b = if d.forward then pos 0 else neg_ℤ (pos (extent_of d.axis b))
+
+-- the cell at these places
+abbrev pub cell_at : ℕ → ℕ → ℕ → Cell
+cell_at x y z = record { x = pos x; y = pos y; z = pos z }
+
+-- the first cells of a row along x
+abbrev pub row_of : ℕ → ℕ → ℕ → List Cell
+row_of width y z = pieces (λ x. cell_at x y z ∷ []) width
+
+-- the first rows of a layer, one after another along y
+abbrev pub layer_of : ℕ → ℕ → ℕ → List Cell
+layer_of width depth z = pieces (λ y. row_of width y z) depth
+
+-- the first layers of a box, one above another
+abbrev pub layers_of : ℕ → ℕ → ℕ → List Cell
+layers_of width depth height = pieces (λ z. layer_of width depth z) height
+
+-- the cells of a box, z slowest and x fastest
+abbrev pub cells_of : UnitBox → List Cell
+cells_of b = layers_of b.x b.y b.z
