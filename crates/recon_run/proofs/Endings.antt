@@ -1,0 +1,44 @@
+-- How a run ends, by its answer and by what the sink says.
+use Rattle.std.proofs.Common.{refl, inl, inr, ⊎_elim, ℕ, List, Option, Some, None, subst, sym}
+use Rattle.std.specs.Io.KnownBytes.{Appends, Keeps}
+use Rattle.recon_run.specs.declared.status.Status.{Status}
+use Rattle.recon_run.specs.declared.status.Status.TheVariants.{Whole, Fault, Usage, ReadFault, WriteFault, Memory}
+use Rattle.recon_run.specs.Runs.{Answers, Stops, IsWritten, Ends}
+use Rattle.recon_run.specs.Words.{IsSolve}
+
+-- an answer that is written whole ends the run
+written_whole : (words : List (List ℕ)) (left rest held now : Option (List ℕ)) (status : Status) (text : List ℕ)
+    → Answers words left rest status text → Appends held now text → Ends words left rest held now status
+written_whole words left rest held now Whole text answers written = (text, answers, written)
+written_whole words left rest held now Fault text answers written = (text, answers, written)
+written_whole words left rest held now Usage text answers written = (text, answers, written)
+written_whole words left rest held now ReadFault text answers written = absurd answers.1
+written_whole words left rest held now WriteFault text answers written = absurd answers.1
+written_whole words left rest held now Memory text answers written = absurd answers.1
+
+-- an answer, and what became of its text
+pub answered : (words : List (List ℕ)) (left rest held now : Option (List ℕ)) (status : Status) (text : List ℕ) (rose : Type 0)
+    (result : Status) → Answers words left rest status text → IsWritten status text held now rose result
+    → Ends words left rest held now result
+answered words left rest held now status text rose result answers written =
+    ⊎_elim (λ whole. subst (Ends words left rest held now) (sym whole.0)
+    (written_whole words left rest held now status text answers whole.1))
+    (λ cut. ⊎_elim
+    (λ failed. subst (Ends words left rest held now) (sym failed.0) (status, text, answers, failed.2))
+    (λ wanting. subst (Ends words left rest held now) (sym wanting.0) (inr (status, text, answers, wanting.1))) cut)
+    written
+
+-- known bytes stay as they are where nothing is done
+pub keeps_itself : (held : Option (List ℕ)) → Keeps held held
+keeps_itself None = tt
+keeps_itself (Some bytes) = refl
+
+-- a run without an answer
+pub stopped : (words : List (List ℕ)) (left rest held : Option (List ℕ)) (rose : Type 0) (status : Status)
+    → Stops (IsSolve words × rose) status → Ends words left rest held held status
+stopped words left rest held rose ReadFault stops = (stops.0, keeps_itself held)
+stopped words left rest held rose Memory stops = inl (keeps_itself held)
+stopped words left rest held rose Whole stops = absurd stops
+stopped words left rest held rose Fault stops = absurd stops
+stopped words left rest held rose Usage stops = absurd stops
+stopped words left rest held rose WriteFault stops = absurd stops

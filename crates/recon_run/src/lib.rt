@@ -1,0 +1,18 @@
+//! The top call: one command, from the bytes in to the bytes out.
+#![tactic(auto)]
+
+mod answer;
+mod command;
+mod fault;
+mod laws;
+mod status;
+mod text;
+mod words;
+
+pub use command::run;
+pub use fault::FirstFault;
+pub use laws::{one_answer, one_first_fault, some_answer};
+pub use status::Status;
+
+#[cfg(test)]
+mod tests;

@@ -1,0 +1,64 @@
+//! Drawings, spelled as plain files.
+
+use solid_model::Style;
+use std::alloc::Global;
+use std::test::Fail;
+
+/// A stroke of a view, by its style and two points.
+#[derive(Clone, Copy, Debug)]
+pub enum Stroke {
+    /// A line from the first point to the second one.
+    Line(Style, i64, i64, i64, i64),
+    /// The rectangle between the points: its lower, upper, left and right side.
+    Rect(Style, i64, i64, i64, i64),
+}
+
+/// Adds a line of a layer, from the first point to the second one.
+fn push_line(
+    file: &mut String,
+    layer: &str,
+    style: Style,
+    [x0, y0, x1, y1]: [i64; 4],
+) -> Result<(), Fail> {
+    let linetype = match style {
+        Style::Solid => "CONTINUOUS",
+        Style::Dashed => "HIDDEN",
+        Style::Blank => return Ok(()),
+    };
+    let line = format!(in *file.allocator();
+        "0\nLINE\n8\n{layer}\n6\n{linetype}\n10\n{x0}\n20\n{y0}\n30\n0\n11\n{x1}\n21\n{y1}\n31\n0\n"
+    )?;
+    file.push_str(line.as_str())?;
+    Ok(())
+}
+
+/// Adds the lines of a stroke.
+fn push_stroke(file: &mut String, layer: &str, stroke: Stroke) -> Result<(), Fail> {
+    match stroke {
+        Stroke::Line(style, x0, y0, x1, y1) => push_line(file, layer, style, [x0, y0, x1, y1]),
+        Stroke::Rect(style, x0, y0, x1, y1) => {
+            push_line(file, layer, style, [x0, y0, x1, y0])?;
+            push_line(file, layer, style, [x0, y1, x1, y1])?;
+            push_line(file, layer, style, [x0, y0, x0, y1])?;
+            push_line(file, layer, style, [x1, y0, x1, y1])
+        }
+    }
+}
+
+/// Adds the lines of a view's strokes.
+fn push_view(file: &mut String, layer: &str, strokes: &[Stroke]) -> Result<(), Fail> {
+    for stroke in strokes {
+        push_stroke(file, layer, *stroke)?;
+    }
+    Ok(())
+}
+
+/// The plain file of the strokes of the front, the top and the side view.
+pub fn plain_file(alloc: Global, [front, top, side]: [&[Stroke]; 3]) -> Result<String, Fail> {
+    let mut file = String::from_str(alloc, "0\nSECTION\n2\nENTITIES\n")?;
+    push_view(&mut file, "FRONT", front)?;
+    push_view(&mut file, "TOP", top)?;
+    push_view(&mut file, "SIDE", side)?;
+    file.push_str("0\nENDSEC\n0\nEOF\n")?;
+    Ok(file)
+}
