@@ -11,7 +11,7 @@ use Rattle.solid_model.specs.declared.segment.Style.{Style}
 use Rattle.solid_model.specs.declared.segment.Style.TheVariants.{Blank, Dashed, Solid}
 use Rattle.solid_model.specs.Boxes.{far_right, far_up}
 use Rattle.solid_model.specs.Draws.{line_of}
-use Rattle.solid_model.specs.Drawings.{same_view, same_style, along_of, across_of, is_between, covers, is_covered, has_length, lines_of, least, least_right, least_up, is_shown, on_sheet, drawing_of, IsEmptyView}
+use Rattle.solid_model.specs.Drawings.{same_view, same_style, along_of, across_of, is_between, covers, is_covered, has_length, lines_of, extreme, least_right, least_up, is_shown, on_sheet, drawing_of, IsEmptyView}
 use Rattle.solid_model.specs.Line.{Line, IsKept}
 use Rattle.solid_model.specs.Lists.{Member, Each}
 use Rattle.solid_model.proofs.ListPlaces.{contains-member, all-each}
@@ -20,13 +20,13 @@ use Rattle.solid_model.proofs.Lists.{each-at, member-map, member-from_map, membe
 -- ---- the least of a list
 
 -- the least of a list is at most each member, and is a member
-pub least_below : (zs : List ℤ) (z : ℤ) → Member zs z → least zs ≤ℤ z
+pub least_below : (zs : List ℤ) (z : ℤ) → Member zs z → extreme int_min zs ≤ℤ z
 least_below [] z k = absurd k
 least_below (a ∷ zs) z k =
     let bounds = fold-int_min_bounds a zs (fold int_min a zs) refl in
     each-at (λ x. fold int_min a zs ≤ℤ x) (a ∷ zs) z (bounds.0, all-each (λ x. fold int_min a zs ≤ℤ x) zs bounds.1) k
 
-pub least_member_of : (zs : List ℤ) (z : ℤ) → Member zs z → Member zs (least zs)
+pub least_member_of : (zs : List ℤ) (z : ℤ) → Member zs z → Member zs (extreme int_min zs)
 least_member_of [] z k = absurd k
 least_member_of (a ∷ zs) z k = ⊎_elim {C = Member (a ∷ zs) (fold int_min a zs)} (λ e. inl (sym e)) (λ c. inr (contains-member zs (fold int_min a zs) c))
     (fold-int_min_reached a zs (fold int_min a zs) refl)
@@ -237,11 +237,11 @@ first_drawn ls kept v l k =
 -- where a view has a drawn segment, one has the least of a coordinate that it takes from its line
 least_drawn : (of_line : Line → ℤ) (of_segment : Segment → ℤ) (ls : List Line) → Each IsKept ls → (g : Segment) → is_shown ls g ≡ true
     → ((l : Line) (h : Segment) → IsDrawnFirst ls g.view l h → of_segment h ≡ of_line l)
-    → (h : Segment) × (h.view ≡ g.view) × IsTrue (is_shown ls h) × (of_segment h ≡ least (map of_line (lines_of g.view ls)))
+    → (h : Segment) × (h.view ≡ g.view) × IsTrue (is_shown ls h) × (of_segment h ≡ extreme int_min (map of_line (lines_of g.view ls)))
 least_drawn of_line of_segment ls kept g e takes =
     let some = drawn_line ls g e in
     let reached = least_member_of (map of_line (lines_of g.view ls)) (of_line some.0) (member-map of_line (lines_of g.view ls) some.0 some.1) in
-    let m = member-from_map of_line (lines_of g.view ls) (least (map of_line (lines_of g.view ls))) reached in
+    let m = member-from_map of_line (lines_of g.view ls) (extreme int_min (map of_line (lines_of g.view ls))) reached in
     let first = first_drawn ls kept g.view m.0 m.1 in
     (first.0, first.1.0, first.1.1, takes m.0 first.0 first.1 ∙ m.2)
 
@@ -306,18 +306,24 @@ drawing_begins ls g drawn =
 drawn_off_sheet : (ls : List Line) (h : Segment) → is_shown ls h ≡ true → drawing_of ls (off_sheet ls h) ≢ Blank
 drawn_off_sheet ls h e = style_from_covered _ _ (ap (is_shown ls) (on_sheet-off_sheet ls h) ∙ e)
 
+-- a drawn segment with the view's least of a coordinate has that coordinate 0 in the shifted view
+reached_off_sheet : (coordinate : Segment → ℤ) (least_of : View → List Line → ℤ) (ls : List Line)
+    → ((h : Segment) → coordinate (off_sheet ls h) ≡ coordinate h -ℤ least_of h.view ls) → (g : Segment)
+    → (h : Segment) × (h.view ≡ g.view) × IsTrue (is_shown ls h) × (coordinate h ≡ least_of g.view ls)
+    → (h : Segment) × (h.view ≡ g.view) × (drawing_of ls h ≢ Blank) × (coordinate h ≡ pos 0)
+reached_off_sheet coordinate least_of ls shifts g m =
+    let same : least_of m.0.view ls ≡ least_of g.view ls = ap (λ v. least_of v ls) m.1 in
+    let zero : coordinate m.0 -ℤ least_of m.0.view ls ≡ pos 0 = omega (arith, ints, same, m.3) in
+    (off_sheet ls m.0, m.1, drawn_off_sheet ls m.0 m.2, shifts m.0 ∙ zero)
+
 -- where a view of the drawing isn't blank, some segment of it has right coordinate 0
 pub drawing_right_reached : (ls : List Line) → Each IsKept ls → (g : Segment) → drawing_of ls g ≢ Blank
     → (h : Segment) × (h.view ≡ g.view) × (drawing_of ls h ≢ Blank) × (h.right ≡ pos 0)
 drawing_right_reached ls kept g drawn =
-    let m = right_reached ls kept (on_sheet ls g) (covered_from_style _ _ drawn) in
-    let same : least_right m.0.view ls ≡ least_right g.view ls = ap (λ v. least_right v ls) m.1 in
-    (off_sheet ls m.0, m.1, drawn_off_sheet ls m.0 m.2, omega (arith, ints, same))
+    reached_off_sheet (λ h. h.right) least_right ls (λ h. refl) g (right_reached ls kept (on_sheet ls g) (covered_from_style _ _ drawn))
 
 -- and some segment of it has up coordinate 0
 pub drawing_up_reached : (ls : List Line) → Each IsKept ls → (g : Segment) → drawing_of ls g ≢ Blank
     → (h : Segment) × (h.view ≡ g.view) × (drawing_of ls h ≢ Blank) × (h.up ≡ pos 0)
 drawing_up_reached ls kept g drawn =
-    let m = up_reached ls kept (on_sheet ls g) (covered_from_style _ _ drawn) in
-    let same : least_up m.0.view ls ≡ least_up g.view ls = ap (λ v. least_up v ls) m.1 in
-    (off_sheet ls m.0, m.1, drawn_off_sheet ls m.0 m.2, omega (arith, ints, same))
+    reached_off_sheet (λ h. h.up) least_up ls (λ h. refl) g (up_reached ls kept (on_sheet ls g) (covered_from_style _ _ drawn))

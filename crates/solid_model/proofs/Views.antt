@@ -12,7 +12,7 @@ use Rattle.solid_model.specs.Boxes.{place_of}
 use Rattle.solid_model.specs.Cells.{is_full}
 use Rattle.solid_model.specs.Edges.{agree, is_edge, is_edge_of}
 use Rattle.solid_model.specs.Frames.{frame_of, along, across, point_on, cell_on, at_places}
-use Rattle.solid_model.specs.Draws.{start_of, line_of, cell_in, has_edge, is_inside}
+use Rattle.solid_model.specs.Draws.{start_of, line_of, cell_in, has_edge}
 
 -- a member fills the cell that stands j across and k away, on the segment's stretch
 abbrev pub is_full_at : List Cell → Segment → ℤ → ℤ → Bool

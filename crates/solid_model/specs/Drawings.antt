@@ -58,18 +58,26 @@ has_length l = not (int_eq l.x0 l.x1 && int_eq l.y0 l.y1)
 abbrev pub lines_of : View → List Line → List Line
 lines_of v ls = filter (λ l. same_view v l.of && has_length l) ls
 
--- the least member of a list, and 0 of an empty one
-abbrev pub least : List ℤ → ℤ
-least [] = pos 0
-least (z ∷ zs) = fold int_min z zs
+-- the least or the greatest member of a list, by what gives the lesser or the greater of two, and 0 of an empty one
+abbrev pub extreme : (ℤ → ℤ → ℤ) → List ℤ → ℤ
+extreme of_two [] = pos 0
+extreme of_two (z ∷ zs) = fold of_two z zs
+
+-- the least or the greatest right coordinate of a view's covering lines
+abbrev pub extreme_right : (ℤ → ℤ → ℤ) → View → List Line → ℤ
+extreme_right of_two v ls = extreme of_two (map (λ l. of_two l.x0 l.x1) (lines_of v ls))
+
+-- and up coordinate
+abbrev pub extreme_up : (ℤ → ℤ → ℤ) → View → List Line → ℤ
+extreme_up of_two v ls = extreme of_two (map (λ l. of_two l.y0 l.y1) (lines_of v ls))
 
 -- the least right coordinate of the segments that a view's lines cover
 abbrev pub least_right : View → List Line → ℤ
-least_right v ls = least (map (λ l. int_min l.x0 l.x1) (lines_of v ls))
+least_right = extreme_right int_min
 
 -- and the least up coordinate
 abbrev pub least_up : View → List Line → ℤ
-least_up v ls = least (map (λ l. int_min l.y0 l.y1) (lines_of v ls))
+least_up = extreme_up int_min
 
 -- the segment of the sheet that a segment of the shifted view is
 abbrev pub on_sheet : List Line → Segment → Segment

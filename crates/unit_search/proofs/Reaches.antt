@@ -6,7 +6,7 @@ use Rattle.std.proofs.lemmas.List.{at_drop_more, at_drop_all}
 use Rattle.solid_model.specs.declared.frame.View.{View}
 use Rattle.solid_model.specs.declared.segment.Segment.{Segment}
 use Rattle.solid_model.specs.Boxes.{far_right, far_up, LiesWithin, FitsIn}
-use Rattle.solid_model.specs.Drawings.{same_view, has_length, is_shown, lines_of, least, least_right, least_up, on_sheet, drawing_of, IsEmptyView}
+use Rattle.solid_model.specs.Drawings.{same_view, has_length, is_shown, lines_of, extreme, least_right, least_up, on_sheet, drawing_of, IsEmptyView}
 use Rattle.solid_model.specs.Line.{Line, IsNear, IsKept}
 use Rattle.solid_model.specs.Lists.{Member, Each}
 use Rattle.solid_model.proofs.ListPlaces.{all-each}
@@ -14,16 +14,20 @@ use Rattle.solid_model.proofs.Lists.{each-at, member-map}
 use Rattle.solid_model.proofs.Sheets.{drawn_line, none_before, covered_from_style, without_lines-empty, empty-without_lines}
 use Rattle.unit_search.specs.declared.reach.Reach.{Reach}
 use Rattle.unit_search.specs.declared.unit_box.Reaches.{Reaches}
-use Rattle.unit_search.specs.Reach.{greatest, greatest_right, greatest_up, IsReachOf, IsReachOfLine, IsJoined, reach_width, reach_height, width_of, height_of}
+use Rattle.unit_search.specs.Reach.{greatest_right, greatest_up, IsReachOf, IsReachOfLine, IsJoined, reach_width, reach_height, width_of, height_of}
 use Rattle.unit_search.specs.UnitBox.{reach_in, AreReachesOf, box_with, box_of, unit_box_of}
 
 -- ---- in code
+
+-- a near number is the same in code
+pub near_in_code : (k : ℤ) → IsNear k → to_z w64 (of_z w64 k) ≡ k
+near_in_code k near = to_z-of_z w64 k (omega (arith, ints))
 
 -- what the code finds of two near numbers is what the operation gives
 pub found_is : (op : ℤ → ℤ → ℤ) (a b r : ℤ) → IsNear a → IsNear b → SFits w64 r
     → r ≡ op (to_z w64 (of_z w64 a)) (to_z w64 (of_z w64 b)) → to_z w64 (of_z w64 r) ≡ op a b
 found_is op a b r near_a near_b fits e =
-    to_z-of_z w64 r fits ∙ e ∙ ap₂ op (to_z-of_z w64 a (omega (arith, ints))) (to_z-of_z w64 b (omega (arith, ints)))
+    to_z-of_z w64 r fits ∙ e ∙ ap₂ op (near_in_code a near_a) (near_in_code b near_b)
 
 -- ---- from line to line
 
@@ -39,10 +43,10 @@ pub record Brings (further : List Line) (v : View) (lines : List Line) (r : Reac
 pub brings_first : (l : Line) (further : List Line) (v : View) (lines : List Line) (r : Reach) → l ∷ further ≡ lines_of v lines → IsReachOfLine l r → Brings further v lines r
 brings_first l further v lines r e own = record {
   shown = λ none. cc;
-  left = ap (λ z. fold int_min z (map (λ l. int_min l.x0 l.x1) further)) own.left ∙ ap (λ ms. least (map (λ l. int_min l.x0 l.x1) ms)) e;
-  bottom = ap (λ z. fold int_min z (map (λ l. int_min l.y0 l.y1) further)) own.bottom ∙ ap (λ ms. least (map (λ l. int_min l.y0 l.y1) ms)) e;
-  right = ap (λ z. fold int_max z (map (λ l. int_max l.x0 l.x1) further)) own.right ∙ ap (λ ms. greatest (map (λ l. int_max l.x0 l.x1) ms)) e;
-  top = ap (λ z. fold int_max z (map (λ l. int_max l.y0 l.y1) further)) own.top ∙ ap (λ ms. greatest (map (λ l. int_max l.y0 l.y1) ms)) e;
+  left = ap (λ z. fold int_min z (map (λ l. int_min l.x0 l.x1) further)) own.left ∙ ap (λ ms. extreme int_min (map (λ l. int_min l.x0 l.x1) ms)) e;
+  bottom = ap (λ z. fold int_min z (map (λ l. int_min l.y0 l.y1) further)) own.bottom ∙ ap (λ ms. extreme int_min (map (λ l. int_min l.y0 l.y1) ms)) e;
+  right = ap (λ z. fold int_max z (map (λ l. int_max l.x0 l.x1) further)) own.right ∙ ap (λ ms. extreme int_max (map (λ l. int_max l.x0 l.x1) ms)) e;
+  top = ap (λ z. fold int_max z (map (λ l. int_max l.y0 l.y1) further)) own.top ∙ ap (λ ms. extreme int_max (map (λ l. int_max l.y0 l.y1) ms)) e;
 }
 
 -- a further line
@@ -76,7 +80,7 @@ reached v lines i (Some r) past b =
 -- ---- what the views show lies within their reach
 
 -- each member of a list is at most the greatest
-pub greatest_above : (zs : List ℤ) (z : ℤ) → Member zs z → z ≤ℤ greatest zs
+pub greatest_above : (zs : List ℤ) (z : ℤ) → Member zs z → z ≤ℤ extreme int_max zs
 greatest_above [] z k = absurd k
 greatest_above (a ∷ zs) z k =
     let bounds = fold-int_max_bounds a zs (fold int_max a zs) refl in

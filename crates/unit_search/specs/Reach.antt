@@ -1,24 +1,18 @@
 -- How far the lines of a view reach on the sheet.
-use Rattle.std.specs.Prelude.{◌≡◌, ◌≢◌, ℕ, List, [], ◌∷◌, map, ℤ, pos, ◌-ℤ◌, unsigned_abs}
-use Rattle.std.specs.List.{fold}
+use Rattle.std.specs.Prelude.{◌≡◌, ◌≢◌, ℕ, List, [], ℤ, ◌-ℤ◌, unsigned_abs}
 use Rattle.std.specs.Int.{int_min, int_max}
 use Rattle.solid_model.specs.declared.frame.View.{View}
-use Rattle.solid_model.specs.Drawings.{lines_of, least_right, least_up}
+use Rattle.solid_model.specs.Drawings.{lines_of, extreme_right, extreme_up, least_right, least_up}
 use Rattle.solid_model.specs.Line.{Line}
 use Rattle.unit_search.specs.declared.reach.Reach.{Reach}
 
--- the greatest member of a list, and 0 of an empty one
-abbrev pub greatest : List ℤ → ℤ
-greatest [] = pos 0
-greatest (z ∷ zs) = fold int_max z zs
-
 -- the greatest right coordinate of a view's covering lines
 abbrev pub greatest_right : View → List Line → ℤ
-greatest_right v ls = greatest (map (λ l. int_max l.x0 l.x1) (lines_of v ls))
+greatest_right = extreme_right int_max
 
 -- and the greatest up coordinate
 abbrev pub greatest_up : View → List Line → ℤ
-greatest_up v ls = greatest (map (λ l. int_max l.y0 l.y1) (lines_of v ls))
+greatest_up = extreme_up int_max
 
 -- how far the view reaches, which has a covering line
 pub record IsReachOf (v : View) (ls : List Line) (r : Reach) : Type 0 where
@@ -27,6 +21,13 @@ pub record IsReachOf (v : View) (ls : List Line) (r : Reach) : Type 0 where
   pub bottom : r.least_up ≡ least_up v ls
   pub right : r.greatest_right ≡ greatest_right v ls
   pub top : r.greatest_up ≡ greatest_up v ls
+
+-- how far the point x to the right and y up reaches
+pub record IsReachAt (x y : ℤ) (r : Reach) : Type 0 where
+  pub left : r.least_right ≡ x
+  pub bottom : r.least_up ≡ y
+  pub right : r.greatest_right ≡ x
+  pub top : r.greatest_up ≡ y
 
 -- how far one line reaches
 pub record IsReachOfLine (l : Line) (r : Reach) : Type 0 where

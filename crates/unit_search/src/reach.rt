@@ -22,18 +22,26 @@ pub struct Reach {
 
 impl Reach {
     ghost use Rattle.std.specs.Prelude.{◌≡◌};
-    ghost use Rattle.unit_search.specs.Reach.{IsReachOfLine, IsJoined, reach_width, reach_height};
+    ghost use Rattle.unit_search.specs.Reach.{IsReachAt, IsReachOfLine, IsJoined, reach_width, reach_height};
 
-    /// How far a line reaches.
+    /// How far a point reaches.
+    fn at(x: i64, y: i64) -> Reach
+        requires { IsNear x × IsNear y }
+        ensures { IsReachAt x y result }
+    {
+        Reach {
+            least_right: x,
+            least_up: y,
+            greatest_right: x,
+            greatest_up: y,
+        }
+    }
+
+    /// How far a line reaches, which is how far its ends reach together.
     pub fn of_line(line: &SheetLine) -> Reach
         ensures { IsReachOfLine line.now result }
     {
-        Reach {
-            least_right: line.x0.min(line.x1),
-            least_up: line.y0.min(line.y1),
-            greatest_right: line.x0.max(line.x1),
-            greatest_up: line.y0.max(line.y1),
-        }
+        Reach::at(line.x0, line.y0).joined(Reach::at(line.x1, line.y1))
     }
 
     /// How far both reach together.
