@@ -7,7 +7,9 @@ pub mod Views
 pub mod Styles
 pub mod UnitBox
 pub mod Sheets
+pub mod KeptDrawings
 pub mod FirstCells
 pub mod Parts
 pub mod SetsInOrder
 pub mod MaximalStretches
+pub mod RunStyles

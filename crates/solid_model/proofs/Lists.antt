@@ -156,6 +156,14 @@ ascends-without R xs x ys h =
     ascends-append R xs ys (ascends-append_left R xs (x ∷ ys) h) (ascends-append_right R xs (x ∷ ys) h).1
     (each-weaker (λ y. Each (R y) (x ∷ ys)) (λ y. Each (R y) ys) xs (λ y k. k.1) (ascends-append_across R xs (x ∷ ys) h))
 
+-- of two members of an ascending list one stands in the relation to the other, unless they are one
+pub ascends-members : {A : Type 0} (R : A → A → Type 0) (xs : List A) (x y : A) → Ascends R xs → Member xs x → Member xs y → (x ≡ y) ⊎ (R x y ⊎ R y x)
+ascends-members R [] x y h k l = absurd k
+ascends-members R (z ∷ xs) x y h (inl e) (inl f) = inl (sym e ∙ f)
+ascends-members R (z ∷ xs) x y h (inl e) (inr l) = inr (inl (subst (λ w. R w y) e (each-at (R z) xs y h.0 l)))
+ascends-members R (z ∷ xs) x y h (inr k) (inl f) = inr (inr (subst (λ w. R w x) f (each-at (R z) xs x h.0 k)))
+ascends-members R (z ∷ xs) x y h (inr k) (inr l) = ascends-members R xs x y h.1 k l
+
 -- the images of an ascending list ascend, by a relation that the images take over
 pub ascends-map : {A B : Type 0} (f : A → B) (R : A → A → Type 0) (S : B → B → Type 0) (xs : List A) → ((x y : A) → R x y → S (f x) (f y)) → Ascends R xs → Ascends S (map f xs)
 ascends-map f R S [] kept h = tt

@@ -54,6 +54,17 @@ same_style-itself Blank = refl
 same_style-itself Dashed = refl
 same_style-itself Solid = refl
 
+pub same_style-one : (a b : Style) → same_style a b ≡ true → a ≡ b
+same_style-one Solid Solid e = refl
+same_style-one Solid Dashed e = absurd (false≢true e)
+same_style-one Solid Blank e = absurd (false≢true e)
+same_style-one Dashed Dashed e = refl
+same_style-one Dashed Solid e = absurd (false≢true e)
+same_style-one Dashed Blank e = absurd (false≢true e)
+same_style-one Blank Blank e = refl
+same_style-one Blank Solid e = absurd (false≢true e)
+same_style-one Blank Dashed e = absurd (false≢true e)
+
 -- ---- a segment that a line covers
 
 -- the tests of order pass
@@ -305,6 +316,17 @@ drawing_begins ls g drawn =
 -- what is drawn on the sheet is drawn in the shifted view
 drawn_off_sheet : (ls : List Line) (h : Segment) → is_shown ls h ≡ true → drawing_of ls (off_sheet ls h) ≢ Blank
 drawn_off_sheet ls h e = style_from_covered _ _ (ap (is_shown ls) (on_sheet-off_sheet ls h) ∙ e)
+
+-- a view that has a line with length shows something
+pub with_lines-drawn : (ls : List Line) → Each IsKept ls → (v : View) → lines_of v ls ≢ []
+    → (g : Segment) × (g.view ≡ v) × (drawing_of ls g ≢ Blank)
+with_lines-drawn ls kept v some = by (lines_of v ls) refl
+  where
+    by : (ms : List Line) → lines_of v ls ≡ ms → (g : Segment) × (g.view ≡ v) × (drawing_of ls g ≢ Blank)
+    by [] e = absurd (some e)
+    by (l ∷ ms) e =
+        let first = first_drawn ls kept v l (subst (λ ns. Member ns l) (sym e) (inl refl)) in
+        (off_sheet ls first.0, first.1.0, drawn_off_sheet ls first.0 first.1.1)
 
 -- a drawn segment with the view's least of a coordinate has that coordinate 0 in the shifted view
 reached_off_sheet : (coordinate : Segment → ℤ) (least_of : View → List Line → ℤ) (ls : List Line)

@@ -5,6 +5,7 @@ pub mod Edges
 pub mod Line
 pub mod Draws
 pub mod Boxes
+pub mod Runs
 pub mod DrawnStyle
 pub mod SmallSolids
 pub mod Drawings
@@ -12,3 +13,4 @@ pub mod Orders
 pub mod Sets
 pub mod Matching
 pub mod Stretches
+pub mod SmallRuns

@@ -9,13 +9,14 @@ ghost use Rattle.solid_model.specs.declared.segment.Style.{Style};
 ghost use Rattle.solid_model.specs.declared.segment.Style.TheVariants.{Blank, Dashed, Solid};
 ghost use Rattle.solid_model.specs.Boxes.{place_of, FitsIn};
 ghost use Rattle.solid_model.specs.Cells.{is_full, SameCells};
-ghost use Rattle.solid_model.specs.Drawings.{is_shown, least_right, least_up, drawing_of};
+ghost use Rattle.solid_model.specs.Drawings.{is_shown, lines_of, least_right, least_up, drawing_of};
 ghost use Rattle.solid_model.specs.Draws.{Draws};
 ghost use Rattle.solid_model.specs.DrawnStyle.{drawn_style, level_styles, upright_styles};
 ghost use Rattle.solid_model.specs.Frames.{frame_of};
 ghost use Rattle.solid_model.specs.Line.{Line, IsKept};
 ghost use Rattle.solid_model.specs.Lists.{Each};
 ghost use Rattle.solid_model.specs.Matching.{Matches};
+ghost use Rattle.solid_model.specs.Runs.{IsDrawing};
 ghost use Rattle.solid_model.specs.SmallSolids.{unit_cube, cubes_along_edge, three_cubes, third_behind, third_before, five_of_eight, four_of_eight, other_four_of_eight, near_zero, none_drawn, four_quarters};
 
 /// The drawing of a solid gives each unit segment of each view exactly one style, which can be computed.
@@ -177,4 +178,9 @@ pub fn views_begin_at_the_least_lines()
         → (h : Segment) × (h.view ≡ g.view) × (drawing_of ls h ≢ Blank) × (h.right ≡ pos 0) }
     ensures begins_at_bottom { (ls : List Line) → Each IsKept ls → (g : Segment) → drawing_of ls g ≢ Blank
         → (h : Segment) × (h.view ≡ g.view) × (drawing_of ls h ≢ Blank) × (h.up ≡ pos 0) }
+{}
+
+/// The drawing of a file's lines keeps what a drawing of three views keeps, where each view has a line that covers something.
+pub fn lines_have_a_drawing()
+    ensures { (ls : List Line) → Each IsKept ls → ((v : View) → lines_of v ls ≢ []) → IsDrawing (drawing_of ls) }
 {}

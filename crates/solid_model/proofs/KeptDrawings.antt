@@ -1,0 +1,67 @@
+-- The drawing of lines that are kept is a drawing.
+use Rattle.std.proofs.Common.{◌≢◌, Bool, true, false, ◌&&◌, if◌then◌else◌, List, [], map, ℤ, pos, neg_ℤ, ◌+ℤ◌, ◌≤ℤ◌, subst, ◌∙◌, arith}
+use Rattle.std.specs.Int.{int_min}
+use Rattle.std.proofs.lemmas.Int.{ints, clamps}
+use Rattle.solid_model.specs.declared.frame.View.{View}
+use Rattle.solid_model.specs.declared.segment.Segment.{Segment}
+use Rattle.solid_model.specs.declared.segment.Style.TheVariants.{Blank}
+use Rattle.solid_model.specs.Boxes.{far_right, far_up}
+use Rattle.solid_model.specs.Drawings.{same_view, has_length, lines_of, extreme, least_right, least_up, on_sheet, drawing_of}
+use Rattle.solid_model.specs.Line.{Line, IsNear, IsKept}
+use Rattle.solid_model.specs.Lists.{Member, Each}
+use Rattle.solid_model.specs.Runs.{most_far, IsDrawing}
+use Rattle.solid_model.proofs.Lists.{each-at, member-map, member-from_map, member-from_filter}
+use Rattle.solid_model.proofs.Sheets.{least_member_of, drawn_line, covered_from_style, with_lines-drawn, drawing_begins, drawing_right_reached, drawing_up_reached}
+
+-- ---- nothing lies too far out
+
+-- where each line begins no farther down than -1,000,000,000, so do all
+least_near : (of_line : Line → ℤ) → ((l : Line) → IsKept l → neg_ℤ (pos 1000000000) ≤ℤ of_line l) → (ls : List Line) → Each IsKept ls → (v : View) (l : Line)
+    → Member (lines_of v ls) l → neg_ℤ (pos 1000000000) ≤ℤ extreme int_min (map of_line (lines_of v ls))
+least_near of_line near ls kept v l k =
+    let least = least_member_of (map of_line (lines_of v ls)) (of_line l) (member-map of_line (lines_of v ls) l k) in
+    let m = member-from_map of_line (lines_of v ls) (extreme int_min (map of_line (lines_of v ls))) least in
+    let own = member-from_filter (λ (n : Line). same_view v n.of && has_length n) ls m.0 m.1 in
+    subst (λ z. neg_ℤ (pos 1000000000) ≤ℤ z) m.2 (near m.0 (each-at IsKept ls m.0 kept own.0))
+
+-- a far end on the sheet is at most 2,000,000,000 from the corner
+far_from_corner : (upright : Bool) (right up left bottom : ℤ)
+    → (if upright then (right +ℤ left) else ((right +ℤ left) +ℤ pos 1)) ≤ℤ pos 1000000000
+    → (if upright then ((up +ℤ bottom) +ℤ pos 1) else (up +ℤ bottom)) ≤ℤ pos 1000000000
+    → neg_ℤ (pos 1000000000) ≤ℤ left → neg_ℤ (pos 1000000000) ≤ℤ bottom
+    → ((if upright then right else (right +ℤ pos 1)) ≤ℤ most_far) × ((if upright then (up +ℤ pos 1) else up) ≤ℤ most_far)
+far_from_corner true right up left bottom h k m n = (omega (arith, ints), omega (arith, ints))
+far_from_corner false right up left bottom h k m n = (omega (arith, ints), omega (arith, ints))
+
+-- the lesser of two near numbers is near
+lesser_near : (a b : ℤ) → IsNear a → IsNear b → neg_ℤ (pos 1000000000) ≤ℤ int_min a b
+lesser_near a b near_a near_b = omega (arith, ints, clamps, near_a.0, near_b.0)
+
+-- nothing of a file's drawing lies farther out than 2,000,000,000
+drawing_near : (ls : List Line) → Each IsKept ls → (g : Segment) → drawing_of ls g ≢ Blank → (far_right g ≤ℤ most_far) × (far_up g ≤ℤ most_far)
+drawing_near ls kept g drawn =
+    let s : Segment = on_sheet ls g in
+    let m = drawn_line ls s (covered_from_style _ _ drawn) in
+    let own = each-at IsKept ls m.0 kept (member-from_filter (λ (n : Line). same_view g.view n.of && has_length n) ls m.0 m.1).0 in
+    let right : far_right s ≤ℤ pos 1000000000 = omega (arith, ints, clamps, m.2.right, own.near_x0.1, own.near_x1.1) in
+    let top : far_up s ≤ℤ pos 1000000000 = omega (arith, ints, clamps, m.2.top, own.near_y0.1, own.near_y1.1) in
+    far_from_corner g.upright g.right g.up (least_right g.view ls) (least_up g.view ls) right top
+    (least_near (λ l. int_min l.x0 l.x1) (λ l keeps. lesser_near l.x0 l.x1 keeps.near_x0 keeps.near_x1) ls kept g.view m.0 m.1)
+    (least_near (λ l. int_min l.y0 l.y1) (λ l keeps. lesser_near l.y0 l.y1 keeps.near_y0 keeps.near_y1) ls kept g.view m.0 m.1)
+
+-- ---- a drawing
+
+-- where each view has a line with length, the lines have the drawing of three views
+pub lines_are_drawing : (ls : List Line) → Each IsKept ls → ((v : View) → lines_of v ls ≢ []) → IsDrawing (drawing_of ls)
+lines_are_drawing ls kept shown = record {
+  begins = drawing_begins ls;
+  left = λ v.
+      let some = with_lines-drawn ls kept v (shown v) in
+      let m = drawing_right_reached ls kept some.0 some.2 in
+      (m.0, m.1 ∙ some.1, m.2, m.3);
+  bottom = λ v.
+      let some = with_lines-drawn ls kept v (shown v) in
+      let m = drawing_up_reached ls kept some.0 some.2 in
+      (m.0, m.1 ∙ some.1, m.2, m.3);
+  near = drawing_near ls kept;
+}
