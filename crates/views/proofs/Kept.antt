@@ -1,0 +1,44 @@
+-- What the drawing of a file's lines keeps.
+use Rattle.std.proofs.Common.{◌≡◌, ◌≢◌, List, [], refl, sym, subst}
+use Rattle.solid_model.specs.declared.frame.View.{View}
+use Rattle.solid_model.specs.declared.frame.View.TheVariants.{Front, Top, Side}
+use Rattle.solid_model.specs.declared.segment.Segment.{Segment}
+use Rattle.solid_model.specs.Draws.{start_of, line_of}
+use Rattle.solid_model.specs.Drawings.{lines_of, drawing_of, IsEmptyView}
+use Rattle.solid_model.specs.Line.{Line, IsKept}
+use Rattle.solid_model.specs.Lists.{Each}
+use Rattle.solid_model.specs.Runs.{run_style, ViewRuns, DrawingRuns, view_runs, runs_along, style_in, IsDrawing}
+use Rattle.solid_model.proofs.KeptDrawings.{lines_are_drawing}
+use Rattle.solid_model.proofs.Sheets.{empty-without_lines}
+
+-- ---- views
+
+-- the runs draw what the lines draw in the view
+abbrev pub DrawsView : List Line → View → ViewRuns → Type 0
+DrawsView ls v runs = (g : Segment) → g.view ≡ v → run_style (runs_along g.upright runs) (line_of g) (start_of g) ≡ drawing_of ls g
+
+-- three views draw what the lines draw
+pub views_draw : (ls : List Line) (d : DrawingRuns) → DrawsView ls Front d.front → DrawsView ls Top d.top → DrawsView ls Side d.side
+    → (g : Segment) → style_in d g ≡ drawing_of ls g
+views_draw ls d front top side g = by g.view refl
+  where
+    by : (v : View) → g.view ≡ v → run_style (runs_along g.upright (view_runs v d)) (line_of g) (start_of g) ≡ drawing_of ls g
+    by Front e = front g e
+    by Top e = top g e
+    by Side e = side g e
+
+-- what holds in each view
+pub in_each_view : (P : View → Type 0) → P Front → P Top → P Side → (v : View) → P v
+in_each_view P front top side Front = front
+in_each_view P front top side Top = top
+in_each_view P front top side Side = side
+
+-- a view with a line that has length isn't empty
+pub some_shown : (ls : List Line) → Each IsKept ls → (v : View) → lines_of v ls ≢ [] → IsEmptyView ls v → ⊥
+some_shown ls kept v some empty = some (empty-without_lines ls kept v empty)
+
+-- ---- a drawing
+
+-- runs that draw what a file's lines draw are a drawing, where no view is empty
+pub are_drawing : (ls : List Line) (d : DrawingRuns) → ((g : Segment) → style_in d g ≡ drawing_of ls g) → Each IsKept ls → ((v : View) → lines_of v ls ≢ []) → IsDrawing (style_in d)
+are_drawing ls d same kept shown = subst IsDrawing (λ i g. sym (same g) i) (lines_are_drawing ls kept shown)

@@ -1,0 +1,4 @@
+pub mod Corners
+pub mod Stretches
+pub mod LineStretches
+pub mod Sweeps

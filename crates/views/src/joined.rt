@@ -1,0 +1,48 @@
+//! Runs with one more piece at their end.
+
+ghost use Rattle.std.specs.Prelude.{◌≡◌, ◌≢◌, IfOk};
+ghost use Rattle.solid_model.specs.declared.segment.Style.TheVariants.{Blank};
+ghost use Rattle.solid_model.specs.Runs.{AreRuns};
+ghost use Rattle.views.specs.Stretches.{goes_on, as_far_as, EndBy, AreWith};
+
+use solid_model::Run;
+use std::alloc::AllocError;
+
+/// The piece goes on with the run: it begins where the run ends, in the same style.
+fn goes_on(run: Run, piece: Run) -> bool
+    ensures { result ≡ goes_on run piece }
+{
+    run.at == piece.at && run.to == piece.from && run.style == piece.style
+}
+
+/// The run, as far as the piece goes.
+fn as_far_as(run: Run, piece: Run) -> Run
+    ensures { result ≡ as_far_as run piece }
+{
+    Run {
+        to: piece.to,
+        ..run
+    }
+}
+
+/// The runs and then the piece, which is joined to the last run where it goes on with it. A piece of no length changes
+/// nothing.
+pub fn with_piece(mut runs: Vec<Run>, piece: Run) -> Result<Vec<Run>, AllocError>
+    requires runs { AreRuns runs.items }
+    requires before { EndBy piece.at piece.from runs.items }
+    requires drawn { piece.style ≢ Blank }
+    ensures { IfOk result (λ joined. AreWith piece runs.items joined.items) }
+{
+    if piece.to <= piece.from {
+        return Ok(runs);
+    }
+    match runs.pop() {
+        None => runs.push(piece)?,
+        Some(last) if goes_on(last, piece) => runs.push(as_far_as(last, piece))?,
+        Some(last) => {
+            runs.push(last)?;
+            runs.push(piece)?;
+        }
+    }
+    Ok(runs)
+}

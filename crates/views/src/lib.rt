@@ -1,0 +1,12 @@
+//! The drawing of a file's lines: each view's lines are cut into maximal runs, and shifted so that they begin at 0.
+#![tactic(auto)]
+
+mod corner;
+mod joined;
+mod stretches;
+mod sweep;
+#[cfg(test)]
+mod tests;
+mod views;
+
+pub use views::drawing;
