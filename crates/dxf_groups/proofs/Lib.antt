@@ -1,6 +1,8 @@
-pub mod Feeds
-pub mod DecimalForms
-pub mod FirstLine
-pub mod Points
-pub mod EntityParts
-pub mod Readings
+pub mod FewDigits
+pub mod ReadLines
+pub mod ReadPairs
+pub mod NumeralDigits
+pub mod NumeralScale
+pub mod NumeralReading
+pub mod NumeralGrammar
+pub mod NumeralReach

@@ -1,4 +1,9 @@
-pub mod PlainForm
-pub mod Decimals
-pub mod Parts
-pub mod Reads
+pub mod Lines
+pub mod Codes
+pub mod Pairs
+pub mod Spans
+pub mod Reading
+pub mod Groups
+pub mod SmallTexts
+pub mod Numerals
+pub mod NumeralParts

@@ -1,8 +1,15 @@
-//! The groups of a DXF file, in the plain form of a drawing.
+//! The pairs of a DXF file, and the numerals in them.
 #![tactic(auto)]
 
-mod decimals;
-mod entities;
-mod plain_form;
+mod codes;
+mod groups;
+mod lines;
+mod numerals;
+mod pair;
+mod pairs;
 
-pub use plain_form::{PlainRefused, one_reading, plain};
+pub use groups::Groups;
+pub use lines::Span;
+pub use numerals::{NumeralFault, numerals_are_spelled_so, small_numerals, whole};
+pub use pair::Pair;
+pub use pairs::small_texts;

@@ -1,0 +1,7 @@
+-- No text is the exponent 0.
+use Rattle.std.proofs.Common.{pos, refl, arith}
+use Rattle.std.proofs.lemmas.List.{nil_from_length}
+use Rattle.dxf_groups.proofs.numerals.exponent_of.Goals as goal
+
+pub returns-in-empty : goal.returns-in-empty
+returns-in-empty c = (pos 0, rw (nil_from_length c.args.text.now (omega arith)) refl, (0, refl, refl))

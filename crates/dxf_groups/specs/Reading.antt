@@ -1,0 +1,49 @@
+-- How the pairs of a text are read, one after another.
+use Rattle.std.specs.Prelude.{◌≡◌, ◌≤◌, ◌<◌, ◌+◌, ℕ, List, length, drop, Option, Some, None, Result, Ok, Err}
+use Rattle.solid_model.specs.declared.fault.Fault.{Fault}
+use Rattle.dxf_groups.specs.declared.pair.Pair.{Pair}
+use Rattle.dxf_groups.specs.declared.pairs.ReadPair.{ReadPair}
+use Rattle.dxf_groups.specs.Lines.{contents_of}
+use Rattle.dxf_groups.specs.Pairs.{TextPair, Pairs, ended, pair_before, pairs_from}
+use Rattle.dxf_groups.specs.Spans.{IsSpanIn, span_of}
+
+-- the most bytes of a text
+abbrev pub most_bytes : ℕ
+most_bytes = 134217728
+
+-- a place in a text of at most so many bytes; each line before it has a byte of its own, its line feed
+pub record IsPlaceIn (text : List ℕ) (place line : ℕ) : Type 0 where
+  pub short : length text ≤ most_bytes
+  pub within : place ≤ length text
+  pub counted : line ≤ place + 1
+
+-- a pair whose value is a span of the text
+abbrev pub text_pair : List ℕ → Pair → TextPair
+text_pair text pair = record { code = pair.code; value = span_of text pair.value; line = pair.line }
+
+-- the pairs of a text from this place on, where a line with this number begins
+abbrev pub pairs_at : List ℕ → ℕ → ℕ → Pairs
+pairs_at text place line = pairs_from line (contents_of (drop place text))
+
+-- the pair was read at or after this place, and what is left begins after it
+pub record IsReadFrom (text : List ℕ) (place line : ℕ) (read : ReadPair) : Type 0 where
+  pub span : IsSpanIn text read.pair.value
+  pub goes_on : place < read.after
+  pub place_after : IsPlaceIn text read.after (read.pair.line + 2)
+  pub pairs : pairs_at text place line ≡ pair_before (text_pair text read.pair) (pairs_at text read.after (read.pair.line + 2))
+
+-- the answer of a reading at this place: a pair, or the fault where one is due
+abbrev pub IsReading : List ℕ → ℕ → ℕ → Result ReadPair Fault → Type 0
+IsReading text place line (Ok read) = IsReadFrom text place line read
+IsReading text place line (Err fault) = pairs_at text place line ≡ ended (Err fault)
+
+-- what is left of a text: nothing but the ending, once that was read
+abbrev pub left_from : List ℕ → ℕ → ℕ → Option (Result ℕ Fault) → Pairs
+left_from text place line None = pairs_at text place line
+left_from text place line (Some ending) = ended ending
+
+-- the line of the end pair's code, once that was read
+abbrev pub end_line_of : Option (Result ℕ Fault) → Option ℕ
+end_line_of None = None
+end_line_of (Some (Ok line)) = Some line
+end_line_of (Some (Err fault)) = None
