@@ -1,0 +1,3 @@
+pub mod OwnFacts
+pub mod Resumes
+pub mod KeptLines

@@ -1,0 +1,133 @@
+-- What counts of an entry, pair by pair and all at once.
+use Rattle.std.proofs.Common.{◌≡◌, ℕ, Bool, true, false, not, List, [], ◌∷◌, Option, Some, None, Result, Ok, Err, if◌then◌else◌, codes, refl, sym, ap, ◌∙◌}
+use Rattle.std.specs.Option.{option_map, option_or, option_flatten}
+use Rattle.std.specs.Str.{bytes_eq}
+use Rattle.solid_model.specs.declared.fault.Fault.{Fault}
+use Rattle.solid_model.specs.declared.frame.View.{View}
+use Rattle.dxf_groups.specs.Pairs.{TextPair}
+use Rattle.dxf_entities.specs.declared.facts.Facts.{Facts}
+use Rattle.dxf_entities.specs.declared.layers.LayerFacts.{LayerFacts}
+use Rattle.dxf_entities.specs.declared.names.Kind.TheVariants.{Other}
+use Rattle.dxf_entities.specs.declared.names.Linetype.{Linetype}
+use Rattle.dxf_entities.specs.Coordinates.{◌>>=◌, with_coordinate, coordinates_of}
+use Rattle.dxf_entities.specs.Entries.{has_code, own_pairs, first_value, opens_group, closes_group}
+use Rattle.dxf_entities.specs.Judging.{is_on_paper, judged_in, judged_on, judged}
+use Rattle.dxf_entities.specs.Names.{view_on, linetype_of}
+use Rattle.dxf_entities.specs.Resuming.{or_first, with_fact, with_layer_fact, with_own}
+
+-- what is known, or else nothing
+or_nothing : {A : Type 0} (known : Option A) → option_or known None ≡ known
+or_nothing (Some x) = refl
+or_nothing None = refl
+
+-- what is known, or else what the first pair with a code tells
+first_of_more : {A : Type 0} (code : ℕ) (meaning : List ℕ → A) (p : TextPair) (own : List TextPair) (known : Option A)
+    → option_or (or_first code meaning p known) (option_map meaning (first_value code own)) ≡ option_or known (option_map meaning (first_value code (p ∷ own)))
+first_of_more code meaning p own (Some x) = refl
+first_of_more code meaning p own None = by (has_code code p)
+  where
+    by : (b : Bool) → option_or (if b then Some (meaning p.value) else None) (option_map meaning (first_value code own))
+        ≡ option_map meaning (if b then Some p.value else first_value code own)
+    by true = refl
+    by false = refl
+
+-- no more coordinates are read
+bind_ok : {A : Type 0} (r : Result A Fault) → (r >>= Ok) ≡ r
+bind_ok (Ok x) = refl
+bind_ok (Err e) = refl
+
+-- one after another
+pub bind_bind : {A B C : Type 0} (r : Result A Fault) (f : A → Result B Fault) (g : B → Result C Fault)
+    → ((r >>= f) >>= g) ≡ (r >>= λ x. f x >>= g)
+bind_bind (Ok x) f g = refl
+bind_bind (Err e) f g = refl
+
+-- what counts of an entity with these pairs of its own
+abbrev pub with_facts : List TextPair → Facts → Facts
+with_facts own f = record f {
+  layer = option_or f.layer (option_map view_on (first_value 8 own));
+  paper = option_or f.paper (option_map (λ value. bytes_eq value (codes "1")) (first_value 67 own));
+  linetype = option_or f.linetype (option_map linetype_of (first_value 6 own));
+  coordinates = f.coordinates >>= coordinates_of own;
+}
+
+-- with no pairs nothing more counts
+no_facts : (f : Facts) → with_facts [] f ≡ f
+no_facts f = λ i. record f {
+  layer = or_nothing f.layer i;
+  paper = or_nothing f.paper i;
+  linetype = or_nothing f.linetype i;
+  coordinates = bind_ok f.coordinates i;
+}
+
+-- one more pair, and then the others
+more_facts : (p : TextPair) (own : List TextPair) (f : Facts) → with_facts own (with_fact p f) ≡ with_facts (p ∷ own) f
+more_facts p own f = λ i. record f {
+  layer = first_of_more 8 view_on p own f.layer i;
+  paper = first_of_more 67 (λ value. bytes_eq value (codes "1")) p own f.paper i;
+  linetype = first_of_more 6 linetype_of p own f.linetype i;
+  coordinates = bind_bind f.coordinates (with_coordinate p) (coordinates_of own) i;
+}
+
+-- what counts of a layer's entry with these pairs of its own
+abbrev pub with_layer_facts : List TextPair → LayerFacts → LayerFacts
+with_layer_facts own f = record {
+  name = option_or f.name (option_map view_on (first_value 2 own));
+  linetype = option_or f.linetype (option_map linetype_of (first_value 6 own));
+}
+
+-- with no pairs nothing more counts
+no_layer_facts : (f : LayerFacts) → with_layer_facts [] f ≡ f
+no_layer_facts f = λ i. record { name = or_nothing f.name i; linetype = or_nothing f.linetype i }
+
+-- one more pair, and then the others
+more_layer_facts : (p : TextPair) (own : List TextPair) (f : LayerFacts)
+    → with_layer_facts own (with_layer_fact p f) ≡ with_layer_facts (p ∷ own) f
+more_layer_facts p own f = λ i. record {
+  name = first_of_more 2 view_on p own f.name i;
+  linetype = first_of_more 6 linetype_of p own f.linetype i;
+}
+
+-- what is found pair by pair is found of an entry's own pairs
+module _ {F : Type 0} (with : TextPair → F → F) (all : List TextPair → F → F) (none : (f : F) → all [] f ≡ f)
+    (more : (p : TextPair) (own : List TextPair) (f : F) → all own (with p f) ≡ all (p ∷ own) f) where
+  found : (inside : Bool) (ps : List TextPair) (f : F) → with_own with inside ps f ≡ all (own_pairs inside ps) f
+  found true [] f = sym (none f)
+  found false [] f = sym (none f)
+  found true (p ∷ ps) f = found (not (closes_group p)) ps f
+  found false (p ∷ ps) f = by (opens_group p) (found true ps f) (found false ps (with p f))
+    where
+      by : (b : Bool) → with_own with true ps f ≡ all (own_pairs true ps) f
+          → with_own with false ps (with p f) ≡ all (own_pairs false ps) (with p f)
+          → (if b then with_own with true ps f else with_own with false ps (with p f))
+          ≡ all (if b then own_pairs true ps else p ∷ own_pairs false ps) f
+      by true inside outside = inside
+      by false inside outside = outside ∙ more p (own_pairs false ps) f
+
+-- so are the facts of an entity
+pub own_facts : (inside : Bool) (ps : List TextPair) (f : Facts) → with_own with_fact inside ps f ≡ with_facts (own_pairs inside ps) f
+own_facts = found with_fact with_facts no_facts more_facts
+
+-- and those of a layer's entry
+pub own_layer_facts : (inside : Bool) (ps : List TextPair) (f : LayerFacts)
+    → with_own with_layer_fact inside ps f ≡ with_layer_facts (own_pairs inside ps) f
+own_layer_facts = found with_layer_fact with_layer_facts no_layer_facts more_layer_facts
+
+-- an entity that stands on a layer that is no view's is passed over
+pub elsewhere : (layers : View → Option Linetype) (count : ℕ) (f : Facts) → f.layer ≡ Some None → judged layers count f ≡ Ok None
+unfolding judged
+elsewhere layers count f e = ap (λ layer. judged_on (option_flatten layer) layers count f) e
+
+-- no view, or paper space: what is no geometry is passed over in each case
+no_geometry_on : (layer : Option View) (layers : View → Option Linetype) (count : ℕ) (f : Facts) → f.kind ≡ Other → judged_on layer layers count f ≡ Ok None
+no_geometry_on None layers count f e = refl
+no_geometry_on (Some view) layers count f e = by (is_on_paper f.paper)
+  where
+    by : (b : Bool) → (if b then Ok None else judged_in f.kind (layers view) count view f) ≡ Ok None
+    by true = refl
+    by false = ap (λ kind. judged_in kind (layers view) count view f) e
+
+-- as is one that is no geometry
+pub no_geometry : (layers : View → Option Linetype) (count : ℕ) (f : Facts) → f.kind ≡ Other → judged layers count f ≡ Ok None
+unfolding judged
+no_geometry layers count f e = no_geometry_on (option_flatten f.layer) layers count f e

@@ -1,0 +1,141 @@
+-- How the reading of a file goes on in the midst of an entry.
+use Rattle.std.specs.Prelude.{ℕ, Bool, true, false, not, List, [], ◌∷◌, length, Option, Some, None, Result, Ok, codes, if◌then◌else◌}
+use Rattle.std.specs.Option.{option_or}
+use Rattle.std.specs.Str.{bytes_eq}
+use Rattle.solid_model.specs.declared.fault.Fault.{Fault}
+use Rattle.solid_model.specs.declared.frame.View.{View}
+use Rattle.solid_model.specs.declared.frame.View.TheVariants.{Front, Top, Side}
+use Rattle.solid_model.specs.Line.{Line}
+use Rattle.dxf_groups.specs.Pairs.{TextPair}
+use Rattle.dxf_entities.specs.declared.facts.Facts.{Facts}
+use Rattle.dxf_entities.specs.declared.layers.LayerFacts.{LayerFacts}
+use Rattle.dxf_entities.specs.declared.layers.Layers.{Layers}
+use Rattle.dxf_entities.specs.declared.names.Kind.{Kind}
+use Rattle.dxf_entities.specs.declared.names.Kind.TheVariants as kind
+use Rattle.dxf_entities.specs.declared.names.Linetype.{Linetype}
+use Rattle.dxf_entities.specs.declared.names.Section.{Section}
+use Rattle.dxf_entities.specs.declared.names.Section.TheVariants.{Tables, Entities, Other}
+use Rattle.dxf_entities.specs.declared.place.Place.{Place}
+use Rattle.dxf_entities.specs.declared.place.Place.TheVariants.{Outside, Unnamed, Inside}
+use Rattle.dxf_entities.specs.declared.reader.Open.{Open}
+use Rattle.dxf_entities.specs.declared.reader.Open.TheVariants.{Passed, Layer, Entity}
+use Rattle.dxf_entities.specs.declared.reader.Reader.{Reader}
+use Rattle.dxf_entities.specs.Coordinates.{◌>>=◌, with_coordinate}
+use Rattle.dxf_entities.specs.Entries.{has_code, before_entries, entries_of, opens_group, closes_group}
+use Rattle.dxf_entities.specs.Judging.{judged}
+use Rattle.dxf_entities.specs.Known.{none_known}
+use Rattle.dxf_entities.specs.Names.{is_name, view_on, linetype_of, kind_of}
+use Rattle.dxf_entities.specs.Reading.{Progress, between, opened, with_layer, with_line, is_ended, entries_read}
+
+-- what is known, or else what a pair with this code tells
+abbrev pub or_first : {A : Type 0} → ℕ → (List ℕ → A) → TextPair → Option A → Option A
+or_first code meaning p known = option_or known (if has_code code p then Some (meaning p.value) else None)
+
+-- what counts of an entity, with one more pair of its own
+abbrev pub with_fact : TextPair → Facts → Facts
+with_fact p f = record f {
+  layer = or_first 8 view_on p f.layer;
+  paper = or_first 67 (λ value. bytes_eq value (codes "1")) p f.paper;
+  linetype = or_first 6 linetype_of p f.linetype;
+  coordinates = f.coordinates >>= with_coordinate p;
+}
+
+-- what counts of a layer's entry, with one more pair of its own
+abbrev pub with_layer_fact : TextPair → LayerFacts → LayerFacts
+with_layer_fact p f = record {
+  name = or_first 2 view_on p f.name;
+  linetype = or_first 6 linetype_of p f.linetype;
+}
+
+-- with the pairs that belong to no application; whether the first ones do is told
+abbrev pub with_own : {F : Type 0} → (TextPair → F → F) → Bool → List TextPair → F → F
+with_own with inside [] f = f
+with_own with true (p ∷ ps) f = with_own with (not (closes_group p)) ps f
+with_own with false (p ∷ ps) f = if opens_group p then with_own with true ps f else with_own with false ps (with p f)
+
+-- what counts of an entity that begins so
+abbrev pub begun_facts : TextPair → Facts
+begun_facts p = record {
+  line = p.line;
+  kind = kind_of p.value;
+  layer = None;
+  paper = None;
+  linetype = None;
+  coordinates = Ok none_known;
+}
+
+-- the linetypes of the views' layers
+abbrev pub layer_on : Layers → View → Option Linetype
+layer_on l Front = l.front
+layer_on l Top = l.top
+layer_on l Side = l.side
+
+-- how far a reader has read, but for the entry that is open
+abbrev pub progress_of : Reader → Progress
+progress_of r = record { place = r.place; layers = layer_on r.layers; lines = r.lines.items }
+
+-- an entity of this kind that a pair opens
+abbrev pub opened_entity : TextPair → Kind → Open
+opened_entity p kind.Line = Entity (begun_facts p)
+opened_entity p kind.Geometry = Entity (begun_facts p)
+opened_entity p kind.Other = Passed
+
+-- the entry that a pair opens in a section
+abbrev pub opened_entry : Section → TextPair → Open
+opened_entry Tables p = if is_name (codes "LAYER") p.value then Layer (record { name = None; linetype = None }) else Passed
+opened_entry Entities p = opened_entity p (kind_of p.value)
+opened_entry Other p = Passed
+
+-- an entity is passed over where it stands on a layer that is no view's
+abbrev pub unless_elsewhere : Option (Option View) → Facts → Open
+unless_elsewhere None f = Entity f
+unless_elsewhere (Some None) f = Passed
+unless_elsewhere (Some (Some view)) f = Entity f
+
+-- an open entry with one more pair of its own
+abbrev pub with_own_pair : TextPair → Open → Open
+with_own_pair p Passed = Passed
+with_own_pair p (Layer f) = Layer (with_layer_fact p f)
+with_own_pair p (Entity f) = let more = with_fact p f in unless_elsewhere more.layer more
+
+-- an open entry with one more pair; whether that may belong to an application is told
+abbrev pub with_pair_of : TextPair → Bool → Open → Open
+with_pair_of p true entry = entry
+with_pair_of p false entry = if opens_group p then entry else with_own_pair p entry
+
+-- whether the next pair may belong to an application
+abbrev pub is_inside_after : TextPair → Bool → Bool
+is_inside_after p true = not (closes_group p)
+is_inside_after p false = opens_group p
+
+-- the open entry takes a pair
+abbrev pub fact_taken : TextPair → Reader → Reader
+fact_taken p r = record r {
+  entry = with_pair_of p r.in_application r.entry;
+  in_application = is_inside_after p r.in_application;
+}
+
+-- an entry is closed, with what more pairs it has
+abbrev pub entry_closed : Open → Bool → List TextPair → Progress → Result Progress Fault
+entry_closed Passed inside ps s = Ok s
+entry_closed (Layer f) inside ps s = let all = with_own with_layer_fact inside ps f in Ok (with_layer all.name all.linetype s)
+entry_closed (Entity f) inside ps s = judged s.layers (length s.lines) (with_own with_fact inside ps f) >>= λ l. Ok (with_line l s)
+
+-- the open entry is closed
+abbrev pub closed : List TextPair → Reader → Result Progress Fault
+closed ps r = entry_closed r.entry r.in_application ps (progress_of r)
+
+-- it is closed where a pair ends it
+abbrev pub closed_where : Bool → List TextPair → Reader → Result Progress Fault
+closed_where true ps r = closed ps r
+closed_where false ps r = Ok (progress_of r)
+
+-- how far a reader comes before the next entry, from this place
+abbrev pub advanced : Place → Bool → List TextPair → Reader → Result Progress Fault
+advanced Outside ended ps r = between ps (progress_of r)
+advanced Unnamed ended ps r = opened ps (progress_of r)
+advanced (Inside section) ended ps r = closed_where ended ps r
+
+-- what a reader reads where these pairs and this ending are left
+unfoldable pub resumed : List TextPair → Result ℕ Fault → Reader → Result (List Line) Fault
+resumed ps ending r = advanced r.place (is_ended (entries_of ps) ending) (before_entries ps) r >>= entries_read (entries_of ps) ending
