@@ -2,28 +2,24 @@
 use Rattle.std.proofs.Common.{◌≡◌, refl, inl, sym, subst, List, [], ◌∷◌, map}
 use Rattle.solid_model.specs.declared.cell.Cell.{Cell}
 use Rattle.solid_model.specs.declared.segment.Segment.{Segment}
+use Rattle.solid_model.specs.declared.segment.Style.{Style}
 use Rattle.solid_model.specs.Cells.{IsSolid, SameCells}
-use Rattle.solid_model.specs.Drawings.{drawing_of, IsShown}
 use Rattle.solid_model.specs.Draws.{Draws}
-use Rattle.solid_model.specs.Line.{Line, IsKept}
-use Rattle.solid_model.specs.Lists.{Member, Each}
+use Rattle.solid_model.specs.Lists.{Member}
 use Rattle.solid_model.specs.Matching.{Matches, AreSolidsOf}
 use Rattle.solid_model.specs.Orders.{IsInStatedForm}
 use Rattle.solid_model.proofs.CellOrder.{stated_form}
 use Rattle.solid_model.proofs.Fullness.{same_cells-members}
 use Rattle.solid_model.proofs.Lists.{each-at, each-weaker}
-use Rattle.solid_model.proofs.Sheets.{empty-without_lines}
 use Rattle.solid_model.proofs.Styles.{same_drawing}
-use Rattle.unit_search.specs.declared.unit_box.Reaches.{Reaches}
 use Rattle.unit_search.specs.declared.unit_box.UnitBox.{UnitBox}
 use Rattle.unit_search.specs.Demands.{demand_of, segments_of}
 use Rattle.solid_model.specs.Sets.{IsPart, IsSetOf}
 use Rattle.unit_search.specs.Sets.{Passes, AreTried}
-use Rattle.unit_search.specs.UnitBox.{cells_of, volume_of, unit_box_of, AreReachesOf, IsInBox}
+use Rattle.unit_search.specs.UnitBox.{IsUnitBox, cells_of, volume_of, IsInBox}
 use Rattle.unit_search.proofs.BoxCells.{cells-stated, cells-in_box, in_box-member, no_volume-empty}
 use Rattle.solid_model.proofs.SetsInOrder.{sets_are_listed}
 use Rattle.solid_model.proofs.Parts.{each-part, part-stated, within-part}
-use Rattle.unit_search.proofs.Reaches.{drawing_fits}
 use Rattle.unit_search.proofs.Windows.{FitsWindows, FitsWindows-unit_box, matching-in_box, draws_from_demands, demands_met}
 
 -- a list with a member is a solid
@@ -37,54 +33,51 @@ some_member [] k = absurd k
 some_member (x ∷ xs) k = (x, inl refl)
 
 -- a set of the box's cells that passes matches the drawing, and is in the stated form
-passing_matches : (ls : List Line) (b : UnitBox) → FitsWindows b (drawing_of ls) → (s : List Cell)
-    → Passes (map (demand_of ls) (segments_of b)) s × IsSetOf [] (cells_of b) s → Matches (drawing_of ls) s × IsInStatedForm s
-passing_matches ls b fits s tried =
+passing_matches : (drawing : Segment → Style) (b : UnitBox) → FitsWindows b drawing → (s : List Cell)
+    → Passes (map (demand_of drawing) (segments_of b)) s × IsSetOf [] (cells_of b) s → Matches drawing s × IsInStatedForm s
+passing_matches drawing b fits s tried =
     let part : IsPart (cells_of b) s = subst (IsPart (cells_of b)) (sym tried.1.2) tried.1.1 in
     let within = each-part (IsInBox b) (cells_of b) s part (cells-in_box b) in
-    ((tried.0.0, draws_from_demands ls b s fits within tried.0.1), part-stated (cells_of b) s (cells-stated b) part)
+    ((tried.0.0, draws_from_demands drawing b s fits within tried.0.1), part-stated (cells_of b) s (cells-stated b) part)
 
 -- a matching solid is one of the sets that are tried, written in the stated form, and passes
-matching_tried : (ls : List Line) (b : UnitBox) → FitsWindows b (drawing_of ls) → (s : List Cell) → Matches (drawing_of ls) s
-    → (t : List Cell) × IsSetOf [] (cells_of b) t × Passes (map (demand_of ls) (segments_of b)) t × SameCells s t
-matching_tried ls b fits s matches =
+matching_tried : (drawing : Segment → Style) (b : UnitBox) → FitsWindows b drawing → (s : List Cell) → Matches drawing s
+    → (t : List Cell) × IsSetOf [] (cells_of b) t × Passes (map (demand_of drawing) (segments_of b)) t × SameCells s t
+matching_tried drawing b fits s matches =
     let form = stated_form s in
     let t = form.0 in
     let same : SameCells s t = form.2 in
-    let within = matching-in_box b (drawing_of ls) s fits matches in
+    let within = matching-in_box b drawing s fits matches in
     let in_cells : (c : Cell) → Member t c → Member (cells_of b) c = λ c k.
     in_box-member b c (each-at (IsInBox b) s c within (same_cells-members t s (λ d. sym (same d)) c k)) in
     let first = some_member s matches.0 in
     let solid = solid_from_member t first.0 (same_cells-members s t same first.0 first.1) in
-    let draws : (g : Segment) → Draws t g (drawing_of ls g) = λ g. same_drawing s t same g (drawing_of ls g) (matches.1 g) in
-    (t, (t, within-part (cells_of b) t (cells-stated b) form.1 in_cells, refl), (solid, demands_met ls b t (λ g _. draws g)), same)
+    let draws : (g : Segment) → Draws t g (drawing g) = λ g. same_drawing s t same g (drawing g) (matches.1 g) in
+    (t, (t, within-part (cells_of b) t (cells-stated b) form.1 in_cells, refl), (solid, demands_met drawing b t (λ g _. draws g)), same)
 
 -- where all sets of the box's cells were tried, the solids found are all that match
-pub all_found : (ls : List Line) (b : UnitBox) (ss : List (List Cell)) → FitsWindows b (drawing_of ls)
-    → AreTried (map (demand_of ls) (segments_of b)) [] (cells_of b) ss → AreSolidsOf (drawing_of ls) ss
-all_found ls b ss fits tried = record {
-  matching = each-weaker _ (λ s. Matches (drawing_of ls) s × IsInStatedForm s) ss (passing_matches ls b fits) tried.each;
+pub all_found : (drawing : Segment → Style) (b : UnitBox) (ss : List (List Cell)) → FitsWindows b drawing
+    → AreTried (map (demand_of drawing) (segments_of b)) [] (cells_of b) ss → AreSolidsOf drawing ss
+all_found drawing b ss fits tried = record {
+  matching = each-weaker _ (λ s. Matches drawing s × IsInStatedForm s) ss (passing_matches drawing b fits) tried.each;
   ordered = tried.ordered;
-  complete = λ s matches. let t = matching_tried ls b fits s matches in (t.0, tried.complete t.0 t.1 t.2, t.3);
+  complete = λ s matches. let t = matching_tried drawing b fits s matches in (t.0, tried.complete t.0 t.1 t.2, t.3);
 }
 
 -- a box without a cell has no solid in it, so none matches
-pub none_found : (ls : List Line) (b : UnitBox) → FitsWindows b (drawing_of ls) → volume_of b ≡ 0 → AreSolidsOf (drawing_of ls) []
-none_found ls b fits none = record {
+pub none_found : (drawing : Segment → Style) (b : UnitBox) → FitsWindows b drawing → volume_of b ≡ 0 → AreSolidsOf drawing []
+none_found drawing b fits none = record {
   matching = tt;
   ordered = tt;
   complete = λ s matches.
       let first = some_member s matches.0 in
-      absurd (no_volume-empty b first.0 none (each-at (IsInBox b) s first.0 (matching-in_box b (drawing_of ls) s fits matches) first.1));
+      absurd (no_volume-empty b first.0 none (each-at (IsInBox b) s first.0 (matching-in_box b drawing s fits matches) first.1));
 }
 
--- views that reach somewhere all show something
-pub shown_from_reaches : (ls : List Line) (r : Reaches) → Each IsKept ls → AreReachesOf ls r → IsShown ls
-shown_from_reaches ls r kept reaches v empty = (reaches v).shown (empty-without_lines ls kept v empty)
-
--- it can't be that no list has all the solids that match the drawing of lines
-pub solids_are_listed : (ls : List Line) → ((ss : List (List Cell)) → AreSolidsOf (drawing_of ls) ss → ⊥) → ⊥
-solids_are_listed ls never =
-    let b = unit_box_of ls in
-    let fits = FitsWindows-unit_box ls (drawing_of ls) (drawing_fits ls) in
-    sets_are_listed (Passes (map (demand_of ls) (segments_of b))) [] (cells_of b) (cells-stated b) (λ ss tried. never ss (all_found ls b ss fits tried))
+-- it can't be that no list has all the solids that match a drawing with a unit box
+pub solids_are_listed : (drawing : Segment → Style) (b : UnitBox) → IsUnitBox drawing b
+    → ((ss : List (List Cell)) → AreSolidsOf drawing ss → ⊥) → ⊥
+solids_are_listed drawing b is never =
+    let fits = FitsWindows-unit_box drawing b is in
+    sets_are_listed (Passes (map (demand_of drawing) (segments_of b))) [] (cells_of b) (cells-stated b)
+    (λ ss tried. never ss (all_found drawing b ss fits tried))

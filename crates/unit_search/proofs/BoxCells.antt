@@ -1,6 +1,6 @@
 -- The cells of a unit box.
-use Rattle.std.proofs.Common.{◌≡◌, ◌⊎◌, inl, inr, ℕ, ◌<◌, [], ◌∷◌, ℤ, pos, negsuc, ◌≤ℤ◌, refl, ap, subst, arith}
-use Rattle.std.proofs.Math.Nat.{mul-pos}
+use Rattle.std.proofs.Common.{◌≡◌, ◌⊎◌, inl, inr, ℕ, zero, suc, ◌*◌, ◌<◌, ◌≤◌, [], ◌∷◌, ℤ, pos, negsuc, ◌≤ℤ◌, refl, ap, subst, arith}
+use Rattle.std.proofs.Math.Nat.{mul-pos, le-mul_of_pos_right}
 use Rattle.std.proofs.lemmas.Int.{ints}
 use Rattle.solid_model.specs.declared.cell.Axis.{Axis}
 use Rattle.solid_model.specs.declared.cell.Axis.TheVariants.{X, Y, Z}
@@ -11,7 +11,7 @@ use Rattle.solid_model.proofs.Lists.{each-from, member-pieces, member-from_piece
 use Rattle.solid_model.proofs.Fullness.{same_coordinates}
 use Rattle.solid_model.proofs.CellOrder.{LiesBefore, lies-before}
 use Rattle.unit_search.specs.declared.unit_box.UnitBox.{UnitBox}
-use Rattle.unit_search.specs.UnitBox.{volume_of, extent_of, IsInBox, cell_at, row_of, layer_of, layers_of, cells_of}
+use Rattle.unit_search.specs.UnitBox.{most_cells, IsSmall, volume_of, extent_of, IsInBox, cell_at, row_of, layer_of, layers_of, cells_of}
 
 -- ---- rows, layers and boxes
 
@@ -119,3 +119,14 @@ pub no_volume-empty : (b : UnitBox) (c : Cell) → volume_of b ≡ 0 → IsInBox
 no_volume-empty b c none h =
     let extends = in_box-extends b c h in
     omega (arith, mul-pos (mul-pos (extends X) (extends Y)) (extends Z))
+
+-- a factor of a product that isn't 0 is at most the product
+factor_within : (a k m : ℕ) → 0 < a * k → a * k ≤ m → a ≤ m
+factor_within a zero m some within = absurd (omega arith)
+factor_within a (suc k) m some within = omega (arith, le-mul_of_pos_right {m = suc k} a (omega arith))
+
+-- a box with a cell, and with at most so many, is no longer than that along any axis
+pub volume-small : (b : UnitBox) → 0 < volume_of b → volume_of b ≤ most_cells → IsSmall b
+volume-small b some within X = factor_within b.x (b.y * b.z) most_cells (omega arith) (omega arith)
+volume-small b some within Y = factor_within b.y (b.x * b.z) most_cells (omega arith) (omega arith)
+volume-small b some within Z = factor_within b.z (b.x * b.y) most_cells (omega arith) (omega arith)

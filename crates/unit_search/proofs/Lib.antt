@@ -1,6 +1,6 @@
 pub mod Drawn
 pub mod Windows
 pub mod BoxCells
-pub mod Covers
-pub mod Reaches
+pub mod FarEnds
 pub mod AllSolids
+pub mod UnitBoxes

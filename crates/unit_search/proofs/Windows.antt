@@ -13,9 +13,7 @@ use Rattle.solid_model.specs.Boxes.{place_of, far_right, far_up, LiesWithin, Fit
 use Rattle.solid_model.specs.Cells.{is_full}
 use Rattle.solid_model.specs.Draws.{start_of, line_of, has_edge, Draws}
 use Rattle.solid_model.specs.DrawnStyle.{drawn_style}
-use Rattle.solid_model.specs.Drawings.{drawing_of}
 use Rattle.solid_model.specs.Frames.{frame_of, along, across}
-use Rattle.solid_model.specs.Line.{Line}
 use Rattle.solid_model.specs.Lists.{Member, Each}
 use Rattle.solid_model.specs.Matching.{Matches}
 use Rattle.solid_model.proofs.Fullness.{each_full, each_from_full}
@@ -25,8 +23,7 @@ use Rattle.solid_model.proofs.UnitBox.{lies_in_unit_box}
 use Rattle.unit_search.specs.declared.demands.Demand.{Demand}
 use Rattle.unit_search.specs.declared.unit_box.UnitBox.{UnitBox}
 use Rattle.unit_search.specs.Demands.{demand_of, segment_at, row_segments, window_segments, segments_in, view_segments, segments_of, IsMet, IsNearby}
-use Rattle.unit_search.specs.Reach.{width_of, height_of}
-use Rattle.unit_search.specs.UnitBox.{unit_box_of, extent_of, extent_right, extent_up, IsSmall, IsInBox}
+use Rattle.unit_search.specs.UnitBox.{box_with, IsUnitBox, extent_of, extent_right, extent_up, IsSmall, IsInBox}
 use Rattle.unit_search.proofs.BoxCells.{natural}
 
 -- ---- the segments of the windows
@@ -111,41 +108,41 @@ segments_of-member b g m =
 -- ---- the demands
 
 -- what is demanded of one more list of segments comes after what is demanded of the first
-pub demands-append : (ls : List Line) (old : List Demand) (first more : List Segment) → (old ++ map (demand_of ls) first) ++ map (demand_of ls) more ≡ old ++ map (demand_of ls) (first ++ more)
-demands-append ls old first more = append_assoc old (map (demand_of ls) first) (map (demand_of ls) more) ∙ ap (λ ds. old ++ ds) (sym (map-append (demand_of ls) first more))
+pub demands-append : (drawing : Segment → Style) (old : List Demand) (first more : List Segment) → (old ++ map (demand_of drawing) first) ++ map (demand_of drawing) more ≡ old ++ map (demand_of drawing) (first ++ more)
+demands-append drawing old first more = append_assoc old (map (demand_of drawing) first) (map (demand_of drawing) more) ∙ ap (λ ds. old ++ ds) (sym (map-append (demand_of drawing) first more))
 
 -- one segment more of a row
-pub demands-row : (ls : List Line) (old items new : List Demand) (first : Segment) (n : ℕ) (d : Demand) → items ≡ old ++ map (demand_of ls) (row_segments first n)
-    → d ≡ demand_of ls (record first { right = pos n }) → new ≡ items ++ d ∷ [] → new ≡ old ++ map (demand_of ls) (row_segments first (n + 1))
-demands-row ls old items new first n d before this pushed =
-    pushed ∙ ap₂ (λ ds e. ds ++ e ∷ []) before this ∙ demands-append ls old (row_segments first n) (record first { right = pos n } ∷ [])
-    ∙ ap (λ k. old ++ map (demand_of ls) (row_segments first k)) (sym (add-one n))
+pub demands-row : (drawing : Segment → Style) (old items new : List Demand) (first : Segment) (n : ℕ) (d : Demand) → items ≡ old ++ map (demand_of drawing) (row_segments first n)
+    → d ≡ demand_of drawing (record first { right = pos n }) → new ≡ items ++ d ∷ [] → new ≡ old ++ map (demand_of drawing) (row_segments first (n + 1))
+demands-row drawing old items new first n d before this pushed =
+    pushed ∙ ap₂ (λ ds e. ds ++ e ∷ []) before this ∙ demands-append drawing old (row_segments first n) (record first { right = pos n } ∷ [])
+    ∙ ap (λ k. old ++ map (demand_of drawing) (row_segments first k)) (sym (add-one n))
 
 -- one row more of a window
-pub demands-window : (ls : List Line) (old items new : List Demand) (v : View) (upright : Bool) (width n : ℕ) (first : Segment) (w : ℕ)
-    → items ≡ old ++ map (demand_of ls) (window_segments v upright width n) → new ≡ items ++ map (demand_of ls) (row_segments first w)
-    → first ≡ segment_at v upright 0 n → w ≡ width → new ≡ old ++ map (demand_of ls) (window_segments v upright width (n + 1))
-demands-window ls old items new v upright width n first w before pushed this wide =
-    pushed ∙ ap₂ (λ ds gs. ds ++ map (demand_of ls) gs) before (ap₂ row_segments this wide) ∙ demands-append ls old (window_segments v upright width n) (row_segments (segment_at v upright 0 n) width)
-    ∙ ap (λ k. old ++ map (demand_of ls) (window_segments v upright width k)) (sym (add-one n))
+pub demands-window : (drawing : Segment → Style) (old items new : List Demand) (v : View) (upright : Bool) (width n : ℕ) (first : Segment) (w : ℕ)
+    → items ≡ old ++ map (demand_of drawing) (window_segments v upright width n) → new ≡ items ++ map (demand_of drawing) (row_segments first w)
+    → first ≡ segment_at v upright 0 n → w ≡ width → new ≡ old ++ map (demand_of drawing) (window_segments v upright width (n + 1))
+demands-window drawing old items new v upright width n first w before pushed this wide =
+    pushed ∙ ap₂ (λ ds gs. ds ++ map (demand_of drawing) gs) before (ap₂ row_segments this wide) ∙ demands-append drawing old (window_segments v upright width n) (row_segments (segment_at v upright 0 n) width)
+    ∙ ap (λ k. old ++ map (demand_of drawing) (window_segments v upright width k)) (sym (add-one n))
 
 -- what is demanded of the windows of a small box is near the origin
-pub IsNearby-demands : (ls : List Line) (b : UnitBox) → IsSmall b → Each IsNearby (map (demand_of ls) (segments_of b))
-IsNearby-demands ls b small = each-map (demand_of ls) IsNearby (segments_of b) (each-from (λ g. IsNearby (demand_of ls g)) (segments_of b) (λ g m.
+pub IsNearby-demands : (drawing : Segment → Style) (b : UnitBox) → IsSmall b → Each IsNearby (map (demand_of drawing) (segments_of b))
+IsNearby-demands drawing b small = each-map (demand_of drawing) IsNearby (segments_of b) (each-from (λ g. IsNearby (demand_of drawing g)) (segments_of b) (λ g m.
     let starts = segments_of-member b g m in
     let width = small (frame_of g.view).right.axis in
     let height = small (frame_of g.view).up.axis in
     ((omega (arith, ints, starts.0), omega (arith, ints, starts.1)), (omega (arith, ints, starts.2), omega (arith, ints, starts.3)))))
 
--- a solid that meets the demands draws what the lines show in the windows
-pub draws_in_window : (ls : List Line) (b : UnitBox) (s : List Cell) → Each (IsMet s) (map (demand_of ls) (segments_of b)) → (g : Segment) → StartsInWindow b g → Draws s g (drawing_of ls g)
-draws_in_window ls b s met g starts =
-    each-at (λ h. Draws s h (drawing_of ls h)) (segments_of b) g (each-from_map (demand_of ls) (IsMet s) (segments_of b) met) (member-segments_of b g starts)
+-- a solid that meets the demands draws what is shown in the windows
+pub draws_in_window : (drawing : Segment → Style) (b : UnitBox) (s : List Cell) → Each (IsMet s) (map (demand_of drawing) (segments_of b)) → (g : Segment) → StartsInWindow b g → Draws s g (drawing g)
+draws_in_window drawing b s met g starts =
+    each-at (λ h. Draws s h (drawing h)) (segments_of b) g (each-from_map (demand_of drawing) (IsMet s) (segments_of b) met) (member-segments_of b g starts)
 
 -- and a solid that draws it meets them
-pub demands_met : (ls : List Line) (b : UnitBox) (s : List Cell) → ((g : Segment) → StartsInWindow b g → Draws s g (drawing_of ls g)) → Each (IsMet s) (map (demand_of ls) (segments_of b))
-demands_met ls b s draws =
-    each-map (demand_of ls) (IsMet s) (segments_of b) (each-from (λ g. Draws s g (drawing_of ls g)) (segments_of b) (λ g m. draws g (segments_of-member b g m)))
+pub demands_met : (drawing : Segment → Style) (b : UnitBox) (s : List Cell) → ((g : Segment) → StartsInWindow b g → Draws s g (drawing g)) → Each (IsMet s) (map (demand_of drawing) (segments_of b))
+demands_met drawing b s draws =
+    each-map (demand_of drawing) (IsMet s) (segments_of b) (each-from (λ g. Draws s g (drawing g)) (segments_of b) (λ g m. draws g (segments_of-member b g m)))
 
 -- ---- outside the windows
 
@@ -184,17 +181,19 @@ module _ (b : UnitBox) (s : List Cell) (within : Each (IsInBox b) s) where
   edge_in_window : (g : Segment) (k : ℤ) → IsTrue (has_edge s g k) → LiesWithin (pos (extent_right b g.view)) (pos (extent_up b g.view)) g
   edge_in_window g k edge = let d = drawn_style_drawn s g in drawn_in_window g (drawn_style s g) d (edge_not_blank s g (drawn_style s g) d k edge)
 
+-- a segment's far end isn't before its beginning
+pub ends_later : (g : Segment) → (g.right ≤ℤ far_right g) × (g.up ≤ℤ far_up g)
+ends_later g = by g.upright g.right g.up
+  where
+    by : (upright : Bool) (x y : ℤ) → (x ≤ℤ far_right (record g { upright = upright; right = x; up = y })) × (y ≤ℤ far_up (record g { upright = upright; right = x; up = y }))
+    by false x y = (omega (arith, ints), omega (arith, ints))
+    by true x y = (omega (arith, ints), omega (arith, ints))
+
 -- a segment that lies in the window begins there
 pub lies_within-starts : (b : UnitBox) (g : Segment) → LiesWithin (pos (extent_right b g.view)) (pos (extent_up b g.view)) g → StartsInWindow b g
-lies_within-starts b g (left, right, bottom, top) = (left, omega (arith, ints, short.0, right), bottom, omega (arith, ints, short.1, top))
-  where
-    -- the far end isn't before the beginning
-    ends_later : (upright : Bool) (x y : ℤ) → (x ≤ℤ far_right (record g { upright = upright; right = x; up = y })) × (y ≤ℤ far_up (record g { upright = upright; right = x; up = y }))
-    ends_later false x y = (omega (arith, ints), omega (arith, ints))
-    ends_later true x y = (omega (arith, ints), omega (arith, ints))
-
-    short : (g.right ≤ℤ far_right g) × (g.up ≤ℤ far_up g)
-    short = ends_later g.upright g.right g.up
+lies_within-starts b g (left, right, bottom, top) =
+    let later = ends_later g in
+    (left, omega (arith, ints, later.0, right), bottom, omega (arith, ints, later.1, top))
 
 -- ---- drawings that show nothing outside a box's windows
 
@@ -202,18 +201,19 @@ lies_within-starts b g (left, right, bottom, top) = (left, omega (arith, ints, s
 abbrev pub FitsWindows : UnitBox → (Segment → Style) → Type 0
 FitsWindows b drawing = (v : View) → FitsIn drawing v (pos (extent_right b v)) (pos (extent_up b v))
 
--- the unit box's windows hold each view
-view_in_unit_box : (ls : List Line) (v : View) → (width_of v ls ≤ extent_right (unit_box_of ls) v) × (height_of v ls ≤ extent_up (unit_box_of ls) v)
-view_in_unit_box ls Front = (omega arith, omega arith)
-view_in_unit_box ls Top = (omega arith, omega arith)
-view_in_unit_box ls Side = (omega arith, omega arith)
+-- the windows of a unit box hold each view
+view_in_box : (width height : View → ℕ) (v : View)
+    → (width v ≤ extent_right (box_with width height) v) × (height v ≤ extent_up (box_with width height) v)
+view_in_box width height Front = (omega arith, omega arith)
+view_in_box width height Top = (omega arith, omega arith)
+view_in_box width height Side = (omega arith, omega arith)
 
--- so what fits the extents of each view fits the windows of the unit box
-pub FitsWindows-unit_box : (ls : List Line) (drawing : Segment → Style) → ((v : View) → FitsIn drawing v (pos (width_of v ls)) (pos (height_of v ls))) → FitsWindows (unit_box_of ls) drawing
-FitsWindows-unit_box ls drawing fits v g of shown =
-    let lies = fits v g of shown in
-    let wide = view_in_unit_box ls v in
-    (lies.0, omega (arith, ints, lies.1, wide.0), lies.2, omega (arith, ints, lies.3, wide.1))
+-- so what a drawing shows lies in the windows of its unit box
+pub FitsWindows-unit_box : (drawing : Segment → Style) (b : UnitBox) → IsUnitBox drawing b → FitsWindows b drawing
+FitsWindows-unit_box drawing b (width, height, reaches, is) = subst (λ c. FitsWindows c drawing) (sym is) (λ v g of shown.
+    let lies = (reaches v).fits g of shown in
+    let wide = view_in_box width height v in
+    (lies.0, omega (arith, ints, lies.1, wide.0), lies.2, omega (arith, ints, lies.3, wide.1)))
 
 -- the cells of a solid that matches the drawing lie in the box
 pub matching-in_box : (b : UnitBox) (drawing : Segment → Style) (s : List Cell) → FitsWindows b drawing → Matches drawing s → Each (IsInBox b) s
@@ -227,15 +227,15 @@ matching-in_box b drawing s fits matches = each_from_full (IsInBox b) s (λ c fu
     by c full Y = let p = place Top c full in (p.2, p.3)
     by c full Z = let p = place Front c full in (p.2, p.3)
 
--- a solid of the box that meets the demands has the drawing of the lines
-pub draws_from_demands : (ls : List Line) (b : UnitBox) (s : List Cell) → FitsWindows b (drawing_of ls) → Each (IsInBox b) s → Each (IsMet s) (map (demand_of ls) (segments_of b))
-    → (g : Segment) → Draws s g (drawing_of ls g)
-draws_from_demands ls b s fits within met g = by (drawing_of ls g) refl
+-- a solid of the box that meets the demands draws what the drawing shows everywhere
+pub draws_from_demands : (drawing : Segment → Style) (b : UnitBox) (s : List Cell) → FitsWindows b drawing → Each (IsInBox b) s → Each (IsMet s) (map (demand_of drawing) (segments_of b))
+    → (g : Segment) → Draws s g (drawing g)
+draws_from_demands drawing b s fits within met g = by (drawing g) refl
   where
-    in_window : LiesWithin (pos (extent_right b g.view)) (pos (extent_up b g.view)) g → Draws s g (drawing_of ls g)
-    in_window lies = draws_in_window ls b s met g (lies_within-starts b g lies)
+    in_window : LiesWithin (pos (extent_right b g.view)) (pos (extent_up b g.view)) g → Draws s g (drawing g)
+    in_window lies = draws_in_window drawing b s met g (lies_within-starts b g lies)
 
-    by : (style : Style) → drawing_of ls g ≡ style → Draws s g (drawing_of ls g)
+    by : (style : Style) → drawing g ≡ style → Draws s g (drawing g)
     by Blank e = subst (Draws s g) (sym e) (λ k edge. (subst (Draws s g) e (in_window (edge_in_window b s within g k edge))) k edge)
     by Dashed e = in_window (fits g.view g refl (λ none. cc))
     by Solid e = in_window (fits g.view g refl (λ none. cc))

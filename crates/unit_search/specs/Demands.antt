@@ -4,18 +4,17 @@ use Rattle.solid_model.specs.declared.cell.Cell.{Cell}
 use Rattle.solid_model.specs.declared.frame.View.{View}
 use Rattle.solid_model.specs.declared.frame.View.TheVariants.{Front, Top, Side}
 use Rattle.solid_model.specs.declared.segment.Segment.{Segment}
+use Rattle.solid_model.specs.declared.segment.Style.{Style}
 use Rattle.solid_model.specs.Draws.{Draws}
-use Rattle.solid_model.specs.Drawings.{drawing_of}
-use Rattle.solid_model.specs.Line.{Line}
 use Rattle.solid_model.specs.Lists.{pieces}
 use Rattle.unit_search.specs.declared.demands.Demand.{Demand}
 use Rattle.unit_search.specs.declared.unit_box.UnitBox.{UnitBox}
 use Rattle.unit_search.specs.Draw.{IsNearOrigin}
 use Rattle.unit_search.specs.UnitBox.{extent_right, extent_up}
 
--- what the lines demand at a segment
-abbrev pub demand_of : List Line → Segment → Demand
-demand_of ls g = record { segment = g; style = drawing_of ls g }
+-- what a drawing demands at a segment
+abbrev pub demand_of : (Segment → Style) → Segment → Demand
+demand_of drawing g = record { segment = g; style = drawing g }
 
 -- the level or the upright segment of a view that begins at these places
 abbrev pub segment_at : View → Bool → ℕ → ℕ → Segment

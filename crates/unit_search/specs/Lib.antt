@@ -1,5 +1,5 @@
 pub mod Draw
-pub mod Reach
+pub mod Extents
 pub mod UnitBox
 pub mod Demands
 pub mod Sets

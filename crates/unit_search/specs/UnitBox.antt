@@ -1,19 +1,18 @@
 -- The unit box of a drawing, and its cells.
-use Rattle.std.specs.Prelude.{ℕ, ◌*◌, ◌≤◌, max, List, [], ◌∷◌, ℤ, pos, neg_ℤ, ◌≤ℤ◌, ◌<ℤ◌, if◌then◌else◌}
+use Rattle.std.specs.Prelude.{◌≡◌, ℕ, ◌*◌, ◌≤◌, max, List, [], ◌∷◌, ℤ, pos, neg_ℤ, ◌≤ℤ◌, ◌<ℤ◌, if◌then◌else◌}
 use Rattle.solid_model.specs.declared.cell.Axis.{Axis}
 use Rattle.solid_model.specs.declared.cell.Axis.TheVariants.{X, Y, Z}
 use Rattle.solid_model.specs.declared.cell.Cell.{Cell}
 use Rattle.solid_model.specs.declared.frame.Direction.{Direction}
 use Rattle.solid_model.specs.declared.frame.View.{View}
 use Rattle.solid_model.specs.declared.frame.View.TheVariants.{Front, Top, Side}
+use Rattle.solid_model.specs.declared.segment.Segment.{Segment}
+use Rattle.solid_model.specs.declared.segment.Style.{Style}
+use Rattle.solid_model.specs.Boxes.{FitsIn}
 use Rattle.solid_model.specs.Cells.{coordinate}
 use Rattle.solid_model.specs.Frames.{frame_of}
-use Rattle.solid_model.specs.Line.{Line}
 use Rattle.solid_model.specs.Lists.{pieces}
 use Rattle.unit_search.specs.declared.unit_box.UnitBox.{UnitBox}
-use Rattle.unit_search.specs.declared.unit_box.Reaches.{Reaches}
-use Rattle.unit_search.specs.declared.reach.Reach.{Reach}
-use Rattle.unit_search.specs.Reach.{reach_width, reach_height, width_of, height_of, IsReachOf}
 
 -- on each axis the greater extent of the two views that show it, where the views have these widths and heights
 abbrev pub box_with : (View → ℕ) → (View → ℕ) → UnitBox
@@ -23,23 +22,14 @@ box_with width height = record {
   z = max (height Front) (height Side);
 }
 
--- the unit box of the views of a drawing
-abbrev pub unit_box_of : List Line → UnitBox
-unit_box_of ls = box_with (λ v. width_of v ls) (λ v. height_of v ls)
+-- all that the view shows lies in the rectangle from (0, 0) to (right, up), and in no smaller one
+pub record ReachesTo (drawing : Segment → Style) (view : View) (right up : ℕ) : Type 0 where
+  pub fits : FitsIn drawing view (pos right) (pos up)
+  pub least : (r u : ℤ) → FitsIn drawing view r u → (pos right ≤ℤ r) × (pos up ≤ℤ u)
 
--- what a view reaches, of the three
-abbrev pub reach_in : Reaches → View → Reach
-reach_in r Front = r.front
-reach_in r Top = r.top
-reach_in r Side = r.side
-
--- each view's reach is that of its lines
-abbrev pub AreReachesOf : List Line → Reaches → Type 0
-AreReachesOf ls r = (v : View) → IsReachOf v ls (reach_in r v)
-
--- the unit box of views that reach so far
-abbrev pub box_of : Reaches → UnitBox
-box_of r = box_with (λ v. reach_width (reach_in r v)) (λ v. reach_height (reach_in r v))
+-- the unit box of a drawing: that with the widths and heights to which its views reach
+abbrev pub IsUnitBox : (Segment → Style) → UnitBox → Type 0
+IsUnitBox drawing b = (width height : View → ℕ) × ((v : View) → ReachesTo drawing v (width v) (height v)) × (b ≡ box_with width height)
 
 -- the number of its cells
 abbrev pub volume_of : UnitBox → ℕ

@@ -1,18 +1,15 @@
 //! What the drawing demands of a solid: the style of each segment in the windows of the three views.
 
 ghost use Rattle.std.specs.Prelude.{◌≡◌, ◌+◌, ◌++◌, ◌≤◌, ◌↔◌, map, IfOk, OnOk, IsTrue};
-ghost use Rattle.solid_model.specs.Line.{IsNear};
 ghost use Rattle.solid_model.specs.Lists.{Each};
+ghost use Rattle.solid_model.specs.Runs.{style_in};
 ghost use Rattle.unit_search.specs.Demands.{demand_of, row_segments, segments_in, view_segments, segments_of, IsMet, IsNearby};
-ghost use Rattle.unit_search.specs.Draw.{IsNearOrigin};
-ghost use Rattle.unit_search.specs.Reach.{IsReachOf};
-ghost use Rattle.unit_search.specs.UnitBox.{most_cells, AreReachesOf, IsSmall, IsInBox};
+ghost use Rattle.unit_search.specs.UnitBox.{most_cells, IsSmall, IsInBox};
 
 use crate::draw::drawn_style;
-use crate::reach::Reach;
-use crate::sheet::sheet_style;
-use crate::unit_box::{Reaches, UnitBox};
-use solid_model::{Cell, Memory, Segment, SheetLine, Style, View};
+use crate::styles::segment_style;
+use crate::unit_box::UnitBox;
+use solid_model::{Cell, Drawing, Memory, Segment, Style, View};
 use std::alloc::Global;
 
 /// A segment of a shifted view, and the style that the drawing gives it.
@@ -22,43 +19,33 @@ pub struct Demand {
     pub style: Style,
 }
 
-/// What the lines demand at a segment of a view that reaches so on the sheet.
-fn demand_at(lines: &[SheetLine], reach: &Reach, segment: Segment) -> Demand
-    requires near { IsNearOrigin segment }
-    requires reach { IsReachOf segment.view lines.now reach.now }
-    ensures { result ≡ demand_of lines.now segment }
+/// What the drawing demands at a segment.
+fn demand_at(drawing: &Drawing, segment: Segment) -> Demand
+    ensures { result ≡ demand_of (style_in drawing.now) segment }
 {
-    let on_sheet = Segment {
-        right: segment.right + reach.least_right,
-        up: segment.up + reach.least_up,
-        ..segment
-    };
     Demand {
         segment,
-        style: sheet_style(lines, &on_sheet),
+        style: segment_style(drawing, &segment),
     }
 }
 
 /// Adds the demands at the segments of the row in which the first one lies, from 0 to `width` to the right.
 fn push_row(
     demands: &mut Vec<Demand>,
-    lines: &[SheetLine],
-    reach: &Reach,
+    drawing: &Drawing,
     first: Segment,
     width: u32,
 ) -> Result<(), Memory>
-    requires near { width ≤ most_cells }
-    requires row_near { IsNear first.up }
-    requires reach { IsReachOf first.view lines.now reach.now }
+    requires { width ≤ most_cells }
     ensures { OnOk result (demands.new.items
-        ≡ demands.old.items ++ map (demand_of lines.now) (row_segments first (width + 1))) }
+        ≡ demands.old.items ++ map (demand_of (style_in drawing.now)) (row_segments first (width + 1))) }
 {
     for right in 0..width + 1 {
         let segment = Segment {
             right: i64::from(right),
             ..first
         };
-        demands.push(demand_at(lines, reach, segment))?;
+        demands.push(demand_at(drawing, segment))?;
     }
     Ok(())
 }
@@ -66,16 +53,14 @@ fn push_row(
 /// Adds the demands at the level or the upright segments of a view that begin in the unit box's window.
 fn push_window(
     demands: &mut Vec<Demand>,
-    lines: &[SheetLine],
-    reach: &Reach,
+    drawing: &Drawing,
     unit_box: &UnitBox,
     view: View,
     upright: bool,
 ) -> Result<(), Memory>
-    requires small { IsSmall unit_box.now }
-    requires reach { IsReachOf view lines.now reach.now }
+    requires { IsSmall unit_box.now }
     ensures { OnOk result (demands.new.items
-        ≡ demands.old.items ++ map (demand_of lines.now) (segments_in unit_box.now view upright)) }
+        ≡ demands.old.items ++ map (demand_of (style_in drawing.now)) (segments_in unit_box.now view upright)) }
 {
     let frame = view.frame();
     let width = unit_box.extent(frame.right.axis);
@@ -86,7 +71,7 @@ fn push_window(
             right: 0,
             up: i64::from(up),
         };
-        push_row(demands, lines, reach, first, width)?;
+        push_row(demands, drawing, first, width)?;
     }
     Ok(())
 }
@@ -94,36 +79,31 @@ fn push_window(
 /// Adds the demands at the level and the upright segments that begin in the unit box's window of a view.
 fn push_view(
     demands: &mut Vec<Demand>,
-    lines: &[SheetLine],
-    reaches: &Reaches,
+    drawing: &Drawing,
     unit_box: &UnitBox,
     view: View,
 ) -> Result<(), Memory>
-    requires small { IsSmall unit_box.now }
-    requires reaches { AreReachesOf lines.now reaches.now }
+    requires { IsSmall unit_box.now }
     ensures { OnOk result (demands.new.items
-        ≡ demands.old.items ++ map (demand_of lines.now) (view_segments unit_box.now view)) }
+        ≡ demands.old.items ++ map (demand_of (style_in drawing.now)) (view_segments unit_box.now view)) }
 {
-    let reach = reaches.of(view);
-    push_window(demands, lines, &reach, unit_box, view, false)?;
-    push_window(demands, lines, &reach, unit_box, view, true)
+    push_window(demands, drawing, unit_box, view, false)?;
+    push_window(demands, drawing, unit_box, view, true)
 }
 
 /// The demands at all segments that begin in the unit box's windows of the three views.
 pub fn demands_of(
     alloc: Global,
-    lines: &[SheetLine],
-    reaches: &Reaches,
+    drawing: &Drawing,
     unit_box: &UnitBox,
 ) -> Result<Vec<Demand>, Memory>
-    requires small { IsSmall unit_box.now }
-    requires reaches { AreReachesOf lines.now reaches.now }
-    ensures { IfOk result (λ v. v.items ≡ map (demand_of lines.now) (segments_of unit_box.now)) }
+    requires { IsSmall unit_box.now }
+    ensures { IfOk result (λ v. v.items ≡ map (demand_of (style_in drawing.now)) (segments_of unit_box.now)) }
 {
     let mut demands = Vec::new(alloc);
-    push_view(&mut demands, lines, reaches, unit_box, View::Front)?;
-    push_view(&mut demands, lines, reaches, unit_box, View::Top)?;
-    push_view(&mut demands, lines, reaches, unit_box, View::Side)?;
+    push_view(&mut demands, drawing, unit_box, View::Front)?;
+    push_view(&mut demands, drawing, unit_box, View::Top)?;
+    push_view(&mut demands, drawing, unit_box, View::Side)?;
     Ok(demands)
 }
 

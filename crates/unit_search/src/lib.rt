@@ -3,12 +3,12 @@
 
 mod demands;
 mod draw;
+mod extents;
 mod laws;
-mod reach;
 mod sets;
-mod sheet;
 mod solve;
+mod styles;
 mod unit_box;
 
-pub use laws::matching_solids_lie_in_their_unit_box;
+pub use laws::{matching_solids_lie_in_their_unit_box, one_unit_box, some_unit_box};
 pub use solve::{SearchRefused, matching_solids};

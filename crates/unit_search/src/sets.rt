@@ -14,20 +14,20 @@ use solid_model::{Cell, Memory, Solid};
 
 /// What a set of cells is compared with.
 #[derive(Clone, Copy)]
-pub struct Drawing<'a> {
+pub struct Wanted<'a> {
     pub demands: &'a [Demand],
     pub unit_box: &'a UnitBox,
 }
 
 /// Adds the chosen cells to the solids found, where they are a solid that meets the drawing's demands.
-fn try_chosen(chosen: &[Cell], drawing: &Drawing<'_>, found: &mut Vec<Solid>) -> Result<(), Memory>
-    requires small { IsSmall drawing.now.unit_box.now }
-    requires nearby { Each IsNearby drawing.now.demands.now }
-    requires within { Each (IsInBox drawing.now.unit_box.now) chosen.now }
+fn try_chosen(chosen: &[Cell], wanted: &Wanted<'_>, found: &mut Vec<Solid>) -> Result<(), Memory>
+    requires small { IsSmall wanted.now.unit_box.now }
+    requires nearby { Each IsNearby wanted.now.demands.now }
+    requires within { Each (IsInBox wanted.now.unit_box.now) chosen.now }
     ensures { OnOk result ((new : List (List Cell)) × (found.new.items ≡ found.old.items ++ new)
-        × AreTried drawing.now.demands.now chosen.now [] new) }
+        × AreTried wanted.now.demands.now chosen.now [] new) }
 {
-    if !chosen.is_empty() && are_met(drawing.demands, chosen, drawing.unit_box) {
+    if !chosen.is_empty() && are_met(wanted.demands, chosen, wanted.unit_box) {
         let cells = Vec::from_slice(*found.allocator(), chosen)?;
         found.push(Solid::new(cells))?;
     }
@@ -38,22 +38,22 @@ fn try_chosen(chosen: &[Cell], drawing: &Drawing<'_>, found: &mut Vec<Solid>) ->
 pub fn try_rest(
     rest: &[Cell],
     chosen: &mut Vec<Cell>,
-    drawing: &Drawing<'_>,
+    wanted: &Wanted<'_>,
     found: &mut Vec<Solid>,
 ) -> Result<(), Memory>
-    requires small { IsSmall drawing.now.unit_box.now }
-    requires nearby { Each IsNearby drawing.now.demands.now }
-    requires within { Each (IsInBox drawing.now.unit_box.now) (chosen.old.items ++ rest.now) }
+    requires small { IsSmall wanted.now.unit_box.now }
+    requires nearby { Each IsNearby wanted.now.demands.now }
+    requires within { Each (IsInBox wanted.now.unit_box.now) (chosen.old.items ++ rest.now) }
     requires ordered { IsInStatedForm (chosen.old.items ++ rest.now) }
     ensures chosen { OnOk result (chosen.new.items ≡ chosen.old.items) }
     ensures found { OnOk result ((new : List (List Cell)) × (found.new.items ≡ found.old.items ++ new)
-        × AreTried drawing.now.demands.now chosen.old.items rest.now new) }
+        × AreTried wanted.now.demands.now chosen.old.items rest.now new) }
 {
     let Some((cell, rest)) = rest.split_first() else {
-        return try_chosen(chosen.as_slice(), drawing, found);
+        return try_chosen(chosen.as_slice(), wanted, found);
     };
     chosen.push(*cell)?;
-    try_rest(rest, chosen, drawing, found)?;
+    try_rest(rest, chosen, wanted, found)?;
     chosen.pop();
-    try_rest(rest, chosen, drawing, found)
+    try_rest(rest, chosen, wanted, found)
 }

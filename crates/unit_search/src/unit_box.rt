@@ -1,10 +1,11 @@
 //! The unit box of a drawing: on each axis the greater extent of the two views that show it.
 
 ghost use Rattle.std.specs.Prelude.{◌≡◌, ◌++◌, ◌≤◌, IfOk, OnOk, SomeIff};
-ghost use Rattle.unit_search.specs.UnitBox.{reach_in, box_of, volume_of, extent_of, first_depth_of, cells_of, layer_of, row_of};
+ghost use Rattle.solid_model.specs.Runs.{style_in};
+ghost use Rattle.unit_search.specs.UnitBox.{IsUnitBox, volume_of, extent_of, first_depth_of, cells_of, layer_of, row_of};
 
-use crate::reach::Reach;
-use solid_model::{Axis, Cell, Direction, Memory, View};
+use crate::extents::extents_of;
+use solid_model::{Axis, Cell, Direction, Drawing, Memory, View};
 use std::alloc::Global;
 
 /// How many unit cells the box has along each axis. It begins at the origin.
@@ -15,39 +16,21 @@ pub struct UnitBox {
     pub z: u32,
 }
 
-/// What each view reaches.
-#[derive(Clone, Copy, Debug)]
-pub struct Reaches {
-    pub front: Reach,
-    pub top: Reach,
-    pub side: Reach,
-}
-
-impl Reaches {
-    /// What a view reaches.
-    pub fn of(&self, view: View) -> Reach
-        ensures { result ≡ reach_in self.now view }
-    {
-        match view {
-            View::Front => self.front,
-            View::Top => self.top,
-            View::Side => self.side,
-        }
-    }
-
-    /// The unit box.
-    pub fn unit_box(&self) -> UnitBox
-        ensures { result ≡ box_of self.now }
-    {
-        UnitBox {
-            x: self.front.width().max(self.top.width()),
-            y: self.top.height().max(self.side.width()),
-            z: self.front.height().max(self.side.height()),
-        }
-    }
-}
-
 impl UnitBox {
+    /// The unit box of a drawing.
+    pub fn of(drawing: &Drawing) -> UnitBox
+        ensures { IsUnitBox (style_in drawing.now) result }
+    {
+        let front = extents_of(drawing, View::Front);
+        let top = extents_of(drawing, View::Top);
+        let side = extents_of(drawing, View::Side);
+        UnitBox {
+            x: front.width.max(top.width),
+            y: top.height.max(side.width),
+            z: front.height.max(side.height),
+        }
+    }
+
     /// The number of its cells, where that is at most `most`.
     pub fn volume_within(&self, most: u64) -> Option<u64>
         ensures { SomeIff result (volume_of self.now ≤ most) (volume_of self.now) }

@@ -14,7 +14,7 @@ try_rest-requires-2 t c =
     let chosen = c.args.chosen.now.items in
     let cell = c.in-Some.cell.now in
     let rest = c.in-Some.rest.now in
-    let within = IsInBox c.args.drawing.now.unit_box.now in
+    let within = IsInBox c.args.wanted.now.unit_box.now in
     let back : c.pop.new.self.items ≡ chosen = grind (arith, common_steps) in
     let whole : c.args.rest.now ≡ cell ∷ rest = c.in-Some.ensures.cases.0 in (
       search rules,
@@ -33,7 +33,7 @@ try_rest-requires-2 t c =
 -- the solids that have the cell, and then those that don't
 pub returns-clause-found : goal.returns-clause-found
 returns-clause-found t c =
-    let demands = c.args.drawing.now.demands.now in
+    let demands = c.args.wanted.now.demands.now in
     let chosen = c.args.chosen.now.items in
     let cell = c.in-Some.cell.now in
     let rest = c.in-Some.rest.now in

@@ -1,21 +1,17 @@
-use Rattle.std.proofs.Common.{◌≡◌, ◌<◌, ◌⊎◌, ⊎_elim}
-use Rattle.std.proofs.lemmas.Result.{IfOk-weaker, IfErr-at_err}
-use Rattle.solid_model.specs.Drawings.{IsShown}
-use Rattle.unit_search.specs.declared.solve.SearchRefused.{SearchRefused}
-use Rattle.unit_search.specs.declared.solve.SearchRefused.TheVariants.{TooLarge, Memory}
-use Rattle.unit_search.specs.UnitBox.{most_cells, unit_box_of, volume_of}
-use Rattle.unit_search.proofs.AllSolids.{shown_from_reaches}
+use Rattle.std.proofs.Common.{◌∙◌, sym, subst, arith}
+use Rattle.solid_model.specs.Matching.{AreSolidsOf}
+use Rattle.solid_model.specs.Runs.{style_in}
+use Rattle.unit_search.proofs.AllSolids.{none_found}
+use Rattle.unit_search.proofs.BoxCells.{volume-small}
+use Rattle.unit_search.proofs.Windows.{FitsWindows-unit_box}
 use Rattle.unit_search.proofs.solve.matching_solids.Goals as goal
 
-pub returns-in-Ok-clause-shown : goal.returns-in-Ok-clause-shown
-returns-in-Ok-clause-shown c =
-    let shown = shown_from_reaches c.args.lines.now c.in-Ok.reaches c.requires.kept c.in-Ok.ensures in
-    IfOk-weaker c.solids_within.result _ (λ _. IsShown c.args.lines.now) (λ _ _. shown) c.solids_within.ensures.small
+pub solids_in-requires-clause-small : goal.solids_in-requires-clause-small
+solids_in-requires-clause-small c = volume-small c.of-unit_box.result (omega arith) c.in-Some.ensures.0
 
-pub returns-in-Ok-clause-large : goal.returns-in-Ok-clause-large
-returns-in-Ok-clause-large c too_large =
-    let shown = shown_from_reaches c.args.lines.now c.in-Ok.reaches c.requires.kept c.in-Ok.ensures in
-    (shown, ⊎_elim (λ e. cc) (λ large. large.1) (IfErr-at_err IsRefused too_large c.solids_within.ensures.err))
-  where
-    IsRefused : SearchRefused → Type 0
-    IsRefused = λ refused. (refused ≡ Memory) ⊎ ((refused ≡ TooLarge) × (most_cells < volume_of (unit_box_of c.args.lines.now)))
+pub returns-in-Some-eq0-clause-all : goal.returns-in-Some-eq0-clause-all
+returns-in-Some-eq0-clause-all c =
+    let drawing = style_in c.args.drawing.now in
+    let b = c.of-unit_box.result in
+    subst (AreSolidsOf drawing) (sym c.new.ensures.items)
+    (none_found drawing b (FitsWindows-unit_box drawing b c.of-unit_box.ensures) (sym c.in-Some-eq0.ensures.1 ∙ c.in-Some-eq0.field-0-test))
