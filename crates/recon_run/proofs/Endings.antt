@@ -1,9 +1,12 @@
 -- How a run ends, by its answer and by what the sink says.
-use Rattle.std.proofs.Common.{refl, inl, inr, ⊎_elim, ℕ, List, Option, Some, None, subst, sym}
+use Rattle.std.proofs.Common.{refl, inl, inr, ⊎_elim, ℕ, List, Option, Some, None, IfSome, subst, sym}
 use Rattle.std.specs.Io.KnownBytes.{Appends, Keeps}
 use Rattle.recon_run.specs.declared.status.Status.{Status}
 use Rattle.recon_run.specs.declared.status.Status.TheVariants.{Whole, Fault, Usage, ReadFault, WriteFault, Memory}
-use Rattle.recon_run.specs.Runs.{Answers, Stops, IsWritten, Ends}
+use Rattle.recon_run.specs.declared.fault.FirstFault.{FirstFault}
+use Rattle.recon_run.specs.Answers.{HasNoFault, IsFirstFault}
+use Rattle.recon_run.specs.Runs.{Answers, Stops, IsWritten, Ends, YieldsAlone}
+use Rattle.recon_run.specs.Status.{code_of}
 use Rattle.recon_run.specs.Words.{IsSolve}
 
 -- an answer that is written whole ends the run
@@ -42,3 +45,25 @@ stopped words left rest held rose Whole stops = absurd stops
 stopped words left rest held rose Fault stops = absurd stops
 stopped words left rest held rose Usage stops = absurd stops
 stopped words left rest held rose WriteFault stops = absurd stops
+
+-- a run over an input without a fault ends with the status 0, or stops
+pub faultless_ends : (words : List (List ℕ)) (left rest held now : Option (List ℕ)) (status : Status) → Ends words left rest held now status
+    → IsSolve words → IfSome left (λ t. HasNoFault t → YieldsAlone 0 (code_of status))
+faultless_ends words None rest held now status ends solve = tt
+faultless_ends words (Some t) rest held now Whole ends solve = λ none. inl refl
+faultless_ends words (Some t) rest held now Fault (text, answers, written) solve = λ none. absurd (none answers.1.1.0 answers.1.1.1)
+faultless_ends words (Some t) rest held now Usage (text, answers, written) solve = absurd (answers.0 solve)
+faultless_ends words (Some t) rest held now ReadFault ends solve = λ none. inr (inl refl)
+faultless_ends words (Some t) rest held now WriteFault ends solve = λ none. inr (inr (inl refl))
+faultless_ends words (Some t) rest held now Memory ends solve = λ none. inr (inr (inr refl))
+
+-- and over one with a fault with the status 1, or stops
+pub faulty_ends : (words : List (List ℕ)) (left rest held now : Option (List ℕ)) (status : Status) → Ends words left rest held now status
+    → IsSolve words → IfSome left (λ t. (fault : FirstFault) → IsFirstFault t fault → YieldsAlone 1 (code_of status))
+faulty_ends words None rest held now status ends solve = tt
+faulty_ends words (Some t) rest held now Whole (text, answers, written) solve = λ fault is. absurd (answers.1.1.0 fault is)
+faulty_ends words (Some t) rest held now Fault ends solve = λ fault is. inl refl
+faulty_ends words (Some t) rest held now Usage (text, answers, written) solve = absurd (answers.0 solve)
+faulty_ends words (Some t) rest held now ReadFault ends solve = λ fault is. inr (inl refl)
+faulty_ends words (Some t) rest held now WriteFault ends solve = λ fault is. inr (inr (inl refl))
+faulty_ends words (Some t) rest held now Memory ends solve = λ fault is. inr (inr (inr refl))

@@ -1,6 +1,5 @@
 -- Words and an input have at most one right answer.
 use Rattle.std.proofs.Common.{◌≡◌, refl, ℕ, List, Option, Some, sym, subst, ap, ◌∙◌}
-use Rattle.dxf_groups.proofs.Readings.{one_list}
 use Rattle.recon_run.specs.declared.status.Status.{Status}
 use Rattle.recon_run.specs.declared.status.Status.TheVariants.{Whole, Fault, Usage, ReadFault, WriteFault, Memory}
 use Rattle.recon_run.specs.Answers.{ListsSolidsOf}
@@ -8,6 +7,7 @@ use Rattle.recon_run.specs.FaultText.{fault_text}
 use Rattle.recon_run.specs.FirstText.{first_text}
 use Rattle.recon_run.specs.Runs.{Answers}
 use Rattle.recon_run.proofs.Faults.{one_fault}
+use Rattle.dxf_entities.proofs.KeptLines.{ok_value}
 use Rattle.solid_model.specs.declared.cell.Cell.{Cell}
 use Rattle.solid_model.specs.Drawings.{drawing_of}
 use Rattle.solid_model.specs.Matching.{AreSolidsOf}
@@ -16,8 +16,8 @@ use Rattle.solid_model.proofs.SolidOrder.{one_list_of_solids}
 -- an input has at most one list of solids
 one_listing : (t : List ℕ) (ss ts : List (List Cell)) → ListsSolidsOf t ss → ListsSolidsOf t ts → ss ≡ ts
 one_listing t ss ts first second =
-    one_list_of_solids (drawing_of second.0) ss ts
-    (subst (λ ls. AreSolidsOf (drawing_of ls) ss) (one_list first.0 second.0 t first.1 second.1) first.4) second.4
+    let one : first.0 ≡ second.0 = ok_value first.0 second.0 (sym first.1 ∙ second.1) in
+    one_list_of_solids (drawing_of second.0) ss ts (subst (λ ls. AreSolidsOf (drawing_of ls) ss) one first.6) second.6
 
 -- a status, and a text that goes with it
 abbrev SameAnswer : Status → Status → List ℕ → List ℕ → Type 0

@@ -1,11 +1,13 @@
 -- What is answered to a source.
-use Rattle.std.proofs.Common.{◌≤◌, ℕ, List, length, Option, Some, None, subst, inl}
+use Rattle.std.proofs.Common.{◌≡◌, ◌≤◌, ℕ, List, length, Option, Some, None, refl, subst, inl, inr}
 use Rattle.recon_run.specs.declared.status.Status.{Status}
 use Rattle.recon_run.specs.declared.status.Status.TheVariants.{Whole, Fault, Usage, ReadFault, WriteFault, Memory}
-use Rattle.dxf_groups.specs.PlainForm.{most_bytes}
-use Rattle.recon_run.specs.Answers.{IsSolved}
+use Rattle.recon_run.specs.Answers.{most_bytes, IsSolved}
 use Rattle.recon_run.specs.Runs.{IsReadThrough, SolvesSource}
-use Rattle.tv_base.specs.Pieces.{ReadsAll}
+use Rattle.recon_run.specs.declared.fault.FirstFault.TheVariants.{File}
+use Rattle.recon_run.specs.FaultText.{fault_text}
+use Rattle.solid_model.specs.declared.fault.Fault.TheVariants.{TooLong}
+use Rattle.tv_base.specs.Pieces.{ReadsAll, ReadsPast}
 
 -- all that was left was read, and is answered
 read_and_solved : (t input : List ℕ) (rest : Option (List ℕ)) (status : Status) (text : List ℕ) → length input ≤ most_bytes
@@ -23,3 +25,14 @@ solves_source left rest input Usage text short read solved = absurd solved
 solves_source left rest input ReadFault text short read solved = absurd solved
 solves_source left rest input WriteFault text short read solved = absurd solved
 solves_source left rest input Memory text short read solved = absurd solved
+
+-- more was left than the most, and the fault is that it is too long
+pub too_long_source : (left rest : Option (List ℕ)) (status : Status) (text : List ℕ) → ReadsPast left rest most_bytes
+    → status ≡ Fault → text ≡ fault_text (File TooLong) → SolvesSource left rest status text
+too_long_source None rest Fault text past faulty is = tt
+too_long_source (Some t) rest Fault text past faulty is = (inr past, (File TooLong, inl (past.0, refl), is))
+too_long_source left rest Whole text past faulty is = absurd cc
+too_long_source left rest Usage text past faulty is = absurd cc
+too_long_source left rest ReadFault text past faulty is = absurd cc
+too_long_source left rest WriteFault text past faulty is = absurd cc
+too_long_source left rest Memory text past faulty is = absurd cc

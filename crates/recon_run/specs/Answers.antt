@@ -1,29 +1,46 @@
 -- What the program answers: a status and a text.
-use Rattle.std.specs.Prelude.{◌≡◌, ◌⊎◌, ℕ, ◌<◌, ◌≤◌, List, length, codes}
-use Rattle.dxf_groups.specs.PlainForm.{most_bytes, IsPlainForm}
+use Rattle.std.specs.Prelude.{◌≡◌, ◌⊎◌, ℕ, ◌<◌, ◌≤◌, List, length, Result, Ok, Err, codes}
+use Rattle.dxf_entities.specs.Reading.{read_of}
 use Rattle.recon_run.specs.declared.fault.FirstFault.{FirstFault}
-use Rattle.recon_run.specs.declared.fault.FirstFault.TheVariants.{Form, EmptyView, TooLarge}
+use Rattle.recon_run.specs.declared.fault.FirstFault.TheVariants.{File, TooLarge}
 use Rattle.recon_run.specs.declared.status.Status.{Status}
 use Rattle.recon_run.specs.declared.status.Status.TheVariants.{Whole, Fault}
 use Rattle.recon_run.specs.FaultText.{fault_text}
 use Rattle.recon_run.specs.FirstText.{first_text}
 use Rattle.solid_model.specs.declared.cell.Cell.{Cell}
+use Rattle.solid_model.specs.declared.fault.Fault as of_file
+use Rattle.solid_model.specs.declared.fault.Fault.TheVariants.{EmptyView, TooLong}
+use Rattle.solid_model.specs.declared.frame.View.{View}
+use Rattle.solid_model.specs.declared.segment.Segment.{Segment}
+use Rattle.solid_model.specs.declared.segment.Style.{Style}
 use Rattle.solid_model.specs.Drawings.{drawing_of, IsShown, IsFirstEmptyView}
 use Rattle.solid_model.specs.Line.{Line}
 use Rattle.solid_model.specs.Matching.{AreSolidsOf}
-use Rattle.unit_search.specs.UnitBox.{most_cells, unit_box_of, volume_of}
+use Rattle.unit_search.specs.declared.unit_box.UnitBox.{UnitBox}
+use Rattle.unit_search.specs.UnitBox.{IsUnitBox, most_cells, volume_of}
 
--- The first fault of an input. Form: it is too long, or no list of lines has it as its plain form. EmptyView: the first
--- view whose segments no line covers. TooLarge: the unit box has more than 12 cells.
+-- the most bytes of an input
+abbrev pub most_bytes : ℕ
+most_bytes = 16777216
+
+-- The first fault of an input that reads so: what the reading found. Where it found lines: the first view of which they cover
+-- nothing; else TooLarge, where the unit box of their drawing has more than 12 cells.
+abbrev pub IsFaultAfter : Result (List Line) of_file.Fault → FirstFault → Type 0
+IsFaultAfter (Err found) fault = fault ≡ File found
+IsFaultAfter (Ok ls) (File f) = (v : View) × IsFirstEmptyView ls v × (f ≡ EmptyView v)
+IsFaultAfter (Ok ls) TooLarge = IsShown ls × (b : UnitBox) × IsUnitBox (drawing_of ls) b × (most_cells < volume_of b)
+
+-- the first fault of an input: it is too long, or else that of what it reads as
 abbrev pub IsFirstFault : List ℕ → FirstFault → Type 0
-IsFirstFault t Form = (most_bytes < length t) ⊎ ((ls : List Line) → IsPlainForm ls t → ⊥)
-IsFirstFault t (EmptyView v) = (length t ≤ most_bytes) × (ls : List Line) × IsPlainForm ls t × IsFirstEmptyView ls v
-IsFirstFault t TooLarge = (length t ≤ most_bytes) × (ls : List Line) × IsPlainForm ls t × IsShown ls
-    × (most_cells < volume_of (unit_box_of ls))
+IsFirstFault t fault = ((most_bytes < length t) × (fault ≡ File TooLong)) ⊎ ((length t ≤ most_bytes) × IsFaultAfter (read_of t) fault)
 
 -- the input has no fault
 abbrev pub HasNoFault : List ℕ → Type 0
 HasNoFault t = (fault : FirstFault) → IsFirstFault t fault → ⊥
+
+-- the drawing of the lines that an input reads as, which show something in each view
+abbrev pub IsDrawnBy : List ℕ → (Segment → Style) → Type 0
+IsDrawnBy t drawing = (ls : List Line) × (read_of t ≡ Ok ls) × IsShown ls × (drawing ≡ drawing_of ls)
 
 -- the usage line
 abbrev pub usage_text : List ℕ
@@ -31,8 +48,8 @@ usage_text = codes "usage: recon solve|redraw|make|trial\n"
 
 -- all solids that the input's drawing shows
 abbrev pub ListsSolidsOf : List ℕ → List (List Cell) → Type 0
-ListsSolidsOf t ss = (ls : List Line) × IsPlainForm ls t × IsShown ls × (volume_of (unit_box_of ls) ≤ most_cells)
-    × AreSolidsOf (drawing_of ls) ss
+ListsSolidsOf t ss = (ls : List Line) × (read_of t ≡ Ok ls) × IsShown ls
+    × (b : UnitBox) × IsUnitBox (drawing_of ls) b × (volume_of b ≤ most_cells) × AreSolidsOf (drawing_of ls) ss
 
 -- what the word `solve` and the input ask for: a status, and the text that goes with it
 abbrev pub IsSolved : List ℕ → Status → List ℕ → Type 0

@@ -1,11 +1,106 @@
 -- The text of a fault.
-use Rattle.std.specs.Prelude.{ℕ, List, ◌++◌, codes}
+use Rattle.std.specs.Prelude.{ℕ, List, [], ◌++◌, ℤ, Option, Some, None, codes, decimal}
+use Rattle.std.specs.Fmt.{signed_decimal}
+use Rattle.std.specs.Option.{option_map}
 use Rattle.recon_run.specs.declared.fault.FirstFault.{FirstFault}
-use Rattle.recon_run.specs.declared.fault.FirstFault.TheVariants.{Form, EmptyView, TooLarge}
-use Rattle.dxf_groups.specs.PlainForm.{layer_of}
+use Rattle.recon_run.specs.declared.fault.FirstFault.TheVariants.{File, TooLarge}
+use Rattle.solid_model.specs.declared.cell.Axis.{Axis}
+use Rattle.solid_model.specs.declared.cell.Axis.TheVariants.{X, Y, Z}
+use Rattle.solid_model.specs.declared.fault.Fault.{Fault}
+use Rattle.solid_model.specs.declared.fault.Fault.TheVariants as fault
+use Rattle.solid_model.specs.declared.frame.View.{View}
+use Rattle.solid_model.specs.declared.frame.View.TheVariants.{Front, Top, Side}
 
--- each fault on a line of its own; a view goes by the name of its layer
+-- a fault's number and name
+abbrev pub name_of : Fault → List ℕ
+name_of (fault.Binary _) = codes "F1 Binary"
+name_of (fault.BadCode _) = codes "F2 BadCode"
+name_of (fault.NoValue _) = codes "F3 NoValue"
+name_of (fault.NoEof _) = codes "F4 NoEof"
+name_of (fault.BadSection _) = codes "F5 BadSection"
+name_of (fault.BadNumber _ _) = codes "F6 BadNumber"
+name_of (fault.NotWhole _ _) = codes "F7 NotWhole"
+name_of (fault.TooFar _ _) = codes "F8 TooFar"
+name_of (fault.Missing _ _) = codes "F9 Missing"
+name_of (fault.Repeated _ _) = codes "F10 Repeated"
+name_of (fault.Oblique _) = codes "F11 Oblique"
+name_of (fault.Linetype _) = codes "F12 Linetype"
+name_of (fault.Geometry _) = codes "F13 Geometry"
+name_of (fault.EmptyView _) = codes "F14 EmptyView"
+name_of (fault.TooManyLines _) = codes "F15 TooManyLines"
+name_of fault.TooLong = codes "F16 TooLong"
+name_of (fault.TooFine _ _) = codes "F17 TooFine"
+name_of (fault.TooManyBlocks _) = codes "F18 TooManyBlocks"
+
+-- the line that a fault names
+abbrev pub line_of : Fault → Option ℕ
+line_of (fault.Binary line) = Some line
+line_of (fault.BadCode line) = Some line
+line_of (fault.NoValue line) = Some line
+line_of (fault.NoEof line) = Some line
+line_of (fault.BadSection line) = Some line
+line_of (fault.BadNumber line _) = Some line
+line_of (fault.NotWhole line _) = Some line
+line_of (fault.TooFar line _) = Some line
+line_of (fault.Missing line _) = Some line
+line_of (fault.Repeated line _) = Some line
+line_of (fault.Oblique line) = Some line
+line_of (fault.Linetype line) = Some line
+line_of (fault.Geometry line) = Some line
+line_of (fault.TooManyLines line) = Some line
+line_of _ = None
+
+-- the group code that a fault names
+abbrev pub code_of : Fault → Option ℤ
+code_of (fault.BadNumber _ code) = Some code
+code_of (fault.NotWhole _ code) = Some code
+code_of (fault.TooFar _ code) = Some code
+code_of (fault.Missing _ code) = Some code
+code_of (fault.Repeated _ code) = Some code
+code_of _ = None
+
+-- the view that a fault names
+abbrev pub view_of : Fault → Option View
+view_of (fault.EmptyView view) = Some view
+view_of _ = None
+
+-- the axis that a fault names
+abbrev pub axis_of : Fault → Option Axis
+axis_of (fault.TooFine axis _) = Some axis
+axis_of _ = None
+
+-- the number of things of which there are too many
+abbrev pub count_of : Fault → Option ℕ
+count_of (fault.TooFine _ count) = Some count
+count_of (fault.TooManyBlocks count) = Some count
+count_of _ = None
+
+-- the name of a view's layer
+abbrev pub layer_of : View → List ℕ
+layer_of Front = codes "FRONT"
+layer_of Top = codes "TOP"
+layer_of Side = codes "SIDE"
+
+-- the letter of an axis
+abbrev pub letter_of : Axis → List ℕ
+letter_of X = codes "x"
+letter_of Y = codes "y"
+letter_of Z = codes "z"
+
+-- what a fault names, after a word for it
+abbrev pub part_text : List ℕ → Option (List ℕ) → List ℕ
+part_text word None = []
+part_text word (Some text) = word ++ text
+
+-- what a fault names: its line, then its group code, its view, its axis and its count, those of them that it has
+abbrev pub parts_text : Fault → List ℕ
+parts_text f = part_text (codes " line ") (option_map decimal (line_of f))
+    ++ part_text (codes " code ") (option_map signed_decimal (code_of f))
+    ++ part_text (codes " view ") (option_map layer_of (view_of f))
+    ++ part_text (codes " axis ") (option_map letter_of (axis_of f))
+    ++ part_text (codes " count ") (option_map decimal (count_of f))
+
+-- each fault on a line of its own: its number and name, and what it names
 abbrev pub fault_text : FirstFault → List ℕ
-fault_text Form = codes "fault F91 Form\n"
-fault_text (EmptyView v) = codes "fault F14 EmptyView view " ++ layer_of v ++ codes "\n"
+fault_text (File f) = codes "fault " ++ name_of f ++ parts_text f ++ codes "\n"
 fault_text TooLarge = codes "fault F92 TooLarge\n"

@@ -3,8 +3,7 @@ use Rattle.std.specs.Prelude.{◌≡◌, ◌⊎◌, ℕ, ◌≤◌, List, [], le
 use Rattle.std.specs.Io.KnownBytes.{Appends, Keeps}
 use Rattle.recon_run.specs.declared.status.Status.{Status}
 use Rattle.recon_run.specs.declared.status.Status.TheVariants.{Whole, Fault, Usage, ReadFault, WriteFault, Memory}
-use Rattle.dxf_groups.specs.PlainForm.{most_bytes}
-use Rattle.recon_run.specs.Answers.{IsSolved, usage_text}
+use Rattle.recon_run.specs.Answers.{most_bytes, IsSolved, usage_text}
 use Rattle.recon_run.specs.Words.{IsSolve}
 use Rattle.tv_base.specs.Pieces.{AppendsFront, ReadsPast}
 

@@ -2,17 +2,23 @@
 
 ghost use Rattle.std.specs.Prelude.{◌≡◌, ◌≤◌, length, IfOk, IsErrOf};
 ghost use Rattle.recon_run.specs.declared.fault.FirstFault.{FirstFault};
-ghost use Rattle.dxf_groups.specs.PlainForm.{most_bytes};
-ghost use Rattle.recon_run.specs.Answers.{IsFirstFault, ListsSolidsOf, IsSolved};
+ghost use Rattle.recon_run.specs.declared.fault.FirstFault.TheVariants.{File};
+ghost use Rattle.recon_run.specs.Answers.{most_bytes, IsDrawnBy, IsFirstFault, ListsSolidsOf, IsSolved};
 ghost use Rattle.recon_run.specs.FaultText.{fault_text};
+ghost use Rattle.solid_model.specs.declared.fault.Fault as of_file;
+ghost use Rattle.solid_model.specs.declared.fault.Refused.TheVariants as refused;
+ghost use Rattle.solid_model.specs.Runs.{style_in};
 
-use crate::fault::{FirstFault, fault_text};
+use crate::fault::FirstFault;
+use crate::fault_text::fault_text;
 use crate::status::Status;
 use crate::text::first_text;
-use dxf_groups::{PlainRefused, plain};
-use solid_model::{Memory, Solid};
+use dxf_entities::entities;
+use dxf_groups::Groups;
+use solid_model::{Drawing, Memory, Refused, Solid};
 use std::alloc::Global;
 use unit_search::{SearchRefused, matching_solids};
+use views::drawing;
 
 /// A status, and the text that goes with it.
 #[derive(Debug, Drop)]
@@ -23,46 +29,56 @@ pub struct Answer {
 
 /// Why an input has no solids to list.
 #[derive(Clone, Copy, Debug, PartialEq, Eq)]
-enum Refused {
+enum NoSolids {
     Fault(FirstFault),
     Memory,
 }
 
-impl From<PlainRefused> for Refused {
-    ghost use Rattle.recon_run.specs.Refusals.{refused_form};
+impl From<Refused> for NoSolids {
+    ghost use Rattle.recon_run.specs.Refusals.{refused_file};
 
-    ghost from_gives = { λ r e. e ≡ refused_form r };
+    ghost from_gives = { λ r e. e ≡ refused_file r };
 
-    fn from(refused: PlainRefused) -> Refused {
+    fn from(refused: Refused) -> NoSolids {
         match refused {
-            PlainRefused::Form => Refused::Fault(FirstFault::Form),
-            PlainRefused::Memory => Refused::Memory,
+            Refused::Fault(fault) => NoSolids::Fault(FirstFault::File(fault)),
+            Refused::Memory => NoSolids::Memory,
         }
     }
 }
 
-impl From<SearchRefused> for Refused {
+impl From<SearchRefused> for NoSolids {
     ghost use Rattle.recon_run.specs.Refusals.{refused_search};
 
     ghost from_gives = { λ r e. e ≡ refused_search r };
 
-    fn from(refused: SearchRefused) -> Refused {
+    fn from(refused: SearchRefused) -> NoSolids {
         match refused {
-            SearchRefused::EmptyView { view } => Refused::Fault(FirstFault::EmptyView { view }),
-            SearchRefused::TooLarge => Refused::Fault(FirstFault::TooLarge),
-            SearchRefused::Memory => Refused::Memory,
+            SearchRefused::TooLarge => NoSolids::Fault(FirstFault::TooLarge),
+            SearchRefused::Memory => NoSolids::Memory,
         }
     }
 }
 
-/// All solids that the input's drawing shows, or its first fault.
-fn solids_of(alloc: Global, input: &[u8]) -> Result<Vec<Solid>, Refused>
-    requires { length input.now ≤ most_bytes }
-    ensures ok { IfOk result (λ solids. ListsSolidsOf input.now solids.items) }
-    ensures fault { (fault : FirstFault) → IsErrOf result (Refused.Fault fault) → IsFirstFault input.now fault }
+/// The drawing of a file's lines, or the file's first fault. The text and its lines are let go.
+fn drawing_in(alloc: Global, text: Vec<u8>) -> Result<Drawing, Refused>
+    requires { length text.items ≤ most_bytes }
+    ensures drawn { IfOk result (λ d. IsDrawnBy text.items (style_in d)) }
+    ensures fault { (f : of_file.Fault) → IsErrOf result (refused.Fault f) → IsFirstFault text.items (File f) }
 {
-    let lines = plain(alloc, input)?;
-    Ok(matching_solids(alloc, lines.as_slice())?)
+    let mut groups = Groups::new(text);
+    let lines = entities(alloc, &mut groups)?;
+    drawing(alloc, lines.as_slice())
+}
+
+/// All solids that the input's drawing shows, or its first fault.
+fn solids_of(alloc: Global, input: Vec<u8>) -> Result<Vec<Solid>, NoSolids>
+    requires { length input.items ≤ most_bytes }
+    ensures ok { IfOk result (λ solids. ListsSolidsOf input.items solids.items) }
+    ensures fault { (fault : FirstFault) → IsErrOf result (NoSolids.Fault fault) → IsFirstFault input.items fault }
+{
+    let drawing = drawing_in(alloc, input)?;
+    Ok(matching_solids(alloc, &drawing)?)
 }
 
 /// The answer for a fault.
@@ -77,16 +93,16 @@ pub fn fault_answer(alloc: Global, fault: FirstFault) -> Result<Answer, Memory>
 }
 
 /// The answer of `solve` to an input.
-pub fn solve(alloc: Global, input: &[u8]) -> Result<Answer, Memory>
-    requires { length input.now ≤ most_bytes }
-    ensures { IfOk result (λ answer. IsSolved input.now answer.status answer.text.items) }
+pub fn solve(alloc: Global, input: Vec<u8>) -> Result<Answer, Memory>
+    requires { length input.items ≤ most_bytes }
+    ensures { IfOk result (λ answer. IsSolved input.items answer.status answer.text.items) }
 {
     match solids_of(alloc, input) {
         Ok(solids) => Ok(Answer {
             status: Status::Whole,
             text: first_text(alloc, solids.as_slice())?,
         }),
-        Err(Refused::Fault(fault)) => fault_answer(alloc, fault),
-        Err(Refused::Memory) => Err(Memory),
+        Err(NoSolids::Fault(fault)) => fault_answer(alloc, fault),
+        Err(NoSolids::Memory) => Err(Memory),
     }
 }

@@ -13,7 +13,7 @@ use crate::answer::{Answer, fault_answer, solve};
 use crate::fault::FirstFault;
 use crate::status::Status;
 use crate::words::is_solve;
-use solid_model::Memory;
+use solid_model::{Fault, Memory};
 use std::alloc::Global;
 use tv_base::{Gate, ReadEnd, Sink, SinkError, Source, read_all};
 
@@ -41,8 +41,8 @@ fn solve_source<S: Source>(alloc: Global, source: &mut S) -> Result<Answer, Stat
     ensures err { IfErr result (Stops (Rose (S.faults source.old) (S.faults source.new))) }
 {
     match read_all(alloc, source, MOST_BYTES) {
-        Ok(input) => Ok(solve(alloc, input.as_slice())?),
-        Err(ReadEnd::TooLong) => Ok(fault_answer(alloc, FirstFault::Form)?),
+        Ok(input) => Ok(solve(alloc, input)?),
+        Err(ReadEnd::TooLong) => Ok(fault_answer(alloc, FirstFault::File(Fault::TooLong))?),
         Err(ReadEnd::Failed) => Err(Status::ReadFault),
         Err(ReadEnd::Memory) => Err(Status::Memory),
     }

@@ -4,6 +4,7 @@
 mod answer;
 mod command;
 mod fault;
+mod fault_text;
 mod laws;
 mod status;
 mod text;

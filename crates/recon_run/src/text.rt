@@ -7,8 +7,8 @@ use itoa::{Buffer, Integer};
 use solid_model::{Cell, Memory, Solid};
 use std::alloc::Global;
 
-/// Adds a number in plain decimals.
-fn push_number<I: Integer>(text: &mut Vec<u8>, number: I) -> Result<(), Memory>
+/// Adds a number in plain decimals; an `Err` comes for want of memory.
+pub fn push_number<I: Integer>(text: &mut Vec<u8>, number: I) -> Result<(), Memory>
     ensures { OnOk result (text.new.items ≡ text.old.items ++ I.text number) }
 {
     let mut buffer = Buffer::new();

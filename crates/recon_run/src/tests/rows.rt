@@ -9,7 +9,8 @@ use std::test::Fail;
 /// A view of the unit cube.
 pub const CUBE_FACE: &[Stroke] = &[Rect(Solid, 0, 0, 1, 1)];
 
-const UNIT_CUBE: &str = "whole 1\nsolid 1 volume 1\nbox 0,0,0 1,1,1\n";
+/// What is written for the unit cube.
+pub const UNIT_CUBE: &str = "whole 1\nsolid 1 volume 1\nbox 0,0,0 1,1,1\n";
 
 /// The unit cube's front view with each line twice, turned round, and under dashes that reach no further.
 const STROKED_FACE: &[Stroke] = &[
@@ -61,7 +62,7 @@ struct Row {
     text: &'static str,
 }
 
-const ROWS: [Row; 14] = [
+const ROWS: [Row; 16] = [
     Row {
         name: "unit cube",
         views: [CUBE_FACE, CUBE_FACE, CUBE_FACE],
@@ -86,6 +87,21 @@ const ROWS: [Row; 14] = [
                 -999_999_999,
             )],
             &[Rect(Solid, -1, -1, 0, 0)],
+        ],
+        status: 0,
+        text: UNIT_CUBE,
+    },
+    Row {
+        name: "unit cube, moved on the sheet, with its first line turned round",
+        views: [
+            &[
+                Line(Solid, 101, 200, 100, 200),
+                Line(Solid, 100, 201, 101, 201),
+                Line(Solid, 100, 200, 100, 201),
+                Line(Solid, 101, 200, 101, 201),
+            ],
+            &[Rect(Solid, 100, 350, 101, 351)],
+            &[Rect(Solid, 250, 200, 251, 201)],
         ],
         status: 0,
         text: UNIT_CUBE,
@@ -156,6 +172,12 @@ const ROWS: [Row; 14] = [
         text: "fault F14 EmptyView view SIDE\n",
     },
     Row {
+        name: "a point in the side view",
+        views: [CUBE_FACE, CUBE_FACE, &[Line(Solid, 3, 3, 3, 3)]],
+        status: 1,
+        text: "fault F14 EmptyView view SIDE\n",
+    },
+    Row {
         name: "a point in the top view, and no side view",
         views: [CUBE_FACE, &[Line(Solid, 4, 4, 4, 4)], &[]],
         status: 1,
@@ -177,18 +199,5 @@ fn drawings_give_their_texts(rt: HostRuntime) -> Result<(), Fail> {
         let ran = solve(alloc, file.as_str())?;
         assert!(rt; ran.wrote(row.status, row.text), "{}: {ran:?}", row.name);
     }
-    Ok(())
-}
-
-#[test]
-fn a_cut_file_is_a_fault_of_form(rt: HostRuntime) -> Result<(), Fail> {
-    let alloc = rt.alloc();
-    let file = plain_file(alloc, [CUBE_FACE; 3])?;
-    let cut = file
-        .as_str()
-        .strip_suffix("EOF\n")
-        .ok_or("a file's last line")?;
-    let ran = solve(alloc, cut)?;
-    assert!(rt; ran.wrote(1, "fault F91 Form\n"), "{ran:?}");
     Ok(())
 }

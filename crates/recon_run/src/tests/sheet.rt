@@ -1,4 +1,4 @@
-//! Drawings, spelled as plain files.
+//! Drawings, spelled as files.
 
 use solid_model::Style;
 use std::alloc::Global;
@@ -53,12 +53,52 @@ fn push_view(file: &mut String, layer: &str, strokes: &[Stroke]) -> Result<(), F
     Ok(())
 }
 
-/// The plain file of the strokes of the front, the top and the side view.
-pub fn plain_file(alloc: Global, [front, top, side]: [&[Stroke]; 3]) -> Result<String, Fail> {
-    let mut file = String::from_str(alloc, "0\nSECTION\n2\nENTITIES\n")?;
+/// The lines of pairs that are told as `code value, code value, ..`: one for each code, and one for each value. A code alone
+/// has no value.
+fn push_pairs(file: &mut String, pairs: &str) -> Result<(), Fail> {
+    for pair in pairs.split(", ") {
+        match pair.split_once(' ') {
+            Some((code, value)) => {
+                file.push_str(code)?;
+                file.push_str("\n")?;
+                file.push_str(value)?;
+            }
+            None => file.push_str(pair)?,
+        }
+        file.push_str("\n")?;
+    }
+    Ok(())
+}
+
+/// The file that has only these pairs.
+pub fn pairs_file(alloc: Global, pairs: &str) -> Result<String, Fail> {
+    let mut file = String::new(alloc);
+    push_pairs(&mut file, pairs)?;
+    Ok(file)
+}
+
+/// The file of the strokes of the front, the top and the side view, with these pairs before and after them.
+pub fn file_between(
+    alloc: Global,
+    before: &str,
+    [front, top, side]: [&[Stroke]; 3],
+    after: &str,
+) -> Result<String, Fail> {
+    let mut file = pairs_file(alloc, before)?;
     push_view(&mut file, "FRONT", front)?;
     push_view(&mut file, "TOP", top)?;
     push_view(&mut file, "SIDE", side)?;
-    file.push_str("0\nENDSEC\n0\nEOF\n")?;
+    push_pairs(&mut file, after)?;
     Ok(file)
+}
+
+/// How a file of lines alone begins.
+pub const HEAD: &str = "0 SECTION, 2 ENTITIES";
+
+/// How it ends.
+pub const TAIL: &str = "0 ENDSEC, 0 EOF";
+
+/// The plain file of the strokes of the front, the top and the side view: its lines, and nothing more.
+pub fn plain_file(alloc: Global, views: [&[Stroke]; 3]) -> Result<String, Fail> {
+    file_between(alloc, HEAD, views, TAIL)
 }

@@ -6,7 +6,7 @@ use Rattle.recon_run.proofs.answer.solve.Goals as goal
 pub returns-in_ok-first_text-in-Ok : goal.returns-in_ok-first_text-in-Ok
 returns-in_ok-first_text-in-Ok c =
     let solids = c.in-Ok.solids.items in (
-      no_fault c.args.input.now solids c.requires c.in-Ok.ensures.ok,
+      no_fault c.args.input.items solids c.requires c.in-Ok.ensures.ok,
       solids,
       c.in-Ok.ensures.ok,
       c.in_ok-first_text-in-Ok.ensures ∙ ap first_text c.as_slice.ensures.value,
