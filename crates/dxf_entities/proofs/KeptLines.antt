@@ -13,7 +13,8 @@ use Rattle.dxf_entities.specs.declared.place.Place.{Place}
 use Rattle.dxf_entities.specs.declared.place.Place.TheVariants.{Outside, Unnamed, Inside}
 use Rattle.dxf_entities.specs.Coordinates.{◌>>=◌, value_at, coordinate_at, with_coordinate, coordinates_of, present}
 use Rattle.dxf_entities.specs.Entries.{Entry, has_code, before_entries, entries_of, own_pairs}
-use Rattle.dxf_entities.specs.Judging.{facts_of, is_on_paper, by_layer, style_of, line_with, most_lines, kept, styled_line, line_in, judged_in, judged_on, judged}
+use Rattle.dxf_entities.specs.Judging.{facts_of, is_on_paper, by_layer, style_of, line_with, kept, styled_line, line_in, judged_in, judged_on, judged}
+use Rattle.solid_model.specs.Limits.{most_lines}
 use Rattle.dxf_entities.specs.Known.{Known, none_known, AreNear}
 use Rattle.dxf_entities.specs.Names.{is_name}
 use Rattle.dxf_entities.specs.Reading.{Progress, start, between, opened, layer_added, with_line, entry_read, read_at, end_read, is_ended, entries_read, pairs_read, read_of}

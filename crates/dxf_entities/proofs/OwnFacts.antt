@@ -10,7 +10,7 @@ use Rattle.dxf_entities.specs.declared.layers.LayerFacts.{LayerFacts}
 use Rattle.dxf_entities.specs.declared.names.Kind.TheVariants.{Other}
 use Rattle.dxf_entities.specs.declared.names.Linetype.{Linetype}
 use Rattle.dxf_entities.specs.Coordinates.{◌>>=◌, with_coordinate, coordinates_of}
-use Rattle.dxf_entities.specs.Entries.{has_code, own_pairs, first_value, opens_group, closes_group}
+use Rattle.dxf_entities.specs.Entries.{has_code, own_pairs, first_value, opens_application, closes_application}
 use Rattle.dxf_entities.specs.Judging.{is_on_paper, judged_in, judged_on, judged}
 use Rattle.dxf_entities.specs.Names.{view_on, linetype_of}
 use Rattle.dxf_entities.specs.Resuming.{or_first, with_fact, with_layer_fact, with_own}
@@ -94,8 +94,8 @@ module _ {F : Type 0} (with : TextPair → F → F) (all : List TextPair → F �
   found : (inside : Bool) (ps : List TextPair) (f : F) → with_own with inside ps f ≡ all (own_pairs inside ps) f
   found true [] f = sym (none f)
   found false [] f = sym (none f)
-  found true (p ∷ ps) f = found (not (closes_group p)) ps f
-  found false (p ∷ ps) f = by (opens_group p) (found true ps f) (found false ps (with p f))
+  found true (p ∷ ps) f = found (not (closes_application p)) ps f
+  found false (p ∷ ps) f = by (opens_application p) (found true ps f) (found false ps (with p f))
     where
       by : (b : Bool) → with_own with true ps f ≡ all (own_pairs true ps) f
           → with_own with false ps (with p f) ≡ all (own_pairs false ps) (with p f)

@@ -22,7 +22,7 @@ use Rattle.dxf_entities.specs.declared.reader.Open.{Open}
 use Rattle.dxf_entities.specs.declared.reader.Open.TheVariants.{Passed, Layer, Entity}
 use Rattle.dxf_entities.specs.declared.reader.Reader.{Reader}
 use Rattle.dxf_entities.specs.Coordinates.{◌>>=◌}
-use Rattle.dxf_entities.specs.Entries.{Entry, has_code, pair_with, before_entries, entries_of, own_pairs, first_value, opens_group}
+use Rattle.dxf_entities.specs.Entries.{Entry, has_code, pair_with, before_entries, entries_of, own_pairs, first_value, opens_application}
 use Rattle.dxf_entities.specs.Judging.{facts_of, judged}
 use Rattle.dxf_entities.specs.Names.{is_name, view_on, kind_of, section_of}
 use Rattle.dxf_entities.specs.Reading.{Progress, between, opened, with_layer, with_line, layer_added, start, entry_read, read_at, end_read, is_ended, entries_read, pairs_read}
@@ -93,9 +93,9 @@ pub pair_taken : (p : TextPair) (ps : List TextPair) (inside : Bool) (entry : Op
 pair_taken p ps true Passed s = refl
 pair_taken p ps true (Layer f) s = refl
 pair_taken p ps true (Entity f) s = refl
-pair_taken p ps false Passed s = own_taken p ps Passed s (opens_group p)
-pair_taken p ps false (Layer f) s = own_taken p ps (Layer f) s (opens_group p)
-pair_taken p ps false (Entity f) s = own_taken p ps (Entity f) s (opens_group p)
+pair_taken p ps false Passed s = own_taken p ps Passed s (opens_application p)
+pair_taken p ps false (Layer f) s = own_taken p ps (Layer f) s (opens_application p)
+pair_taken p ps false (Entity f) s = own_taken p ps (Entity f) s (opens_application p)
 
 -- with no more pairs nothing more counts
 nothing_more : {F : Type 0} (with : TextPair → F → F) (inside : Bool) (f : F) → with_own with inside [] f ≡ f

@@ -32,18 +32,18 @@ abbrev pub begins_with_brace : List ℕ → Bool
 begins_with_brace [] = false
 begins_with_brace (b ∷ bs) = bytes_eq (b ∷ []) (codes "{")
 
-abbrev pub opens_group : TextPair → Bool
-opens_group p = has_code 102 p && begins_with_brace p.value
+abbrev pub opens_application : TextPair → Bool
+opens_application p = has_code 102 p && begins_with_brace p.value
 
 -- and the first one with code 102 and value `}` ends it
-abbrev pub closes_group : TextPair → Bool
-closes_group p = has_code 102 p && bytes_eq p.value (codes "}")
+abbrev pub closes_application : TextPair → Bool
+closes_application p = has_code 102 p && bytes_eq p.value (codes "}")
 
 -- The pairs that don't belong to an application; whether the first ones do is told. The end of the list ends all.
 abbrev pub own_pairs : Bool → List TextPair → List TextPair
 own_pairs inside [] = []
-own_pairs true (p ∷ ps) = own_pairs (not (closes_group p)) ps
-own_pairs false (p ∷ ps) = if opens_group p then own_pairs true ps else p ∷ own_pairs false ps
+own_pairs true (p ∷ ps) = own_pairs (not (closes_application p)) ps
+own_pairs false (p ∷ ps) = if opens_application p then own_pairs true ps else p ∷ own_pairs false ps
 
 -- the first value with this code
 abbrev pub first_value : ℕ → List TextPair → Option (List ℕ)

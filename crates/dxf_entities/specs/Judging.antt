@@ -8,6 +8,7 @@ use Rattle.solid_model.specs.declared.fault.Fault.TheVariants as fault
 use Rattle.solid_model.specs.declared.frame.View.{View}
 use Rattle.solid_model.specs.declared.segment.Style.{Style}
 use Rattle.solid_model.specs.declared.segment.Style.TheVariants.{Dashed, Solid}
+use Rattle.solid_model.specs.Limits.{most_lines}
 use Rattle.solid_model.specs.Line.{Line}
 use Rattle.dxf_entities.specs.declared.facts.Facts.{Facts}
 use Rattle.dxf_entities.specs.declared.names.Kind.{Kind}
@@ -30,10 +31,6 @@ facts_of e = let own = own_pairs false e.pairs in record {
   linetype = option_map linetype_of (first_value 6 own);
   coordinates = coordinates_of own none_known;
 }
-
--- the most lines that are kept
-abbrev pub most_lines : ℕ
-most_lines = 100000
 
 -- what stands in paper space is no part of a view
 abbrev pub is_on_paper : Option Bool → Bool

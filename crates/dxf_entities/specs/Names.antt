@@ -25,8 +25,8 @@ abbrev pub is_continuous : List ℕ → Bool
 is_continuous value = is_name (codes "CONTINUOUS") value || is_name (codes "BYBLOCK") value
 
 -- linetypes of hidden edges
-abbrev pub is_hidden : List ℕ → Bool
-is_hidden value = is_name (codes "HIDDEN") value || (is_name (codes "HIDDEN2") value || (is_name (codes "HIDDENX2") value
+abbrev pub is_hidden_linetype : List ℕ → Bool
+is_hidden_linetype value = is_name (codes "HIDDEN") value || (is_name (codes "HIDDEN2") value || (is_name (codes "HIDDENX2") value
     || (is_name (codes "DASHED") value || (is_name (codes "DASHED2") value || is_name (codes "DASHEDX2") value))))
 
 -- linetypes of centre lines
@@ -36,7 +36,7 @@ is_center value = is_name (codes "CENTER") value || (is_name (codes "CENTER2") v
 -- what a linetype's name means
 unfoldable pub linetype_of : List ℕ → Linetype
 linetype_of value = if is_continuous value then linetype.Continuous
-    else (if is_hidden value then linetype.Hidden
+    else (if is_hidden_linetype value then linetype.Hidden
     else (if is_center value then linetype.Center
     else (if is_name (codes "BYLAYER") value then linetype.ByLayer else linetype.Unlisted)))
 

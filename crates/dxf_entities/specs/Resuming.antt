@@ -21,7 +21,7 @@ use Rattle.dxf_entities.specs.declared.reader.Open.{Open}
 use Rattle.dxf_entities.specs.declared.reader.Open.TheVariants.{Passed, Layer, Entity}
 use Rattle.dxf_entities.specs.declared.reader.Reader.{Reader}
 use Rattle.dxf_entities.specs.Coordinates.{◌>>=◌, with_coordinate}
-use Rattle.dxf_entities.specs.Entries.{has_code, before_entries, entries_of, opens_group, closes_group}
+use Rattle.dxf_entities.specs.Entries.{has_code, before_entries, entries_of, opens_application, closes_application}
 use Rattle.dxf_entities.specs.Judging.{judged}
 use Rattle.dxf_entities.specs.Known.{none_known}
 use Rattle.dxf_entities.specs.Names.{is_name, view_on, linetype_of, kind_of}
@@ -50,8 +50,8 @@ with_layer_fact p f = record {
 -- with the pairs that belong to no application; whether the first ones do is told
 abbrev pub with_own : {F : Type 0} → (TextPair → F → F) → Bool → List TextPair → F → F
 with_own with inside [] f = f
-with_own with true (p ∷ ps) f = with_own with (not (closes_group p)) ps f
-with_own with false (p ∷ ps) f = if opens_group p then with_own with true ps f else with_own with false ps (with p f)
+with_own with true (p ∷ ps) f = with_own with (not (closes_application p)) ps f
+with_own with false (p ∷ ps) f = if opens_application p then with_own with true ps f else with_own with false ps (with p f)
 
 -- what counts of an entity that begins so
 abbrev pub begun_facts : TextPair → Facts
@@ -101,12 +101,12 @@ with_own_pair p (Entity f) = let more = with_fact p f in unless_elsewhere more.l
 -- an open entry with one more pair; whether that may belong to an application is told
 abbrev pub with_pair_of : TextPair → Bool → Open → Open
 with_pair_of p true entry = entry
-with_pair_of p false entry = if opens_group p then entry else with_own_pair p entry
+with_pair_of p false entry = if opens_application p then entry else with_own_pair p entry
 
 -- whether the next pair may belong to an application
 abbrev pub is_inside_after : TextPair → Bool → Bool
-is_inside_after p true = not (closes_group p)
-is_inside_after p false = opens_group p
+is_inside_after p true = not (closes_application p)
+is_inside_after p false = opens_application p
 
 -- the open entry takes a pair
 abbrev pub fact_taken : TextPair → Reader → Reader

@@ -1,7 +1,7 @@
 //! Names that have a meaning in a file.
 
 ghost use Rattle.std.specs.Prelude.{◌≡◌};
-ghost use Rattle.dxf_entities.specs.Names.{is_name, view_on, is_continuous, is_hidden, is_center, linetype_of, is_geometry, kind_of, section_of};
+ghost use Rattle.dxf_entities.specs.Names.{is_name, view_on, is_continuous, is_hidden_linetype, is_center, linetype_of, is_geometry, kind_of, section_of};
 
 use solid_model::View;
 
@@ -84,8 +84,8 @@ fn is_continuous(value: &[u8]) -> bool
 }
 
 /// Whether a linetype is one of hidden edges.
-fn is_hidden(value: &[u8]) -> bool
-    ensures { result ≡ is_hidden value.now }
+fn is_hidden_linetype(value: &[u8]) -> bool
+    ensures { result ≡ is_hidden_linetype value.now }
 {
     is_name(b"HIDDEN", value)
         || is_name(b"HIDDEN2", value)
@@ -109,7 +109,7 @@ pub fn linetype_of(value: &[u8]) -> Linetype
 {
     if is_continuous(value) {
         Linetype::Continuous
-    } else if is_hidden(value) {
+    } else if is_hidden_linetype(value) {
         Linetype::Hidden
     } else if is_center(value) {
         Linetype::Center

@@ -4,7 +4,7 @@ ghost use Rattle.std.specs.Prelude.{◌≡◌, ℕ, List, [], ◌∷◌, Result,
 ghost use Rattle.solid_model.specs.declared.fault.Fault.{Fault};
 ghost use Rattle.solid_model.specs.declared.fault.Refused.TheVariants as refused;
 ghost use Rattle.dxf_groups.specs.Pairs.{TextPair, Pairs};
-ghost use Rattle.dxf_entities.specs.Entries.{has_code, pair_with, opens_group, closes_group};
+ghost use Rattle.dxf_entities.specs.Entries.{has_code, pair_with, opens_application, closes_application};
 ghost use Rattle.dxf_entities.specs.Reading.{pairs_read};
 ghost use Rattle.dxf_entities.specs.Resuming.{progress_of, closed, opened_entry, with_own_pair, fact_taken, resumed};
 
@@ -75,15 +75,15 @@ fn names_section(pair: &Pair) -> bool
 }
 
 /// Whether the pair begins what belongs to an application.
-fn opens_group(pair: &Pair, value: &[u8]) -> bool
-    ensures { result ≡ opens_group (pair_with pair.now value.now) }
+fn opens_application(pair: &Pair, value: &[u8]) -> bool
+    ensures { result ≡ opens_application (pair_with pair.now value.now) }
 {
     pair.code == 102 && value.first() == Some(&b'{')
 }
 
 /// Whether the pair ends what belongs to an application.
-fn closes_group(pair: &Pair, value: &[u8]) -> bool
-    ensures { result ≡ closes_group (pair_with pair.now value.now) }
+fn closes_application(pair: &Pair, value: &[u8]) -> bool
+    ensures { result ≡ closes_application (pair_with pair.now value.now) }
 {
     pair.code == 102 && value == b"}".as_slice()
 }
@@ -174,8 +174,8 @@ impl Reader {
         ensures { self.new ≡ fact_taken (pair_with pair.now value.now) self.old }
     {
         if self.in_application {
-            self.in_application = !closes_group(pair, value);
-        } else if opens_group(pair, value) {
+            self.in_application = !closes_application(pair, value);
+        } else if opens_application(pair, value) {
             self.in_application = true;
         } else {
             self.entry = self.entry.with(pair, value);

@@ -4,29 +4,29 @@ use Rattle.std.specs.List.{onto_first, position_or_len, before_first, after_firs
 use Rattle.std.proofs.lemmas.List.{take-take, drop-take, drop-drop, length-take, length-drop}
 use Rattle.dxf_groups.specs.declared.lines.Span.{Span}
 use Rattle.dxf_groups.specs.Spans.{IsSpanIn, span_of}
-use Rattle.dxf_groups.specs.Lines.{is_feed, lines_of, content_of, contents_of}
+use Rattle.dxf_groups.specs.Lines.{is_feed, text_lines, content_of, contents_of}
 
 -- a byte before the line feed is one more of the first line
-one_more : (k b : ℕ) (bytes : List ℕ) (lines : List (List ℕ)) → lines ≡ take k bytes ∷ lines_of (drop (k + 1) bytes)
-    → onto_first b lines ≡ take (1 + k) (b ∷ bytes) ∷ lines_of (drop (1 + k + 1) (b ∷ bytes))
+one_more : (k b : ℕ) (bytes : List ℕ) (lines : List (List ℕ)) → lines ≡ take k bytes ∷ text_lines (drop (k + 1) bytes)
+    → onto_first b lines ≡ take (1 + k) (b ∷ bytes) ∷ text_lines (drop (1 + k + 1) (b ∷ bytes))
 one_more k b bytes lines is =
     let line : 1 + k ≡ suc k = omega arith in
     let after : suc k + 1 ≡ suc (k + 1) = omega arith in
     rw (is, line, after) refl
 
 -- a text that has a byte is its first line, up to the line feed, and the lines after that
-lines-first : (text : List ℕ) → 0 < length text → lines_of text ≡ before_first is_feed text ∷ lines_of (after_first is_feed text)
+lines-first : (text : List ℕ) → 0 < length text → text_lines text ≡ before_first is_feed text ∷ text_lines (after_first is_feed text)
 lines-first [] some = absurd (omega arith)
 lines-first (b ∷ []) some = at (is_feed b)
   where
-    at : (feed : Bool) → cond feed ([] ∷ []) ((b ∷ []) ∷ []) ≡ take (cond (not feed) (1 + 0) 0) (b ∷ []) ∷ lines_of (drop (cond (not feed) (1 + 0) 0 + 1) (b ∷ []))
+    at : (feed : Bool) → cond feed ([] ∷ []) ((b ∷ []) ∷ []) ≡ take (cond (not feed) (1 + 0) 0) (b ∷ []) ∷ text_lines (drop (cond (not feed) (1 + 0) 0 + 1) (b ∷ []))
     at true = refl
     at false = refl
 lines-first (b ∷ c ∷ bytes) some = at (is_feed b) (lines-first (c ∷ bytes) (omega arith))
   where
-    at : (feed : Bool) → lines_of (c ∷ bytes) ≡ before_first is_feed (c ∷ bytes) ∷ lines_of (after_first is_feed (c ∷ bytes))
-        → cond feed ([] ∷ lines_of (c ∷ bytes)) (onto_first b (lines_of (c ∷ bytes)))
-        ≡ take (cond (not feed) (1 + position_or_len is_feed (c ∷ bytes)) 0) (b ∷ c ∷ bytes) ∷ lines_of (drop (cond (not feed) (1 + position_or_len is_feed (c ∷ bytes)) 0 + 1) (b ∷ c ∷ bytes))
+    at : (feed : Bool) → text_lines (c ∷ bytes) ≡ before_first is_feed (c ∷ bytes) ∷ text_lines (after_first is_feed (c ∷ bytes))
+        → cond feed ([] ∷ text_lines (c ∷ bytes)) (onto_first b (text_lines (c ∷ bytes)))
+        ≡ take (cond (not feed) (1 + position_or_len is_feed (c ∷ bytes)) 0) (b ∷ c ∷ bytes) ∷ text_lines (drop (cond (not feed) (1 + position_or_len is_feed (c ∷ bytes)) 0 + 1) (b ∷ c ∷ bytes))
     at true later = refl
     at false later = one_more (position_or_len is_feed (c ∷ bytes)) b (c ∷ bytes) _ later
 

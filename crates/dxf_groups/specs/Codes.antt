@@ -17,8 +17,8 @@ abbrev pub are_few_digits : List ℕ → Bool
 are_few_digits text = all_ascii_digits text && (nat_le 1 (length text) && nat_le (length text) 4)
 
 -- the group code that a text spells: a minus sign or none, and one to four decimal digits
-abbrev pub code_of : List ℕ → Option ℤ
-code_of text =
+abbrev pub group_code_of : List ℕ → Option ℤ
+group_code_of text =
     let number : ℤ = pos (digits_value 10 (without_minus text)) in
     cond (are_few_digits (without_minus text)) (Some (cond (is_negative text) (neg_ℤ number) number)) None
 

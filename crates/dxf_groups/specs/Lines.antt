@@ -11,9 +11,9 @@ abbrev pub is_blank : ℕ → Bool
 is_blank b = b == 32 || b == 9
 
 -- the lines of a text: each ends with a line feed, which the last may lack
-abbrev pub lines_of : List ℕ → List (List ℕ)
-lines_of [] = []
-lines_of (b ∷ bytes) = cond (is_feed b) ([] ∷ lines_of bytes) (onto_first b (lines_of bytes))
+abbrev pub text_lines : List ℕ → List (List ℕ)
+text_lines [] = []
+text_lines (b ∷ bytes) = cond (is_feed b) ([] ∷ text_lines bytes) (onto_first b (text_lines bytes))
 
 -- a line without the carriage return at its end, if one stands there
 abbrev pub without_return : List ℕ → List ℕ
@@ -33,4 +33,4 @@ content_of line = without_end_blanks (without_front_blanks (without_return line)
 
 -- what counts of each line of a text
 abbrev pub contents_of : List ℕ → List (List ℕ)
-contents_of text = map content_of (lines_of text)
+contents_of text = map content_of (text_lines text)

@@ -8,9 +8,9 @@ abbrev pub capped : ℕ → ℕ
 capped n = min n (2 ^ 64 - 1)
 
 -- the exponent, with its size as it is kept
-abbrev pub IsKept : ℤ → Exponent → Type 0
-IsKept e kept = (n : ℕ) × (e ≡ with_sign kept.negative n) × (kept.size ≡ capped n)
+abbrev pub IsKeptExponent : ℤ → Exponent → Type 0
+IsKeptExponent e kept = (n : ℕ) × (e ≡ with_sign kept.negative n) × (kept.size ≡ capped n)
 
 -- what was read is the exponent, or there is none
 abbrev pub IsExponent : Option ℤ → Option Exponent → Type 0
-IsExponent exponent read = MatchOption read (exponent ≡ None) (λ kept. (e : ℤ) × (exponent ≡ Some e) × IsKept e kept)
+IsExponent exponent read = MatchOption read (exponent ≡ None) (λ kept. (e : ℤ) × (exponent ≡ Some e) × IsKeptExponent e kept)

@@ -2,6 +2,7 @@
 use Rattle.std.specs.Prelude.{◌≡◌, ◌≢◌, ◌⊎◌, ℕ, ◌+◌, ◌*◌, ◌/◌, ◌%◌, ◌^◌, ◌==◌, ◌||◌, Bool, true, false, cond, List, [], ◌∷◌, ◌++◌, length, ℤ, pos, negsuc, neg_ℤ, ◌-ℤ◌, nat_le, Option, Some, None, Result, Ok, Err, codes}
 use Rattle.std.specs.Char.{is_digit}
 use Rattle.std.specs.Str.Parse.{AllDigits, digits_value, starts_with_minus, without_leading_sign}
+use Rattle.solid_model.specs.Limits.{farthest_on_sheet}
 use Rattle.dxf_groups.specs.declared.numerals.NumeralFault.{NumeralFault}
 use Rattle.dxf_groups.specs.declared.numerals.NumeralFault.TheVariants.{BadNumber, NotWhole, TooFar}
 
@@ -120,7 +121,7 @@ size_of before after exponent = scaled (digits_value 10 (before ++ after)) (expo
 -- the whole number of a sign and a size, which is at most 1,000,000,000
 abbrev pub within_reach : Bool → Option ℕ → Result ℤ NumeralFault
 within_reach negative None = Err NotWhole
-within_reach negative (Some m) = cond (nat_le m 1000000000) (Ok (with_sign negative m)) (Err TooFar)
+within_reach negative (Some m) = cond (nat_le m farthest_on_sheet) (Ok (with_sign negative m)) (Err TooFar)
 
 -- the value of a numeral
 abbrev pub numeral_value : Numeral → Result ℤ NumeralFault

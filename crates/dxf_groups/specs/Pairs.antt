@@ -4,7 +4,7 @@ use Rattle.std.specs.List.{starts_with}
 use Rattle.solid_model.specs.declared.fault.Fault.{Fault}
 use Rattle.solid_model.specs.declared.fault.Fault.TheVariants.{Binary, BadCode, NoValue, NoEof}
 use Rattle.dxf_groups.specs.Lines.{contents_of}
-use Rattle.dxf_groups.specs.Codes.{code_of, is_comment, is_end}
+use Rattle.dxf_groups.specs.Codes.{group_code_of, is_comment, is_end}
 
 -- a pair: its group code, its value, and the number of the line of its code
 pub record TextPair : Type 0 where
@@ -42,8 +42,8 @@ last_fault n (Some code) = NoValue n
 -- the pairs of the lines that have these contents, of which the first is line n
 abbrev pub pairs_from : ℕ → List (List ℕ) → Pairs
 pairs_from n [] = ended (Err (NoEof n))
-pairs_from n (code ∷ []) = ended (Err (last_fault n (code_of code)))
-pairs_from n (code ∷ value ∷ rest) = code_before n (code_of code) value (pairs_from (n + 2) rest)
+pairs_from n (code ∷ []) = ended (Err (last_fault n (group_code_of code)))
+pairs_from n (code ∷ value ∷ rest) = code_before n (group_code_of code) value (pairs_from (n + 2) rest)
 
 -- the mark of UTF-8, which may stand before a text
 abbrev pub utf8_mark : List ℕ

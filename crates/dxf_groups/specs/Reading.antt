@@ -1,19 +1,16 @@
 -- How the pairs of a text are read, one after another.
 use Rattle.std.specs.Prelude.{◌≡◌, ◌≤◌, ◌<◌, ◌+◌, ℕ, List, length, drop, Option, Some, None, Result, Ok, Err}
 use Rattle.solid_model.specs.declared.fault.Fault.{Fault}
+use Rattle.solid_model.specs.Limits.{most_text_bytes}
 use Rattle.dxf_groups.specs.declared.pair.Pair.{Pair}
 use Rattle.dxf_groups.specs.declared.pairs.ReadPair.{ReadPair}
 use Rattle.dxf_groups.specs.Lines.{contents_of}
 use Rattle.dxf_groups.specs.Pairs.{TextPair, Pairs, ended, pair_before, pairs_from}
 use Rattle.dxf_groups.specs.Spans.{IsSpanIn, span_of}
 
--- the most bytes of a text
-abbrev pub most_bytes : ℕ
-most_bytes = 134217728
-
 -- a place in a text of at most so many bytes; each line before it has a byte of its own, its line feed
 pub record IsPlaceIn (text : List ℕ) (place line : ℕ) : Type 0 where
-  pub short : length text ≤ most_bytes
+  pub short : length text ≤ most_text_bytes
   pub within : place ≤ length text
   pub counted : line ≤ place + 1
 

@@ -2,7 +2,7 @@
 
 ghost use Rattle.std.specs.Prelude.{◌≡◌, ◌≤◌, Some, None, cond, length};
 ghost use Rattle.std.specs.Str.{all_ascii_digits};
-ghost use Rattle.dxf_groups.specs.Codes.{code_of};
+ghost use Rattle.dxf_groups.specs.Codes.{group_code_of};
 ghost use Rattle.std.specs.Str.Parse.{digits_value};
 
 /// The code of a comment.
@@ -26,7 +26,7 @@ fn few_digits(digits: &[u8]) -> Option<u16>
 /// The group code that the bytes spell: a minus sign or none, and one to four decimal digits. None where they are
 /// anything else.
 pub fn group_code(text: &[u8]) -> Option<i32>
-    ensures { result ≡ code_of text.now }
+    ensures { result ≡ group_code_of text.now }
 {
     let (negative, digits) = match text {
         [b'-', digits @ ..] => (true, digits),

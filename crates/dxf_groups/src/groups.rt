@@ -3,8 +3,8 @@
 ghost use Rattle.std.specs.Prelude.{◌≡◌, ◌≤◌, length, drop, None};
 ghost use Rattle.dxf_groups.specs.Groups.{GroupsState, Gives};
 ghost use Rattle.dxf_groups.specs.Pairs.{pairs_of, without_mark};
-ghost use Rattle.dxf_groups.specs.Reading.{most_bytes};
 ghost use Rattle.dxf_groups.specs.Spans.{IsSpanIn, span_of};
+ghost use Rattle.solid_model.specs.Limits.{most_text_bytes};
 
 use crate::lines::Span;
 use crate::pair::Pair;
@@ -56,7 +56,7 @@ impl Groups {
     /// A reader of the whole text.
     #[tactic(auto, unfolding(crate::specs::Pairs::pairs_of))]
     pub fn new(text: Vec<u8>) -> Groups
-        requires { length text.items ≤ most_bytes }
+        requires { length text.items ≤ most_text_bytes }
         ensures { result ≡ record { text = text.items; left = pairs_of text.items; end_line = None } }
     {
         let place = mark_len(&text);

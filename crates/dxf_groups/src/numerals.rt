@@ -5,7 +5,7 @@ ghost use Rattle.std.specs.Str.Parse.{AllDigits, digits_value, digits_value_afte
 ghost use Rattle.solid_model.specs.Line.{IsNear};
 ghost use Rattle.solid_model.specs.Lists.{Each};
 ghost use Rattle.dxf_groups.specs.Numerals.{IsNumeral, Numeral, exponent_of, front_digits, front_places, marked_exponent, numeral_of, past_digits, past_places, size_of, whole_of, with_sign, within_reach};
-ghost use Rattle.dxf_groups.specs.NumeralParts.{capped, IsKept, IsExponent};
+ghost use Rattle.dxf_groups.specs.NumeralParts.{capped, IsKeptExponent, IsExponent};
 
 use thiserror::Error;
 
@@ -171,7 +171,7 @@ fn moved_right(before: &[u8], after: &[u8], by: usize) -> Option<u64>
 fn size(before: &[u8], after: &[u8], exponent: Exponent) -> Option<u64>
     requires before { AllDigits 10 before.now }
     requires after { AllDigits 10 after.now }
-    ensures { (e : ℤ) → IsKept e exponent → result ≡ option_map capped (size_of before.now after.now e) }
+    ensures { (e : ℤ) → IsKeptExponent e exponent → result ≡ option_map capped (size_of before.now after.now e) }
 {
     if exponent.negative {
         moved_left(before, after, exponent.size)

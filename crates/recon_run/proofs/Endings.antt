@@ -6,7 +6,7 @@ use Rattle.recon_run.specs.declared.status.Status.TheVariants.{Whole, Fault, Usa
 use Rattle.recon_run.specs.declared.fault.FirstFault.{FirstFault}
 use Rattle.recon_run.specs.Answers.{HasNoFault, IsFirstFault}
 use Rattle.recon_run.specs.Runs.{Answers, Stops, IsWritten, Ends, YieldsAlone}
-use Rattle.recon_run.specs.Status.{code_of}
+use Rattle.recon_run.specs.Status.{status_code}
 use Rattle.recon_run.specs.Words.{IsSolve}
 
 -- an answer that is written whole ends the run
@@ -48,7 +48,7 @@ stopped words left rest held rose WriteFault stops = absurd stops
 
 -- a run over an input without a fault ends with the status 0, or stops
 pub faultless_ends : (words : List (List ℕ)) (left rest held now : Option (List ℕ)) (status : Status) → Ends words left rest held now status
-    → IsSolve words → IfSome left (λ t. HasNoFault t → YieldsAlone 0 (code_of status))
+    → IsSolve words → IfSome left (λ t. HasNoFault t → YieldsAlone 0 (status_code status))
 faultless_ends words None rest held now status ends solve = tt
 faultless_ends words (Some t) rest held now Whole ends solve = λ none. inl refl
 faultless_ends words (Some t) rest held now Fault (text, answers, written) solve = λ none. absurd (none answers.1.1.0 answers.1.1.1)
@@ -59,7 +59,7 @@ faultless_ends words (Some t) rest held now Memory ends solve = λ none. inr (in
 
 -- and over one with a fault with the status 1, or stops
 pub faulty_ends : (words : List (List ℕ)) (left rest held now : Option (List ℕ)) (status : Status) → Ends words left rest held now status
-    → IsSolve words → IfSome left (λ t. (fault : FirstFault) → IsFirstFault t fault → YieldsAlone 1 (code_of status))
+    → IsSolve words → IfSome left (λ t. (fault : FirstFault) → IsFirstFault t fault → YieldsAlone 1 (status_code status))
 faulty_ends words None rest held now status ends solve = tt
 faulty_ends words (Some t) rest held now Whole (text, answers, written) solve = λ fault is. absurd (answers.1.1.0 fault is)
 faulty_ends words (Some t) rest held now Fault ends solve = λ fault is. inl refl

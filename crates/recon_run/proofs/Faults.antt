@@ -3,7 +3,7 @@ use Rattle.std.proofs.Common.{◌≡◌, refl, inl, inr, ℕ, ◌≤◌, ◌<◌
 use Rattle.dxf_entities.specs.Reading.{read_of}
 use Rattle.recon_run.specs.declared.fault.FirstFault.{FirstFault}
 use Rattle.recon_run.specs.declared.fault.FirstFault.TheVariants.{File, TooLarge}
-use Rattle.recon_run.specs.Answers.{most_bytes, IsFaultAfter, IsFirstFault, HasNoFault, IsDrawnBy, ListsSolidsOf}
+use Rattle.recon_run.specs.Answers.{IsFaultAfter, IsFirstFault, HasNoFault, IsDrawnBy, ListsSolidsOf}
 use Rattle.recon_run.specs.declared.answer.NoSolids.TheVariants as refused
 use Rattle.recon_run.specs.Refusals.{refused_search}
 use Rattle.solid_model.specs.declared.cell.Cell.{Cell}
@@ -19,7 +19,8 @@ use Rattle.solid_model.specs.Line.{Line}
 use Rattle.unit_search.specs.declared.solve.SearchRefused.{SearchRefused}
 use Rattle.unit_search.specs.declared.solve.SearchRefused.TheVariants as search
 use Rattle.unit_search.specs.declared.unit_box.UnitBox.{UnitBox}
-use Rattle.unit_search.specs.UnitBox.{IsUnitBox, most_cells, volume_of}
+use Rattle.unit_search.specs.UnitBox.{IsUnitBox, volume_of}
+use Rattle.solid_model.specs.Limits.{most_cells, most_file_bytes}
 use Rattle.unit_search.proofs.UnitBoxes.{one_box}
 
 -- where every view shows something, none is the first empty one
@@ -56,7 +57,7 @@ one_fault t a b (inr p) (inl q) = absurd (omega (arith, p.0, q.0))
 one_fault t a b (inr p) (inr q) = one_fault_after (read_of t) a b p.1 q.1
 
 -- an input that isn't too long has the first fault of what it reads as
-pub fault_read : (t : List ℕ) (r : Result (List Line) Fault) (fault : FirstFault) → length t ≤ most_bytes → read_of t ≡ r
+pub fault_read : (t : List ℕ) (r : Result (List Line) Fault) (fault : FirstFault) → length t ≤ most_file_bytes → read_of t ≡ r
     → IsFaultAfter r fault → IsFirstFault t fault
 fault_read t r fault short reads after = inr (short, subst (λ r. IsFaultAfter r fault) (sym reads) after)
 
@@ -67,7 +68,7 @@ solids_listed t drawing ss (ls, reads, shown, same) (b, box, small) all =
     (ls, reads, shown, b, subst (λ d. IsUnitBox d b) same box, small, subst (λ d. AreSolidsOf d ss) same all)
 
 -- what the search in an input's drawing refuses is the input's first fault
-pub search_fault : (t : List ℕ) (drawing : Segment → Style) (x : SearchRefused) → length t ≤ most_bytes → IsDrawnBy t drawing
+pub search_fault : (t : List ℕ) (drawing : Segment → Style) (x : SearchRefused) → length t ≤ most_file_bytes → IsDrawnBy t drawing
     → (x ≡ search.TooLarge → (b : UnitBox) × IsUnitBox drawing b × (most_cells < volume_of b))
     → (fault : FirstFault) → refused_search x ≡ refused.Fault fault → IsFirstFault t fault
 search_fault t drawing search.TooLarge short (ls, reads, shown, same) large fault e =
@@ -86,7 +87,7 @@ small_faultless ls b shown box small TooLarge after =
     absurd (omega (arith, large, small))
 
 -- an input whose solids can be listed has no fault
-pub no_fault : (t : List ℕ) (ss : List (List Cell)) → length t ≤ most_bytes → ListsSolidsOf t ss → HasNoFault t
+pub no_fault : (t : List ℕ) (ss : List (List Cell)) → length t ≤ most_file_bytes → ListsSolidsOf t ss → HasNoFault t
 no_fault t ss short listed fault is = ⊎_elim
     (λ long. absurd (omega (arith, long.0, short)))
     (λ read. small_faultless listed.0 listed.3 listed.2 listed.4 listed.5 fault (subst (λ r. IsFaultAfter r fault) listed.1 read.1))

@@ -7,7 +7,7 @@ use Rattle.recon_run.specs.declared.fault.FirstFault.{FirstFault}
 use Rattle.recon_run.specs.declared.fault.FirstFault.TheVariants.{File, TooLarge}
 use Rattle.recon_run.specs.declared.status.Status.{Status}
 use Rattle.recon_run.specs.declared.status.Status.TheVariants.{Whole, Fault, Usage}
-use Rattle.recon_run.specs.Answers.{most_bytes, usage_text, IsFirstFault, ListsSolidsOf}
+use Rattle.recon_run.specs.Answers.{usage_text, IsFirstFault, ListsSolidsOf}
 use Rattle.recon_run.specs.FaultText.{fault_text}
 use Rattle.recon_run.specs.FirstText.{first_text}
 use Rattle.recon_run.specs.Runs.{Answers, IsReadThrough}
@@ -22,7 +22,8 @@ use Rattle.solid_model.specs.Drawings.{drawing_of, IsShown, IsEmptyView, IsFirst
 use Rattle.solid_model.specs.Line.{Line}
 use Rattle.solid_model.proofs.KeptDrawings.{lines_are_drawing}
 use Rattle.solid_model.proofs.Sheets.{without_lines-empty}
-use Rattle.unit_search.specs.UnitBox.{most_cells, volume_of}
+use Rattle.unit_search.specs.UnitBox.{volume_of}
+use Rattle.solid_model.specs.Limits.{most_cells, most_file_bytes}
 use Rattle.unit_search.proofs.AllSolids.{solids_are_listed}
 use Rattle.unit_search.proofs.UnitBoxes.{some_box}
 
@@ -42,7 +43,7 @@ shown_by_views ls none = shown
     shown Side = λ e. none Side (front, top, e)
 
 -- it can't be that an input with lines that isn't too long has no fault and no list of solids
-input_with_lines : (t : List ℕ) (ls : List Line) → length t ≤ most_bytes → read_of t ≡ Ok ls
+input_with_lines : (t : List ℕ) (ls : List Line) → length t ≤ most_file_bytes → read_of t ≡ Ok ls
     → ((fault : FirstFault) → IsFirstFault t fault → ⊥) → ((ss : List (List Cell)) → ListsSolidsOf t ss → ⊥) → ⊥
 input_with_lines t ls short reads faultless listless =
     let shown = shown_by_views ls (λ v empty. faultless (File (EmptyView v)) (fault_read t (Ok ls) (File (EmptyView v)) short reads (v, empty, refl))) in
@@ -53,7 +54,7 @@ input_with_lines t ls short reads faultless listless =
     (cases_lt most_cells (volume_of b)))
 
 -- it can't be that an input that isn't too long has no fault and no list of solids
-short_input : (t : List ℕ) (r : Result (List Line) of_file.Fault) → length t ≤ most_bytes → read_of t ≡ r
+short_input : (t : List ℕ) (r : Result (List Line) of_file.Fault) → length t ≤ most_file_bytes → read_of t ≡ r
     → ((fault : FirstFault) → IsFirstFault t fault → ⊥) → ((ss : List (List Cell)) → ListsSolidsOf t ss → ⊥) → ⊥
 short_input t (Err found) short reads faultless listless = faultless (File found) (fault_read t (Err found) (File found) short reads refl)
 short_input t (Ok ls) short reads faultless listless = input_with_lines t ls short reads faultless listless
@@ -62,14 +63,14 @@ pub answered_somehow : (words : List (List ℕ)) (t : List ℕ)
     → ((rest : Option (List ℕ)) (status : Status) (text : List ℕ) → Answers words (Some t) rest status text → ⊥) → ⊥
 answered_somehow words t never = never (Some []) Usage usage_text (solve_asked, refl)
   where
-    read_to_end : length t ≤ most_bytes → IsReadThrough t (Some [])
+    read_to_end : length t ≤ most_file_bytes → IsReadThrough t (Some [])
     read_to_end short = inl (short, refl)
 
     solve_asked : IsSolve words → ⊥
     solve_asked solve = ⊎_elim
-        (λ long. never (Some (drop (most_bytes + 1) t)) Fault (fault_text (File TooLong))
+        (λ long. never (Some (drop (most_file_bytes + 1) t)) Fault (fault_text (File TooLong))
         (solve, (inr (long, refl), (File TooLong, inl (long, refl), refl))))
         (λ short. short_input t (read_of t) short refl
         (λ fault is. never (Some []) Fault (fault_text fault) (solve, (read_to_end short, (fault, is, refl))))
         (λ ss listed. never (Some []) Whole (first_text ss) (solve, (read_to_end short, (no_fault t ss short listed, ss, listed, refl)))))
-        (cases_lt most_bytes (length t))
+        (cases_lt most_file_bytes (length t))

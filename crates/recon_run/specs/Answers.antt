@@ -14,14 +14,11 @@ use Rattle.solid_model.specs.declared.frame.View.{View}
 use Rattle.solid_model.specs.declared.segment.Segment.{Segment}
 use Rattle.solid_model.specs.declared.segment.Style.{Style}
 use Rattle.solid_model.specs.Drawings.{drawing_of, IsShown, IsFirstEmptyView}
+use Rattle.solid_model.specs.Limits.{most_cells, most_file_bytes}
 use Rattle.solid_model.specs.Line.{Line}
 use Rattle.solid_model.specs.Matching.{AreSolidsOf}
 use Rattle.unit_search.specs.declared.unit_box.UnitBox.{UnitBox}
-use Rattle.unit_search.specs.UnitBox.{IsUnitBox, most_cells, volume_of}
-
--- the most bytes of an input
-abbrev pub most_bytes : ℕ
-most_bytes = 16777216
+use Rattle.unit_search.specs.UnitBox.{IsUnitBox, volume_of}
 
 -- The first fault of an input that reads so: what the reading found. Where it found lines: the first view of which they cover
 -- nothing; else TooLarge, where the unit box of their drawing has more than 12 cells.
@@ -32,7 +29,7 @@ IsFaultAfter (Ok ls) TooLarge = IsShown ls × (b : UnitBox) × IsUnitBox (drawin
 
 -- the first fault of an input: it is too long, or else that of what it reads as
 abbrev pub IsFirstFault : List ℕ → FirstFault → Type 0
-IsFirstFault t fault = ((most_bytes < length t) × (fault ≡ File TooLong)) ⊎ ((length t ≤ most_bytes) × IsFaultAfter (read_of t) fault)
+IsFirstFault t fault = ((most_file_bytes < length t) × (fault ≡ File TooLong)) ⊎ ((length t ≤ most_file_bytes) × IsFaultAfter (read_of t) fault)
 
 -- the input has no fault
 abbrev pub HasNoFault : List ℕ → Type 0

@@ -33,53 +33,53 @@ name_of (fault.TooFine _ _) = codes "F17 TooFine"
 name_of (fault.TooManyBlocks _) = codes "F18 TooManyBlocks"
 
 -- the line that a fault names
-abbrev pub line_of : Fault → Option ℕ
-line_of (fault.Binary line) = Some line
-line_of (fault.BadCode line) = Some line
-line_of (fault.NoValue line) = Some line
-line_of (fault.NoEof line) = Some line
-line_of (fault.BadSection line) = Some line
-line_of (fault.BadNumber line _) = Some line
-line_of (fault.NotWhole line _) = Some line
-line_of (fault.TooFar line _) = Some line
-line_of (fault.Missing line _) = Some line
-line_of (fault.Repeated line _) = Some line
-line_of (fault.Oblique line) = Some line
-line_of (fault.Linetype line) = Some line
-line_of (fault.Geometry line) = Some line
-line_of (fault.TooManyLines line) = Some line
-line_of _ = None
+abbrev pub line_named : Fault → Option ℕ
+line_named (fault.Binary line) = Some line
+line_named (fault.BadCode line) = Some line
+line_named (fault.NoValue line) = Some line
+line_named (fault.NoEof line) = Some line
+line_named (fault.BadSection line) = Some line
+line_named (fault.BadNumber line _) = Some line
+line_named (fault.NotWhole line _) = Some line
+line_named (fault.TooFar line _) = Some line
+line_named (fault.Missing line _) = Some line
+line_named (fault.Repeated line _) = Some line
+line_named (fault.Oblique line) = Some line
+line_named (fault.Linetype line) = Some line
+line_named (fault.Geometry line) = Some line
+line_named (fault.TooManyLines line) = Some line
+line_named _ = None
 
 -- the group code that a fault names
-abbrev pub code_of : Fault → Option ℤ
-code_of (fault.BadNumber _ code) = Some code
-code_of (fault.NotWhole _ code) = Some code
-code_of (fault.TooFar _ code) = Some code
-code_of (fault.Missing _ code) = Some code
-code_of (fault.Repeated _ code) = Some code
-code_of _ = None
+abbrev pub code_named : Fault → Option ℤ
+code_named (fault.BadNumber _ code) = Some code
+code_named (fault.NotWhole _ code) = Some code
+code_named (fault.TooFar _ code) = Some code
+code_named (fault.Missing _ code) = Some code
+code_named (fault.Repeated _ code) = Some code
+code_named _ = None
 
 -- the view that a fault names
-abbrev pub view_of : Fault → Option View
-view_of (fault.EmptyView view) = Some view
-view_of _ = None
+abbrev pub view_named : Fault → Option View
+view_named (fault.EmptyView view) = Some view
+view_named _ = None
 
 -- the axis that a fault names
-abbrev pub axis_of : Fault → Option Axis
-axis_of (fault.TooFine axis _) = Some axis
-axis_of _ = None
+abbrev pub axis_named : Fault → Option Axis
+axis_named (fault.TooFine axis _) = Some axis
+axis_named _ = None
 
 -- the number of things of which there are too many
-abbrev pub count_of : Fault → Option ℕ
-count_of (fault.TooFine _ count) = Some count
-count_of (fault.TooManyBlocks count) = Some count
-count_of _ = None
+abbrev pub count_named : Fault → Option ℕ
+count_named (fault.TooFine _ count) = Some count
+count_named (fault.TooManyBlocks count) = Some count
+count_named _ = None
 
 -- the name of a view's layer
-abbrev pub layer_of : View → List ℕ
-layer_of Front = codes "FRONT"
-layer_of Top = codes "TOP"
-layer_of Side = codes "SIDE"
+abbrev pub layer_name : View → List ℕ
+layer_name Front = codes "FRONT"
+layer_name Top = codes "TOP"
+layer_name Side = codes "SIDE"
 
 -- the letter of an axis
 abbrev pub letter_of : Axis → List ℕ
@@ -94,11 +94,11 @@ part_text word (Some text) = word ++ text
 
 -- what a fault names: its line, then its group code, its view, its axis and its count, those of them that it has
 abbrev pub parts_text : Fault → List ℕ
-parts_text f = part_text (codes " line ") (option_map decimal (line_of f))
-    ++ part_text (codes " code ") (option_map signed_decimal (code_of f))
-    ++ part_text (codes " view ") (option_map layer_of (view_of f))
-    ++ part_text (codes " axis ") (option_map letter_of (axis_of f))
-    ++ part_text (codes " count ") (option_map decimal (count_of f))
+parts_text f = part_text (codes " line ") (option_map decimal (line_named f))
+    ++ part_text (codes " code ") (option_map signed_decimal (code_named f))
+    ++ part_text (codes " view ") (option_map layer_name (view_named f))
+    ++ part_text (codes " axis ") (option_map letter_of (axis_named f))
+    ++ part_text (codes " count ") (option_map decimal (count_named f))
 
 -- each fault on a line of its own: its number and name, and what it names
 abbrev pub fault_text : FirstFault → List ℕ

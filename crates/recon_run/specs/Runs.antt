@@ -3,13 +3,14 @@ use Rattle.std.specs.Prelude.{◌≡◌, ◌⊎◌, ℕ, ◌≤◌, List, [], le
 use Rattle.std.specs.Io.KnownBytes.{Appends, Keeps}
 use Rattle.recon_run.specs.declared.status.Status.{Status}
 use Rattle.recon_run.specs.declared.status.Status.TheVariants.{Whole, Fault, Usage, ReadFault, WriteFault, Memory}
-use Rattle.recon_run.specs.Answers.{most_bytes, IsSolved, usage_text}
+use Rattle.recon_run.specs.Answers.{IsSolved, usage_text}
+use Rattle.solid_model.specs.Limits.{most_file_bytes}
 use Rattle.recon_run.specs.Words.{IsSolve}
 use Rattle.tv_base.specs.Pieces.{AppendsFront, ReadsPast}
 
 -- The source had t left and was read to its end; or, where t is too long, up to one byte more than the most.
 abbrev pub IsReadThrough : List ℕ → Option (List ℕ) → Type 0
-IsReadThrough t rest = ((length t ≤ most_bytes) × (rest ≡ Some [])) ⊎ ReadsPast (Some t) rest most_bytes
+IsReadThrough t rest = ((length t ≤ most_file_bytes) × (rest ≡ Some [])) ⊎ ReadsPast (Some t) rest most_file_bytes
 
 -- the answer of `solve` to a source that had `left` and has `rest`, where told
 abbrev pub SolvesSource : Option (List ℕ) → Option (List ℕ) → Status → List ℕ → Type 0

@@ -4,10 +4,10 @@ use Rattle.recon_run.specs.declared.status.Status.{Status}
 use Rattle.recon_run.specs.declared.status.Status.TheVariants.{Whole, Fault, Usage, ReadFault, WriteFault, Memory}
 
 -- the number of a status
-abbrev pub code_of : Status → ℕ
-code_of Whole = 0
-code_of Fault = 1
-code_of Usage = 2
-code_of ReadFault = 5
-code_of WriteFault = 6
-code_of Memory = 7
+abbrev pub status_code : Status → ℕ
+status_code Whole = 0
+status_code Fault = 1
+status_code Usage = 2
+status_code ReadFault = 5
+status_code WriteFault = 6
+status_code Memory = 7

@@ -3,7 +3,8 @@
 ghost use Rattle.std.specs.Prelude.{◌≡◌, ◌≤◌, length, IfOk, IsErrOf};
 ghost use Rattle.recon_run.specs.declared.fault.FirstFault.{FirstFault};
 ghost use Rattle.recon_run.specs.declared.fault.FirstFault.TheVariants.{File};
-ghost use Rattle.recon_run.specs.Answers.{most_bytes, IsDrawnBy, IsFirstFault, ListsSolidsOf, IsSolved};
+ghost use Rattle.recon_run.specs.Answers.{IsDrawnBy, IsFirstFault, ListsSolidsOf, IsSolved};
+ghost use Rattle.solid_model.specs.Limits.{most_file_bytes};
 ghost use Rattle.recon_run.specs.FaultText.{fault_text};
 ghost use Rattle.solid_model.specs.declared.fault.Fault as of_file;
 ghost use Rattle.solid_model.specs.declared.fault.Refused.TheVariants as refused;
@@ -62,7 +63,7 @@ impl From<SearchRefused> for NoSolids {
 
 /// The drawing of a file's lines, or the file's first fault. The text and its lines are let go.
 fn drawing_in(alloc: Global, text: Vec<u8>) -> Result<Drawing, Refused>
-    requires { length text.items ≤ most_bytes }
+    requires { length text.items ≤ most_file_bytes }
     ensures drawn { IfOk result (λ d. IsDrawnBy text.items (style_in d)) }
     ensures fault { (f : of_file.Fault) → IsErrOf result (refused.Fault f) → IsFirstFault text.items (File f) }
 {
@@ -73,7 +74,7 @@ fn drawing_in(alloc: Global, text: Vec<u8>) -> Result<Drawing, Refused>
 
 /// All solids that the input's drawing shows, or its first fault.
 fn solids_of(alloc: Global, input: Vec<u8>) -> Result<Vec<Solid>, NoSolids>
-    requires { length input.items ≤ most_bytes }
+    requires { length input.items ≤ most_file_bytes }
     ensures ok { IfOk result (λ solids. ListsSolidsOf input.items solids.items) }
     ensures fault { (fault : FirstFault) → IsErrOf result (NoSolids.Fault fault) → IsFirstFault input.items fault }
 {
@@ -94,7 +95,7 @@ pub fn fault_answer(alloc: Global, fault: FirstFault) -> Result<Answer, Memory>
 
 /// The answer of `solve` to an input.
 pub fn solve(alloc: Global, input: Vec<u8>) -> Result<Answer, Memory>
-    requires { length input.items ≤ most_bytes }
+    requires { length input.items ≤ most_file_bytes }
     ensures { IfOk result (λ answer. IsSolved input.items answer.status answer.text.items) }
 {
     match solids_of(alloc, input) {

@@ -5,7 +5,7 @@ ghost use Rattle.recon_run.specs.declared.fault.FirstFault.{FirstFault};
 ghost use Rattle.recon_run.specs.declared.status.Status.{Status};
 ghost use Rattle.recon_run.specs.Answers.{HasNoFault, IsFirstFault, usage_text};
 ghost use Rattle.recon_run.specs.Runs.{SolvesSource, Answers, Stops, IsWritten, Ends, YieldsAlone};
-ghost use Rattle.recon_run.specs.Status.{code_of};
+ghost use Rattle.recon_run.specs.Status.{status_code};
 ghost use Rattle.recon_run.specs.Words.{IsSolve};
 ghost use Rattle.tv_base.specs.Faults.{Rose};
 
@@ -87,7 +87,7 @@ pub fn run<S: Source, K: Sink, G: Gate>(
     sink: &mut K,
     _gate: &G,
 ) -> u8
-    ensures ends { (status : Status) × (result ≡ code_of status) × Ends (map string_bytes words.now)
+    ensures ends { (status : Status) × (result ≡ status_code status) × Ends (map string_bytes words.now)
         (S.left source.old) (S.left source.new) (K.held sink.old) (K.held sink.new) status }
 
     ensures whole { IsSolve (map string_bytes words.now) → IfSome (S.left source.old) (λ input.

@@ -2,7 +2,7 @@
 
 ghost use Rattle.std.specs.Prelude.{◌≡◌, ◌++◌, codes, IfOk, OnOk};
 ghost use Rattle.std.specs.Option.{option_map};
-ghost use Rattle.recon_run.specs.FaultText.{name_of, line_of, code_of, view_of, axis_of, count_of, layer_of, letter_of, part_text, parts_text, fault_text};
+ghost use Rattle.recon_run.specs.FaultText.{name_of, line_named, code_named, view_named, axis_named, count_named, layer_name, letter_of, part_text, parts_text, fault_text};
 
 use crate::fault::FirstFault;
 use crate::text::push_number;
@@ -37,8 +37,8 @@ fn name_of(fault: Fault) -> &'static str
 }
 
 /// The line that a fault names.
-fn line_of(fault: Fault) -> Option<u32>
-    ensures { result ≡ line_of fault }
+fn line_named(fault: Fault) -> Option<u32>
+    ensures { result ≡ line_named fault }
 {
     match fault {
         Fault::Binary { line }
@@ -60,8 +60,8 @@ fn line_of(fault: Fault) -> Option<u32>
 }
 
 /// The group code that a fault names.
-fn code_of(fault: Fault) -> Option<i32>
-    ensures { result ≡ code_of fault }
+fn code_named(fault: Fault) -> Option<i32>
+    ensures { result ≡ code_named fault }
 {
     match fault {
         Fault::BadNumber { code, .. }
@@ -74,8 +74,8 @@ fn code_of(fault: Fault) -> Option<i32>
 }
 
 /// The view that a fault names.
-fn view_of(fault: Fault) -> Option<View>
-    ensures { result ≡ view_of fault }
+fn view_named(fault: Fault) -> Option<View>
+    ensures { result ≡ view_named fault }
 {
     match fault {
         Fault::EmptyView { view } => Some(view),
@@ -84,8 +84,8 @@ fn view_of(fault: Fault) -> Option<View>
 }
 
 /// The axis that a fault names.
-fn axis_of(fault: Fault) -> Option<Axis>
-    ensures { result ≡ axis_of fault }
+fn axis_named(fault: Fault) -> Option<Axis>
+    ensures { result ≡ axis_named fault }
 {
     match fault {
         Fault::TooFine { axis, .. } => Some(axis),
@@ -94,8 +94,8 @@ fn axis_of(fault: Fault) -> Option<Axis>
 }
 
 /// The number of things of which there are too many.
-fn count_of(fault: Fault) -> Option<u32>
-    ensures { result ≡ count_of fault }
+fn count_named(fault: Fault) -> Option<u32>
+    ensures { result ≡ count_named fault }
 {
     match fault {
         Fault::TooFine { count, .. } | Fault::TooManyBlocks { count } => Some(count),
@@ -104,8 +104,8 @@ fn count_of(fault: Fault) -> Option<u32>
 }
 
 /// The name of a view's layer.
-fn layer_of(view: View) -> &'static str
-    ensures { result.now ≡ layer_of view }
+fn layer_name(view: View) -> &'static str
+    ensures { result.now ≡ layer_name view }
 {
     match view {
         View::Front => "FRONT",
@@ -144,12 +144,12 @@ fn push_number_part<I: Integer>(
 
 /// Adds a view by its layer, where there is one.
 fn push_view(text: &mut Vec<u8>, view: Option<View>) -> Result<(), Memory>
-    ensures { OnOk result (text.new.items ≡ text.old.items ++ part_text (codes " view ") (option_map layer_of view)) }
+    ensures { OnOk result (text.new.items ≡ text.old.items ++ part_text (codes " view ") (option_map layer_name view)) }
 {
     match view {
         Some(view) => {
             text.extend_from_slice(b" view ")?;
-            text.extend_from_slice(layer_of(view).as_bytes())?;
+            text.extend_from_slice(layer_name(view).as_bytes())?;
             Ok(())
         }
         None => Ok(()),
@@ -174,11 +174,11 @@ fn push_axis(text: &mut Vec<u8>, axis: Option<Axis>) -> Result<(), Memory>
 fn push_parts(text: &mut Vec<u8>, fault: Fault) -> Result<(), Memory>
     ensures { OnOk result (text.new.items ≡ text.old.items ++ parts_text fault) }
 {
-    push_number_part(text, " line ", line_of(fault))?;
-    push_number_part(text, " code ", code_of(fault))?;
-    push_view(text, view_of(fault))?;
-    push_axis(text, axis_of(fault))?;
-    push_number_part(text, " count ", count_of(fault))
+    push_number_part(text, " line ", line_named(fault))?;
+    push_number_part(text, " code ", code_named(fault))?;
+    push_view(text, view_named(fault))?;
+    push_axis(text, axis_named(fault))?;
+    push_number_part(text, " count ", count_named(fault))
 }
 
 /// The text of a file's fault.

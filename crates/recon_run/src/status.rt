@@ -22,11 +22,11 @@ pub enum Status {
 }
 
 impl Status {
-    ghost use Rattle.recon_run.specs.Status.{code_of};
+    ghost use Rattle.recon_run.specs.Status.{status_code};
 
     /// Its number, the process' exit status.
     pub fn code(self) -> u8
-        ensures { result ≡ code_of self }
+        ensures { result ≡ status_code self }
     {
         self as u8
     }

@@ -6,10 +6,11 @@ use Rattle.solid_model.specs.declared.frame.View.{View}
 use Rattle.solid_model.specs.declared.segment.Segment.{Segment}
 use Rattle.solid_model.specs.declared.segment.Style.TheVariants.{Blank}
 use Rattle.solid_model.specs.Boxes.{far_right, far_up}
-use Rattle.solid_model.specs.Drawings.{same_view, has_length, lines_of, extreme, least_right, least_up, on_sheet, drawing_of}
+use Rattle.solid_model.specs.Drawings.{same_view, has_length, covering_lines, extreme, least_right, least_up, on_sheet, drawing_of}
 use Rattle.solid_model.specs.Line.{Line, IsNear, IsKept}
 use Rattle.solid_model.specs.Lists.{Member, Each}
-use Rattle.solid_model.specs.Runs.{most_far, IsDrawing}
+use Rattle.solid_model.specs.Runs.{IsDrawing}
+use Rattle.solid_model.specs.Limits.{farthest_in_view}
 use Rattle.solid_model.proofs.Lists.{each-at, member-map, member-from_map, member-from_filter}
 use Rattle.solid_model.proofs.Sheets.{least_member_of, drawn_line, covered_from_style, with_lines-drawn, drawing_begins, drawing_right_reached, drawing_up_reached}
 
@@ -17,10 +18,10 @@ use Rattle.solid_model.proofs.Sheets.{least_member_of, drawn_line, covered_from_
 
 -- where each line begins no farther down than -1,000,000,000, so do all
 least_near : (of_line : Line → ℤ) → ((l : Line) → IsKept l → neg_ℤ (pos 1000000000) ≤ℤ of_line l) → (ls : List Line) → Each IsKept ls → (v : View) (l : Line)
-    → Member (lines_of v ls) l → neg_ℤ (pos 1000000000) ≤ℤ extreme int_min (map of_line (lines_of v ls))
+    → Member (covering_lines v ls) l → neg_ℤ (pos 1000000000) ≤ℤ extreme int_min (map of_line (covering_lines v ls))
 least_near of_line near ls kept v l k =
-    let least = least_member_of (map of_line (lines_of v ls)) (of_line l) (member-map of_line (lines_of v ls) l k) in
-    let m = member-from_map of_line (lines_of v ls) (extreme int_min (map of_line (lines_of v ls))) least in
+    let least = least_member_of (map of_line (covering_lines v ls)) (of_line l) (member-map of_line (covering_lines v ls) l k) in
+    let m = member-from_map of_line (covering_lines v ls) (extreme int_min (map of_line (covering_lines v ls))) least in
     let own = member-from_filter (λ (n : Line). same_view v n.of && has_length n) ls m.0 m.1 in
     subst (λ z. neg_ℤ (pos 1000000000) ≤ℤ z) m.2 (near m.0 (each-at IsKept ls m.0 kept own.0))
 
@@ -29,7 +30,7 @@ far_from_corner : (upright : Bool) (right up left bottom : ℤ)
     → (if upright then (right +ℤ left) else ((right +ℤ left) +ℤ pos 1)) ≤ℤ pos 1000000000
     → (if upright then ((up +ℤ bottom) +ℤ pos 1) else (up +ℤ bottom)) ≤ℤ pos 1000000000
     → neg_ℤ (pos 1000000000) ≤ℤ left → neg_ℤ (pos 1000000000) ≤ℤ bottom
-    → ((if upright then right else (right +ℤ pos 1)) ≤ℤ most_far) × ((if upright then (up +ℤ pos 1) else up) ≤ℤ most_far)
+    → ((if upright then right else (right +ℤ pos 1)) ≤ℤ farthest_in_view) × ((if upright then (up +ℤ pos 1) else up) ≤ℤ farthest_in_view)
 far_from_corner true right up left bottom h k m n = (omega (arith, ints), omega (arith, ints))
 far_from_corner false right up left bottom h k m n = (omega (arith, ints), omega (arith, ints))
 
@@ -38,7 +39,7 @@ lesser_near : (a b : ℤ) → IsNear a → IsNear b → neg_ℤ (pos 1000000000)
 lesser_near a b near_a near_b = omega (arith, ints, clamps, near_a.0, near_b.0)
 
 -- nothing of a file's drawing lies farther out than 2,000,000,000
-drawing_near : (ls : List Line) → Each IsKept ls → (g : Segment) → drawing_of ls g ≢ Blank → (far_right g ≤ℤ most_far) × (far_up g ≤ℤ most_far)
+drawing_near : (ls : List Line) → Each IsKept ls → (g : Segment) → drawing_of ls g ≢ Blank → (far_right g ≤ℤ farthest_in_view) × (far_up g ≤ℤ farthest_in_view)
 drawing_near ls kept g drawn =
     let s : Segment = on_sheet ls g in
     let m = drawn_line ls s (covered_from_style _ _ drawn) in
@@ -52,7 +53,7 @@ drawing_near ls kept g drawn =
 -- ---- a drawing
 
 -- where each view has a line with length, the lines have the drawing of three views
-pub lines_are_drawing : (ls : List Line) → Each IsKept ls → ((v : View) → lines_of v ls ≢ []) → IsDrawing (drawing_of ls)
+pub lines_are_drawing : (ls : List Line) → Each IsKept ls → ((v : View) → covering_lines v ls ≢ []) → IsDrawing (drawing_of ls)
 lines_are_drawing ls kept shown = record {
   begins = drawing_begins ls;
   left = λ v.

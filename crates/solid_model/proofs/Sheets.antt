@@ -11,7 +11,7 @@ use Rattle.solid_model.specs.declared.segment.Style.{Style}
 use Rattle.solid_model.specs.declared.segment.Style.TheVariants.{Blank, Dashed, Solid}
 use Rattle.solid_model.specs.Boxes.{far_right, far_up}
 use Rattle.solid_model.specs.Draws.{line_of}
-use Rattle.solid_model.specs.Drawings.{same_view, same_style, along_of, across_of, is_between, covers, is_covered, has_length, lines_of, extreme, least_right, least_up, is_shown, on_sheet, drawing_of, IsEmptyView}
+use Rattle.solid_model.specs.Drawings.{same_view, same_style, along_of, across_of, is_between, covers, is_covered, has_length, covering_lines, extreme, least_right, least_up, is_shown, on_sheet, drawing_of, IsEmptyView}
 use Rattle.solid_model.specs.Line.{Line, IsKept}
 use Rattle.solid_model.specs.Lists.{Member, Each}
 use Rattle.solid_model.proofs.ListPlaces.{contains-member, all-each}
@@ -185,7 +185,7 @@ drawn_from Dashed ls l g k e drawn h = or_right (is_covered Solid ls g) (is_cove
 drawn_from Solid ls l g k e drawn h = or_left (is_covered Solid ls g) (is_covered Dashed ls g) (covered_from Solid ls l g k e h)
 
 -- the line that covers a drawn segment, among the lines of its view
-pub drawn_line : (ls : List Line) (g : Segment) → is_shown ls g ≡ true → (l : Line) × Member (lines_of g.view ls) l × LiesAlong l g
+pub drawn_line : (ls : List Line) (g : Segment) → is_shown ls g ≡ true → (l : Line) × Member (covering_lines g.view ls) l × LiesAlong l g
 drawn_line ls g e =
     let m = drawn_by ls g e in
     let b = cover_along m.0 g m.2 in
@@ -195,8 +195,8 @@ drawn_line ls g e =
 pub none_before : (ls : List Line) (g : Segment) → is_shown ls g ≡ true → (least_right g.view ls ≤ℤ g.right) × (least_up g.view ls ≤ℤ g.up)
 none_before ls g e =
     let m = drawn_line ls g e in
-    let left = least_below _ _ (member-map (λ l. int_min l.x0 l.x1) (lines_of g.view ls) m.0 m.1) in
-    let low = least_below _ _ (member-map (λ l. int_min l.y0 l.y1) (lines_of g.view ls) m.0 m.1) in
+    let left = least_below _ _ (member-map (λ l. int_min l.x0 l.x1) (covering_lines g.view ls) m.0 m.1) in
+    let low = least_below _ _ (member-map (λ l. int_min l.y0 l.y1) (covering_lines g.view ls) m.0 m.1) in
     (omega (arith, ints), omega (arith, ints))
 
 -- ---- the least coordinates are reached
@@ -230,7 +230,7 @@ abbrev IsDrawnFirst : List Line → View → Line → Segment → Type 0
 IsDrawnFirst ls v l h = (h.view ≡ v) × IsTrue (is_shown ls h) × (h.right ≡ int_min l.x0 l.x1) × (h.up ≡ int_min l.y0 l.y1)
 
 -- each line of a view draws its first segment
-first_drawn : (ls : List Line) → Each IsKept ls → (v : View) (l : Line) → Member (lines_of v ls) l → (h : Segment) × IsDrawnFirst ls v l h
+first_drawn : (ls : List Line) → Each IsKept ls → (v : View) (l : Line) → Member (covering_lines v ls) l → (h : Segment) × IsDrawnFirst ls v l h
 first_drawn ls kept v l k =
     let m = member-from_filter (λ (n : Line). same_view v n.of && has_length n) ls l k in
     let test = and_parts (same_view v l.of) (has_length l) m.1 in
@@ -248,11 +248,11 @@ first_drawn ls kept v l k =
 -- where a view has a drawn segment, one has the least of a coordinate that it takes from its line
 least_drawn : (of_line : Line → ℤ) (of_segment : Segment → ℤ) (ls : List Line) → Each IsKept ls → (g : Segment) → is_shown ls g ≡ true
     → ((l : Line) (h : Segment) → IsDrawnFirst ls g.view l h → of_segment h ≡ of_line l)
-    → (h : Segment) × (h.view ≡ g.view) × IsTrue (is_shown ls h) × (of_segment h ≡ extreme int_min (map of_line (lines_of g.view ls)))
+    → (h : Segment) × (h.view ≡ g.view) × IsTrue (is_shown ls h) × (of_segment h ≡ extreme int_min (map of_line (covering_lines g.view ls)))
 least_drawn of_line of_segment ls kept g e takes =
     let some = drawn_line ls g e in
-    let reached = least_member_of (map of_line (lines_of g.view ls)) (of_line some.0) (member-map of_line (lines_of g.view ls) some.0 some.1) in
-    let m = member-from_map of_line (lines_of g.view ls) (extreme int_min (map of_line (lines_of g.view ls))) reached in
+    let reached = least_member_of (map of_line (covering_lines g.view ls)) (of_line some.0) (member-map of_line (covering_lines g.view ls) some.0 some.1) in
+    let m = member-from_map of_line (covering_lines g.view ls) (extreme int_min (map of_line (covering_lines g.view ls))) reached in
     let first = first_drawn ls kept g.view m.0 m.1 in
     (first.0, first.1.0, first.1.1, takes m.0 first.0 first.1 ∙ m.2)
 
@@ -269,16 +269,16 @@ up_reached ls kept g e = least_drawn (λ l. int_min l.y0 l.y1) (λ h. h.up) ls k
 -- ---- views that show nothing
 
 -- a view is empty where none of its lines has length
-pub without_lines-empty : (ls : List Line) (v : View) → lines_of v ls ≡ [] → IsEmptyView ls v
+pub without_lines-empty : (ls : List Line) (v : View) → covering_lines v ls ≡ [] → IsEmptyView ls v
 without_lines-empty ls v none g e shown =
     let m = drawn_line ls g shown in
-    subst (λ ms. Member ms m.0) (ap (λ w. lines_of w ls) e ∙ none) m.1
+    subst (λ ms. Member ms m.0) (ap (λ w. covering_lines w ls) e ∙ none) m.1
 
 -- and only there, where the lines are kept
-pub empty-without_lines : (ls : List Line) → Each IsKept ls → (v : View) → IsEmptyView ls v → lines_of v ls ≡ []
-empty-without_lines ls kept v empty = by (lines_of v ls) refl
+pub empty-without_lines : (ls : List Line) → Each IsKept ls → (v : View) → IsEmptyView ls v → covering_lines v ls ≡ []
+empty-without_lines ls kept v empty = by (covering_lines v ls) refl
   where
-    by : (ms : List Line) → lines_of v ls ≡ ms → ms ≡ []
+    by : (ms : List Line) → covering_lines v ls ≡ ms → ms ≡ []
     by [] e = refl
     by (l ∷ ms) e =
         let first = first_drawn ls kept v l (subst (λ ns. Member ns l) (sym e) (inl refl)) in
@@ -318,11 +318,11 @@ drawn_off_sheet : (ls : List Line) (h : Segment) → is_shown ls h ≡ true → 
 drawn_off_sheet ls h e = style_from_covered _ _ (ap (is_shown ls) (on_sheet-off_sheet ls h) ∙ e)
 
 -- a view that has a line with length shows something
-pub with_lines-drawn : (ls : List Line) → Each IsKept ls → (v : View) → lines_of v ls ≢ []
+pub with_lines-drawn : (ls : List Line) → Each IsKept ls → (v : View) → covering_lines v ls ≢ []
     → (g : Segment) × (g.view ≡ v) × (drawing_of ls g ≢ Blank)
-with_lines-drawn ls kept v some = by (lines_of v ls) refl
+with_lines-drawn ls kept v some = by (covering_lines v ls) refl
   where
-    by : (ms : List Line) → lines_of v ls ≡ ms → (g : Segment) × (g.view ≡ v) × (drawing_of ls g ≢ Blank)
+    by : (ms : List Line) → covering_lines v ls ≡ ms → (g : Segment) × (g.view ≡ v) × (drawing_of ls g ≢ Blank)
     by [] e = absurd (some e)
     by (l ∷ ms) e =
         let first = first_drawn ls kept v l (subst (λ ns. Member ns l) (sym e) (inl refl)) in

@@ -1,5 +1,5 @@
 -- Cells, and solids as finite sets of cells.
-use Rattle.std.specs.Prelude.{◌≡◌, Bool, false, ◌&&◌, ◌||◌, List, [], ◌∷◌, ℤ, pos, ◌-ℤ◌}
+use Rattle.std.specs.Prelude.{◌≡◌, Bool, false, ◌&&◌, ◌||◌, List, [], ◌∷◌, ℕ, ℤ, pos, ◌-ℤ◌}
 use Rattle.std.specs.Ordering.{int_eq}
 use Rattle.solid_model.specs.declared.cell.Axis.{Axis}
 use Rattle.solid_model.specs.declared.cell.Axis.TheVariants.{X, Y, Z}
@@ -10,6 +10,10 @@ abbrev pub coordinate : Axis → Cell → ℤ
 coordinate X c = c.x
 coordinate Y c = c.y
 coordinate Z c = c.z
+
+-- the cell at these coordinates
+abbrev pub cell_at : ℕ → ℕ → ℕ → Cell
+cell_at x y z = record { x = pos x; y = pos y; z = pos z }
 
 -- the cell with another coordinate along an axis
 abbrev pub placed : Axis → ℤ → Cell → Cell

@@ -55,8 +55,8 @@ abbrev pub has_length : Line → Bool
 has_length l = not (int_eq l.x0 l.x1 && int_eq l.y0 l.y1)
 
 -- the lines of a view that cover something
-abbrev pub lines_of : View → List Line → List Line
-lines_of v ls = filter (λ l. same_view v l.of && has_length l) ls
+abbrev pub covering_lines : View → List Line → List Line
+covering_lines v ls = filter (λ l. same_view v l.of && has_length l) ls
 
 -- the least or the greatest member of a list, by what gives the lesser or the greater of two, and 0 of an empty one
 abbrev pub extreme : (ℤ → ℤ → ℤ) → List ℤ → ℤ
@@ -65,11 +65,11 @@ extreme of_two (z ∷ zs) = fold of_two z zs
 
 -- the least or the greatest right coordinate of a view's covering lines
 abbrev pub extreme_right : (ℤ → ℤ → ℤ) → View → List Line → ℤ
-extreme_right of_two v ls = extreme of_two (map (λ l. of_two l.x0 l.x1) (lines_of v ls))
+extreme_right of_two v ls = extreme of_two (map (λ l. of_two l.x0 l.x1) (covering_lines v ls))
 
 -- and up coordinate
 abbrev pub extreme_up : (ℤ → ℤ → ℤ) → View → List Line → ℤ
-extreme_up of_two v ls = extreme of_two (map (λ l. of_two l.y0 l.y1) (lines_of v ls))
+extreme_up of_two v ls = extreme of_two (map (λ l. of_two l.y0 l.y1) (covering_lines v ls))
 
 -- the least right coordinate of the segments that a view's lines cover
 abbrev pub least_right : View → List Line → ℤ

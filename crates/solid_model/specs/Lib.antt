@@ -1,4 +1,5 @@
 pub mod Lists
+pub mod Limits
 pub mod Cells
 pub mod Frames
 pub mod Edges

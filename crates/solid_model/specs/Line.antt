@@ -3,6 +3,7 @@ use Rattle.std.specs.Prelude.{◌≡◌, ◌≢◌, ◌⊎◌, ℕ, ℤ, pos, ne
 use Rattle.solid_model.specs.declared.segment.Style.{Style}
 use Rattle.solid_model.specs.declared.segment.Style.TheVariants.{Blank}
 use Rattle.solid_model.specs.declared.frame.View.{View}
+use Rattle.solid_model.specs.Limits.{farthest_on_sheet}
 
 -- a line of a view, from (x0, y0) to (x1, y1), whose entity begins at that line of its file
 pub record Line : Type 0 where
@@ -14,9 +15,9 @@ pub record Line : Type 0 where
   pub y1 : ℤ
   pub number : ℕ
 
--- a coordinate's size is at most 1,000,000,000
+-- a coordinate whose absolute value is at most 1,000,000,000
 abbrev pub IsNear : ℤ → Type 0
-IsNear k = (neg_ℤ (pos 1000000000) ≤ℤ k) × (k ≤ℤ pos 1000000000)
+IsNear k = (neg_ℤ (pos farthest_on_sheet) ≤ℤ k) × (k ≤ℤ pos farthest_on_sheet)
 
 -- what each line keeps: it is level or upright, it is drawn, and its coordinates are near
 pub record IsKept (l : Line) : Type 0 where

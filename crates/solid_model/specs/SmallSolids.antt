@@ -1,13 +1,11 @@
 -- Small solids, for drawings that are written out.
-use Rattle.std.specs.Prelude.{List, [], ◌∷◌, ℕ, ℤ, pos, negsuc}
+use Rattle.std.specs.Prelude.{List, [], ◌∷◌, ℤ, pos, negsuc}
 use Rattle.solid_model.specs.declared.cell.Cell.{Cell}
 use Rattle.solid_model.specs.declared.frame.View.{View}
 use Rattle.solid_model.specs.declared.frame.View.TheVariants.{Front, Top, Side}
 use Rattle.solid_model.specs.declared.segment.Style.{Style}
 use Rattle.solid_model.specs.declared.segment.Style.TheVariants.{Blank, Solid}
-
-abbrev pub cell_at : ℕ → ℕ → ℕ → Cell
-cell_at x y z = record { x = pos x; y = pos y; z = pos z }
+use Rattle.solid_model.specs.Cells.{cell_at}
 
 abbrev pub unit_cube : List Cell
 unit_cube = cell_at 0 0 0 ∷ []

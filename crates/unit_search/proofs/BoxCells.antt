@@ -11,7 +11,9 @@ use Rattle.solid_model.proofs.Lists.{each-from, member-pieces, member-from_piece
 use Rattle.solid_model.proofs.Fullness.{same_coordinates}
 use Rattle.solid_model.proofs.CellOrder.{LiesBefore, lies-before}
 use Rattle.unit_search.specs.declared.unit_box.UnitBox.{UnitBox}
-use Rattle.unit_search.specs.UnitBox.{most_cells, IsSmall, volume_of, extent_of, IsInBox, cell_at, row_of, layer_of, layers_of, cells_of}
+use Rattle.unit_search.specs.UnitBox.{IsSmall, volume_of, extent_of, IsInBox, row_of, level_of, levels_of, cells_of}
+use Rattle.solid_model.specs.Cells.{cell_at}
+use Rattle.solid_model.specs.Limits.{most_cells}
 
 -- ---- rows, layers and boxes
 
@@ -22,23 +24,23 @@ row-member width y z c m =
     (p.0, p.1, elim p.2 as (λ _. cell_at p.0 y z ≡ c) [ inl e ↦ e | inr none ↦ absurd none ])
 
 -- and in a layer
-layer-member : (width depth z : ℕ) (c : Cell) → Member (layer_of width depth z) c → (y : ℕ) × (y < depth) × (x : ℕ) × (x < width) × (cell_at x y z ≡ c)
+layer-member : (width depth z : ℕ) (c : Cell) → Member (level_of width depth z) c → (y : ℕ) × (y < depth) × (x : ℕ) × (x < width) × (cell_at x y z ≡ c)
 layer-member width depth z c m =
     let p = member-from_pieces (λ y. row_of width y z) depth c m in
     let q = row-member width p.0 z c p.2 in
     (p.0, p.1, q.0, q.1, q.2)
 
 -- and in a box
-box-member : (width depth height : ℕ) (c : Cell) → Member (layers_of width depth height) c → (z : ℕ) × (z < height) × (y : ℕ) × (y < depth) × (x : ℕ) × (x < width) × (cell_at x y z ≡ c)
+box-member : (width depth height : ℕ) (c : Cell) → Member (levels_of width depth height) c → (z : ℕ) × (z < height) × (y : ℕ) × (y < depth) × (x : ℕ) × (x < width) × (cell_at x y z ≡ c)
 box-member width depth height c m =
-    let p = member-from_pieces (λ z. layer_of width depth z) height c m in
+    let p = member-from_pieces (λ z. level_of width depth z) height c m in
     let q = layer-member width depth p.0 c p.2 in
     (p.0, p.1, q.0, q.1, q.2, q.3, q.4)
 
 -- each place within a box has its cell
-member-box : (width depth height x y z : ℕ) → x < width → y < depth → z < height → Member (layers_of width depth height) (cell_at x y z)
+member-box : (width depth height x y z : ℕ) → x < width → y < depth → z < height → Member (levels_of width depth height) (cell_at x y z)
 member-box width depth height x y z in_width in_depth in_height =
-    member-pieces (λ z. layer_of width depth z) height z (cell_at x y z) in_height
+    member-pieces (λ z. level_of width depth z) height z (cell_at x y z) in_height
     (member-pieces (λ y. row_of width y z) depth y (cell_at x y z) in_depth
     (member-pieces (λ x. cell_at x y z ∷ []) width x (cell_at x y z) in_width (inl refl)))
 
@@ -63,7 +65,7 @@ row-stated width y z =
     across j k a b l (inl p) (inr none) = absurd none
 
 -- a layer is in the stated form
-layer-stated : (width depth z : ℕ) → IsInStatedForm (layer_of width depth z)
+layer-stated : (width depth z : ℕ) → IsInStatedForm (level_of width depth z)
 layer-stated width depth z =
     ascends-pieces ComesBefore (λ y. row_of width y z) (λ y. row-stated width y z)
     (λ j k a b l m n.
@@ -75,7 +77,7 @@ layer-stated width depth z =
 -- the cells of a box are in the stated form
 pub cells-stated : (b : UnitBox) → IsInStatedForm (cells_of b)
 cells-stated b =
-    ascends-pieces ComesBefore (λ z. layer_of b.x b.y z) (λ z. layer-stated b.x b.y z)
+    ascends-pieces ComesBefore (λ z. level_of b.x b.y z) (λ z. layer-stated b.x b.y z)
     (λ j k a c l m n.
     let p = layer-member b.x b.y j a m in
     let q = layer-member b.x b.y k c n in

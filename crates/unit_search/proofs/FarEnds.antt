@@ -10,7 +10,8 @@ use Rattle.solid_model.specs.declared.segment.Style.TheVariants.{Blank}
 use Rattle.solid_model.specs.Boxes.{far_right, far_up}
 use Rattle.solid_model.specs.Draws.{line_of, start_of}
 use Rattle.solid_model.specs.Lists.{Member, Each}
-use Rattle.solid_model.specs.Runs.{run_covers, run_style, IsRun, DrawingRuns, view_runs, runs_along, style_in, most_far, IsDrawing}
+use Rattle.solid_model.specs.Runs.{run_covers, run_style, IsRun, DrawingRuns, view_runs, runs_along, style_in, IsDrawing}
+use Rattle.solid_model.specs.Limits.{farthest_in_view}
 use Rattle.solid_model.proofs.Lists.{each-at, each-from}
 use Rattle.solid_model.proofs.RunStyles.{covers_parts, covers_from, covering_run}
 use Rattle.solid_model.proofs.Views.{segment_at}
@@ -174,12 +175,12 @@ module _ (upwards : Bool) (d : DrawingRuns) (v : View) where
 
 -- the corner of a drawing's view lies between the origin and the farthest point
 pub corner_near : (d : DrawingRuns) → IsDrawing (style_in d) → (v : View) → KeepsRuns d v
-    → (pos 0 ≤ℤ (view_corner d v).right) × ((view_corner d v).right ≤ℤ most_far) × (pos 0 ≤ℤ (view_corner d v).up) × ((view_corner d v).up ≤ℤ most_far)
+    → (pos 0 ≤ℤ (view_corner d v).right) × ((view_corner d v).right ≤ℤ farthest_in_view) × (pos 0 ≤ℤ (view_corner d v).up) × ((view_corner d v).up ≤ℤ farthest_in_view)
 corner_near d is v runs = (
   corner_positive false d v,
-  corner_within false d v runs most_far (omega (arith, ints)) (λ g of shown. (is.near g shown).0),
+  corner_within false d v runs farthest_in_view (omega (arith, ints)) (λ g of shown. (is.near g shown).0),
   corner_positive true d v,
-  corner_within true d v runs most_far (omega (arith, ints)) (λ g of shown. (is.near g shown).1),
+  corner_within true d v runs farthest_in_view (omega (arith, ints)) (λ g of shown. (is.near g shown).1),
 )
 
 -- and the view reaches to the corner

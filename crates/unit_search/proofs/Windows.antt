@@ -22,7 +22,7 @@ use Rattle.solid_model.proofs.Styles.{HasCellBeside, cell_beside_drawn, drawn_st
 use Rattle.solid_model.proofs.UnitBox.{lies_in_unit_box}
 use Rattle.unit_search.specs.declared.demands.Demand.{Demand}
 use Rattle.unit_search.specs.declared.unit_box.UnitBox.{UnitBox}
-use Rattle.unit_search.specs.Demands.{demand_of, segment_at, row_segments, window_segments, segments_in, view_segments, segments_of, IsMet, IsNearby}
+use Rattle.unit_search.specs.Demands.{demand_of, window_segment, row_segments, window_segments, segments_in, view_segments, segments_of, IsMet, IsNearby}
 use Rattle.unit_search.specs.UnitBox.{box_with, IsUnitBox, extent_of, extent_right, extent_up, IsSmall, IsInBox}
 use Rattle.unit_search.proofs.BoxCells.{natural}
 
@@ -48,15 +48,15 @@ row-member first n g m =
     (p.0, p.1, elim p.2 as (λ _. record first { right = pos p.0 } ≡ g) [ inl e ↦ e | inr none ↦ absurd none ])
 
 -- the segments of a window begin at the places of its rows
-member-window : (v : View) (upright : Bool) (width n i j : ℕ) → i < width → j < n → Member (window_segments v upright width n) (segment_at v upright i j)
+member-window : (v : View) (upright : Bool) (width n i j : ℕ) → i < width → j < n → Member (window_segments v upright width n) (window_segment v upright i j)
 member-window v upright width n i j l m =
-    member-pieces (λ k. row_segments (segment_at v upright 0 k) width) n j (segment_at v upright i j) m (member-row (segment_at v upright 0 j) width i l)
+    member-pieces (λ k. row_segments (window_segment v upright 0 k) width) n j (window_segment v upright i j) m (member-row (window_segment v upright 0 j) width i l)
 
 -- and each is one of these
-window-member : (v : View) (upright : Bool) (width n : ℕ) (g : Segment) → Member (window_segments v upright width n) g → (i j : ℕ) × (i < width) × (j < n) × (segment_at v upright i j ≡ g)
+window-member : (v : View) (upright : Bool) (width n : ℕ) (g : Segment) → Member (window_segments v upright width n) g → (i j : ℕ) × (i < width) × (j < n) × (window_segment v upright i j ≡ g)
 window-member v upright width n g m =
-    let p = member-from_pieces (λ k. row_segments (segment_at v upright 0 k) width) n g m in
-    let q = row-member (segment_at v upright 0 p.0) width g p.2 in
+    let p = member-from_pieces (λ k. row_segments (window_segment v upright 0 k) width) n g m in
+    let q = row-member (window_segment v upright 0 p.0) width g p.2 in
     (q.0, p.0, q.1, p.1, q.2)
 
 -- the segments of a view, level or upright
@@ -86,7 +86,7 @@ pub member-segments_of : (b : UnitBox) (g : Segment) → StartsInWindow b g → 
 member-segments_of b g (left, right, bottom, top) =
     let i = natural g.right left in
     let j = natural g.up bottom in
-    let at : segment_at g.view g.upright i.0 j.0 ≡ g = λ t. record g { right = i.1 t; up = j.1 t } in
+    let at : window_segment g.view g.upright i.0 j.0 ≡ g = λ t. record g { right = i.1 t; up = j.1 t } in
     let width : i.0 < extent_right b g.view + 1 = omega (arith, ints, i.1) in
     let height : j.0 < extent_up b g.view + 1 = omega (arith, ints, j.1) in
     subst (Member (segments_of b)) at (member-all b g.view _ (member-view b g.view g.upright _
@@ -94,7 +94,7 @@ member-segments_of b g (left, right, bottom, top) =
 
 -- a segment of the window at a natural place begins in the window
 placed_starts : (b : UnitBox) (v : View) (upright : Bool) (i j : ℕ) → i < extent_right b v + 1 → j < extent_up b v + 1
-    → StartsInWindow b (segment_at v upright i j)
+    → StartsInWindow b (window_segment v upright i j)
 placed_starts b v upright i j l m = (omega (arith, ints), omega (arith, ints), omega (arith, ints), omega (arith, ints))
 
 -- and each segment demanded begins in the window
@@ -121,9 +121,9 @@ demands-row drawing old items new first n d before this pushed =
 -- one row more of a window
 pub demands-window : (drawing : Segment → Style) (old items new : List Demand) (v : View) (upright : Bool) (width n : ℕ) (first : Segment) (w : ℕ)
     → items ≡ old ++ map (demand_of drawing) (window_segments v upright width n) → new ≡ items ++ map (demand_of drawing) (row_segments first w)
-    → first ≡ segment_at v upright 0 n → w ≡ width → new ≡ old ++ map (demand_of drawing) (window_segments v upright width (n + 1))
+    → first ≡ window_segment v upright 0 n → w ≡ width → new ≡ old ++ map (demand_of drawing) (window_segments v upright width (n + 1))
 demands-window drawing old items new v upright width n first w before pushed this wide =
-    pushed ∙ ap₂ (λ ds gs. ds ++ map (demand_of drawing) gs) before (ap₂ row_segments this wide) ∙ demands-append drawing old (window_segments v upright width n) (row_segments (segment_at v upright 0 n) width)
+    pushed ∙ ap₂ (λ ds gs. ds ++ map (demand_of drawing) gs) before (ap₂ row_segments this wide) ∙ demands-append drawing old (window_segments v upright width n) (row_segments (window_segment v upright 0 n) width)
     ∙ ap (λ k. old ++ map (demand_of drawing) (window_segments v upright width k)) (sym (add-one n))
 
 -- what is demanded of the windows of a small box is near the origin

@@ -17,8 +17,8 @@ abbrev pub demand_of : (Segment → Style) → Segment → Demand
 demand_of drawing g = record { segment = g; style = drawing g }
 
 -- the level or the upright segment of a view that begins at these places
-abbrev pub segment_at : View → Bool → ℕ → ℕ → Segment
-segment_at v upright right up = record { view = v; upright = upright; right = pos right; up = pos up }
+abbrev pub window_segment : View → Bool → ℕ → ℕ → Segment
+window_segment v upright right up = record { view = v; upright = upright; right = pos right; up = pos up }
 
 -- the first segments of a segment's row, from 0 to the right
 abbrev pub row_segments : Segment → ℕ → List Segment
@@ -26,7 +26,7 @@ row_segments first width = pieces (λ right. (record first { right = pos right }
 
 -- the level or the upright segments of a view in its first rows, from 0 upwards
 abbrev pub window_segments : View → Bool → ℕ → ℕ → List Segment
-window_segments v upright width height = pieces (λ up. row_segments (segment_at v upright 0 up) width) height
+window_segments v upright width height = pieces (λ up. row_segments (window_segment v upright 0 up) width) height
 
 -- the level or the upright segments that begin in the box's window of a view
 abbrev pub segments_in : UnitBox → View → Bool → List Segment

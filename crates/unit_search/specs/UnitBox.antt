@@ -9,8 +9,9 @@ use Rattle.solid_model.specs.declared.frame.View.TheVariants.{Front, Top, Side}
 use Rattle.solid_model.specs.declared.segment.Segment.{Segment}
 use Rattle.solid_model.specs.declared.segment.Style.{Style}
 use Rattle.solid_model.specs.Boxes.{FitsIn}
-use Rattle.solid_model.specs.Cells.{coordinate}
+use Rattle.solid_model.specs.Cells.{coordinate, cell_at}
 use Rattle.solid_model.specs.Frames.{frame_of}
+use Rattle.solid_model.specs.Limits.{most_cells}
 use Rattle.solid_model.specs.Lists.{pieces}
 use Rattle.unit_search.specs.declared.unit_box.UnitBox.{UnitBox}
 
@@ -49,10 +50,6 @@ extent_right b v = extent_of (frame_of v).right.axis b
 abbrev pub extent_up : UnitBox → View → ℕ
 extent_up b v = extent_of (frame_of v).up.axis b
 
--- the greatest number of cells of a unit box whose sets are tried
-abbrev pub most_cells : ℕ
-most_cells = 12
-
 -- no extent of the box is greater than that
 abbrev pub IsSmall : UnitBox → Type 0
 IsSmall b = (a : Axis) → extent_of a b ≤ most_cells
@@ -65,22 +62,18 @@ IsInBox b c = (a : Axis) → (pos 0 ≤ℤ coordinate a c) × (coordinate a c <�
 abbrev pub first_depth_of : Direction → UnitBox → ℤ
 first_depth_of d b = if d.forward then pos 0 else neg_ℤ (pos (extent_of d.axis b))
 
--- the cell at these places
-abbrev pub cell_at : ℕ → ℕ → ℕ → Cell
-cell_at x y z = record { x = pos x; y = pos y; z = pos z }
-
 -- the first cells of a row along x
 abbrev pub row_of : ℕ → ℕ → ℕ → List Cell
 row_of width y z = pieces (λ x. cell_at x y z ∷ []) width
 
 -- the first rows of a layer, one after another along y
-abbrev pub layer_of : ℕ → ℕ → ℕ → List Cell
-layer_of width depth z = pieces (λ y. row_of width y z) depth
+abbrev pub level_of : ℕ → ℕ → ℕ → List Cell
+level_of width depth z = pieces (λ y. row_of width y z) depth
 
 -- the first layers of a box, one above another
-abbrev pub layers_of : ℕ → ℕ → ℕ → List Cell
-layers_of width depth height = pieces (λ z. layer_of width depth z) height
+abbrev pub levels_of : ℕ → ℕ → ℕ → List Cell
+levels_of width depth height = pieces (λ z. level_of width depth z) height
 
 -- the cells of a box, z slowest and x fastest
 abbrev pub cells_of : UnitBox → List Cell
-cells_of b = layers_of b.x b.y b.z
+cells_of b = levels_of b.x b.y b.z

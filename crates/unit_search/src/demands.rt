@@ -4,7 +4,8 @@ ghost use Rattle.std.specs.Prelude.{◌≡◌, ◌+◌, ◌++◌, ◌≤◌, ◌
 ghost use Rattle.solid_model.specs.Lists.{Each};
 ghost use Rattle.solid_model.specs.Runs.{style_in};
 ghost use Rattle.unit_search.specs.Demands.{demand_of, row_segments, segments_in, view_segments, segments_of, IsMet, IsNearby};
-ghost use Rattle.unit_search.specs.UnitBox.{most_cells, IsSmall, IsInBox};
+ghost use Rattle.unit_search.specs.UnitBox.{IsSmall, IsInBox};
+ghost use Rattle.solid_model.specs.Limits.{most_cells};
 
 use crate::draw::drawn_style;
 use crate::styles::segment_style;

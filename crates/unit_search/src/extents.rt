@@ -1,7 +1,8 @@
 //! How far the views of a drawing reach.
 
 ghost use Rattle.std.specs.Prelude.{◌≡◌, pos, ◌≤ℤ◌, unsigned_abs};
-ghost use Rattle.solid_model.specs.Runs.{style_in, most_far};
+ghost use Rattle.solid_model.specs.Runs.{style_in};
+ghost use Rattle.solid_model.specs.Limits.{farthest_in_view};
 ghost use Rattle.unit_search.specs.Extents.{far_end, joined, corner_of};
 ghost use Rattle.unit_search.specs.UnitBox.{ReachesTo};
 
@@ -66,8 +67,8 @@ fn corner_of(runs: &[Run], upright: bool) -> Corner
 
 /// The far corner of the rectangle from the origin in which a view of the drawing lies.
 fn view_corner(drawing: &Drawing, view: View) -> Corner
-    ensures right { (pos 0 ≤ℤ result.right) × (result.right ≤ℤ most_far) }
-    ensures up { (pos 0 ≤ℤ result.up) × (result.up ≤ℤ most_far) }
+    ensures right { (pos 0 ≤ℤ result.right) × (result.right ≤ℤ farthest_in_view) }
+    ensures up { (pos 0 ≤ℤ result.up) × (result.up ≤ℤ farthest_in_view) }
     ensures reaches { ReachesTo (style_in drawing.now) view (unsigned_abs result.right) (unsigned_abs result.up) }
 {
     let runs = drawing.view(view);

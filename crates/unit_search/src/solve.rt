@@ -4,7 +4,8 @@ ghost use Rattle.std.specs.Prelude.{◌≡◌, ◌<◌, ◌≤◌, IfOk, OnOk, I
 ghost use Rattle.solid_model.specs.Matching.{AreSolidsOf};
 ghost use Rattle.solid_model.specs.Runs.{style_in};
 ghost use Rattle.unit_search.specs.declared.unit_box.UnitBox.{UnitBox};
-ghost use Rattle.unit_search.specs.UnitBox.{IsUnitBox, IsSmall, most_cells, volume_of};
+ghost use Rattle.unit_search.specs.UnitBox.{IsUnitBox, IsSmall, volume_of};
+ghost use Rattle.solid_model.specs.Limits.{most_cells};
 
 use crate::demands::demands_of;
 use crate::sets::{Wanted, try_rest};

@@ -2,7 +2,7 @@
 
 ghost use Rattle.std.specs.Prelude.{◌≡◌, ◌++◌, ◌≤◌, IfOk, OnOk, SomeIff};
 ghost use Rattle.solid_model.specs.Runs.{style_in};
-ghost use Rattle.unit_search.specs.UnitBox.{IsUnitBox, volume_of, extent_of, first_depth_of, cells_of, layer_of, row_of};
+ghost use Rattle.unit_search.specs.UnitBox.{IsUnitBox, volume_of, extent_of, first_depth_of, cells_of, level_of, row_of};
 
 use crate::extents::extents_of;
 use solid_model::{Axis, Cell, Direction, Drawing, Memory, View};
@@ -76,7 +76,7 @@ impl UnitBox {
 
 /// Adds the cells of a layer at their height.
 fn push_layer(cells: &mut Vec<Cell>, width: u32, depth: u32, z: u32) -> Result<(), Memory>
-    ensures { OnOk result (cells.new.items ≡ cells.old.items ++ layer_of width depth z) }
+    ensures { OnOk result (cells.new.items ≡ cells.old.items ++ level_of width depth z) }
 {
     for y in 0..depth {
         push_row(cells, width, y, z)?;

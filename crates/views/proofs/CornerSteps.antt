@@ -4,7 +4,7 @@ use Rattle.std.specs.Int.{int_min}
 use Rattle.std.proofs.lemmas.Int.{ints, to_z-of_z}
 use Rattle.std.proofs.lemmas.List.{at_drop_more, at_drop_all}
 use Rattle.solid_model.specs.declared.frame.View.{View}
-use Rattle.solid_model.specs.Drawings.{same_view, has_length, lines_of, extreme, least_right, least_up}
+use Rattle.solid_model.specs.Drawings.{same_view, has_length, covering_lines, extreme, least_right, least_up}
 use Rattle.solid_model.specs.Line.{Line, IsNear}
 use Rattle.views.specs.declared.corner.Corner.{Corner}
 use Rattle.views.specs.Corners.{IsCornerOf, IsCornerOfLine, IsLeastOf}
@@ -34,12 +34,12 @@ less_in_code a b near_a near_b =
 
 -- a corner that the further lines bring to that of all lines of the view
 pub record Brings (further : List Line) (v : View) (lines : List Line) (c : Corner) : Type 0 where
-  shown : lines_of v lines ≢ []
+  shown : covering_lines v lines ≢ []
   right : fold int_min c.right (map (λ l. int_min l.x0 l.x1) further) ≡ least_right v lines
   up : fold int_min c.up (map (λ l. int_min l.y0 l.y1) further) ≡ least_up v lines
 
 -- the corner of the view's first line
-pub brings_first : (l : Line) (further : List Line) (v : View) (lines : List Line) (c : Corner) → l ∷ further ≡ lines_of v lines → IsCornerOfLine l c → Brings further v lines c
+pub brings_first : (l : Line) (further : List Line) (v : View) (lines : List Line) (c : Corner) → l ∷ further ≡ covering_lines v lines → IsCornerOfLine l c → Brings further v lines c
 brings_first l further v lines c e own = record {
   shown = λ none. cc;
   right = ap (λ z. fold int_min z (map (λ l. int_min l.x0 l.x1) further)) own.right ∙ ap (λ ms. extreme int_min (map (λ l. int_min l.x0 l.x1) ms)) e;
@@ -57,17 +57,17 @@ brings_next l further v lines a b c so_far own least = record {
 -- the view's lines among those left, by whether the next line is one of them
 pub lines_left : (v : View) (lines : List Line) (i : ℕ) (l : Line) (shows : Bool) → i < length lines → l ≡ get_or lines i l
     → (same_view v l.of && has_length l) ≡ shows
-    → lines_of v (drop i lines) ≡ cond shows (l ∷ lines_of v (drop (i + 1) lines)) (lines_of v (drop (i + 1) lines))
+    → covering_lines v (drop i lines) ≡ cond shows (l ∷ covering_lines v (drop (i + 1) lines)) (covering_lines v (drop (i + 1) lines))
 lines_left v lines i l shows within e test =
     let rest = drop (i + 1) lines in
-    at_drop_more (lines_of v) lines i l within
-    ∙ ap (λ m. lines_of v (m ∷ rest)) (sym e)
-    ∙ ap (λ t. cond t (l ∷ lines_of v rest) (lines_of v rest)) test
+    at_drop_more (covering_lines v) lines i l within
+    ∙ ap (λ m. covering_lines v (m ∷ rest)) (sym e)
+    ∙ ap (λ t. cond t (l ∷ covering_lines v rest) (covering_lines v rest)) test
 
 -- when no lines are left, the corner is that of all
 pub reached : (v : View) (lines : List Line) (i : ℕ) (o : Option Corner) → length lines ≤ i
-    → IfSome o (Brings (lines_of v (drop i lines)) v lines) → IfSome o (IsCornerOf v lines)
+    → IfSome o (Brings (covering_lines v (drop i lines)) v lines) → IfSome o (IsCornerOf v lines)
 reached v lines i None past b = tt
 reached v lines i (Some c) past b =
-    let all = subst (λ further. Brings further v lines c) (at_drop_all (lines_of v) lines i past) b in
+    let all = subst (λ further. Brings further v lines c) (at_drop_all (covering_lines v) lines i past) b in
     record { shown = all.shown; right = all.right; up = all.up }

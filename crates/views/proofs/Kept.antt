@@ -4,7 +4,7 @@ use Rattle.solid_model.specs.declared.frame.View.{View}
 use Rattle.solid_model.specs.declared.frame.View.TheVariants.{Front, Top, Side}
 use Rattle.solid_model.specs.declared.segment.Segment.{Segment}
 use Rattle.solid_model.specs.Draws.{start_of, line_of}
-use Rattle.solid_model.specs.Drawings.{lines_of, drawing_of, IsEmptyView}
+use Rattle.solid_model.specs.Drawings.{covering_lines, drawing_of, IsEmptyView}
 use Rattle.solid_model.specs.Line.{Line, IsKept}
 use Rattle.solid_model.specs.Lists.{Each}
 use Rattle.solid_model.specs.Runs.{run_style, ViewRuns, DrawingRuns, view_runs, runs_along, style_in, IsDrawing}
@@ -34,11 +34,11 @@ in_each_view P front top side Top = top
 in_each_view P front top side Side = side
 
 -- a view with a line that has length isn't empty
-pub some_shown : (ls : List Line) → Each IsKept ls → (v : View) → lines_of v ls ≢ [] → IsEmptyView ls v → ⊥
+pub some_shown : (ls : List Line) → Each IsKept ls → (v : View) → covering_lines v ls ≢ [] → IsEmptyView ls v → ⊥
 some_shown ls kept v some empty = some (empty-without_lines ls kept v empty)
 
 -- ---- a drawing
 
 -- runs that draw what a file's lines draw are a drawing, where no view is empty
-pub are_drawing : (ls : List Line) (d : DrawingRuns) → ((g : Segment) → style_in d g ≡ drawing_of ls g) → Each IsKept ls → ((v : View) → lines_of v ls ≢ []) → IsDrawing (style_in d)
+pub are_drawing : (ls : List Line) (d : DrawingRuns) → ((g : Segment) → style_in d g ≡ drawing_of ls g) → Each IsKept ls → ((v : View) → covering_lines v ls ≢ []) → IsDrawing (style_in d)
 are_drawing ls d same kept shown = subst IsDrawing (λ i g. sym (same g) i) (lines_are_drawing ls kept shown)

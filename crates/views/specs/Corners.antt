@@ -3,13 +3,13 @@ use Rattle.std.specs.Prelude.{◌≡◌, ◌≢◌, List, [], ◌+ℤ◌}
 use Rattle.std.specs.Int.{int_min}
 use Rattle.solid_model.specs.declared.frame.View.{View}
 use Rattle.solid_model.specs.declared.segment.Segment.{Segment}
-use Rattle.solid_model.specs.Drawings.{lines_of, least_right, least_up}
+use Rattle.solid_model.specs.Drawings.{covering_lines, least_right, least_up}
 use Rattle.solid_model.specs.Line.{Line}
 use Rattle.views.specs.declared.corner.Corner.{Corner}
 
 -- where the view begins, which has a line with length
 pub record IsCornerOf (v : View) (ls : List Line) (c : Corner) : Type 0 where
-  pub shown : lines_of v ls ≢ []
+  pub shown : covering_lines v ls ≢ []
   pub right : c.right ≡ least_right v ls
   pub up : c.up ≡ least_up v ls
 

@@ -25,7 +25,7 @@ fn covers_in(line: &SheetLine, view: View) -> bool
 
 impl Corner {
     ghost use Rattle.std.specs.Prelude.{◌≡◌, [], IfNone, IfSome};
-    ghost use Rattle.solid_model.specs.Drawings.{along_of, across_of, lines_of};
+    ghost use Rattle.solid_model.specs.Drawings.{along_of, across_of, covering_lines};
     ghost use Rattle.solid_model.specs.Line.{IsNear, IsKept};
     ghost use Rattle.solid_model.specs.Lists.{Each};
     ghost use Rattle.views.specs.Corners.{IsCornerOf, IsCornerOfLine, IsLeastOf};
@@ -74,7 +74,7 @@ impl Corner {
 
     /// Where the view begins; None where its lines cover nothing. Each line that is looked at is kept.
     pub fn of_view(view: View, lines: &[SheetLine]) -> Option<Corner>
-        ensures none { IfNone result (lines_of view lines.now ≡ []) }
+        ensures none { IfNone result (covering_lines view lines.now ≡ []) }
         ensures some { IfSome result (IsCornerOf view lines.now) }
         ensures kept { Each IsKept lines.now }
     {

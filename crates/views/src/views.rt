@@ -5,7 +5,7 @@ ghost use Rattle.solid_model.specs.declared.fault.Fault.{Fault};
 ghost use Rattle.solid_model.specs.declared.frame.View.{View};
 ghost use Rattle.solid_model.specs.declared.segment.Segment.{Segment};
 ghost use Rattle.solid_model.specs.Draws.{start_of, line_of};
-ghost use Rattle.solid_model.specs.Drawings.{sheet_style, lines_of, drawing_of, IsShown, IsFirstEmptyView};
+ghost use Rattle.solid_model.specs.Drawings.{sheet_style, covering_lines, drawing_of, IsShown, IsFirstEmptyView};
 ghost use Rattle.solid_model.specs.Line.{IsKept};
 ghost use Rattle.solid_model.specs.Lists.{Each};
 ghost use Rattle.solid_model.specs.Runs.{run_style, runs_along, style_in};
@@ -36,10 +36,10 @@ fn runs_along(
 fn view_lines(alloc: Global, lines: &[SheetLine], view: View) -> Result<ViewLines, Refused>
     ensures drawn { IfOk result (λ runs. (g : Segment) → g.view ≡ view
         → run_style (runs_along g.upright runs) (line_of g) (start_of g) ≡ drawing_of lines.now g) }
-    ensures shown { OnOk result (lines_of view lines.now ≢ []) }
+    ensures shown { OnOk result (covering_lines view lines.now ≢ []) }
     ensures kept { OnOk result (Each IsKept lines.now) }
     ensures fault { (fault : Fault) → IsErrOf result (Refused.Fault fault)
-        → (fault ≡ Fault.EmptyView view) × (lines_of view lines.now ≡ []) }
+        → (fault ≡ Fault.EmptyView view) × (covering_lines view lines.now ≡ []) }
 {
     let corner = Corner::of_view(view, lines).ok_or(Fault::EmptyView { view })?;
     Ok(ViewLines {

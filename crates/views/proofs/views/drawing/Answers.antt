@@ -1,7 +1,7 @@
 use Rattle.std.proofs.Common.{◌≢◌, []}
 use Rattle.std.proofs.lemmas.Result.{err_from_is_err_and}
 use Rattle.solid_model.specs.declared.frame.View.TheVariants.{Front, Top, Side}
-use Rattle.solid_model.specs.Drawings.{lines_of, IsEmptyView}
+use Rattle.solid_model.specs.Drawings.{covering_lines, IsEmptyView}
 use Rattle.solid_model.proofs.Sheets.{without_lines-empty}
 use Rattle.views.proofs.Kept.{views_draw, in_each_view, some_shown, are_drawing}
 use Rattle.views.proofs.views.drawing.Goals as goal
@@ -32,7 +32,7 @@ pub invariant_of-result : goal.invariant_of-result
 invariant_of-result c =
     let lines = c.args.lines.now in
     are_drawing lines _ (views_draw lines _ c.in_ok-front.ensures.drawn c.in_ok-top.ensures.drawn c.in_ok-side.ensures.drawn) c.in_ok-front.ensures.kept
-    (in_each_view (λ v. lines_of v lines ≢ []) c.in_ok-front.ensures.shown c.in_ok-top.ensures.shown c.in_ok-side.ensures.shown)
+    (in_each_view (λ v. covering_lines v lines ≢ []) c.in_ok-front.ensures.shown c.in_ok-top.ensures.shown c.in_ok-side.ensures.shown)
 
 pub returns-clause-drawn : goal.returns-clause-drawn
 returns-clause-drawn c =

@@ -1,6 +1,6 @@
 use Rattle.std.proofs.Common.{◌+◌, Bool, true, false, drop, take, sym, ◌∙◌, arith}
 use Rattle.std.proofs.lemmas.List.{take_more}
-use Rattle.solid_model.specs.Drawings.{lines_of}
+use Rattle.solid_model.specs.Drawings.{covering_lines}
 use Rattle.solid_model.specs.Line.{IsKept}
 use Rattle.solid_model.specs.Lists.{Each}
 use Rattle.solid_model.proofs.Lists.{each-push}
@@ -21,11 +21,11 @@ loop-line-preserved c =
     elim c.if-covers_in.branch [
       | then-covers_in+in-None w ↦
           let shown = left true (sym c.covers_in.ensures.value ∙ w.if-covers_in.true) in
-          rw w.corner-is (record { none = tt; some = brings_first l (lines_of v rest) v lines _ (sym shown ∙ (rw w.in-None.is at c.loop-line.invariant.none)) w.of_line-own.ensures; kept = kept })
+          rw w.corner-is (record { none = tt; some = brings_first l (covering_lines v rest) v lines _ (sym shown ∙ (rw w.in-None.is at c.loop-line.invariant.none)) w.of_line-own.ensures; kept = kept })
       | then-covers_in+in-Some w ↦
           let shown = left true (sym c.covers_in.ensures.value ∙ w.if-covers_in.true) in
           let so_far = rw (w.in-Some.is, shown) at c.loop-line.invariant.some in
-          rw w.corner-is (record { none = tt; some = brings_next l (lines_of v rest) v lines _ _ _ so_far w.of_line-own.ensures w.least.ensures; kept = kept })
+          rw w.corner-is (record { none = tt; some = brings_next l (covering_lines v rest) v lines _ _ _ so_far w.of_line-own.ensures w.least.ensures; kept = kept })
       | else-covers_in w ↦
           let passed = left false (sym c.covers_in.ensures.value ∙ w.if-covers_in.false) in
           rw w.corner-is (record { none = rw (← passed) c.loop-line.invariant.none; some = rw (← passed) c.loop-line.invariant.some; kept = kept })

@@ -1,5 +1,5 @@
 use Rattle.std.proofs.Common.{◌≡◌, take, drop, IfNone, IfSome}
-use Rattle.solid_model.specs.Drawings.{lines_of}
+use Rattle.solid_model.specs.Drawings.{covering_lines}
 use Rattle.solid_model.specs.Line.{IsKept}
 use Rattle.solid_model.specs.Lists.{Each}
 use Rattle.views.proofs.CornerSteps.{Brings}
@@ -7,7 +7,7 @@ use Rattle.views.proofs.corner.Corner.of_view.Given as goal
 
 abbrev pub invariant-loop-line : goal.invariant-loop-line
 invariant-loop-line l = record {
-  none : IfNone l.corner (lines_of l.view (drop l.line-index l.lines) ≡ lines_of l.view l.lines);
-  some : IfSome l.corner (Brings (lines_of l.view (drop l.line-index l.lines)) l.view l.lines);
+  none : IfNone l.corner (covering_lines l.view (drop l.line-index l.lines) ≡ covering_lines l.view l.lines);
+  some : IfSome l.corner (Brings (covering_lines l.view (drop l.line-index l.lines)) l.view l.lines);
   kept : Each IsKept (take l.line-index l.lines);
 }

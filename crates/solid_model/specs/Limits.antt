@@ -1,0 +1,26 @@
+-- The limits of a file, and of what is made of it.
+use Rattle.std.specs.Prelude.{ℕ, ℤ, pos}
+
+-- the most bytes of a file
+abbrev pub most_file_bytes : ℕ
+most_file_bytes = 16777216
+
+-- the most bytes of a text whose pairs are read, so that each of its lines has a number
+abbrev pub most_text_bytes : ℕ
+most_text_bytes = 134217728
+
+-- the most lines that are kept
+abbrev pub most_lines : ℕ
+most_lines = 100000
+
+-- the greatest absolute value of a coordinate on the sheet
+abbrev pub farthest_on_sheet : ℕ
+farthest_on_sheet = 1000000000
+
+-- the greatest coordinate of a drawing whose views begin at 0
+abbrev pub farthest_in_view : ℤ
+farthest_in_view = pos 2000000000
+
+-- the most cells of a box that is searched
+abbrev pub most_cells : ℕ
+most_cells = 12
