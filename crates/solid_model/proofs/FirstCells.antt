@@ -1,82 +1,71 @@
--- A solid that matches a file's drawing begins at 0 along each axis.
-use Rattle.std.proofs.Common.{◌≡◌, ◌≢◌, ◌⊎◌, inl, inr, Bool, true, false, List, [], ◌∷◌, ℤ, pos, ◌-ℤ◌, ◌≤ℤ◌, IsTrue, if◌then◌else◌, subst, ◌∙◌, arith}
-use Rattle.std.proofs.lemmas.Bool.{or_left}
+-- A solid begins where its drawing begins: an outermost full cell draws an outermost edge, and beside a drawn segment a cell
+-- is full.
+use Rattle.std.proofs.Common.{◌≡◌, ◌≢◌, ◌⊎◌, inl, inr, Bool, true, false, List, ℤ, pos, ◌-ℤ◌, ◌≤ℤ◌, IsTrue, if◌then◌else◌, refl, ◌∙◌, arith}
 use Rattle.std.proofs.lemmas.Int.{ints}
 use Rattle.solid_model.specs.declared.cell.Cell.{Cell}
+use Rattle.solid_model.specs.declared.frame.Frame.{Frame}
 use Rattle.solid_model.specs.declared.frame.View.{View}
 use Rattle.solid_model.specs.declared.segment.Segment.{Segment}
+use Rattle.solid_model.specs.declared.segment.Style.{Style}
 use Rattle.solid_model.specs.declared.segment.Style.TheVariants.{Blank}
 use Rattle.solid_model.specs.Boxes.{place_of}
-use Rattle.solid_model.specs.Cells.{same_cell, is_full, IsSolid}
-use Rattle.solid_model.specs.Drawings.{drawing_of}
-use Rattle.solid_model.specs.Frames.{frame_of, along, across, across_of}
-use Rattle.solid_model.specs.Line.{Line, IsKept}
-use Rattle.solid_model.specs.Lists.{Each}
-use Rattle.solid_model.specs.Matching.{Matches}
-use Rattle.solid_model.proofs.Fullness.{same_cell-itself}
-use Rattle.solid_model.proofs.Sheets.{drawing_begins, drawing_right_reached, drawing_up_reached}
+use Rattle.solid_model.specs.Cells.{is_full}
+use Rattle.solid_model.specs.Draws.{DrawsView}
+use Rattle.solid_model.specs.Frames.{IsFrame, along, across}
+use Rattle.solid_model.specs.Moved.{StandsFrom, BeginsAt}
+use Rattle.solid_model.specs.Segments.{segment_at, across_of}
 use Rattle.solid_model.proofs.Styles.{edge_not_blank, cell_beside_drawn}
 use Rattle.solid_model.proofs.UnitBox.{Least, outermost}
-use Rattle.solid_model.proofs.Views.{segment_at}
 
--- a solid has a full cell
-pub full_cell_of : (s : List Cell) → IsSolid s → (c : Cell) × IsTrue (is_full s c)
-full_cell_of [] has = absurd has
-full_cell_of (c ∷ cs) has = (c, or_left (same_cell c c) (is_full cs c) (same_cell-itself c))
+-- a segment's line isn't before a coordinate that its view stands from
+line_from : (v : View) (upright : Bool) (start line right up : ℤ)
+    → (right ≤ℤ (segment_at v upright start line).right) × (up ≤ℤ (segment_at v upright start line).up) → across_of upright right up ≤ℤ line
+line_from v true start line right up h = h.0
+line_from v false start line right up h = h.1
 
--- a segment's line is at 0 or above where its coordinates are
-line_not_below : (v : View) (upright : Bool) (i j : ℤ)
-    → (pos 0 ≤ℤ (segment_at v upright i j).right) × (pos 0 ≤ℤ (segment_at v upright i j).up) → pos 0 ≤ℤ j
-line_not_below v true i j h = h.0
-line_not_below v false i j h = h.1
+-- the cell beside a segment stands at its coordinate, or just before it
+beside : (f : Frame) (upright kind : Bool) (right up : ℤ) (c : Cell)
+    → place_of (along f kind) c ≡ (if kind then up else right)
+    → (place_of (across f kind) c ≡ (if kind then right else up)) ⊎ (place_of (across f kind) c ≡ (if kind then right else up) -ℤ pos 1)
+    → (place_of (across f upright) c ≡ across_of upright right up) ⊎ (place_of (across f upright) c ≡ across_of upright right up -ℤ pos 1)
+beside f true true right up c p q = q
+beside f true false right up c p q = inl p
+beside f false true right up c p q = inl p
+beside f false false right up c p q = q
 
-module _ (ls : List Line) (s : List Cell) (matches : Matches (drawing_of ls) s) where
-  -- the outermost edges of a matching solid are drawn
-  outermost_drawn : (v : View) (upright : Bool) (c : Cell) (full : IsTrue (is_full s c))
-      → drawing_of ls (segment_at v upright (outermost s v upright Least c full).0 (outermost s v upright Least c full).1) ≢ Blank
-  outermost_drawn v upright c full =
-      let o = outermost s v upright Least c full in
-      let g : Segment = segment_at v upright o.0 o.1 in
-      edge_not_blank s g (drawing_of ls g) (matches.1 g) o.2.depth o.2.edge
+-- a place at z or just before it, and not below z
+at_least : (a z : ℤ) → z ≤ℤ a → (a ≡ z) ⊎ (a ≡ z -ℤ pos 1) → a ≡ z
+at_least a z h (inl p) = p
+at_least a z h (inr p) = absurd (omega (arith, ints))
 
-  -- no cell of a matching solid stands at a place below 0
-  pub no_cell_below : (v : View) (upright : Bool) (c : Cell) → IsTrue (is_full s c) → pos 0 ≤ℤ place_of (across (frame_of v) upright) c
-  no_cell_below v upright c full =
-      let o = outermost s v upright Least c full in
-      let line = line_not_below v upright o.0 o.1 (drawing_begins ls (segment_at v upright o.0 o.1) (outermost_drawn v upright c full)) in
-      let inner = o.2.inner c full in
+module _ (f : Frame) (is : IsFrame f) (drawing : Segment → Style) (s : List Cell) (v : View) (draws : DrawsView f (is_full s) drawing v) where
+  -- no cell stands before the place that the view stands from
+  pub no_cell_before : (right up : ℤ) → StandsFrom drawing v right up → (upright : Bool) (c : Cell) → IsTrue (is_full s c)
+      → across_of upright right up ≤ℤ place_of (across f upright) c
+  no_cell_before right up stands upright c full =
+      let o = outermost f is s v upright Least c full in
+      let g : Segment = segment_at v upright o.start o.line in
+      let from = stands g refl (edge_not_blank f (is_full s) g (drawing g) (draws g refl) o.depth o.edge) in
+      let line = line_from v upright o.start o.line right up from in
+      let inner = o.inner c full in
       omega (arith, ints)
 
-  -- some segment of each view reaches 0
-  reached : Each IsKept ls → (upright : Bool) (g : Segment) → drawing_of ls g ≢ Blank
-      → (h : Segment) × (h.view ≡ g.view) × (drawing_of ls h ≢ Blank) × (across_of upright h.right h.up ≡ pos 0)
-  reached kept true = drawing_right_reached ls kept
-  reached kept false = drawing_up_reached ls kept
+  -- some segment of the view stands at the coordinate at which it begins
+  reached : (right up : ℤ) → BeginsAt drawing v right up → (upright : Bool)
+      → (h : Segment) × (h.view ≡ v) × (drawing h ≢ Blank) × (across_of upright h.right h.up ≡ across_of upright right up)
+  reached right up begins true = begins.at_left
+  reached right up begins false = begins.at_bottom
 
-  -- the cell beside a segment is at its coordinate, or just before it
-  beside : (v : View) (upright kind : Bool) (right up : ℤ) (c : Cell)
-      → place_of (along (frame_of v) kind) c ≡ (if kind then up else right)
-      → (place_of (across (frame_of v) kind) c ≡ (if kind then right else up)) ⊎ (place_of (across (frame_of v) kind) c ≡ (if kind then right else up) -ℤ pos 1)
-      → (place_of (across (frame_of v) upright) c ≡ across_of upright right up)
-      ⊎ (place_of (across (frame_of v) upright) c ≡ across_of upright right up -ℤ pos 1)
-  beside v true true right up c p q = q
-  beside v true false right up c p q = inl p
-  beside v false true right up c p q = inl p
-  beside v false false right up c p q = q
-
-  -- a place at 0 or just before, and not below 0
-  at_zero : (a z : ℤ) → z ≡ pos 0 → pos 0 ≤ℤ a → (a ≡ z) ⊎ (a ≡ z -ℤ pos 1) → a ≡ pos 0
-  at_zero a z e h (inl p) = p ∙ e
-  at_zero a z e h (inr p) = absurd (omega (arith, ints))
-
-  -- some cell of a matching solid stands at place 0
-  pub cell_at_zero : Each IsKept ls → (v : View) (upright : Bool) → (c : Cell) × IsTrue (is_full s c) × (place_of (across (frame_of v) upright) c ≡ pos 0)
-  cell_at_zero kept v upright =
-      let first = full_cell_of s matches.0 in
-      let o = outermost s v upright Least first.0 first.1 in
-      let r = reached kept upright (segment_at v upright o.0 o.1) (outermost_drawn v upright first.0 first.1) in
+  -- some cell stands at the place at which the view begins
+  pub cell_at_beginning : (right up : ℤ) → BeginsAt drawing v right up → (upright : Bool)
+      → (c : Cell) × IsTrue (is_full s c) × (place_of (across f upright) c ≡ across_of upright right up)
+  cell_at_beginning right up begins upright =
+      let r = reached right up begins upright in
       let h : Segment = r.0 in
-      let b = cell_beside_drawn s h (drawing_of ls h) (matches.1 h) r.2 in
-      let near = beside h.view upright h.upright h.right h.up b.0 b.2 b.3 in
-      let zero = at_zero _ (across_of upright h.right h.up) r.3 (no_cell_below h.view upright b.0 b.1) near in
-      subst (λ w. (c : Cell) × IsTrue (is_full s c) × (place_of (across (frame_of w) upright) c ≡ pos 0)) r.1 (b.0, b.1, zero)
+      let b = cell_beside_drawn f is (is_full s) h (drawing h) (draws h r.1) r.2 in
+      let near = beside f upright h.upright h.right h.up b.cell b.on_stretch b.at_line in
+      let first = no_cell_before right up begins.stands_from upright b.cell b.is_full in
+      (b.cell, b.is_full, at_place _ _ _ r.3 first near)
+    where
+      at_place : (a z w : ℤ) → z ≡ w → w ≤ℤ a → (a ≡ z) ⊎ (a ≡ z -ℤ pos 1) → a ≡ w
+      at_place a z w e h k = at_least a z (omega (arith, ints)) k ∙ e

@@ -1,18 +1,19 @@
 -- The drawing of lines that are kept is a drawing.
-use Rattle.std.proofs.Common.{◌≢◌, Bool, true, false, ◌&&◌, if◌then◌else◌, List, [], map, ℤ, pos, neg_ℤ, ◌+ℤ◌, ◌≤ℤ◌, subst, ◌∙◌, arith}
+use Rattle.std.proofs.Common.{◌≢◌, Bool, true, false, ◌&&◌, if◌then◌else◌, List, [], map, ℤ, pos, neg_ℤ, ◌+ℤ◌, ◌≤ℤ◌, subst, arith}
 use Rattle.std.specs.Int.{int_min}
 use Rattle.std.proofs.lemmas.Int.{ints, clamps}
 use Rattle.solid_model.specs.declared.frame.View.{View}
 use Rattle.solid_model.specs.declared.segment.Segment.{Segment}
 use Rattle.solid_model.specs.declared.segment.Style.TheVariants.{Blank}
-use Rattle.solid_model.specs.Boxes.{far_right, far_up}
-use Rattle.solid_model.specs.Drawings.{same_view, has_length, covering_lines, extreme, least_right, least_up, on_sheet, drawing_of}
+use Rattle.solid_model.specs.Segments.{far_right, far_up, farther}
+use Rattle.solid_model.specs.Drawings.{same_view, has_length, covering_lines, extreme, least_right, least_up, sheet_style, drawing_of}
 use Rattle.solid_model.specs.Line.{Line, IsNear, IsKept}
 use Rattle.solid_model.specs.Lists.{Member, Each}
 use Rattle.solid_model.specs.Runs.{IsDrawing}
 use Rattle.solid_model.specs.Limits.{farthest_in_view}
 use Rattle.solid_model.proofs.Lists.{each-at, member-map, member-from_map, member-from_filter}
-use Rattle.solid_model.proofs.Sheets.{least_member_of, drawn_line, covered_from_style, with_lines-drawn, drawing_begins, drawing_right_reached, drawing_up_reached}
+use Rattle.solid_model.proofs.Moved.{moved_begins}
+use Rattle.solid_model.proofs.Sheets.{least_member_of, drawn_line, covered_from_style, lines_moved}
 
 -- ---- nothing lies too far out
 
@@ -41,7 +42,7 @@ lesser_near a b near_a near_b = omega (arith, ints, clamps, near_a.0, near_b.0)
 -- nothing of a file's drawing lies farther out than 2,000,000,000
 drawing_near : (ls : List Line) → Each IsKept ls → (g : Segment) → drawing_of ls g ≢ Blank → (far_right g ≤ℤ farthest_in_view) × (far_up g ≤ℤ farthest_in_view)
 drawing_near ls kept g drawn =
-    let s : Segment = on_sheet ls g in
+    let s : Segment = farther (least_right g.view ls) (least_up g.view ls) g in
     let m = drawn_line ls s (covered_from_style _ _ drawn) in
     let own = each-at IsKept ls m.0 kept (member-from_filter (λ (n : Line). same_view g.view n.of && has_length n) ls m.0 m.1).0 in
     let right : far_right s ≤ℤ pos 1000000000 = omega (arith, ints, clamps, m.2.right, own.near_x0.1, own.near_x1.1) in
@@ -55,14 +56,6 @@ drawing_near ls kept g drawn =
 -- where each view has a line with length, the lines have the drawing of three views
 pub lines_are_drawing : (ls : List Line) → Each IsKept ls → ((v : View) → covering_lines v ls ≢ []) → IsDrawing (drawing_of ls)
 lines_are_drawing ls kept shown = record {
-  begins = drawing_begins ls;
-  left = λ v.
-      let some = with_lines-drawn ls kept v (shown v) in
-      let m = drawing_right_reached ls kept some.0 some.2 in
-      (m.0, m.1 ∙ some.1, m.2, m.3);
-  bottom = λ v.
-      let some = with_lines-drawn ls kept v (shown v) in
-      let m = drawing_up_reached ls kept some.0 some.2 in
-      (m.0, m.1 ∙ some.1, m.2, m.3);
+  begins = λ v. moved_begins (sheet_style ls) (drawing_of ls) v (lines_moved ls kept v (shown v));
   near = drawing_near ls kept;
 }

@@ -6,9 +6,11 @@ pub mod SolidOrder
 pub mod Views
 pub mod Styles
 pub mod UnitBox
+pub mod Moved
 pub mod Sheets
 pub mod KeptDrawings
 pub mod FirstCells
+pub mod Matched
 pub mod Parts
 pub mod SetsInOrder
 pub mod MaximalStretches

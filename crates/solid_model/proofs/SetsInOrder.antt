@@ -4,7 +4,7 @@ use Rattle.std.proofs.lemmas.List.{append-nil}
 use Rattle.solid_model.specs.declared.cell.Cell.{Cell}
 use Rattle.solid_model.specs.Cells.{is_full}
 use Rattle.solid_model.specs.Lists.{Member, Each}
-use Rattle.solid_model.specs.Orders.{ComesBefore, IsInStatedForm, Precedes}
+use Rattle.solid_model.specs.Orders.{ComesBefore, IsInStatedForm, SolidPrecedes}
 use Rattle.solid_model.proofs.Lists.{member-append, member-append_left, member-append_right, each-at, each-weaker, each-append, ascends-append, ascends-append_right, ascends-append_across, ascends-without}
 use Rattle.solid_model.proofs.Fullness.{member-is_full, not_member-is_empty, is_full-append}
 use Rattle.solid_model.proofs.CellOrder.{before_one_way, not_before_itself}
@@ -62,7 +62,7 @@ module _ (chosen : List Cell) (c : Cell) (rest : List Cell) where
         or_false false = refl
 
     -- a set that has the cell precedes one that doesn't
-    with_precedes : (s t : List Cell) → IsSetOf (chosen ++ c ∷ []) rest s → IsSetOf chosen rest t → Precedes s t
+    with_precedes : (s t : List Cell) → IsSetOf (chosen ++ c ∷ []) rest s → IsSetOf chosen rest t → SolidPrecedes s t
     with_precedes s t with without = (
       c,
       full_with s with,
@@ -74,7 +74,7 @@ module _ (chosen : List Cell) (c : Cell) (rest : List Cell) where
     pub sets-both : (P : List Cell → Type 0) (full empty : List (List Cell)) → AreSetsThat P (chosen ++ c ∷ []) rest full → AreSetsThat P chosen rest empty → AreSetsThat P chosen (c ∷ rest) (full ++ empty)
     sets-both P full empty h k = record {
       each = each-append Found full empty (each-weaker FoundWith Found full (λ s f. (f.0, set_with s f.1)) h.each) (each-weaker FoundWithout Found empty (λ s f. (f.0, set_without s f.1)) k.each);
-      ordered = ascends-append Precedes full empty h.ordered k.ordered (each-weaker FoundWith (λ s. Each (Precedes s) empty) full (λ s f. each-weaker FoundWithout (Precedes s) empty (λ t g. with_precedes s t f.1 g.1) k.each) h.each);
+      ordered = ascends-append SolidPrecedes full empty h.ordered k.ordered (each-weaker FoundWith (λ s. Each (SolidPrecedes s) empty) full (λ s f. each-weaker FoundWithout (SolidPrecedes s) empty (λ t g. with_precedes s t f.1 g.1) k.each) h.each);
       complete = λ s set holds. at s holds (set_by_cell s set);
     }
       where

@@ -1,5 +1,5 @@
 -- Where the lines of a sheet begin, and what they cover there.
-use Rattle.std.proofs.Common.{◌≡◌, ◌≢◌, ◌⊎◌, inl, inr, ⊎_elim, Bool, true, false, not, ◌&&◌, ◌||◌, cond, List, [], ◌∷◌, map, ℤ, pos, ◌+ℤ◌, ◌-ℤ◌, ◌≤ℤ◌, ◌<ℤ◌, int_lt, int_le, IsTrue, if◌then◌else◌, fold, int_eq, refl, ap, sym, subst, ◌∙◌, arith}
+use Rattle.std.proofs.Common.{◌≡◌, ◌≢◌, ◌⊎◌, inl, inr, ⊎_elim, Bool, true, false, not, ◌&&◌, ◌||◌, cond, List, [], ◌∷◌, map, ℤ, pos, ◌+ℤ◌, ◌≤ℤ◌, ◌<ℤ◌, int_lt, int_le, IsTrue, if◌then◌else◌, fold, int_eq, refl, ap, sym, subst, ◌∙◌, arith}
 use Rattle.std.specs.Int.{int_min, int_max}
 use Rattle.std.proofs.lemmas.Bool.{false≢true, both_ways, and_parts, and_from, or_cases, or_left, or_right, not-true, not_from_false, false_from_ne_true, and_left, and_right}
 use Rattle.std.proofs.lemmas.Bool.Decides.{Decides-int_eq}
@@ -9,13 +9,14 @@ use Rattle.solid_model.specs.declared.frame.View.TheVariants.{Front, Top, Side}
 use Rattle.solid_model.specs.declared.segment.Segment.{Segment}
 use Rattle.solid_model.specs.declared.segment.Style.{Style}
 use Rattle.solid_model.specs.declared.segment.Style.TheVariants.{Blank, Dashed, Solid}
-use Rattle.solid_model.specs.Boxes.{far_right, far_up}
-use Rattle.solid_model.specs.Draws.{line_of}
-use Rattle.solid_model.specs.Drawings.{same_view, same_style, along_of, across_of, is_between, covers, is_covered, has_length, covering_lines, extreme, least_right, least_up, is_shown, on_sheet, drawing_of, IsEmptyView}
+use Rattle.solid_model.specs.Drawings.{same_view, same_style, is_between, covers, is_covered, has_length, covering_lines, extreme, least_right, least_up, is_shown, sheet_style, drawing_of, IsEmptyView}
+use Rattle.solid_model.specs.Segments.{along_of, across_of, line_of, far_right, far_up, farther}
 use Rattle.solid_model.specs.Line.{Line, IsKept}
 use Rattle.solid_model.specs.Lists.{Member, Each}
+use Rattle.solid_model.specs.Moved.{StandsFrom, BeginsAt, IsMovedToZero}
 use Rattle.solid_model.proofs.ListPlaces.{contains-member, all-each}
 use Rattle.solid_model.proofs.Lists.{each-at, member-map, member-from_map, member-filter, member-from_filter}
+use Rattle.solid_model.proofs.Moved.{moved_to_zero, moved_stands}
 
 -- ---- the least of a list
 
@@ -284,7 +285,11 @@ empty-without_lines ls kept v empty = by (covering_lines v ls) refl
         let first = first_drawn ls kept v l (subst (λ ns. Member ns l) (sym e) (inl refl)) in
         absurd (empty first.0 first.1.0 first.1.1)
 
--- ---- the shifted views
+-- a view that isn't empty has a line with length
+pub some_line : (ls : List Line) (v : View) → (IsEmptyView ls v → ⊥) → covering_lines v ls ≢ []
+some_line ls v shown none = shown (without_lines-empty ls v none)
+
+-- ---- where what is drawn on the sheet begins
 
 -- a segment that isn't blank is covered
 pub covered_from_style : (solid dashed : Bool) → (if solid then Solid else (if dashed then Dashed else Blank)) ≢ Blank → (solid || dashed) ≡ true
@@ -297,55 +302,38 @@ style_from_covered true dashed e = λ p. cc
 style_from_covered false true e = λ p. cc
 style_from_covered false false e = absurd (false≢true e)
 
--- the segment of a shifted view that is a segment of the sheet
-abbrev off_sheet : List Line → Segment → Segment
-off_sheet ls h = record h { right = h.right -ℤ least_right h.view ls; up = h.up -ℤ least_up h.view ls }
-
-on_sheet-off_sheet : (ls : List Line) (h : Segment) → on_sheet ls (off_sheet ls h) ≡ h
-on_sheet-off_sheet ls h =
-    let p : (h.right -ℤ least_right h.view ls) +ℤ least_right h.view ls ≡ h.right = omega (arith, ints) in
-    let q : (h.up -ℤ least_up h.view ls) +ℤ least_up h.view ls ≡ h.up = omega (arith, ints) in
-    λ i. record h { right = p i; up = q i }
-
--- nothing of a file's drawing has a coordinate below 0
-pub drawing_begins : (ls : List Line) (g : Segment) → drawing_of ls g ≢ Blank → (pos 0 ≤ℤ g.right) × (pos 0 ≤ℤ g.up)
-drawing_begins ls g drawn =
-    let p = none_before ls (on_sheet ls g) (covered_from_style _ _ drawn) in
-    (omega (arith, ints), omega (arith, ints))
-
--- what is drawn on the sheet is drawn in the shifted view
-drawn_off_sheet : (ls : List Line) (h : Segment) → is_shown ls h ≡ true → drawing_of ls (off_sheet ls h) ≢ Blank
-drawn_off_sheet ls h e = style_from_covered _ _ (ap (is_shown ls) (on_sheet-off_sheet ls h) ∙ e)
+-- nothing stands to the left of a view's least right coordinate or below its least up coordinate
+pub sheet_stands_from : (ls : List Line) (v : View) → StandsFrom (sheet_style ls) v (least_right v ls) (least_up v ls)
+sheet_stands_from ls v g of drawn =
+    subst (λ w. (least_right w ls ≤ℤ g.right) × (least_up w ls ≤ℤ g.up)) of (none_before ls g (covered_from_style _ _ drawn))
 
 -- a view that has a line with length shows something
-pub with_lines-drawn : (ls : List Line) → Each IsKept ls → (v : View) → covering_lines v ls ≢ []
-    → (g : Segment) × (g.view ≡ v) × (drawing_of ls g ≢ Blank)
-with_lines-drawn ls kept v some = by (covering_lines v ls) refl
+shown_by_lines : (ls : List Line) → Each IsKept ls → (v : View) → covering_lines v ls ≢ [] → (g : Segment) × (g.view ≡ v) × IsTrue (is_shown ls g)
+shown_by_lines ls kept v some = by (covering_lines v ls) refl
   where
-    by : (ms : List Line) → covering_lines v ls ≡ ms → (g : Segment) × (g.view ≡ v) × (drawing_of ls g ≢ Blank)
+    by : (ms : List Line) → covering_lines v ls ≡ ms → (g : Segment) × (g.view ≡ v) × IsTrue (is_shown ls g)
     by [] e = absurd (some e)
     by (l ∷ ms) e =
         let first = first_drawn ls kept v l (subst (λ ns. Member ns l) (sym e) (inl refl)) in
-        (off_sheet ls first.0, first.1.0, drawn_off_sheet ls first.0 first.1.1)
+        (first.0, first.1.0, first.1.1)
 
--- a drawn segment with the view's least of a coordinate has that coordinate 0 in the shifted view
-reached_off_sheet : (coordinate : Segment → ℤ) (least_of : View → List Line → ℤ) (ls : List Line)
-    → ((h : Segment) → coordinate (off_sheet ls h) ≡ coordinate h -ℤ least_of h.view ls) → (g : Segment)
-    → (h : Segment) × (h.view ≡ g.view) × IsTrue (is_shown ls h) × (coordinate h ≡ least_of g.view ls)
-    → (h : Segment) × (h.view ≡ g.view) × (drawing_of ls h ≢ Blank) × (coordinate h ≡ pos 0)
-reached_off_sheet coordinate least_of ls shifts g m =
-    let same : least_of m.0.view ls ≡ least_of g.view ls = ap (λ v. least_of v ls) m.1 in
-    let zero : coordinate m.0 -ℤ least_of m.0.view ls ≡ pos 0 = omega (arith, ints, same, m.3) in
-    (off_sheet ls m.0, m.1, drawn_off_sheet ls m.0 m.2, shifts m.0 ∙ zero)
+-- and begins at its least coordinates
+pub sheet_begins : (ls : List Line) → Each IsKept ls → (v : View) → covering_lines v ls ≢ [] → BeginsAt (sheet_style ls) v (least_right v ls) (least_up v ls)
+sheet_begins ls kept v some =
+    let g = shown_by_lines ls kept v some in
+    let left = right_reached ls kept g.0 g.2 in
+    let bottom = up_reached ls kept g.0 g.2 in
+    record {
+      stands_from = sheet_stands_from ls v;
+      at_left = (left.0, left.1 ∙ g.1, style_from_covered _ _ left.2, left.3 ∙ ap (λ w. least_right w ls) g.1);
+      at_bottom = (bottom.0, bottom.1 ∙ g.1, style_from_covered _ _ bottom.2, bottom.3 ∙ ap (λ w. least_up w ls) g.1);
+    }
 
--- where a view of the drawing isn't blank, some segment of it has right coordinate 0
-pub drawing_right_reached : (ls : List Line) → Each IsKept ls → (g : Segment) → drawing_of ls g ≢ Blank
-    → (h : Segment) × (h.view ≡ g.view) × (drawing_of ls h ≢ Blank) × (h.right ≡ pos 0)
-drawing_right_reached ls kept g drawn =
-    reached_off_sheet (λ h. h.right) least_right ls (λ h. refl) g (right_reached ls kept (on_sheet ls g) (covered_from_style _ _ drawn))
+-- so the drawing of lines is what they show on the sheet, moved to least coordinates 0
+pub lines_moved : (ls : List Line) → Each IsKept ls → (v : View) → covering_lines v ls ≢ [] → IsMovedToZero (sheet_style ls) (drawing_of ls) v
+lines_moved ls kept v some = moved_to_zero (λ w. least_right w ls) (λ w. least_up w ls) (sheet_style ls) v (sheet_begins ls kept v some)
 
--- and some segment of it has up coordinate 0
-pub drawing_up_reached : (ls : List Line) → Each IsKept ls → (g : Segment) → drawing_of ls g ≢ Blank
-    → (h : Segment) × (h.view ≡ g.view) × (drawing_of ls h ≢ Blank) × (h.up ≡ pos 0)
-drawing_up_reached ls kept g drawn =
-    reached_off_sheet (λ h. h.up) least_up ls (λ h. refl) g (up_reached ls kept (on_sheet ls g) (covered_from_style _ _ drawn))
+-- nothing of it stands below 0
+pub drawing_stands_from : (ls : List Line) (v : View) → StandsFrom (drawing_of ls) v (pos 0) (pos 0)
+drawing_stands_from ls v = moved_stands (least_right v ls) (least_up v ls) (sheet_style ls) (drawing_of ls) v (sheet_stands_from ls v)
+    (λ g of t. sheet_style ls (farther (least_right (of t) ls) (least_up (of t) ls) g))

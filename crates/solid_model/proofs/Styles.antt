@@ -1,23 +1,25 @@
 -- The styles that a solid draws: each segment has exactly one, it can be computed, and the list's order doesn't matter.
-use Rattle.std.proofs.Common.{◌≡◌, ◌≢◌, ◌⊎◌, inl, inr, ⊎_elim, Bool, true, false, not, ◌&&◌, List, [], ◌∷◌, ℤ, pos, ◌+ℤ◌, ◌-ℤ◌, int_lt, IsTrue, if◌then◌else◌, Decides, refl, ap, ap₂, sym, subst, ◌∙◌, arith}
+use Rattle.std.proofs.Common.{◌≡◌, ◌≢◌, ◌⊎◌, inl, inr, ⊎_elim, Bool, true, false, not, List, [], ◌∷◌, ℤ, pos, ◌+ℤ◌, ◌-ℤ◌, int_lt, IsTrue, if◌then◌else◌, Decides, refl, ap, sym, subst, ◌∙◌, arith}
 use Rattle.std.specs.List.{list_any}
 use Rattle.std.proofs.lemmas.Bool.{false≢true, both_ways, and_parts, and_from, or_cases, or_left, or_right, not-true, not_from_false, true_from_ne_false}
 use Rattle.std.proofs.lemmas.Int.{ints}
-use Rattle.solid_model.specs.declared.cell.Axis.{Axis}
 use Rattle.solid_model.specs.declared.cell.Cell.{Cell}
+use Rattle.solid_model.specs.declared.frame.Frame.{Frame}
 use Rattle.solid_model.specs.declared.segment.Segment.{Segment}
 use Rattle.solid_model.specs.declared.segment.Style.{Style}
 use Rattle.solid_model.specs.declared.segment.Style.TheVariants.{Blank, Dashed, Solid}
 use Rattle.solid_model.specs.Boxes.{place_of}
-use Rattle.solid_model.specs.Cells.{cell_before, is_full, SameCells}
-use Rattle.solid_model.specs.Draws.{start_of, line_of, cell_in, edge_point, has_edge, is_inside, IsHidden, Draws}
+use Rattle.solid_model.specs.Cells.{is_full}
+use Rattle.solid_model.specs.Columns.{cell_in, column_at}
+use Rattle.solid_model.specs.Draws.{has_edge, is_inside, IsHidden, Draws}
 use Rattle.solid_model.specs.DrawnStyle.{cell_depths, side_depths, hides, is_hidden, is_seen, drawn_style}
-use Rattle.solid_model.specs.Edges.{second_axis, third_axis, is_edge, is_edge_of}
-use Rattle.solid_model.specs.Frames.{frame_of, along, across}
+use Rattle.solid_model.specs.Edges.{is_edge_of}
+use Rattle.solid_model.specs.Frames.{IsFrame, along, across}
 use Rattle.solid_model.specs.Lists.{Member}
+use Rattle.solid_model.specs.Segments.{start_of, line_of}
 use Rattle.solid_model.proofs.Fullness.{is_full-member}
 use Rattle.solid_model.proofs.Lists.{member-append_left, member-append_right, member-map}
-use Rattle.solid_model.proofs.Views.{is_full_at, has_edge_is, places_of_cell_in}
+use Rattle.solid_model.proofs.Views.{has_edge_is, places_of_cell_in}
 
 -- ---- a test that some member of a list passes
 
@@ -33,7 +35,7 @@ any_from_member p [] x k e = absurd k
 any_from_member p (y ∷ xs) x (inl h) e = or_left (p y) (list_any p xs) (ap p h ∙ e)
 any_from_member p (y ∷ xs) x (inr k) e = or_right (p y) (list_any p xs) (any_from_member p xs x k e)
 
--- ---- edges and inside places stand at the depths of full cells
+-- ---- one style
 
 -- round an edge at least one cell is full
 pub full_beside_edge : (a b c d : Bool) → is_edge_of a b c d ≡ true → ((a ≡ true) ⊎ (b ≡ true)) ⊎ ((c ≡ true) ⊎ (d ≡ true))
@@ -43,156 +45,140 @@ full_beside_edge false false true d e = inr (inl refl)
 full_beside_edge false false false true e = inr (inr refl)
 full_beside_edge false false false false e = absurd (false≢true e)
 
--- the depth of a full cell beside the sight line is a depth of the solid's cells
-pub full_at_cell_depth : (s : List Cell) (g : Segment) (j k : ℤ) → is_full_at s g j k ≡ true → Member (cell_depths g.view s) k
-full_at_cell_depth s g j k e =
-    let c : Cell = cell_in (frame_of g.view) g.upright (start_of g) j k in
-    let at = (places_of_cell_in g.view g.upright (start_of g) j k).2 in
-    subst (Member (cell_depths g.view s)) at (member-map (place_of (frame_of g.view).away) s c (is_full-member s c e))
+module _ (f : Frame) (full : Cell → Bool) (g : Segment) where
+  -- two different styles aren't both drawn
+  not_both : Draws f full g Blank → (k : ℤ) × IsTrue (has_edge f full g k) → ⊥
+  not_both blank edge = blank edge.0 edge.1
 
--- a depth inside the solid is a depth of its cells
-pub inside_at_cell_depth : (s : List Cell) (g : Segment) (k : ℤ) → is_inside s g k ≡ true → Member (cell_depths g.view s) k
-inside_at_cell_depth s g k e = full_at_cell_depth s g (line_of g) k (and_parts _ _ e).0
+  -- a solid and a dashed style aren't both drawn
+  not_hidden_and_seen : Draws f full g Dashed → Draws f full g Solid → ⊥
+  not_hidden_and_seen dashed solid = solid.2 (dashed.1 solid.0 solid.1)
 
--- a near side of a cell
-near_side : (s : List Cell) (g : Segment) (j k : ℤ) → is_full_at s g j k ≡ true → Member (side_depths g.view s) k
-near_side s g j k e = member-append_left _ _ k (full_at_cell_depth s g j k e)
+  -- a segment has no two styles
+  pub one_style : (a b : Style) → Draws f full g a → Draws f full g b → a ≡ b
+  one_style Blank Blank h k = refl
+  one_style Blank Dashed h k = absurd (not_both h k.0)
+  one_style Blank Solid h k = absurd (not_both h (k.0, k.1))
+  one_style Dashed Blank h k = absurd (not_both k h.0)
+  one_style Dashed Dashed h k = refl
+  one_style Dashed Solid h k = absurd (not_hidden_and_seen h k)
+  one_style Solid Blank h k = absurd (not_both k (h.0, h.1))
+  one_style Solid Dashed h k = absurd (not_hidden_and_seen k h)
+  one_style Solid Solid h k = refl
 
--- a far side of a cell
-far_side : (s : List Cell) (g : Segment) (j k : ℤ) → is_full_at s g j (k -ℤ pos 1) ≡ true → Member (side_depths g.view s) k
-far_side s g j k e =
-    let back : (k -ℤ pos 1) +ℤ pos 1 ≡ k = omega (arith, ints) in
-    let depth = full_at_cell_depth s g j (k -ℤ pos 1) e in
-    member-append_right (cell_depths g.view s) _ k (subst (Member _) back (member-map (λ n. n +ℤ pos 1) (cell_depths g.view s) (k -ℤ pos 1) depth))
+  -- a segment on which an edge projects isn't blank
+  pub edge_not_blank : (style : Style) → Draws f full g style → (k : ℤ) → IsTrue (has_edge f full g k) → style ≢ Blank
+  edge_not_blank style d k e blank = (subst (Draws f full g) blank d) k e
 
--- an edge stands at the near or the far side of a cell
-pub edge_at_side_depth : (s : List Cell) (g : Segment) (k : ℤ) → has_edge s g k ≡ true → Member (side_depths g.view s) k
-edge_at_side_depth s g k e =
-    let C : Type 0 = Member (side_depths g.view s) k in
-    ⊎_elim {C = C} (⊎_elim {C = C} (near_side s g (line_of g) k) (near_side s g (line_of g -ℤ pos 1) k))
-    (⊎_elim {C = C} (far_side s g (line_of g) k) (far_side s g (line_of g -ℤ pos 1) k))
-    (full_beside_edge _ _ _ _ (sym (has_edge_is s g k) ∙ e))
+  -- on a segment that isn't blank an edge projects
+  pub edge_from_drawn : (style : Style) → Draws f full g style → style ≢ Blank → (k : ℤ) × IsTrue (has_edge f full g k)
+  edge_from_drawn Blank d drawn = absurd (drawn refl)
+  edge_from_drawn Dashed d drawn = d.0
+  edge_from_drawn Solid d drawn = (d.0, d.1)
+
+-- solids with the same full cells draw the same
+pub same_drawing : (f : Frame) (full other : Cell → Bool) → ((c : Cell) → full c ≡ other c) → (g : Segment) (style : Style) → Draws f full g style → Draws f other g style
+same_drawing f full other same g style d = subst (λ x. Draws f x g style) (λ t c. same c t) d
+
+-- ---- cells beside a drawn segment
+
+module _ (f : Frame) (is : IsFrame f) (full : Cell → Bool) (g : Segment) where
+  -- a full cell beside the segment: on its stretch, on its line or just before
+  pub record HasCellBeside : Type 0 where
+    pub cell : Cell
+    pub is_full : IsTrue (full cell)
+    pub on_stretch : place_of (along f g.upright) cell ≡ start_of g
+    pub at_line : (place_of (across f g.upright) cell ≡ line_of g) ⊎ (place_of (across f g.upright) cell ≡ line_of g -ℤ pos 1)
+
+  cell_beside : (j k : ℤ) → (j ≡ line_of g) ⊎ (j ≡ line_of g -ℤ pos 1) → column_at f full g j k ≡ true → HasCellBeside
+  cell_beside j k on e =
+      let at = places_of_cell_in f is g.upright (start_of g) j k in
+      record {
+        cell = cell_in f g.upright (start_of g) j k;
+        is_full = e;
+        on_stretch = at.along_is;
+        at_line = ⊎_elim (λ h. inl (at.across_is ∙ h)) (λ h. inr (at.across_is ∙ h)) on;
+      }
+
+  -- beside a segment that isn't blank a cell is full
+  pub cell_beside_drawn : (style : Style) → Draws f full g style → style ≢ Blank → HasCellBeside
+  cell_beside_drawn style d drawn =
+      let edge = edge_from_drawn f full g style d drawn in
+      let k = edge.0 in
+      let C : Type 0 = HasCellBeside in
+      ⊎_elim {C = C}
+      (⊎_elim {C = C} (cell_beside (line_of g) k (inl refl)) (cell_beside (line_of g -ℤ pos 1) k (inr refl)))
+      (⊎_elim {C = C} (cell_beside (line_of g) (k -ℤ pos 1) (inl refl)) (cell_beside (line_of g -ℤ pos 1) (k -ℤ pos 1) (inr refl)))
+      (full_beside_edge _ _ _ _ (sym (has_edge_is f is full g k) ∙ edge.1))
 
 -- ---- the computed style is drawn
 
--- the test for a hidden edge is right
-pub Decides-is_hidden : (s : List Cell) (g : Segment) (k : ℤ) → Decides (is_hidden s g k) (IsHidden s g k)
-Decides-is_hidden s g k = (λ e. there (passing_member (hides s g k) (cell_depths g.view s) e), back)
-  where
-    there : (n : ℤ) × Member (cell_depths g.view s) n × (hides s g k n ≡ true) → IsHidden s g k
-    there h = let parts = and_parts (int_lt h.0 k) (is_inside s g h.0) h.2 in (h.0, omega (arith, ints, parts.0), parts.1)
+module _ (f : Frame) (is : IsFrame f) (s : List Cell) (g : Segment) where
+  -- the depth of a full cell beside the sight line is a depth of the solid's cells
+  pub full_at_cell_depth : (j k : ℤ) → column_at f (is_full s) g j k ≡ true → Member (cell_depths f s) k
+  full_at_cell_depth j k e =
+      let c : Cell = cell_in f g.upright (start_of g) j k in
+      let at = (places_of_cell_in f is g.upright (start_of g) j k).away_is in
+      subst (Member (cell_depths f s)) at (member-map (place_of f.away) s c (is_full-member s c e))
 
-    back : IsHidden s g k → is_hidden s g k ≡ true
-    back h = any_from_member (hides s g k) (cell_depths g.view s) h.0 (inside_at_cell_depth s g h.0 h.2)
-        (and_from (int_lt h.0 k) (is_inside s g h.0) (let nearer = h.1 in grind (arith, ints)) h.2)
+  -- a depth inside the solid is a depth of its cells
+  inside_at_cell_depth : (k : ℤ) → is_inside f (is_full s) g k ≡ true → Member (cell_depths f s) k
+  inside_at_cell_depth k e = full_at_cell_depth (line_of g) k (and_parts _ _ e).0
 
--- an edge that isn't hidden is seen
-pub seen_from : (s : List Cell) (g : Segment) (k : ℤ) → has_edge s g k ≡ true → is_hidden s g k ≡ false → is_seen s g k ≡ true
-seen_from s g k e h = and_from (has_edge s g k) (not (is_hidden s g k)) e (not_from_false (is_hidden s g k) h)
+  -- a near side of a cell
+  near_side : (j k : ℤ) → column_at f (is_full s) g j k ≡ true → Member (side_depths f s) k
+  near_side j k e = member-append_left _ _ k (full_at_cell_depth j k e)
 
--- where no edge is seen, each is hidden
-all_hidden : (s : List Cell) (g : Segment) → list_any (is_seen s g) (side_depths g.view s) ≡ false
-    → (k : ℤ) → has_edge s g k ≡ true → IsHidden s g k
-all_hidden s g none k e = (Decides-is_hidden s g k).0 (true_from_ne_false (is_hidden s g k) (λ h.
-    both_ways (list_any (is_seen s g) (side_depths g.view s)) none
-    (any_from_member (is_seen s g) (side_depths g.view s) k (edge_at_side_depth s g k e) (seen_from s g k e h))))
+  -- a far side of a cell
+  far_side : (j k : ℤ) → column_at f (is_full s) g j (k -ℤ pos 1) ≡ true → Member (side_depths f s) k
+  far_side j k e =
+      let back : (k -ℤ pos 1) +ℤ pos 1 ≡ k = omega (arith, ints) in
+      let depth = full_at_cell_depth j (k -ℤ pos 1) e in
+      member-append_right (cell_depths f s) _ k (subst (Member _) back (member-map (λ n. n +ℤ pos 1) (cell_depths f s) (k -ℤ pos 1) depth))
 
--- what is seen of a segment settles its style
-style_by : (s : List Cell) (g : Segment) (seen some : Bool) → list_any (is_seen s g) (side_depths g.view s) ≡ seen
-    → list_any (has_edge s g) (side_depths g.view s) ≡ some → Draws s g (if seen then Solid else (if some then Dashed else Blank))
-style_by s g true some p q =
-    let m = passing_member (is_seen s g) (side_depths g.view s) p in
-    let parts = and_parts (has_edge s g m.0) (not (is_hidden s g m.0)) m.2 in
-    (m.0, parts.0, λ h. both_ways (is_hidden s g m.0) (not-true (is_hidden s g m.0) parts.1) ((Decides-is_hidden s g m.0).1 h))
-style_by s g false true p q =
-    let m = passing_member (has_edge s g) (side_depths g.view s) q in
-    ((m.0, m.2), λ k e. all_hidden s g p k e)
-style_by s g false false p q = λ k e.
-    both_ways (list_any (has_edge s g) (side_depths g.view s)) q (any_from_member (has_edge s g) (side_depths g.view s) k (edge_at_side_depth s g k e) e)
+  -- an edge stands at the near or the far side of a cell
+  edge_at_side_depth : (k : ℤ) → has_edge f (is_full s) g k ≡ true → Member (side_depths f s) k
+  edge_at_side_depth k e =
+      let C : Type 0 = Member (side_depths f s) k in
+      ⊎_elim {C = C} (⊎_elim {C = C} (near_side (line_of g) k) (near_side (line_of g -ℤ pos 1) k))
+      (⊎_elim {C = C} (far_side (line_of g) k) (far_side (line_of g -ℤ pos 1) k))
+      (full_beside_edge _ _ _ _ (sym (has_edge_is f is (is_full s) g k) ∙ e))
 
--- the computed style is drawn
-pub drawn_style_drawn : (s : List Cell) (g : Segment) → Draws s g (drawn_style s g)
-drawn_style_drawn s g = style_by s g _ _ refl refl
+  -- the test for a hidden edge is right
+  Decides-is_hidden : (k : ℤ) → Decides (is_hidden f s g k) (IsHidden f (is_full s) g k)
+  Decides-is_hidden k = (λ e. there (passing_member (hides f s g k) (cell_depths f s) e), back)
+    where
+      there : (n : ℤ) × Member (cell_depths f s) n × (hides f s g k n ≡ true) → IsHidden f (is_full s) g k
+      there h = let parts = and_parts (int_lt h.0 k) (is_inside f (is_full s) g h.0) h.2 in (h.0, omega (arith, ints, parts.0), parts.1)
 
--- ---- one style
+      back : IsHidden f (is_full s) g k → is_hidden f s g k ≡ true
+      back h = any_from_member (hides f s g k) (cell_depths f s) h.0 (inside_at_cell_depth h.0 h.2)
+          (and_from (int_lt h.0 k) (is_inside f (is_full s) g h.0) (let nearer = h.1 in grind (arith, ints)) h.2)
 
--- two different styles aren't both drawn
-not_both : (s : List Cell) (g : Segment) → Draws s g Blank → (k : ℤ) × IsTrue (has_edge s g k) → ⊥
-not_both s g blank edge = blank edge.0 edge.1
+  -- an edge that isn't hidden is seen
+  seen_from : (k : ℤ) → has_edge f (is_full s) g k ≡ true → is_hidden f s g k ≡ false → is_seen f s g k ≡ true
+  seen_from k e h = and_from (has_edge f (is_full s) g k) (not (is_hidden f s g k)) e (not_from_false (is_hidden f s g k) h)
 
--- a solid and a dashed style aren't both drawn
-not_hidden_and_seen : (s : List Cell) (g : Segment) → Draws s g Dashed → Draws s g Solid → ⊥
-not_hidden_and_seen s g dashed solid = solid.2 (dashed.1 solid.0 solid.1)
+  -- where no edge is seen, each is hidden
+  all_hidden : list_any (is_seen f s g) (side_depths f s) ≡ false → (k : ℤ) → has_edge f (is_full s) g k ≡ true → IsHidden f (is_full s) g k
+  all_hidden none k e = (Decides-is_hidden k).0 (true_from_ne_false (is_hidden f s g k) (λ h.
+      both_ways (list_any (is_seen f s g) (side_depths f s)) none
+      (any_from_member (is_seen f s g) (side_depths f s) k (edge_at_side_depth k e) (seen_from k e h))))
 
--- a segment has no two styles
-pub one_style : (s : List Cell) (g : Segment) (a b : Style) → Draws s g a → Draws s g b → a ≡ b
-one_style s g Blank Blank h k = refl
-one_style s g Blank Dashed h k = absurd (not_both s g h k.0)
-one_style s g Blank Solid h k = absurd (not_both s g h (k.0, k.1))
-one_style s g Dashed Blank h k = absurd (not_both s g k h.0)
-one_style s g Dashed Dashed h k = refl
-one_style s g Dashed Solid h k = absurd (not_hidden_and_seen s g h k)
-one_style s g Solid Blank h k = absurd (not_both s g k (h.0, h.1))
-one_style s g Solid Dashed h k = absurd (not_hidden_and_seen s g k h)
-one_style s g Solid Solid h k = refl
+  -- what is seen of a segment settles its style
+  style_by : (seen some : Bool) → list_any (is_seen f s g) (side_depths f s) ≡ seen → list_any (has_edge f (is_full s) g) (side_depths f s) ≡ some
+      → Draws f (is_full s) g (if seen then Solid else (if some then Dashed else Blank))
+  style_by true some p q =
+      let m = passing_member (is_seen f s g) (side_depths f s) p in
+      let parts = and_parts (has_edge f (is_full s) g m.0) (not (is_hidden f s g m.0)) m.2 in
+      (m.0, parts.0, λ h. both_ways (is_hidden f s g m.0) (not-true (is_hidden f s g m.0) parts.1) ((Decides-is_hidden m.0).1 h))
+  style_by false true p q =
+      let m = passing_member (has_edge f (is_full s) g) (side_depths f s) q in
+      ((m.0, m.2), λ k e. all_hidden p k e)
+  style_by false false p q = λ k e.
+      both_ways (list_any (has_edge f (is_full s) g) (side_depths f s)) q
+      (any_from_member (has_edge f (is_full s) g) (side_depths f s) k (edge_at_side_depth k e) e)
 
--- a segment on which an edge projects isn't blank
-pub edge_not_blank : (s : List Cell) (g : Segment) (style : Style) → Draws s g style → (k : ℤ) → IsTrue (has_edge s g k) → style ≢ Blank
-edge_not_blank s g style d k e blank = (subst (Draws s g) blank d) k e
-
--- on a segment that isn't blank an edge projects
-pub edge_from_drawn : (s : List Cell) (g : Segment) (style : Style) → Draws s g style → style ≢ Blank → (k : ℤ) × IsTrue (has_edge s g k)
-edge_from_drawn s g Blank d drawn = absurd (drawn refl)
-edge_from_drawn s g Dashed d drawn = d.0
-edge_from_drawn s g Solid d drawn = (d.0, d.1)
-
--- a full cell beside the segment: on its stretch, on its line or just before
-abbrev pub HasCellBeside : List Cell → Segment → Type 0
-HasCellBeside s g = (c : Cell) × IsTrue (is_full s c) × (place_of (along (frame_of g.view) g.upright) c ≡ start_of g)
-    × ((place_of (across (frame_of g.view) g.upright) c ≡ line_of g) ⊎ (place_of (across (frame_of g.view) g.upright) c ≡ line_of g -ℤ pos 1))
-
-cell_beside : (s : List Cell) (g : Segment) (j k : ℤ) → (j ≡ line_of g) ⊎ (j ≡ line_of g -ℤ pos 1) → is_full_at s g j k ≡ true → HasCellBeside s g
-cell_beside s g j k on e =
-    let c : Cell = cell_in (frame_of g.view) g.upright (start_of g) j k in
-    let at = places_of_cell_in g.view g.upright (start_of g) j k in
-    (c, e, at.0, ⊎_elim (λ h. inl (at.1 ∙ h)) (λ h. inr (at.1 ∙ h)) on)
-
--- beside a segment that isn't blank a cell is full
-pub cell_beside_drawn : (s : List Cell) (g : Segment) (style : Style) → Draws s g style → style ≢ Blank → HasCellBeside s g
-cell_beside_drawn s g style d drawn =
-    let edge = edge_from_drawn s g style d drawn in
-    let k = edge.0 in
-    let C : Type 0 = HasCellBeside s g in
-    ⊎_elim {C = C}
-    (⊎_elim {C = C} (cell_beside s g (line_of g) k (inl refl)) (cell_beside s g (line_of g -ℤ pos 1) k (inr refl)))
-    (⊎_elim {C = C} (cell_beside s g (line_of g) (k -ℤ pos 1) (inl refl)) (cell_beside s g (line_of g -ℤ pos 1) (k -ℤ pos 1) (inr refl)))
-    (full_beside_edge _ _ _ _ (sym (has_edge_is s g k) ∙ edge.1))
-
--- ---- what a style rests on
-
--- with the same inside places, what is hidden stays hidden
-still_hidden : (s t : List Cell) (g h : Segment) → ((k : ℤ) → is_inside s g k ≡ is_inside t h k) → (k : ℤ) → IsHidden s g k → IsHidden t h k
-still_hidden s t g h inside k e = (e.0, e.1, sym (inside e.0) ∙ e.2)
-
--- segments with edges and inside places at the same depths have the same style
-pub style_from_same_edges : (s t : List Cell) (g h : Segment) → ((k : ℤ) → has_edge s g k ≡ has_edge t h k) → ((k : ℤ) → is_inside s g k ≡ is_inside t h k)
-    → (style : Style) → Draws s g style → Draws t h style
-style_from_same_edges s t g h edges inside Blank d = λ k e. d k (edges k ∙ e)
-style_from_same_edges s t g h edges inside Dashed d = ((d.0.0, sym (edges d.0.0) ∙ d.0.1), λ k e. still_hidden s t g h inside k (d.1 k (edges k ∙ e)))
-style_from_same_edges s t g h edges inside Solid d = (d.0, sym (edges d.0) ∙ d.1, λ e. d.2 (still_hidden t s h g (λ k. sym (inside k)) d.0 e))
-
--- two lists of one solid have the same edges, in space and in a view
-pub same_edge : (s t : List Cell) → SameCells s t → (a : Axis) (p : Cell) → is_edge s a p ≡ is_edge t a p
-same_edge s t same a p = λ i. is_edge_of (same p i) (same (cell_before (second_axis a) p) i)
-    (same (cell_before (third_axis a) p) i) (same (cell_before (second_axis a) (cell_before (third_axis a) p)) i)
-
-pub same_edges : (s t : List Cell) → SameCells s t → (g : Segment) (k : ℤ) → has_edge s g k ≡ has_edge t g k
-same_edges s t same g k = same_edge s t same (along (frame_of g.view) g.upright).axis (edge_point (frame_of g.view) g k)
-
--- two lists of one solid have the same inside
-pub same_inside : (s t : List Cell) → SameCells s t → (g : Segment) (k : ℤ) → is_inside s g k ≡ is_inside t g k
-same_inside s t same g k = ap₂ ◌&&◌ (same _) (same _)
-
--- two lists of one solid draw the same
-pub same_drawing : (s t : List Cell) → SameCells s t → (g : Segment) (style : Style) → Draws s g style → Draws t g style
-same_drawing s t same g style d = style_from_same_edges s t g g (same_edges s t same g) (same_inside s t same g) style d
+  -- the computed style is drawn
+  pub drawn_style_drawn : Draws f (is_full s) g (drawn_style f s g)
+  drawn_style_drawn = style_by _ _ refl refl

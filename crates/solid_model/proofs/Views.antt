@@ -1,22 +1,24 @@
--- From space to a view: a view's edges and sight lines by the cells at places along, across and away.
-use Rattle.std.proofs.Common.{◌≡◌, Bool, true, false, not, ◌&&◌, ◌||◌, List, ℤ, pos, neg_ℤ, ◌-ℤ◌, if◌then◌else◌, refl, ap, ap₂, ◌∙◌, arith}
+-- From space to a view: the edges and sight lines of a frame by the cells at places along, across and away.
+use Rattle.std.proofs.Common.{◌≡◌, inl, inr, ⊎_elim, Bool, true, false, not, ◌&&◌, ◌||◌, ℤ, pos, neg_ℤ, ◌-ℤ◌, if◌then◌else◌, refl, ap, ap₂, sym, subst, ◌∙◌, arith}
 use Rattle.std.proofs.Math.Bool.{and_comm, or_comm}
 use Rattle.std.proofs.lemmas.Int.{ints}
 use Rattle.solid_model.specs.declared.cell.Axis.{Axis}
+use Rattle.solid_model.specs.declared.cell.Axis.TheVariants.{X, Y, Z}
 use Rattle.solid_model.specs.declared.cell.Cell.{Cell}
 use Rattle.solid_model.specs.declared.frame.Direction.{Direction}
+use Rattle.solid_model.specs.declared.frame.Frame.{Frame}
 use Rattle.solid_model.specs.declared.frame.View.{View}
 use Rattle.solid_model.specs.declared.frame.View.TheVariants.{Front, Top, Side}
 use Rattle.solid_model.specs.declared.segment.Segment.{Segment}
 use Rattle.solid_model.specs.Boxes.{place_of}
-use Rattle.solid_model.specs.Cells.{is_full}
-use Rattle.solid_model.specs.Edges.{agree, is_edge, is_edge_of}
-use Rattle.solid_model.specs.Frames.{frame_of, along, across, point_on, cell_on, at_places}
-use Rattle.solid_model.specs.Draws.{start_of, line_of, cell_in, has_edge}
+use Rattle.solid_model.specs.Cells.{coordinate}
+use Rattle.solid_model.specs.Columns.{cell_in, column_after, column_before}
+use Rattle.solid_model.specs.Draws.{has_edge}
+use Rattle.solid_model.specs.Edges.{agree, second_axis, third_axis, AreAcross, is_edge, is_edge_of}
+use Rattle.solid_model.specs.Frames.{IsFrame, frame_of, along, across, point_on, cell_on, at_places}
+use Rattle.solid_model.specs.Segments.{segment_at, start_of, line_of}
 
--- a member fills the cell that stands j across and k away, on the segment's stretch
-abbrev pub is_full_at : List Cell → Segment → ℤ → ℤ → Bool
-is_full_at s g j k = is_full s (cell_in (frame_of g.view) g.upright (start_of g) j k)
+-- ---- the four cells round an edge
 
 -- to agree does not go by order
 agree_comm : (a b : Bool) → agree a b ≡ agree b a
@@ -33,63 +35,108 @@ is_edge_of_turned a b c d = ap not (or_comm (agree a c && agree b d) (agree a b 
 pub is_edge_of_flipped : (a b c d : Bool) → is_edge_of a b c d ≡ is_edge_of c d a b
 is_edge_of_flipped a b c d = ap not (ap₂ ◌||◌ (ap₂ ◌&&◌ (agree_comm a c) (agree_comm b d)) (and_comm (agree a b) (agree c d)))
 
--- backward, the cell before depth k begins at the point -k
-nearer_backward : (k : ℤ) → neg_ℤ (k -ℤ pos 1) -ℤ pos 1 ≡ neg_ℤ k
-nearer_backward k = omega (arith, ints)
+-- and those of the second plane
+pub is_edge_of_mirrored : (a b c d : Bool) → is_edge_of a b c d ≡ is_edge_of b a d c
+is_edge_of_mirrored a b c d =
+    is_edge_of_turned a b c d ∙ is_edge_of_flipped a c b d ∙ is_edge_of_turned b d a c
 
 -- the four cells round the point (j, k) of a plane make an edge
 abbrev is_corner : (ℤ → ℤ → Bool) → ℤ → ℤ → Bool
 is_corner full j k = is_edge_of (full j k) (full (j -ℤ pos 1) k) (full j (k -ℤ pos 1)) (full (j -ℤ pos 1) (k -ℤ pos 1))
 
--- the corner, told with the plane's two axes exchanged
-corner_turned : (full : ℤ → ℤ → Bool) (j k : ℤ)
-    → is_edge_of (full j k) (full j (k -ℤ pos 1)) (full (j -ℤ pos 1) k) (full (j -ℤ pos 1) (k -ℤ pos 1)) ≡ is_corner full j k
-corner_turned full j k = is_edge_of_turned (full j k) (full j (k -ℤ pos 1)) (full (j -ℤ pos 1) k) (full (j -ℤ pos 1) (k -ℤ pos 1))
+-- backward, the cell before place k begins at the point -k
+before_backward : (k : ℤ) → neg_ℤ (k -ℤ pos 1) -ℤ pos 1 ≡ neg_ℤ k
+before_backward k = omega (arith, ints)
 
--- a corner at the point -k of an axis is one at k of the axis turned round
-corner_flipped : (full : ℤ → ℤ → Bool) (j k : ℤ)
-    → is_corner full j (neg_ℤ k) ≡ is_corner (λ a b. full a (neg_ℤ b -ℤ pos 1)) j k
-corner_flipped full j k = rw (nearer_backward k) (is_edge_of_flipped (full j (neg_ℤ k)) (full (j -ℤ pos 1) (neg_ℤ k))
+-- a corner by the places along two directions of the plane's axes
+corner_by_places : (b c : Bool) (full : ℤ → ℤ → Bool) (j k : ℤ)
+    → is_corner full (if b then j else neg_ℤ j) (if c then k else neg_ℤ k)
+    ≡ is_corner (λ m n. full (if b then m else (neg_ℤ m -ℤ pos 1)) (if c then n else (neg_ℤ n -ℤ pos 1))) j k
+corner_by_places true true full j k = refl
+corner_by_places true false full j k = rw (before_backward k) (is_edge_of_flipped (full j (neg_ℤ k)) (full (j -ℤ pos 1) (neg_ℤ k))
     (full j (neg_ℤ k -ℤ pos 1)) (full (j -ℤ pos 1) (neg_ℤ k -ℤ pos 1)))
+corner_by_places false true full j k = rw (before_backward j) (is_edge_of_mirrored (full (neg_ℤ j) k) (full (neg_ℤ j -ℤ pos 1) k)
+    (full (neg_ℤ j) (k -ℤ pos 1)) (full (neg_ℤ j -ℤ pos 1) (k -ℤ pos 1)))
+corner_by_places false false full j k = rw (before_backward j) (rw (before_backward k)
+    (is_edge_of_mirrored (full (neg_ℤ j) (neg_ℤ k)) (full (neg_ℤ j -ℤ pos 1) (neg_ℤ k)) (full (neg_ℤ j) (neg_ℤ k -ℤ pos 1)) (full (neg_ℤ j -ℤ pos 1) (neg_ℤ k -ℤ pos 1))
+    ∙ is_edge_of_flipped (full (neg_ℤ j -ℤ pos 1) (neg_ℤ k)) (full (neg_ℤ j) (neg_ℤ k)) (full (neg_ℤ j -ℤ pos 1) (neg_ℤ k -ℤ pos 1)) (full (neg_ℤ j) (neg_ℤ k -ℤ pos 1))))
 
--- the four cells round the unit edge that projects on a segment
-pub edge_in : (s : List Cell) (v : View) (upright : Bool) (i j k : ℤ)
-    → is_edge s (along (frame_of v) upright).axis (at_places
-    (along (frame_of v) upright).axis (cell_on (along (frame_of v) upright) i)
-    (across (frame_of v) upright).axis (point_on (across (frame_of v) upright) j)
-    (frame_of v).away.axis (point_on (frame_of v).away k))
-    ≡ is_edge_of
-    (is_full s (cell_in (frame_of v) upright i j k)) (is_full s (cell_in (frame_of v) upright i (j -ℤ pos 1) k))
-    (is_full s (cell_in (frame_of v) upright i j (k -ℤ pos 1))) (is_full s (cell_in (frame_of v) upright i (j -ℤ pos 1) (k -ℤ pos 1)))
-edge_in s Front false i j k = corner_turned (λ b c. is_full s (record { x = i; y = c; z = b })) j k
-edge_in s Front true i j k = refl
-edge_in s Top false i j k = corner_flipped (λ b c. is_full s (record { x = i; y = b; z = c })) j k
-edge_in s Top true i j k = let full : ℤ → ℤ → Bool = λ b c. is_full s (record { x = b; y = i; z = c }) in
-    corner_turned full j (neg_ℤ k) ∙ corner_flipped full j k
-edge_in s Side false i j k = corner_flipped (λ b c. is_full s (record { x = c; y = i; z = b })) j k
-edge_in s Side true i j k = let full : ℤ → ℤ → Bool = λ b c. is_full s (record { x = c; y = b; z = i }) in
-    corner_turned full j (neg_ℤ k) ∙ corner_flipped full j k
+-- ---- three axes
 
--- an edge at depth k, by the four cells round it: beside the segment's line, at k and just before
-pub has_edge_is : (s : List Cell) (g : Segment) (k : ℤ)
-    → has_edge s g k ≡ is_edge_of
-    (is_full_at s g (line_of g) k) (is_full_at s g (line_of g -ℤ pos 1) k)
-    (is_full_at s g (line_of g) (k -ℤ pos 1)) (is_full_at s g (line_of g -ℤ pos 1) (k -ℤ pos 1))
-has_edge_is s g k = edge_in s g.view g.upright (start_of g) (line_of g) k
+-- what holds of an axis and the two across it, in both orders, holds of three axes
+pub across_each : (P : Axis → Axis → Axis → Type 0) → ((a : Axis) → P a (second_axis a) (third_axis a)) → ((a : Axis) → P a (third_axis a) (second_axis a))
+    → (a b c : Axis) → AreAcross a b c → P a b c
+across_each P inorder turned a b c across = ⊎_elim {C = P a b c}
+    (λ h. subst (λ x. P a x c) (sym h.0) (subst (P a (second_axis a)) (sym h.1) (inorder a)))
+    (λ h. subst (λ x. P a x c) (sym h.0) (subst (P a (third_axis a)) (sym h.1) (turned a))) across
 
--- the segment of a view that begins at i along its way, on the line j across it
-abbrev pub segment_at : View → Bool → ℤ → ℤ → Segment
-segment_at v upright i j = record { view = v; upright = upright; right = if upright then j else i; up = if upright then i else j }
+-- of three axes each two are across the third, in either order
+pub across_turned : (a b c : Axis) → AreAcross a b c → AreAcross a c b
+across_turned a b c across = ⊎_elim {C = AreAcross a c b} (λ h. inr (h.1, h.0)) (λ h. inl (h.1, h.0)) across
 
--- an edge on such a segment, by the four cells round it
-pub edge_at : (s : List Cell) (v : View) (upright : Bool) (i j k : ℤ)
-    → has_edge s (segment_at v upright i j) k ≡ is_edge_of
-    (is_full s (cell_in (frame_of v) upright i j k)) (is_full s (cell_in (frame_of v) upright i (j -ℤ pos 1) k))
-    (is_full s (cell_in (frame_of v) upright i j (k -ℤ pos 1))) (is_full s (cell_in (frame_of v) upright i (j -ℤ pos 1) (k -ℤ pos 1)))
-edge_at s v true i j k = edge_in s v true i j k
-edge_at s v false i j k = edge_in s v false i j k
+pub across_next : (a b c : Axis) → AreAcross a b c → AreAcross b a c
+across_next = across_each (λ a b c. AreAcross b a c) at_second at_third
+  where
+    at_second : (a : Axis) → AreAcross (second_axis a) a (third_axis a)
+    at_second X = inr (refl, refl)
+    at_second Y = inr (refl, refl)
+    at_second Z = inr (refl, refl)
 
--- ---- every cell has places in a view
+    at_third : (a : Axis) → AreAcross (third_axis a) a (second_axis a)
+    at_third X = inl (refl, refl)
+    at_third Y = inl (refl, refl)
+    at_third Z = inl (refl, refl)
+
+-- a frame's two other axes are across the way its segments of a kind run
+pub across_along : (f : Frame) → IsFrame f → (upright : Bool) → AreAcross (along f upright).axis (across f upright).axis f.away.axis
+across_along f is true = across_turned _ _ _ (across_next _ _ _ (across_turned _ _ _ is))
+across_along f is false = across_turned _ _ _ (across_next _ _ _ is)
+
+-- the three views are frames
+pub views_are_frames : (v : View) → IsFrame (frame_of v)
+views_are_frames Front = inr (refl, refl)
+views_are_frames Top = inl (refl, refl)
+views_are_frames Side = inl (refl, refl)
+
+-- an edge along an axis, by the four cells round it in the plane of the two others
+edge_across : (full : Cell → Bool) (i j k : ℤ) (a b c : Axis) → AreAcross a b c
+    → is_edge full a (at_places a i b j c k) ≡ is_corner (λ m n. full (at_places a i b m c n)) j k
+edge_across full i j k = across_each (λ a b c. is_edge full a (at_places a i b j c k) ≡ is_corner (λ m n. full (at_places a i b m c n)) j k) inorder turned
+  where
+    inorder : (a : Axis) → is_edge full a (at_places a i (second_axis a) j (third_axis a) k)
+        ≡ is_corner (λ m n. full (at_places a i (second_axis a) m (third_axis a) n)) j k
+    inorder X = refl
+    inorder Y = refl
+    inorder Z = refl
+
+    corner_turned : (flat : ℤ → ℤ → Bool) → is_corner (λ n m. flat m n) k j ≡ is_corner flat j k
+    corner_turned flat = is_edge_of_turned (flat j k) (flat j (k -ℤ pos 1)) (flat (j -ℤ pos 1) k) (flat (j -ℤ pos 1) (k -ℤ pos 1))
+
+    turned : (a : Axis) → is_edge full a (at_places a i (third_axis a) j (second_axis a) k)
+        ≡ is_corner (λ m n. full (at_places a i (third_axis a) m (second_axis a) n)) j k
+    turned X = corner_turned (λ m n. full (at_places X i Z m Y n))
+    turned Y = corner_turned (λ m n. full (at_places Y i X m Z n))
+    turned Z = corner_turned (λ m n. full (at_places Z i Y m X n))
+
+-- ---- edges and cells in a frame
+
+-- an edge at depth k, by the four cells round it: in the columns after and before the segment, at k and just before
+pub has_edge_is : (f : Frame) → IsFrame f → (full : Cell → Bool) (g : Segment) (k : ℤ)
+    → has_edge f full g k ≡ is_edge_of (column_after f full g k) (column_before f full g k) (column_after f full g (k -ℤ pos 1)) (column_before f full g (k -ℤ pos 1))
+has_edge_is f is full g k =
+    let way = along f g.upright in
+    let beside = across f g.upright in
+    let i = cell_on way (start_of g) in
+    edge_across full i (point_on beside (line_of g)) (point_on f.away k) way.axis beside.axis f.away.axis (across_along f is g.upright)
+    ∙ corner_by_places beside.forward f.away.forward (λ m n. full (at_places way.axis i beside.axis m f.away.axis n)) (line_of g) k
+
+-- the same of the segment that begins at i along its way, on the line j across it
+pub has_edge_at : (f : Frame) → IsFrame f → (full : Cell → Bool) (v : View) (upright : Bool) (i j k : ℤ)
+    → has_edge f full (segment_at v upright i j) k ≡ is_edge_of
+    (full (cell_in f upright i j k)) (full (cell_in f upright i (j -ℤ pos 1) k))
+    (full (cell_in f upright i j (k -ℤ pos 1))) (full (cell_in f upright i (j -ℤ pos 1) (k -ℤ pos 1)))
+has_edge_at f is full v true i j k = has_edge_is f is full (segment_at v true i j) k
+has_edge_at f is full v false i j k = has_edge_is f is full (segment_at v false i j) k
 
 -- the coordinate of the cell at the place of a coordinate is that coordinate
 cell_on_turned : (forward : Bool) (axis : Axis) (z : ℤ)
@@ -100,25 +147,60 @@ cell_on_turned false axis z = omega (arith, ints)
 pub cell_on_twice : (d : Direction) (z : ℤ) → cell_on d (cell_on d z) ≡ z
 cell_on_twice d z = cell_on_turned d.forward d.axis z
 
+-- a cell is the one at its own coordinates, along three axes
+at_own_coordinates : (cell : Cell) (a b c : Axis) → AreAcross a b c → at_places a (coordinate a cell) b (coordinate b cell) c (coordinate c cell) ≡ cell
+at_own_coordinates cell = across_each (λ a b c. at_places a (coordinate a cell) b (coordinate b cell) c (coordinate c cell) ≡ cell) inorder turned
+  where
+    inorder : (a : Axis) → at_places a (coordinate a cell) (second_axis a) (coordinate (second_axis a) cell) (third_axis a) (coordinate (third_axis a) cell) ≡ cell
+    inorder X = refl
+    inorder Y = refl
+    inorder Z = refl
+
+    turned : (a : Axis) → at_places a (coordinate a cell) (third_axis a) (coordinate (third_axis a) cell) (second_axis a) (coordinate (second_axis a) cell) ≡ cell
+    turned X = refl
+    turned Y = refl
+    turned Z = refl
+
+-- the cell at given coordinates has those coordinates
+record HasCoordinates (a b c : Axis) (i j k : ℤ) (cell : Cell) : Type 0 where
+  first : coordinate a cell ≡ i
+  second : coordinate b cell ≡ j
+  third : coordinate c cell ≡ k
+
+coordinates_at : (i j k : ℤ) (a b c : Axis) → AreAcross a b c → HasCoordinates a b c i j k (at_places a i b j c k)
+coordinates_at i j k = across_each (λ a b c. HasCoordinates a b c i j k (at_places a i b j c k)) inorder turned
+  where
+    inorder : (a : Axis) → HasCoordinates a (second_axis a) (third_axis a) i j k (at_places a i (second_axis a) j (third_axis a) k)
+    inorder X = record { first = refl; second = refl; third = refl }
+    inorder Y = record { first = refl; second = refl; third = refl }
+    inorder Z = record { first = refl; second = refl; third = refl }
+
+    turned : (a : Axis) → HasCoordinates a (third_axis a) (second_axis a) i j k (at_places a i (third_axis a) j (second_axis a) k)
+    turned X = record { first = refl; second = refl; third = refl }
+    turned Y = record { first = refl; second = refl; third = refl }
+    turned Z = record { first = refl; second = refl; third = refl }
+
 -- each cell is the one at its own places along, across and away
-pub cell_at_its_places : (v : View) (upright : Bool) (c : Cell)
-    → cell_in (frame_of v) upright (place_of (along (frame_of v) upright) c) (place_of (across (frame_of v) upright) c)
-    (place_of (frame_of v).away c) ≡ c
-cell_at_its_places Front false c = refl
-cell_at_its_places Front true c = refl
-cell_at_its_places Top false c = ap (λ z. record c { z = z }) (cell_on_twice (frame_of Top).away c.z)
-cell_at_its_places Top true c = ap (λ z. record c { z = z }) (cell_on_twice (frame_of Top).away c.z)
-cell_at_its_places Side false c = ap (λ x. record c { x = x }) (cell_on_twice (frame_of Side).away c.x)
-cell_at_its_places Side true c = ap (λ x. record c { x = x }) (cell_on_twice (frame_of Side).away c.x)
+pub cell_at_its_places : (f : Frame) → IsFrame f → (upright : Bool) (c : Cell)
+    → cell_in f upright (place_of (along f upright) c) (place_of (across f upright) c) (place_of f.away c) ≡ c
+cell_at_its_places f is upright c =
+    let p = cell_on_twice (along f upright) (coordinate (along f upright).axis c) in
+    let q = cell_on_twice (across f upright) (coordinate (across f upright).axis c) in
+    let r = cell_on_twice f.away (coordinate f.away.axis c) in
+    (λ t. at_places (along f upright).axis (p t) (across f upright).axis (q t) f.away.axis (r t))
+    ∙ at_own_coordinates c (along f upright).axis (across f upright).axis f.away.axis (across_along f is upright)
 
 -- the cell at given places has those places
-pub places_of_cell_in : (v : View) (upright : Bool) (i j k : ℤ)
-    → (place_of (along (frame_of v) upright) (cell_in (frame_of v) upright i j k) ≡ i)
-    × (place_of (across (frame_of v) upright) (cell_in (frame_of v) upright i j k) ≡ j)
-    × (place_of (frame_of v).away (cell_in (frame_of v) upright i j k) ≡ k)
-places_of_cell_in Front false i j k = (refl, refl, refl)
-places_of_cell_in Front true i j k = (refl, refl, refl)
-places_of_cell_in Top false i j k = (refl, refl, cell_on_twice (frame_of Top).away k)
-places_of_cell_in Top true i j k = (refl, refl, cell_on_twice (frame_of Top).away k)
-places_of_cell_in Side false i j k = (refl, refl, cell_on_twice (frame_of Side).away k)
-places_of_cell_in Side true i j k = (refl, refl, cell_on_twice (frame_of Side).away k)
+pub record HasPlaces (f : Frame) (upright : Bool) (i j k : ℤ) (c : Cell) : Type 0 where
+  pub along_is : place_of (along f upright) c ≡ i
+  pub across_is : place_of (across f upright) c ≡ j
+  pub away_is : place_of f.away c ≡ k
+
+pub places_of_cell_in : (f : Frame) → IsFrame f → (upright : Bool) (i j k : ℤ) → HasPlaces f upright i j k (cell_in f upright i j k)
+places_of_cell_in f is upright i j k =
+    let at = coordinates_at (cell_on (along f upright) i) (cell_on (across f upright) j) (cell_on f.away k) _ _ _ (across_along f is upright) in
+    record {
+      along_is = ap (cell_on (along f upright)) at.first ∙ cell_on_twice (along f upright) i;
+      across_is = ap (cell_on (across f upright)) at.second ∙ cell_on_twice (across f upright) j;
+      away_is = ap (cell_on f.away) at.third ∙ cell_on_twice f.away k;
+    }

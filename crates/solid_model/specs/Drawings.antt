@@ -1,5 +1,5 @@
--- The drawing of a list of lines: what a file's lines show, each view shifted to least coordinates 0.
-use Rattle.std.specs.Prelude.{◌≡◌, IsTrue, Bool, true, false, not, ◌&&◌, ◌||◌, List, [], ◌∷◌, map, ℤ, pos, ◌+ℤ◌, int_lt, int_le, if◌then◌else◌}
+-- The drawing of a list of lines: what a file's lines show, each view moved to least coordinates 0.
+use Rattle.std.specs.Prelude.{◌≡◌, IsTrue, Bool, true, false, not, ◌&&◌, ◌||◌, List, [], ◌∷◌, map, ℤ, pos, int_lt, int_le, if◌then◌else◌}
 use Rattle.std.specs.List.{filter, fold}
 use Rattle.std.specs.Int.{int_min}
 use Rattle.std.specs.Ordering.{int_eq}
@@ -8,9 +8,9 @@ use Rattle.solid_model.specs.declared.frame.View.TheVariants.{Front, Top, Side}
 use Rattle.solid_model.specs.declared.segment.Segment.{Segment}
 use Rattle.solid_model.specs.declared.segment.Style.{Style}
 use Rattle.solid_model.specs.declared.segment.Style.TheVariants.{Blank, Dashed, Solid}
-pub use Rattle.solid_model.specs.Frames.{along_of, across_of}
-use Rattle.solid_model.specs.Draws.{start_of, line_of}
 use Rattle.solid_model.specs.Line.{Line}
+use Rattle.solid_model.specs.Moved.{moved}
+use Rattle.solid_model.specs.Segments.{along_of, across_of, start_of, line_of}
 
 -- two names of one view
 abbrev pub same_view : View → View → Bool
@@ -58,7 +58,7 @@ has_length l = not (int_eq l.x0 l.x1 && int_eq l.y0 l.y1)
 abbrev pub covering_lines : View → List Line → List Line
 covering_lines v ls = filter (λ l. same_view v l.of && has_length l) ls
 
--- the least or the greatest member of a list, by what gives the lesser or the greater of two, and 0 of an empty one
+-- one member of a list, and 0 of an empty one: the least or the greatest, where `of_two` gives the lesser or the greater of two
 abbrev pub extreme : (ℤ → ℤ → ℤ) → List ℤ → ℤ
 extreme of_two [] = pos 0
 extreme of_two (z ∷ zs) = fold of_two z zs
@@ -79,13 +79,9 @@ least_right = extreme_right int_min
 abbrev pub least_up : View → List Line → ℤ
 least_up = extreme_up int_min
 
--- the segment of the sheet that a segment of the shifted view is
-abbrev pub on_sheet : List Line → Segment → Segment
-on_sheet ls g = record g { right = g.right +ℤ least_right g.view ls; up = g.up +ℤ least_up g.view ls }
-
--- the drawing of lines
+-- the drawing of lines: what they show on the sheet, each view moved to least coordinates 0
 abbrev pub drawing_of : List Line → Segment → Style
-drawing_of ls g = sheet_style ls (on_sheet ls g)
+drawing_of ls = moved (λ v. least_right v ls) (λ v. least_up v ls) (sheet_style ls)
 
 -- no segment of the view is covered
 abbrev pub IsEmptyView : List Line → View → Type 0

@@ -1,9 +1,9 @@
 -- Edges of a solid: facts of a unit edge and the four cells round it, in space.
-use Rattle.std.specs.Prelude.{Bool, true, false, not, ◌&&◌, ◌||◌, List}
+use Rattle.std.specs.Prelude.{◌≡◌, ◌⊎◌, Bool, true, false, not, ◌&&◌, ◌||◌}
 use Rattle.solid_model.specs.declared.cell.Axis.{Axis}
 use Rattle.solid_model.specs.declared.cell.Axis.TheVariants.{X, Y, Z}
 use Rattle.solid_model.specs.declared.cell.Cell.{Cell}
-use Rattle.solid_model.specs.Cells.{cell_before, is_full}
+use Rattle.solid_model.specs.Cells.{cell_before}
 
 -- two cells agree: both full or both empty
 abbrev pub agree : Bool → Bool → Bool
@@ -27,8 +27,12 @@ third_axis X = Z
 third_axis Y = X
 third_axis Z = Y
 
--- the unit edge from the point p along the axis a is an edge of the solid
-abbrev pub is_edge : List Cell → Axis → Cell → Bool
-is_edge s a p = is_edge_of
-    (is_full s p) (is_full s (cell_before (second_axis a) p))
-    (is_full s (cell_before (third_axis a) p)) (is_full s (cell_before (second_axis a) (cell_before (third_axis a) p)))
+-- the axes b and c are the two across a, in either order
+abbrev pub AreAcross : Axis → Axis → Axis → Type 0
+AreAcross a b c = ((b ≡ second_axis a) × (c ≡ third_axis a)) ⊎ ((b ≡ third_axis a) × (c ≡ second_axis a))
+
+-- the unit edge from the point p along the axis a is an edge of the solid whose cells are full
+abbrev pub is_edge : (Cell → Bool) → Axis → Cell → Bool
+is_edge full a p = is_edge_of
+    (full p) (full (cell_before (second_axis a) p))
+    (full (cell_before (third_axis a) p)) (full (cell_before (second_axis a) (cell_before (third_axis a) p)))

@@ -8,6 +8,7 @@ use Rattle.solid_model.specs.declared.frame.Frame.{Frame}
 use Rattle.solid_model.specs.declared.frame.View.{View}
 use Rattle.solid_model.specs.declared.frame.View.TheVariants.{Front, Top, Side}
 use Rattle.solid_model.specs.Cells.{placed}
+use Rattle.solid_model.specs.Edges.{AreAcross}
 
 -- along the axis, as its coordinate rises
 abbrev pub forward : Axis → Direction
@@ -16,6 +17,10 @@ forward a = record { axis = a; forward = true }
 -- along the axis, as its coordinate falls
 abbrev pub backward : Axis → Direction
 backward a = record { axis = a; forward = false }
+
+-- The three directions of a frame run along the three axes; each sense is free.
+abbrev pub IsFrame : Frame → Type 0
+IsFrame f = AreAcross f.away.axis f.right.axis f.up.axis
 
 -- Third-angle views. The front is seen along y, the top from above, the right side from the greatest x.
 abbrev pub frame_of : View → Frame
@@ -42,11 +47,3 @@ across f upright = if upright then f.right else f.up
 -- the cell, or the point, with these coordinates along three axes
 abbrev pub at_places : Axis → ℤ → Axis → ℤ → Axis → ℤ → Cell
 at_places a i b j c k = placed a i (placed b j (placed c k (record { x = pos 0; y = pos 0; z = pos 0 })))
-
--- the coordinate of the point (x, y) of a view along its level, or its upright, segments
-abbrev pub along_of : Bool → ℤ → ℤ → ℤ
-along_of upright x y = if upright then y else x
-
--- and its coordinate across them
-abbrev pub across_of : Bool → ℤ → ℤ → ℤ
-across_of upright x y = if upright then x else y

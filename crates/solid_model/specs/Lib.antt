@@ -1,10 +1,13 @@
 pub mod Lists
 pub mod Limits
 pub mod Cells
-pub mod Frames
 pub mod Edges
-pub mod Line
+pub mod Frames
+pub mod Segments
+pub mod Columns
 pub mod Draws
+pub mod Moved
+pub mod Line
 pub mod Boxes
 pub mod Runs
 pub mod DrawnStyle
@@ -15,3 +18,4 @@ pub mod Sets
 pub mod Matching
 pub mod Stretches
 pub mod SmallRuns
+pub mod SmallSheet

@@ -17,7 +17,10 @@ ComesBefore a b = IsTrue (is_before a b)
 abbrev pub IsInStatedForm : List Cell → Type 0
 IsInStatedForm s = Ascends ComesBefore s
 
--- the stated order of solids: the one that has the least cell in which they differ comes first
-abbrev pub Precedes : List Cell → List Cell → Type 0
-Precedes s t = (c : Cell) × IsTrue (is_full s c) × (is_full t c ≡ false)
-    × ((b : Cell) → ComesBefore b c → is_full s b ≡ is_full t b)
+-- the stated order of solids, by which cells are full: the one that has the least cell in which they differ comes first
+abbrev pub Precedes : (Cell → Bool) → (Cell → Bool) → Type 0
+Precedes full other = (c : Cell) × IsTrue (full c) × (other c ≡ false) × ((b : Cell) → ComesBefore b c → full b ≡ other b)
+
+-- the same of solids that are given as lists
+abbrev pub SolidPrecedes : List Cell → List Cell → Type 0
+SolidPrecedes s t = Precedes (is_full s) (is_full t)

@@ -7,10 +7,10 @@ use Rattle.solid_model.specs.declared.runs.Run.{Run}
 use Rattle.solid_model.specs.declared.segment.Segment.{Segment}
 use Rattle.solid_model.specs.declared.segment.Style.{Style}
 use Rattle.solid_model.specs.declared.segment.Style.TheVariants.{Blank}
-use Rattle.solid_model.specs.Boxes.{far_right, far_up}
-use Rattle.solid_model.specs.Draws.{start_of, line_of}
 use Rattle.solid_model.specs.Limits.{farthest_in_view}
 use Rattle.solid_model.specs.Lists.{Each, Ascends}
+use Rattle.solid_model.specs.Moved.{BeginsAt}
+use Rattle.solid_model.specs.Segments.{start_of, line_of, far_right, far_up}
 
 -- ---- runs of one kind, level or upright
 
@@ -65,10 +65,7 @@ style_in d g = run_style (runs_along g.upright (view_runs g.view d)) (line_of g)
 
 -- ---- what a drawing keeps
 
--- Each view shows something at its least right coordinate, which is 0, and at its least up coordinate, which is 0; so none
--- is empty. Nothing lies farther out than 2,000,000,000.
+-- each view shows something and begins at 0, and nothing lies farther out than 2,000,000,000
 pub record IsDrawing (drawing : Segment → Style) : Type 0 where
-  pub begins : (g : Segment) → drawing g ≢ Blank → (pos 0 ≤ℤ g.right) × (pos 0 ≤ℤ g.up)
-  pub left : (v : View) → (g : Segment) × (g.view ≡ v) × (drawing g ≢ Blank) × (g.right ≡ pos 0)
-  pub bottom : (v : View) → (g : Segment) × (g.view ≡ v) × (drawing g ≢ Blank) × (g.up ≡ pos 0)
+  pub begins : (v : View) → BeginsAt drawing v (pos 0) (pos 0)
   pub near : (g : Segment) → drawing g ≢ Blank → (far_right g ≤ℤ farthest_in_view) × (far_up g ≤ℤ farthest_in_view)

@@ -1,11 +1,13 @@
 -- Small solids, for drawings that are written out.
-use Rattle.std.specs.Prelude.{List, [], ◌∷◌, ℤ, pos, negsuc}
+use Rattle.std.specs.Prelude.{Bool, List, [], ◌∷◌, ℤ, pos, negsuc}
 use Rattle.solid_model.specs.declared.cell.Cell.{Cell}
 use Rattle.solid_model.specs.declared.frame.View.{View}
 use Rattle.solid_model.specs.declared.frame.View.TheVariants.{Front, Top, Side}
+use Rattle.solid_model.specs.declared.segment.Segment.{Segment}
 use Rattle.solid_model.specs.declared.segment.Style.{Style}
 use Rattle.solid_model.specs.declared.segment.Style.TheVariants.{Blank, Solid}
 use Rattle.solid_model.specs.Cells.{cell_at}
+use Rattle.solid_model.specs.DrawnStyle.{segment_styles}
 
 abbrev pub unit_cube : List Cell
 unit_cube = cell_at 0 0 0 ∷ []
@@ -40,15 +42,24 @@ four_of_eight = cell_at 0 0 0 ∷ cell_at 1 1 0 ∷ cell_at 1 0 1 ∷ cell_at 0 
 abbrev pub other_four_of_eight : List Cell
 other_four_of_eight = cell_at 1 0 0 ∷ cell_at 0 1 0 ∷ cell_at 0 0 1 ∷ cell_at 1 1 1 ∷ []
 
+-- the eight cells of that cube, in the order of cells
+abbrev pub eight_cells : List Cell
+eight_cells = cell_at 0 0 0 ∷ cell_at 1 0 0 ∷ cell_at 0 1 0 ∷ cell_at 1 1 0
+    ∷ cell_at 0 0 1 ∷ cell_at 1 0 1 ∷ cell_at 0 1 1 ∷ cell_at 1 1 1 ∷ []
+
 -- the whole numbers from -1 to 2
 abbrev pub near_zero : List ℤ
 near_zero = negsuc 0 ∷ pos 0 ∷ pos 1 ∷ pos 2 ∷ []
+
+-- the styles of the level, or the upright, segments of a view on the lines from -1 to 2, that begin at the places from -1 to 2
+abbrev pub styles_near_zero : (Segment → Style) → View → Bool → List (List Style)
+styles_near_zero drawing v upright = segment_styles drawing v upright near_zero near_zero
 
 -- four blank segments
 abbrev pub none_drawn : List Style
 none_drawn = Blank ∷ Blank ∷ Blank ∷ Blank ∷ []
 
--- the rows of level segments, and the columns of upright ones, of a square in four quarters
+-- the level segments, and the upright ones, of a square in four quarters
 abbrev pub four_quarters : List (List Style)
 four_quarters = none_drawn
     ∷ (Blank ∷ Solid ∷ Solid ∷ Blank ∷ [])

@@ -2,14 +2,24 @@
 
 mod drawings;
 mod orders;
+mod places;
 mod runs;
+mod sheets;
 mod stretches;
 
 pub use drawings::{
-    each_segment_has_one_style, lines_have_a_drawing, matching_solids_begin_at_zero,
-    matching_solids_lie_in_the_unit_box, order_and_repeats_do_not_matter, quartered_cube,
-    small_drawings, views_are_seen_from_their_sides, views_begin_at_the_least_lines,
+    each_segment_has_one_style, fillings_round_an_edge, order_and_repeats_do_not_matter,
+    quartered_cube, small_drawings, views_are_seen_from_their_sides,
 };
-pub use orders::{all_matching_solids_are_one_list, one_stated_form, solids_are_ordered};
+pub use orders::{
+    all_matching_solids_are_one_list, one_stated_form, small_orders, solids_are_ordered,
+};
+pub use places::{
+    matching_solids_begin_at_zero, matching_solids_lie_in_the_unit_box,
+    solids_begin_where_their_views_do,
+};
 pub use runs::{one_list_of_runs, runs_are_maximal_stretches, small_runs};
+pub use sheets::{
+    lines_have_a_drawing, moved_drawings_begin_at_zero, small_sheet, views_begin_at_the_least_lines,
+};
 pub use stretches::maximal_stretches;

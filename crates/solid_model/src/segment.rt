@@ -26,7 +26,7 @@ pub struct Segment {
 }
 
 impl Segment {
-    ghost use Rattle.solid_model.specs.Draws.{start_of, line_of};
+    ghost use Rattle.solid_model.specs.Segments.{start_of, line_of};
 
     /// Where it begins along the way it runs.
     pub fn start(&self) -> i64

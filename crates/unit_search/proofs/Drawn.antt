@@ -11,7 +11,9 @@ use Rattle.solid_model.specs.declared.segment.Style.{Style}
 use Rattle.solid_model.specs.declared.segment.Style.TheVariants.{Blank, Dashed, Solid}
 use Rattle.solid_model.specs.Boxes.{place_of}
 use Rattle.solid_model.specs.Cells.{coordinate, same_cell, is_full}
-use Rattle.solid_model.specs.Draws.{start_of, line_of, cell_in, has_edge, is_inside, IsHidden, Draws}
+use Rattle.solid_model.specs.Draws.{has_edge, is_inside, IsHidden, Draws}
+use Rattle.solid_model.specs.Columns.{cell_in}
+use Rattle.solid_model.specs.Segments.{start_of, line_of}
 use Rattle.solid_model.specs.Edges.{is_edge_of}
 use Rattle.solid_model.specs.Frames.{frame_of}
 use Rattle.solid_model.specs.Line.{IsNear}

@@ -7,14 +7,12 @@ use Rattle.solid_model.specs.declared.frame.View.{View}
 use Rattle.solid_model.specs.declared.runs.Run.{Run}
 use Rattle.solid_model.specs.declared.segment.Segment.{Segment}
 use Rattle.solid_model.specs.declared.segment.Style.TheVariants.{Blank}
-use Rattle.solid_model.specs.Boxes.{far_right, far_up}
-use Rattle.solid_model.specs.Draws.{line_of, start_of}
+use Rattle.solid_model.specs.Segments.{start_of, line_of, far_right, far_up, segment_at}
 use Rattle.solid_model.specs.Lists.{Member, Each}
 use Rattle.solid_model.specs.Runs.{run_covers, run_style, IsRun, DrawingRuns, view_runs, runs_along, style_in, IsDrawing}
 use Rattle.solid_model.specs.Limits.{farthest_in_view}
 use Rattle.solid_model.proofs.Lists.{each-at, each-from}
 use Rattle.solid_model.proofs.RunStyles.{covers_parts, covers_from, covering_run}
-use Rattle.solid_model.proofs.Views.{segment_at}
 use Rattle.unit_search.specs.declared.extents.Corner.{Corner}
 use Rattle.unit_search.specs.Extents.{far_end, joined, corner_of}
 use Rattle.unit_search.specs.UnitBox.{ReachesTo}

@@ -7,7 +7,7 @@ use Rattle.solid_model.specs.declared.frame.View.TheVariants.{Front, Top, Side}
 use Rattle.solid_model.specs.declared.segment.Segment.{Segment}
 use Rattle.solid_model.specs.declared.segment.Style.{Style}
 use Rattle.solid_model.specs.declared.segment.Style.TheVariants.{Blank}
-use Rattle.solid_model.specs.Boxes.{far_right, far_up}
+use Rattle.solid_model.specs.Segments.{far_right, far_up}
 use Rattle.solid_model.specs.Runs.{IsDrawing}
 use Rattle.unit_search.specs.declared.extents.Extents.{Extents}
 use Rattle.unit_search.specs.declared.unit_box.UnitBox.{UnitBox}

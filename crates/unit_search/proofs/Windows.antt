@@ -9,9 +9,10 @@ use Rattle.solid_model.specs.declared.frame.View.TheVariants.{Front, Top, Side}
 use Rattle.solid_model.specs.declared.segment.Segment.{Segment}
 use Rattle.solid_model.specs.declared.segment.Style.{Style}
 use Rattle.solid_model.specs.declared.segment.Style.TheVariants.{Blank, Dashed, Solid}
-use Rattle.solid_model.specs.Boxes.{place_of, far_right, far_up, LiesWithin, FitsIn}
+use Rattle.solid_model.specs.Boxes.{place_of, LiesWithin, FitsIn}
 use Rattle.solid_model.specs.Cells.{is_full}
-use Rattle.solid_model.specs.Draws.{start_of, line_of, has_edge, Draws}
+use Rattle.solid_model.specs.Draws.{has_edge, Draws}
+use Rattle.solid_model.specs.Segments.{start_of, line_of, far_right, far_up}
 use Rattle.solid_model.specs.DrawnStyle.{drawn_style}
 use Rattle.solid_model.specs.Frames.{frame_of, along, across}
 use Rattle.solid_model.specs.Lists.{Member, Each}

@@ -3,7 +3,7 @@ use Rattle.std.specs.Prelude.{Bool, List, map, pos}
 use Rattle.std.specs.List.{fold}
 use Rattle.std.specs.Int.{int_max}
 use Rattle.solid_model.specs.declared.runs.Run.{Run}
-use Rattle.solid_model.specs.Frames.{along_of, across_of}
+use Rattle.solid_model.specs.Segments.{along_of, across_of}
 use Rattle.unit_search.specs.declared.extents.Corner.{Corner}
 
 -- the far end of a level or an upright run

@@ -2,7 +2,9 @@
 
 ghost use Rattle.std.specs.Prelude.{◌≡◌, ◌+◌, pos, ◌+ℤ◌};
 ghost use Rattle.solid_model.specs.Cells.{is_full};
-ghost use Rattle.solid_model.specs.Draws.{start_of, cell_in, has_edge, is_inside, Draws};
+ghost use Rattle.solid_model.specs.Draws.{has_edge, is_inside, Draws};
+ghost use Rattle.solid_model.specs.Columns.{cell_in};
+ghost use Rattle.solid_model.specs.Segments.{start_of};
 ghost use Rattle.solid_model.specs.Edges.{is_edge_of};
 ghost use Rattle.solid_model.specs.Frames.{frame_of};
 ghost use Rattle.solid_model.specs.Line.{IsNear};

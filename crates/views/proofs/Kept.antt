@@ -3,7 +3,7 @@ use Rattle.std.proofs.Common.{◌≡◌, ◌≢◌, List, [], refl, sym, subst}
 use Rattle.solid_model.specs.declared.frame.View.{View}
 use Rattle.solid_model.specs.declared.frame.View.TheVariants.{Front, Top, Side}
 use Rattle.solid_model.specs.declared.segment.Segment.{Segment}
-use Rattle.solid_model.specs.Draws.{start_of, line_of}
+use Rattle.solid_model.specs.Segments.{start_of, line_of}
 use Rattle.solid_model.specs.Drawings.{covering_lines, drawing_of, IsEmptyView}
 use Rattle.solid_model.specs.Line.{Line, IsKept}
 use Rattle.solid_model.specs.Lists.{Each}

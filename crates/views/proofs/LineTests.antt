@@ -13,8 +13,8 @@ use Rattle.solid_model.specs.declared.frame.View.TheVariants.{Front, Top, Side}
 use Rattle.solid_model.specs.declared.segment.Segment.{Segment}
 use Rattle.solid_model.specs.declared.segment.Style.{Style}
 use Rattle.solid_model.specs.declared.runs.Run.{Run}
-use Rattle.solid_model.specs.Draws.{start_of, line_of}
-use Rattle.solid_model.specs.Drawings.{same_view, same_style, along_of, across_of, is_between, covers, is_covered}
+use Rattle.solid_model.specs.Drawings.{same_view, same_style, is_between, covers, is_covered}
+use Rattle.solid_model.specs.Segments.{along_of, across_of, start_of, line_of}
 use Rattle.solid_model.specs.Line.{Line}
 use Rattle.solid_model.specs.Runs.{run_covers}
 use Rattle.views.specs.declared.corner.Corner.{Corner}

@@ -4,7 +4,8 @@ use Rattle.std.specs.Int.{int_min, int_max}
 use Rattle.std.specs.Ordering.{int_eq}
 use Rattle.solid_model.specs.declared.frame.View.{View}
 use Rattle.solid_model.specs.declared.runs.Run.{Run}
-use Rattle.solid_model.specs.Drawings.{same_view, along_of, across_of}
+use Rattle.solid_model.specs.Drawings.{same_view}
+use Rattle.solid_model.specs.Segments.{along_of, across_of}
 use Rattle.solid_model.specs.Line.{Line}
 use Rattle.views.specs.declared.corner.Corner.{Corner}
 

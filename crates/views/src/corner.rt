@@ -25,7 +25,8 @@ fn covers_in(line: &SheetLine, view: View) -> bool
 
 impl Corner {
     ghost use Rattle.std.specs.Prelude.{◌≡◌, [], IfNone, IfSome};
-    ghost use Rattle.solid_model.specs.Drawings.{along_of, across_of, covering_lines};
+    ghost use Rattle.solid_model.specs.Drawings.{covering_lines};
+    ghost use Rattle.solid_model.specs.Segments.{along_of, across_of};
     ghost use Rattle.solid_model.specs.Line.{IsNear, IsKept};
     ghost use Rattle.solid_model.specs.Lists.{Each};
     ghost use Rattle.views.specs.Corners.{IsCornerOf, IsCornerOfLine, IsLeastOf};

@@ -4,7 +4,7 @@ ghost use Rattle.std.specs.Prelude.{◌≡◌, ◌≢◌, [], IfOk, OnOk, IsErrO
 ghost use Rattle.solid_model.specs.declared.fault.Fault.{Fault};
 ghost use Rattle.solid_model.specs.declared.frame.View.{View};
 ghost use Rattle.solid_model.specs.declared.segment.Segment.{Segment};
-ghost use Rattle.solid_model.specs.Draws.{start_of, line_of};
+ghost use Rattle.solid_model.specs.Segments.{start_of, line_of};
 ghost use Rattle.solid_model.specs.Drawings.{sheet_style, covering_lines, drawing_of, IsShown, IsFirstEmptyView};
 ghost use Rattle.solid_model.specs.Line.{IsKept};
 ghost use Rattle.solid_model.specs.Lists.{Each};

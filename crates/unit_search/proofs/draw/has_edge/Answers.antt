@@ -1,7 +1,7 @@
 -- The four cells round the edge are those that the definition names, and so is the edge.
 use Rattle.std.proofs.Common.{◌≡◌, ◌∙◌, sym, ap₂, pos, ◌-ℤ◌, arith}
 use Rattle.std.proofs.lemmas.Int.{ints}
-use Rattle.solid_model.specs.Draws.{line_of}
+use Rattle.solid_model.specs.Segments.{line_of}
 use Rattle.solid_model.specs.Line.{IsNear}
 use Rattle.solid_model.proofs.Views.{is_full_at, has_edge_is}
 use Rattle.unit_search.proofs.Drawn.{IsNear-line_of, is_edge_of-same}

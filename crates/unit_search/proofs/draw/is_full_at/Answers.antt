@@ -2,7 +2,8 @@
 use Rattle.std.proofs.Common.{◌≡◌, ◌∙◌, ap, arith}
 use Rattle.std.proofs.lemmas.Int.{to_z-of_z}
 use Rattle.solid_model.specs.Cells.{is_full}
-use Rattle.solid_model.specs.Draws.{start_of, cell_in}
+use Rattle.solid_model.specs.Columns.{cell_in}
+use Rattle.solid_model.specs.Segments.{start_of}
 use Rattle.solid_model.specs.Frames.{frame_of}
 use Rattle.unit_search.proofs.Drawn.{list_any-same_cell}
 use Rattle.unit_search.proofs.draw.is_full_at.Goals as goal

@@ -1,7 +1,7 @@
 -- Where both cells beside the sight line are full.
 use Rattle.std.proofs.Common.{◌≡◌, true, ◌&&◌, ◌∙◌, sym, ap, ap₂, pos, ◌-ℤ◌, arith}
 use Rattle.std.proofs.lemmas.Int.{ints}
-use Rattle.solid_model.specs.Draws.{line_of}
+use Rattle.solid_model.specs.Segments.{line_of}
 use Rattle.solid_model.specs.Line.{IsNear}
 use Rattle.solid_model.proofs.Views.{is_full_at}
 use Rattle.unit_search.proofs.Drawn.{IsNear-line_of}

@@ -1,6 +1,6 @@
 use Rattle.std.proofs.Common.{◌+◌, get_or, sym, ◌∙◌, rules}
 use Rattle.std.proofs.lemmas.List.Sorted.{answers_always, list_any-IsPermutation}
-use Rattle.solid_model.specs.Draws.{start_of, line_of}
+use Rattle.solid_model.specs.Segments.{start_of, line_of}
 use Rattle.views.specs.Stretches.{is_drawn}
 use Rattle.views.proofs.InOrder.{begins_from}
 use Rattle.views.proofs.stretches.stretches_in_order.Goals as goal

@@ -1,0 +1,9 @@
+use Rattle.solid_model.proofs.Matched.{lies_in_box}
+use Rattle.solid_model.proofs.UnitBox.{lies_in_rectangle}
+use Rattle.solid_model.proofs.laws.places.matching_solids_lie_in_the_unit_box.Goals as goal
+
+pub returns-clause-view : goal.returns-clause-view
+returns-clause-view c = lies_in_rectangle
+
+pub returns-clause-three_views : goal.returns-clause-three_views
+returns-clause-three_views c = λ drawing s matches. lies_in_box drawing s matches
