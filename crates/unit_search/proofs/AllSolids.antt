@@ -1,9 +1,10 @@
 -- What is tried in the unit box is all that matches.
 use Rattle.std.proofs.Common.{◌≡◌, refl, inl, sym, subst, List, [], ◌∷◌, map}
+use Rattle.solid_model.specs.Frames.{frame_of}
 use Rattle.solid_model.specs.declared.cell.Cell.{Cell}
 use Rattle.solid_model.specs.declared.segment.Segment.{Segment}
 use Rattle.solid_model.specs.declared.segment.Style.{Style}
-use Rattle.solid_model.specs.Cells.{IsSolid, SameCells}
+use Rattle.solid_model.specs.Cells.{is_full, IsSolid, SameCells}
 use Rattle.solid_model.specs.Draws.{Draws}
 use Rattle.solid_model.specs.Lists.{Member}
 use Rattle.solid_model.specs.Matching.{Matches, AreSolidsOf}
@@ -15,7 +16,7 @@ use Rattle.solid_model.proofs.Styles.{same_drawing}
 use Rattle.unit_search.specs.declared.unit_box.UnitBox.{UnitBox}
 use Rattle.unit_search.specs.Demands.{demand_of, segments_of}
 use Rattle.solid_model.specs.Sets.{IsPart, IsSetOf}
-use Rattle.unit_search.specs.Sets.{Passes, AreTried}
+use Rattle.unit_search.specs.Tried.{Passes, AreTried}
 use Rattle.unit_search.specs.UnitBox.{IsUnitBox, cells_of, volume_of, IsInBox}
 use Rattle.unit_search.proofs.BoxCells.{cells-stated, cells-in_box, in_box-member, no_volume-empty}
 use Rattle.solid_model.proofs.SetsInOrder.{sets_are_listed}
@@ -52,7 +53,7 @@ matching_tried drawing b fits s matches =
     in_box-member b c (each-at (IsInBox b) s c within (same_cells-members t s (λ d. sym (same d)) c k)) in
     let first = some_member s matches.0 in
     let solid = solid_from_member t first.0 (same_cells-members s t same first.0 first.1) in
-    let draws : (g : Segment) → Draws t g (drawing g) = λ g. same_drawing s t same g (drawing g) (matches.1 g) in
+    let draws : (g : Segment) → Draws (frame_of g.view) (is_full t) g (drawing g) = λ g. same_drawing (frame_of g.view) (is_full s) (is_full t) same g (drawing g) (matches.1 g) in
     (t, (t, within-part (cells_of b) t (cells-stated b) form.1 in_cells, refl), (solid, demands_met drawing b t (λ g _. draws g)), same)
 
 -- where all sets of the box's cells were tried, the solids found are all that match

@@ -13,7 +13,7 @@ use Rattle.solid_model.specs.Runs.{run_covers, run_style, IsRun, DrawingRuns, vi
 use Rattle.solid_model.specs.Limits.{farthest_in_view}
 use Rattle.solid_model.proofs.Lists.{each-at, each-from}
 use Rattle.solid_model.proofs.RunStyles.{covers_parts, covers_from, covering_run}
-use Rattle.unit_search.specs.declared.extents.Corner.{Corner}
+use Rattle.unit_search.specs.declared.extents.FarCorner.{FarCorner}
 use Rattle.unit_search.specs.Extents.{far_end, joined, corner_of}
 use Rattle.unit_search.specs.UnitBox.{ReachesTo}
 use Rattle.unit_search.proofs.Windows.{ends_later}
@@ -47,7 +47,7 @@ last_shown d v false r runs k = covered_shown (runs_of d v false) r r.at (r.to -
 -- ---- to the right, and upwards
 
 -- the coordinate of a corner, upwards or to the right
-abbrev of_corner : Bool → Corner → ℤ
+abbrev of_corner : Bool → FarCorner → ℤ
 of_corner true c = c.up
 of_corner false c = c.right
 
@@ -76,7 +76,7 @@ ends_within upwards g r on before = by upwards g.upright g.right g.up on before
 
 module _ (upwards : Bool) where
   -- of two corners the greater coordinate counts
-  joined_is : (a b : Corner) → of_corner upwards (joined a b) ≡ int_max (of_corner upwards a) (of_corner upwards b)
+  joined_is : (a b : FarCorner) → of_corner upwards (joined a b) ≡ int_max (of_corner upwards a) (of_corner upwards b)
   joined_is a b = by upwards
     where
       by : (upwards : Bool) → of_corner upwards (joined a b) ≡ int_max (of_corner upwards a) (of_corner upwards b)
@@ -84,11 +84,11 @@ module _ (upwards : Bool) where
       by false = refl
 
   -- the far corner of some runs, after a corner that was reached before
-  abbrev corner_after : Bool → Corner → List Run → Corner
+  abbrev corner_after : Bool → FarCorner → List Run → FarCorner
   corner_after upright a rs = fold joined a (map (far_end upright) rs)
 
   -- it is no nearer than that corner, and than the far end of each run
-  corner_above : (upright : Bool) (a : Corner) (rs : List Run)
+  corner_above : (upright : Bool) (a : FarCorner) (rs : List Run)
       → (of_corner upwards a ≤ℤ of_corner upwards (corner_after upright a rs))
       × Each (λ r. of_corner upwards (far_end upright r) ≤ℤ of_corner upwards (corner_after upright a rs)) rs
   corner_above upright a [] = (omega (arith, ints), tt)
@@ -98,7 +98,7 @@ module _ (upwards : Bool) where
       (omega (arith, ints, clamps, more.0), (omega (arith, ints, clamps, more.0), more.1))
 
   -- and no farther than all of these are
-  corner_least : (upright : Bool) (a : Corner) (rs : List Run) (m : ℤ) → of_corner upwards a ≤ℤ m
+  corner_least : (upright : Bool) (a : FarCorner) (rs : List Run) (m : ℤ) → of_corner upwards a ≤ℤ m
       → Each (λ r. of_corner upwards (far_end upright r) ≤ℤ m) rs → of_corner upwards (corner_after upright a rs) ≤ℤ m
   corner_least upright a [] m first each = first
   corner_least upright a (r ∷ rs) m first each =
@@ -109,7 +109,7 @@ module _ (upwards : Bool) where
 -- ---- a view of a drawing
 
 -- the corner of level and upright runs together
-abbrev pub view_corner : DrawingRuns → View → Corner
+abbrev pub view_corner : DrawingRuns → View → FarCorner
 view_corner d v = joined (corner_of false (runs_of d v false)) (corner_of true (runs_of d v true))
 
 -- what a view keeps of its level and its upright runs
@@ -186,17 +186,17 @@ pub view_reaches : (d : DrawingRuns) → IsDrawing (style_in d) → (v : View) �
     → pos width ≡ (view_corner d v).right → pos height ≡ (view_corner d v).up → ReachesTo (style_in d) v width height
 view_reaches d is v runs width height wide high = record {
   fits = λ g of shown.
-      let begins = is.begins g shown in (
-        begins.0,
-        subst (λ z. far_right g ≤ℤ z) (sym wide) (shown_within false d v g of shown),
-        begins.1,
-        subst (λ z. far_up g ≤ℤ z) (sym high) (shown_within true d v g of shown),
-      );
+      let begins = (is.begins v).stands_from g of shown in record {
+        left = begins.0;
+        right = subst (λ z. far_right g ≤ℤ z) (sym wide) (shown_within false d v g of shown);
+        bottom = begins.1;
+        top = subst (λ z. far_up g ≤ℤ z) (sym high) (shown_within true d v g of shown);
+      };
   least = λ r u fits.
-      let some = is.left v in
+      let some = (is.begins v).at_left in
       let lies = fits some.0 some.1 some.2 in
       let later = ends_later some.0 in (
-        subst (λ z. z ≤ℤ r) (sym wide) (corner_within false d v runs r (omega (arith, ints, lies.0, lies.1, later.0)) (λ g of shown. (fits g of shown).1)),
-        subst (λ z. z ≤ℤ u) (sym high) (corner_within true d v runs u (omega (arith, ints, lies.2, lies.3, later.1)) (λ g of shown. (fits g of shown).3)),
+        subst (λ z. z ≤ℤ r) (sym wide) (corner_within false d v runs r (omega (arith, ints, lies.left, lies.right, later.0)) (λ g of shown. (fits g of shown).right)),
+        subst (λ z. z ≤ℤ u) (sym high) (corner_within true d v runs u (omega (arith, ints, lies.bottom, lies.top, later.1)) (λ g of shown. (fits g of shown).top)),
       );
 }

@@ -71,19 +71,19 @@ module _ (drawing : Segment → Style) (is : IsDrawing drawing) (v : View) where
   EndsWithin far m = (g : Segment) → g.view ≡ v → drawing g ≢ Blank → far g ≤ℤ m
 
   -- what is least of the natural numbers is least of all integers
-  least_of_all : (far : Segment → ℤ) → ((g : Segment) → drawing g ≢ Blank → pos 0 ≤ℤ far g)
+  least_of_all : (far : Segment → ℤ) → ((g : Segment) → g.view ≡ v → drawing g ≢ Blank → pos 0 ≤ℤ far g)
       → (m : ℕ) → ((k : ℕ) → EndsWithin far (pos k) → m ≤ k) → (r : ℤ) → EndsWithin far r → pos m ≤ℤ r
   least_of_all far positive m least r within =
-      let some = is.left v in
-      let bound : pos 0 ≤ℤ r = omega (arith, ints, positive some.0 some.2, within some.0 some.1 some.2) in
+      let some = (is.begins v).at_left in
+      let bound : pos 0 ≤ℤ r = omega (arith, ints, positive some.0 some.1 some.2, within some.0 some.1 some.2) in
       let k = natural r bound in
       let below = least k.0 (λ g of shown. subst (λ z. far g ≤ℤ z) (sym k.1) (within g of shown)) in
       omega (arith, ints, k.1)
 
   -- a shown segment ends at no coordinate below 0
-  ends_positive : (g : Segment) → drawing g ≢ Blank → (pos 0 ≤ℤ far_right g) × (pos 0 ≤ℤ far_up g)
-  ends_positive g shown =
-      let begins = is.begins g shown in
+  ends_positive : (g : Segment) → g.view ≡ v → drawing g ≢ Blank → (pos 0 ≤ℤ far_right g) × (pos 0 ≤ℤ far_up g)
+  ends_positive g of shown =
+      let begins = (is.begins v).stands_from g of shown in
       let later = ends_later g in
       (omega (arith, ints, begins.0, later.0), omega (arith, ints, begins.1, later.1))
 
@@ -93,10 +93,10 @@ module _ (drawing : Segment → Style) (is : IsDrawing drawing) (v : View) where
       least_somewhere (λ n. EndsWithin far_right (pos n)) 2000000000 2000000000 (omega arith) (λ g of shown. (is.near g shown).0) (λ width wide least_wide.
       least_somewhere (λ n. EndsWithin far_up (pos n)) 2000000000 2000000000 (omega arith) (λ g of shown. (is.near g shown).1) (λ height high least_high.
       never (record { width = width; height = height }) (record {
-        fits = λ g of shown. let begins = is.begins g shown in (begins.0, wide g of shown, begins.1, high g of shown);
+        fits = λ g of shown. let begins = (is.begins v).stands_from g of shown in record { left = begins.0; right = wide g of shown; bottom = begins.1; top = high g of shown };
         least = λ r u fits. (
-          least_of_all far_right (λ g shown. (ends_positive g shown).0) width least_wide r (λ g of shown. (fits g of shown).1),
-          least_of_all far_up (λ g shown. (ends_positive g shown).1) height least_high u (λ g of shown. (fits g of shown).3),
+          least_of_all far_right (λ g of shown. (ends_positive g of shown).0) width least_wide r (λ g of shown. (fits g of shown).right),
+          least_of_all far_up (λ g of shown. (ends_positive g of shown).1) height least_high u (λ g of shown. (fits g of shown).top),
         );
       })))
 

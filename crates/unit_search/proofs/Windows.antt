@@ -20,7 +20,8 @@ use Rattle.solid_model.specs.Matching.{Matches}
 use Rattle.solid_model.proofs.Fullness.{each_full, each_from_full}
 use Rattle.solid_model.proofs.Lists.{member-append, member-append_left, member-append_right, member-pieces, member-from_pieces, each-at, each-from, each-map, each-from_map}
 use Rattle.solid_model.proofs.Styles.{HasCellBeside, cell_beside_drawn, drawn_style_drawn, edge_not_blank}
-use Rattle.solid_model.proofs.UnitBox.{lies_in_unit_box}
+use Rattle.solid_model.proofs.Matched.{lies_in_box}
+use Rattle.solid_model.proofs.Views.{views_are_frames}
 use Rattle.unit_search.specs.declared.demands.Demand.{Demand}
 use Rattle.unit_search.specs.declared.unit_box.UnitBox.{UnitBox}
 use Rattle.unit_search.specs.Demands.{demand_of, window_segment, row_segments, window_segments, segments_in, view_segments, segments_of, IsMet, IsNearby}
@@ -136,14 +137,14 @@ IsNearby-demands drawing b small = each-map (demand_of drawing) IsNearby (segmen
     ((omega (arith, ints, starts.0), omega (arith, ints, starts.1)), (omega (arith, ints, starts.2), omega (arith, ints, starts.3)))))
 
 -- a solid that meets the demands draws what is shown in the windows
-pub draws_in_window : (drawing : Segment → Style) (b : UnitBox) (s : List Cell) → Each (IsMet s) (map (demand_of drawing) (segments_of b)) → (g : Segment) → StartsInWindow b g → Draws s g (drawing g)
+pub draws_in_window : (drawing : Segment → Style) (b : UnitBox) (s : List Cell) → Each (IsMet s) (map (demand_of drawing) (segments_of b)) → (g : Segment) → StartsInWindow b g → Draws (frame_of g.view) (is_full s) g (drawing g)
 draws_in_window drawing b s met g starts =
-    each-at (λ h. Draws s h (drawing h)) (segments_of b) g (each-from_map (demand_of drawing) (IsMet s) (segments_of b) met) (member-segments_of b g starts)
+    each-at (λ h. Draws (frame_of h.view) (is_full s) h (drawing h)) (segments_of b) g (each-from_map (demand_of drawing) (IsMet s) (segments_of b) met) (member-segments_of b g starts)
 
 -- and a solid that draws it meets them
-pub demands_met : (drawing : Segment → Style) (b : UnitBox) (s : List Cell) → ((g : Segment) → StartsInWindow b g → Draws s g (drawing g)) → Each (IsMet s) (map (demand_of drawing) (segments_of b))
+pub demands_met : (drawing : Segment → Style) (b : UnitBox) (s : List Cell) → ((g : Segment) → StartsInWindow b g → Draws (frame_of g.view) (is_full s) g (drawing g)) → Each (IsMet s) (map (demand_of drawing) (segments_of b))
 demands_met drawing b s draws =
-    each-map (demand_of drawing) (IsMet s) (segments_of b) (each-from (λ g. Draws s g (drawing g)) (segments_of b) (λ g m. draws g (segments_of-member b g m)))
+    each-map (demand_of drawing) (IsMet s) (segments_of b) (each-from (λ g. Draws (frame_of g.view) (is_full s) g (drawing g)) (segments_of b) (λ g m. draws g (segments_of-member b g m)))
 
 -- ---- outside the windows
 
@@ -162,25 +163,29 @@ place_in_window b c h Side true = ((h Z).0, (h Z).1, (h Y).0, (h Y).1)
 lies_within_from : (b : UnitBox) (v : View) (upright : Bool) (right up : ℤ) → let g : Segment = record { view = v; upright = upright; right = right; up = up } in
     pos 0 ≤ℤ start_of g → start_of g <ℤ pos (extent_of (along (frame_of v) upright).axis b) → pos 0 ≤ℤ line_of g → line_of g ≤ℤ pos (extent_of (across (frame_of v) upright).axis b)
     → LiesWithin (pos (extent_right b v)) (pos (extent_up b v)) g
-lies_within_from b v false right up from to below above = (from, omega (arith, ints), below, above)
-lies_within_from b v true right up from to below above = (below, above, from, omega (arith, ints))
+lies_within_from b v false right up from to below above = record { left = from; right = omega (arith, ints); bottom = below; top = above }
+lies_within_from b v true right up from to below above = record { left = below; right = above; bottom = from; top = omega (arith, ints) }
 
 module _ (b : UnitBox) (s : List Cell) (within : Each (IsInBox b) s) where
   -- a segment beside which a cell of the box is full lies in the window
-  beside_in_window : (g : Segment) → HasCellBeside s g → LiesWithin (pos (extent_right b g.view)) (pos (extent_up b g.view)) g
-  beside_in_window g (c, full, on, beside) =
-      let place = place_in_window b c (each_full (IsInBox b) s within c full) g.view g.upright in
-      let below : pos 0 ≤ℤ line_of g = ⊎_elim (λ e. omega (arith, ints, place.2)) (λ e. omega (arith, ints, place.2)) beside in
-      let above : line_of g ≤ℤ pos (extent_of (across (frame_of g.view) g.upright).axis b) = ⊎_elim (λ e. omega (arith, ints, place.3)) (λ e. omega (arith, ints, place.3)) beside in
+  beside_in_window : (g : Segment) → HasCellBeside (frame_of g.view) (views_are_frames g.view) (is_full s) g → LiesWithin (pos (extent_right b g.view)) (pos (extent_up b g.view)) g
+  beside_in_window g h =
+      let on = h.on_stretch in
+      let place = place_in_window b h.cell (each_full (IsInBox b) s within h.cell h.is_full) g.view g.upright in
+      let below : pos 0 ≤ℤ line_of g = ⊎_elim (λ e. omega (arith, ints, place.2)) (λ e. omega (arith, ints, place.2)) h.at_line in
+      let above : line_of g ≤ℤ pos (extent_of (across (frame_of g.view) g.upright).axis b) = ⊎_elim (λ e. omega (arith, ints, place.3)) (λ e. omega (arith, ints, place.3)) h.at_line in
       lies_within_from b g.view g.upright g.right g.up (omega (arith, ints, place.0)) (omega (arith, ints, place.1)) below above
 
   -- a segment that such a solid draws lies in the window
-  pub drawn_in_window : (g : Segment) (style : Style) → Draws s g style → style ≢ Blank → LiesWithin (pos (extent_right b g.view)) (pos (extent_up b g.view)) g
-  drawn_in_window g style draws shown = beside_in_window g (cell_beside_drawn s g style draws shown)
+  pub drawn_in_window : (g : Segment) (style : Style) → Draws (frame_of g.view) (is_full s) g style → style ≢ Blank → LiesWithin (pos (extent_right b g.view)) (pos (extent_up b g.view)) g
+  drawn_in_window g style draws shown = beside_in_window g (cell_beside_drawn (frame_of g.view) (views_are_frames g.view) (is_full s) g style draws shown)
 
   -- and so does one on which an edge projects
-  edge_in_window : (g : Segment) (k : ℤ) → IsTrue (has_edge s g k) → LiesWithin (pos (extent_right b g.view)) (pos (extent_up b g.view)) g
-  edge_in_window g k edge = let d = drawn_style_drawn s g in drawn_in_window g (drawn_style s g) d (edge_not_blank s g (drawn_style s g) d k edge)
+  edge_in_window : (g : Segment) (k : ℤ) → IsTrue (has_edge (frame_of g.view) (is_full s) g k) → LiesWithin (pos (extent_right b g.view)) (pos (extent_up b g.view)) g
+  edge_in_window g k edge =
+      let f = frame_of g.view in
+      let d = drawn_style_drawn f (views_are_frames g.view) s g in
+      drawn_in_window g (drawn_style f s g) d (edge_not_blank f (is_full s) g (drawn_style f s g) d k edge)
 
 -- a segment's far end isn't before its beginning
 pub ends_later : (g : Segment) → (g.right ≤ℤ far_right g) × (g.up ≤ℤ far_up g)
@@ -192,9 +197,9 @@ ends_later g = by g.upright g.right g.up
 
 -- a segment that lies in the window begins there
 pub lies_within-starts : (b : UnitBox) (g : Segment) → LiesWithin (pos (extent_right b g.view)) (pos (extent_up b g.view)) g → StartsInWindow b g
-lies_within-starts b g (left, right, bottom, top) =
+lies_within-starts b g lies =
     let later = ends_later g in
-    (left, omega (arith, ints, later.0, right), bottom, omega (arith, ints, later.1, top))
+    (lies.left, omega (arith, ints, later.0, lies.right), lies.bottom, omega (arith, ints, later.1, lies.top))
 
 -- ---- drawings that show nothing outside a box's windows
 
@@ -214,29 +219,21 @@ pub FitsWindows-unit_box : (drawing : Segment → Style) (b : UnitBox) → IsUni
 FitsWindows-unit_box drawing b (width, height, reaches, is) = subst (λ c. FitsWindows c drawing) (sym is) (λ v g of shown.
     let lies = (reaches v).fits g of shown in
     let wide = view_in_box width height v in
-    (lies.0, omega (arith, ints, lies.1, wide.0), lies.2, omega (arith, ints, lies.3, wide.1)))
+    record { left = lies.left; right = omega (arith, ints, lies.right, wide.0); bottom = lies.bottom; top = omega (arith, ints, lies.top, wide.1) })
 
 -- the cells of a solid that matches the drawing lie in the box
 pub matching-in_box : (b : UnitBox) (drawing : Segment → Style) (s : List Cell) → FitsWindows b drawing → Matches drawing s → Each (IsInBox b) s
-matching-in_box b drawing s fits matches = each_from_full (IsInBox b) s (λ c full a. by c full a)
-  where
-    place : (v : View) (c : Cell) → IsTrue (is_full s c) → (pos 0 ≤ℤ place_of (frame_of v).right c) × (place_of (frame_of v).right c <ℤ pos (extent_right b v)) × (pos 0 ≤ℤ place_of (frame_of v).up c) × (place_of (frame_of v).up c <ℤ pos (extent_up b v))
-    place v c full = lies_in_unit_box drawing s matches v (pos (extent_right b v)) (pos (extent_up b v)) (fits v) c full
-
-    by : (c : Cell) → IsTrue (is_full s c) → IsInBox b c
-    by c full X = let p = place Front c full in (p.0, p.1)
-    by c full Y = let p = place Top c full in (p.2, p.3)
-    by c full Z = let p = place Front c full in (p.2, p.3)
+matching-in_box b drawing s fits matches = each_from_full (IsInBox b) s (lies_in_box drawing s matches (λ a. pos (extent_of a b)) fits)
 
 -- a solid of the box that meets the demands draws what the drawing shows everywhere
 pub draws_from_demands : (drawing : Segment → Style) (b : UnitBox) (s : List Cell) → FitsWindows b drawing → Each (IsInBox b) s → Each (IsMet s) (map (demand_of drawing) (segments_of b))
-    → (g : Segment) → Draws s g (drawing g)
+    → (g : Segment) → Draws (frame_of g.view) (is_full s) g (drawing g)
 draws_from_demands drawing b s fits within met g = by (drawing g) refl
   where
-    in_window : LiesWithin (pos (extent_right b g.view)) (pos (extent_up b g.view)) g → Draws s g (drawing g)
+    in_window : LiesWithin (pos (extent_right b g.view)) (pos (extent_up b g.view)) g → Draws (frame_of g.view) (is_full s) g (drawing g)
     in_window lies = draws_in_window drawing b s met g (lies_within-starts b g lies)
 
-    by : (style : Style) → drawing g ≡ style → Draws s g (drawing g)
-    by Blank e = subst (Draws s g) (sym e) (λ k edge. (subst (Draws s g) e (in_window (edge_in_window b s within g k edge))) k edge)
+    by : (style : Style) → drawing g ≡ style → Draws (frame_of g.view) (is_full s) g (drawing g)
+    by Blank e = subst (Draws (frame_of g.view) (is_full s) g) (sym e) (λ k edge. (subst (Draws (frame_of g.view) (is_full s) g) e (in_window (edge_in_window b s within g k edge))) k edge)
     by Dashed e = in_window (fits g.view g refl (λ none. cc))
     by Solid e = in_window (fits g.view g refl (λ none. cc))

@@ -1,5 +1,7 @@
 -- What a drawing demands of a solid in the windows of its views.
 use Rattle.std.specs.Prelude.{ℕ, ◌+◌, List, [], ◌∷◌, ◌++◌, Bool, true, false, pos}
+use Rattle.solid_model.specs.Cells.{is_full}
+use Rattle.solid_model.specs.Frames.{frame_of}
 use Rattle.solid_model.specs.declared.cell.Cell.{Cell}
 use Rattle.solid_model.specs.declared.frame.View.{View}
 use Rattle.solid_model.specs.declared.frame.View.TheVariants.{Front, Top, Side}
@@ -42,7 +44,7 @@ segments_of b = view_segments b Front ++ view_segments b Top ++ view_segments b 
 
 -- the solid's drawing has the demanded style
 abbrev pub IsMet : List Cell → Demand → Type 0
-IsMet s d = Draws s d.segment d.style
+IsMet s d = Draws (frame_of d.segment.view) (is_full s) d.segment d.style
 
 -- the demand's segment begins near the origin
 abbrev pub IsNearby : Demand → Type 0

@@ -2,4 +2,4 @@ pub mod Draw
 pub mod Extents
 pub mod UnitBox
 pub mod Demands
-pub mod Sets
+pub mod Tried

@@ -48,7 +48,7 @@ fn is_edge_of(far: bool, far_before: bool, near: bool, near_before: bool) -> boo
 fn has_edge(cells: &[Cell], segment: &Segment, depth: i64) -> bool
     requires near { IsNearOrigin segment.now }
     requires depth_near { IsNear depth }
-    ensures { result ≡ has_edge cells.now segment.now depth }
+    ensures { result ≡ has_edge (frame_of segment.now.view) (is_full cells.now) segment.now depth }
 {
     let line = segment.line();
     let far = is_full_at(cells, segment, line, depth);
@@ -61,7 +61,7 @@ fn has_edge(cells: &[Cell], segment: &Segment, depth: i64) -> bool
 /// The sight line through the segment's middle is inside the solid there: both cells beside it are full.
 fn is_inside(cells: &[Cell], segment: &Segment, depth: i64) -> bool
     requires near { IsNearOrigin segment.now }
-    ensures { result ≡ is_inside cells.now segment.now depth }
+    ensures { result ≡ is_inside (frame_of segment.now.view) (is_full cells.now) segment.now depth }
 {
     let line = segment.line();
     is_full_at(cells, segment, line, depth) && is_full_at(cells, segment, line - 1, depth)
@@ -73,7 +73,7 @@ pub fn drawn_style(cells: &[Cell], segment: &Segment, first: i64, depths: u32) -
     requires first_near { IsNear first }
     requires last_near { IsNear (first +ℤ pos depths) }
     requires within { LiesBetween (frame_of segment.now.view).away first (first +ℤ pos depths) cells.now }
-    ensures { Draws cells.now segment.now result }
+    ensures { Draws (frame_of segment.now.view) (is_full cells.now) segment.now result }
 {
     let mut style = Style::Blank;
     let mut hidden = false;

@@ -10,7 +10,7 @@ use solid_model::{Drawing, Run, View};
 
 /// The point of a view that lies so far to the right and up.
 #[derive(Clone, Copy, Debug)]
-struct Corner {
+struct FarCorner {
     right: i64,
     up: i64,
 }
@@ -22,21 +22,21 @@ pub struct Extents {
     pub height: u32,
 }
 
-impl Corner {
+impl FarCorner {
     /// The view's least point.
-    const ORIGIN: Corner = Corner { right: 0, up: 0 };
+    const ORIGIN: FarCorner = FarCorner { right: 0, up: 0 };
 
     /// The far end of a level or an upright run.
-    fn far_end(run: &Run, upright: bool) -> Corner
+    fn far_end(run: &Run, upright: bool) -> FarCorner
         ensures { result ≡ far_end upright run.now }
     {
         if upright {
-            Corner {
+            FarCorner {
                 right: run.at,
                 up: run.to,
             }
         } else {
-            Corner {
+            FarCorner {
                 right: run.to,
                 up: run.at,
             }
@@ -44,10 +44,10 @@ impl Corner {
     }
 
     /// The far corner of the rectangle from the origin that reaches both.
-    fn joined(self, other: Corner) -> Corner
+    fn joined(self, other: FarCorner) -> FarCorner
         ensures { result ≡ joined self other }
     {
-        Corner {
+        FarCorner {
             right: self.right.max(other.right),
             up: self.up.max(other.up),
         }
@@ -55,18 +55,18 @@ impl Corner {
 }
 
 /// The far corner of the rectangle from the origin that reaches the far ends of these level or upright runs.
-fn corner_of(runs: &[Run], upright: bool) -> Corner
+fn corner_of(runs: &[Run], upright: bool) -> FarCorner
     ensures { result ≡ corner_of upright runs.now }
 {
-    let mut corner = Corner::ORIGIN;
+    let mut corner = FarCorner::ORIGIN;
     for run in runs {
-        corner = corner.joined(Corner::far_end(run, upright));
+        corner = corner.joined(FarCorner::far_end(run, upright));
     }
     corner
 }
 
 /// The far corner of the rectangle from the origin in which a view of the drawing lies.
-fn view_corner(drawing: &Drawing, view: View) -> Corner
+fn view_corner(drawing: &Drawing, view: View) -> FarCorner
     ensures right { (pos 0 ≤ℤ result.right) × (result.right ≤ℤ farthest_in_view) }
     ensures up { (pos 0 ≤ℤ result.up) × (result.up ≤ℤ farthest_in_view) }
     ensures reaches { ReachesTo (style_in drawing.now) view (unsigned_abs result.right) (unsigned_abs result.up) }

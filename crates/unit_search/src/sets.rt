@@ -5,7 +5,7 @@ ghost use Rattle.solid_model.specs.declared.cell.Cell.{Cell};
 ghost use Rattle.solid_model.specs.Lists.{Each};
 ghost use Rattle.solid_model.specs.Orders.{IsInStatedForm};
 ghost use Rattle.unit_search.specs.Demands.{IsNearby};
-ghost use Rattle.unit_search.specs.Sets.{AreTried};
+ghost use Rattle.unit_search.specs.Tried.{AreTried};
 ghost use Rattle.unit_search.specs.UnitBox.{IsSmall, IsInBox};
 
 use crate::demands::{Demand, are_met};

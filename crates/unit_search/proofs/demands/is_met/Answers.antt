@@ -2,6 +2,7 @@
 use Rattle.std.proofs.Common.{◌≡◌, pos, ◌+ℤ◌, to_z, of_z, w64, sym, ◌∙◌, ap, ap₂, subst, arith}
 use Rattle.std.proofs.lemmas.Int.{ints}
 use denote.Enum.Bare.{same_true, true_same}
+use Rattle.solid_model.specs.Cells.{is_full}
 use Rattle.solid_model.specs.declared.frame.Direction.{Direction}
 use Rattle.solid_model.specs.declared.frame.Frame.{Frame}
 use Rattle.solid_model.specs.contracts.segment.Style as style
@@ -25,6 +26,6 @@ pub returns : goal.returns
 returns c =
     let s = c.args.cells.now in
     let g = c.args.demand.now.segment in (
-      λ same. subst (Draws s g) (same_true style.the_type tt c.drawn_style.result c.args.demand.now.style (sym c.eq.ensures ∙ same)) c.drawn_style.ensures,
-      λ met. c.eq.ensures ∙ true_same style.the_type c.drawn_style.result c.args.demand.now.style (one_style s g c.drawn_style.result c.args.demand.now.style c.drawn_style.ensures met),
+      λ same. subst (Draws (frame_of g.view) (is_full s) g) (same_true style.the_type tt c.drawn_style.result c.args.demand.now.style (sym c.eq.ensures ∙ same)) c.drawn_style.ensures,
+      λ met. c.eq.ensures ∙ true_same style.the_type c.drawn_style.result c.args.demand.now.style (one_style (frame_of g.view) (is_full s) g c.drawn_style.result c.args.demand.now.style c.drawn_style.ensures met),
     )

@@ -3,7 +3,7 @@ use Rattle.std.proofs.Common.{◌≡◌, ◌∙◌, ap, ap₂, subst, false, tru
 use Rattle.std.proofs.lemmas.Int.{ints}
 use Rattle.solid_model.specs.Lists.{Each}
 use Rattle.solid_model.specs.Runs.{IsRun, ViewRuns, view_runs}
-use Rattle.unit_search.specs.declared.extents.Corner.{Corner}
+use Rattle.unit_search.specs.declared.extents.FarCorner.{FarCorner}
 use Rattle.unit_search.specs.Extents.{joined, corner_of}
 use Rattle.unit_search.proofs.FarEnds.{view_corner, keeps_runs, corner_near, view_reaches}
 use Rattle.unit_search.proofs.extents.view_corner.Goals as goal
@@ -19,8 +19,8 @@ returns c =
     (c.corner_of-level.ensures ∙ ap (corner_of false) (c.as_slice.ensures.same ∙ level))
     (c.corner_of-upright.ensures ∙ ap (corner_of true) (c.as_slice-2.ensures.same ∙ upright)) in
     let near = corner_near d c.view-runs.ensures.kept v runs in
-    let right : c.joined.result.right ≡ (view_corner d v).right = ap (λ (k : Corner). k.right) corner in
-    let up : c.joined.result.up ≡ (view_corner d v).up = ap (λ (k : Corner). k.up) corner in
+    let right : c.joined.result.right ≡ (view_corner d v).right = ap (λ (k : FarCorner). k.right) corner in
+    let up : c.joined.result.up ≡ (view_corner d v).up = ap (λ (k : FarCorner). k.up) corner in
     record {
       right = (omega (arith, ints, near.0, right), omega (arith, ints, near.1, right));
       up = (omega (arith, ints, near.2, up), omega (arith, ints, near.3, up));

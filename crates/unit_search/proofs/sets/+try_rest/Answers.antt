@@ -5,7 +5,7 @@ use Rattle.solid_model.specs.Orders.{ComesBefore}
 use Rattle.unit_search.specs.UnitBox.{IsInBox}
 use Rattle.solid_model.proofs.Lists.{each-without, ascends-without}
 use Rattle.solid_model.proofs.SetsInOrder.{sets-both}
-use Rattle.unit_search.specs.Sets.{Passes}
+use Rattle.unit_search.specs.Tried.{Passes}
 use Rattle.unit_search.proofs.sets.+try_rest.Goals as goal
 
 -- without the cell, the chosen cells and the rest still lie in the box, in the stated form

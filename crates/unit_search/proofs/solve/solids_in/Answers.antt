@@ -1,7 +1,7 @@
 use Rattle.std.proofs.Common.{[], map}
 use Rattle.solid_model.specs.Runs.{style_in}
 use Rattle.unit_search.specs.Demands.{demand_of, segments_of}
-use Rattle.unit_search.specs.Sets.{AreTried}
+use Rattle.unit_search.specs.Tried.{AreTried}
 use Rattle.unit_search.specs.UnitBox.{cells_of}
 use Rattle.unit_search.proofs.AllSolids.{all_found}
 use Rattle.unit_search.proofs.BoxCells.{cells-stated, cells-in_box}
