@@ -11,6 +11,7 @@ pub mod Sheets
 pub mod KeptDrawings
 pub mod FirstCells
 pub mod Matched
+pub mod ColumnRule
 pub mod Parts
 pub mod SetsInOrder
 pub mod MaximalStretches

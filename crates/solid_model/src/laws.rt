@@ -8,8 +8,9 @@ mod sheets;
 mod stretches;
 
 pub use drawings::{
-    each_segment_has_one_style, fillings_round_an_edge, order_and_repeats_do_not_matter,
-    quartered_cube, small_drawings, views_are_seen_from_their_sides,
+    column_rule, each_segment_has_one_style, fillings_round_an_edge,
+    order_and_repeats_do_not_matter, quartered_cube, small_drawings,
+    views_are_seen_from_their_sides,
 };
 pub use orders::{
     all_matching_solids_are_one_list, one_stated_form, small_orders, solids_are_ordered,
