@@ -1,14 +1,15 @@
 -- The column rule: the style of a segment by the two columns of cells beside it.
-use Rattle.std.proofs.Common.{◌≡◌, ◌≢◌, ◌⊎◌, inl, inr, ⊎_elim, ◌↔◌, Bool, true, false, not, ◌&&◌, ◌||◌, List, ℤ, pos, ◌-ℤ◌, ◌≤ℤ◌, ◌<ℤ◌, IsTrue, refl, ap, ap₂, sym, subst, ◌∙◌, arith}
+use Rattle.std.proofs.Common.{◌≡◌, ◌≢◌, ⊎_elim, Bool, true, false, not, ◌&&◌, ◌||◌, List, ℤ, pos, ◌-ℤ◌, ◌≤ℤ◌, ◌<ℤ◌, IsTrue, refl, ap, ap₂, sym, subst, ◌∙◌, arith}
 use Rattle.std.specs.List.{list_any}
 use Rattle.std.proofs.lemmas.Bool.{false≢true, both_ways, and_parts, or_cases, or_left, or_right, false_from_ne_true}
 use Rattle.std.proofs.lemmas.Int.{ints, by_lt_z}
 use Rattle.solid_model.specs.declared.cell.Cell.{Cell}
 use Rattle.solid_model.specs.declared.frame.Frame.{Frame}
 use Rattle.solid_model.specs.declared.segment.Segment.{Segment}
+use Rattle.solid_model.specs.declared.segment.Style.{Style}
 use Rattle.solid_model.specs.declared.segment.Style.TheVariants.{Blank, Dashed, Solid}
 use Rattle.solid_model.specs.Cells.{is_full}
-use Rattle.solid_model.specs.Columns.{column_after, column_before, IsFirstFull, HaveSameFirstFull}
+use Rattle.solid_model.specs.Columns.{column_after, column_before, IsFirstFull, HaveSameFirstFull, ColumnsDraw}
 use Rattle.solid_model.specs.Draws.{has_edge, IsHidden, Draws}
 use Rattle.solid_model.specs.DrawnStyle.{cell_depths}
 use Rattle.solid_model.specs.Edges.{agree, is_edge_of}
@@ -48,6 +49,12 @@ differ_from true true h = absurd (h refl)
 differ_from true false h = refl
 differ_from false true h = refl
 differ_from false false h = absurd (h refl)
+
+same_agree : (x y : Bool) → x ≡ y → not (agree x y) ≡ false
+same_agree true true e = refl
+same_agree true false e = absurd (false≢true (sym e))
+same_agree false true e = absurd (false≢true e)
+same_agree false false e = refl
 
 -- of two that differ one is full
 one_full : (x y : Bool) → not (agree x y) ≡ true → (x || y) ≡ true
@@ -105,6 +112,19 @@ module _ (f : Frame) (is : IsFrame f) (s : List Cell) (g : Segment) where
   edge_is : (k : ℤ) → has_edge f (is_full s) g k ≡ is_edge_of (after k) (before k) (after (k -ℤ pos 1)) (before (k -ℤ pos 1))
   edge_is = has_edge_is f is (is_full s) g
 
+  -- where the columns differ, an edge stands at the least depth at which they do
+  parting_edge : (k : ℤ) → after k ≢ before k → (m : ℤ) × IsTrue (has_edge f (is_full s) g m)
+  parting_edge k differ =
+      let test = λ (n : ℤ). not (agree (after n) (before n)) in
+      let m = least_depth test (λ n. one_full (after n) (before n)) k (differ_from _ _ differ) in
+      let equal = same_from_agree (after (m.0 -ℤ pos 1)) (before (m.0 -ℤ pos 1)) (none_nearer test m.0 (m.0 -ℤ pos 1) m.1 (omega (arith, ints))) in
+      (m.0, edge_is m.0 ∙ (λ t. is_edge_of (after m.0) (before m.0) (after (m.0 -ℤ pos 1)) (sym equal t)) ∙ edge_where_parting (after m.0) (before m.0) (after (m.0 -ℤ pos 1)) m.1.passes)
+
+  -- so beside a blank segment they are equal
+  pub beside_blank : Draws f (is_full s) g Blank → (k : ℤ) → after k ≡ before k
+  beside_blank blank k = same_from_agree (after k) (before k) (false_from_ne_true (not (agree (after k) (before k))) (λ e.
+      let edge = parting_edge k (λ same. both_ways (not (agree (after k) (before k))) (same_agree (after k) (before k) same) e) in blank edge.0 edge.1))
+
   -- ---- columns with the same first full depth
 
   -- the first full depth of either is that of both
@@ -146,13 +166,7 @@ module _ (f : Frame) (is : IsFrame f) (s : List Cell) (g : Segment) where
 
   -- columns that differ, with the same first full depth
   pub same_first : (k : ℤ) → after k ≢ before k → HaveSameFirstFull after before → Draws f (is_full s) g Dashed
-  same_first k differ same =
-      let test = λ (n : ℤ). not (agree (after n) (before n)) in
-      let m = least_depth test (λ n. one_full (after n) (before n)) k (differ_from _ _ differ) in
-      let equal = same_from_agree (after (m.0 -ℤ pos 1)) (before (m.0 -ℤ pos 1)) (none_nearer test m.0 (m.0 -ℤ pos 1) m.1 (omega (arith, ints))) in (
-        (m.0, edge_is m.0 ∙ (λ t. is_edge_of (after m.0) (before m.0) (after (m.0 -ℤ pos 1)) (sym equal t)) ∙ edge_where_parting (after m.0) (before m.0) (after (m.0 -ℤ pos 1)) m.1.passes),
-        hidden_behind same,
-      )
+  same_first k differ same = (parting_edge k differ, hidden_behind same)
 
   -- ---- columns with different first full depths
 
@@ -205,3 +219,9 @@ module _ (f : Frame) (is : IsFrame f) (s : List Cell) (g : Segment) where
                 let least = m.1.least hidden.0 (or_left (after hidden.0) (before hidden.0) (and_parts _ _ hidden.2).0) in
                 omega (arith, ints),
           )
+
+  -- a solid draws what the two columns draw
+  pub columns_drawn : (style : Style) → ColumnsDraw after before style → Draws f (is_full s) g style
+  columns_drawn Blank same = equal_columns f is (is_full s) g same
+  columns_drawn Dashed h = same_first h.0.0 h.0.1 h.1
+  columns_drawn Solid differ = different_first differ

@@ -1,3 +1,4 @@
+pub mod Integers
 pub mod Lists
 pub mod ListPlaces
 pub mod Fullness
@@ -12,6 +13,7 @@ pub mod KeptDrawings
 pub mod FirstCells
 pub mod Matched
 pub mod ColumnRule
+pub mod InGrid
 pub mod Parts
 pub mod SetsInOrder
 pub mod MaximalStretches

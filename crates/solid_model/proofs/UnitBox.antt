@@ -47,7 +47,7 @@ inner_from_outer Least a b h = h
 inner_from_outer Greatest a b h = omega (arith, ints)
 
 -- of the full cells one is outermost by a measure
-outermost_by : (end : End) (f : Cell → ℤ) (s : List Cell) (c : Cell) → IsTrue (is_full s c)
+pub outermost_by : (end : End) (f : Cell → ℤ) (s : List Cell) (c : Cell) → IsTrue (is_full s c)
     → (m : Cell) × IsTrue (is_full s m) × ((b : Cell) → IsTrue (is_full s b) → IsOuter end (f m) (f b))
 outermost_by Least f s c full =
     let m = least_member f (λ _. true) s c (is_full-member s c full) refl in

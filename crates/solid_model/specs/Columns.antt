@@ -1,8 +1,10 @@
 -- Columns of cells along the sight axis of a view, from depth to depth.
-use Rattle.std.specs.Prelude.{◌≡◌, ◌↔◌, Bool, false, ℤ, pos, ◌-ℤ◌, ◌<ℤ◌, IsTrue}
+use Rattle.std.specs.Prelude.{◌≡◌, ◌≢◌, ◌↔◌, Bool, false, ℤ, pos, ◌-ℤ◌, ◌<ℤ◌, IsTrue}
 use Rattle.solid_model.specs.declared.cell.Cell.{Cell}
 use Rattle.solid_model.specs.declared.frame.Frame.{Frame}
 use Rattle.solid_model.specs.declared.segment.Segment.{Segment}
+use Rattle.solid_model.specs.declared.segment.Style.{Style}
+use Rattle.solid_model.specs.declared.segment.Style.TheVariants.{Blank, Dashed, Solid}
 use Rattle.solid_model.specs.Frames.{cell_on, along, across, at_places}
 use Rattle.solid_model.specs.Segments.{start_of, line_of}
 
@@ -32,3 +34,10 @@ IsFirstFull column k = IsTrue (column k) × ((n : ℤ) → n <ℤ k → column n
 -- two columns have the same first full depth, or neither has one
 abbrev pub HaveSameFirstFull : (ℤ → Bool) → (ℤ → Bool) → Type 0
 HaveSameFirstFull a b = (k : ℤ) → IsFirstFull a k ↔ IsFirstFull b k
+
+-- The style that two columns draw between them. Blank: they are equal. Dashed: they differ, and have the same first full depth.
+-- Solid: their first full depths differ; a column that is never full has none.
+abbrev pub ColumnsDraw : (ℤ → Bool) → (ℤ → Bool) → Style → Type 0
+ColumnsDraw a b Blank = (k : ℤ) → a k ≡ b k
+ColumnsDraw a b Dashed = ((k : ℤ) × (a k ≢ b k)) × HaveSameFirstFull a b
+ColumnsDraw a b Solid = HaveSameFirstFull a b → ⊥

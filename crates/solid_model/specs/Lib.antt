@@ -19,3 +19,5 @@ pub mod Matching
 pub mod Stretches
 pub mod SmallRuns
 pub mod SmallSheet
+pub mod Grid
+pub mod Panels

@@ -21,6 +21,10 @@ farthest_on_sheet = 1000000000
 abbrev pub farthest_in_view : ℤ
 farthest_in_view = pos 2000000000
 
+-- the most grid coordinates of an axis
+abbrev pub most_grid_coordinates : ℕ
+most_grid_coordinates = 64
+
 -- the most cells of a box that is searched
 abbrev pub most_cells : ℕ
 most_cells = 12

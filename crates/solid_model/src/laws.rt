@@ -1,6 +1,7 @@
 //! The laws over the definitions. Each is the contract of a function that does nothing.
 
 mod drawings;
+mod grid;
 mod orders;
 mod places;
 mod runs;
@@ -12,6 +13,7 @@ pub use drawings::{
     order_and_repeats_do_not_matter, quartered_cube, small_drawings,
     views_are_seen_from_their_sides,
 };
+pub use grid::{matching_solids_lie_in_the_grid, one_list_of_grid_coordinates};
 pub use orders::{
     all_matching_solids_are_one_list, one_stated_form, small_orders, solids_are_ordered,
 };

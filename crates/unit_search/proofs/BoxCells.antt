@@ -96,11 +96,6 @@ cells-in_box b = each-from (IsInBox b) (cells_of b) (λ c m.
     at x y z in_x in_y in_z Y = (omega (arith, ints), omega (arith, ints))
     at x y z in_x in_y in_z Z = (omega (arith, ints), omega (arith, ints))
 
--- an integer that isn't negative is a natural number
-pub natural : (z : ℤ) → pos 0 ≤ℤ z → (n : ℕ) × (pos n ≡ z)
-natural (pos n) h = (n, refl)
-natural (negsuc n) h = absurd (omega (arith, ints))
-
 -- each cell that lies in a box is one of its cells
 pub in_box-member : (b : UnitBox) (c : Cell) → IsInBox b c → Member (cells_of b) c
 in_box-member b c h =

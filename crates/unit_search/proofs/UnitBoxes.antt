@@ -12,7 +12,7 @@ use Rattle.solid_model.specs.Runs.{IsDrawing}
 use Rattle.unit_search.specs.declared.extents.Extents.{Extents}
 use Rattle.unit_search.specs.declared.unit_box.UnitBox.{UnitBox}
 use Rattle.unit_search.specs.UnitBox.{box_with, ReachesTo, IsUnitBox}
-use Rattle.unit_search.proofs.BoxCells.{natural}
+use Rattle.solid_model.proofs.Integers.{natural}
 use Rattle.unit_search.proofs.Windows.{ends_later}
 
 -- ---- at most one

@@ -26,7 +26,7 @@ use Rattle.unit_search.specs.declared.demands.Demand.{Demand}
 use Rattle.unit_search.specs.declared.unit_box.UnitBox.{UnitBox}
 use Rattle.unit_search.specs.Demands.{demand_of, window_segment, row_segments, window_segments, segments_in, view_segments, segments_of, IsMet, IsNearby}
 use Rattle.unit_search.specs.UnitBox.{box_with, IsUnitBox, extent_of, extent_right, extent_up, IsSmall, IsInBox}
-use Rattle.unit_search.proofs.BoxCells.{natural}
+use Rattle.solid_model.proofs.Integers.{natural}
 
 -- ---- the segments of the windows
 

@@ -1,6 +1,6 @@
 //! Laws of the drawing of a solid.
 
-ghost use Rattle.std.specs.Prelude.{◌≡◌, ◌≢◌, Bool, true, false, List, [], ◌∷◌, ℤ, pos};
+ghost use Rattle.std.specs.Prelude.{◌≡◌, Bool, true, false, List, [], ◌∷◌, pos};
 ghost use Rattle.solid_model.specs.declared.cell.Cell.{Cell};
 ghost use Rattle.solid_model.specs.declared.frame.Frame.{Frame};
 ghost use Rattle.solid_model.specs.declared.frame.View.{View};
@@ -9,7 +9,7 @@ ghost use Rattle.solid_model.specs.declared.segment.Segment.{Segment};
 ghost use Rattle.solid_model.specs.declared.segment.Style.{Style};
 ghost use Rattle.solid_model.specs.declared.segment.Style.TheVariants.{Blank, Dashed, Solid};
 ghost use Rattle.solid_model.specs.Cells.{is_full, SameCells};
-ghost use Rattle.solid_model.specs.Columns.{column_after, column_before, HaveSameFirstFull};
+ghost use Rattle.solid_model.specs.Columns.{column_after, column_before, ColumnsDraw};
 ghost use Rattle.solid_model.specs.Draws.{Draws};
 ghost use Rattle.solid_model.specs.DrawnStyle.{drawn_style, solid_drawing};
 ghost use Rattle.solid_model.specs.Edges.{is_edge_of};
@@ -42,17 +42,10 @@ pub fn fillings_round_an_edge()
     ensures diagonal { is_edge_of true false false true ∷ is_edge_of false true true false ∷ [] ≡ true ∷ true ∷ [] }
 {}
 
-/// The column rule, in any frame. Equal columns beside a segment draw nothing; columns with different first full depths draw
-/// it solid, where a column without a full cell has none; columns that differ and have the same first full depth draw it
-/// dashed.
+/// The column rule, in any frame: a solid draws on a segment what the two columns of cells beside it draw between them.
 pub fn column_rule()
-    ensures equal { (f : Frame) → IsFrame f → (full : Cell → Bool) (g : Segment)
-        → ((k : ℤ) → column_after f full g k ≡ column_before f full g k) → Draws f full g Blank }
-    ensures different_first { (f : Frame) → IsFrame f → (s : List Cell) (g : Segment)
-        → (HaveSameFirstFull (column_after f (is_full s) g) (column_before f (is_full s) g) → ⊥) → Draws f (is_full s) g Solid }
-    ensures same_first { (f : Frame) → IsFrame f → (s : List Cell) (g : Segment)
-        → (k : ℤ) → column_after f (is_full s) g k ≢ column_before f (is_full s) g k
-        → HaveSameFirstFull (column_after f (is_full s) g) (column_before f (is_full s) g) → Draws f (is_full s) g Dashed }
+    ensures { (f : Frame) → IsFrame f → (s : List Cell) (g : Segment) (style : Style)
+        → ColumnsDraw (column_after f (is_full s) g) (column_before f (is_full s) g) style → Draws f (is_full s) g style }
 {}
 
 /// Small drawings, written out by hand. Lines of level segments are listed upwards, lines of upright ones from the left,

@@ -1,0 +1,77 @@
+//! Grids: the positions at which a drawing shows something.
+
+use crate::cell::Axis;
+use crate::panels::Panels;
+use std::marker::Model;
+
+/// The grid of a drawing: its coordinates along the three axes, 1 to 64 each, in order, and the styles of its segments.
+#[derive(Debug, Drop)]
+pub struct Grid {
+    xs: Vec<i64>,
+    ys: Vec<i64>,
+    zs: Vec<i64>,
+    panels: Panels,
+}
+
+impl Model for Grid {
+    ghost use Rattle.solid_model.specs.Panels.{GridParts, IsGrid};
+
+    ghost Value = { GridParts };
+
+    ghost view = { λ s. record { xs = s.xs.items; ys = s.ys.items; zs = s.zs.items; panels = s.panels } };
+
+    ghost invariant = { λ s. IsGrid record { xs = s.xs.items; ys = s.ys.items; zs = s.zs.items; panels = s.panels } };
+}
+
+impl Grid {
+    ghost use Rattle.std.specs.Prelude.{◌≡◌};
+    ghost use Rattle.solid_model.specs.Panels.{coordinates_of, IsGrid};
+
+    /// The grid with these coordinates, whose segments have these styles: those of a drawing.
+    pub fn new(xs: Vec<i64>, ys: Vec<i64>, zs: Vec<i64>, panels: Panels) -> Grid
+        requires { IsGrid record { xs = xs.items; ys = ys.items; zs = zs.items; panels = panels } }
+        ensures { result ≡ record { xs = xs.items; ys = ys.items; zs = zs.items; panels = panels } }
+    {
+        Grid { xs, ys, zs, panels }
+    }
+
+    /// The coordinates along the x axis.
+    pub fn xs(&self) -> &[i64]
+        ensures { result.now ≡ self.now.xs }
+    {
+        self.xs.as_slice()
+    }
+
+    /// The coordinates along the y axis.
+    pub fn ys(&self) -> &[i64]
+        ensures { result.now ≡ self.now.ys }
+    {
+        self.ys.as_slice()
+    }
+
+    /// The coordinates along the z axis.
+    pub fn zs(&self) -> &[i64]
+        ensures { result.now ≡ self.now.zs }
+    {
+        self.zs.as_slice()
+    }
+
+    /// The coordinates along an axis.
+    pub fn coordinates(&self, axis: Axis) -> &[i64]
+        ensures same { result.now ≡ coordinates_of self.now axis }
+        ensures kept { IsGrid self.now }
+    {
+        match axis {
+            Axis::X => self.xs.as_slice(),
+            Axis::Y => self.ys.as_slice(),
+            Axis::Z => self.zs.as_slice(),
+        }
+    }
+
+    /// The styles of its segments.
+    pub fn panels(&self) -> &Panels
+        ensures { result.now ≡ self.now.panels }
+    {
+        &self.panels
+    }
+}

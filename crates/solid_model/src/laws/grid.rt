@@ -1,0 +1,32 @@
+//! Laws of the grid of a drawing.
+
+ghost use Rattle.std.specs.Prelude.{◌≡◌, List, ℤ, IsTrue};
+ghost use Rattle.solid_model.specs.declared.cell.Axis.{Axis};
+ghost use Rattle.solid_model.specs.declared.cell.Cell.{Cell};
+ghost use Rattle.solid_model.specs.declared.segment.Segment.{Segment};
+ghost use Rattle.solid_model.specs.declared.segment.Style.{Style};
+ghost use Rattle.solid_model.specs.Cells.{coordinate, cell_before, is_full};
+ghost use Rattle.solid_model.specs.Grid.{IsGridCoordinate, AreGridCoordinates, Coordinates, GridCell, LiesInGridCell, LiesInGrid};
+ghost use Rattle.solid_model.specs.Matching.{Matches};
+
+/// A drawing has one list of grid coordinates along an axis.
+pub fn one_list_of_grid_coordinates()
+    ensures { (drawing : Segment → Style) (a : Axis) (zs ws : List ℤ)
+        → AreGridCoordinates drawing a zs → AreGridCoordinates drawing a ws → zs ≡ ws }
+{}
+
+/// A matching solid lies in the grid. Where a cell begins at no grid coordinate along an axis, it and the cell before it are
+/// both full or both empty, since nothing is drawn between the two slices of cells, and columns beside a blank segment are
+/// equal. So the solid is a union of grid cells, and lies in the box of all of them.
+pub fn matching_solids_lie_in_the_grid()
+    ensures slices { (drawing : Segment → Style) (s : List Cell) → Matches drawing s
+        → (a : Axis) (c : Cell) → (IsGridCoordinate drawing a (coordinate a c) → ⊥)
+        → is_full s (cell_before a c) ≡ is_full s c }
+    ensures union { (drawing : Segment → Style) (s : List Cell) → Matches drawing s
+        → (coordinates : Coordinates) → ((a : Axis) → AreGridCoordinates drawing a (coordinates a))
+        → (n : GridCell) (c d : Cell) → LiesInGridCell coordinates n c → LiesInGridCell coordinates n d
+        → is_full s c ≡ is_full s d }
+    ensures inside { (drawing : Segment → Style) (s : List Cell) → Matches drawing s
+        → (coordinates : Coordinates) → ((a : Axis) → AreGridCoordinates drawing a (coordinates a))
+        → (c : Cell) → IsTrue (is_full s c) → LiesInGrid coordinates c }
+{}

@@ -1,0 +1,92 @@
+//! The styles of a grid's segments.
+
+ghost use Rattle.std.specs.Prelude.{◌≡◌, ◌↔◌, IsTrue};
+
+use crate::frame::View;
+use crate::segment::Style;
+use std::marker::Model;
+
+/// The styles of a view's grid segments. Level ones stand by position upwards, then by cell to the right; upright ones by
+/// position to the right, then by cell upwards.
+#[derive(Debug, Drop)]
+pub struct Panel {
+    pub level: Vec<Style>,
+    pub upright: Vec<Style>,
+}
+
+impl Model for Panel {
+    ghost use Rattle.solid_model.specs.Panels.{PanelStyles};
+
+    ghost Value = { PanelStyles };
+
+    ghost view = { λ s. record { level = s.level.items; upright = s.upright.items } };
+}
+
+/// The styles are the same.
+fn same_styles(styles: &[Style], others: &[Style]) -> bool
+    ensures { IsTrue result ↔ (styles.now ≡ others.now) }
+{
+    styles == others
+}
+
+impl Panel {
+    ghost use Rattle.std.specs.Prelude.{◌≡◌, ◌↔◌, IsTrue};
+    ghost use Rattle.solid_model.specs.Panels.{styles_along};
+
+    /// The styles of the level, or of the upright, segments.
+    pub fn along(&self, upright: bool) -> &[Style]
+        ensures { result.now ≡ styles_along upright self.now }
+    {
+        if upright {
+            self.upright.as_slice()
+        } else {
+            self.level.as_slice()
+        }
+    }
+
+    /// Both have the same styles.
+    pub fn same(&self, other: &Panel) -> bool
+        ensures { IsTrue result ↔ (self.now ≡ other.now) }
+    {
+        same_styles(&self.level, &other.level) && same_styles(&self.upright, &other.upright)
+    }
+}
+
+/// The styles of the grid segments of three views.
+#[derive(Debug, Drop)]
+pub struct Panels {
+    pub front: Panel,
+    pub top: Panel,
+    pub side: Panel,
+}
+
+impl Model for Panels {
+    ghost use Rattle.solid_model.specs.Panels.{PanelsStyles};
+
+    ghost Value = { PanelsStyles };
+
+    ghost view = { λ s. record { front = s.front; top = s.top; side = s.side } };
+}
+
+impl Panels {
+    ghost use Rattle.std.specs.Prelude.{◌≡◌, ◌↔◌, IsTrue};
+    ghost use Rattle.solid_model.specs.Panels.{panel_of};
+
+    /// The styles of a view's segments.
+    pub fn view(&self, view: View) -> &Panel
+        ensures { result.now ≡ panel_of view self.now }
+    {
+        match view {
+            View::Front => &self.front,
+            View::Top => &self.top,
+            View::Side => &self.side,
+        }
+    }
+
+    /// Both have the same styles in each view.
+    pub fn same(&self, other: &Panels) -> bool
+        ensures { IsTrue result ↔ (self.now ≡ other.now) }
+    {
+        self.front.same(&other.front) && self.top.same(&other.top) && self.side.same(&other.side)
+    }
+}
