@@ -8,6 +8,7 @@ use Rattle.solid_model.specs.declared.cell.Cell.{Cell}
 use Rattle.solid_model.specs.Lists.{Member, Each}
 use Rattle.solid_model.specs.Orders.{ComesBefore, IsInStatedForm}
 use Rattle.solid_model.proofs.Lists.{each-from, member-pieces, member-from_pieces, ascends-pieces}
+use Rattle.solid_model.proofs.Integers.{natural}
 use Rattle.solid_model.proofs.Fullness.{same_coordinates}
 use Rattle.solid_model.proofs.CellOrder.{LiesBefore, lies-before}
 use Rattle.unit_search.specs.declared.unit_box.UnitBox.{UnitBox}
