@@ -71,5 +71,6 @@ def kept():
         start = number * 104_729 % 1_000_003
         stop = start + 1 + number % 17
         ends = (at, start, at, stop) if number % 2 else (start, at, stop, at)
-        lines.append(line(name, *ends, f"{number:X}"))
+        # A handle isn't 0.
+        lines.append(line(name, *ends, f"{number + 1:X}"))
     return section("ENTITIES", "".join(lines)) + pairs((0, "EOF"))
