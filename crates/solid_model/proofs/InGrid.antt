@@ -28,7 +28,7 @@ use Rattle.solid_model.proofs.Views.{views_are_frames, cell_at_its_places}
 -- ---- slices of cells
 
 -- a style is Blank or isn't
-blank_or_drawn : (style : Style) → (style ≡ Blank) ⊎ (style ≢ Blank)
+pub blank_or_drawn : (style : Style) → (style ≡ Blank) ⊎ (style ≢ Blank)
 blank_or_drawn Blank = inl refl
 blank_or_drawn Dashed = inr (λ e. cc)
 blank_or_drawn Solid = inr (λ e. cc)
@@ -71,14 +71,14 @@ module _ (drawing : Segment → Style) (s : List Cell) (matches : Matches drawin
 -- ---- gaps of an ascending list
 
 -- the gap of this number: its ends, and that no member lies between them
-record Gap (zs : List ℤ) (n : ℕ) : Type 0 where
-  low : ℤ
-  high : ℤ
-  inside : (z : ℤ) → is_in_gap zs n z ≡ true → (low ≤ℤ z) × (z <ℤ high)
-  low_member : Member zs low
-  none_between : (z : ℤ) → low <ℤ z → z <ℤ high → Member zs z → ⊥
+pub record Gap (zs : List ℤ) (n : ℕ) : Type 0 where
+  pub low : ℤ
+  pub high : ℤ
+  pub inside : (z : ℤ) → is_in_gap zs n z ≡ true → (low ≤ℤ z) × (z <ℤ high)
+  pub low_member : Member zs low
+  pub none_between : (z : ℤ) → low <ℤ z → z <ℤ high → Member zs z → ⊥
 
-gap_at : (zs : List ℤ) → Ascends ◌<ℤ◌ zs → (n : ℕ) (z : ℤ) → is_in_gap zs n z ≡ true → Gap zs n
+pub gap_at : (zs : List ℤ) → Ascends ◌<ℤ◌ zs → (n : ℕ) (z : ℤ) → is_in_gap zs n z ≡ true → Gap zs n
 gap_at [] ascends n z e = absurd (false≢true e)
 gap_at (a ∷ []) ascends n z e = absurd (false≢true e)
 gap_at (a ∷ b ∷ zs) ascends zero z e = record {
@@ -101,7 +101,7 @@ gap_at (a ∷ b ∷ zs) ascends (suc n) z e =
     }
 
 -- a place lies in a gap of an ascending list, or every member lies beyond it, or none does
-some_gap_or_outside : (zs : List ℤ) → Ascends ◌<ℤ◌ zs → (z : ℤ)
+pub some_gap_or_outside : (zs : List ℤ) → Ascends ◌<ℤ◌ zs → (z : ℤ)
     → IsInSomeGap zs z ⊎ (((w : ℤ) → Member zs w → z <ℤ w) ⊎ ((w : ℤ) → Member zs w → w ≤ℤ z))
 some_gap_or_outside [] ascends z = inr (inl (λ w k. absurd k))
 some_gap_or_outside (a ∷ []) ascends z = by_lt_z z a
@@ -120,10 +120,30 @@ some_gap_or_outside (a ∷ b ∷ zs) ascends z = by_lt_z z a
     later l m (inr (inl beyond)) = absurd (let first = beyond b (inl refl) in omega (arith, ints))
     later l m (inr (inr behind)) = inr (inr (λ w k. ⊎_elim {C = w ≤ℤ z} (λ e. omega (arith, ints)) (behind w) k))
 
+-- what lies in a gap has members on both sides of it
+pub between_members : (zs : List ℤ) (n : ℕ) (z : ℤ) → is_in_gap zs n z ≡ true → ((w : ℤ) × Member zs w × (w ≤ℤ z)) × ((w : ℤ) × Member zs w × (z <ℤ w))
+between_members [] n z e = absurd (false≢true e)
+between_members (a ∷ []) n z e = absurd (false≢true e)
+between_members (a ∷ b ∷ zs) zero z e =
+    let parts = and_parts (int_le a z) (int_lt z b) e in
+    ((a, inl refl, omega (arith, ints, parts.0)), (b, inr (inl refl), omega (arith, ints, parts.1)))
+between_members (a ∷ b ∷ zs) (suc n) z e =
+    let rest = between_members (b ∷ zs) n z e in
+    ((rest.0.0, inr rest.0.1, rest.0.2), (rest.1.0, inr rest.1.1, rest.1.2))
+
+-- a place lies in a gap of an ascending list or in none
+pub gap_or_none : (zs : List ℤ) → Ascends ◌<ℤ◌ zs → (z : ℤ) → IsInSomeGap zs z ⊎ (IsInSomeGap zs z → ⊥)
+gap_or_none zs ascends z = ⊎_elim inl (λ out. inr (λ gap. none out (between_members zs gap.0 z gap.1))) (some_gap_or_outside zs ascends z)
+  where
+    none : ((w : ℤ) → Member zs w → z <ℤ w) ⊎ ((w : ℤ) → Member zs w → w ≤ℤ z)
+        → ((w : ℤ) × Member zs w × (w ≤ℤ z)) × ((w : ℤ) × Member zs w × (z <ℤ w)) → ⊥
+    none (inl beyond) (low, high) = let l = beyond low.0 low.1 in omega (arith, ints, low.2)
+    none (inr behind) (low, high) = let l = behind high.0 high.1 in omega (arith, ints, high.2)
+
 -- ---- from slice to slice
 
 -- what doesn't change from place to place between two bounds is the same at all of them
-steady : (p : ℤ → Bool) (low high : ℤ) → ((z : ℤ) → low <ℤ z → z <ℤ high → p (z -ℤ pos 1) ≡ p z)
+pub steady : {A : Type 0} (p : ℤ → A) (low high : ℤ) → ((z : ℤ) → low <ℤ z → z <ℤ high → p (z -ℤ pos 1) ≡ p z)
     → (d : ℕ) (z : ℤ) → low ≤ℤ z → (z +ℤ pos d) <ℤ high → p z ≡ p (z +ℤ pos d)
 steady p low high step zero z from to = ap p (omega (arith, ints))
 steady p low high step (suc d) z from to =
@@ -133,7 +153,7 @@ steady p low high step (suc d) z from to =
     ∙ steady p low high step d (z +ℤ pos 1) (omega (arith, ints)) (omega (arith, ints)) ∙ ap p (sym next)
 
 -- so it is the same at any two of them
-steady_between : (p : ℤ → Bool) (low high : ℤ) → ((z : ℤ) → low <ℤ z → z <ℤ high → p (z -ℤ pos 1) ≡ p z)
+pub steady_between : {A : Type 0} (p : ℤ → A) (low high : ℤ) → ((z : ℤ) → low <ℤ z → z <ℤ high → p (z -ℤ pos 1) ≡ p z)
     → (y z : ℤ) → (low ≤ℤ y) × (y <ℤ high) → (low ≤ℤ z) × (z <ℤ high) → p y ≡ p z
 steady_between p low high step y z at_y at_z = by_lt_z y z (λ l. upwards y z at_y at_z (omega (arith, ints))) (λ l. sym (upwards z y at_z at_y l))
   where

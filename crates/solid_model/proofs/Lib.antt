@@ -14,6 +14,10 @@ pub mod FirstCells
 pub mod Matched
 pub mod ColumnRule
 pub mod InGrid
+pub mod OnGrid
+pub mod SameOnGrid
+pub mod UnionDrawing
+pub mod GridMatching
 pub mod Parts
 pub mod SetsInOrder
 pub mod MaximalStretches

@@ -1,5 +1,5 @@
 -- The styles that a solid draws: each segment has exactly one, it can be computed, and the list's order doesn't matter.
-use Rattle.std.proofs.Common.{◌≡◌, ◌≢◌, ◌⊎◌, inl, inr, ⊎_elim, Bool, true, false, not, List, [], ◌∷◌, ℤ, pos, ◌+ℤ◌, ◌-ℤ◌, int_lt, IsTrue, if◌then◌else◌, Decides, refl, ap, sym, subst, ◌∙◌, arith}
+use Rattle.std.proofs.Common.{◌≡◌, ◌≢◌, ◌⊎◌, inl, inr, ⊎_elim, Bool, true, false, not, ◌&&◌, List, [], ◌∷◌, ℤ, pos, ◌+ℤ◌, ◌-ℤ◌, int_lt, IsTrue, if◌then◌else◌, Decides, refl, ap, sym, subst, ◌∙◌, arith}
 use Rattle.std.specs.List.{list_any}
 use Rattle.std.proofs.lemmas.Bool.{false≢true, both_ways, and_parts, and_from, or_cases, or_left, or_right, not-true, not_from_false, true_from_ne_false}
 use Rattle.std.proofs.lemmas.Int.{ints}
@@ -10,7 +10,7 @@ use Rattle.solid_model.specs.declared.segment.Style.{Style}
 use Rattle.solid_model.specs.declared.segment.Style.TheVariants.{Blank, Dashed, Solid}
 use Rattle.solid_model.specs.Boxes.{place_of}
 use Rattle.solid_model.specs.Cells.{is_full}
-use Rattle.solid_model.specs.Columns.{cell_in, column_at}
+use Rattle.solid_model.specs.Columns.{cell_in, column_at, column_after, column_before}
 use Rattle.solid_model.specs.Draws.{has_edge, is_inside, IsHidden, Draws}
 use Rattle.solid_model.specs.DrawnStyle.{cell_depths, side_depths, hides, is_hidden, is_seen, drawn_style}
 use Rattle.solid_model.specs.Edges.{is_edge_of}
@@ -110,6 +110,25 @@ module _ (f : Frame) (is : IsFrame f) (full : Cell → Bool) (g : Segment) where
       (⊎_elim {C = C} (cell_beside (line_of g) k (inl refl)) (cell_beside (line_of g -ℤ pos 1) k (inr refl)))
       (⊎_elim {C = C} (cell_beside (line_of g) (k -ℤ pos 1) (inl refl)) (cell_beside (line_of g -ℤ pos 1) (k -ℤ pos 1) (inr refl)))
       (full_beside_edge _ _ _ _ (sym (has_edge_is f is full g k) ∙ edge.1))
+
+-- ---- what a style rests on
+
+module _ (f : Frame) (is : IsFrame f) (full : Cell → Bool) (g h : Segment)
+    (same_after : (k : ℤ) → column_after f full g k ≡ column_after f full h k) (same_before : (k : ℤ) → column_before f full g k ≡ column_before f full h k) where
+  same_edges : (k : ℤ) → has_edge f full g k ≡ has_edge f full h k
+  same_edges k = has_edge_is f is full g k
+      ∙ (λ t. is_edge_of (same_after k t) (same_before k t) (same_after (k -ℤ pos 1) t) (same_before (k -ℤ pos 1) t))
+      ∙ sym (has_edge_is f is full h k)
+
+  same_inside : (k : ℤ) → is_inside f full g k ≡ is_inside f full h k
+  same_inside k = λ t. same_after k t && same_before k t
+
+  -- segments with the same two columns beside them have the same style
+  pub same_columns : (style : Style) → Draws f full g style → Draws f full h style
+  same_columns Blank d = λ k e. d k (same_edges k ∙ e)
+  same_columns Dashed d =
+      ((d.0.0, sym (same_edges d.0.0) ∙ d.0.1), λ k e. let hidden = d.1 k (same_edges k ∙ e) in (hidden.0, hidden.1, sym (same_inside hidden.0) ∙ hidden.2))
+  same_columns Solid d = (d.0, sym (same_edges d.0) ∙ d.1, λ hidden. d.2 (hidden.0, hidden.1, same_inside hidden.0 ∙ hidden.2))
 
 -- ---- the computed style is drawn
 

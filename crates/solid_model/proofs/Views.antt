@@ -70,6 +70,21 @@ across_each P inorder turned a b c across = ⊎_elim {C = P a b c}
     (λ h. subst (λ x. P a x c) (sym h.0) (subst (P a (second_axis a)) (sym h.1) (inorder a)))
     (λ h. subst (λ x. P a x c) (sym h.0) (subst (P a (third_axis a)) (sym h.1) (turned a))) across
 
+-- what holds of each of three axes holds of all
+pub each_axis : (P : Axis → Type 0) (a b c : Axis) → AreAcross a b c → P a → P b → P c → (x : Axis) → P x
+each_axis P = across_each (λ a b c. P a → P b → P c → (x : Axis) → P x) inorder (λ a p q r. inorder a p r q)
+  where
+    inorder : (a : Axis) → P a → P (second_axis a) → P (third_axis a) → (x : Axis) → P x
+    inorder X p q r X = p
+    inorder X p q r Y = q
+    inorder X p q r Z = r
+    inorder Y p q r X = r
+    inorder Y p q r Y = p
+    inorder Y p q r Z = q
+    inorder Z p q r X = q
+    inorder Z p q r Y = r
+    inorder Z p q r Z = p
+
 -- of three axes each two are across the third, in either order
 pub across_turned : (a b c : Axis) → AreAcross a b c → AreAcross a c b
 across_turned a b c across = ⊎_elim {C = AreAcross a c b} (λ h. inr (h.1, h.0)) (λ h. inl (h.1, h.0)) across
@@ -162,12 +177,12 @@ at_own_coordinates cell = across_each (λ a b c. at_places a (coordinate a cell)
     turned Z = refl
 
 -- the cell at given coordinates has those coordinates
-record HasCoordinates (a b c : Axis) (i j k : ℤ) (cell : Cell) : Type 0 where
-  first : coordinate a cell ≡ i
-  second : coordinate b cell ≡ j
-  third : coordinate c cell ≡ k
+pub record HasCoordinates (a b c : Axis) (i j k : ℤ) (cell : Cell) : Type 0 where
+  pub first : coordinate a cell ≡ i
+  pub second : coordinate b cell ≡ j
+  pub third : coordinate c cell ≡ k
 
-coordinates_at : (i j k : ℤ) (a b c : Axis) → AreAcross a b c → HasCoordinates a b c i j k (at_places a i b j c k)
+pub coordinates_at : (i j k : ℤ) (a b c : Axis) → AreAcross a b c → HasCoordinates a b c i j k (at_places a i b j c k)
 coordinates_at i j k = across_each (λ a b c. HasCoordinates a b c i j k (at_places a i b j c k)) inorder turned
   where
     inorder : (a : Axis) → HasCoordinates a (second_axis a) (third_axis a) i j k (at_places a i (second_axis a) j (third_axis a) k)

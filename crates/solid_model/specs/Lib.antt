@@ -21,3 +21,4 @@ pub mod SmallRuns
 pub mod SmallSheet
 pub mod Grid
 pub mod Panels
+pub mod Choices

@@ -13,7 +13,10 @@ pub use drawings::{
     order_and_repeats_do_not_matter, quartered_cube, small_drawings,
     views_are_seen_from_their_sides,
 };
-pub use grid::{matching_solids_lie_in_the_grid, one_list_of_grid_coordinates};
+pub use grid::{
+    matching_is_seen_on_the_grid, matching_solids_lie_in_the_grid, one_drawing_of_a_grid,
+    one_list_of_grid_coordinates,
+};
 pub use orders::{
     all_matching_solids_are_one_list, one_stated_form, small_orders, solids_are_ordered,
 };

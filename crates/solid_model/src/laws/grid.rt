@@ -1,13 +1,16 @@
 //! Laws of the grid of a drawing.
 
-ghost use Rattle.std.specs.Prelude.{◌≡◌, List, ℤ, IsTrue};
+ghost use Rattle.std.specs.Prelude.{◌≡◌, ◌↔◌, Bool, List, ℤ, IsTrue};
 ghost use Rattle.solid_model.specs.declared.cell.Axis.{Axis};
 ghost use Rattle.solid_model.specs.declared.cell.Cell.{Cell};
 ghost use Rattle.solid_model.specs.declared.segment.Segment.{Segment};
 ghost use Rattle.solid_model.specs.declared.segment.Style.{Style};
 ghost use Rattle.solid_model.specs.Cells.{coordinate, cell_before, is_full};
-ghost use Rattle.solid_model.specs.Grid.{IsGridCoordinate, AreGridCoordinates, Coordinates, GridCell, LiesInGridCell, LiesInGrid};
+ghost use Rattle.solid_model.specs.DrawnStyle.{solid_drawing};
+ghost use Rattle.solid_model.specs.Grid.{IsGridCoordinate, AreGridCoordinates, Coordinates, GridCell, LiesInGridCell, LiesInGrid, IsUnionOf};
 ghost use Rattle.solid_model.specs.Matching.{Matches};
+ghost use Rattle.solid_model.specs.Panels.{PanelsStyles, AreGridStyles, GridParts, coordinates_of, IsGridOf};
+ghost use Rattle.solid_model.specs.Runs.{IsDrawing};
 
 /// A drawing has one list of grid coordinates along an axis.
 pub fn one_list_of_grid_coordinates()
@@ -29,4 +32,19 @@ pub fn matching_solids_lie_in_the_grid()
     ensures inside { (drawing : Segment → Style) (s : List Cell) → Matches drawing s
         → (coordinates : Coordinates) → ((a : Axis) → AreGridCoordinates drawing a (coordinates a))
         → (c : Cell) → IsTrue (is_full s c) → LiesInGrid coordinates c }
+{}
+
+/// A grid determines its drawing.
+pub fn one_drawing_of_a_grid()
+    ensures { (drawing other : Segment → Style) (g : GridParts) → IsDrawing drawing → IsDrawing other
+        → IsGridOf drawing g → IsGridOf other g → (s : Segment) → drawing s ≡ other s }
+{}
+
+/// Whether a union of grid cells matches a drawing is seen on the grid: it does exactly where the styles that it draws on
+/// the grid's segments are those of the grid.
+pub fn matching_is_seen_on_the_grid()
+    ensures { (drawing : Segment → Style) (g : GridParts) → IsDrawing drawing → IsGridOf drawing g
+        → (chosen : List Bool) (s : List Cell) → IsUnionOf (coordinates_of g) chosen (is_full s)
+        → (panels : PanelsStyles) → AreGridStyles (solid_drawing s) (coordinates_of g) panels
+        → (panels ≡ g.panels) ↔ Matches drawing s }
 {}
