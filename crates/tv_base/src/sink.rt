@@ -9,7 +9,7 @@ ghost use Rattle.tv_base.specs.declared.sink.SinkError.TheVariants.{Memory};
 use std::alloc::AllocError;
 
 /// Why a piece was not written whole.
-#[derive(Clone, Copy, Debug, PartialEq, Eq, Hash)]
+#[derive(Clone, Copy, Debug, PartialEq, Eq)]
 pub enum SinkError {
     /// The sink has failed.
     Failed,

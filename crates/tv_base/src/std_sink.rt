@@ -1,4 +1,5 @@
-//! std's writers as sinks. As sinks they tell nothing of their bytes; what a writer itself tells is kept.
+//! std's writers as sinks. As sinks they tell nothing of their bytes; what a writer itself tells is
+//! kept.
 
 ghost use Rattle.std.specs.Prelude.{◌≡◌, ◌≢◌, ◌≤◌, None, OnOk, OnErr, IsErrOf, is_ok, if◌then◌else◌};
 ghost use Rattle.std.specs.Io.KnownBytes.{Appends};
