@@ -1,8 +1,8 @@
 -- The first place that the loop doesn't pass over.
 use Rattle.std.proofs.Common.{length, sym, ◌∙◌, arith}
 use Rattle.std.proofs.lemmas.List.Sums.{prefix_len_is}
-use Rattle.dxf_groups.specs.Lines.{is_blank}
-use Rattle.dxf_groups.proofs.lines.front_blanks.Goals as goal
+use Rattle.dxf_groups.specs.TextLines.{is_blank}
+use Rattle.dxf_groups.proofs.text_lines.leading_blanks.Goals as goal
 
 pub returns-then-not-is_blank-clause-count : goal.returns-then-not-is_blank-clause-count
 returns-then-not-is_blank-clause-count c =

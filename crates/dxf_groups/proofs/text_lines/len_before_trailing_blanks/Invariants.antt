@@ -1,6 +1,6 @@
 use Rattle.std.proofs.Common.{◌≡◌, ◌≤◌, ◌<◌, ℕ, true, length, get_or}
-use Rattle.dxf_groups.specs.Lines.{is_blank}
-use Rattle.dxf_groups.proofs.lines.len_before_end_blanks.Given as goal
+use Rattle.dxf_groups.specs.TextLines.{is_blank}
+use Rattle.dxf_groups.proofs.text_lines.len_before_trailing_blanks.Given as goal
 
 -- what was passed over is blank
 abbrev pub invariant-loop-len : goal.invariant-loop-len

@@ -1,8 +1,8 @@
 -- The line is the text up to its line feed.
 use Rattle.std.proofs.Common.{refl, ◌∙◌, sym, arith}
 use Rattle.std.proofs.lemmas.List.{take_rest, drop_all}
-use Rattle.dxf_groups.proofs.ReadLines.{line_found}
-use Rattle.dxf_groups.proofs.lines.line_at.Goals as goal
+use Rattle.dxf_groups.proofs.FirstLines.{line_found}
+use Rattle.dxf_groups.proofs.text_lines.text_line_at.Goals as goal
 
 pub returns-then-end-text-clause-content : goal.returns-then-end-text-clause-content
 returns-then-end-text-clause-content c =

@@ -1,22 +1,17 @@
--- How the pairs of a text are read, one after another.
+-- A pair that is read at a place of a text, and what is left then.
 use Rattle.std.specs.Prelude.{◌≡◌, ◌≤◌, ◌<◌, ◌+◌, ℕ, List, length, drop, Option, Some, None, Result, Ok, Err}
 use Rattle.solid_model.specs.declared.fault.Fault.{Fault}
 use Rattle.solid_model.specs.Limits.{most_text_bytes}
-use Rattle.dxf_groups.specs.declared.pair.Pair.{Pair}
 use Rattle.dxf_groups.specs.declared.pairs.ReadPair.{ReadPair}
-use Rattle.dxf_groups.specs.Lines.{contents_of}
-use Rattle.dxf_groups.specs.Pairs.{TextPair, Pairs, ended, pair_before, pairs_from}
+use Rattle.dxf_groups.specs.Pairs.{Pairs, ended, text_pair, pair_before, pairs_from}
 use Rattle.dxf_groups.specs.Spans.{IsSpanIn, span_of}
+use Rattle.dxf_groups.specs.TextLines.{contents_of}
 
 -- a place in a text of at most so many bytes; each line before it has a byte of its own, its line feed
 pub record IsPlaceIn (text : List ℕ) (place line : ℕ) : Type 0 where
   pub short : length text ≤ most_text_bytes
   pub within : place ≤ length text
   pub counted : line ≤ place + 1
-
--- a pair whose value is a span of the text
-abbrev pub text_pair : List ℕ → Pair → TextPair
-text_pair text pair = record { code = pair.code; value = span_of text pair.value; line = pair.line }
 
 -- the pairs of a text from this place on, where a line with this number begins
 abbrev pub pairs_at : List ℕ → ℕ → ℕ → Pairs
@@ -27,9 +22,11 @@ pub record IsReadFrom (text : List ℕ) (place line : ℕ) (read : ReadPair) : T
   pub span : IsSpanIn text read.pair.value
   pub goes_on : place < read.after
   pub place_after : IsPlaceIn text read.after (read.pair.line + 2)
-  pub pairs : pairs_at text place line ≡ pair_before (text_pair text read.pair) (pairs_at text read.after (read.pair.line + 2))
+  pub pairs : pairs_at text place line
+      ≡ pair_before (text_pair read.pair (span_of text read.pair.value))
+      (pairs_at text read.after (read.pair.line + 2))
 
--- the answer of a reading at this place: a pair, or the fault where one is due
+-- the answer of a reading at this place: a pair, or the fault that the text ends with there
 abbrev pub IsReading : List ℕ → ℕ → ℕ → Result ReadPair Fault → Type 0
 IsReading text place line (Ok read) = IsReadFrom text place line read
 IsReading text place line (Err fault) = pairs_at text place line ≡ ended (Err fault)

@@ -2,19 +2,14 @@
 
 ghost use Rattle.std.specs.Prelude.{◌≡◌, ◌-◌, ◌<◌, ◌≤◌, ◌∷◌, length, drop};
 ghost use Rattle.std.specs.List.{position_or_len, prefix_len, suffix_len};
-ghost use Rattle.dxf_groups.specs.Lines.{content_of, contents_of, is_blank, is_feed, without_return};
 ghost use Rattle.dxf_groups.specs.Spans.{IsSpanIn, span_of};
+ghost use Rattle.dxf_groups.specs.TextLines.{content_of, contents_of, is_blank, is_feed, without_return};
 
-/// A part of a text: its bytes from `start` on and before `end`.
-#[derive(Clone, Copy, Debug, PartialEq, Eq)]
-pub struct Span {
-    pub start: usize,
-    pub end: usize,
-}
+use crate::span::Span;
 
 /// A line of a text: where that stands which counts of it, and where the next line begins.
 #[derive(Clone, Copy)]
-pub struct Line {
+pub struct TextLine {
     pub content: Span,
     pub after: usize,
 }
@@ -37,7 +32,7 @@ fn without_return(line: &[u8]) -> &[u8]
     ensures { result.now ≡ without_return line.now }
 {
     match line {
-        [front @ .., b'\r'] => front,
+        [bare @ .., b'\r'] => bare,
         _ => line,
     }
 }
@@ -49,8 +44,8 @@ fn is_blank(byte: u8) -> bool
     byte == b' ' || byte == b'\t'
 }
 
-/// How many blanks stand at the front.
-fn front_blanks(line: &[u8]) -> usize
+/// How many blanks the line begins with.
+fn leading_blanks(line: &[u8]) -> usize
     ensures within { result ≤ length line.now }
     ensures count { result ≡ prefix_len is_blank line.now }
 {
@@ -62,8 +57,8 @@ fn front_blanks(line: &[u8]) -> usize
     line.len()
 }
 
-/// How many bytes stand before the blanks at the end.
-fn len_before_end_blanks(line: &[u8]) -> usize
+/// How many bytes stand before the blanks that the line ends with.
+fn len_before_trailing_blanks(line: &[u8]) -> usize
     ensures { result ≡ length line.now - suffix_len is_blank line.now }
 {
     let mut len = line.len();
@@ -79,8 +74,8 @@ fn content_span(line: &[u8]) -> Span
     ensures content { span_of line.now result ≡ content_of line.now }
 {
     let bare = without_return(line);
-    let start = front_blanks(bare);
-    let len = len_before_end_blanks(&bare[start..]);
+    let start = leading_blanks(bare);
+    let len = len_before_trailing_blanks(&bare[start..]);
     Span {
         start,
         end: start + len,
@@ -88,7 +83,7 @@ fn content_span(line: &[u8]) -> Span
 }
 
 /// The line that begins at `start`.
-pub fn line_at(text: &[u8], start: usize) -> Line
+pub fn text_line_at(text: &[u8], start: usize) -> TextLine
     requires { start < length text.now }
     ensures span { IsSpanIn text.now result.content }
     ensures content { contents_of (drop start text.now)
@@ -105,5 +100,5 @@ pub fn line_at(text: &[u8], start: usize) -> Line
     };
     let end = start + feed;
     let after = if end < text.len() { end + 1 } else { end };
-    Line { content, after }
+    TextLine { content, after }
 }

@@ -2,8 +2,8 @@
 use Rattle.std.proofs.Common.{length, sym, arith}
 use Rattle.std.proofs.lemmas.List.Sums.{position_or_len_is}
 use Rattle.std.proofs.lemmas.Bool.{eq-eqb}
-use Rattle.dxf_groups.specs.Lines.{is_feed}
-use Rattle.dxf_groups.proofs.lines.feed_place.Goals as goal
+use Rattle.dxf_groups.specs.TextLines.{is_feed}
+use Rattle.dxf_groups.proofs.text_lines.feed_place.Goals as goal
 
 pub returns-then-byte-eq10-clause-place : goal.returns-then-byte-eq10-clause-place
 returns-then-byte-eq10-clause-place c =

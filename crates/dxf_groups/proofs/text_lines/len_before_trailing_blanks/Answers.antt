@@ -1,8 +1,8 @@
 -- The last place that the loop doesn't pass over.
 use Rattle.std.proofs.Common.{sym, ◌∙◌, arith}
 use Rattle.std.proofs.lemmas.List.Sums.{suffix_len_is}
-use Rattle.dxf_groups.specs.Lines.{is_blank}
-use Rattle.dxf_groups.proofs.lines.len_before_end_blanks.Goals as goal
+use Rattle.dxf_groups.specs.TextLines.{is_blank}
+use Rattle.dxf_groups.proofs.text_lines.len_before_trailing_blanks.Goals as goal
 
 pub returns-else-is_blank : goal.returns-else-is_blank
 returns-else-is_blank c =

@@ -17,19 +17,20 @@ text_lines (b ∷ bytes) = cond (is_feed b) ([] ∷ text_lines bytes) (onto_firs
 
 -- a line without the carriage return at its end, if one stands there
 abbrev pub without_return : List ℕ → List ℕ
-without_return line = take (length line - cond (slice_index line (length line - 1) == 13) 1 0) line
+without_return line =
+    take (length line - cond (slice_index line (length line - 1) == 13) 1 0) line
 
--- a line without the blanks at its front
-abbrev pub without_front_blanks : List ℕ → List ℕ
-without_front_blanks line = drop (prefix_len is_blank line) line
+-- a line without the blanks that it begins with
+abbrev pub without_leading_blanks : List ℕ → List ℕ
+without_leading_blanks line = drop (prefix_len is_blank line) line
 
--- a line without the blanks at its end
-abbrev pub without_end_blanks : List ℕ → List ℕ
-without_end_blanks line = take (length line - suffix_len is_blank line) line
+-- a line without the blanks that it ends with
+abbrev pub without_trailing_blanks : List ℕ → List ℕ
+without_trailing_blanks line = take (length line - suffix_len is_blank line) line
 
 -- what counts of a line: what is left without one carriage return, and then without the blanks at both ends
 abbrev pub content_of : List ℕ → List ℕ
-content_of line = without_end_blanks (without_front_blanks (without_return line))
+content_of line = without_trailing_blanks (without_leading_blanks (without_return line))
 
 -- what counts of each line of a text
 abbrev pub contents_of : List ℕ → List (List ℕ)
