@@ -18,6 +18,7 @@ pub mod OnGrid
 pub mod SameOnGrid
 pub mod UnionDrawing
 pub mod GridMatching
+pub mod Unions
 pub mod Parts
 pub mod SetsInOrder
 pub mod MaximalStretches

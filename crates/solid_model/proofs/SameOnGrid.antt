@@ -54,7 +54,7 @@ same_joined f g long (y ∷ xs) same x k = ⊎_elim {C = f x ≡ g x} (λ e. sub
 
 -- ---- where grid segments begin
 
-starts_more : (a b : ℤ) (zs : List ℤ) → starts_of (a ∷ b ∷ zs) ≡ a ∷ starts_of (b ∷ zs)
+pub starts_more : (a b : ℤ) (zs : List ℤ) → starts_of (a ∷ b ∷ zs) ≡ a ∷ starts_of (b ∷ zs)
 starts_more a b zs =
     let p : length (a ∷ b ∷ zs) - 1 ≡ suc (length zs) = omega arith in
     let q : length (b ∷ zs) - 1 ≡ length zs = omega arith in

@@ -63,7 +63,7 @@ none_before_first b zs ascends n z l e = ⊎_elim {C = ⊥} (λ same. omega (ari
     low = (between_members (b ∷ zs) n z e).0
 
 -- a place lies in one gap of an ascending list
-one_gap : (zs : List ℤ) → Ascends ◌<ℤ◌ zs → (n m : ℕ) (z : ℤ) → IsTrue (is_in_gap zs n z) → IsTrue (is_in_gap zs m z) → n ≡ m
+pub one_gap : (zs : List ℤ) → Ascends ◌<ℤ◌ zs → (n m : ℕ) (z : ℤ) → IsTrue (is_in_gap zs n z) → IsTrue (is_in_gap zs m z) → n ≡ m
 one_gap [] ascends n m z e h = absurd (false≢true e)
 one_gap (a ∷ []) ascends n m z e h = absurd (false≢true e)
 one_gap (a ∷ b ∷ zs) ascends zero zero z e h = refl
