@@ -1,11 +1,10 @@
 -- Choices that begin with given values: with one more value they are those that have it full, and then those that have it empty.
-use Rattle.std.proofs.Common.{◌≡◌, ◌⊎◌, inl, inr, ℕ, suc, zero, ◌+◌, ◌<◌, Bool, true, false, List, [], ◌∷◌, ◌++◌, length, take, set, Option, refl, sym, ◌∙◌, ap, subst, append_assoc, arith}
-use Rattle.std.proofs.lemmas.List.{append-nil, length-append, length-set, take-set, take-take, take_more_set}
-use Rattle.solid_model.specs.Choices.{ChoicePrecedes, AreChoicesThat, IsMatchingChoice}
-use Rattle.solid_model.specs.Lists.{Member, Each, Ascends}
-use Rattle.solid_model.specs.Panels.{GridParts, coordinates_of}
+use Rattle.std.proofs.Common.{◌≡◌, ◌⊎◌, inl, inr, ℕ, ◌+◌, ◌<◌, Bool, true, false, List, [], ◌∷◌, ◌++◌, length, take, set, refl, sym, ◌∙◌, ap, subst, append_assoc, arith}
+use Rattle.std.proofs.lemmas.List.{append-nil, length-append, take-set, take-take}
+use Rattle.solid_model.specs.Choices.{ChoicePrecedes, AreChoicesThat}
+use Rattle.solid_model.specs.Lists.{Member, Each}
 use Rattle.solid_model.proofs.Lists.{member-append_left, member-append_right, each-weaker, each-append, ascends-append}
-use Rattle.plain_search.specs.Choosing.{BeginsWith, AreChoicesFrom}
+use Rattle.plain_search.specs.Choosing.{BeginsWith}
 
 -- what begins with one value more begins with the others
 begins_without : (chosen : List Bool) (value : Bool) (choice : List Bool) → BeginsWith (chosen ++ value ∷ []) choice → BeginsWith chosen choice

@@ -1,22 +1,16 @@
 -- A choice matches where the cells that it fills draw what the grid shows.
-use Rattle.std.proofs.Common.{◌≡◌, ◌↔◌, ℕ, List, Option, Bool, ℤ, ◌<ℤ◌}
-use Rattle.solid_model.specs.declared.cell.Axis.{Axis}
+use Rattle.std.proofs.Common.{◌≡◌, ◌↔◌, ℕ, List, Option, Bool}
 use Rattle.solid_model.specs.declared.cell.Cell.{Cell}
 use Rattle.solid_model.specs.declared.segment.Segment.{Segment}
 use Rattle.solid_model.specs.declared.segment.Style.{Style}
 use Rattle.solid_model.specs.Cells.{is_full}
 use Rattle.solid_model.specs.Choices.{cells_of_choice, IsMatchingChoice}
 use Rattle.solid_model.specs.DrawnStyle.{solid_drawing}
-use Rattle.solid_model.specs.Grid.{Coordinates, IsUnionOf}
-use Rattle.solid_model.specs.Lists.{Ascends}
+use Rattle.solid_model.specs.Grid.{IsUnionOf}
 use Rattle.solid_model.specs.Panels.{PanelsStyles, AreGridStyles, GridParts, coordinates_of, IsGridOf}
 use Rattle.solid_model.specs.Runs.{IsDrawing}
 use Rattle.solid_model.proofs.GridMatching.{matching_on_grid}
-
--- some solid is the union of the chosen grid cells
-some_union : (coordinates : Coordinates) → ((a : Axis) → Ascends ◌<ℤ◌ (coordinates a)) → (chosen : List Bool)
-    → (s : List Cell) × IsUnionOf coordinates chosen (is_full s)
-some_union = ?
+use Rattle.solid_model.proofs.Unions.{some_union}
 
 -- the panels are those of whatever solid the choice fills
 abbrev pub ArePanelsOf : GridParts → List (Option ℕ) → List Bool → PanelsStyles → Type 0
