@@ -1,0 +1,2 @@
+mod ChoicesInOrder
+mod Filled
