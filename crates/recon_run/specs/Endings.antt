@@ -11,7 +11,7 @@ use Rattle.recon_run.specs.Answers.{IsSolved, usage_text}
 use Rattle.recon_run.specs.Status.{status_code}
 use Rattle.recon_run.specs.Words.{IsSolve}
 use Rattle.solid_model.specs.Limits.{most_file_bytes}
-use Rattle.tv_base.specs.Pieces.{AppendsFront, ReadsPast}
+use Rattle.tv_base.specs.Pieces.{AppendsPrefix, ReadsPast}
 
 -- The source had t left and was read to its end; or, where t is too long, up to one byte more than
 -- the most.
@@ -30,14 +30,14 @@ Answers words left rest Usage text = (IsSolve words → ⊥) × (text ≡ usage_
 abbrev pub IsWritten : Answer → List ℕ → Option (List ℕ) → Option (List ℕ) → Type 0 → Status
     → Type 0
 IsWritten answer text held now rose status = ((status ≡ Answered answer) × Appends held now text)
-    ⊎ ((status ≡ Stopped WriteFault) × rose × AppendsFront held now text)
-    ⊎ ((status ≡ Stopped Memory) × AppendsFront held now text)
+    ⊎ ((status ≡ Stopped WriteFault) × rose × AppendsPrefix held now text)
+    ⊎ ((status ≡ Stopped Memory) × AppendsPrefix held now text)
 
 -- a sink that held `held` and holds `now`, where told, has a prefix of a right answer's text more
 abbrev pub WritesPrefix : List (List ℕ) → Option (List ℕ) → Option (List ℕ)
     → Option (List ℕ) → Option (List ℕ) → Type 0
 WritesPrefix words left rest held now = (answer : Answer) × (text : List ℕ)
-    × Answers words left rest answer text × AppendsFront held now text
+    × Answers words left rest answer text × AppendsPrefix held now text
 
 -- How a run ends: with a right answer, whose text is written whole; with a fault of the source, and
 -- then nothing is written; with a fault of the sink, and then a prefix of a right answer's text is

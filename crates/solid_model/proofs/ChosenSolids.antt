@@ -77,6 +77,12 @@ module _ (coordinates : Coordinates) (ascends : (a : Axis) → Ascends ◌<ℤ�
   like_corner chosen full union n c at =
       union.inside n c at ∙ sym (union.inside n (corner_of coordinates ascends n) (corner_lies coordinates ascends n (lying-is_grid_cell coordinates ascends n c at)))
 
+  -- so two unions that agree at a corner agree in its grid cell
+  like_corners : (chosen other : List Bool) (full full_too : Cell → Bool) → IsUnionOf coordinates chosen full → IsUnionOf coordinates other full_too
+      → (n : GridCell) (c : Cell) → LiesInGridCell coordinates n c → full (corner_of coordinates ascends n) ≡ full_too (corner_of coordinates ascends n) → full c ≡ full_too c
+  like_corners chosen other full full_too union union_too n c at same =
+      like_corner chosen full union n c at ∙ same ∙ sym (like_corner other full_too union_too n c at)
+
   -- each place of the list of corners is that of a grid cell
   cell_at_place : (p : ℕ) → p < length (corners coordinates ascends) → (n : GridCell) × IsGridCell coordinates ascends n × (grid_cell_place coordinates n ≡ p)
   cell_at_place p l = by (zero_or_more (gaps_along coordinates X)) (zero_or_more (gaps_along coordinates Y))
@@ -157,7 +163,7 @@ module _ (coordinates : Coordinates) (ascends : (a : Axis) → Ascends ◌<ℤ�
             (member-at (corners coordinates ascends) (grid_cell_place coordinates at.0) corner (place_within coordinates ascends at.0 is)) in
             let before = before_from_corner corner b first.0 (begins_no_later (coordinates X) (at.0 X) b.x (at.1 X)) (begins_no_later (coordinates Y) (at.0 Y) b.y (at.1 Y))
             (begins_no_later (coordinates Z) (at.0 Z) b.z (at.1 Z)) l in
-            like_corner chosen full union at.0 b at.1 ∙ first.1.same_before corner member before ∙ sym (like_corner other full_too union_too at.0 b at.1))
+            like_corners chosen other full full_too union union_too at.0 b at.1 (first.1.same_before corner member before))
             (λ none. union.outside b none ∙ sym (union_too.outside b none))
             (in_grid_or_not coordinates ascends b),
       )

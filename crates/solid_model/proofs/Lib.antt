@@ -23,6 +23,7 @@ pub mod Corners
 pub mod ChosenSolids
 pub mod SolidsOfChoices
 pub mod OwnItems
+pub mod SomeGrid
 pub mod Parts
 pub mod SetsInOrder
 pub mod MaximalStretches

@@ -1,5 +1,5 @@
 -- Where each grid cell is an item of its own, all matching choices are all matching solids.
-use Rattle.std.proofs.Common.{◌≡◌, Bool, false, ℕ, ◌<◌, List, length, map, Some, ◌<ℤ◌, ap, sym, subst, ◌∙◌, arith}
+use Rattle.std.proofs.Common.{◌≡◌, Bool, false, ℕ, ◌<◌, List, [], ◌∷◌, length, map, Some, ◌<ℤ◌, refl, ap, ap₂, sym, subst, ◌∙◌, arith}
 use Rattle.std.proofs.lemmas.Bool.{false_from_ne_true}
 use Rattle.std.proofs.lemmas.List.{length-map, get_or-map, ext_get_or}
 use Rattle.std.proofs.lemmas.List.FromFn.{get_or-map-range_with_len, length-map-range_with_len}
@@ -13,7 +13,7 @@ use Rattle.solid_model.specs.Grid.{Coordinates, AreGridCoordinates, grid_cell_co
 use Rattle.solid_model.specs.Lists.{Ascends}
 use Rattle.solid_model.specs.Matching.{Matches, AreSolidsOf}
 use Rattle.solid_model.specs.Orders.{SolidPrecedes}
-use Rattle.solid_model.proofs.ChosenSolids.{union_precedes}
+use Rattle.solid_model.proofs.ChosenSolids.{chosen_at_corners, union_precedes}
 use Rattle.solid_model.proofs.Corners.{corners, corner_of, corner_lies, corner_at_place, length-corners, place_within, lying-is_grid_cell}
 use Rattle.solid_model.proofs.InGrid.{agree_in_grid_cell, lies_in_grid}
 use Rattle.solid_model.proofs.SolidsOfChoices.{all_solids}
@@ -47,7 +47,7 @@ module _ (drawing : Segment → Style) (coordinates : Coordinates) (are : (a : A
 
   pub all_matching_solids : (choices : List (List Bool))
       → AreChoicesThat (IsMatchingChoice drawing coordinates (own_items (grid_cell_count coordinates))) (grid_cell_count coordinates) choices
-      → (ss : List (List Cell)) × AreSolidsOf drawing ss × AreSolidsOfChoices coordinates (own_items (grid_cell_count coordinates)) choices ss
+      → (ss : List (List Cell)) × AreSolidsOf drawing ss × AreSolidsOfChoices coordinates (own_items (grid_cell_count coordinates)) (grid_cell_count coordinates) choices ss
   all_matching_solids = all_solids drawing coordinates ascends (own_items count) count in_order found
     where
       count : ℕ
@@ -64,3 +64,21 @@ module _ (drawing : Segment → Style) (coordinates : Coordinates) (are : (a : A
           let choice = map (is_full s) (corners coordinates ascends) in
           let long : length choice ≡ count = length-map (corners coordinates ascends) (is_full s) ∙ length-corners coordinates ascends in
           (choice, long, subst (λ c. IsUnionOf coordinates c (is_full s)) (sym (cells_of_own count choice long)) (matching_union s matches))
+
+-- the choices that fill these solids are one list
+pub one_list_of_choices : (coordinates : Coordinates) (ascends : (a : Axis) → Ascends ◌<ℤ◌ (coordinates a)) (choices others : List (List Bool)) (ss : List (List Cell))
+    → AreSolidsOfChoices coordinates (own_items (grid_cell_count coordinates)) (grid_cell_count coordinates) choices ss
+    → AreSolidsOfChoices coordinates (own_items (grid_cell_count coordinates)) (grid_cell_count coordinates) others ss → choices ≡ others
+one_list_of_choices coordinates ascends [] [] [] h k = refl
+one_list_of_choices coordinates ascends [] (other ∷ others) [] h k = absurd k
+one_list_of_choices coordinates ascends [] others (s ∷ ss) h k = absurd h
+one_list_of_choices coordinates ascends (choice ∷ choices) others [] h k = absurd h
+one_list_of_choices coordinates ascends (choice ∷ choices) [] (s ∷ ss) h k = absurd k
+one_list_of_choices coordinates ascends (choice ∷ choices) (other ∷ others) (s ∷ ss) h k =
+    ap₂ ◌∷◌ (at_corners choice h.0 h.1 ∙ sym (at_corners other k.0 k.1)) (one_list_of_choices coordinates ascends choices others ss h.2 k.2)
+  where
+    count : ℕ
+    count = grid_cell_count coordinates
+
+    at_corners : (own : List Bool) → length own ≡ count → IsUnionOf coordinates (cells_of_choice (own_items count) own) (is_full s) → own ≡ map (is_full s) (corners coordinates ascends)
+    at_corners own long union = chosen_at_corners coordinates ascends own (is_full s) (subst (λ c. IsUnionOf coordinates c (is_full s)) (cells_of_own count own long) union) long

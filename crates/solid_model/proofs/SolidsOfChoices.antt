@@ -53,9 +53,9 @@ module _ (drawing : Segment → Style) (coordinates : Coordinates) (ascends : (a
   solids [] h = []
   solids (choice ∷ choices) h = (stated_solid choice h.0).0 ∷ solids choices h.1
 
-  solids-filled : (choices : List (List Bool)) (h : Each Is choices) → AreSolidsOfChoices coordinates items choices (solids choices h)
+  solids-filled : (choices : List (List Bool)) (h : Each Is choices) → AreSolidsOfChoices coordinates items n choices (solids choices h)
   solids-filled [] h = tt
-  solids-filled (choice ∷ choices) h = ((stated_solid choice h.0).1.filled, solids-filled choices h.1)
+  solids-filled (choice ∷ choices) h = (h.0.0, (stated_solid choice h.0).1.filled, solids-filled choices h.1)
 
   solids-matching : (choices : List (List Bool)) (h : Each Is choices) → Each (λ s. Matches drawing s × IsInStatedForm s) (solids choices h)
   solids-matching [] h = tt
@@ -92,7 +92,7 @@ module _ (drawing : Segment → Style) (coordinates : Coordinates) (ascends : (a
     -- so all matching choices are all matching solids
     pub all_solids : ((s : List Cell) → Matches drawing s → (choice : List Bool) × (length choice ≡ n) × IsUnionOf coordinates (cells_of_choice items choice) (is_full s))
         → (choices : List (List Bool)) → AreChoicesThat (IsMatchingChoice drawing coordinates items) n choices
-        → (ss : List (List Cell)) × AreSolidsOf drawing ss × AreSolidsOfChoices coordinates items choices ss
+        → (ss : List (List Cell)) × AreSolidsOf drawing ss × AreSolidsOfChoices coordinates items n choices ss
     all_solids found choices are = (
       solids choices are.each,
       record {

@@ -39,9 +39,9 @@ abbrev pub IsMatchingChoice : (Segment → Style) → Coordinates → List (Opti
 IsMatchingChoice drawing coordinates items choice =
     (s : List Cell) × IsUnionOf coordinates (cells_of_choice items choice) (is_full s) × Matches drawing s
 
--- the solids that these choices fill, one for each
-abbrev pub AreSolidsOfChoices : Coordinates → List (Option ℕ) → List (List Bool) → List (List Cell) → Type 0
-AreSolidsOfChoices coordinates items [] [] = Unit {0}
-AreSolidsOfChoices coordinates items (choice ∷ choices) (s ∷ solids) =
-    IsUnionOf coordinates (cells_of_choice items choice) (is_full s) × AreSolidsOfChoices coordinates items choices solids
-AreSolidsOfChoices coordinates items _ _ = ⊥
+-- the solids that these choices of n items fill, one for each
+abbrev pub AreSolidsOfChoices : Coordinates → List (Option ℕ) → ℕ → List (List Bool) → List (List Cell) → Type 0
+AreSolidsOfChoices coordinates items n [] [] = Unit {0}
+AreSolidsOfChoices coordinates items n (choice ∷ choices) (s ∷ solids) =
+    (length choice ≡ n) × IsUnionOf coordinates (cells_of_choice items choice) (is_full s) × AreSolidsOfChoices coordinates items n choices solids
+AreSolidsOfChoices coordinates items n _ _ = ⊥

@@ -58,5 +58,6 @@ pub fn all_matching_choices_are_all_matching_solids()
         → AreChoicesThat (IsMatchingChoice drawing coordinates (own_items (grid_cell_count coordinates)))
         (grid_cell_count coordinates) choices
         → (ss : List (List Cell)) × AreSolidsOf drawing ss
-        × AreSolidsOfChoices coordinates (own_items (grid_cell_count coordinates)) choices ss }
+        × AreSolidsOfChoices coordinates (own_items (grid_cell_count coordinates)) (grid_cell_count coordinates)
+        choices ss }
 {}
