@@ -1,4 +1,6 @@
+pub mod Grids
 pub mod Faults
+pub mod Solved
 pub mod Sources
 pub mod Endings
 pub mod Totality

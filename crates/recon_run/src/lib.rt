@@ -4,6 +4,7 @@
 mod command;
 mod fault;
 mod fault_text;
+mod items;
 mod laws;
 mod reply;
 mod solve;

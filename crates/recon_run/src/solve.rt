@@ -1,6 +1,6 @@
-//! The way from a file's bytes to the text that lists its solids, in five stages: the pairs of the
-//! file's text, the lines that it keeps, their drawing in three views, all solids that match the
-//! drawing, and the text that lists these.
+//! The way from a file's bytes to the text that lists its solids, stage by stage: the pairs of the
+//! file's text, the lines that it keeps, their drawing in three views, the drawing's grid, all
+//! choices of the grid's cells whose solid matches the drawing, and the text that lists these.
 
 ghost use Rattle.std.specs.Prelude.{◌≡◌, ◌≤◌, length, IfOk, IsErrOf};
 ghost use Rattle.recon_run.specs.declared.fault.FirstFault.{FirstFault};
@@ -9,12 +9,14 @@ ghost use Rattle.recon_run.specs.Answers.{IsFirstFault, IsSolved};
 ghost use Rattle.solid_model.specs.Limits.{most_file_bytes};
 
 use crate::fault::FirstFault;
+use crate::items::own_items;
 use crate::text::first_text;
 use dxf_entities::entities;
 use dxf_groups::Groups;
+use grid::grid_of;
+use plain_search::matching_choices;
 use solid_model::{Memory, Refused};
 use std::alloc::Global;
-use unit_search::{SearchRefused, matching_solids};
 use views::drawing;
 
 /// Why a file's solids aren't listed.
@@ -39,19 +41,6 @@ impl From<Refused> for Unsolved {
     }
 }
 
-impl From<SearchRefused> for Unsolved {
-    ghost use Rattle.recon_run.specs.Refusals.{refused_search};
-
-    ghost from_gives = { λ r e. e ≡ refused_search r };
-
-    fn from(refused: SearchRefused) -> Unsolved {
-        match refused {
-            SearchRefused::TooLarge => Unsolved::Fault(FirstFault::TooLarge),
-            SearchRefused::Memory => Unsolved::Memory,
-        }
-    }
-}
-
 impl From<Memory> for Unsolved {
     ghost use Rattle.recon_run.specs.declared.solve.Unsolved.TheVariants as unsolved;
 
@@ -71,6 +60,8 @@ pub fn solve(alloc: Global, file: Vec<u8>) -> Result<Vec<u8>, Unsolved>
 {
     let lines = entities(alloc, &mut Groups::new(file))?;
     let drawing = drawing(alloc, lines.as_slice())?;
-    let solids = matching_solids(alloc, &drawing)?;
-    Ok(first_text(alloc, solids.as_slice())?)
+    let grid = grid_of(alloc, &drawing)?;
+    let items = own_items(alloc, &grid)?;
+    let choices = matching_choices(alloc, &grid, items.as_slice(), items.len() as u16)?;
+    Ok(first_text(alloc, &grid, choices.as_slice())?)
 }

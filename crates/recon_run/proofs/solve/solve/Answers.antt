@@ -1,9 +1,12 @@
-use Rattle.std.proofs.Common.{◌≡◌, List, ℕ, Ok, Err, ◌∙◌, ap, sym, subst}
+use Rattle.std.proofs.Common.{◌≡◌, List, ℕ, Option, length, Ok, Err, ◌∙◌, ap, sym, subst, arith}
 use Rattle.std.proofs.lemmas.Result.{err_from_is_err_and}
 use Rattle.dxf_entities.specs.Reading.{read_of}
 use Rattle.dxf_groups.specs.Groups.{GroupsState}
 use Rattle.recon_run.specs.FirstText.{first_text}
-use Rattle.recon_run.proofs.Faults.{Drawn, solids_listed, drawing_fault, search_fault, no_fault}
+use Rattle.recon_run.proofs.Faults.{Drawn, drawing_fault, grid_fault, no_fault}
+use Rattle.recon_run.proofs.Solved.{length-own_items, items_fault, solids_listed}
+use Rattle.solid_model.specs.Grid.{grid_cell_count}
+use Rattle.solid_model.specs.Panels.{coordinates_of}
 use Rattle.solid_model.specs.Line.{Line}
 use Rattle.solid_model.specs.Runs.{style_in}
 use Rattle.recon_run.proofs.solve.solve.Goals as goal
@@ -26,8 +29,8 @@ returns-in_err-drawing-clause-fault c fault is =
     drawing_fault file lines refused c.requires reads
     (λ f e. let none = c.in_err-drawing.ensures.fault f (ap Err e) in (none.0, none.1, none.2)) fault cc
 
-pub returns-in_err-solids-clause-fault : goal.returns-in_err-solids-clause-fault
-returns-in_err-solids-clause-fault c fault is =
+pub returns-in_err-grid-clause-fault : goal.returns-in_err-grid-clause-fault
+returns-in_err-grid-clause-fault c fault is =
     let file = c.args.file.items in
     let lines = c.as_slice.result.now in
     let text = ap (λ (pairs : GroupsState). pairs.text) c.new.ensures in
@@ -35,11 +38,41 @@ returns-in_err-solids-clause-fault c fault is =
     let ensured = c.in_ok-drawing.ensures in
     let drawn : Drawn file lines (style_in c.in_ok-drawing.drawing)
     = record { reads = reads; shown = ensured.shown; same = ensured.drawn } in
-    let refused = c.in_err-solids.field-0.0 in
-    let result = c.from_residual-in_err-solids in
+    let refused = c.in_err-grid.field-0.0 in
+    let result = c.from_residual-in_err-grid in
     let from = err_from_is_err_and result.result result.ensures.1 in
-    search_fault file lines (style_in c.in_ok-drawing.drawing) refused c.requires drawn
-    (λ e. c.in_err-solids.ensures.large (ap Err e)) fault cc
+    grid_fault file lines (style_in c.in_ok-drawing.drawing) refused c.requires drawn
+    (λ f e. c.in_err-grid.ensures.fault f (ap Err e)) fault cc
+
+pub returns-in_err-items-clause-fault : goal.returns-in_err-items-clause-fault
+returns-in_err-items-clause-fault c fault is =
+    let file = c.args.file.items in
+    let lines = c.as_slice.result.now in
+    let text = ap (λ (pairs : GroupsState). pairs.text) c.new.ensures in
+    let reads = of_file c.new.result file _ lines text c.in_ok-lines.ensures.lines c.as_slice.ensures.value in
+    let ensured = c.in_ok-drawing.ensures in
+    let drawn : Drawn file lines (style_in c.in_ok-drawing.drawing)
+    = record { reads = reads; shown = ensured.shown; same = ensured.drawn } in
+    let refused = c.in_err-items.field-0.0 in
+    let result = c.from_residual-in_err-items in
+    let from = err_from_is_err_and result.result result.ensures.1 in
+    items_fault file lines (style_in c.in_ok-drawing.drawing) drawn c.in_ok-grid.grid c.in_ok-grid.ensures.grid refused c.requires
+    (λ f e. c.in_err-items.ensures.large f (ap Err e)) fault cc
+
+pub matching_choices-requires-clause-cells : goal.matching_choices-requires-clause-cells
+matching_choices-requires-clause-cells c =
+    let items = c.as_slice-2.ensures.value ∙ c.in_ok-items.ensures.items in
+    ap (λ (xs : List (Option ℕ)). length xs) items ∙ length-own_items (grid_cell_count (coordinates_of c.in_ok-grid.grid))
+
+pub matching_choices-requires-clause-few : goal.matching_choices-requires-clause-few
+matching_choices-requires-clause-few c =
+    let long = ap (λ (xs : List (Option ℕ)). length xs) c.in_ok-items.ensures.items ∙ length-own_items (grid_cell_count (coordinates_of c.in_ok-grid.grid)) in
+    omega (arith, long, c.in_ok-items.ensures.few, c.len.ensures)
+
+pub overflow_cast-len : goal.overflow_cast-len
+overflow_cast-len c =
+    let long = ap (λ (xs : List (Option ℕ)). length xs) c.in_ok-items.ensures.items ∙ length-own_items (grid_cell_count (coordinates_of c.in_ok-grid.grid)) in
+    omega (arith, long, c.in_ok-items.ensures.few, c.len.ensures)
 
 pub returns-clause-whole : goal.returns-clause-whole
 returns-clause-whole c =
@@ -50,8 +83,11 @@ returns-clause-whole c =
     let ensured = c.in_ok-drawing.ensures in
     let drawn : Drawn file lines (style_in c.in_ok-drawing.drawing)
     = record { reads = reads; shown = ensured.shown; same = ensured.drawn } in
-    let solids = c.in_ok-solids.solids.items in
-    let found = c.in_ok-solids.ensures in
-    let listed = solids_listed file lines _ solids drawn found.small found.all in
-    let written = c.in_ok-first_text.ensures ∙ ap first_text c.as_slice-2.ensures.value in
-    (no_fault file solids c.requires listed, solids, listed, written)
+    let items = c.as_slice-2.result.now in
+    let own = c.as_slice-2.ensures.value ∙ c.in_ok-items.ensures.items in
+    let slice = ap (λ (xs : List (Option ℕ)). length xs) c.as_slice-2.ensures.value in
+    let counted : c.len.result ≡ length items = omega (arith, c.len.ensures, slice) in
+    let written = c.in_ok-first_text.ensures ∙ ap (first_text (coordinates_of c.in_ok-grid.grid)) c.as_slice-3.ensures.value in
+    let listed = solids_listed file lines (style_in c.in_ok-drawing.drawing) drawn c.in_ok-grid.grid c.in_ok-grid.ensures.grid items c.len.result own counted
+    c.in_ok-items.ensures.few c.in_ok-choices.choices.items c.in_ok-choices.ensures c.in_ok-first_text.field-0.items written in
+    (no_fault file c.in_ok-first_text.field-0.items c.requires listed, listed)

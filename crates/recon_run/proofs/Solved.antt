@@ -1,0 +1,66 @@
+-- From what each stage finds to the answer of `solve`.
+use Rattle.std.proofs.Common.{◌≡◌, ℕ, ◌<◌, ◌≤◌, List, Bool, length, Option, Some, Ok, sym, subst, ◌∙◌, arith}
+use Rattle.std.proofs.lemmas.List.FromFn.{length-map-range_with_len}
+use Rattle.dxf_entities.specs.Reading.{read_of}
+use Rattle.recon_run.specs.declared.fault.FirstFault.{FirstFault}
+use Rattle.recon_run.specs.declared.fault.FirstFault.TheVariants.{TooLarge}
+use Rattle.recon_run.specs.declared.solve.Unsolved.{Unsolved}
+use Rattle.recon_run.specs.declared.solve.Unsolved.TheVariants as unsolved
+use Rattle.recon_run.specs.Answers.{IsFirstFault, ListsSolidsOf}
+use Rattle.recon_run.specs.FirstText.{first_text}
+use Rattle.recon_run.proofs.Faults.{Drawn, fault_read, of_lines, lines_drawing}
+use Rattle.recon_run.proofs.Grids.{coordinates_from_grid}
+use Rattle.solid_model.specs.declared.segment.Segment.{Segment}
+use Rattle.solid_model.specs.declared.segment.Style.{Style}
+use Rattle.solid_model.specs.Choices.{own_items, AreChoicesThat, IsMatchingChoice}
+use Rattle.solid_model.specs.Drawings.{drawing_of}
+use Rattle.solid_model.specs.Grid.{grid_cell_count}
+use Rattle.solid_model.specs.Limits.{most_cells, most_file_bytes}
+use Rattle.solid_model.specs.Line.{Line}
+use Rattle.solid_model.specs.Panels.{GridParts, coordinates_of, IsGridOf}
+use Rattle.solid_model.specs.Runs.{IsDrawing}
+use Rattle.solid_model.proofs.OwnItems.{all_matching_solids}
+
+-- items of their own are as many as there are
+pub length-own_items : (n : ℕ) → length (own_items n) ≡ n
+length-own_items n = length-map-range_with_len Some 0 n
+
+module _ (t : List ℕ) (ls : List Line) (drawing : Segment → Style) (drawn : Drawn t ls drawing) (g : GridParts) (grid : IsGridOf drawing g) where
+  -- the grid is that of the lines' drawing
+  lines_grid : IsGridOf (drawing_of ls) g
+  lines_grid = of_lines t ls drawing drawn (λ d. IsGridOf d g) grid
+
+  -- what the items refuse is the input's first fault
+  pub items_fault : (x : Unsolved) → length t ≤ most_file_bytes
+      → ((f : FirstFault) → x ≡ unsolved.Fault f → (f ≡ TooLarge) × (most_cells < grid_cell_count (coordinates_of g)))
+      → (fault : FirstFault) → x ≡ unsolved.Fault fault → IsFirstFault t fault
+  items_fault x short large fault e =
+      let (is, many) = large fault e in
+      subst (IsFirstFault t) (sym is) (fault_read t (Ok ls) TooLarge short drawn.reads
+      (drawn.shown, coordinates_of g, coordinates_from_grid (drawing_of ls) g lines_grid, many))
+
+  -- the text of all choices that match lists the solids
+  pub solids_listed : (items : List (Option ℕ)) (n : ℕ) → items ≡ own_items (grid_cell_count (coordinates_of g)) → n ≡ length items
+      → grid_cell_count (coordinates_of g) ≤ most_cells → (choices : List (List Bool))
+      → ((d : Segment → Style) → IsDrawing d → IsGridOf d g → AreChoicesThat (IsMatchingChoice d (coordinates_of g) items) n choices)
+      → (text : List ℕ) → text ≡ first_text (coordinates_of g) choices → ListsSolidsOf t text
+  solids_listed items n own counted small choices matching text told =
+      let count = grid_cell_count (coordinates_of g) in
+      let d = drawing_of ls in
+      let long : n ≡ count = counted ∙ (λ i. length (own i)) ∙ length-own_items count in
+      let found = subst (λ m. AreChoicesThat (IsMatchingChoice d (coordinates_of g) (own_items count)) m choices) long
+      (subst (λ i. AreChoicesThat (IsMatchingChoice d (coordinates_of g) i) n choices) own (matching d (lines_drawing t ls drawing drawn) lines_grid)) in
+      let all = all_matching_solids d (coordinates_of g) lines_grid.coordinates choices found in
+      record {
+        lines = ls;
+        reads = drawn.reads;
+        shown = drawn.shown;
+        coordinates = coordinates_of g;
+        grid = coordinates_from_grid d g lines_grid;
+        small = small;
+        solids = all.0;
+        all = all.1;
+        choices = choices;
+        filled = all.2;
+        told = told;
+      }
