@@ -3,7 +3,7 @@ use Rattle.std.specs.Int.{int_min, int_max}
 use Rattle.std.proofs.lemmas.Int.{ints, clamps}
 use Rattle.solid_model.specs.Line.{Line, IsNear}
 use Rattle.views.proofs.CornerSteps.{near_in_code, less_fits, less_in_code}
-use Rattle.views.proofs.stretches.stretch_of.Goals as goal
+use Rattle.views.proofs.strokes.stroke_of.Goals as goal
 
 pub overflow_sub-result : goal.overflow_sub-result
 overflow_sub-result c = less_fits c.ends_across-at.result.0 c.across.result c.ends_across-at.ensures.near.0 c.across.ensures.near
