@@ -1,0 +1,6 @@
+//! Columns of grid cells, and the styles that a set of grid cells draws on a grid's segments.
+#![tactic(auto)]
+
+mod column;
+
+pub use column::{Column, style_of};
