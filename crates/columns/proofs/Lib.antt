@@ -1,1 +1,2 @@
 pub mod FirstBits
+pub mod GridColumns

@@ -2,5 +2,7 @@
 #![tactic(auto)]
 
 mod column;
+mod grid_columns;
+mod per_axis;
 
 pub use column::{Column, style_of};
