@@ -15,6 +15,7 @@ use Rattle.solid_model.specs.Grid.{GridCell}
 use Rattle.columns.specs.declared.column.Column.{Column}
 use Rattle.columns.specs.Bits.{bits}
 use Rattle.columns.specs.GridColumns.{by_axis, numbered, place_in, grid_cell_in, column_to, grid_column, AreColumns}
+use Rattle.columns.proofs.Pushed.{HoldsSoFar}
 
 -- ---- one column
 
@@ -100,37 +101,18 @@ rows_few z height y width k l m n = let rows = layers_few z height k l in mul-le
 -- ---- the columns of a view
 
 module _ (f : Frame) (sizes : Axis → ℕ) (chosen : List Bool) where
-  -- the columns, by their places in the list
-  pub record AreSoFar (columns : List Column) (width n : ℕ) : Type 0 where
-    pub count : length columns ≡ n
-    pub each : (p : ℕ) → p < n → (k : ℤ) → bits (get_or {A = Column} columns p record { 0 = 0 }).0 k ≡ grid_column f sizes chosen (p % width) (p / width) k
-
-  -- one more
-  pub one_more : (columns more : List Column) (width n : ℕ) (column : Column) → AreSoFar columns width n
-      → ((k : ℤ) → bits column.0 k ≡ grid_column f sizes chosen (n % width) (n / width) k) → more ≡ columns ++ column ∷ [] → AreSoFar more width (n + 1)
-  one_more columns more width n column so_far is e = record {
-    count = ap length e ∙ omega (arith, length-append columns (column ∷ []), so_far.count);
-    each = λ p l k. elim (cases_lt p n) as (λ _. bits (get_or {A = Column} more p record { 0 = 0 }).0 k ≡ grid_column f sizes chosen (p % width) (p / width) k) [
-      | inl earlier ↦ ap (λ xs. bits (get_or {A = Column} xs p record { 0 = 0 }).0 k) e
-          ∙ ap (λ (c : Column). bits c.0 k) (get_or_append_left columns (column ∷ []) record { 0 = 0 } p (omega (arith, so_far.count)))
-          ∙ so_far.each p earlier k
-      | inr later ↦ (let last : p ≡ n = omega arith in
-          subst (λ m. bits (get_or {A = Column} more m record { 0 = 0 }).0 k ≡ grid_column f sizes chosen (m % width) (m / width) k) (sym last)
-          (ap (λ (c : Column). bits c.0 k) (ap (λ xs. get_or {A = Column} xs n record { 0 = 0 }) e ∙ at_end) ∙ is k))
-    ];
-  }
-    where
-      at_end : get_or (columns ++ column ∷ []) n record { 0 = 0 } ≡ column
-      at_end = subst (λ m. get_or (columns ++ column ∷ []) m record { 0 = 0 } ≡ column) so_far.count (get_or-append_seam columns column [] record { 0 = 0 })
+  -- the column at a place of the list
+  abbrev pub IsColumnAt : ℕ → ℕ → Column → Type 0
+  IsColumnAt width p column = (k : ℤ) → bits column.0 k ≡ grid_column f sizes chosen (p % width) (p / width) k
 
   -- all of them
   pub all_columns : (columns : List Column) (width n : ℕ) → width ≡ sizes f.right.axis → n ≡ sizes f.up.axis * sizes f.right.axis
-      → AreSoFar columns width n → AreColumns f sizes chosen columns
+      → HoldsSoFar (IsColumnAt width) columns n → AreColumns f sizes chosen columns
   all_columns columns width n wide whole so_far = record {
     count = so_far.count ∙ whole;
     each = λ i j l m k.
-        let p : ℕ = j * sizes f.right.axis + i in
-        let within = mul-add-lt j (sizes f.right.axis) i (sizes f.up.axis) m l in
-        so_far.each p (omega (arith, whole, mul_comm (sizes f.right.axis) (sizes f.up.axis))) k
-        ∙ (λ t. grid_column f sizes chosen ((ap (λ w. p % w) wide ∙ mod-mul-add j (sizes f.right.axis) i l) t) ((ap (λ w. p / w) wide ∙ div-mul-add j (sizes f.right.axis) i l) t) k);
+        let w : ℕ = sizes f.right.axis in
+        let within = mul-add-lt j w i (sizes f.up.axis) m l in
+        so_far.each (j * w + i) record { 0 = 0 } (omega (arith, whole, mul_comm w (sizes f.up.axis))) k
+        ∙ (λ t. grid_column f sizes chosen ((ap (λ x. (j * w + i) % x) wide ∙ mod-mul-add j w i l) t) ((ap (λ x. (j * w + i) / x) wide ∙ div-mul-add j w i l) t) k);
   }

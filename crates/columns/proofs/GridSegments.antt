@@ -27,7 +27,7 @@ use Rattle.solid_model.proofs.Styles.{one_style, drawn_style_drawn}
 use Rattle.solid_model.proofs.Views.{views_are_frames, across_each, across_along, across_next, across_turned, cell_on_twice, places_of_cell_in}
 use Rattle.columns.specs.Bits.{bits}
 use Rattle.columns.specs.GridColumns.{by_axis, numbered, number_on, grid_cell_in, grid_column}
-use Rattle.columns.specs.GridPanels.{place_right, place_up}
+use Rattle.columns.specs.GridPanels.{place_right, place_up, IsColumnBeside, AreColumnsBeside}
 use Rattle.columns.proofs.Gaps.{member, LiesIn, lies_in, in_gap, some_gap_or_none, gaps_keep_order, begins_gap, ends_gap, last_in_none, before_first_in_none}
 use Rattle.columns.proofs.Stretched.{KeepsOrder, IsStretched, stretched_draw}
 
@@ -249,17 +249,6 @@ module _ (coordinates : Coordinates) (ordered : (a : Axis) → Ascends ◌<ℤ�
           empty d = ap (λ m. bits m d) none ∙ empty_bits d
 
 -- ---- what the columns draw
-
--- the column beside a line: that of the grid cells there, and empty beyond the last line
-pub record IsColumnBeside (f : Frame) (sizes : Axis → ℕ) (chosen : List Bool) (upright : Bool) (start line n : ℕ) : Type 0 where
-  pub inside : line < sizes (across f upright).axis → (k : ℤ) → bits n k ≡ grid_column f sizes chosen (place_right upright start line) (place_up upright start line) k
-  pub outside : sizes (across f upright).axis ≤ line → n ≡ 0
-
--- the columns after and before a line
-pub record AreColumnsBeside (f : Frame) (sizes : Axis → ℕ) (chosen : List Bool) (upright : Bool) (start line after before : ℕ) : Type 0 where
-  pub after_is : IsColumnBeside f sizes chosen upright start line after
-  pub before_first : line ≡ 0 → before ≡ 0
-  pub before_is : (l : ℕ) → line ≡ suc l → IsColumnBeside f sizes chosen upright start l before
 
 module _ (coordinates : Coordinates) (ordered : (a : Axis) → Ascends ◌<ℤ◌ (coordinates a)) (chosen : List Bool) (s : List Cell) (union : IsUnionOf coordinates chosen (is_full s))
     (v : View) (upright : Bool) (start line after before : ℕ)

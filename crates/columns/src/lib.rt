@@ -4,5 +4,6 @@
 mod column;
 mod grid_columns;
 mod per_axis;
+mod segment_styles;
 
 pub use column::{Column, style_of};

@@ -3,7 +3,8 @@
 ghost use Rattle.std.specs.Prelude.{◌≡◌, ◌≤◌, ◌-◌};
 ghost use Rattle.solid_model.specs.declared.cell.Axis.{Axis};
 ghost use Rattle.solid_model.specs.Grid.{GridCell};
-ghost use Rattle.columns.specs.GridColumns.{numbers_of, numbered, place_in};
+ghost use Rattle.columns.specs.GridColumns.{numbers_of, numbered};
+ghost use Rattle.columns.specs.GridPanels.{gaps_of};
 
 use solid_model::Axis;
 
@@ -38,6 +39,17 @@ impl PerAxis {
             Axis::X => PerAxis { x: number, ..self },
             Axis::Y => PerAxis { y: number, ..self },
             Axis::Z => PerAxis { z: number, ..self },
+        }
+    }
+
+    /// How many gaps there are along each axis between so many coordinates.
+    pub fn gaps(self) -> PerAxis
+        ensures { numbers_of result ≡ gaps_of (numbers_of self) }
+    {
+        PerAxis {
+            x: self.x.saturating_sub(1),
+            y: self.y.saturating_sub(1),
+            z: self.z.saturating_sub(1),
         }
     }
 }

@@ -1,12 +1,14 @@
 -- One column more; and all of them.
 use Rattle.std.proofs.Common.{◌≡◌, ap₂, ◌*◌, ◌∙◌, arith}
 use Rattle.columns.specs.GridColumns.{numbers_of}
-use Rattle.columns.proofs.GridColumns.{one_more, all_columns}
+use Rattle.columns.proofs.GridColumns.{IsColumnAt, all_columns}
+use Rattle.columns.proofs.Pushed.{holds_more}
 use Rattle.columns.proofs.grid_columns.view_columns.Goals as goal
 
 pub loop-place-preserved : goal.loop-place-preserved
 loop-place-preserved c =
-    one_more c.args.frame (numbers_of c.args.sizes) c.args.cells.now c.loop-place.columns.items _ _ _ c.column_of.result c.loop-place.invariant c.column_of.ensures c.in_ok-push.ensures.items
+    holds_more (IsColumnAt c.args.frame (numbers_of c.args.sizes) c.args.cells.now c.along-width.result) c.loop-place.columns.items _ _ c.column_of.result
+    c.loop-place.invariant c.column_of.ensures c.in_ok-push.ensures.items
 
 pub returns : goal.returns
 returns c =
