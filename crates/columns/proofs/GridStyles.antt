@@ -142,3 +142,7 @@ all_styles counts chosen v upright styles width many wide whole so_far coordinat
         let within : i < length all_starts - 1 = omega (arith, starts_count) in
         segment_drawn coordinates has.ordered chosen s union v upright i j style.0 style.1 style.2 (omega arith) m (get_or styles (j * length starts + i) Blank) style.3
         ∙ ap (λ start. solid_drawing s (segment_at v upright start (get_or lines j (pos 0)))) (sym (get_or-take (length all_starts - 1) all_starts i (pos 0) within))
+
+-- few coordinates have few gaps
+pub few_gaps : (counts gaps : Axis → ℕ) → gaps ≡ gaps_of counts → ((a : Axis) → counts a ≤ 64) → (a : Axis) → gaps a ≤ 64
+few_gaps counts gaps e few a = subst (λ (n : Axis → ℕ). n a ≤ 64) (sym e) (omega (arith, few a))

@@ -2,6 +2,7 @@
 #![tactic(auto)]
 
 mod column;
+mod draw;
 mod grid_columns;
 mod per_axis;
 mod segment_styles;
