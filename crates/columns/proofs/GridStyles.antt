@@ -146,3 +146,9 @@ all_styles counts chosen v upright styles width many wide whole so_far coordinat
 -- few coordinates have few gaps
 pub few_gaps : (counts gaps : Axis → ℕ) → gaps ≡ gaps_of counts → ((a : Axis) → counts a ≤ 64) → (a : Axis) → gaps a ≤ 64
 few_gaps counts gaps e few a = subst (λ (n : Axis → ℕ). n a ≤ 64) (sym e) (omega (arith, few a))
+
+-- columns are those of an equal frame and equal sizes
+pub same_columns : (f g : Frame) (sizes others : Axis → ℕ) (chosen : List Bool) (columns : List Column) → f ≡ g → sizes ≡ others
+    → AreColumns f sizes chosen columns → AreColumns g others chosen columns
+same_columns f g sizes others chosen columns same_frame same_sizes are =
+    subst (λ n. AreColumns g n chosen columns) same_sizes (subst (λ x. AreColumns x sizes chosen columns) same_frame are)

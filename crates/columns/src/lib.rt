@@ -8,3 +8,4 @@ mod per_axis;
 mod segment_styles;
 
 pub use column::{Column, style_of};
+pub use draw::{ColumnSet, columns_of, draw_cells};
