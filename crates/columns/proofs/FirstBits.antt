@@ -1,9 +1,9 @@
 -- The first full depth of a column is the number of zeros below its lowest bit.
-use Rattle.std.proofs.Common.{◌≡◌, ◌≢◌, ◌⊎◌, inl, inr, ⊎_elim, Bool, true, false, ◌==◌, ℕ, zero, ◌+◌, ◌%◌, ◌<◌, ◌≤◌, ◌^◌, ℤ, pos, negsuc, ◌<ℤ◌, w64, refl, ap, sym, subst, ◌∙◌, arith}
+use Rattle.std.proofs.Common.{◌≡◌, ◌≢◌, ◌⊎◌, inl, inr, Bool, true, false, ◌==◌, ℕ, ◌<◌, ◌^◌, ℤ, pos, negsuc, ◌<ℤ◌, w64, refl, ap, sym, subst, ◌∙◌, arith}
 use Rattle.std.specs.Int.{bit_at, trailing_zeros}
 use Rattle.std.specs.Int.Count.{trailing_of_zero}
 use Rattle.std.specs.Int.RustNames.{bit_xor}
-use Rattle.std.proofs.lemmas.Bool.{false≢true, both_ways, cases_lt, eq-eqb, eqb-true}
+use Rattle.std.proofs.lemmas.Bool.{false≢true, both_ways, cases_lt, eq-eqb}
 use Rattle.std.proofs.lemmas.Int.{ints, by_lt_z}
 use Rattle.std.proofs.lemmas.Nat.Bits.{bit_at-zero, bit_at-lt, bit_at_xor, bit_at-trailing_zeros, same_from_bits}
 use Rattle.solid_model.specs.declared.segment.Style.TheVariants.{Dashed, Solid}

@@ -1,6 +1,6 @@
 -- The unit columns beside a grid's segment are the columns of grid cells beside it, stretched, so a union of chosen grid cells
 -- draws on the segment what those columns draw.
-use Rattle.std.proofs.Common.{◌≡◌, ◌⊎◌, inl, inr, ⊎_elim, Bool, true, false, ◌&&◌, ◌==◌, nat_lt, ℕ, zero, suc, ◌+◌, ◌-◌, ◌<◌, ◌≤◌, List, length, get_or, slice_index_or, ℤ, pos, negsuc, neg_ℤ, ◌-ℤ◌, ◌≤ℤ◌, ◌<ℤ◌, IsTrue, if◌then◌else◌, refl, ap, sym, subst, ◌∙◌, arith}
+use Rattle.std.proofs.Common.{◌≡◌, inl, inr, ⊎_elim, Bool, true, false, ◌&&◌, ◌==◌, ℕ, zero, suc, ◌+◌, ◌-◌, ◌<◌, List, length, slice_index_or, ℤ, pos, negsuc, neg_ℤ, ◌-ℤ◌, ◌≤ℤ◌, ◌<ℤ◌, IsTrue, if◌then◌else◌, refl, ap, sym, subst, ◌∙◌, arith}
 use Rattle.std.proofs.lemmas.Bool.{false≢true, both_ways, and_parts, cases_lt, lt-ltb, ltb-true}
 use Rattle.std.proofs.lemmas.Int.{ints}
 use Rattle.std.proofs.lemmas.Nat.Bits.{bit_at-zero}
@@ -12,14 +12,12 @@ use Rattle.solid_model.specs.declared.frame.Frame.{Frame}
 use Rattle.solid_model.specs.declared.frame.View.{View}
 use Rattle.solid_model.specs.declared.frame.View.TheVariants.{Front, Top, Side}
 use Rattle.solid_model.specs.declared.segment.Style.{Style}
-use Rattle.solid_model.specs.Boxes.{place_of}
 use Rattle.solid_model.specs.Cells.{coordinate, is_full}
-use Rattle.solid_model.specs.Columns.{cell_in, column_after, column_before, ColumnsDraw}
+use Rattle.solid_model.specs.Columns.{cell_in, ColumnsDraw}
 use Rattle.solid_model.specs.DrawnStyle.{solid_drawing}
-use Rattle.solid_model.specs.Draws.{Draws}
 use Rattle.solid_model.specs.Edges.{second_axis, third_axis, AreAcross}
 use Rattle.solid_model.specs.Frames.{IsFrame, frame_of, along, across, cell_on}
-use Rattle.solid_model.specs.Grid.{Coordinates, GridCell, is_in_gap, IsInSomeGap, LiesInGridCell, LiesInGrid, gaps_along, grid_cell_place, IsUnionOf}
+use Rattle.solid_model.specs.Grid.{Coordinates, GridCell, is_in_gap, LiesInGridCell, gaps_along, grid_cell_place, IsUnionOf}
 use Rattle.solid_model.specs.Lists.{Ascends}
 use Rattle.solid_model.specs.Segments.{segment_at}
 use Rattle.solid_model.proofs.ColumnRule.{columns_drawn}
@@ -28,7 +26,7 @@ use Rattle.solid_model.proofs.Views.{views_are_frames, across_each, across_along
 use Rattle.columns.specs.Bits.{bits}
 use Rattle.columns.specs.GridColumns.{by_axis, numbered, number_on, grid_cell_in, grid_column}
 use Rattle.columns.specs.GridPanels.{place_right, place_up, IsColumnBeside, AreColumnsBeside}
-use Rattle.columns.proofs.Gaps.{member, LiesIn, lies_in, in_gap, some_gap_or_none, gaps_keep_order, begins_gap, ends_gap, last_in_none, before_first_in_none}
+use Rattle.columns.proofs.Gaps.{member, lies_in, some_gap_or_none, gaps_keep_order, begins_gap, ends_gap, last_in_none, before_first_in_none}
 use Rattle.columns.proofs.Stretched.{KeepsOrder, IsStretched, stretched_draw}
 
 -- ---- axes and frames
@@ -119,9 +117,11 @@ module _ (coordinates : Coordinates) (ordered : (a : Axis) → Ascends ◌<ℤ�
   first_depth false a d l =
       let g : ℕ = gaps_along coordinates a - (d + 1) in
       let end : ℤ = member (coordinates a) (suc g) in
-      let back : neg_ℤ (neg_ℤ end) -ℤ pos 1 ≡ end -ℤ pos 1 = omega (arith, ints) in
-      (neg_ℤ end, (l, subst (λ z. is_in_gap (coordinates a) g z ≡ true) (sym back) (ends_gap (coordinates a) (ordered a) g (omega arith))),
-      λ n at. let h = (lies_in (coordinates a) g (neg_ℤ n -ℤ pos 1) at.1).high in omega (arith, ints))
+      let back : neg_ℤ (neg_ℤ end) -ℤ pos 1 ≡ end -ℤ pos 1 = omega (arith, ints) in (
+        neg_ℤ end,
+        (l, subst (λ z. is_in_gap (coordinates a) g z ≡ true) (sym back) (ends_gap (coordinates a) (ordered a) g (omega arith))),
+        λ n at. let h = (lies_in (coordinates a) g (neg_ℤ n -ℤ pos 1) at.1).high in omega (arith, ints),
+      )
 
   -- a gap is that of some depth of the grid
   depth_of_gap : (forward : Bool) (a : Axis) (k : ℤ) (g : ℕ) → is_in_gap (coordinates a) g (cell_on (record { axis = a; forward = forward }) k) ≡ true
@@ -216,8 +216,8 @@ module _ (coordinates : Coordinates) (ordered : (a : Axis) → Ascends ◌<ℤ�
       depth_of k e = ⊎_elim
           (λ gap. depth_of_gap coordinates ordered f.away.forward f.away.axis k gap.0 gap.1)
           (λ none. absurd (both_ways (unit_column k) (union.outside (cell_in f upright i j k) (λ lies.
-              let gap = lies f.away.axis in
-              none gap.0 (subst (λ z. is_in_gap (coordinates f.away.axis) gap.0 z ≡ true) (stands_at i j k).deep gap.1))) e))
+          let gap = lies f.away.axis in
+          none gap.0 (subst (λ z. is_in_gap (coordinates f.away.axis) gap.0 z ≡ true) (stands_at i j k).deep gap.1))) e))
           (some_gap_or_none (coordinates f.away.axis) (cell_on f.away k))
 
       first_of : (d : ℤ) → grid_column f sizes chosen right up d ≡ true → (k : ℤ) × comes k d × ((n : ℤ) → comes n d → k ≤ℤ n)

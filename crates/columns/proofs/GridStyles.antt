@@ -1,24 +1,21 @@
 -- The styles of a view's segments are made from its columns, one by one.
-use Rattle.std.proofs.Common.{◌≡◌, Bool, true, false, ℕ, zero, suc, ◌+◌, ◌-◌, ◌*◌, ◌/◌, ◌%◌, ◌<◌, ◌≤◌, List, [], ◌∷◌, ◌++◌, map, length, take, drop, get_or, ℤ, pos, refl, ap, ap₂, sym, subst, ◌∙◌, arith}
+use Rattle.std.proofs.Common.{◌≡◌, Bool, true, false, ℕ, suc, ◌+◌, ◌-◌, ◌*◌, ◌/◌, ◌%◌, ◌<◌, ◌≤◌, List, [], ◌∷◌, ◌++◌, map, length, take, drop, get_or, ℤ, pos, refl, ap, ap₂, sym, subst, ◌∙◌, arith}
 use Rattle.std.proofs.lemmas.List.{length-take, length-drop, length-map, ext_get_or, get_or-take, get_or-drop, get_or-map, take-append-drop}
 use Rattle.std.proofs.lemmas.Nat.{div-mul-add, mod-mul-add, mul-add-lt}
 use Rattle.std.proofs.Math.Nat.{mul_comm, suc-mul, zero-mul}
 use Rattle.solid_model.specs.declared.cell.Axis.{Axis}
-use Rattle.solid_model.specs.declared.cell.Cell.{Cell}
 use Rattle.solid_model.specs.declared.frame.Frame.{Frame}
 use Rattle.solid_model.specs.declared.frame.View.{View}
 use Rattle.solid_model.specs.declared.segment.Style.{Style}
 use Rattle.solid_model.specs.declared.segment.Style.TheVariants.{Blank}
-use Rattle.solid_model.specs.Cells.{is_full}
 use Rattle.solid_model.specs.DrawnStyle.{solid_drawing}
 use Rattle.solid_model.specs.Frames.{frame_of, along, across}
-use Rattle.solid_model.specs.Grid.{Coordinates, gaps_along, IsUnionOf}
-use Rattle.solid_model.specs.Panels.{joined, starts_of, grid_styles}
+use Rattle.solid_model.specs.Grid.{gaps_along}
+use Rattle.solid_model.specs.Panels.{joined, starts_of}
 use Rattle.solid_model.specs.Segments.{segment_at}
 use Rattle.columns.specs.declared.column.Column.{Column}
 use Rattle.columns.specs.GridColumns.{AreColumns}
-use Rattle.columns.specs.GridPanels.{HasCounts, gaps_of, place_right, place_up, IsColumnBeside, IsStyleBetween, AreStylesAlong}
-use Rattle.columns.proofs.Gaps.{member}
+use Rattle.columns.specs.GridPanels.{gaps_of, place_right, place_up, IsColumnBeside, IsStyleBetween, AreStylesAlong}
 use Rattle.columns.proofs.GridSegments.{segment_drawn}
 use Rattle.columns.proofs.Pushed.{HoldsSoFar}
 

@@ -1,6 +1,6 @@
 -- Columns whose depths are stretched draw the same style.
-use Rattle.std.proofs.Common.{◌≡◌, ◌≢◌, Bool, true, false, ℤ, ◌≤ℤ◌, ◌<ℤ◌, refl, sym, ap, subst, ◌∙◌, arith}
-use Rattle.std.proofs.lemmas.Bool.{false≢true, both_ways, false_from_ne_true}
+use Rattle.std.proofs.Common.{◌≡◌, ◌≢◌, Bool, true, false, ℤ, ◌≤ℤ◌, ◌<ℤ◌, refl, sym, subst, ◌∙◌, arith}
+use Rattle.std.proofs.lemmas.Bool.{both_ways, false_from_ne_true}
 use Rattle.std.proofs.lemmas.Int.{ints, by_lt_z}
 use Rattle.solid_model.specs.declared.segment.Style.{Style}
 use Rattle.solid_model.specs.declared.segment.Style.TheVariants.{Blank, Dashed, Solid}
@@ -32,9 +32,12 @@ module _ (comes : ℤ → ℤ → Type 0) (keeps : KeepsOrder comes) where
 
   -- a first full depth comes from a first full one
   first_from : (column stretched : ℤ → Bool) → IsStretched comes column stretched → (d k : ℤ) → comes k d → IsFirstFull stretched k → IsFirstFull column d
-  first_from column stretched is d k at first = (sym (is.same k d at) ∙ first.0, λ e l. false_from_ne_true (column e) (λ full.
-      let n = is.first e full in
-      both_ways (stretched n.0) (first.1 n.0 (keeps n.0 k e d n.1 at l)) (is.same n.0 e n.1 ∙ full)))
+  first_from column stretched is d k at first = (
+    sym (is.same k d at) ∙ first.0,
+    λ e l. false_from_ne_true (column e) (λ full.
+        let n = is.first e full in
+        both_ways (stretched n.0) (first.1 n.0 (keeps n.0 k e d n.1 at l)) (is.same n.0 e n.1 ∙ full)),
+  )
 
   module _ (a b a_long b_long : ℤ → Bool) (is_a : IsStretched comes a a_long) (is_b : IsStretched comes b b_long) where
     -- a first full depth of one column is that of the other, if it is so before the columns are stretched
@@ -43,7 +46,7 @@ module _ (comes : ℤ → ℤ → Type 0) (keeps : KeepsOrder comes) where
         let d = is_a.from k first.0 in
         let on_b = (same d.0).0 (first_from a a_long is_a d.0 k d.1 first) in
         first_stretched b b_long is_b d.0 k d.1 (λ n at. by_lt_z n k
-            (λ l. absurd (both_ways (a_long n) (first.1 n l) (is_a.same n d.0 at ∙ sym (is_a.same k d.0 d.1) ∙ first.0))) (λ l. l)) on_b
+        (λ l. absurd (both_ways (a_long n) (first.1 n l) (is_a.same n d.0 at ∙ sym (is_a.same k d.0 d.1) ∙ first.0))) (λ l. l)) on_b
 
     -- and the other way round
     kept_back : HaveSameFirstFull a_long b_long → (d : ℤ) → IsFirstFull a d → IsFirstFull b d

@@ -66,7 +66,7 @@ fn counts_of(grid: &Grid) -> PerAxis
 }
 
 /// The columns of the chosen cells of a grid that has so many coordinates along each axis.
-fn columns_in(alloc: Global, counts: PerAxis, cells: &[bool]) -> Result<ColumnSet, Memory>
+pub fn columns_in(alloc: Global, counts: PerAxis, cells: &[bool]) -> Result<ColumnSet, Memory>
     requires { (a : Axis) → numbers_of counts a ≤ most_grid_coordinates }
     ensures { IfOk result (λ columns. (v : View)
         → AreColumns (frame_of v) (gaps_of (numbers_of counts)) cells.now (columns_in v columns)) }
@@ -80,12 +80,7 @@ fn columns_in(alloc: Global, counts: PerAxis, cells: &[bool]) -> Result<ColumnSe
 }
 
 /// The styles of a view's segments.
-fn panel(
-    alloc: Global,
-    view: View,
-    counts: PerAxis,
-    columns: &[Column],
-) -> Result<Panel, Memory>
+fn panel(alloc: Global, view: View, counts: PerAxis, columns: &[Column]) -> Result<Panel, Memory>
     requires counts { (a : Axis) → numbers_of counts a ≤ most_grid_coordinates }
     requires count { length columns.now
         ≡ gaps_of (numbers_of counts) (frame_of view).up.axis * gaps_of (numbers_of counts) (frame_of view).right.axis }
@@ -99,7 +94,7 @@ fn panel(
 }
 
 /// What the chosen cells draw on a grid that has so many coordinates along each axis.
-fn draw_in(alloc: Global, counts: PerAxis, cells: &[bool]) -> Result<Panels, Memory>
+pub fn draw_in(alloc: Global, counts: PerAxis, cells: &[bool]) -> Result<Panels, Memory>
     requires { (a : Axis) → numbers_of counts a ≤ most_grid_coordinates }
     ensures { IfOk result (λ panels. ArePanels (numbers_of counts) cells.now panels) }
 {

@@ -6,6 +6,8 @@ mod draw;
 mod grid_columns;
 mod per_axis;
 mod segment_styles;
+#[cfg(test)]
+mod tests;
 
 pub use column::{Column, style_of};
 pub use draw::{ColumnSet, columns_of, draw_cells};

@@ -91,14 +91,7 @@ pub fn styles_along(
     let width = sizes.along(frame.along(upright).axis);
     let mut styles = Vec::new(alloc);
     for place in 0..lines * width {
-        let style = segment_style(
-            frame,
-            sizes,
-            columns,
-            upright,
-            place % width,
-            place / width,
-        );
+        let style = segment_style(frame, sizes, columns, upright, place % width, place / width);
         styles.push(style)?;
     }
     Ok(styles)

@@ -1,8 +1,6 @@
 -- The columns of each view, by its frame.
-use Rattle.std.proofs.Common.{subst, ◌∙◌}
-use Rattle.solid_model.specs.declared.cell.Axis.{Axis}
 use Rattle.solid_model.specs.declared.frame.View.TheVariants.{Front, Top, Side}
-use Rattle.columns.specs.GridColumns.{numbers_of, AreColumns}
+use Rattle.columns.specs.GridColumns.{numbers_of}
 use Rattle.columns.proofs.GridStyles.{few_gaps, same_columns}
 use Rattle.columns.proofs.draw.columns_in.Goals as goal
 

@@ -1,5 +1,5 @@
 -- The columns of each view draw its panel.
-use Rattle.std.proofs.Common.{length, ap, ◌∙◌, true, false}
+use Rattle.std.proofs.Common.{length, ap, ◌∙◌}
 use Rattle.solid_model.specs.declared.frame.View.TheVariants.{Front, Top, Side}
 use Rattle.columns.proofs.draw.draw_in.Goals as goal
 

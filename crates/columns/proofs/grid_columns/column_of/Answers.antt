@@ -1,5 +1,5 @@
 -- A full or an empty cell more.
-use Rattle.std.proofs.Common.{◌≡◌, ◌<◌, ap, sym, ◌∙◌, arith, slice_index_or, false, true}
+use Rattle.std.proofs.Common.{◌<◌, ap, sym, ◌∙◌, arith, slice_index_or, false}
 use Rattle.columns.specs.Bits.{bits}
 use Rattle.columns.specs.GridColumns.{numbers_of, place_in}
 use Rattle.columns.proofs.GridColumns.{full_depth, empty_depth}

@@ -1,6 +1,5 @@
 -- No number is above 64.
-use Rattle.std.proofs.Common.{◌≤◌, ◌*◌, ◌+◌, rules, arith}
-use Rattle.std.proofs.Math.Nat.{mul-le-mul}
+use Rattle.std.proofs.Common.{arith}
 use Rattle.solid_model.specs.declared.cell.Axis.TheVariants.{X, Y, Z}
 use Rattle.columns.proofs.GridColumns.{layers_few, rows_few}
 use Rattle.columns.proofs.grid_columns.is_chosen.Goals as goal

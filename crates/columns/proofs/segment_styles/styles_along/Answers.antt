@@ -1,8 +1,7 @@
 -- One style more; and all of them.
-use Rattle.std.proofs.Common.{◌≡◌, ◌≤◌, ◌<◌, ◌*◌, ◌∙◌, Bool, List, ℕ, ap, ap₂, sym, subst, arith}
+use Rattle.std.proofs.Common.{◌≡◌, ◌≤◌, ◌*◌, ◌∙◌, ℕ, ap, sym, subst, arith}
 use Rattle.std.proofs.Math.Nat.{mul-le-mul}
 use Rattle.solid_model.specs.declared.cell.Axis.{Axis}
-use Rattle.solid_model.specs.declared.frame.Direction.{Direction}
 use Rattle.solid_model.specs.declared.frame.Frame.{Frame}
 use Rattle.solid_model.specs.Frames.{frame_of, along, across}
 use Rattle.columns.specs.GridColumns.{numbers_of, AreColumns}
