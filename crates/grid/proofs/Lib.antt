@@ -1,0 +1,4 @@
+pub mod BegunRuns
+pub mod CoordinateBounds
+pub mod InOrder
+pub mod ShownPositions
