@@ -129,14 +129,20 @@ module _ (d : DrawingRuns) (v : View) (upright : Bool) (own : AreRuns (runs_alon
       at_end : Member (ends_of rs) z → Shows z
       at_end l =
           let m = member-from_ends rs z l in
-          inr (m.0.at, λ same. end-is_change rs own m.0 m.1 z m.2
-          (sym (in_runs d v upright (z -ℤ pos 1) m.0.at) ∙ same ∙ in_runs d v upright z m.0.at))
+          inr (
+            m.0.at,
+            λ same. end-is_change rs own m.0 m.1 z m.2
+                (sym (in_runs d v upright (z -ℤ pos 1) m.0.at) ∙ same ∙ in_runs d v upright z m.0.at),
+          )
 
       on_line : Member (lines_of ss) z → Shows z
       on_line l =
           let m = member-from_map (λ (r : Run). r.at) ss z l in
-          inl (m.0.from, λ blank. drawn_on_line ss other m.0 m.1
-          (sym (in_runs d v (not upright) m.0.from m.0.at) ∙ ap (λ j. style_in d (segment_at v (not upright) m.0.from j)) m.2 ∙ blank))
+          inl (
+            m.0.from,
+            λ blank. drawn_on_line ss other m.0 m.1
+                (sym (in_runs d v (not upright) m.0.from m.0.at) ∙ ap (λ j. style_in d (segment_at v (not upright) m.0.from j)) m.2 ∙ blank),
+          )
 
   -- and nowhere else
   shown_by_runs : (z : ℤ) → Shows z → Member (ends_of rs ++ lines_of ss) z
@@ -153,8 +159,7 @@ module _ (d : DrawingRuns) (v : View) (upright : Bool) (own : AreRuns (runs_alon
       → more ≡ (before ++ ends_of (runs_along upright (view_runs v d))) ++ lines_of (runs_along (not upright) (view_runs v d))
       → (z : ℤ) → Member more z ↔ (Member before z ⊎ ShowsWhere (style_in d) a v upright z)
   with_shown a on before more e z =
-      let same = e ∙ append_assoc before (ends_of rs) (lines_of ss) in
-      (
+      let same = e ∙ append_assoc before (ends_of rs) (lines_of ss) in (
         λ k. ⊎_elim inl (λ l. inr (on, runs_show z l)) (member-append before (ends_of rs ++ lines_of ss) z (subst (λ ys. Member ys z) same k)),
         λ k. subst (λ ys. Member ys z) (sym same)
             (⊎_elim (member-append_left before (ends_of rs ++ lines_of ss) z) (λ s. member-append_right before (ends_of rs ++ lines_of ss) z (shown_by_runs z s.1)) k),

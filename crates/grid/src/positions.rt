@@ -89,7 +89,11 @@ fn in_order(mut positions: Vec<i64>) -> Vec<i64>
 }
 
 /// The grid coordinates of an axis.
-pub fn grid_coordinates(alloc: Global, drawing: &Drawing, axis: Axis) -> Result<Vec<i64>, AllocError>
+pub fn grid_coordinates(
+    alloc: Global,
+    drawing: &Drawing,
+    axis: Axis,
+) -> Result<Vec<i64>, AllocError>
     ensures exact { IfOk result (λ zs. AreGridCoordinates (style_in drawing.now) axis zs.items) }
     ensures kept { IsDrawing (style_in drawing.now) }
 {

@@ -5,7 +5,7 @@ ghost use Rattle.solid_model.specs.declared.segment.Style.TheVariants.{Blank};
 ghost use Rattle.solid_model.specs.Line.{IsNear};
 
 use crate::grid_of;
-use solid_model::{Grid, SheetLine, Style, View};
+use solid_model::{Grid, Panel, SheetLine, Style, View};
 use std::alloc::Global;
 use std::test::Fail;
 use views::drawing;
@@ -49,22 +49,22 @@ fn style_of(word: &str) -> Result<Style, Fail>
 }
 
 /// The coordinate that a word says.
-fn near(word: &str) -> Result<i64, Fail>
+fn near(word: Option<&str>) -> Result<i64, Fail>
     ensures { IfOk result IsNear }
 {
-    let place: u8 = word.parse().map_err(|_| "no number")?;
-    Ok(i64::from(place))
+    let place: Option<u8> = word.and_then(|word| word.parse().ok());
+    Ok(i64::from(place.ok_or("a stroke has two ends")?))
 }
 
 /// The line that a stroke is.
 fn line_of(stroke: &str) -> Result<SheetLine, Fail> {
     let mut words = stroke.split(' ');
-    let view = view_of(words.next().ok_or("a stroke has a view")?)?;
-    let style = style_of(words.next().ok_or("a stroke has a style")?)?;
-    let x0 = near(words.next().ok_or("a stroke begins")?)?;
-    let y0 = near(words.next().ok_or("a stroke begins")?)?;
-    let x1 = near(words.next().ok_or("a stroke ends")?)?;
-    let y1 = near(words.next().ok_or("a stroke ends")?)?;
+    let view = view_of(words.next().unwrap_or(""))?;
+    let style = style_of(words.next().unwrap_or(""))?;
+    let x0 = near(words.next())?;
+    let y0 = near(words.next())?;
+    let x1 = near(words.next())?;
+    let y1 = near(words.next())?;
     if x0 != x1 && y0 != y1 {
         return Err(Fail::new("an oblique stroke"));
     }
@@ -91,16 +91,20 @@ fn push_marks(text: &mut String, styles: &[Style]) -> Result<(), Fail> {
     Ok(())
 }
 
+/// A view of a grid as in the table.
+fn push_view(text: &mut String, name: &str, panel: &Panel) -> Result<(), Fail> {
+    text.push_str(name)?;
+    push_marks(text, panel.along(false))?;
+    text.push('/')?;
+    push_marks(text, panel.along(true))
+}
+
 /// A grid as in the table.
 fn grid_text(alloc: Global, grid: &Grid) -> Result<String, Fail> {
     let mut text = format!(in alloc; "{:?} {:?} {:?}", grid.xs(), grid.ys(), grid.zs())?;
-    for (name, view) in [(" front ", View::Front), (" top ", View::Top), (" side ", View::Side)] {
-        let panel = grid.panels().view(view);
-        text.push_str(name)?;
-        push_marks(&mut text, panel.along(false))?;
-        text.push_str("/")?;
-        push_marks(&mut text, panel.along(true))?;
-    }
+    push_view(&mut text, " front ", grid.panels().view(View::Front))?;
+    push_view(&mut text, " top ", grid.panels().view(View::Top))?;
+    push_view(&mut text, " side ", grid.panels().view(View::Side))?;
     Ok(text)
 }
 

@@ -16,6 +16,13 @@ pub returns-in_err-zs-clause-fault : goal.returns-in_err-zs-clause-fault
 returns-in_err-zs-clause-fault c = λ fault e.
     let drawing = style_in c.args.drawing.now in
     let p = err_from_is_err_and c.from_residual-in_err-zs.result c.from_residual-in_err-zs.ensures.1 in
-    let own = c.in_err-zs.ensures.fault fault (cause_handed_on _ _ p _ e) in
-    (Z, own.0, own.1, (few-fine_enough drawing X c.in_ok-xs.xs.items c.in_ok-xs.ensures.coordinates,
-    few-fine_enough drawing Y c.in_ok-ys.ys.items c.in_ok-ys.ensures.coordinates, own.2))
+    let own = c.in_err-zs.ensures.fault fault (cause_handed_on _ _ p _ e) in (
+      Z,
+      own.0,
+      own.1,
+      (
+        few-fine_enough drawing X c.in_ok-xs.xs.items c.in_ok-xs.ensures.coordinates,
+        few-fine_enough drawing Y c.in_ok-ys.ys.items c.in_ok-ys.ensures.coordinates,
+        own.2,
+      ),
+    )
