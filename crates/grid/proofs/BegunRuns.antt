@@ -1,16 +1,12 @@
 -- Of the runs that begin by a place only the last one may cover it.
-use Rattle.std.proofs.Common.{◌≡◌, ◌≢◌, ◌⊎◌, inl, inr, ⊎_elim, Bool, true, false, ◌||◌, ◌&&◌, ℕ, zero, suc, ◌+◌, ◌-◌, ◌<◌, ◌≤◌, List, [], ◌∷◌, length, get_or, take, ℤ, ◌≤ℤ◌, ◌<ℤ◌, int_lt, int_le, refl, sym, ap, subst, ◌∙◌, arith}
-use Rattle.std.specs.Ordering.{int_eq}
-use Rattle.std.specs.List.{AllPairs}
+use Rattle.std.proofs.Common.{◌≡◌, ◌⊎◌, inl, inr, ⊎_elim, true, false, ℕ, suc, ◌-◌, ◌<◌, ◌≤◌, List, length, get_or, take, ℤ, ◌≤ℤ◌, ◌<ℤ◌, sym, ap, subst, ◌∙◌, arith}
 use Rattle.std.specs.List.Sorted.{IsPartitionedBy, IsPartitionPoint}
-use Rattle.std.proofs.lemmas.Bool.{both_ways, and_parts, and_from, cases_lt}
-use Rattle.std.proofs.lemmas.Bool.Decides.{Decides-int_eq}
+use Rattle.std.proofs.lemmas.Bool.{both_ways, cases_lt}
 use Rattle.std.proofs.lemmas.Int.{ints, by_lt_z}
 use Rattle.std.proofs.lemmas.List.{get_or_default, get_or-take, length-take-le}
 use Rattle.solid_model.specs.declared.runs.Run.{Run}
-use Rattle.solid_model.specs.declared.segment.Style.{Style}
 use Rattle.solid_model.specs.declared.segment.Style.TheVariants.{Blank}
-use Rattle.solid_model.specs.Lists.{Member, Each, Ascends}
+use Rattle.solid_model.specs.Lists.{Member}
 use Rattle.solid_model.specs.Runs.{run_covers, run_style, IsRun, StandsApart, AreRuns}
 use Rattle.solid_model.proofs.Lists.{each-at}
 use Rattle.solid_model.proofs.ListPlaces.{member-at, member-place, ascends-pairs}

@@ -1,6 +1,6 @@
 -- The grid coordinates of a drawing begin at 0 and go no farther than the drawing, so there are at least one and at most
 -- 2,000,000,001 of them.
-use Rattle.std.proofs.Common.{◌≡◌, ◌≢◌, ◌⊎◌, inl, inr, ⊎_elim, Bool, true, false, not, ℕ, ◌<◌, ◌≤◌, List, [], ◌∷◌, length, ℤ, pos, ◌+ℤ◌, ◌-ℤ◌, ◌≤ℤ◌, ◌<ℤ◌, refl, sym, ap, subst, ◌∙◌, arith}
+use Rattle.std.proofs.Common.{◌≡◌, ◌≢◌, ◌⊎◌, inl, inr, ⊎_elim, Bool, true, false, not, ◌<◌, ◌≤◌, List, [], ◌∷◌, length, ℤ, pos, ◌+ℤ◌, ◌-ℤ◌, ◌≤ℤ◌, ◌<ℤ◌, refl, sym, ap, subst, ◌∙◌, arith}
 use Rattle.std.proofs.lemmas.Int.{ints}
 use Rattle.solid_model.specs.declared.cell.Axis.{Axis}
 use Rattle.solid_model.specs.declared.cell.Axis.TheVariants.{X, Y, Z}
@@ -11,7 +11,7 @@ use Rattle.solid_model.specs.declared.segment.Style.{Style}
 use Rattle.solid_model.specs.declared.segment.Style.TheVariants.{Blank}
 use Rattle.solid_model.specs.Grid.{IsDrawnAcross, ChangesAt, IsGridCoordinate, AreGridCoordinates}
 use Rattle.solid_model.specs.Limits.{farthest_in_view}
-use Rattle.solid_model.specs.Lists.{Member, Each, Ascends}
+use Rattle.solid_model.specs.Lists.{Each, Ascends}
 use Rattle.solid_model.specs.Runs.{IsDrawing}
 use Rattle.solid_model.specs.Segments.{segment_at}
 use Rattle.solid_model.proofs.Lists.{each-from, each-weaker, each-both}

@@ -1,17 +1,15 @@
 -- Integers that are sorted, and kept where they differ from the last one kept, ascend.
-use Rattle.std.proofs.Common.{◌≡◌, ◌↔◌, Bool, true, false, Ordering, Less, Equal, Greater, List, [], ◌∷◌, ℤ, ◌<ℤ◌, IsPermutation, refl, sym, subst, arith}
+use Rattle.std.proofs.Common.{◌≡◌, ◌↔◌, Less, List, [], ◌∷◌, ℤ, ◌<ℤ◌, IsPermutation, refl, sym, subst}
 use Rattle.std.specs.Ordering.{int_eq, int_cmp, eq_by_cmp, MatchOrdering}
 use Rattle.std.specs.List.{dedup, Contains}
 use Rattle.std.specs.List.Retain.{IsFiltered, DiffersFromLast}
 use Rattle.std.specs.List.Sorted.{IsSorted, IsStrictlySortedBy}
 use Rattle.std.proofs.lemmas.Cmp.{int_eq_equiv, int_cmp_total, int_ranked}
-use Rattle.std.proofs.lemmas.Bool.{both_ways}
 use Rattle.std.proofs.lemmas.Bool.Decides.{Decides-int_eq}
-use Rattle.std.proofs.lemmas.Int.{ints}
 use Rattle.std.proofs.lemmas.List.Filters.{dedup_is}
 use Rattle.std.proofs.lemmas.List.Kept.{IsStrictlySortedBy-dedup, Contains-dedup, Contains-from_dedup}
 use Rattle.std.proofs.lemmas.List.Sorted.{Contains-permutation, IsPermutation-sym}
-use Rattle.solid_model.specs.Lists.{Member, Each, Ascends}
+use Rattle.solid_model.specs.Lists.{Member, Ascends}
 use Rattle.solid_model.proofs.Lists.{each-weaker}
 use Rattle.solid_model.proofs.ListPlaces.{contains-member, member-contains}
 

@@ -22,11 +22,6 @@ use Rattle.grid.specs.Positions.{ends_of, lines_of, ShowsWhere, ShowsAlong, Show
 
 -- ---- the ends of runs
 
--- one more run
-pub ends_of-push : (rs : List Run) (r : Run) → ends_of (rs ++ r ∷ []) ≡ ends_of rs ++ r.from ∷ r.to ∷ []
-ends_of-push [] r = refl
-ends_of-push (q ∷ rs) r = ap (λ zs. q.from ∷ q.to ∷ zs) (ends_of-push rs r)
-
 -- z is an end of a run
 abbrev IsEnd : Run → ℤ → Type 0
 IsEnd r z = (r.from ≡ z) ⊎ (r.to ≡ z)

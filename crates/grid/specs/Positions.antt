@@ -1,5 +1,6 @@
 -- The positions that runs and views show.
 use Rattle.std.specs.Prelude.{◌≡◌, ◌⊎◌, Bool, ◌&&◌, ◌||◌, List, [], ◌∷◌, map, ℤ, int_lt, int_le}
+use Rattle.std.specs.List.{flat_map}
 use Rattle.std.specs.Ordering.{int_eq}
 use Rattle.solid_model.specs.declared.cell.Axis.{Axis}
 use Rattle.solid_model.specs.declared.frame.View.{View}
@@ -12,8 +13,7 @@ use Rattle.solid_model.specs.Lists.{Member}
 
 -- where runs begin and end
 abbrev pub ends_of : List Run → List ℤ
-ends_of [] = []
-ends_of (r ∷ rs) = r.from ∷ r.to ∷ ends_of rs
+ends_of rs = flat_map (λ r. r.from ∷ r.to ∷ []) rs
 
 -- on which lines they lie
 abbrev pub lines_of : List Run → List ℤ

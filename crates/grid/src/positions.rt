@@ -14,8 +14,7 @@ fn with_ends(mut positions: Vec<i64>, runs: &[Run]) -> Result<Vec<i64>, AllocErr
     ensures { IfOk result (λ more. more.items ≡ positions.items ++ ends_of runs.now) }
 {
     for run in runs {
-        positions.push(run.from)?;
-        positions.push(run.to)?;
+        positions.extend_from_slice(&[run.from, run.to])?;
     }
     Ok(positions)
 }

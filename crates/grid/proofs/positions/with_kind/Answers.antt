@@ -1,4 +1,4 @@
-use Rattle.std.proofs.Common.{◌≡◌, ◌++◌, ◌↔◌, ◌⊎◌, List, Vec, Global, ℤ, not, ◌∙◌, sym, ap, ap₂, subst, rules}
+use Rattle.std.proofs.Common.{◌≡◌, ◌++◌, ◌↔◌, ◌⊎◌, ℤ, not, ◌∙◌, sym, ap, ap₂, subst, rules}
 use Rattle.std.proofs.lemmas.Result.{IfOk-weaker}
 use Rattle.solid_model.specs.declared.frame.Direction.{Direction}
 use Rattle.solid_model.specs.Frames.{along}
