@@ -5,3 +5,4 @@ pub mod GridParts
 pub mod GridStyles
 pub mod InOrder
 pub mod ShownPositions
+pub mod ZeroCoordinate
