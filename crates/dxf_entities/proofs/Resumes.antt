@@ -288,16 +288,16 @@ ends_at_fault r f = by r.place
 pub pair_read : (old new : GroupsState) (r : Reader) (p : Pair) (value : List ℕ) → Gives old (Ok (Some p)) new → value ≡ span_of new.text p.value
     → resumed old.left.pairs old.left.ending r ≡ resumed (pair_with p value ∷ new.left.pairs) new.left.ending r
 pair_read old new r p value gives is =
-    ap (λ ps. resumed ps.pairs ps.ending r) gives.1
-    ∙ ap (λ v. resumed (pair_with p v ∷ new.left.pairs) new.left.ending r) (ap (λ text. span_of text p.value) (sym gives.2) ∙ sym is)
+    ap (λ ps. resumed ps.pairs ps.ending r) gives.first
+    ∙ ap (λ v. resumed (pair_with p v ∷ new.left.pairs) new.left.ending r) (ap (λ text. span_of text p.value) (sym gives.same_text) ∙ sym is)
 
 -- where the groups give no more, none is left, and the end pair was read
 pub end_read_at : (old new : GroupsState) (line : ℕ) (r : Reader) → Gives old (Ok None) new → new.end_line ≡ Some line
     → resumed old.left.pairs old.left.ending r ≡ resumed [] (Ok line) r
 end_read_at old new line r gives is =
-    let told : Some gives.0 ≡ Some line = sym (ap (λ (s : GroupsState). s.end_line) gives.2) ∙ is in
-    let same : gives.0 ≡ line = cc in
-    ap (λ ps. resumed ps.pairs ps.ending r) gives.1 ∙ ap (λ n. resumed [] (Ok n) r) same
+    let told : Some gives.line ≡ Some line = sym (ap (λ (s : GroupsState). s.end_line) gives.told) ∙ is in
+    let same : gives.line ≡ line = cc in
+    ap (λ ps. resumed ps.pairs ps.ending r) gives.at_end ∙ ap (λ n. resumed [] (Ok n) r) same
 
 -- ---- the beginning
 

@@ -1,8 +1,8 @@
 pub mod FewDigits
-pub mod ReadLines
-pub mod ReadPairs
+pub mod FirstLines
+pub mod FirstPairs
 pub mod NumeralDigits
-pub mod NumeralScale
-pub mod NumeralReading
 pub mod NumeralGrammar
 pub mod NumeralReach
+pub mod NumeralReading
+pub mod NumeralScale

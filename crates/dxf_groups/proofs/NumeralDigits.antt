@@ -1,4 +1,4 @@
--- Digits: at the front of a text, and the number that they write.
+-- Digits: those that a text begins with, and the number that they write.
 use Rattle.std.proofs.Common.{◌≡◌, ◌≢◌, ℕ, zero, suc, ◌+◌, ◌-◌, ◌*◌, ◌^◌, ◌<◌, ◌≤◌, Bool, true, false, cond, not, ltb, ◌==◌, Some, None, inl, inr, List, [], ◌∷◌, ◌++◌, length, take, drop, get_or, refl, sym, ap, ap₂, ◌∙◌, zero-add, eq-eqb, arith}
 use Rattle.std.specs.List.{list_all, position, position_or_len}
 use Rattle.std.specs.Option.{unwrap_or}
@@ -12,7 +12,7 @@ use Rattle.std.proofs.lemmas.List.{drop_more, length-append}
 use Rattle.std.proofs.lemmas.Bool.Decides.{nat_tests}
 use Rattle.std.proofs.lemmas.Str.Parse.{digit_at, digit_from_value}
 use Rattle.dxf_groups.specs.NumeralParts.{capped}
-use Rattle.dxf_groups.specs.Numerals.{front_digits, past_digits}
+use Rattle.dxf_groups.specs.Numerals.{leading_digits, past_digits}
 
 -- ---- a digit
 
@@ -20,12 +20,21 @@ use Rattle.dxf_groups.specs.Numerals.{front_digits, past_digits}
 range_value : (b : ℕ) → IsInRange 48 57 b → digit_value b ≡ b - 48
 range_value b range = grind (arith, nat_tests, range.0, range.1)
 
--- a byte with such a value is one of them
-pub digit_byte : (b : ℕ) → digit_value b < 10 → (48 ≤ b) × (b ≤ 57) × (digit_value b ≡ b - 48)
-digit_byte b small = let range = digit_from_value b small in (range.0, range.1, range_value b range)
+-- a byte that is one of them
+pub record IsDigitByte (b : ℕ) : Type 0 where
+  pub least : 48 ≤ b
+  pub greatest : b ≤ 57
+  pub value : digit_value b ≡ b - 48
+
+-- a byte with such a value is
+pub digit_byte : (b : ℕ) → digit_value b < 10 → IsDigitByte b
+digit_byte b small =
+    let range = digit_from_value b small in
+    record { least = range.0; greatest = range.1; value = range_value b range }
 
 -- the digit at a place of a list of digits
-pub value_at : (ds : List ℕ) (i : ℕ) → AllDigits 10 ds → i < length ds → (48 ≤ get_or ds i 0) × (digit_value (get_or ds i 0) ≡ get_or ds i 0 - 48)
+pub value_at : (ds : List ℕ) (i : ℕ) → AllDigits 10 ds → i < length ds
+    → (48 ≤ get_or ds i 0) × (digit_value (get_or ds i 0) ≡ get_or ds i 0 - 48)
 value_at ds i digits within = let range = digit_at ds i digits within in (range.0, range_value (get_or ds i 0) range)
 
 -- a byte is a digit by its value just where it is one by its range
@@ -50,23 +59,25 @@ pub digits_append : (ds es : List ℕ) → AllDigits 10 ds → AllDigits 10 es �
 digits_append [] es first second = second
 digits_append (d ∷ ds) es first second = (first.0, digits_append ds es first.1 second)
 
--- ---- the digits at the front of a text
+-- ---- the digits that a text begins with
 
--- a text is the digits at its front and what follows them
-pub front_and_past : (bs : List ℕ) → front_digits bs ++ past_digits bs ≡ bs
-front_and_past [] = refl
-front_and_past (b ∷ bs) = at (is_digit b 10) (front_and_past bs)
+-- a text is the digits that it begins with and what follows them
+pub leading_and_past : (bs : List ℕ) → leading_digits bs ++ past_digits bs ≡ bs
+leading_and_past [] = refl
+leading_and_past (b ∷ bs) = at (is_digit b 10) (leading_and_past bs)
   where
-    at : (u : Bool) → front_digits bs ++ past_digits bs ≡ bs → cond u (b ∷ front_digits bs) [] ++ cond u (past_digits bs) (b ∷ bs) ≡ b ∷ bs
+    at : (u : Bool) → leading_digits bs ++ past_digits bs ≡ bs
+        → cond u (b ∷ leading_digits bs) [] ++ cond u (past_digits bs) (b ∷ bs) ≡ b ∷ bs
     at true more = ap (λ xs. b ∷ xs) more
     at false more = refl
 
--- the digits at the front are digits
-pub front_all_digits : (bs : List ℕ) → AllDigits 10 (front_digits bs)
-front_all_digits [] = tt
-front_all_digits (b ∷ bs) = at (is_digit b 10) refl (front_all_digits bs)
+-- the digits that it begins with are digits
+pub leading_all_digits : (bs : List ℕ) → AllDigits 10 (leading_digits bs)
+leading_all_digits [] = tt
+leading_all_digits (b ∷ bs) = at (is_digit b 10) refl (leading_all_digits bs)
   where
-    at : (u : Bool) → is_digit b 10 ≡ u → AllDigits 10 (front_digits bs) → AllDigits 10 (cond u (b ∷ front_digits bs) [])
+    at : (u : Bool) → is_digit b 10 ≡ u → AllDigits 10 (leading_digits bs)
+        → AllDigits 10 (cond u (b ∷ leading_digits bs) [])
     at true is more = (from_is_digit b is, more)
     at false is more = tt
 
@@ -74,12 +85,15 @@ front_all_digits (b ∷ bs) = at (is_digit b 10) refl (front_all_digits bs)
 abbrev pub is_other : ℕ → Bool
 is_other b = not (is_ascii_digit b)
 
--- the first such byte stands where the digits at the front end
-pub front_length : (bs : List ℕ) → position_or_len is_other bs ≡ length (front_digits bs)
-front_length [] = refl
-front_length (b ∷ bs) = at (is_digit b 10) (same_test b) (front_length bs)
+-- the first such byte stands where the digits that it begins with end
+pub leading_length : (bs : List ℕ) → position_or_len is_other bs ≡ length (leading_digits bs)
+leading_length [] = refl
+leading_length (b ∷ bs) = at (is_digit b 10) (same_test b) (leading_length bs)
   where
-    at : (u : Bool) → u ≡ is_ascii_digit b → position_or_len is_other bs ≡ length (front_digits bs) → cond (not (not (is_ascii_digit b))) (1 + position_or_len is_other bs) 0 ≡ length (cond u (b ∷ front_digits bs) [])
+    at : (u : Bool) → u ≡ is_ascii_digit b
+        → position_or_len is_other bs ≡ length (leading_digits bs)
+        → cond (not (not (is_ascii_digit b))) (1 + position_or_len is_other bs) 0
+        ≡ length (cond u (b ∷ leading_digits bs) [])
     at true is more = rw (← is) (omega (arith, more))
     at false is more = rw (← is) refl
 
@@ -88,18 +102,19 @@ place_or_end : (p n : ℕ) → p ≤ n → unwrap_or (cond (ltb p n) (Some p) No
 place_or_end p n within = elim (cases_lt p n) as (λ _. unwrap_or (cond (ltb p n) (Some p) None) n ≡ p) [ inl less ↦ rw (lt-ltb p n less) refl | inr same ↦ rw (le-ltb p n same) (omega arith) ]
 
 -- that place ends them, or the text's end does
-pub front_ends : (bs : List ℕ) → unwrap_or (position is_other bs) (length bs) ≡ length (front_digits bs)
-front_ends bs =
-    let within : length (front_digits bs) ≤ length bs = omega (arith, ap length (front_and_past bs), length-append (front_digits bs) (past_digits bs)) in
-    rw (front_length bs) (place_or_end (length (front_digits bs)) (length bs) within)
+pub leading_ends : (bs : List ℕ)
+    → unwrap_or (position is_other bs) (length bs) ≡ length (leading_digits bs)
+leading_ends bs =
+    let within : length (leading_digits bs) ≤ length bs = omega (arith, ap length (leading_and_past bs), length-append (leading_digits bs) (past_digits bs)) in
+    rw (leading_length bs) (place_or_end (length (leading_digits bs)) (length bs) within)
 
 -- the text before that place is the digits
-pub front_taken : (bs : List ℕ) → take (length (front_digits bs)) bs ≡ front_digits bs
-front_taken bs = ap (take (length (front_digits bs))) (sym (front_and_past bs)) ∙ take-append_seam (front_digits bs) (past_digits bs)
+pub leading_taken : (bs : List ℕ) → take (length (leading_digits bs)) bs ≡ leading_digits bs
+leading_taken bs = ap (take (length (leading_digits bs))) (sym (leading_and_past bs)) ∙ take-append_seam (leading_digits bs) (past_digits bs)
 
 -- and the rest is what follows them
-pub past_dropped : (bs : List ℕ) → drop (length (front_digits bs)) bs ≡ past_digits bs
-past_dropped bs = ap (drop (length (front_digits bs))) (sym (front_and_past bs)) ∙ drop-append_seam (front_digits bs) (past_digits bs)
+pub past_dropped : (bs : List ℕ) → drop (length (leading_digits bs)) bs ≡ past_digits bs
+past_dropped bs = ap (drop (length (leading_digits bs))) (sym (leading_and_past bs)) ∙ drop-append_seam (leading_digits bs) (past_digits bs)
 
 -- ---- the number that digits write
 
@@ -108,7 +123,8 @@ spread : (n d p v : ℕ) → (n * 10 + d) * p + v ≡ n * (p * 10) + (d * p + v)
 spread n d p v = omega arith
 
 -- digits that follow a number shift it by their places
-pub value_after : (n : ℕ) (ds : List ℕ) → digits_value_after 10 n ds ≡ n * 10 ^ length ds + digits_value 10 ds
+pub value_after : (n : ℕ) (ds : List ℕ)
+    → digits_value_after 10 n ds ≡ n * 10 ^ length ds + digits_value 10 ds
 value_after n [] = omega arith
 value_after n (d ∷ ds) =
     let alone = ap (λ m. digits_value_after 10 m ds) (zero-add (digit_value d)) ∙ value_after (digit_value d) ds in
@@ -116,16 +132,19 @@ value_after n (d ∷ ds) =
     ∙ (spread n (digit_value d) (10 ^ length ds) (digits_value 10 ds) ∙ sym (ap₂ (λ p m. n * p + m) (pow-suc 10 (length ds)) alone))
 
 -- the number of digits after a first one
-pub value_cons : (d : ℕ) (ds : List ℕ) → digits_value 10 (d ∷ ds) ≡ digit_value d * 10 ^ length ds + digits_value 10 ds
+pub value_cons : (d : ℕ) (ds : List ℕ)
+    → digits_value 10 (d ∷ ds) ≡ digit_value d * 10 ^ length ds + digits_value 10 ds
 value_cons d ds = ap (λ n. digits_value_after 10 n ds) (zero-add (digit_value d)) ∙ value_after (digit_value d) ds
 
 -- digits that follow others are read on from their number
-pub value_append : (n : ℕ) (ds es : List ℕ) → digits_value_after 10 n (ds ++ es) ≡ digits_value_after 10 (digits_value_after 10 n ds) es
+pub value_append : (n : ℕ) (ds es : List ℕ)
+    → digits_value_after 10 n (ds ++ es) ≡ digits_value_after 10 (digits_value_after 10 n ds) es
 value_append n [] es = refl
 value_append n (d ∷ ds) es = value_append (n * 10 + digit_value d) ds es
 
 -- the number of two lists of digits, by their numbers
-pub value_parts : (ds es : List ℕ) → digits_value 10 (ds ++ es) ≡ digits_value 10 ds * 10 ^ length es + digits_value 10 es
+pub value_parts : (ds es : List ℕ)
+    → digits_value 10 (ds ++ es) ≡ digits_value 10 ds * 10 ^ length es + digits_value 10 es
 value_parts ds es = value_append 0 ds es ∙ value_after (digits_value 10 ds) es
 
 -- the digit 0
@@ -141,7 +160,8 @@ zeros_value (d ∷ ds) zeros =
     omega (arith, value_cons d ds, zeros_value ds both.1, ap (λ n. n * 10 ^ length ds) first)
 
 -- and only they do
-pub value_zeros : (ds : List ℕ) → AllDigits 10 ds → digits_value 10 ds ≡ 0 → list_all is_zero ds ≡ true
+pub value_zeros : (ds : List ℕ) → AllDigits 10 ds → digits_value 10 ds ≡ 0
+    → list_all is_zero ds ≡ true
 value_zeros [] digits none = refl
 value_zeros (d ∷ ds) digits none =
     let value = value_cons d ds in
@@ -158,14 +178,18 @@ capped_step : (n d : ℕ) → capped (capped n * 10 + d) ≡ capped (n * 10 + d)
 capped_step n d = omega arith
 
 -- more digits after a number that is kept
-pub capped_after : (n : ℕ) (ds : List ℕ) → capped (digits_value_after 10 (capped n) ds) ≡ capped (digits_value_after 10 n ds)
+pub capped_after : (n : ℕ) (ds : List ℕ)
+    → capped (digits_value_after 10 (capped n) ds) ≡ capped (digits_value_after 10 n ds)
 capped_after n [] = omega arith
 capped_after n (d ∷ ds) =
     sym (capped_after (capped n * 10 + digit_value d) ds)
     ∙ (ap (λ m. capped (digits_value_after 10 m ds)) (capped_step n (digit_value d)) ∙ capped_after (n * 10 + digit_value d) ds)
 
 -- the next digit of a text
-pub capped_next : (n next : ℕ) (ds : List ℕ) (i : ℕ) → i < length ds → next ≡ capped (n * 10 + digit_value (get_or ds i 0)) → capped (digits_value_after 10 next (drop (i + 1) ds)) ≡ capped (digits_value_after 10 n (drop i ds))
+pub capped_next : (n next : ℕ) (ds : List ℕ) (i : ℕ) → i < length ds
+    → next ≡ capped (n * 10 + digit_value (get_or ds i 0))
+    → capped (digits_value_after 10 next (drop (i + 1) ds))
+    ≡ capped (digits_value_after 10 n (drop i ds))
 capped_next n next ds i within is = rw (is, drop_more ds i 0 within) (capped_after (n * 10 + digit_value (get_or ds i 0)) (drop (i + 1) ds))
 
 -- twenty zeros or more after a number that isn't 0
@@ -176,7 +200,8 @@ capped_zeros n zeros some many =
     omega arith
 
 -- a number times ten to a power that is kept, less a part of it
-pub capped_power : (n power places : ℕ) → places < 2 ^ 63 → capped (n * 10 ^ (capped power - places)) ≡ capped (n * 10 ^ (power - places))
+pub capped_power : (n power places : ℕ) → places < 2 ^ 63
+    → capped (n * 10 ^ (capped power - places)) ≡ capped (n * 10 ^ (power - places))
 capped_power zero power places few = omega arith
 capped_power (suc n) power places few = elim (cases_lt power (2 ^ 64)) as (λ _. capped (suc n * 10 ^ (capped power - places)) ≡ capped (suc n * 10 ^ (power - places))) [
   | inl small ↦ (let same : capped power ≡ power = omega arith in ap (λ e. capped (suc n * 10 ^ (e - places))) same)

@@ -2,9 +2,8 @@
 use Rattle.std.specs.Prelude.{◌≡◌, ℕ, List, Option, Some, None, Result, Ok, Err}
 use Rattle.solid_model.specs.declared.fault.Fault.{Fault}
 use Rattle.dxf_groups.specs.declared.pair.Pair.{Pair}
-use Rattle.dxf_groups.specs.Pairs.{Pairs, ended, with_pair}
-use Rattle.dxf_groups.specs.Spans.{IsSpanIn}
-use Rattle.dxf_groups.specs.Reading.{text_pair}
+use Rattle.dxf_groups.specs.Pairs.{Pairs, ended, text_pair, with_pair}
+use Rattle.dxf_groups.specs.Spans.{IsSpanIn, span_of}
 
 -- a reader's text, the pairs that it hasn't given yet, and the line of the end pair's code, once that was read
 pub record GroupsState : Type 0 where
@@ -12,14 +11,21 @@ pub record GroupsState : Type 0 where
   pub left : Pairs
   pub end_line : Option ℕ
 
--- A reader gives the first pair that is left, and has the others left. It tells the end, or the fault, once no pair is
--- left, and at every later call again; the line of the end is known from then on.
+-- a reader gives the first pair that is left, and has the others left
+pub record GivesPair (old : GroupsState) (pair : Pair) (new : GroupsState) : Type 0 where
+  pub span : IsSpanIn old.text pair.value
+  pub first : old.left ≡ with_pair (text_pair pair (span_of old.text pair.value)) new.left
+  pub same_text : new.text ≡ old.text
+  pub same_end : new.end_line ≡ old.end_line
+
+-- a reader has no pair left but the end pair, whose line is known from then on
+pub record GivesEnd (old new : GroupsState) : Type 0 where
+  pub line : ℕ
+  pub at_end : old.left ≡ ended (Ok line)
+  pub told : new ≡ record old { end_line = Some line }
+
+-- what a reader answers: a pair; the end or the fault once no pair is left, and at every later call again
 abbrev pub Gives : GroupsState → Result (Option Pair) Fault → GroupsState → Type 0
-Gives old (Ok (Some pair)) new =
-    IsSpanIn old.text pair.value
-    × (old.left ≡ with_pair (text_pair old.text pair) new.left)
-    × (new.text ≡ old.text)
-    × (new.end_line ≡ old.end_line)
-Gives old (Ok None) new =
-    (line : ℕ) × (old.left ≡ ended (Ok line)) × (new ≡ record old { end_line = Some line })
+Gives old (Ok (Some pair)) new = GivesPair old pair new
+Gives old (Ok None) new = GivesEnd old new
 Gives old (Err fault) new = (old.left ≡ ended (Err fault)) × (new ≡ old)

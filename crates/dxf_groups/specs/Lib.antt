@@ -1,9 +1,9 @@
-pub mod Lines
 pub mod Codes
-pub mod Pairs
-pub mod Spans
-pub mod Reading
 pub mod Groups
-pub mod SmallTexts
-pub mod Numerals
 pub mod NumeralParts
+pub mod Numerals
+pub mod Pairs
+pub mod ReadPairs
+pub mod SmallTexts
+pub mod Spans
+pub mod TextLines

@@ -7,10 +7,18 @@ use Rattle.dxf_groups.specs.Numerals.{with_sign}
 abbrev pub capped : ℕ → ℕ
 capped n = min n (2 ^ 64 - 1)
 
--- the exponent, with its size as it is kept
-abbrev pub IsKeptExponent : ℤ → Exponent → Type 0
-IsKeptExponent e kept = (n : ℕ) × (e ≡ with_sign kept.negative n) × (kept.size ≡ capped n)
+-- an exponent as it is kept: by its sign and its absolute value
+pub record IsKeptExponent (e : ℤ) (kept : Exponent) : Type 0 where
+  pub magnitude : ℕ
+  pub value : e ≡ with_sign kept.negative magnitude
+  pub kept_as : kept.magnitude ≡ capped magnitude
+
+-- there is an exponent, and it was read
+pub record IsReadExponent (exponent : Option ℤ) (kept : Exponent) : Type 0 where
+  pub value : ℤ
+  pub is : exponent ≡ Some value
+  pub is_kept : IsKeptExponent value kept
 
 -- what was read is the exponent, or there is none
 abbrev pub IsExponent : Option ℤ → Option Exponent → Type 0
-IsExponent exponent read = MatchOption read (exponent ≡ None) (λ kept. (e : ℤ) × (exponent ≡ Some e) × IsKeptExponent e kept)
+IsExponent exponent read = MatchOption read (exponent ≡ None) (IsReadExponent exponent)

@@ -6,14 +6,15 @@ use Rattle.solid_model.specs.Limits.{farthest_on_sheet}
 use Rattle.dxf_groups.specs.declared.numerals.NumeralFault.{NumeralFault}
 use Rattle.dxf_groups.specs.declared.numerals.NumeralFault.TheVariants.{BadNumber, NotWhole, TooFar}
 
--- The parts of a numeral: whether its sign is a minus, the digits before and after the point, as bytes, and its exponent.
+-- The parts of a numeral: whether its sign is a minus, the digits before and after the point, as
+-- bytes, and its exponent.
 pub record Numeral : Type 0 where
   pub negative : Bool
   pub before : List ℕ
   pub after : List ℕ
   pub exponent : ℤ
 
--- the whole number of a sign and a size
+-- the whole number of a sign and an absolute value
 abbrev pub with_sign : Bool → ℕ → ℤ
 with_sign negative m = cond negative (neg_ℤ (pos m)) (pos m)
 
@@ -60,20 +61,20 @@ pub record IsNumeral (text : List ℕ) (n : Numeral) : Type 0 where
 
 -- ---- how it is read
 
--- the digits at the front of a text
-abbrev pub front_digits : List ℕ → List ℕ
-front_digits [] = []
-front_digits (b ∷ bs) = cond (is_digit b 10) (b ∷ front_digits bs) []
+-- the digits that a text begins with
+abbrev pub leading_digits : List ℕ → List ℕ
+leading_digits [] = []
+leading_digits (b ∷ bs) = cond (is_digit b 10) (b ∷ leading_digits bs) []
 
 -- what follows them
 abbrev pub past_digits : List ℕ → List ℕ
 past_digits [] = []
 past_digits (b ∷ bs) = cond (is_digit b 10) (past_digits bs) (b ∷ bs)
 
--- the digits after a point at the front of a text; none without the point
-abbrev pub front_places : List ℕ → List ℕ
-front_places [] = []
-front_places (b ∷ bs) = cond (b == 46) (front_digits bs) []
+-- the digits after the point that a text begins with; none without the point
+abbrev pub leading_places : List ℕ → List ℕ
+leading_places [] = []
+leading_places (b ∷ bs) = cond (b == 46) (leading_digits bs) []
 
 -- what follows the point and them
 abbrev pub past_places : List ℕ → List ℕ
@@ -88,7 +89,7 @@ signed_number negative digits rest = None
 -- the exponent that a sign and digits are, after the mark
 abbrev pub marked_exponent : List ℕ → Option ℤ
 marked_exponent text = let unsigned = without_leading_sign text in
-    signed_number (starts_with_minus text) (front_digits unsigned) (past_digits unsigned)
+    signed_number (starts_with_minus text) (leading_digits unsigned) (past_digits unsigned)
 
 -- the exponent that a text is
 abbrev pub exponent_of : List ℕ → Option ℤ
@@ -99,12 +100,14 @@ exponent_of (b ∷ bs) = cond (b == 69 || b == 101) (marked_exponent bs) None
 abbrev pub numeral_with : Bool → List ℕ → List ℕ → Option ℤ → Option Numeral
 numeral_with negative before after None = None
 numeral_with negative [] [] (Some e) = None
-numeral_with negative before after (Some e) = Some (record { negative = negative; before = before; after = after; exponent = e })
+numeral_with negative before after (Some e) =
+    Some (record { negative = negative; before = before; after = after; exponent = e })
 
 -- the numeral that a text is
 unfoldable pub numeral_of : List ℕ → Option Numeral
 numeral_of text = let unsigned = without_leading_sign text in let rest = past_digits unsigned in
-    numeral_with (starts_with_minus text) (front_digits unsigned) (front_places rest) (exponent_of (past_places rest))
+    numeral_with (starts_with_minus text) (leading_digits unsigned) (leading_places rest)
+    (exponent_of (past_places rest))
 
 -- ---- what it stands for
 
@@ -113,25 +116,27 @@ abbrev pub scaled : ℕ → ℤ → Option ℕ
 scaled m (pos e) = Some (m * 10 ^ e)
 scaled m (negsuc e) = let power = 10 ^ (e + 1) in cond (m % power == 0) (Some (m / power)) None
 
--- the size of digits before and after a point with an exponent, where that is whole: the digits, as one whole number,
--- times ten to the exponent less the number of places
-abbrev pub size_of : List ℕ → List ℕ → ℤ → Option ℕ
-size_of before after exponent = scaled (digits_value 10 (before ++ after)) (exponent -ℤ pos (length after))
+-- the magnitude of digits before and after a point with an exponent, where that is whole: the digits,
+-- as one whole number, times ten to the exponent less the number of places
+abbrev pub magnitude_of : List ℕ → List ℕ → ℤ → Option ℕ
+magnitude_of before after exponent =
+    scaled (digits_value 10 (before ++ after)) (exponent -ℤ pos (length after))
 
--- the whole number of a sign and a size, which is at most 1,000,000,000
+-- the whole number of a sign and a magnitude, where that is at most 1,000,000,000
 abbrev pub within_reach : Bool → Option ℕ → Result ℤ NumeralFault
 within_reach negative None = Err NotWhole
-within_reach negative (Some m) = cond (nat_le m farthest_on_sheet) (Ok (with_sign negative m)) (Err TooFar)
+within_reach negative (Some m) =
+    cond (nat_le m farthest_on_sheet) (Ok (with_sign negative m)) (Err TooFar)
 
 -- the value of a numeral
 abbrev pub numeral_value : Numeral → Result ℤ NumeralFault
-numeral_value n = within_reach n.negative (size_of n.before n.after n.exponent)
+numeral_value n = within_reach n.negative (magnitude_of n.before n.after n.exponent)
 
 -- the value of what may be a numeral
-abbrev pub value_of : Option Numeral → Result ℤ NumeralFault
-value_of None = Err BadNumber
-value_of (Some n) = numeral_value n
+abbrev pub value_or_fault : Option Numeral → Result ℤ NumeralFault
+value_or_fault None = Err BadNumber
+value_or_fault (Some n) = numeral_value n
 
 -- the whole number that a text stands for
 unfoldable pub whole_of : List ℕ → Result ℤ NumeralFault
-whole_of text = value_of (numeral_of text)
+whole_of text = value_or_fault (numeral_of text)

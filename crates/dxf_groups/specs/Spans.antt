@@ -1,6 +1,6 @@
 -- Parts of a text.
 use Rattle.std.specs.Prelude.{◌≤◌, ℕ, List, length, slice_range}
-use Rattle.dxf_groups.specs.declared.lines.Span.{Span}
+use Rattle.dxf_groups.specs.declared.span.Span.{Span}
 
 -- the span lies in the text
 abbrev pub IsSpanIn : List ℕ → Span → Type 0

@@ -2,8 +2,8 @@
 
 ghost use Rattle.std.specs.Prelude.{◌≡◌, ◌≤◌, Some, None, cond, length};
 ghost use Rattle.std.specs.Str.{all_ascii_digits};
-ghost use Rattle.dxf_groups.specs.Codes.{group_code_of};
 ghost use Rattle.std.specs.Str.Parse.{digits_value};
+ghost use Rattle.dxf_groups.specs.Codes.{group_code_of};
 
 /// The code of a comment.
 pub const COMMENT: i32 = 999;
@@ -11,7 +11,8 @@ pub const COMMENT: i32 = 999;
 /// The number that a few decimal digits write. None where another byte stands among them.
 fn few_digits(digits: &[u8]) -> Option<u16>
     requires { length digits.now ≤ 4 }
-    ensures { result ≡ cond (all_ascii_digits digits.now) (Some (digits_value 10 digits.now)) None }
+    ensures { result
+        ≡ cond (all_ascii_digits digits.now) (Some (digits_value 10 digits.now)) None }
 {
     let mut number = 0;
     for byte in digits {
@@ -23,8 +24,8 @@ fn few_digits(digits: &[u8]) -> Option<u16>
     Some(number)
 }
 
-/// The group code that the bytes spell: a minus sign or none, and one to four decimal digits. None where they are
-/// anything else.
+/// The group code that the bytes spell: a minus sign or none, and one to four decimal digits. None
+/// where they are anything else.
 pub fn group_code(text: &[u8]) -> Option<i32>
     ensures { result ≡ group_code_of text.now }
 {

@@ -1,15 +1,17 @@
-//! The pairs of a DXF file, and the numerals in them.
+//! The pairs of a DXF text, and the numerals in them.
 #![tactic(auto)]
 
 mod codes;
 mod groups;
-mod lines;
+mod laws;
 mod numerals;
 mod pair;
 mod pairs;
+mod span;
+mod text_lines;
 
 pub use groups::Groups;
-pub use lines::Span;
-pub use numerals::{NumeralFault, numerals_are_spelled_so, small_numerals, whole};
+pub use laws::{numerals_are_spelled_so, small_numerals, small_texts};
+pub use numerals::{NumeralFault, whole};
 pub use pair::Pair;
-pub use pairs::small_texts;
+pub use span::Span;

@@ -1,15 +1,14 @@
 //! Numerals, and the whole numbers that they stand for.
 
-ghost use Rattle.std.specs.Prelude.{◌≡◌, ◌↔◌, IfOk, ℕ, ◌*◌, ◌^◌, ℤ, pos, neg_ℤ, Option, option_map, true, false, IsTrue, List, [], ◌∷◌, codes};
+ghost use Rattle.std.specs.Prelude.{◌≡◌, ◌↔◌, IfOk, ℕ, ◌*◌, ◌^◌, ℤ, Option, option_map, true, false, IsTrue};
 ghost use Rattle.std.specs.Str.Parse.{AllDigits, digits_value, digits_value_after, starts_with_minus, without_leading_sign};
 ghost use Rattle.solid_model.specs.Line.{IsNear};
-ghost use Rattle.solid_model.specs.Lists.{Each};
-ghost use Rattle.dxf_groups.specs.Numerals.{IsNumeral, Numeral, exponent_of, front_digits, front_places, marked_exponent, numeral_of, past_digits, past_places, size_of, whole_of, with_sign, within_reach};
+ghost use Rattle.dxf_groups.specs.Numerals.{exponent_of, leading_digits, leading_places, magnitude_of, marked_exponent, past_digits, past_places, whole_of, with_sign, within_reach};
 ghost use Rattle.dxf_groups.specs.NumeralParts.{capped, IsKeptExponent, IsExponent};
 
 use thiserror::Error;
 
-/// No coordinate's size is above this.
+/// No coordinate's absolute value is above this.
 const GREATEST: u64 = 1_000_000_000;
 
 /// The most zeros at the end of a number of 64 bits.
@@ -24,16 +23,16 @@ pub enum NumeralFault {
     /// The numeral's value is not a whole number.
     #[error("the numeral's value is not a whole number")]
     NotWhole,
-    /// The numeral's value is a whole number of a size above 1,000,000,000.
-    #[error("the numeral's value is of a size above 1,000,000,000")]
+    /// The numeral's value is a whole number whose absolute value is above 1,000,000,000.
+    #[error("the numeral's absolute value is above 1,000,000,000")]
     TooFar,
 }
 
-/// An exponent. A size that is too large counts as the greatest.
+/// An exponent, by its sign and its absolute value. One that is too large counts as the greatest.
 #[derive(Clone, Copy)]
 struct Exponent {
     negative: bool,
-    size: usize,
+    magnitude: usize,
 }
 
 /// Whether a text begins with a minus, and the text without its sign.
@@ -48,9 +47,9 @@ fn split_sign(text: &[u8]) -> (bool, &[u8])
     }
 }
 
-/// The digits at the front of a text, and what follows them.
+/// The digits that a text begins with, and what follows them.
 fn split_digits(text: &[u8]) -> (&[u8], &[u8])
-    ensures front { result.0.now ≡ front_digits text.now }
+    ensures leading { result.0.now ≡ leading_digits text.now }
     ensures past { result.1.now ≡ past_digits text.now }
     ensures digits { AllDigits 10 result.0.now }
 {
@@ -61,9 +60,10 @@ fn split_digits(text: &[u8]) -> (&[u8], &[u8])
     text.split_at(end)
 }
 
-/// The digits after a point at the front of a text, and what follows them; no digits where the point is absent.
+/// The digits after the point that a text begins with, and what follows them; no digits where the
+/// point is absent.
 fn split_places(text: &[u8]) -> (&[u8], &[u8])
-    ensures front { result.0.now ≡ front_places text.now }
+    ensures leading { result.0.now ≡ leading_places text.now }
     ensures past { result.1.now ≡ past_places text.now }
     ensures digits { AllDigits 10 result.0.now }
 {
@@ -94,7 +94,7 @@ fn exponent_of(text: &[u8]) -> Option<Exponent>
     match text {
         [] => Some(Exponent {
             negative: false,
-            size: 0,
+            magnitude: 0,
         }),
         [b'E' | b'e', rest @ ..] => marked_exponent(rest),
         _ => None,
@@ -110,8 +110,11 @@ fn marked_exponent(text: &[u8]) -> Option<Exponent>
     if digits.is_empty() || !rest.is_empty() {
         return None;
     }
-    let size = number_after(0, digits) as usize;
-    Some(Exponent { negative, size })
+    let magnitude = number_after(0, digits) as usize;
+    Some(Exponent {
+        negative,
+        magnitude,
+    })
 }
 
 /// Each digit is 0.
@@ -135,12 +138,13 @@ fn with_zeros(number: u64, zeros: usize) -> u64
     }
 }
 
-/// The number that digits before and after a point write once the point is moved to the left; None where it isn't whole.
-/// One that is too large counts as the greatest.
+/// The number that digits before and after a point write once the point is moved to the left; None
+/// where it isn't whole. One that is too large counts as the greatest.
 fn moved_left(before: &[u8], after: &[u8], by: usize) -> Option<u64>
     requires before { AllDigits 10 before.now }
     requires after { AllDigits 10 after.now }
-    ensures { (n : ℕ) → by ≡ capped n → result ≡ option_map capped (size_of before.now after.now (with_sign true n)) }
+    ensures { (n : ℕ) → by ≡ capped n
+        → result ≡ option_map capped (magnitude_of before.now after.now (with_sign true n)) }
 {
     let (whole, rest) = before.split_at(before.len().saturating_sub(by));
     if are_zeros(rest) && are_zeros(after) {
@@ -150,12 +154,13 @@ fn moved_left(before: &[u8], after: &[u8], by: usize) -> Option<u64>
     }
 }
 
-/// The number that digits before and after a point write once the point is moved to the right; None where it isn't whole.
-/// One that is too large counts as the greatest.
+/// The number that digits before and after a point write once the point is moved to the right; None
+/// where it isn't whole. One that is too large counts as the greatest.
 fn moved_right(before: &[u8], after: &[u8], by: usize) -> Option<u64>
     requires before { AllDigits 10 before.now }
     requires after { AllDigits 10 after.now }
-    ensures { (n : ℕ) → by ≡ capped n → result ≡ option_map capped (size_of before.now after.now (with_sign false n)) }
+    ensures { (n : ℕ) → by ≡ capped n
+        → result ≡ option_map capped (magnitude_of before.now after.now (with_sign false n)) }
 {
     let (whole, rest) = after.split_at(after.len().min(by));
     if are_zeros(rest) {
@@ -166,37 +171,40 @@ fn moved_right(before: &[u8], after: &[u8], by: usize) -> Option<u64>
     }
 }
 
-/// The size of a numeral with these digits and this exponent, where it is whole. One that is too large counts as the
-/// greatest.
-fn size(before: &[u8], after: &[u8], exponent: Exponent) -> Option<u64>
+/// The absolute value of a numeral with these digits and this exponent, where it is whole. One that
+/// is too large counts as the greatest.
+fn magnitude(before: &[u8], after: &[u8], exponent: Exponent) -> Option<u64>
     requires before { AllDigits 10 before.now }
     requires after { AllDigits 10 after.now }
-    ensures { (e : ℤ) → IsKeptExponent e exponent → result ≡ option_map capped (size_of before.now after.now e) }
+    ensures { (e : ℤ) → IsKeptExponent e exponent
+        → result ≡ option_map capped (magnitude_of before.now after.now e) }
 {
     if exponent.negative {
-        moved_left(before, after, exponent.size)
+        moved_left(before, after, exponent.magnitude)
     } else {
-        moved_right(before, after, exponent.size)
+        moved_right(before, after, exponent.magnitude)
     }
 }
 
-/// The whole number of a sign and a size, where there is one and it's at most `GREATEST`.
-fn within_reach(negative: bool, size: Option<u64>) -> Result<i64, NumeralFault>
-    ensures { (s : Option ℕ) → size ≡ option_map capped s → result ≡ within_reach negative s }
+/// The whole number of a sign and an absolute value, where there is one and it's at most `GREATEST`.
+fn within_reach(negative: bool, magnitude: Option<u64>) -> Result<i64, NumeralFault>
+    ensures { (m : Option ℕ) → magnitude ≡ option_map capped m
+        → result ≡ within_reach negative m }
 {
-    match size {
+    match magnitude {
         None => Err(NumeralFault::NotWhole),
-        Some(size) if size > GREATEST => Err(NumeralFault::TooFar),
-        Some(size) if negative => Ok(-(size as i64)),
-        Some(size) => Ok(size as i64),
+        Some(magnitude) if magnitude > GREATEST => Err(NumeralFault::TooFar),
+        Some(magnitude) if negative => Ok(-(magnitude as i64)),
+        Some(magnitude) => Ok(magnitude as i64),
     }
 }
 
-/// The whole number that a text stands for. A numeral is an optional `+` or `-`, then digits with at most one point among,
-/// before or after them, at least one digit in all, then optionally `E` or `e`, an optional sign and at least one digit.
-/// Its value is exact, however many digits it has: the digits as a whole number, times ten to the power of the exponent,
-/// divided by ten for each digit after the point. `BadNumber` comes where the text is no numeral, else `NotWhole` where
-/// its value isn't whole, else `TooFar` where its value's size is above 1,000,000,000. It takes no memory, and looks at
+/// The whole number that a text stands for. A numeral is an optional `+` or `-`, then digits with at
+/// most one point among, before or after them, at least one digit in all, then optionally `E` or `e`,
+/// an optional sign and at least one digit. Its value is exact, however many digits it has: the digits
+/// as a whole number, times ten to the power of the exponent, divided by ten for each digit after the
+/// point. `BadNumber` comes where the text is no numeral, else `NotWhole` where its value isn't whole,
+/// else `TooFar` where its absolute value is above 1,000,000,000. It takes no memory, and looks at
 /// each byte no more than four times.
 pub fn whole(text: &[u8]) -> Result<i64, NumeralFault>
     ensures value { result ≡ whole_of text.now }
@@ -211,71 +219,5 @@ pub fn whole(text: &[u8]) -> Result<i64, NumeralFault>
     if before.is_empty() && after.is_empty() {
         return Err(NumeralFault::BadNumber);
     }
-    within_reach(negative, size(before, after, exponent))
-}
-
-/// A law: a text is read as a numeral just where the grammar of numerals spells it so. So each text has one reading at most.
-pub fn numerals_are_spelled_so()
-    ensures read { (text : List ℕ) (n : Numeral) → numeral_of text ≡ Some n → IsNumeral text n }
-    ensures spelled { (text : List ℕ) (n : Numeral) → IsNumeral text n → numeral_of text ≡ Some n }
-{}
-
-/// A law: what some texts stand for, by the definition alone.
-pub fn small_numerals()
-    ensures ten { Each (λ text. whole_of text ≡ Ok (pos 10))
-        (codes "10" ∷ codes "+10." ∷ codes "1.0E+01" ∷ codes "1000e-2" ∷ codes ".1E2" ∷ []) }
-    ensures least { whole_of (codes "-1000000000.0") ≡ Ok (neg_ℤ (pos 1000000000)) }
-    ensures not_whole { Each (λ text. whole_of text ≡ Err NumeralFault.NotWhole)
-        (codes "2.5" ∷ codes "1E-5" ∷ codes "1000000001.5" ∷ []) }
-    ensures too_far { Each (λ text. whole_of text ≡ Err NumeralFault.TooFar)
-        (codes "1000000001" ∷ codes "-.1E11" ∷ codes "1E40" ∷ []) }
-    ensures bad_number { Each (λ text. whole_of text ≡ Err NumeralFault.BadNumber)
-        (codes "" ∷ codes "." ∷ codes "1E" ∷ codes "E5" ∷ codes "1.2.3" ∷ codes "1,0" ∷ codes " 1" ∷ codes "+-1" ∷ []) }
-{}
-
-#[cfg(test)]
-mod tests {
-    use super::*;
-    use std::test::Fail;
-
-    #[test]
-    fn reads_numerals(rt: HostRuntime) -> Result<(), Fail> {
-        let table = [
-            ("10", Ok(10)),
-            ("1.0E+01", Ok(10)),
-            ("10.", Ok(10)),
-            ("+10", Ok(10)),
-            ("-0.0", Ok(0)),
-            ("10E-1", Ok(1)),
-            (".5e1", Ok(5)),
-            ("-12.5000E1", Ok(-125)),
-            ("1000000000", Ok(1_000_000_000)),
-            ("-1000000000", Ok(-1_000_000_000)),
-            ("0E99999999999999999999", Ok(0)),
-            ("100000000000000000000E-20", Ok(1)),
-            ("0.00000000000000000001E20", Ok(1)),
-            ("1000000001", Err(NumeralFault::TooFar)),
-            ("-1000000001", Err(NumeralFault::TooFar)),
-            ("1E400", Err(NumeralFault::TooFar)),
-            ("1E99999999999999999999", Err(NumeralFault::TooFar)),
-            ("2.5", Err(NumeralFault::NotWhole)),
-            ("1E-5", Err(NumeralFault::NotWhole)),
-            ("1E-400", Err(NumeralFault::NotWhole)),
-            ("1000000001.5", Err(NumeralFault::NotWhole)),
-            ("1E-99999999999999999999", Err(NumeralFault::NotWhole)),
-            ("", Err(NumeralFault::BadNumber)),
-            (".", Err(NumeralFault::BadNumber)),
-            ("1E", Err(NumeralFault::BadNumber)),
-            ("1,0", Err(NumeralFault::BadNumber)),
-            ("+", Err(NumeralFault::BadNumber)),
-            ("1.2.3", Err(NumeralFault::BadNumber)),
-            ("E5", Err(NumeralFault::BadNumber)),
-            (" 1", Err(NumeralFault::BadNumber)),
-            ("1e+", Err(NumeralFault::BadNumber)),
-        ];
-        for (text, wanted) in table {
-            assert_eq!(rt; whole(text.as_bytes()), wanted, "at {text:?}");
-        }
-        Ok(())
-    }
+    within_reach(negative, magnitude(before, after, exponent))
 }

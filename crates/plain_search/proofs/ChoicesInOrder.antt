@@ -1,5 +1,5 @@
 -- Choices that begin with given values: with one more value they are those that have it full, and then those that have it empty.
-use Rattle.std.proofs.Common.{◌≡◌, ◌⊎◌, inl, inr, ℕ, ◌+◌, ◌<◌, Bool, true, false, List, [], ◌∷◌, ◌++◌, length, take, set, refl, sym, ◌∙◌, ap, subst, append_assoc, arith}
+use Rattle.std.proofs.Common.{◌≡◌, ◌⊎◌, inl, inr, ℕ, zero, suc, ◌+◌, ◌<◌, Bool, true, false, List, [], ◌∷◌, ◌++◌, length, take, set, refl, sym, ◌∙◌, ap, subst, append_assoc, arith}
 use Rattle.std.proofs.lemmas.List.{append-nil, length-append, take-set, take-take}
 use Rattle.solid_model.specs.Choices.{ChoicePrecedes, AreChoicesThat}
 use Rattle.solid_model.specs.Lists.{Member, Each}
@@ -84,6 +84,22 @@ module _ (P : List Bool → Type 0) where
     ordered = h.ordered;
     complete = λ choice long holds. h.complete choice long ((choice, refl), holds);
   }
+
+  -- it can't be that there is no list of the choices that begin so
+  some_from : (d : ℕ) (chosen : List Bool) (n : ℕ) → length chosen + d ≡ n → ((choices : List (List Bool)) → AreChoicesThat (From chosen) n choices → ⊥) → ⊥
+  some_from zero chosen n whole never =
+      let Those = λ (m : ℕ) (choices : List (List Bool)). AreChoicesThat (From chosen) m choices in
+      let same : length chosen ≡ n = omega (arith, whole) in
+      let no : P chosen → ⊥ = λ holds. never (chosen ∷ []) (subst (λ m. Those m (chosen ∷ [])) same (choices-one chosen holds)) in
+      never [] (subst (λ m. Those m []) same (choices-none chosen no))
+  some_from (suc d) chosen n whole never =
+      some_from d (chosen ++ true ∷ []) n (omega (arith, whole, length-append chosen (true ∷ []))) (λ full h.
+      some_from d (chosen ++ false ∷ []) n (omega (arith, whole, length-append chosen (false ∷ []))) (λ empty k.
+      never (full ++ empty) (choices-both chosen n full empty (omega (arith, whole)) h k)))
+
+  -- or of all choices
+  pub some_choices : (n : ℕ) → ((choices : List (List Bool)) → AreChoicesThat P n choices → ⊥) → ⊥
+  some_choices n never = some_from n [] n (omega arith) (λ choices h. never choices (choices-all n choices h))
 
 -- ---- a list whose next value is written, and that is then filled further
 

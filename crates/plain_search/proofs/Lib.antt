@@ -1,2 +1,2 @@
-mod ChoicesInOrder
+pub mod ChoicesInOrder
 mod Filled

@@ -3,12 +3,14 @@ use Rattle.std.proofs.Common.{◌≡◌, refl, inl, inr, ℕ, ◌≤◌, ◌<◌
 use Rattle.dxf_entities.specs.Reading.{read_of}
 use Rattle.recon_run.specs.declared.fault.FirstFault.{FirstFault}
 use Rattle.recon_run.specs.declared.fault.FirstFault.TheVariants.{File, TooLarge}
-use Rattle.recon_run.specs.Answers.{IsFaultAfter, IsFirstFault, HasNoFault, IsDrawnBy, ListsSolidsOf}
-use Rattle.recon_run.specs.declared.answer.NoSolids.TheVariants as refused
-use Rattle.recon_run.specs.Refusals.{refused_search}
+use Rattle.recon_run.specs.declared.solve.Unsolved.TheVariants as unsolved
+use Rattle.recon_run.specs.Answers.{IsFaultAfter, IsFirstFault, HasNoFault, ListsSolidsOf}
+use Rattle.recon_run.specs.Refusals.{refused_file, refused_search}
 use Rattle.solid_model.specs.declared.cell.Cell.{Cell}
 use Rattle.solid_model.specs.declared.fault.Fault.{Fault}
 use Rattle.solid_model.specs.declared.fault.Fault.TheVariants.{EmptyView}
+use Rattle.solid_model.specs.declared.fault.Refused.{Refused}
+use Rattle.solid_model.specs.declared.fault.Refused.TheVariants as refused
 use Rattle.solid_model.specs.declared.frame.View.{View}
 use Rattle.solid_model.specs.declared.frame.View.TheVariants.{Front, Top, Side}
 use Rattle.solid_model.specs.declared.segment.Segment.{Segment}
@@ -61,22 +63,41 @@ pub fault_read : (t : List ℕ) (r : Result (List Line) Fault) (fault : FirstFau
     → IsFaultAfter r fault → IsFirstFault t fault
 fault_read t r fault short reads after = inr (short, subst (λ r. IsFaultAfter r fault) (sym reads) after)
 
--- the solids that are found in an input's drawing are listed
-pub solids_listed : (t : List ℕ) (drawing : Segment → Style) (ss : List (List Cell)) → IsDrawnBy t drawing
-    → (b : UnitBox) × IsUnitBox drawing b × (volume_of b ≤ most_cells) → AreSolidsOf drawing ss → ListsSolidsOf t ss
-solids_listed t drawing ss (ls, reads, shown, same) (b, box, small) all =
-    (ls, reads, shown, b, subst (λ d. IsUnitBox d b) same box, small, subst (λ d. AreSolidsOf d ss) same all)
+-- an input reads as these lines, which show something in each view, and this is their drawing
+pub record Drawn (t : List ℕ) (ls : List Line) (drawing : Segment → Style) : Type 0 where
+  pub reads : read_of t ≡ Ok ls
+  pub shown : IsShown ls
+  pub same : (g : Segment) → drawing g ≡ drawing_of ls g
 
--- what the search in an input's drawing refuses is the input's first fault
-pub search_fault : (t : List ℕ) (drawing : Segment → Style) (x : SearchRefused) → length t ≤ most_file_bytes → IsDrawnBy t drawing
+-- the solids that are found in an input's drawing are listed
+pub solids_listed : (t : List ℕ) (ls : List Line) (drawing : Segment → Style) (ss : List (List Cell)) → Drawn t ls drawing
+    → (b : UnitBox) × IsUnitBox drawing b × (volume_of b ≤ most_cells) → AreSolidsOf drawing ss → ListsSolidsOf t ss
+solids_listed t ls drawing ss drawn (b, box, small) all =
+    let same : drawing ≡ drawing_of ls = λ i g. drawn.same g i in
+    (ls, drawn.reads, drawn.shown, b, subst (λ d. IsUnitBox d b) same box, small, subst (λ d. AreSolidsOf d ss) same all)
+
+-- what the drawing of an input's lines refuses is the input's first fault
+pub drawing_fault : (t : List ℕ) (ls : List Line) (x : Refused) → length t ≤ most_file_bytes → read_of t ≡ Ok ls
+    → ((f : Fault) → x ≡ refused.Fault f → (v : View) × (f ≡ EmptyView v) × IsFirstEmptyView ls v)
+    → (fault : FirstFault) → refused_file x ≡ unsolved.Fault fault → IsFirstFault t fault
+drawing_fault t ls (refused.Fault f) short reads empty fault e =
+    let is : File f ≡ fault = cc in
+    let none = empty f refl in
+    subst (IsFirstFault t) is (fault_read t (Ok ls) (File f) short reads (none.0, none.2, none.1))
+drawing_fault t ls refused.Memory short reads empty fault e = absurd cc
+
+-- and so is what the search in it refuses
+pub search_fault : (t : List ℕ) (ls : List Line) (drawing : Segment → Style) (x : SearchRefused) → length t ≤ most_file_bytes
+    → Drawn t ls drawing
     → (x ≡ search.TooLarge → (b : UnitBox) × IsUnitBox drawing b × (most_cells < volume_of b))
-    → (fault : FirstFault) → refused_search x ≡ refused.Fault fault → IsFirstFault t fault
-search_fault t drawing search.TooLarge short (ls, reads, shown, same) large fault e =
-    let box = large refl in
+    → (fault : FirstFault) → refused_search x ≡ unsolved.Fault fault → IsFirstFault t fault
+search_fault t ls drawing search.TooLarge short drawn large fault e =
+    let (b, box, wide) = large refl in
+    let same : drawing ≡ drawing_of ls = λ i g. drawn.same g i in
     let is : TooLarge ≡ fault = cc in
     subst (IsFirstFault t) is
-    (fault_read t (Ok ls) TooLarge short reads (shown, box.0, subst (λ d. IsUnitBox d box.0) same box.1, box.2))
-search_fault t drawing search.Memory short drawn large fault e = absurd cc
+    (fault_read t (Ok ls) TooLarge short drawn.reads (drawn.shown, b, subst (λ d. IsUnitBox d b) same box, wide))
+search_fault t ls drawing search.Memory short drawn large fault e = absurd cc
 
 -- lines that show all views, with a small unit box, have no fault
 small_faultless : (ls : List Line) (b : UnitBox) → IsShown ls → IsUnitBox (drawing_of ls) b → volume_of b ≤ most_cells

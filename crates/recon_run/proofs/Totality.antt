@@ -5,12 +5,13 @@ use Rattle.dxf_entities.specs.Reading.{read_of}
 use Rattle.dxf_entities.proofs.KeptLines.{read_lines_are_kept}
 use Rattle.recon_run.specs.declared.fault.FirstFault.{FirstFault}
 use Rattle.recon_run.specs.declared.fault.FirstFault.TheVariants.{File, TooLarge}
-use Rattle.recon_run.specs.declared.status.Status.{Status}
-use Rattle.recon_run.specs.declared.status.Status.TheVariants.{Whole, Fault, Usage}
+use Rattle.recon_run.specs.declared.status.Answer.{Answer}
+use Rattle.recon_run.specs.declared.status.Answer.TheVariants.{Solve, Usage}
+use Rattle.recon_run.specs.declared.status.Found.TheVariants.{Whole, Fault}
 use Rattle.recon_run.specs.Answers.{usage_text, IsFirstFault, ListsSolidsOf}
 use Rattle.recon_run.specs.FaultText.{fault_text}
 use Rattle.recon_run.specs.FirstText.{first_text}
-use Rattle.recon_run.specs.Runs.{Answers, IsReadThrough}
+use Rattle.recon_run.specs.Endings.{Answers, IsReadThrough}
 use Rattle.recon_run.specs.Words.{IsSolve}
 use Rattle.recon_run.proofs.Faults.{fault_read, no_fault}
 use Rattle.solid_model.specs.declared.cell.Cell.{Cell}
@@ -60,7 +61,7 @@ short_input t (Err found) short reads faultless listless = faultless (File found
 short_input t (Ok ls) short reads faultless listless = input_with_lines t ls short reads faultless listless
 
 pub answered_somehow : (words : List (List ℕ)) (t : List ℕ)
-    → ((rest : Option (List ℕ)) (status : Status) (text : List ℕ) → Answers words (Some t) rest status text → ⊥) → ⊥
+    → ((rest : Option (List ℕ)) (answer : Answer) (text : List ℕ) → Answers words (Some t) rest answer text → ⊥) → ⊥
 answered_somehow words t never = never (Some []) Usage usage_text (solve_asked, refl)
   where
     read_to_end : length t ≤ most_file_bytes → IsReadThrough t (Some [])
@@ -68,9 +69,9 @@ answered_somehow words t never = never (Some []) Usage usage_text (solve_asked, 
 
     solve_asked : IsSolve words → ⊥
     solve_asked solve = ⊎_elim
-        (λ long. never (Some (drop (most_file_bytes + 1) t)) Fault (fault_text (File TooLong))
+        (λ long. never (Some (drop (most_file_bytes + 1) t)) (Solve Fault) (fault_text (File TooLong))
         (solve, (inr (long, refl), (File TooLong, inl (long, refl), refl))))
         (λ short. short_input t (read_of t) short refl
-        (λ fault is. never (Some []) Fault (fault_text fault) (solve, (read_to_end short, (fault, is, refl))))
-        (λ ss listed. never (Some []) Whole (first_text ss) (solve, (read_to_end short, (no_fault t ss short listed, ss, listed, refl)))))
+        (λ fault is. never (Some []) (Solve Fault) (fault_text fault) (solve, (read_to_end short, (fault, is, refl))))
+        (λ ss listed. never (Some []) (Solve Whole) (first_text ss) (solve, (read_to_end short, (no_fault t ss short listed, ss, listed, refl)))))
         (cases_lt most_file_bytes (length t))

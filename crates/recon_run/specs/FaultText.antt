@@ -92,7 +92,7 @@ abbrev pub part_text : List ℕ → Option (List ℕ) → List ℕ
 part_text word None = []
 part_text word (Some text) = word ++ text
 
--- what a fault names: its line, then its group code, its view, its axis and its count, those of them that it has
+-- what a fault names, of these what it has: its line, its group code, its view, its axis, its count
 abbrev pub parts_text : Fault → List ℕ
 parts_text f = part_text (codes " line ") (option_map decimal (line_named f))
     ++ part_text (codes " code ") (option_map signed_decimal (code_named f))

@@ -19,7 +19,8 @@ box_lines (c ∷ cs) = box_line c ++ box_lines cs
 
 -- the solid of this number: how many cells it has, and each of them
 abbrev pub solid_text : ℕ → List Cell → List ℕ
-solid_text number s = codes "solid " ++ decimal number ++ codes " volume " ++ decimal (length s) ++ codes "\n" ++ box_lines s
+solid_text number s = codes "solid " ++ decimal number
+    ++ codes " volume " ++ decimal (length s) ++ codes "\n" ++ box_lines s
 
 -- the solids, numbered from this number on
 abbrev pub solid_texts : ℕ → List (List Cell) → List ℕ

@@ -4,4 +4,4 @@ pub mod FirstText
 pub mod FaultText
 pub mod Answers
 pub mod Refusals
-pub mod Runs
+pub mod Endings

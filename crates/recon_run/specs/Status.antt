@@ -1,13 +1,16 @@
 -- The numbers of the statuses.
 use Rattle.std.specs.Prelude.{ℕ}
+use Rattle.recon_run.specs.declared.status.Answer.TheVariants.{Solve, Usage}
+use Rattle.recon_run.specs.declared.status.Found.TheVariants.{Whole, Fault}
 use Rattle.recon_run.specs.declared.status.Status.{Status}
-use Rattle.recon_run.specs.declared.status.Status.TheVariants.{Whole, Fault, Usage, ReadFault, WriteFault, Memory}
+use Rattle.recon_run.specs.declared.status.Status.TheVariants.{Answered, Stopped}
+use Rattle.recon_run.specs.declared.status.Stop.TheVariants.{ReadFault, WriteFault, Memory}
 
 -- the number of a status
 abbrev pub status_code : Status → ℕ
-status_code Whole = 0
-status_code Fault = 1
-status_code Usage = 2
-status_code ReadFault = 5
-status_code WriteFault = 6
-status_code Memory = 7
+status_code (Answered (Solve Whole)) = 0
+status_code (Answered (Solve Fault)) = 1
+status_code (Answered Usage) = 2
+status_code (Stopped ReadFault) = 5
+status_code (Stopped WriteFault) = 6
+status_code (Stopped Memory) = 7

@@ -2,7 +2,9 @@
 
 ghost use Rattle.std.specs.Prelude.{◌≡◌, ◌++◌, codes, IfOk, OnOk};
 ghost use Rattle.std.specs.Option.{option_map};
-ghost use Rattle.recon_run.specs.FaultText.{name_of, line_named, code_named, view_named, axis_named, count_named, layer_name, letter_of, part_text, parts_text, fault_text};
+ghost use Rattle.recon_run.specs.FaultText.{name_of, line_named, code_named, view_named, axis_named};
+ghost use Rattle.recon_run.specs.FaultText.{count_named, layer_name, letter_of};
+ghost use Rattle.recon_run.specs.FaultText.{part_text, parts_text, fault_text};
 
 use crate::fault::FirstFault;
 use crate::text::push_number;
@@ -131,7 +133,8 @@ fn push_number_part<I: Integer>(
     word: &str,
     part: Option<I>,
 ) -> Result<(), Memory>
-    ensures { OnOk result (text.new.items ≡ text.old.items ++ part_text word.now (option_map I.text part)) }
+    ensures { OnOk result (text.new.items
+        ≡ text.old.items ++ part_text word.now (option_map I.text part)) }
 {
     match part {
         Some(number) => {
@@ -144,7 +147,8 @@ fn push_number_part<I: Integer>(
 
 /// Adds a view by its layer, where there is one.
 fn push_view(text: &mut Vec<u8>, view: Option<View>) -> Result<(), Memory>
-    ensures { OnOk result (text.new.items ≡ text.old.items ++ part_text (codes " view ") (option_map layer_name view)) }
+    ensures { OnOk result (text.new.items
+        ≡ text.old.items ++ part_text (codes " view ") (option_map layer_name view)) }
 {
     match view {
         Some(view) => {
@@ -158,7 +162,8 @@ fn push_view(text: &mut Vec<u8>, view: Option<View>) -> Result<(), Memory>
 
 /// Adds an axis by its letter, where there is one.
 fn push_axis(text: &mut Vec<u8>, axis: Option<Axis>) -> Result<(), Memory>
-    ensures { OnOk result (text.new.items ≡ text.old.items ++ part_text (codes " axis ") (option_map letter_of axis)) }
+    ensures { OnOk result (text.new.items
+        ≡ text.old.items ++ part_text (codes " axis ") (option_map letter_of axis)) }
 {
     match axis {
         Some(axis) => {
@@ -183,7 +188,8 @@ fn push_parts(text: &mut Vec<u8>, fault: Fault) -> Result<(), Memory>
 
 /// The text of a file's fault.
 fn file_fault_text(alloc: Global, fault: Fault) -> Result<Vec<u8>, Memory>
-    ensures { IfOk result (λ text. text.items ≡ codes "fault " ++ name_of fault ++ parts_text fault ++ codes "\n") }
+    ensures { IfOk result (λ text. text.items
+        ≡ codes "fault " ++ name_of fault ++ parts_text fault ++ codes "\n") }
 {
     let mut text = Vec::from_slice(alloc, b"fault ")?;
     text.extend_from_slice(name_of(fault).as_bytes())?;
@@ -192,8 +198,8 @@ fn file_fault_text(alloc: Global, fault: Fault) -> Result<Vec<u8>, Memory>
     Ok(text)
 }
 
-/// What is written for a fault: `fault`, its number and name, and what it names, as in `fault F7 NotWhole line 12 code 10`.
-/// An `Err` comes for want of memory.
+/// What is written for a fault: `fault`, its number and name, and what it names, as in
+/// `fault F7 NotWhole line 12 code 10`. An `Err` is out of memory.
 pub fn fault_text(alloc: Global, fault: FirstFault) -> Result<Vec<u8>, Memory>
     ensures { IfOk result (λ text. text.items ≡ fault_text fault) }
 {

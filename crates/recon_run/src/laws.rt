@@ -2,27 +2,31 @@
 
 ghost use Rattle.std.specs.Prelude.{◌≡◌, ℕ, List, Option, Some};
 ghost use Rattle.recon_run.specs.declared.fault.FirstFault.{FirstFault};
-ghost use Rattle.recon_run.specs.declared.status.Status.{Status};
+ghost use Rattle.recon_run.specs.declared.status.Answer.{Answer};
 ghost use Rattle.recon_run.specs.Answers.{IsFirstFault};
-ghost use Rattle.recon_run.specs.Runs.{Answers};
+ghost use Rattle.recon_run.specs.Endings.{Answers};
 
 /// An input has at most one first fault.
 pub fn one_first_fault()
-    ensures { (input : List ℕ) (a b : FirstFault) → IsFirstFault input a → IsFirstFault input b → a ≡ b }
+    ensures { (input : List ℕ) (a b : FirstFault)
+        → IsFirstFault input a → IsFirstFault input b → a ≡ b }
 {}
 
-/// Words and an input have at most one right answer: one status, and one text that goes with it.
+/// Words and an input have at most one right answer, and one text that goes with it.
 pub fn one_answer()
-    ensures status { (words : List (List ℕ)) (input : List ℕ) (rest left : Option (List ℕ)) (a b : Status) (text other : List ℕ)
-        → Answers words (Some input) rest a text → Answers words (Some input) left b other → a ≡ b }
-    ensures text { (words : List (List ℕ)) (input : List ℕ) (rest left : Option (List ℕ)) (a b : Status) (text other : List ℕ)
-        → Answers words (Some input) rest a text → Answers words (Some input) left b other → text ≡ other }
+    ensures answer { (words : List (List ℕ)) (input : List ℕ) (rest left : Option (List ℕ))
+        (a b : Answer) (text other : List ℕ) → Answers words (Some input) rest a text
+        → Answers words (Some input) left b other → a ≡ b }
+    ensures text { (words : List (List ℕ)) (input : List ℕ) (rest left : Option (List ℕ))
+        (a b : Answer) (text other : List ℕ) → Answers words (Some input) rest a text
+        → Answers words (Some input) left b other → text ≡ other }
 {}
 
-/// Words and an input never lack a right answer: it can't be that no status goes with a text. So the clauses of `run` ask
-/// for nothing that can't be given.
+/// Words and an input never lack a right answer: it can't be that no answer goes with a text. So
+/// the clauses of `run` ask for nothing that can't be given.
 pub fn some_answer()
     ensures { (words : List (List ℕ)) (input : List ℕ)
-        → ((rest : Option (List ℕ)) (status : Status) (text : List ℕ) → Answers words (Some input) rest status text → ⊥)
+        → ((rest : Option (List ℕ)) (answer : Answer) (text : List ℕ)
+        → Answers words (Some input) rest answer text → ⊥)
         → ⊥ }
 {}

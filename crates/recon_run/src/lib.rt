@@ -1,11 +1,12 @@
 //! The top call: one command, from the bytes in to the bytes out.
 #![tactic(auto)]
 
-mod answer;
 mod command;
 mod fault;
 mod fault_text;
 mod laws;
+mod reply;
+mod solve;
 mod status;
 mod text;
 mod words;
@@ -13,7 +14,7 @@ mod words;
 pub use command::run;
 pub use fault::FirstFault;
 pub use laws::{one_answer, one_first_fault, some_answer};
-pub use status::Status;
+pub use status::{Answer, Found, Status, Stop};
 
 #[cfg(test)]
 mod tests;

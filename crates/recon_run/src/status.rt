@@ -2,23 +2,42 @@
 
 ghost use Rattle.std.specs.Prelude.{◌≡◌};
 
-use solid_model::Memory;
+/// What `solve` found.
+#[derive(Clone, Copy, Debug, PartialEq, Eq)]
+pub enum Found {
+    /// All matching solids, and they are listed.
+    Whole,
+    /// A fault of the input.
+    Fault,
+}
+
+/// What words and an input are answered.
+#[derive(Clone, Copy, Debug, PartialEq, Eq)]
+pub enum Answer {
+    /// What `solve` found.
+    Solve(Found),
+    /// That the words aren't taken.
+    Usage,
+}
+
+/// Why a run stops before its answer is written.
+#[derive(Clone, Copy, Debug, PartialEq, Eq)]
+pub enum Stop {
+    /// The source failed.
+    ReadFault,
+    /// The sink failed.
+    WriteFault,
+    /// Out of memory.
+    Memory,
+}
 
 /// How a run ended.
 #[derive(Clone, Copy, Debug, PartialEq, Eq)]
 pub enum Status {
-    /// All matching solids are listed.
-    Whole = 0,
-    /// The input has a fault.
-    Fault = 1,
-    /// The words aren't taken.
-    Usage = 2,
-    /// The source failed.
-    ReadFault = 5,
-    /// The sink failed.
-    WriteFault = 6,
-    /// Memory is wanting.
-    Memory = 7,
+    /// Its answer is written.
+    Answered(Answer),
+    /// It stopped before.
+    Stopped(Stop),
 }
 
 impl Status {
@@ -28,17 +47,13 @@ impl Status {
     pub fn code(self) -> u8
         ensures { result ≡ status_code self }
     {
-        self as u8
-    }
-}
-
-impl From<Memory> for Status {
-    ghost use Rattle.std.specs.Prelude.{◌≡◌};
-    ghost use Rattle.recon_run.specs.declared.status.Status.TheVariants as ends;
-
-    ghost from_gives = { λ _ status. status ≡ ends.Memory };
-
-    fn from(_error: Memory) -> Status {
-        Status::Memory
+        match self {
+            Status::Answered(Answer::Solve(Found::Whole)) => 0,
+            Status::Answered(Answer::Solve(Found::Fault)) => 1,
+            Status::Answered(Answer::Usage) => 2,
+            Status::Stopped(Stop::ReadFault) => 5,
+            Status::Stopped(Stop::WriteFault) => 6,
+            Status::Stopped(Stop::Memory) => 7,
+        }
     }
 }

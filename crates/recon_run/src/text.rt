@@ -7,7 +7,7 @@ use itoa::{Buffer, Integer};
 use solid_model::{Cell, Memory, Solid};
 use std::alloc::Global;
 
-/// Adds a number in plain decimals; an `Err` comes for want of memory.
+/// Adds a number in plain decimals; an `Err` is out of memory.
 pub fn push_number<I: Integer>(text: &mut Vec<u8>, number: I) -> Result<(), Memory>
     ensures { OnOk result (text.new.items ≡ text.old.items ++ I.text number) }
 {
@@ -63,8 +63,9 @@ fn push_solid(text: &mut Vec<u8>, number: usize, solid: &Solid) -> Result<(), Me
     push_boxes(text, cells)
 }
 
-/// The text that lists these solids: `whole S`, and then for each solid, numbered from 1, `solid K volume V` and a line
-/// `box x,y,z X,Y,Z` for each of its cells, from its least to its greatest corner. An `Err` comes for want of memory.
+/// The text that lists these solids: `whole S`, and then for each solid, numbered from 1,
+/// `solid K volume V` and a line `box x,y,z X,Y,Z` for each of its cells, from its least to its
+/// greatest corner. An `Err` is out of memory.
 pub fn first_text(alloc: Global, solids: &[Solid]) -> Result<Vec<u8>, Memory>
     ensures { IfOk result (λ text. text.items ≡ first_text solids.now) }
 {

@@ -1,10 +1,10 @@
 -- Facts of cells, and of which cells of a solid are full.
-use Rattle.std.proofs.Common.{◌≡◌, ◌⊎◌, inl, inr, Bool, true, false, ◌&&◌, ◌||◌, List, [], ◌∷◌, ◌++◌, Decides, refl, sym, ◌∙◌, ap}
+use Rattle.std.proofs.Common.{◌≡◌, ◌⊎◌, inl, inr, Bool, true, false, ◌&&◌, ◌||◌, List, [], ◌∷◌, ◌++◌, Decides, IsTrue, refl, sym, ◌∙◌, ap}
 use Rattle.std.specs.Ordering.{int_eq}
-use Rattle.std.proofs.lemmas.Bool.{false_from_ne_true, both_ways}
+use Rattle.std.proofs.lemmas.Bool.{false≢true, false_from_ne_true, both_ways, or_left}
 use Rattle.std.proofs.lemmas.Bool.Decides.{Decides-int_eq, Decides-and, Decides-or, Decides-like, same_from_decides}
 use Rattle.solid_model.specs.declared.cell.Cell.{Cell}
-use Rattle.solid_model.specs.Cells.{same_cell, is_full, SameCells}
+use Rattle.solid_model.specs.Cells.{same_cell, is_full, IsSolid, SameCells}
 use Rattle.solid_model.specs.Lists.{Member, Each}
 use Rattle.solid_model.proofs.Lists.{each-at, each-from}
 
@@ -107,3 +107,15 @@ same_cells-back s t same c = sym (same c)
 -- lists that give one solid with a third do so with each other
 pub same_cells-onward : (s t u : List Cell) → SameCells s t → SameCells t u → SameCells s u
 same_cells-onward s t u h k c = h c ∙ k c
+
+-- ---- solids have cells
+
+-- what has a full cell is a solid
+pub solid_with : (s : List Cell) (c : Cell) → IsTrue (is_full s c) → IsSolid s
+solid_with [] c full = absurd (false≢true full)
+solid_with (x ∷ xs) c full = tt
+
+-- and a solid has a full cell
+pub full_cell_of : (s : List Cell) → IsSolid s → (c : Cell) × IsTrue (is_full s c)
+full_cell_of [] has = absurd has
+full_cell_of (c ∷ cs) has = (c, or_left (same_cell c c) (is_full cs c) (same_cell-itself c))

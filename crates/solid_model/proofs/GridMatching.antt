@@ -1,6 +1,5 @@
 -- A union of grid cells matches the drawing where it draws what the grid shows.
-use Rattle.std.proofs.Common.{◌≡◌, ◌≢◌, ◌↔◌, Bool, true, false, List, [], ◌∷◌, ℤ, pos, ◌<ℤ◌, IsTrue, refl, ap, sym, subst, ◌∙◌}
-use Rattle.std.proofs.lemmas.Bool.{false≢true}
+use Rattle.std.proofs.Common.{◌≡◌, ◌≢◌, ◌↔◌, Bool, true, false, List, pos, ◌<ℤ◌, ap, sym, subst, ◌∙◌}
 use Rattle.solid_model.specs.declared.cell.Axis.{Axis}
 use Rattle.solid_model.specs.declared.cell.Cell.{Cell}
 use Rattle.solid_model.specs.declared.frame.View.{View}
@@ -8,15 +7,16 @@ use Rattle.solid_model.specs.declared.frame.View.TheVariants.{Front, Top, Side}
 use Rattle.solid_model.specs.declared.segment.Segment.{Segment}
 use Rattle.solid_model.specs.declared.segment.Style.{Style}
 use Rattle.solid_model.specs.declared.segment.Style.TheVariants.{Blank}
-use Rattle.solid_model.specs.Cells.{is_full, IsSolid}
+use Rattle.solid_model.specs.Cells.{is_full}
 use Rattle.solid_model.specs.Draws.{Draws}
 use Rattle.solid_model.specs.DrawnStyle.{solid_drawing}
 use Rattle.solid_model.specs.Frames.{frame_of}
-use Rattle.solid_model.specs.Grid.{Coordinates, IsUnionOf}
+use Rattle.solid_model.specs.Grid.{IsUnionOf}
 use Rattle.solid_model.specs.Lists.{Ascends}
 use Rattle.solid_model.specs.Matching.{Matches}
 use Rattle.solid_model.specs.Panels.{PanelsStyles, panel_of, styles_along, grid_styles, AreGridStyles, GridParts, coordinates_of, IsGridOf, StaysOnGrid}
 use Rattle.solid_model.specs.Runs.{IsDrawing}
+use Rattle.solid_model.proofs.Fullness.{solid_with}
 use Rattle.solid_model.proofs.OnGrid.{on_own_grid}
 use Rattle.solid_model.proofs.SameOnGrid.{same_everywhere}
 use Rattle.solid_model.proofs.Styles.{one_style, drawn_style_drawn, HasCellBeside, cell_beside_drawn}
@@ -36,12 +36,7 @@ pub matching_draws_it : (drawing : Segment → Style) (s : List Cell) → Matche
 matching_draws_it drawing s matches g =
     one_style (frame_of g.view) (is_full s) g _ _ (drawn_style_drawn (frame_of g.view) (views_are_frames g.view) s g) (matches.1 g)
 
--- what has a full cell is a solid
-solid_with : (s : List Cell) (c : Cell) → IsTrue (is_full s c) → IsSolid s
-solid_with [] c full = absurd (false≢true full)
-solid_with (x ∷ xs) c full = tt
-
--- and a list of cells that draws what a drawing shows is a solid that matches it, since the drawing shows something
+-- a list of cells that draws what a drawing shows is a solid that matches it, since the drawing shows something
 pub matches_from_drawing : (drawing : Segment → Style) → IsDrawing drawing → (s : List Cell) → ((g : Segment) → solid_drawing s g ≡ drawing g) → Matches drawing s
 matches_from_drawing drawing is s same = (solid_with s beside.cell beside.is_full, draws)
   where

@@ -21,7 +21,7 @@ use Rattle.solid_model.specs.Matching.{Matches}
 use Rattle.solid_model.specs.Segments.{segment_at}
 use Rattle.solid_model.proofs.ColumnRule.{beside_blank}
 use Rattle.solid_model.proofs.Integers.{natural}
-use Rattle.solid_model.proofs.Lists.{each-at}
+use Rattle.solid_model.proofs.Lists.{each-at, same_ascending}
 use Rattle.solid_model.proofs.UnitBox.{Least, Greatest, outermost_by}
 use Rattle.solid_model.proofs.Views.{views_are_frames, cell_at_its_places}
 
@@ -67,6 +67,11 @@ module _ (drawing : Segment → Style) (s : List Cell) (matches : Matches drawin
   slices_agree X c none = across_undrawn Front true (cell_before X c) c (record { same_along = refl; before = refl; same_away = refl }) (λ start drawn. none (Front, false, refl, inl (start, drawn)))
   slices_agree Y c none = across_undrawn Side true (cell_before Y c) c (record { same_along = refl; before = refl; same_away = refl }) (λ start drawn. none (Side, false, refl, inl (start, drawn)))
   slices_agree Z c none = across_undrawn Front false (cell_before Z c) c (record { same_along = refl; before = refl; same_away = refl }) (λ start drawn. none (Front, true, refl, inl (start, drawn)))
+
+-- an axis has one list of grid coordinates
+pub one_coordinates : (drawing : Segment → Style) (a : Axis) (zs ws : List ℤ) → AreGridCoordinates drawing a zs → AreGridCoordinates drawing a ws → zs ≡ ws
+one_coordinates drawing a zs ws h k =
+    same_ascending ◌<ℤ◌ (λ x y l m. omega (arith, ints)) zs ws h.ordered k.ordered (λ z l. (k.exact z).1 ((h.exact z).0 l)) (λ z l. (h.exact z).1 ((k.exact z).0 l))
 
 -- ---- gaps of an ascending list
 

@@ -19,6 +19,11 @@ pub mod SameOnGrid
 pub mod UnionDrawing
 pub mod GridMatching
 pub mod Unions
+pub mod Corners
+pub mod ChosenSolids
+pub mod SolidsOfChoices
+pub mod OwnItems
+pub mod SomeGrid
 pub mod Parts
 pub mod SetsInOrder
 pub mod MaximalStretches

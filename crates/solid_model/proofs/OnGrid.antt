@@ -1,18 +1,18 @@
 -- Drawings that stay on a grid: that of which it is the grid, and those of unions of its cells.
-use Rattle.std.proofs.Common.{◌≡◌, ◌≢◌, ◌⊎◌, inl, inr, ⊎_elim, Bool, true, false, not, ℕ, length, List, [], ◌∷◌, ◌++◌, map, take, ◌-◌, ◌+◌, ℤ, pos, ◌+ℤ◌, ◌-ℤ◌, ◌≤ℤ◌, ◌<ℤ◌, IsTrue, refl, ap, ap₂, sym, subst, ◌∙◌, arith}
-use Rattle.std.proofs.lemmas.Int.{ints, by_lt_z}
+use Rattle.std.proofs.Common.{◌≡◌, ◌≢◌, ◌⊎◌, inl, inr, ⊎_elim, Bool, true, false, ℕ, List, ℤ, pos, ◌+ℤ◌, ◌-ℤ◌, ◌≤ℤ◌, ◌<ℤ◌, IsTrue, refl, sym, ◌∙◌, arith}
+use Rattle.std.proofs.lemmas.Int.{ints}
 use Rattle.solid_model.specs.declared.cell.Axis.{Axis}
 use Rattle.solid_model.specs.declared.frame.View.{View}
 use Rattle.solid_model.specs.declared.segment.Segment.{Segment}
 use Rattle.solid_model.specs.declared.segment.Style.{Style}
 use Rattle.solid_model.specs.declared.segment.Style.TheVariants.{Blank, Dashed, Solid}
 use Rattle.solid_model.specs.Frames.{frame_of, along, across}
-use Rattle.solid_model.specs.Grid.{IsGridCoordinate, AreGridCoordinates, is_in_gap, IsInSomeGap, Coordinates}
-use Rattle.solid_model.specs.Lists.{Member, Ascends}
+use Rattle.solid_model.specs.Grid.{AreGridCoordinates, is_in_gap, IsInSomeGap, Coordinates}
+use Rattle.solid_model.specs.Lists.{Member}
 use Rattle.solid_model.specs.Panels.{StaysOnGrid}
 use Rattle.solid_model.specs.Runs.{IsDrawing}
 use Rattle.solid_model.specs.Segments.{segment_at}
-use Rattle.solid_model.proofs.InGrid.{blank_or_drawn, Gap, gap_at, some_gap_or_outside, steady_between}
+use Rattle.solid_model.proofs.InGrid.{blank_or_drawn, gap_at, some_gap_or_outside, steady_between}
 
 -- ---- the drawing of which it is the grid
 

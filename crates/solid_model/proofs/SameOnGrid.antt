@@ -1,5 +1,5 @@
 -- Drawings that stay on a grid and give its segments the same styles are the same.
-use Rattle.std.proofs.Common.{◌≡◌, ◌⊎◌, inl, inr, ⊎_elim, Bool, true, false, ◌&&◌, ℕ, zero, suc, ◌-◌, List, [], ◌∷◌, ◌++◌, length, map, take, drop, ℤ, ◌≤ℤ◌, ◌<ℤ◌, int_lt, int_le, int_eq, IsTrue, refl, ap, ap₂, sym, subst, ◌∙◌, arith}
+use Rattle.std.proofs.Common.{◌≡◌, ◌⊎◌, inl, inr, ⊎_elim, Bool, true, false, ℕ, zero, suc, ◌-◌, List, [], ◌∷◌, ◌++◌, length, map, take, drop, ℤ, ◌<ℤ◌, int_lt, int_le, int_eq, IsTrue, refl, ap, sym, subst, ◌∙◌, arith}
 use Rattle.std.proofs.Math.Seq.{take-append_seam, drop-append_seam}
 use Rattle.std.proofs.lemmas.Bool.{false≢true, and_parts, and_from}
 use Rattle.std.proofs.lemmas.Bool.Decides.{Decides-int_eq}
@@ -13,7 +13,7 @@ use Rattle.solid_model.specs.Frames.{frame_of, along, across}
 use Rattle.solid_model.specs.Grid.{Coordinates, is_in_gap, IsInSomeGap}
 use Rattle.solid_model.specs.Lists.{Member, Ascends}
 use Rattle.solid_model.specs.Panels.{joined, starts_of, grid_styles, StaysOnGrid}
-use Rattle.solid_model.specs.Segments.{segment_at, start_of, line_of}
+use Rattle.solid_model.specs.Segments.{segment_at}
 use Rattle.solid_model.proofs.InGrid.{gap_or_none}
 
 -- ---- lists

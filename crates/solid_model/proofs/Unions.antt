@@ -1,19 +1,17 @@
 -- Unions of grid cells: their unit cells in a list, and each matching solid as such a union.
-use Rattle.std.proofs.Common.{◌≡◌, ◌≢◌, ◌⊎◌, inl, inr, ⊎_elim, ◌↔◌, Bool, true, false, ◌&&◌, ℕ, zero, suc, ◌+◌, ◌*◌, ◌-◌, ◌<◌, ◌≤◌, ◌/◌, ◌%◌, List, [], ◌∷◌, ◌++◌, length, map, filter, get_or, slice_index_or, ℤ, pos, negsuc, ◌+ℤ◌, ◌-ℤ◌, ◌≤ℤ◌, ◌<ℤ◌, int_lt, int_le, IsTrue, refl, ap, ap₂, sym, subst, ◌∙◌, arith}
-use Rattle.std.proofs.Math.Nat.{mod-lt, div-add-mod}
-use Rattle.std.proofs.lemmas.Bool.{false≢true, both_ways, and_parts, and_from, false_from_ne_true}
+use Rattle.std.proofs.Common.{◌≡◌, ◌⊎◌, inl, inr, ⊎_elim, Bool, true, false, ℕ, zero, suc, ◌+◌, ◌*◌, ◌<◌, List, [], ◌∷◌, ◌++◌, length, map, filter, get_or, slice_index_or, ℤ, pos, negsuc, ◌+ℤ◌, ◌-ℤ◌, ◌≤ℤ◌, ◌<ℤ◌, int_lt, int_le, IsTrue, refl, ap, ap₂, sym, subst, ◌∙◌, arith}
+use Rattle.std.proofs.lemmas.Bool.{false≢true, both_ways, and_parts, false_from_ne_true}
 use Rattle.std.proofs.lemmas.Int.{ints, by_lt_z}
 use Rattle.std.proofs.lemmas.List.{length-append, length-map, get_or_append_left, get_or-append-add, get_or-map}
 use Rattle.solid_model.specs.declared.cell.Axis.{Axis}
 use Rattle.solid_model.specs.declared.cell.Axis.TheVariants.{X, Y, Z}
 use Rattle.solid_model.specs.declared.cell.Cell.{Cell}
 use Rattle.solid_model.specs.Cells.{coordinate, is_full}
-use Rattle.solid_model.specs.Grid.{Coordinates, GridCell, is_in_gap, IsInSomeGap, LiesInGridCell, LiesInGrid, gaps_along, grid_cell_count, grid_cell_place, IsUnionOf}
+use Rattle.solid_model.specs.Grid.{Coordinates, GridCell, is_in_gap, LiesInGridCell, LiesInGrid, gaps_along, grid_cell_place, IsUnionOf}
 use Rattle.solid_model.specs.Lists.{Member, Ascends}
-use Rattle.solid_model.specs.Panels.{joined, starts_of}
+use Rattle.solid_model.specs.Panels.{joined}
 use Rattle.solid_model.proofs.Fullness.{is_full-member, member-is_full}
 use Rattle.solid_model.proofs.Lists.{member-append_left, member-append_right, member-map, member-filter, member-from_filter}
-use Rattle.solid_model.proofs.SameOnGrid.{starts_more}
 use Rattle.solid_model.proofs.UnionDrawing.{one_gap, in_grid_or_not}
 
 -- ---- lists over three axes
@@ -58,16 +56,16 @@ get_or-joined f m long (x ∷ xs) (suc j) i d e p q =
     ∙ get_or-joined f m long xs j i d e (omega arith) q
 
 -- a place in a list of k lists of m
-within_product : (j k i m : ℕ) → j < k → i < m → j * m + i < k * m
+pub within_product : (j k i m : ℕ) → j < k → i < m → j * m + i < k * m
 within_product j zero i m p q = absurd (omega arith)
 within_product zero (suc k) i m p q = omega arith
 within_product (suc j) (suc k) i m p q = let rest = within_product j k i m (omega arith) q in omega arith
 
-length-cells_over : (xs ys zs : List ℤ) → length (cells_over xs ys zs) ≡ length zs * (length ys * length xs)
+pub length-cells_over : (xs ys zs : List ℤ) → length (cells_over xs ys zs) ≡ length zs * (length ys * length xs)
 length-cells_over xs ys zs = length-joined (λ z. joined (map (λ y. map (λ x. record { x = x; y = y; z = z }) xs) ys)) (length ys * length xs)
     (λ z. length-joined (λ y. map (λ x. record { x = x; y = y; z = z }) xs) (length xs) (λ y. length-map xs (λ x. record { x = x; y = y; z = z })) ys) zs
 
-get_or-cells_over : (xs ys zs : List ℤ) (i j k : ℕ) (d : Cell) → i < length xs → j < length ys → k < length zs
+pub get_or-cells_over : (xs ys zs : List ℤ) (i j k : ℕ) (d : Cell) → i < length xs → j < length ys → k < length zs
     → get_or (cells_over xs ys zs) ((k * length ys + j) * length xs + i) d ≡ record { x = get_or xs i (pos 0); y = get_or ys j (pos 0); z = get_or zs k (pos 0) }
 get_or-cells_over xs ys zs i j k d in_x in_y in_z =
     let z = get_or zs k (pos 0) in let y = get_or ys j (pos 0) in
@@ -167,7 +165,10 @@ module _ (coordinates : Coordinates) (ascends : (a : Axis) → Ascends ◌<ℤ�
 
     -- each union of grid cells has a list of its unit cells
     pub some_union : (s : List Cell) × IsUnionOf coordinates chosen (is_full s)
-    some_union = (union_cells, record {
-      inside = λ n c at. union_cells-full c ∙ union_is.inside n c at;
-      outside = λ c none. union_cells-full c ∙ union_is.outside c none;
-    })
+    some_union = (
+      union_cells,
+      record {
+        inside = λ n c at. union_cells-full c ∙ union_is.inside n c at;
+        outside = λ c none. union_cells-full c ∙ union_is.outside c none;
+      },
+    )

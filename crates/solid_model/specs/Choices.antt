@@ -1,4 +1,5 @@
 -- Choices of items, each of which is some of the grid's cells.
+use Rattle.std.specs.List.{range_with_len}
 use Rattle.std.specs.Prelude.{◌≡◌, ◌⊎◌, Bool, true, false, ℕ, List, [], ◌∷◌, length, map, slice_index_or, Option, Some, None}
 use Rattle.solid_model.specs.declared.cell.Cell.{Cell}
 use Rattle.solid_model.specs.declared.segment.Segment.{Segment}
@@ -29,7 +30,18 @@ is_chosen choice (Some item) = slice_index_or choice item false
 abbrev pub cells_of_choice : List (Option ℕ) → List Bool → List Bool
 cells_of_choice items choice = map (is_chosen choice) items
 
+-- each of n grid cells is an item of its own
+abbrev pub own_items : ℕ → List (Option ℕ)
+own_items n = map Some (range_with_len 0 n)
+
 -- the solid that a choice fills matches the drawing
 abbrev pub IsMatchingChoice : (Segment → Style) → Coordinates → List (Option ℕ) → List Bool → Type 0
 IsMatchingChoice drawing coordinates items choice =
     (s : List Cell) × IsUnionOf coordinates (cells_of_choice items choice) (is_full s) × Matches drawing s
+
+-- the solids that these choices of n items fill, one for each
+abbrev pub AreSolidsOfChoices : Coordinates → List (Option ℕ) → ℕ → List (List Bool) → List (List Cell) → Type 0
+AreSolidsOfChoices coordinates items n [] [] = Unit {0}
+AreSolidsOfChoices coordinates items n (choice ∷ choices) (s ∷ solids) =
+    (length choice ≡ n) × IsUnionOf coordinates (cells_of_choice items choice) (is_full s) × AreSolidsOfChoices coordinates items n choices solids
+AreSolidsOfChoices coordinates items n _ _ = ⊥

@@ -24,7 +24,8 @@ impl Model for Grid {
 }
 
 impl Grid {
-    ghost use Rattle.std.specs.Prelude.{◌≡◌};
+    ghost use Rattle.std.specs.Prelude.{◌≡◌, ◌≤◌};
+    ghost use Rattle.solid_model.specs.Grid.{gaps_along, grid_cell_count};
     ghost use Rattle.solid_model.specs.Panels.{coordinates_of, IsGrid};
 
     /// The grid with these coordinates, whose segments have these styles: those of a drawing.
@@ -73,5 +74,22 @@ impl Grid {
         ensures { result.now ≡ self.now.panels }
     {
         &self.panels
+    }
+
+    /// How many grid cells there are along an axis.
+    fn gaps(&self, axis: Axis) -> usize
+        ensures same { result ≡ gaps_along (coordinates_of self.now) axis }
+        ensures few { result ≤ 63 }
+    {
+        self.coordinates(axis).len().saturating_sub(1)
+    }
+
+    /// How many grid cells there are.
+    pub fn cell_count(&self) -> usize
+        ensures { result ≡ grid_cell_count (coordinates_of self.now) }
+    {
+        self.gaps(Axis::Z)
+            .saturating_mul(self.gaps(Axis::Y))
+            .saturating_mul(self.gaps(Axis::X))
     }
 }

@@ -14,8 +14,8 @@ pub use drawings::{
     views_are_seen_from_their_sides,
 };
 pub use grid::{
-    matching_is_seen_on_the_grid, matching_solids_lie_in_the_grid, one_drawing_of_a_grid,
-    one_list_of_grid_coordinates,
+    all_matching_choices_are_all_matching_solids, matching_is_seen_on_the_grid,
+    matching_solids_lie_in_the_grid, one_drawing_of_a_grid, one_list_of_grid_coordinates,
 };
 pub use orders::{
     all_matching_solids_are_one_list, one_stated_form, small_orders, solids_are_ordered,

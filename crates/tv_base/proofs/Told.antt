@@ -1,11 +1,11 @@
 -- What calls in a row do to bytes that are told.
-use Rattle.std.proofs.Common.{◌≡◌, ℕ, ◌+◌, ◌≤◌, List, ◌++◌, length, take, drop, Option, None, Some, sym, ap, ◌∙◌, arith, append_assoc, length-append}
+use Rattle.std.proofs.Common.{◌≡◌, ℕ, ◌+◌, ◌-◌, ◌≤◌, List, ◌++◌, length, take, drop, Option, None, Some, sym, ap, ◌∙◌, arith, append_assoc, length-append}
 use Rattle.std.proofs.lemmas.List.{take_at, drop_at, take-append-drop, length-take-le}
 use Rattle.std.proofs.Math.Seq.{take-add}
 use Rattle.std.specs.Io.KnownBytes.{Appends, Consumes}
-use Rattle.tv_base.specs.Pieces.{ReadsPast}
+use Rattle.tv_base.specs.Pieces.{ReadsWithin, ReadsPast}
 
--- what was copied into a room's front, and what is left of the bytes, are the bytes
+-- what was copied to a room's beginning, and what is left of the bytes, are the bytes
 pub copied_and_left : (xs room new : List ℕ) (n : ℕ) → n ≤ length xs → new ≡ take n xs ++ drop n room → xs ≡ take n new ++ drop n xs
 copied_and_left xs room new n within copied =
     sym (ap (λ ys. ys ++ drop n xs) (ap (take n) copied ∙ take_at (take n xs) (drop n room) n (length-take-le n xs within)) ∙ take-append-drop n xs)
@@ -17,7 +17,7 @@ appends_both (Some old) None c xs ys first second = absurd first
 appends_both (Some old) (Some mid) None xs ys first second = absurd second
 appends_both (Some old) (Some mid) (Some new) xs ys first second = second ∙ ap (λ zs. zs ++ ys) first ∙ append_assoc old xs ys
 
--- a front of a piece, and then a front of the rest, are a longer front
+-- a prefix of a piece, and then one of the rest, are a longer prefix
 pub appends_more : (a b c : Option (List ℕ)) (n k : ℕ) (piece : List ℕ) → Appends a b (take n piece) → Appends b c (take k (drop n piece)) → Appends a c (take (n + k) piece)
 appends_more a b c n k piece first second = rw (take-add n k piece) (appends_both a b c (take n piece) (take k (drop n piece)) first second)
 
@@ -27,6 +27,11 @@ consumes_both None b c xs ys first second = tt
 consumes_both (Some old) None c xs ys first second = absurd first
 consumes_both (Some old) (Some mid) None xs ys first second = absurd second
 consumes_both (Some old) (Some mid) (Some new) xs ys first second = first ∙ ap (λ zs. xs ++ zs) second ∙ sym (append_assoc xs ys new)
+
+-- a piece that was read, and then at most as many bytes as the limit leaves, are within the limit
+pub reads_within : (a b c : Option (List ℕ)) (xs : List ℕ) (limit : ℕ) → length xs ≤ limit → Consumes a b xs → ReadsWithin b c (limit - length xs) → ReadsWithin a c limit
+reads_within a b c xs limit fits first rest =
+    (xs ++ rest.0, omega (arith, length-append xs rest.0, rest.1), consumes_both a b c xs rest.0 first rest.2)
 
 -- what was read in `most + 1` bytes is more than `most` bytes, and leaves what stands behind it
 pub reads_past : (a b : Option (List ℕ)) (xs : List ℕ) (most : ℕ) → Consumes a b xs → length xs ≡ most + 1 → ReadsPast a b most

@@ -1,7 +1,7 @@
 //! Where workers may be held up.
 
 /// A point in a worker's run at which it passes the gate.
-#[derive(Clone, Copy, Debug, PartialEq, Eq, Hash)]
+#[derive(Clone, Copy, Debug, PartialEq, Eq)]
 pub enum Point {
     /// Before a piece of the search is expanded.
     BeforeExpand,
@@ -19,7 +19,7 @@ pub trait Gate: Sync {
 }
 
 /// A gate that lets each worker pass at once.
-#[derive(Clone, Copy, Debug, Default, PartialEq, Eq, Hash)]
+#[derive(Clone, Copy, Debug, Default, PartialEq, Eq)]
 pub struct OpenGate;
 
 impl Gate for OpenGate {

@@ -4,7 +4,7 @@ ghost use Rattle.std.specs.Prelude.{◌≡◌, ℕ, ◌≤◌, [], ◌++◌, tak
 ghost use Rattle.std.specs.Io.KnownBytes.{Appends};
 ghost use Rattle.tv_base.specs.Faults.{Rose, one_more};
 ghost use Rattle.tv_base.specs.Memory.{cut_of};
-ghost use Rattle.tv_base.specs.Pieces.{AppendsFront};
+ghost use Rattle.tv_base.specs.Pieces.{AppendsPrefix};
 
 use crate::{Sink, SinkError};
 use std::marker::Model;
@@ -73,12 +73,12 @@ impl Sink for MemSink {
         ensures later { self.old.faults ≤ self.new.faults }
         ensures written { OnOk result
             (Appends (Some self.old.held) (Some self.new.held) piece.now) }
-        ensures front { OnErr result
-            (AppendsFront (Some self.old.held) (Some self.new.held) piece.now) }
+        ensures prefix { OnErr result
+            (AppendsPrefix (Some self.old.held) (Some self.new.held) piece.now) }
         ensures failed { IsErrOf result SinkError.Failed → Rose self.old.faults self.new.faults }
 
         // A call whose number is listed takes the bytes that are named there and fails, and each
-        // other takes its piece. Either may want memory, and then takes nothing.
+        // other takes its piece. Where memory runs out, either takes nothing.
         ensures ok { OnOk result ((cut_of self.old.fail (one_more self.old.calls) ≡ None)
             × (self.new ≡ record self.old {
               held = self.old.held ++ piece.now;

@@ -57,8 +57,8 @@ fn is_listed(fail: &[u32], call: u64) -> bool
     fail.iter().any(|listed| u64::from(*listed) == call)
 }
 
-/// Copies as many bytes as both have into the front of the room, and says how many.
-fn copy_front(from: &[u8], room: &mut [u8]) -> usize
+/// Copies as many bytes as both have to the beginning of the room, and says how many.
+fn copy_prefix(from: &[u8], room: &mut [u8]) -> usize
     ensures count { result ≡ min (length room.old) (length from.now) }
     ensures copied { room.new ≡ take result from.now ++ drop result room.old }
 {
@@ -100,7 +100,7 @@ impl Source for MemSource {
             self.faults = self.faults.saturating_add(1);
             return Err(Failed);
         }
-        let count = copy_front(&self.bytes[self.at..], room);
+        let count = copy_prefix(&self.bytes[self.at..], room);
         self.at += count;
         Ok(count)
     }

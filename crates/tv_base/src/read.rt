@@ -1,6 +1,6 @@
 //! All the bytes of a source.
 
-ghost use Rattle.std.specs.Prelude.{◌≡◌, ℕ, ◌+◌, ◌<◌, ◌≤◌, List, ◌++◌, length, IfOk, OnOk, IsErrOf};
+ghost use Rattle.std.specs.Prelude.{◌≡◌, ℕ, ◌+◌, ◌-◌, ◌<◌, ◌≤◌, List, ◌++◌, length, IfOk, OnOk, OnErr, IsErrOf};
 ghost use Rattle.std.specs.Io.KnownBytes.{Consumes, IsAtEnd};
 ghost use Rattle.tv_base.specs.Faults.{Rose};
 ghost use Rattle.tv_base.specs.Pieces.{ReadsAll, ReadsPast, ReadsWithin};
@@ -10,13 +10,13 @@ use crate::{Failed, Source};
 use std::alloc::{AllocError, Global};
 
 /// Why a source was not read to its end.
-#[derive(Clone, Copy, Debug, PartialEq, Eq, Hash)]
+#[derive(Clone, Copy, Debug, PartialEq, Eq)]
 pub enum ReadEnd {
     /// The source has failed.
     Failed,
     /// The source has more bytes than may be read.
     TooLong,
-    /// Memory is wanting.
+    /// Out of memory.
     Memory,
 }
 
@@ -40,9 +40,8 @@ impl From<Failed> for ReadEnd {
 const ROOM: usize = 65_536;
 
 /// Reads to the source's end, which is at most `most` bytes away: at one byte more it stops
-/// reading, and answers `TooLong`. It answers `Failed` where the source does, and `Memory` for want
-/// of memory. It never asks for more than `most + 1` bytes; at `Failed` the source itself says
-/// nothing of what is left.
+/// reading, and answers `TooLong`. It answers `Failed` where the source does, and `Memory` where
+/// memory ran out. Whatever it answers, it has read at most `most + 1` bytes.
 pub fn read_all<S: Source>(alloc: Global, source: &mut S, most: usize) -> Result<Vec<u8>, ReadEnd>
     ensures later { S.faults source.old ≤ S.faults source.new }
     ensures ok { IfOk result (λ bytes.
@@ -50,8 +49,7 @@ pub fn read_all<S: Source>(alloc: Global, source: &mut S, most: usize) -> Result
     ensures fits { IfOk result (λ bytes. length bytes.items ≤ most) }
     ensures too_long { IsErrOf result ReadEnd.TooLong →
         ReadsPast (S.left source.old) (S.left source.new) most }
-    ensures memory { IsErrOf result ReadEnd.Memory →
-        ReadsWithin (S.left source.old) (S.left source.new) (most + 1) }
+    ensures within { ReadsWithin (S.left source.old) (S.left source.new) (most + 1) }
     ensures failed { IsErrOf result ReadEnd.Failed →
         Rose (S.faults source.old) (S.faults source.new) }
 {
@@ -84,9 +82,8 @@ fn read_more<S: Source>(
     ensures too_long { IsErrOf result ReadEnd.TooLong → ((piece : List ℕ)
         × (length bytes.old.items + length piece ≡ most + 1)
         × Consumes (S.left source.old) (S.left source.new) piece) }
-    ensures memory { IsErrOf result ReadEnd.Memory → ((piece : List ℕ)
-        × (length bytes.old.items + length piece ≤ most + 1)
-        × Consumes (S.left source.old) (S.left source.new) piece) }
+    ensures within { OnErr result (ReadsWithin
+        (S.left source.old) (S.left source.new) (most + 1 - length bytes.old.items)) }
     ensures failed { IsErrOf result ReadEnd.Failed →
         Rose (S.faults source.old) (S.faults source.new) }
 {

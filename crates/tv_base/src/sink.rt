@@ -3,17 +3,17 @@
 ghost use Rattle.std.specs.Prelude.{◌≡◌, ℕ, ◌≤◌, List, Option, OnOk, OnErr, IsErrOf};
 ghost use Rattle.std.specs.Io.KnownBytes.{Appends};
 ghost use Rattle.tv_base.specs.Faults.{Rose};
-ghost use Rattle.tv_base.specs.Pieces.{AppendsFront};
+ghost use Rattle.tv_base.specs.Pieces.{AppendsPrefix};
 ghost use Rattle.tv_base.specs.declared.sink.SinkError.TheVariants.{Memory};
 
 use std::alloc::AllocError;
 
 /// Why a piece was not written whole.
-#[derive(Clone, Copy, Debug, PartialEq, Eq, Hash)]
+#[derive(Clone, Copy, Debug, PartialEq, Eq)]
 pub enum SinkError {
     /// The sink has failed.
     Failed,
-    /// Memory is wanting.
+    /// Out of memory.
     Memory,
 }
 
@@ -33,12 +33,12 @@ pub trait Sink {
     /// How often the sink has failed. The count stands still at the greatest `u64`.
     ghost faults: { Self → ℕ };
 
-    /// Appends the piece. At an `Err` some front of it was appended, or nothing: `Failed` comes only
-    /// where the count of faults rose in this call, `Memory` for want of memory.
+    /// Appends the piece. At an `Err` some prefix of it was appended, or nothing: `Failed` comes only
+    /// where the count of faults rose in this call, `Memory` where memory ran out.
     fn write_all(&mut self, piece: &[u8]) -> Result<(), SinkError>
         ensures later { faults self.old ≤ faults self.new }
         ensures written { OnOk result (Appends (held self.old) (held self.new) piece.now) }
-        ensures front { OnErr result (AppendsFront (held self.old) (held self.new) piece.now) }
+        ensures prefix { OnErr result (AppendsPrefix (held self.old) (held self.new) piece.now) }
         ensures failed { IsErrOf result SinkError.Failed →
             Rose (faults self.old) (faults self.new) };
 }

@@ -3,9 +3,10 @@
 ghost use Rattle.std.specs.Prelude.{◌≡◌, ℕ, ◌<◌, ◌≤◌, List, Option, length, take, IfOk, OnErr};
 ghost use Rattle.std.specs.Io.KnownBytes.{Consumes, IsAtEnd};
 ghost use Rattle.tv_base.specs.Faults.{Rose};
+ghost use Rattle.tv_base.specs.Pieces.{ReadsWithin};
 
 /// A fault of an object that was handed in.
-#[derive(Clone, Copy, Debug, PartialEq, Eq, Hash)]
+#[derive(Clone, Copy, Debug, PartialEq, Eq)]
 pub struct Failed;
 
 /// Gives bytes from the first to the last, in pieces of any length.
@@ -16,14 +17,16 @@ pub trait Source {
     /// How often the source has failed. The count stands still at the greatest `u64`.
     ghost faults: { Self → ℕ };
 
-    /// Puts the next bytes into the front of the room, and says how many they are.
-    /// 0 bytes into a room that isn't empty is the end. `Failed` comes only where the count of faults
-    /// rose in this call, and then nothing is said of what is left.
+    /// Puts the next bytes at the beginning of the room, and says how many they are. 0 bytes into a
+    /// room that isn't empty is the end. `Failed` comes only where the count of faults rose in this
+    /// call, and then no more bytes are lost than the room has.
     fn read(&mut self, room: &mut [u8]) -> Result<usize, Failed>
         ensures later { faults self.old ≤ faults self.new }
         ensures fits { IfOk result (λ n. n ≤ length room.new) }
         ensures bytes { IfOk result (λ n.
             Consumes (left self.old) (left self.new) (take n room.new)) }
         ensures end { IfOk result (λ n. n ≡ 0 → 0 < length room.new → IsAtEnd (left self.new)) }
-        ensures failed { OnErr result (Rose (faults self.old) (faults self.new)) };
+        ensures failed { OnErr result (Rose (faults self.old) (faults self.new)) }
+        ensures lost { OnErr result
+            (ReadsWithin (left self.old) (left self.new) (length room.new)) };
 }

@@ -1,9 +1,10 @@
-//! std's writers as sinks. As sinks they tell nothing of their bytes; what a writer itself tells is kept.
+//! std's writers as sinks. As sinks they tell nothing of their bytes; what a writer itself tells is
+//! kept.
 
 ghost use Rattle.std.specs.Prelude.{◌≡◌, ◌≢◌, ◌≤◌, None, OnOk, OnErr, IsErrOf, is_ok, if◌then◌else◌};
 ghost use Rattle.std.specs.Io.KnownBytes.{Appends};
 ghost use Rattle.tv_base.specs.Faults.{Rose, one_more};
-ghost use Rattle.tv_base.specs.Pieces.{AppendsFront};
+ghost use Rattle.tv_base.specs.Pieces.{AppendsPrefix};
 ghost use Rattle.tv_base.specs.Standard.{writer_of, sink_faults};
 
 use crate::{Failed, Sink, SinkError};
@@ -31,7 +32,7 @@ impl<W: Write> StdSink<W> {
 fn write_and_flush<W: Write>(writer: &mut W, piece: &[u8]) -> Result<(), Failed>
     ensures ok { OnOk result (Appends (W.contents writer.old) (W.contents writer.new) piece.now) }
     ensures err { OnErr result
-        (AppendsFront (W.contents writer.old) (W.contents writer.new) piece.now) }
+        (AppendsPrefix (W.contents writer.old) (W.contents writer.new) piece.now) }
 {
     let mut rest = piece;
     while !rest.is_empty() {
@@ -54,11 +55,11 @@ impl<W: Write> Sink for StdSink<W> {
     fn write_all(&mut self, piece: &[u8]) -> Result<(), SinkError>
         ensures later { sink_faults self.old ≤ sink_faults self.new }
         ensures written { OnOk result (Appends None None piece.now) }
-        ensures front { OnErr result (AppendsFront None None piece.now) }
+        ensures prefix { OnErr result (AppendsPrefix None None piece.now) }
         ensures failed { IsErrOf result SinkError.Failed →
             Rose (sink_faults self.old) (sink_faults self.new) }
 
-        // Each Err is counted, and nothing else is. It wants no memory.
+        // Each Err is counted, and nothing else is. It takes no memory.
         ensures counted { sink_faults self.new
             ≡ (if is_ok result then sink_faults self.old else one_more (sink_faults self.old)) }
         ensures memory { result ≢ Err SinkError.Memory }
@@ -66,7 +67,7 @@ impl<W: Write> Sink for StdSink<W> {
         // What the writer itself tells of its bytes.
         ensures writer { OnOk result
             (Appends (W.contents (writer_of self.old)) (W.contents (writer_of self.new)) piece.now) }
-        ensures writer_front { OnErr result (AppendsFront
+        ensures writer_prefix { OnErr result (AppendsPrefix
             (W.contents (writer_of self.old)) (W.contents (writer_of self.new)) piece.now) }
     {
         match write_and_flush(&mut self.writer, piece) {

@@ -23,7 +23,7 @@ returns-in_err-pair-clause-fault c = λ f is.
 pub loop-reader-smaller : goal.loop-reader-smaller
 loop-reader-smaller c =
     let gives = subst (λ r. Gives c.loop-reader.groups r c.next.new.self) (c.in_ok-pair.was ∙ ap Ok c.in-Some.is) c.next.ensures in
-    let l = ap (λ (ps : Pairs). length ps.pairs) gives.1 in omega (arith, l)
+    let l = ap (λ (ps : Pairs). length ps.pairs) gives.first in omega (arith, l)
 
 pub loop-reader-preserved : goal.loop-reader-preserved
 loop-reader-preserved c =

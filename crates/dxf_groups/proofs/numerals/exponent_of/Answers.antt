@@ -4,4 +4,8 @@ use Rattle.std.proofs.lemmas.List.{nil_from_length}
 use Rattle.dxf_groups.proofs.numerals.exponent_of.Goals as goal
 
 pub returns-in-empty : goal.returns-in-empty
-returns-in-empty c = (pos 0, rw (nil_from_length c.args.text.now (omega arith)) refl, (0, refl, refl))
+returns-in-empty c = record {
+  value = pos 0;
+  is = rw (nil_from_length c.args.text.now (omega arith)) refl;
+  is_kept = record { magnitude = 0; value = refl; kept_as = refl };
+}

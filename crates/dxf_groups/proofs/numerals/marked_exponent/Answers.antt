@@ -13,8 +13,16 @@ returns c =
     let negative = c.split_sign-negative.result.0 in
     let digits = c.split_digits.result.0.now in
     let rest = c.split_digits.result.1.now in
-    let read = signed_digits negative digits rest (eqb-false (length digits) 0 (sym c.if-is_empty.ensures)) (eqb-true (length rest) 0 (sym c.if-not-is_empty.ensures)) in (
-      with_sign negative (digits_value 10 digits),
-      marked_by_parts c.args.text.now negative c.split_sign-negative.result.1.now digits rest sign.negative sign.rest split.front split.past ∙ read,
-      (digits_value 10 digits, refl, c.number_after-size.ensures),
-    )
+    let read = signed_digits negative digits rest (eqb-false (length digits) 0 (sym c.if-is_empty.ensures))
+    (eqb-true (length rest) 0 (sym c.if-not-is_empty.ensures)) in
+    record {
+      value = with_sign negative (digits_value 10 digits);
+      is =
+          marked_by_parts c.args.text.now negative c.split_sign-negative.result.1.now digits rest
+          sign.negative sign.rest split.leading split.past ∙ read;
+      is_kept = record {
+        magnitude = digits_value 10 digits;
+        value = refl;
+        kept_as = c.number_after-magnitude.ensures;
+      };
+    }

@@ -1,4 +1,4 @@
--- The digits that pass a point moved to the left are all 0, or the size isn't whole.
+-- The digits that pass a point moved to the left are all 0, or the magnitude isn't whole.
 use Rattle.std.proofs.Common.{◌∙◌, subst, refl, arith}
 use Rattle.std.specs.Str.Parse.{AllDigits}
 use Rattle.std.proofs.lemmas.Bool.{false≢true}

@@ -1,4 +1,4 @@
--- The digits that a point moved to the right doesn't pass are all 0, or the size isn't whole.
+-- The digits that a point moved to the right doesn't pass are all 0, or the magnitude isn't whole.
 use Rattle.std.proofs.Common.{◌∙◌, ◌*◌, ◌^◌, subst, refl, ap, arith}
 use Rattle.std.specs.Str.Parse.{AllDigits}
 use Rattle.dxf_groups.specs.NumeralParts.{capped}

@@ -12,7 +12,8 @@ returns-in_default-clause-value c =
     let sign = c.split_sign-negative.ensures in
     let digits = c.split_digits.ensures in
     let places = c.split_places.ensures in
-    no_exponent _ _ _ _ _ _ _ (sign.negative, sign.rest, digits.front, digits.past, places.front, places.past) c.in_default.ensures
+    no_exponent _ _ _ _ _ _ _ sign.negative sign.rest digits.leading digits.past places.leading places.past
+    c.in_default.ensures
 
 pub returns-then-is_empty-2-clause-value : goal.returns-then-is_empty-2-clause-value
 returns-then-is_empty-2-clause-value c =
@@ -20,8 +21,8 @@ returns-then-is_empty-2-clause-value c =
     let digits = c.split_digits.ensures in
     let places = c.split_places.ensures in
     let exponent = c.in-Some.ensures in
-    no_digit _ _ _ _ _ _ _ (sign.negative, sign.rest, digits.front, digits.past, places.front, places.past)
-    exponent.0 exponent.1 (eqb-true _ 0 (sym c.if-is_empty.ensures)) (eqb-true _ 0 (sym c.if-is_empty-2.ensures))
+    no_digit _ _ _ _ _ _ _ sign.negative sign.rest digits.leading digits.past places.leading places.past
+    exponent.value exponent.is (eqb-true _ 0 (sym c.if-is_empty.ensures)) (eqb-true _ 0 (sym c.if-is_empty-2.ensures))
 
 pub returns-clause-value : goal.returns-clause-value
 returns-clause-value c =
@@ -29,9 +30,9 @@ returns-clause-value c =
     let digits = c.split_digits.ensures in
     let places = c.split_places.ensures in
     let exponent = c.in-Some.ensures in
-    c.within_reach.ensures _ (c.size.ensures exponent.0 exponent.2)
-    ∙ sym (with_digit _ _ _ _ _ _ _ (sign.negative, sign.rest, digits.front, digits.past, places.front, places.past) exponent.0 exponent.1
-    (λ none_before none_after. elim c.else-is_empty.branch [
+    c.within_reach.ensures _ (c.magnitude.ensures exponent.value exponent.is_kept)
+    ∙ sym (with_digit _ _ _ _ _ _ _ sign.negative sign.rest digits.leading digits.past places.leading places.past
+    exponent.value exponent.is (λ none_before none_after. elim c.else-is_empty.branch [
       | else-is_empty-via-then-is_empty+else-is_empty-2 w ↦ eqb-false _ 0 (sym w.if-is_empty-2.ensures) none_after
       | else-is_empty-via-else-is_empty w ↦ eqb-false _ 0 (sym w.if-is_empty.ensures) none_before
     ]))

@@ -1,5 +1,5 @@
 use Rattle.std.proofs.Common.{◌-◌, length}
-use Rattle.dxf_groups.specs.Reading.{IsReadFrom}
+use Rattle.dxf_groups.specs.ReadPairs.{IsReadFrom}
 use Rattle.dxf_groups.proofs.pairs.pair_from.Given as goal
 
 -- the comments so far are passed over

@@ -1,0 +1,43 @@
+-- A pair that is read at a place of a text, and what is left then.
+use Rattle.std.specs.Prelude.{◌≡◌, ◌≤◌, ◌<◌, ◌+◌, ℕ, List, length, drop, Option, Some, None, Result, Ok, Err}
+use Rattle.solid_model.specs.declared.fault.Fault.{Fault}
+use Rattle.solid_model.specs.Limits.{most_text_bytes}
+use Rattle.dxf_groups.specs.declared.pairs.ReadPair.{ReadPair}
+use Rattle.dxf_groups.specs.Pairs.{Pairs, ended, text_pair, pair_before, pairs_from}
+use Rattle.dxf_groups.specs.Spans.{IsSpanIn, span_of}
+use Rattle.dxf_groups.specs.TextLines.{contents_of}
+
+-- a place in a text of at most so many bytes; each line before it has a byte of its own, its line feed
+pub record IsPlaceIn (text : List ℕ) (place line : ℕ) : Type 0 where
+  pub short : length text ≤ most_text_bytes
+  pub within : place ≤ length text
+  pub counted : line ≤ place + 1
+
+-- the pairs of a text from this place on, where a line with this number begins
+abbrev pub pairs_at : List ℕ → ℕ → ℕ → Pairs
+pairs_at text place line = pairs_from line (contents_of (drop place text))
+
+-- the pair was read at or after this place, and what is left begins after it
+pub record IsReadFrom (text : List ℕ) (place line : ℕ) (read : ReadPair) : Type 0 where
+  pub span : IsSpanIn text read.pair.value
+  pub goes_on : place < read.after
+  pub place_after : IsPlaceIn text read.after (read.pair.line + 2)
+  pub pairs : pairs_at text place line
+      ≡ pair_before (text_pair read.pair (span_of text read.pair.value))
+      (pairs_at text read.after (read.pair.line + 2))
+
+-- the answer of a reading at this place: a pair, or the fault that the text ends with there
+abbrev pub IsReading : List ℕ → ℕ → ℕ → Result ReadPair Fault → Type 0
+IsReading text place line (Ok read) = IsReadFrom text place line read
+IsReading text place line (Err fault) = pairs_at text place line ≡ ended (Err fault)
+
+-- what is left of a text: nothing but the ending, once that was read
+abbrev pub left_from : List ℕ → ℕ → ℕ → Option (Result ℕ Fault) → Pairs
+left_from text place line None = pairs_at text place line
+left_from text place line (Some ending) = ended ending
+
+-- the line of the end pair's code, once that was read
+abbrev pub end_line_of : Option (Result ℕ Fault) → Option ℕ
+end_line_of None = None
+end_line_of (Some (Ok line)) = Some line
+end_line_of (Some (Err fault)) = None
