@@ -4,7 +4,6 @@ ghost use Rattle.std.specs.Prelude.{◌≡◌, ◌≤◌, List, Bool, ◌++◌, 
 ghost use Rattle.solid_model.specs.declared.segment.Segment.{Segment};
 ghost use Rattle.solid_model.specs.declared.segment.Style.{Style};
 ghost use Rattle.solid_model.specs.Choices.{AreChoicesThat, IsMatchingChoice};
-ghost use Rattle.solid_model.specs.Grid.{grid_cell_count};
 ghost use Rattle.solid_model.specs.Limits.{most_cells};
 ghost use Rattle.solid_model.specs.Panels.{coordinates_of, IsGridOf};
 ghost use Rattle.solid_model.specs.Runs.{IsDrawing};
@@ -21,7 +20,6 @@ fn try_choice(
     cells: &mut Vec<bool>,
     found: &mut Vec<Choice>,
 ) -> Result<(), Memory>
-    requires cells { length wanted.now.items.now ≡ grid_cell_count (coordinates_of wanted.now.grid.now) }
     ensures { OnOk result ((new : List (List Bool)) × (found.new.items ≡ found.old.items ++ new)
         × AreChoicesFrom wanted.now.grid.now wanted.now.items.now choice.now (length choice.now) new) }
 {
@@ -41,7 +39,6 @@ fn try_rest(
     found: &mut Vec<Choice>,
 ) -> Result<(), Memory>
     requires chosen { chosen ≤ length choice.old }
-    requires cells { length wanted.now.items.now ≡ grid_cell_count (coordinates_of wanted.now.grid.now) }
     ensures length { length choice.new ≡ length choice.old }
     ensures chosen { OnOk result (take chosen choice.new ≡ take chosen choice.old) }
     ensures found { OnOk result ((new : List (List Bool)) × (found.new.items ≡ found.old.items ++ new)
@@ -57,15 +54,15 @@ fn try_rest(
     try_rest(choice, chosen + 1, wanted, cells, found)
 }
 
-/// All choices of `count` items whose solid has the grid's drawing, in the stated order, where `items` says for each grid cell
-/// which item it belongs to, if any. `Memory` comes for want of memory.
+/// All choices of `count` items whose solid has the grid's drawing, in the stated order. For each grid
+/// cell `items` says to which item it belongs; one that belongs to none of them is empty. Every choice
+/// is drawn and compared, so that `count` is small. `Memory` comes for want of memory.
 pub fn matching_choices(
     alloc: Global,
     grid: &Grid,
     items: &[Option<u16>],
     count: u16,
 ) -> Result<Vec<Choice>, Memory>
-    requires cells { length items.now ≡ grid_cell_count (coordinates_of grid.now) }
     requires few { count ≤ most_cells }
     ensures { IfOk result (λ choices. (drawing : Segment → Style) → IsDrawing drawing
         → IsGridOf drawing grid.now → AreChoicesThat

@@ -1,14 +1,13 @@
 //! What a choice fills, compared with what is wanted.
 
-ghost use Rattle.std.specs.Prelude.{◌≡◌, ◌↔◌, length, IsTrue, IfOk, OnOk};
+ghost use Rattle.std.specs.Prelude.{◌≡◌, ◌↔◌, IsTrue, IfOk, OnOk};
 ghost use Rattle.solid_model.specs.declared.segment.Segment.{Segment};
 ghost use Rattle.solid_model.specs.declared.segment.Style.{Style};
 ghost use Rattle.solid_model.specs.Choices.{is_chosen, cells_of_choice, IsMatchingChoice};
-ghost use Rattle.solid_model.specs.Grid.{grid_cell_count};
 ghost use Rattle.solid_model.specs.Panels.{coordinates_of, IsGridOf};
 ghost use Rattle.solid_model.specs.Runs.{IsDrawing};
 
-use crate::stand_in::draw_cells;
+use columns::draw_cells;
 use solid_model::{Grid, Memory};
 
 /// What choices are compared with: a grid, and the item to which each of its cells belongs.
@@ -39,13 +38,13 @@ fn fill(cells: &mut Vec<bool>, items: &[Option<u16>], choice: &[bool]) -> Result
     Ok(())
 }
 
-/// The solid that the choice fills has the grid's drawing. `cells` is room for the cells that it fills.
+/// The solid that the choice fills has the grid's drawing. `cells` is room for the grid cells that it
+/// fills.
 pub fn is_matching(
     wanted: &Wanted<'_>,
     choice: &[bool],
     cells: &mut Vec<bool>,
 ) -> Result<bool, Memory>
-    requires cells { length wanted.now.items.now ≡ grid_cell_count (coordinates_of wanted.now.grid.now) }
     ensures { IfOk result (λ matching. (drawing : Segment → Style) → IsDrawing drawing
         → IsGridOf drawing wanted.now.grid.now → IsTrue matching
         ↔ IsMatchingChoice drawing (coordinates_of wanted.now.grid.now) wanted.now.items.now choice.now) }

@@ -1,8 +1,8 @@
-//! The plain search: every choice of a few items, each of them some of a grid's cells, is drawn and compared with the grid.
+//! The plain search: every choice of a few items, each of them some of a grid's cells, is drawn and
+//! compared with the grid.
 #![tactic(auto)]
 
 mod choices;
 mod filling;
-mod stand_in;
 
 pub use choices::matching_choices;

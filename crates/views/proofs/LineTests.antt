@@ -1,4 +1,4 @@
--- What a line covers, as a stretch.
+-- What a line covers, as a stroke.
 use Rattle.std.proofs.Common.{◌≡◌, ℕ, ◌+◌, ◌<◌, Bool, true, false, not, ◌&&◌, ◌||◌, List, [], ◌∷◌, ◌++◌, length, get_or, drop, if◌then◌else◌, ℤ, ◌+ℤ◌, ◌-ℤ◌, int_lt, int_le, int_eq, refl, sym, ap, ap₂, ◌∙◌, arith}
 use Rattle.std.specs.Int.{int_min, int_max}
 use Rattle.std.specs.List.{list_any}
@@ -12,15 +12,14 @@ use Rattle.solid_model.specs.declared.frame.View.{View}
 use Rattle.solid_model.specs.declared.frame.View.TheVariants.{Front, Top, Side}
 use Rattle.solid_model.specs.declared.segment.Segment.{Segment}
 use Rattle.solid_model.specs.declared.segment.Style.{Style}
-use Rattle.solid_model.specs.declared.runs.Run.{Run}
 use Rattle.solid_model.specs.Drawings.{same_view, same_style, is_between, covers, is_covered}
 use Rattle.solid_model.specs.Segments.{along_of, across_of, start_of, line_of}
 use Rattle.solid_model.specs.Line.{Line}
-use Rattle.solid_model.specs.Runs.{run_covers}
 use Rattle.views.specs.declared.corner.Corner.{Corner}
+use Rattle.views.specs.declared.strokes.Stroke.{Stroke}
 use Rattle.views.specs.Corners.{from_corner}
-use Rattle.views.specs.LineStretches.{runs_in, stretch_of}
-use Rattle.views.specs.Stretches.{is_drawn}
+use Rattle.views.specs.LineStrokes.{covers_along, stroke_of}
+use Rattle.views.specs.Strokes.{stroke_covers, is_drawn}
 
 -- ---- places along and across
 
@@ -67,7 +66,7 @@ regrouped true second within together same h k = ap (λ s. s && within) (h refl)
     rest true true false k = refl
 
 -- Both ends of a line lie on the place's line j and the place z between them, on the sheet, where the corner stands at
--- `across` and `along`: then, and only then, the line runs that way, has length, and its stretch covers the place.
+-- `across` and `along`: then, and only then, the line runs that way, has length, and its stroke covers the place.
 place_tests : (a0 a1 b0 b1 j z across along : ℤ)
     → (int_eq a0 (j +ℤ across) && (int_eq a1 (j +ℤ across) && is_between b0 b1 (z +ℤ along)))
     ≡ ((int_eq a0 a1 && not (int_eq b0 b1)) && (int_eq (a0 -ℤ across) j && (int_le (int_min b0 b1 -ℤ along) z && int_lt z (int_max b0 b1 -ℤ along))))
@@ -110,30 +109,30 @@ kind_tests : (upright : Bool) (x0 y0 x1 y1 right up left bottom : ℤ)
 kind_tests true x0 y0 x1 y1 right up left bottom = place_tests x0 x1 y0 y1 right up left bottom
 kind_tests false x0 y0 x1 y1 right up left bottom = place_tests y0 y1 x0 x1 up right bottom left
 
--- a line covers a segment of the sheet where it is the view's, runs as the segment does, has length, and its stretch covers
+-- a line covers a segment of the sheet where it is the view's, runs as the segment does, has length, and its stroke covers
 -- the segment in the view
 pub covers_is : (corner : Corner) (l : Line) (g : Segment)
-    → covers l (from_corner corner g) ≡ (runs_in g.view g.upright l && run_covers (line_of g) (start_of g) (stretch_of corner g.upright l))
+    → covers l (from_corner corner g) ≡ (covers_along g.view g.upright l && stroke_covers (line_of g) (start_of g) (stroke_of corner g.upright l))
 covers_is corner l g =
     ap₂ ◌&&◌ (same_view-turned l.of g.view) (kind_tests g.upright l.x0 l.y0 l.x1 l.y1 g.right g.up corner.right corner.up)
     ∙ and_grouped (same_view g.view l.of) _ _
 
 -- ---- from line to line
 
--- stretches draw the segment in a style, or one of these lines covers it in that style
-abbrev pub is_met : Style → Corner → Segment → List Run → List Line → Bool
+-- strokes draw the segment in a style, or one of these lines covers it in that style
+abbrev pub is_met : Style → Corner → Segment → List Stroke → List Line → Bool
 is_met style corner g ss ls = list_any (is_drawn style (line_of g) (start_of g)) ss || is_covered style ls (from_corner corner g)
 
--- a line that runs as the segment does becomes a stretch
-pub line_taken : (style : Style) (corner : Corner) (g : Segment) (ss : List Run) (l : Line) (ls : List Line) → runs_in g.view g.upright l ≡ true
-    → is_met style corner g (ss ++ stretch_of corner g.upright l ∷ []) ls ≡ is_met style corner g ss (l ∷ ls)
+-- a line that runs as the segment does becomes a stroke
+pub line_taken : (style : Style) (corner : Corner) (g : Segment) (ss : List Stroke) (l : Line) (ls : List Line) → covers_along g.view g.upright l ≡ true
+    → is_met style corner g (ss ++ stroke_of corner g.upright l ∷ []) ls ≡ is_met style corner g ss (l ∷ ls)
 line_taken style corner g ss l ls runs =
     let p = is_drawn style (line_of g) (start_of g) in
     let rest = is_covered style ls (from_corner corner g) in
-    let own : covers l (from_corner corner g) ≡ run_covers (line_of g) (start_of g) (stretch_of corner g.upright l) =
-    covers_is corner l g ∙ ap (λ t. t && run_covers (line_of g) (start_of g) (stretch_of corner g.upright l)) runs in
-    ap (λ t. t || rest) (list_any-append p ss (stretch_of corner g.upright l ∷ []))
-    ∙ or_grouped (list_any p ss) (p (stretch_of corner g.upright l)) rest
+    let own : covers l (from_corner corner g) ≡ stroke_covers (line_of g) (start_of g) (stroke_of corner g.upright l) =
+    covers_is corner l g ∙ ap (λ t. t && stroke_covers (line_of g) (start_of g) (stroke_of corner g.upright l)) runs in
+    ap (λ t. t || rest) (list_any-append p ss (stroke_of corner g.upright l ∷ []))
+    ∙ or_grouped (list_any p ss) (p (stroke_of corner g.upright l)) rest
     ∙ ap (λ t. list_any p ss || ((same_style style l.style && t) || rest)) (sym own)
   where
     or_grouped : (a b c : Bool) → ((a || (b || false)) || c) ≡ (a || (b || c))
@@ -142,11 +141,11 @@ line_taken style corner g ss l ls runs =
     or_grouped false false c = refl
 
 -- any other line covers it no more than the rest does
-pub line_passed : (style : Style) (corner : Corner) (g : Segment) (ss : List Run) (l : Line) (ls : List Line) → runs_in g.view g.upright l ≡ false
+pub line_passed : (style : Style) (corner : Corner) (g : Segment) (ss : List Stroke) (l : Line) (ls : List Line) → covers_along g.view g.upright l ≡ false
     → is_met style corner g ss ls ≡ is_met style corner g ss (l ∷ ls)
 line_passed style corner g ss l ls runs =
     let none : covers l (from_corner corner g) ≡ false =
-    covers_is corner l g ∙ ap (λ t. t && run_covers (line_of g) (start_of g) (stretch_of corner g.upright l)) runs in
+    covers_is corner l g ∙ ap (λ t. t && stroke_covers (line_of g) (start_of g) (stroke_of corner g.upright l)) runs in
     ap (λ t. list_any (is_drawn style (line_of g) (start_of g)) ss || t) (sym (ap (λ t. (same_style style l.style && t) || is_covered style ls (from_corner corner g)) none ∙ alone (same_style style l.style) _))
   where
     alone : (a b : Bool) → ((a && false) || b) ≡ b
@@ -154,7 +153,7 @@ line_passed style corner g ss l ls runs =
     alone false b = refl
 
 -- the next line of those left
-pub next_met : (style : Style) (corner : Corner) (g : Segment) (ss : List Run) (lines : List Line) (i : ℕ) (l : Line) → i < length lines → l ≡ get_or lines i l
+pub next_met : (style : Style) (corner : Corner) (g : Segment) (ss : List Stroke) (lines : List Line) (i : ℕ) (l : Line) → i < length lines → l ≡ get_or lines i l
     → is_met style corner g ss (l ∷ drop (i + 1) lines) ≡ is_met style corner g ss (drop i lines)
 next_met style corner g ss lines i l within e =
     ap (λ m. is_met style corner g ss (m ∷ drop (i + 1) lines)) e ∙ sym (at_drop_more (is_met style corner g ss) lines i l within)

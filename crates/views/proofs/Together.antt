@@ -1,23 +1,14 @@
--- What stretches draw together.
+-- What strokes draw together.
 use Rattle.std.proofs.Common.{◌≡◌, Bool, true, false, ◌&&◌, ◌||◌, if◌then◌else◌, List, [], ◌∷◌, ◌++◌, ℤ, refl, sym, ap, ap₂, ◌∙◌}
 use Rattle.std.specs.List.{list_any}
 use Rattle.std.proofs.lemmas.List.Folds.{list_any-append}
-use Rattle.solid_model.specs.declared.runs.Run.{Run}
 use Rattle.solid_model.specs.declared.segment.Style.{Style}
 use Rattle.solid_model.specs.declared.segment.Style.TheVariants.{Blank, Dashed, Solid}
 use Rattle.solid_model.specs.Drawings.{same_style}
-use Rattle.solid_model.specs.Runs.{run_covers}
-use Rattle.views.specs.Stretches.{is_drawn, stretch_style}
+use Rattle.views.specs.declared.strokes.Stroke.{Stroke}
+use Rattle.views.specs.Strokes.{stroke_covers, is_drawn, stroke_style, stronger}
 
 -- ---- the stronger of two styles
-
--- of two styles solid wins, then dashed
-abbrev pub stronger : Style → Style → Style
-stronger Solid b = Solid
-stronger Dashed Solid = Solid
-stronger Dashed Dashed = Dashed
-stronger Dashed Blank = Dashed
-stronger Blank b = b
 
 -- of three styles, in either grouping
 pub stronger_assoc : (a b c : Style) → stronger (stronger a b) c ≡ stronger a (stronger b c)
@@ -51,9 +42,9 @@ stronger-blank Solid = refl
 stronger-blank Dashed = refl
 stronger-blank Blank = refl
 
--- ---- one list of stretches after another
+-- ---- one list of strokes after another
 
--- the style by whether a solid and whether a dashed stretch covers
+-- the style by whether a solid and whether a dashed stroke covers
 abbrev chosen : Bool → Bool → Style
 chosen solid dashed = if solid then Solid else (if dashed then Dashed else Blank)
 
@@ -66,13 +57,13 @@ chosen-or false false true true = refl
 chosen-or false false true false = refl
 chosen-or false false false d = refl
 
--- two lists of stretches draw the stronger of what each draws
-pub stretch_style-append : (xs ys : List Run) (j z : ℤ) → stretch_style (xs ++ ys) j z ≡ stronger (stretch_style xs j z) (stretch_style ys j z)
-stretch_style-append xs ys j z =
+-- two lists of strokes draw the stronger of what each draws
+pub stroke_style-append : (xs ys : List Stroke) (j z : ℤ) → stroke_style (xs ++ ys) j z ≡ stronger (stroke_style xs j z) (stroke_style ys j z)
+stroke_style-append xs ys j z =
     ap₂ chosen (list_any-append (is_drawn Solid j z) xs ys) (list_any-append (is_drawn Dashed j z) xs ys)
     ∙ chosen-or (list_any (is_drawn Solid j z) xs) (list_any (is_drawn Solid j z) ys) (list_any (is_drawn Dashed j z) xs) (list_any (is_drawn Dashed j z) ys)
 
--- a style where a stretch covers, else blank
+-- a style where a stroke covers, else blank
 abbrev pub drawn_if : Bool → Style → Style
 drawn_if covers style = if covers then style else Blank
 
@@ -91,7 +82,7 @@ pub and-or : (t a b : Bool) → (t && (a || b)) ≡ ((t && a) || (t && b))
 and-or true a b = refl
 and-or false a b = refl
 
--- with one stretch the choice is its style where it covers
+-- with one stroke the choice is its style where it covers
 chosen_one : (style : Style) (covers : Bool) → chosen ((same_style Solid style && covers) || false) ((same_style Dashed style && covers) || false) ≡ drawn_if covers style
 chosen_one Solid true = refl
 chosen_one Solid false = refl
@@ -100,23 +91,15 @@ chosen_one Dashed false = refl
 chosen_one Blank true = refl
 chosen_one Blank false = refl
 
--- one stretch draws its style where it covers
-pub stretch_style-one : (r : Run) (j z : ℤ) → stretch_style (r ∷ []) j z ≡ drawn_if (run_covers j z r) r.style
-stretch_style-one r j z = chosen_one r.style (run_covers j z r)
+-- one stroke draws its style where it covers
+pub stroke_style-one : (r : Stroke) (j z : ℤ) → stroke_style (r ∷ []) j z ≡ drawn_if (stroke_covers j z r) r.style
+stroke_style-one r j z = chosen_one r.style (stroke_covers j z r)
 
--- two stretches
-pub stretch_style-two : (r s : Run) (j z : ℤ) → stretch_style (r ∷ s ∷ []) j z ≡ stronger (drawn_if (run_covers j z r) r.style) (drawn_if (run_covers j z s) s.style)
-stretch_style-two r s j z = stretch_style-append (r ∷ []) (s ∷ []) j z ∙ ap₂ stronger (stretch_style-one r j z) (stretch_style-one s j z)
+-- two strokes
+pub stroke_style-two : (r s : Stroke) (j z : ℤ) → stroke_style (r ∷ s ∷ []) j z ≡ stronger (drawn_if (stroke_covers j z r) r.style) (drawn_if (stroke_covers j z s) s.style)
+stroke_style-two r s j z = stroke_style-append (r ∷ []) (s ∷ []) j z ∙ ap₂ stronger (stroke_style-one r j z) (stroke_style-one s j z)
 
--- one more stretch
-pub stretch_style-push : (xs : List Run) (r : Run) (j z : ℤ) → stretch_style (xs ++ r ∷ []) j z ≡ stronger (stretch_style xs j z) (drawn_if (run_covers j z r) r.style)
-stretch_style-push xs r j z = stretch_style-append xs (r ∷ []) j z ∙ ap (stronger (stretch_style xs j z)) (stretch_style-one r j z)
-
--- in front
-pub stretch_style-cons : (r : Run) (xs : List Run) (j z : ℤ) → stretch_style (r ∷ xs) j z ≡ stronger (drawn_if (run_covers j z r) r.style) (stretch_style xs j z)
-stretch_style-cons r xs j z = stretch_style-append (r ∷ []) xs j z ∙ ap (λ s. stronger s (stretch_style xs j z)) (stretch_style-one r j z)
-
--- one more stretch after lists that draw the same
-pub stretch_style-push_same : (xs ys : List Run) (r : Run) (j z : ℤ) → stretch_style xs j z ≡ stretch_style ys j z → stretch_style (xs ++ r ∷ []) j z ≡ stretch_style (ys ++ r ∷ []) j z
-stretch_style-push_same xs ys r j z e =
-    stretch_style-push xs r j z ∙ ap (λ s. stronger s (drawn_if (run_covers j z r) r.style)) e ∙ sym (stretch_style-push ys r j z)
+-- one more stroke beside what strokes draw
+pub one_more_seen : (before : Style) (ss : List Stroke) (s : Stroke) (j z : ℤ) → before ≡ stroke_style ss j z
+    → stronger before (stroke_style (s ∷ []) j z) ≡ stroke_style (ss ++ s ∷ []) j z
+one_more_seen before ss s j z e = ap (λ b. stronger b (stroke_style (s ∷ []) j z)) e ∙ sym (stroke_style-append ss (s ∷ []) j z)

@@ -1,4 +1,5 @@
 pub mod Corners
-pub mod Stretches
-pub mod LineStretches
+pub mod Strokes
+pub mod LineStrokes
+pub mod Joined
 pub mod Sweeps

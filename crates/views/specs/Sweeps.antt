@@ -1,27 +1,36 @@
--- What a sweep over stretches has seen.
-use Rattle.std.specs.Prelude.{◌≡◌, List, [], ◌∷◌, ◌++◌, ℤ}
-use Rattle.solid_model.specs.declared.runs.Run.{Run}
+-- What a sweep over strokes has seen.
+use Rattle.std.specs.Prelude.{◌≡◌, List, [], ◌∷◌, ℤ}
 use Rattle.solid_model.specs.declared.segment.Style.{Style}
 use Rattle.solid_model.specs.declared.segment.Style.TheVariants.{Dashed, Solid}
-use Rattle.solid_model.specs.Runs.{AreRuns}
+use Rattle.solid_model.specs.Runs.{run_style, AreRuns}
+use Rattle.views.specs.declared.strokes.Stroke.{Stroke}
 use Rattle.views.specs.declared.sweep.Sweep.{Sweep}
-use Rattle.views.specs.Stretches.{stretch_style, EndBy}
+use Rattle.views.specs.Joined.{EndBy}
+use Rattle.views.specs.Strokes.{stroke_style, stronger}
 
--- a stretch, by its parts
-abbrev pub stretch : ℤ → ℤ → ℤ → Style → Run
-stretch at from to style = record { at = at; from = from; to = to; style = style }
+-- a stroke, by its parts
+abbrev pub stroke : ℤ → ℤ → ℤ → Style → Stroke
+stroke at from to style = record { at = at; from = from; to = to; style = style }
 
 -- what reaches beyond the place at which the sweep stands
-abbrev pub open_stretches : Sweep → List Run
-open_stretches s = stretch s.at s.from s.solid_to Solid ∷ stretch s.at s.from s.dashed_to Dashed ∷ []
+abbrev pub open_strokes : Sweep → List Stroke
+open_strokes s = stroke s.at s.from s.solid_to Solid ∷ stroke s.at s.from s.dashed_to Dashed ∷ []
 
--- what it has seen: its runs, and what reaches beyond
-abbrev pub seen : Sweep → List Run
-seen s = s.runs.items ++ open_stretches s
+-- the style that it has seen there: of its runs, or of what reaches beyond
+abbrev pub seen_style : Sweep → ℤ → ℤ → Style
+seen_style s j z = stronger (run_style s.runs.items j z) (stroke_style (open_strokes s) j z)
 
--- the sweep has seen what these stretches draw
-abbrev pub HasSeen : List Run → Sweep → Type 0
-HasSeen rs s = (j z : ℤ) → stretch_style (seen s) j z ≡ stretch_style rs j z
+-- the sweep has seen what these strokes draw
+abbrev pub HasSeen : List Stroke → Sweep → Type 0
+HasSeen ss s = (j z : ℤ) → seen_style s j z ≡ stroke_style ss j z
+
+-- it has seen what another has
+abbrev pub HasSeenAs : Sweep → Sweep → Type 0
+HasSeenAs other s = (j z : ℤ) → seen_style s j z ≡ seen_style other j z
+
+-- it has seen what another has, and the stroke
+abbrev pub HasSeenWith : Stroke → Sweep → Sweep → Type 0
+HasSeenWith p other s = (j z : ℤ) → seen_style s j z ≡ stronger (seen_style other j z) (stroke_style (p ∷ []) j z)
 
 -- what is kept as the sweep goes on: its runs are in order and maximal, and end by the place at which it stands
 pub record KeepsRuns (s : Sweep) : Type 0 where

@@ -3,7 +3,7 @@
 
 mod corner;
 mod joined;
-mod stretches;
+mod strokes;
 mod sweep;
 #[cfg(test)]
 mod tests;

@@ -1,15 +1,17 @@
-//! One sweep over the stretches of a view and kind, which makes runs of them.
+//! One sweep over the strokes of a view and kind, which makes runs of them.
 
 ghost use Rattle.std.specs.Prelude.{◌≡◌, ℤ, IfOk};
 ghost use Rattle.solid_model.specs.Runs.{AreRuns, run_style};
-ghost use Rattle.views.specs.Stretches.{AreInOrder, stretch_style};
+ghost use Rattle.views.specs.Strokes.{AreInOrder, stroke_style};
 
 use crate::joined::with_piece;
+use crate::strokes::Stroke;
 use solid_model::{Run, Style};
 use std::alloc::{AllocError, Global};
 
-/// How far the sweep has come: on the line `at` it stands at `from`. All that is drawn before is in the runs; of the
-/// stretches that begin before, the solid ones reach as far as `solid_to`, and the dashed ones as far as `dashed_to`.
+/// How far the sweep has come: on the line `at` it stands at `from`. All that is drawn before is in
+/// the runs; of the strokes that begin before, the solid ones reach as far as `solid_to`, and the
+/// dashed ones as far as `dashed_to`.
 #[derive(Debug, Drop)]
 struct Sweep {
     runs: Vec<Run>,
@@ -20,13 +22,13 @@ struct Sweep {
 }
 
 impl Sweep {
-    ghost use Rattle.std.specs.Prelude.{◌≡◌, ◌∷◌, [], ◌++◌, ℤ, ◌≤ℤ◌, ◌<ℤ◌, IfOk};
+    ghost use Rattle.std.specs.Prelude.{◌≡◌, [], ℤ, ◌≤ℤ◌, ◌<ℤ◌, IfOk};
     ghost use Rattle.solid_model.specs.Runs.{AreRuns, run_style};
-    ghost use Rattle.views.specs.Stretches.{BeginsFrom, stretch_style};
-    ghost use Rattle.views.specs.Sweeps.{seen, HasSeen, StandsAt, KeepsRuns};
+    ghost use Rattle.views.specs.Strokes.{BeginsFrom};
+    ghost use Rattle.views.specs.Sweeps.{seen_style, HasSeen, HasSeenAs, HasSeenWith, StandsAt, KeepsRuns};
 
-    /// A sweep that stands where the first stretch begins, and has seen nothing.
-    fn before(alloc: Global, first: &Run) -> Sweep
+    /// A sweep that stands where the first stroke begins, and has seen nothing.
+    fn before(alloc: Global, first: &Stroke) -> Sweep
         ensures sweep { KeepsRuns result }
         ensures place { StandsAt first.now.at first.now.from result }
         ensures drawn { HasSeen [] result }
@@ -48,15 +50,15 @@ impl Sweep {
         ensures place { IfOk result (StandsAt self.at until) }
         ensures solid { IfOk result (λ settled. settled.solid_to ≡ self.solid_to) }
         ensures dashed { IfOk result (λ settled. settled.dashed_to ≡ self.dashed_to) }
-        ensures drawn { IfOk result (HasSeen (seen self)) }
+        ensures drawn { IfOk result (HasSeenAs self) }
     {
-        let solid = Run {
+        let solid = Stroke {
             at: self.at,
             from: self.from,
             to: self.solid_to.min(until),
             style: Style::Solid,
         };
-        let dashed = Run {
+        let dashed = Stroke {
             at: self.at,
             from: self.from.max(self.solid_to),
             to: self.dashed_to.min(until),
@@ -80,7 +82,7 @@ impl Sweep {
         requires dashed { self.dashed_to ≤ℤ self.from }
         ensures sweep { KeepsRuns result }
         ensures place { StandsAt at from result }
-        ensures drawn { HasSeen (seen self) result }
+        ensures drawn { HasSeenAs self result }
     {
         Sweep {
             runs: self.runs,
@@ -91,62 +93,64 @@ impl Sweep {
         }
     }
 
-    /// With the stretch, which begins where the sweep stands.
-    fn reaching(self, stretch: &Run) -> Sweep
+    /// With the stroke, which begins where the sweep stands.
+    fn reaching(self, stroke: &Stroke) -> Sweep
         requires sweep { KeepsRuns self }
-        requires place { StandsAt stretch.now.at stretch.now.from self }
+        requires place { StandsAt stroke.now.at stroke.now.from self }
         ensures sweep { KeepsRuns result }
-        ensures place { StandsAt stretch.now.at stretch.now.from result }
-        ensures drawn { HasSeen (seen self ++ stretch.now ∷ []) result }
+        ensures place { StandsAt stroke.now.at stroke.now.from result }
+        ensures drawn { HasSeenWith stroke.now self result }
     {
         let mut reaching = self;
-        match stretch.style {
-            Style::Solid => reaching.solid_to = reaching.solid_to.max(stretch.to),
-            Style::Dashed => reaching.dashed_to = reaching.dashed_to.max(stretch.to),
+        match stroke.style {
+            Style::Solid => reaching.solid_to = reaching.solid_to.max(stroke.to),
+            Style::Dashed => reaching.dashed_to = reaching.dashed_to.max(stroke.to),
             Style::Blank => {}
         }
         reaching
     }
 
-    /// With the next stretch: what ends before it begins is settled.
-    fn with(self, stretch: &Run) -> Result<Sweep, AllocError>
+    /// With the next stroke: what ends before it begins is settled.
+    fn with(self, stroke: &Stroke) -> Result<Sweep, AllocError>
         requires sweep { KeepsRuns self }
-        requires next { BeginsFrom self.at self.from stretch.now }
+        requires next { BeginsFrom self.at self.from stroke.now }
         ensures sweep { IfOk result KeepsRuns }
-        ensures place { IfOk result (StandsAt stretch.now.at stretch.now.from) }
-        ensures drawn { IfOk result (HasSeen (seen self ++ stretch.now ∷ [])) }
+        ensures place { IfOk result (StandsAt stroke.now.at stroke.now.from) }
+        ensures drawn { IfOk result (HasSeenWith stroke.now self) }
     {
-        let sweep = if stretch.at == self.at {
-            self.settled(stretch.from)?
+        let sweep = if stroke.at == self.at {
+            self.settled(stroke.from)?
         } else {
-            self.settled(i64::MAX)?.moved_to(stretch.at, stretch.from)
+            self.settled(i64::MAX)?.moved_to(stroke.at, stroke.from)
         };
-        Ok(sweep.reaching(stretch))
+        Ok(sweep.reaching(stroke))
     }
 
     /// The runs of all that it has seen.
     fn finished(self) -> Result<Vec<Run>, AllocError>
         requires { KeepsRuns self }
         ensures runs { IfOk result (λ runs. AreRuns runs.items) }
-        ensures drawn { IfOk result (λ runs. (j z : ℤ) → run_style runs.items j z ≡ stretch_style (seen self) j z) }
+        ensures drawn { IfOk result (λ runs. (j z : ℤ)
+            → run_style runs.items j z ≡ seen_style self j z) }
     {
         Ok(self.settled(i64::MAX)?.runs)
     }
 }
 
-/// The runs of these stretches, which are in order by line and then start: solid ones win over dashed ones, and what
-/// overlaps or meets in one style is one run.
-pub fn runs_of(alloc: Global, stretches: &[Run]) -> Result<Vec<Run>, AllocError>
-    requires { AreInOrder stretches.now }
+/// The runs of these strokes, which are in order by line and then start: solid ones win over dashed
+/// ones, and what overlaps or meets in one style is one run.
+pub fn runs_of(alloc: Global, strokes: &[Stroke]) -> Result<Vec<Run>, AllocError>
+    requires { AreInOrder strokes.now }
     ensures runs { IfOk result (λ runs. AreRuns runs.items) }
-    ensures drawn { IfOk result (λ runs. (j z : ℤ) → run_style runs.items j z ≡ stretch_style stretches.now j z) }
+    ensures drawn { IfOk result (λ runs. (j z : ℤ)
+        → run_style runs.items j z ≡ stroke_style strokes.now j z) }
 {
-    let mut sweep = match stretches.first() {
+    let mut sweep = match strokes.first() {
         None => return Ok(Vec::new(alloc)),
         Some(first) => Sweep::before(alloc, first),
     };
-    for stretch in stretches {
-        sweep = sweep.with(stretch)?;
+    for stroke in strokes {
+        sweep = sweep.with(stroke)?;
     }
     sweep.finished()
 }

@@ -12,7 +12,7 @@ ghost use Rattle.solid_model.specs.Runs.{run_style, runs_along, style_in};
 ghost use Rattle.views.specs.Corners.{from_corner};
 
 use crate::corner::Corner;
-use crate::stretches::stretches_in_order;
+use crate::strokes::strokes_in_order;
 use crate::sweep::runs_of;
 use solid_model::{Drawing, Fault, Refused, Runs, SheetLine, View, ViewLines};
 use std::alloc::{AllocError, Global};
@@ -28,8 +28,8 @@ fn runs_along(
     ensures { IfOk result (λ runs. (g : Segment) → g.view ≡ view → g.upright ≡ upright
         → run_style runs (line_of g) (start_of g) ≡ sheet_style lines.now (from_corner corner g)) }
 {
-    let stretches = stretches_in_order(alloc, lines, view, upright, corner)?;
-    Ok(Runs::new(runs_of(alloc, &stretches)?))
+    let strokes = strokes_in_order(alloc, lines, view, upright, corner)?;
+    Ok(Runs::new(runs_of(alloc, &strokes)?))
 }
 
 /// The runs of a view, shifted so that they begin at 0.

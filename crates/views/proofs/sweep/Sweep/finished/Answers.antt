@@ -1,6 +1,6 @@
 use Rattle.std.proofs.Common.{w64, SFits, sym, ◌∙◌, arith, rules}
 use Rattle.std.proofs.lemmas.Int.{ints}
-use Rattle.views.proofs.Pieces.{run_style-stretch}
+use Rattle.solid_model.specs.Runs.{run_style}
 use Rattle.views.proofs.Sweeping.{nothing_beyond}
 use Rattle.views.proofs.sweep.Sweep.finished.Goals as goal
 
@@ -9,8 +9,7 @@ returns-clause-drawn c = λ j z.
     let s = c.in_ok-settled.field-0 in
     let solid : SFits w64 c.args.self.solid_to = search rules in
     let dashed : SFits w64 c.args.self.dashed_to = search rules in
-    run_style-stretch s.runs.items j z c.in_ok-settled.ensures.sweep.are_runs.1
-    ∙ sym (nothing_beyond s.runs.items s.at s.from s.solid_to s.dashed_to j z
+    sym (nothing_beyond (run_style s.runs.items j z) s.at s.from s.solid_to s.dashed_to j z
     (omega (arith, ints, c.in_ok-settled.ensures.place.1, c.in_ok-settled.ensures.solid))
     (omega (arith, ints, c.in_ok-settled.ensures.place.1, c.in_ok-settled.ensures.dashed)))
     ∙ c.in_ok-settled.ensures.drawn j z

@@ -1,5 +1,6 @@
 use Rattle.std.proofs.Common.{◌≡◌, to_z, of_z, w64, sym, ◌∙◌, arith}
 use Rattle.std.proofs.lemmas.Int.{ints, to_z-of_z}
+use Rattle.solid_model.specs.Runs.{run_style}
 use Rattle.views.proofs.Sweeping.{end_by-line, nothing_beyond}
 use Rattle.views.proofs.sweep.Sweep.moved_to.Goals as goal
 
@@ -15,5 +16,5 @@ pub returns-clause-drawn : goal.returns-clause-drawn
 returns-clause-drawn c = λ j z.
     let s = c.args.self in
     let from : to_z w64 (of_z w64 c.args.from) ≡ c.args.from = to_z-of_z w64 c.args.from c.ranges.from in
-    rw from (nothing_beyond s.runs.items _ c.args.from c.args.from c.args.from j z (omega (arith, ints)) (omega (arith, ints))
-    ∙ sym (nothing_beyond s.runs.items s.at s.from s.solid_to s.dashed_to j z c.requires.solid c.requires.dashed))
+    rw from (nothing_beyond (run_style s.runs.items j z) _ c.args.from c.args.from c.args.from j z (omega (arith, ints)) (omega (arith, ints))
+    ∙ sym (nothing_beyond (run_style s.runs.items j z) s.at s.from s.solid_to s.dashed_to j z c.requires.solid c.requires.dashed))

@@ -1,0 +1,8 @@
+-- The column down to the depth so far.
+use Rattle.std.proofs.Common.{◌≡◌, ℤ}
+use Rattle.columns.specs.Bits.{bits}
+use Rattle.columns.specs.GridColumns.{numbers_of, column_to}
+use Rattle.columns.proofs.grid_columns.column_of.Given as goal
+
+abbrev pub invariant-loop-depth : goal.invariant-loop-depth
+invariant-loop-depth l = (k : ℤ) → bits l.column k ≡ column_to l.depth l.frame (numbers_of l.sizes) l.cells l.right l.up k

@@ -1,0 +1,8 @@
+-- The columns so far.
+use Rattle.columns.specs.GridColumns.{numbers_of}
+use Rattle.columns.proofs.GridColumns.{IsColumnAt}
+use Rattle.columns.proofs.Pushed.{HoldsSoFar}
+use Rattle.columns.proofs.grid_columns.view_columns.Given as goal
+
+abbrev pub invariant-loop-place : goal.invariant-loop-place
+invariant-loop-place l = HoldsSoFar (IsColumnAt l.frame (numbers_of l.sizes) l.cells l.width) l.columns.items l.place

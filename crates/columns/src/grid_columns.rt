@@ -1,0 +1,86 @@
+//! The columns of a grid's cells in the three views.
+
+ghost use Rattle.std.specs.Prelude.{◌≡◌, ◌≤◌, ◌<◌, false, slice_index_or, ℤ, IfOk};
+ghost use Rattle.solid_model.specs.declared.cell.Axis.{Axis};
+ghost use Rattle.solid_model.specs.Frames.{frame_of};
+ghost use Rattle.solid_model.specs.Limits.{most_grid_coordinates};
+ghost use Rattle.columns.specs.Bits.{bits};
+ghost use Rattle.columns.specs.GridColumns.{numbers_of, place_in, number_on, grid_cell_in, grid_column, AreColumns};
+
+use crate::column::Column;
+use crate::per_axis::PerAxis;
+use solid_model::{Direction, Frame, Memory};
+use std::alloc::Global;
+
+/// The number of the grid cell at a place along a direction, where there are so many along each axis.
+fn number_on(sizes: PerAxis, direction: Direction, place: usize) -> usize
+    requires { place ≤ most_grid_coordinates }
+    ensures same { result ≡ number_on (numbers_of sizes) direction place }
+    ensures few { numbers_of sizes direction.axis ≤ most_grid_coordinates → result ≤ most_grid_coordinates }
+{
+    if direction.forward {
+        place
+    } else {
+        sizes.along(direction.axis).saturating_sub(place + 1)
+    }
+}
+
+/// The grid cell at a place to the right, upwards and away.
+fn cell_in(frame: Frame, sizes: PerAxis, right: usize, up: usize, depth: usize) -> PerAxis
+    requires sizes { (a : Axis) → numbers_of sizes a ≤ most_grid_coordinates }
+    requires right { right ≤ most_grid_coordinates }
+    requires up { up ≤ most_grid_coordinates }
+    requires depth { depth ≤ most_grid_coordinates }
+    ensures same { numbers_of result ≡ grid_cell_in frame (numbers_of sizes) right up depth }
+    ensures few { (a : Axis) → numbers_of result a ≤ most_grid_coordinates }
+{
+    PerAxis::FIRST
+        .numbered(frame.away.axis, number_on(sizes, frame.away, depth))
+        .numbered(frame.up.axis, number_on(sizes, frame.up, up))
+        .numbered(frame.right.axis, number_on(sizes, frame.right, right))
+}
+
+/// The grid cell is chosen, in a list of all of them with z slowest and x fastest.
+fn is_chosen(cells: &[bool], sizes: PerAxis, cell: PerAxis) -> bool
+    requires sizes { (a : Axis) → numbers_of sizes a ≤ most_grid_coordinates }
+    requires cell { (a : Axis) → numbers_of cell a ≤ most_grid_coordinates }
+    ensures { result ≡ slice_index_or cells.now (place_in (numbers_of sizes) (numbers_of cell)) false }
+{
+    let place = (cell.z * sizes.y + cell.y) * sizes.x + cell.x;
+    place < cells.len() && cells[place]
+}
+
+/// The column at a place to the right and upwards.
+fn column_of(frame: Frame, sizes: PerAxis, cells: &[bool], right: usize, up: usize) -> Column
+    requires sizes { (a : Axis) → numbers_of sizes a ≤ most_grid_coordinates }
+    requires right { right ≤ most_grid_coordinates }
+    requires up { up ≤ most_grid_coordinates }
+    ensures { (k : ℤ) → bits result.0 k ≡ grid_column frame (numbers_of sizes) cells.now right up k }
+{
+    let mut column: u64 = 0;
+    for depth in 0..sizes.along(frame.away.axis) {
+        if is_chosen(cells, sizes, cell_in(frame, sizes, right, up, depth)) {
+            column |= 1 << depth;
+        }
+    }
+    Column(column)
+}
+
+/// The columns of a view, by place upwards, then to the right.
+pub fn view_columns(
+    alloc: Global,
+    frame: Frame,
+    sizes: PerAxis,
+    cells: &[bool],
+) -> Result<Vec<Column>, Memory>
+    requires { (a : Axis) → numbers_of sizes a ≤ most_grid_coordinates }
+    ensures { IfOk result (λ columns. AreColumns frame (numbers_of sizes) cells.now columns.items) }
+{
+    let width = sizes.along(frame.right.axis);
+    let height = sizes.along(frame.up.axis);
+    let mut columns = Vec::new(alloc);
+    for place in 0..height * width {
+        columns.push(column_of(frame, sizes, cells, place % width, place / width))?;
+    }
+    Ok(columns)
+}

@@ -1,0 +1,13 @@
+//! Columns of grid cells, and the styles that a set of grid cells draws on a grid's segments.
+#![tactic(auto)]
+
+mod column;
+mod draw;
+mod grid_columns;
+mod per_axis;
+mod segment_styles;
+#[cfg(test)]
+mod tests;
+
+pub use column::{Column, style_of};
+pub use draw::{ColumnSet, columns_of, draw_cells};

@@ -1,0 +1,150 @@
+//! Drawings of grid cells that were worked out by hand.
+
+ghost use Rattle.std.specs.Prelude.{◌≤◌, IfOk};
+ghost use Rattle.solid_model.specs.declared.cell.Axis.{Axis};
+ghost use Rattle.solid_model.specs.Limits.{most_grid_coordinates};
+ghost use Rattle.columns.specs.GridColumns.{numbers_of};
+
+use crate::column::{Column, style_of};
+use crate::draw::{columns_in, draw_in};
+use crate::per_axis::PerAxis;
+use solid_model::{Panel, Style, View};
+use std::alloc::Global;
+use std::test::Fail;
+
+/// A row a drawing: the numbers of coordinates along x, y and z; the cells, layer by layer from the bottom, in each row by row
+/// from the front, a `#` for each that is chosen; and for the front, the top and the side the columns, and the styles of the
+/// level and of the upright segments, line by line, with `#` for Solid, `-` for Dashed and `.` for Blank.
+const DRAWINGS: &str = "\
+3 4 5|###.#. ##.#.. ....#. ....##| \
+7 1 1 3 4 0 4 4; ## -- ## .# ##; #### --#. ##.#; \
+12 12 8 4 11 1; ## #- ## ##; ### .#- ###; \
+3 2 2 3 1 0 0 0 2 0 0 3; ### .## ### ..# ..#; ##.. #-.. .### #.##;
+1 3 2||;; .;;; ..; 0 0; .. ..; . . .;
+1 1 1||;;;;;;;;;";
+
+/// A number of coordinates.
+fn count(text: Option<&str>) -> Result<usize, Fail>
+    ensures { IfOk result (λ n. n ≤ most_grid_coordinates) }
+{
+    let count: usize = text.ok_or("a number")?.parse()?;
+    if count > 64 {
+        return Err(Fail::new("too many coordinates"));
+    }
+    Ok(count)
+}
+
+/// The cells that are chosen.
+fn cells(alloc: Global, text: &str) -> Result<Vec<bool>, Fail> {
+    let mut cells = Vec::new(alloc);
+    for byte in text.bytes() {
+        if byte != b' ' {
+            cells.push(byte == b'#')?;
+        }
+    }
+    Ok(cells)
+}
+
+/// The columns, as a row has them.
+fn columns_told(alloc: Global, columns: &[Column]) -> Result<String, Fail> {
+    let mut told = String::new(alloc);
+    for column in columns {
+        let number = format!(in alloc; " {}", column.0)?;
+        told.push_str(number.as_str())?;
+    }
+    Ok(told)
+}
+
+/// The styles, as a row has them, in lines of so many.
+fn styles_told(alloc: Global, styles: &[Style], width: usize) -> Result<String, Fail> {
+    let mut told = String::new(alloc);
+    for (place, style) in styles.iter().enumerate() {
+        if width > 0 && place % width == 0 {
+            told.push_str(" ")?;
+        }
+        told.push_str(match style {
+            Style::Blank => ".",
+            Style::Dashed => "-",
+            Style::Solid => "#",
+        })?;
+    }
+    Ok(told)
+}
+
+/// What a view shows, as a row has it.
+fn view_told(
+    alloc: Global,
+    view: View,
+    gaps: PerAxis,
+    columns: &[Column],
+    panel: &Panel,
+) -> Result<String, Fail> {
+    let frame = view.frame();
+    let columns = columns_told(alloc, columns)?;
+    let level = styles_told(alloc, panel.along(false), gaps.along(frame.right.axis))?;
+    let upright = styles_told(alloc, panel.along(true), gaps.along(frame.up.axis))?;
+    Ok(format!(in alloc; "{columns};{level};{upright};")?)
+}
+
+/// What the three views show.
+fn told(alloc: Global, counts: PerAxis, cells: &[bool]) -> Result<String, Fail>
+    requires { (a : Axis) → numbers_of counts a ≤ most_grid_coordinates }
+{
+    let gaps = counts.gaps();
+    let columns = columns_in(alloc, counts, cells)?;
+    let panels = draw_in(alloc, counts, cells)?;
+    let front = view_told(
+        alloc,
+        View::Front,
+        gaps,
+        columns.view(View::Front),
+        &panels.front,
+    )?;
+    let top = view_told(alloc, View::Top, gaps, columns.view(View::Top), &panels.top)?;
+    let side = view_told(
+        alloc,
+        View::Side,
+        gaps,
+        columns.view(View::Side),
+        &panels.side,
+    )?;
+    Ok(format!(in alloc; "{front}{top}{side}")?)
+}
+
+/// The numbers of coordinates.
+fn counts(text: &str) -> Result<PerAxis, Fail>
+    ensures { IfOk result (λ counts. (a : Axis) → numbers_of counts a ≤ most_grid_coordinates) }
+{
+    let mut numbers = text.split(' ');
+    Ok(PerAxis {
+        x: count(numbers.next())?,
+        y: count(numbers.next())?,
+        z: count(numbers.next())?,
+    })
+}
+
+#[test]
+fn chosen_cells_draw_what_was_found_by_hand(rt: HostRuntime) -> Result<(), Fail> {
+    let alloc = rt.alloc();
+    for row in DRAWINGS.lines() {
+        let mut parts = row.split('|');
+        let counts = counts(parts.next().ok_or("numbers")?)?;
+        let cells = cells(alloc, parts.next().ok_or("cells")?)?;
+        let told = told(alloc, counts, cells.as_slice())?;
+        assert_eq!(rt; Some(told.as_str()), parts.next(), "{row}");
+    }
+    Ok(())
+}
+
+#[test]
+fn columns_have_64_depths(rt: HostRuntime) {
+    let far = Column(1 << 63);
+    for depth in 0..63_u32 {
+        let near = Column(1 << depth);
+        let both = Column(near.0 | far.0);
+        assert_eq!(rt; style_of(near, near), Style::Blank, "depth {depth}");
+        assert_eq!(rt; style_of(near, both), Style::Dashed, "depth {depth}");
+        assert_eq!(rt; style_of(both, far), Style::Solid, "depth {depth}");
+    }
+    assert_eq!(rt; style_of(far, Column(0)), Style::Solid);
+}
