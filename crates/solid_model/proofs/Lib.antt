@@ -24,7 +24,5 @@ pub mod ChosenSolids
 pub mod SolidsOfChoices
 pub mod OwnItems
 pub mod SomeGrid
-pub mod Parts
-pub mod SetsInOrder
 pub mod MaximalStretches
 pub mod RunStyles

@@ -14,7 +14,6 @@ pub mod DrawnStyle
 pub mod SmallSolids
 pub mod Drawings
 pub mod Orders
-pub mod Sets
 pub mod Matching
 pub mod Stretches
 pub mod SmallRuns
