@@ -88,10 +88,6 @@ ascends-joined f (x ∷ xs) ascends each across =
     (each-from (λ c. Each (ComesBefore c) (joined (map f xs))) (f x) (λ c k. each-joined (ComesBefore c) f xs (λ y l.
     each-at (λ d. Each (ComesBefore d) (f y)) (f x) c (across x y (each-at (λ w. x <ℤ w) xs y ascends.0 l)) k)))
 
--- what holds of each cell over given coordinates
-each-cells_over : (P : Cell → Type 0) (xs ys zs : List ℤ) → ((x y z : ℤ) → Member zs z → P (record { x = x; y = y; z = z })) → Each P (cells_over xs ys zs)
-each-cells_over P xs ys zs h = each-joined P _ zs (λ z k. each-joined P _ ys (λ y l. each-map (λ x. record { x = x; y = y; z = z }) P xs (each-from _ xs (λ x m. h x y z k))))
-
 pub ascends-cells_over : (xs ys zs : List ℤ) → Ascends ◌<ℤ◌ xs → Ascends ◌<ℤ◌ ys → Ascends ◌<ℤ◌ zs → Ascends ComesBefore (cells_over xs ys zs)
 ascends-cells_over xs ys zs in_x in_y in_z = ascends-joined layer zs in_z layers_ascend layers_across
   where

@@ -1,12 +1,11 @@
 -- Facts of cells, and of which cells of a solid are full.
-use Rattle.std.proofs.Common.{◌≡◌, ◌⊎◌, inl, inr, Bool, true, false, ◌&&◌, ◌||◌, List, [], ◌∷◌, ◌++◌, Decides, IsTrue, refl, sym, ◌∙◌, ap}
+use Rattle.std.proofs.Common.{◌≡◌, Bool, true, false, ◌&&◌, ◌||◌, List, [], ◌∷◌, ◌++◌, Decides, IsTrue, refl, sym, ◌∙◌, ap}
 use Rattle.std.specs.Ordering.{int_eq}
 use Rattle.std.proofs.lemmas.Bool.{false≢true, false_from_ne_true, both_ways, or_left}
-use Rattle.std.proofs.lemmas.Bool.Decides.{Decides-int_eq, Decides-and, Decides-or, Decides-like, same_from_decides}
+use Rattle.std.proofs.lemmas.Bool.Decides.{Decides-int_eq, Decides-and, Decides-or, Decides-like}
 use Rattle.solid_model.specs.declared.cell.Cell.{Cell}
 use Rattle.solid_model.specs.Cells.{same_cell, is_full, IsSolid, SameCells}
-use Rattle.solid_model.specs.Lists.{Member, Each}
-use Rattle.solid_model.proofs.Lists.{each-at, each-from}
+use Rattle.solid_model.specs.Lists.{Member}
 
 -- ---- cells
 
@@ -33,18 +32,6 @@ same_cell-from a b = (Decides-same_cell a b).1
 pub same_cell-itself : (a : Cell) → same_cell a a ≡ true
 same_cell-itself a = same_cell-from a a refl
 
--- the test's order doesn't matter
-pub same_cell-back : (a b : Cell) → same_cell a b ≡ same_cell b a
-same_cell-back a b = same_from_decides (same_cell a b) (same_cell b a) (Decides-same_cell a b) (Decides-like (same_cell b a) sym sym (Decides-same_cell b a))
-
--- two cells are one or not
-pub one_cell_or_two : (a b : Cell) → (a ≡ b) ⊎ (a ≡ b → ⊥)
-one_cell_or_two a b = by (same_cell a b) (Decides-same_cell a b)
-  where
-    by : (t : Bool) → Decides t (a ≡ b) → (a ≡ b) ⊎ (a ≡ b → ⊥)
-    by true d = inl (d.0 refl)
-    by false d = inr (λ e. both_ways false refl (d.1 e))
-
 -- ---- full cells
 
 -- the full cells of a solid are the list's members
@@ -64,18 +51,6 @@ member-is_full s c = (Decides-is_full s c).1
 pub not_member-is_empty : (s : List Cell) (c : Cell) → (Member s c → ⊥) → is_full s c ≡ false
 not_member-is_empty s c none = false_from_ne_true (is_full s c) (λ e. none (is_full-member s c e))
 
--- an empty cell is no member
-pub is_empty-not_member : (s : List Cell) (c : Cell) → is_full s c ≡ false → Member s c → ⊥
-is_empty-not_member s c e k = both_ways (is_full s c) e (member-is_full s c k)
-
--- what holds of each member holds of each full cell
-pub each_full : (P : Cell → Type 0) (s : List Cell) → Each P s → (c : Cell) → is_full s c ≡ true → P c
-each_full P s h c e = each-at P s c h (is_full-member s c e)
-
--- what holds of each full cell holds of each member
-pub each_from_full : (P : Cell → Type 0) (s : List Cell) → ((c : Cell) → is_full s c ≡ true → P c) → Each P s
-each_from_full P s h = each-from P s (λ c k. h c (member-is_full s c k))
-
 -- the cells of two solids together
 pub is_full-append : (s t : List Cell) (c : Cell) → is_full (s ++ t) c ≡ (is_full s c || is_full t c)
 is_full-append [] t c = refl
@@ -87,26 +62,9 @@ is_full-append (x ∷ xs) t c = ap (λ b. same_cell x c || b) (is_full-append xs
 
 -- ---- one solid given by two lists
 
--- two lists give one solid where each has the other's members
-pub same_cells_from_members : (s t : List Cell) → ((c : Cell) → Member s c → Member t c) → ((c : Cell) → Member t c → Member s c) → SameCells s t
-same_cells_from_members s t there back c =
-    same_from_decides (is_full s c) (is_full t c) (Decides-is_full s c) (Decides-like (is_full t c) (back c) (there c) (Decides-is_full t c))
-
 -- a member of the one list is a member of the other
 pub same_cells-members : (s t : List Cell) → SameCells s t → (c : Cell) → Member s c → Member t c
 same_cells-members s t same c k = is_full-member t c (sym (same c) ∙ member-is_full s c k)
-
--- a list gives the same solid as itself
-pub same_cells-itself : (s : List Cell) → SameCells s s
-same_cells-itself s c = refl
-
--- which list comes first doesn't matter
-pub same_cells-back : (s t : List Cell) → SameCells s t → SameCells t s
-same_cells-back s t same c = sym (same c)
-
--- lists that give one solid with a third do so with each other
-pub same_cells-onward : (s t u : List Cell) → SameCells s t → SameCells t u → SameCells s u
-same_cells-onward s t u h k c = h c ∙ k c
 
 -- ---- solids have cells
 

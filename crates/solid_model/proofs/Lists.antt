@@ -146,16 +146,6 @@ ascends-append_across R (x ∷ xs) ys h = (each-append_right (R x) xs ys h.0, as
 pub ascends-push : {A : Type 0} (R : A → A → Type 0) (xs : List A) (x : A) → Ascends R xs → Each (λ y. R y x) xs → Ascends R (xs ++ x ∷ [])
 ascends-push R xs x h k = ascends-append R xs (x ∷ []) h (tt, tt) (each-weaker (λ y. R y x) (λ y. Each (R y) (x ∷ [])) xs (λ y r. (r, tt)) k)
 
--- what holds of each member holds of each but one
-pub each-without : {A : Type 0} (P : A → Type 0) (xs : List A) (x : A) (ys : List A) → Each P (xs ++ x ∷ ys) → Each P (xs ++ ys)
-each-without P xs x ys h = each-append P xs ys (each-append_left P xs (x ∷ ys) h) (each-append_right P xs (x ∷ ys) h).1
-
--- without one of its members an ascending list ascends
-pub ascends-without : {A : Type 0} (R : A → A → Type 0) (xs : List A) (x : A) (ys : List A) → Ascends R (xs ++ x ∷ ys) → Ascends R (xs ++ ys)
-ascends-without R xs x ys h =
-    ascends-append R xs ys (ascends-append_left R xs (x ∷ ys) h) (ascends-append_right R xs (x ∷ ys) h).1
-    (each-weaker (λ y. Each (R y) (x ∷ ys)) (λ y. Each (R y) ys) xs (λ y k. k.1) (ascends-append_across R xs (x ∷ ys) h))
-
 -- of two members of an ascending list one stands in the relation to the other, unless they are one
 pub ascends-members : {A : Type 0} (R : A → A → Type 0) (xs : List A) (x y : A) → Ascends R xs → Member xs x → Member xs y → (x ≡ y) ⊎ (R x y ⊎ R y x)
 ascends-members R [] x y h k l = absurd k

@@ -142,7 +142,6 @@ pub record IsOutermost (f : Frame) (s : List Cell) (v : View) (upright : Bool) (
   pub depth : ℤ
   pub edge : IsTrue (has_edge f (is_full s) (segment_at v upright start line) depth)
   pub cell : Cell
-  pub is_full_there : IsTrue (is_full s cell)
   pub beside : line ≡ outer_line end (place_of (across f upright) cell)
   pub inner : (b : Cell) → IsTrue (is_full s b) → IsInnerSide end line (place_of (across f upright) b)
 
@@ -158,7 +157,6 @@ outermost f is s v upright end c full =
       depth = place_of f.away m;
       edge = frontier_edge f is s upright v end m at.1;
       cell = m;
-      is_full_there = at.1.full;
       beside = refl;
       inner = λ b h. inner_from_outer end j (place_of (across f upright) b) (at.1.outermost b h);
     }

@@ -69,7 +69,7 @@ impl Frame {
 }
 
 impl Direction {
-    ghost use Rattle.solid_model.specs.Frames.{forward, backward, cell_on};
+    ghost use Rattle.solid_model.specs.Frames.{forward, backward};
 
     /// Along the axis, as its coordinate rises.
     pub fn forward(axis: Axis) -> Direction
@@ -89,12 +89,5 @@ impl Direction {
             axis,
             forward: false,
         }
-    }
-
-    /// The axis' coordinate of the cell that fills `place` to `place + 1` along the direction.
-    pub fn cell(self, place: i64) -> i64
-        ensures { result ≡ cell_on self place }
-    {
-        if self.forward { place } else { -1 - place }
     }
 }

@@ -13,7 +13,6 @@ mod memory;
 mod panels;
 mod runs;
 mod segment;
-mod solid;
 
 pub use cell::{Axis, Cell};
 pub use choice::Choice;
@@ -36,4 +35,3 @@ pub use memory::Memory;
 pub use panels::{Panel, Panels};
 pub use runs::{Run, Runs};
 pub use segment::{Segment, Style};
-pub use solid::Solid;

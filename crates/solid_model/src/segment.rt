@@ -1,7 +1,5 @@
 //! Unit segments of the views, and their styles.
 
-ghost use Rattle.std.specs.Prelude.{◌≡◌};
-
 use crate::frame::View;
 
 /// How a unit segment of a view is drawn.
@@ -23,22 +21,4 @@ pub struct Segment {
     pub upright: bool,
     pub right: i64,
     pub up: i64,
-}
-
-impl Segment {
-    ghost use Rattle.solid_model.specs.Segments.{start_of, line_of};
-
-    /// Where it begins along the way it runs.
-    pub fn start(&self) -> i64
-        ensures { result ≡ start_of self.now }
-    {
-        if self.upright { self.up } else { self.right }
-    }
-
-    /// On which line it lies, across the way it runs.
-    pub fn line(&self) -> i64
-        ensures { result ≡ line_of self.now }
-    {
-        if self.upright { self.right } else { self.up }
-    }
 }
