@@ -18,7 +18,7 @@ use Rattle.solid_model.specs.Segments.{segment_at}
 use Rattle.solid_model.proofs.Lists.{each-at, member-append, member-append_left, member-append_right, member-push, member-push_last, member-map, member-from_map}
 use Rattle.solid_model.proofs.RunStyles.{covers_parts, covers_from, covering_run, run_stretch}
 use Rattle.solid_model.proofs.Sheets.{same_style-one}
-use Rattle.grid.specs.Positions.{ends_of, lines_of, ShowsWhere, ShowsAlong, ShowsInSome}
+use Rattle.grid.specs.Positions.{ends_of, lines_of, ShowsByKind, ShowsInView, ShowsInSomeView}
 
 -- ---- the ends of runs
 
@@ -152,7 +152,7 @@ module _ (d : DrawingRuns) (v : View) (upright : Bool) (own : AreRuns (runs_alon
   -- positions, with those that the view shows along segments that run along the axis
   pub with_shown : (a : Axis) → (along (frame_of v) upright).axis ≡ a → (before more : List ℤ)
       → more ≡ (before ++ ends_of (runs_along upright (view_runs v d))) ++ lines_of (runs_along (not upright) (view_runs v d))
-      → (z : ℤ) → Member more z ↔ (Member before z ⊎ ShowsWhere (style_in d) a v upright z)
+      → (z : ℤ) → Member more z ↔ (Member before z ⊎ ShowsByKind (style_in d) a v upright z)
   with_shown a on before more e z =
       let same = e ∙ append_assoc before (ends_of rs) (lines_of ss) in (
         λ k. ⊎_elim inl (λ l. inr (on, runs_show z l)) (member-append before (ends_of rs ++ lines_of ss) z (subst (λ ys. Member ys z) same k)),
@@ -162,15 +162,15 @@ module _ (d : DrawingRuns) (v : View) (upright : Bool) (own : AreRuns (runs_alon
 
 -- positions with those of the one kind and then of the other are those with the view's
 pub with_both : (drawing : Segment → Style) (a : Axis) (v : View) (before more all : List ℤ)
-    → ((z : ℤ) → Member more z ↔ (Member before z ⊎ ShowsWhere drawing a v false z))
-    → ((z : ℤ) → Member all z ↔ (Member more z ⊎ ShowsWhere drawing a v true z))
-    → (z : ℤ) → Member all z ↔ (Member before z ⊎ ShowsAlong drawing a v z)
+    → ((z : ℤ) → Member more z ↔ (Member before z ⊎ ShowsByKind drawing a v false z))
+    → ((z : ℤ) → Member all z ↔ (Member more z ⊎ ShowsByKind drawing a v true z))
+    → (z : ℤ) → Member all z ↔ (Member before z ⊎ ShowsInView drawing a v z)
 with_both drawing a v before more all level upright z = (
   λ k. ⊎_elim (λ l. ⊎_elim inl (λ s. inr (false, s)) ((level z).0 l)) (λ s. inr (true, s)) ((upright z).0 k),
   λ k. ⊎_elim (λ l. (upright z).1 (inl ((level z).1 (inl l)))) (λ s. shown s.0 s.1) k,
 )
   where
-    shown : (kind : Bool) → ShowsWhere drawing a v kind z → Member all z
+    shown : (kind : Bool) → ShowsByKind drawing a v kind z → Member all z
     shown true s = (upright z).1 (inr s)
     shown false s = (upright z).1 (inl ((level z).1 (inr s)))
 
@@ -178,19 +178,19 @@ with_both drawing a v before more all level upright z = (
 
 module _ (drawing : Segment → Style) (a : Axis) where
   -- before the first view there is nothing
-  pub none_shown : (z : ℤ) → Member [] z ↔ ShowsInSome drawing a [] z
+  pub none_shown : (z : ℤ) → Member [] z ↔ ShowsInSomeView drawing a [] z
   none_shown z = (λ k. absurd k, λ s. absurd s.1)
 
   -- positions of some views, with those of one more
-  pub with_next : (vs : List View) (v : View) (before more : List ℤ) → ((z : ℤ) → Member before z ↔ ShowsInSome drawing a vs z)
-      → ((z : ℤ) → Member more z ↔ (Member before z ⊎ ShowsAlong drawing a v z)) → (z : ℤ) → Member more z ↔ ShowsInSome drawing a (vs ++ v ∷ []) z
+  pub with_next : (vs : List View) (v : View) (before more : List ℤ) → ((z : ℤ) → Member before z ↔ ShowsInSomeView drawing a vs z)
+      → ((z : ℤ) → Member more z ↔ (Member before z ⊎ ShowsInView drawing a v z)) → (z : ℤ) → Member more z ↔ ShowsInSomeView drawing a (vs ++ v ∷ []) z
   with_next vs v before more own next z = (
     λ k. ⊎_elim (λ l. let s = (own z).0 l in (s.0, member-append_left vs (v ∷ []) s.0 s.1, s.2)) (λ s. (v, member-push_last vs v, s)) ((next z).0 k),
-    λ s. (next z).1 (⊎_elim (λ l. inl ((own z).1 (s.0, l, s.2))) (λ e. inr (subst (λ w. ShowsAlong drawing a w z) (sym e) s.2)) (member-push vs v s.0 s.1)),
+    λ s. (next z).1 (⊎_elim (λ l. inl ((own z).1 (s.0, l, s.2))) (λ e. inr (subst (λ w. ShowsInView drawing a w z) (sym e) s.2)) (member-push vs v s.0 s.1)),
   )
 
   -- the positions of the three views are the grid coordinates
-  pub in_three_views : (zs : List ℤ) → ((z : ℤ) → Member zs z ↔ ShowsInSome drawing a (Front ∷ Top ∷ Side ∷ []) z)
+  pub in_three_views : (zs : List ℤ) → ((z : ℤ) → Member zs z ↔ ShowsInSomeView drawing a (Front ∷ Top ∷ Side ∷ []) z)
       → (z : ℤ) → Member zs z ↔ IsGridCoordinate drawing a z
   in_three_views zs own z = (λ k. let s = (own z).0 k in (s.0, s.2.0, s.2.1.0, s.2.1.1), λ s. (own z).1 (s.0, each_view s.0, (s.1, (s.2, s.3))))
     where

@@ -24,13 +24,14 @@ abbrev pub begins_by : ℤ → ℤ → Run → Bool
 begins_by j z r = int_lt r.at j || (int_eq r.at j && int_le r.from z)
 
 -- along its level, or its upright, segments, which run along the axis, a view shows something at z
-abbrev pub ShowsWhere : (Segment → Style) → Axis → View → Bool → ℤ → Type 0
-ShowsWhere drawing a v upright z = ((along (frame_of v) upright).axis ≡ a) × (IsDrawnAcross drawing v upright z ⊎ ChangesAt drawing v upright z)
+abbrev pub ShowsByKind : (Segment → Style) → Axis → View → Bool → ℤ → Type 0
+ShowsByKind drawing a v upright z = ((along (frame_of v) upright).axis ≡ a)
+    × (IsDrawnAcross drawing v upright z ⊎ ChangesAt drawing v upright z)
 
 -- it does so along the one kind or the other
-abbrev pub ShowsAlong : (Segment → Style) → Axis → View → ℤ → Type 0
-ShowsAlong drawing a v z = (upright : Bool) × ShowsWhere drawing a v upright z
+abbrev pub ShowsInView : (Segment → Style) → Axis → View → ℤ → Type 0
+ShowsInView drawing a v z = (upright : Bool) × ShowsByKind drawing a v upright z
 
 -- some view of the list does so
-abbrev pub ShowsInSome : (Segment → Style) → Axis → List View → ℤ → Type 0
-ShowsInSome drawing a vs z = (v : View) × Member vs v × ShowsAlong drawing a v z
+abbrev pub ShowsInSomeView : (Segment → Style) → Axis → List View → ℤ → Type 0
+ShowsInSomeView drawing a vs z = (v : View) × Member vs v × ShowsInView drawing a v z

@@ -19,7 +19,8 @@ fn few_coordinates(alloc: Global, drawing: &Drawing, axis: Axis) -> Result<Vec<i
     ensures coordinates { IfOk result (λ zs. AreFewCoordinates (style_in drawing.now) axis zs.items) }
     ensures kept { IsDrawing (style_in drawing.now) }
     ensures fault { (fault : Fault) → IsErrOf result (Refused.Fault fault)
-        → (count : ℕ) × (fault ≡ Fault.TooFine axis count) × IsTooFine (style_in drawing.now) axis count }
+        → (count : ℕ) × (fault ≡ Fault.TooFine axis count)
+        × IsTooFine (style_in drawing.now) axis count }
 {
     let coordinates = grid_coordinates(alloc, drawing, axis)?;
     if coordinates.len() > MOST_COORDINATES {
@@ -47,10 +48,12 @@ impl Coordinates {
 
     /// The grid coordinates of a drawing.
     pub fn of_drawing(alloc: Global, drawing: &Drawing) -> Result<Coordinates, Refused>
-        ensures coordinates { IfOk result (λ own. (a : Axis) → AreFewCoordinates (style_in drawing.now) a (coordinates_in own a)) }
+        ensures coordinates { IfOk result (λ own. (a : Axis)
+            → AreFewCoordinates (style_in drawing.now) a (coordinates_in own a)) }
         ensures kept { IsDrawing (style_in drawing.now) }
         ensures fault { (fault : Fault) → IsErrOf result (Refused.Fault fault)
-            → (a : Axis) × (count : ℕ) × (fault ≡ Fault.TooFine a count) × IsFirstTooFine (style_in drawing.now) a count }
+            → (a : Axis) × (count : ℕ) × (fault ≡ Fault.TooFine a count)
+            × IsFirstTooFine (style_in drawing.now) a count }
     {
         let xs = few_coordinates(alloc, drawing, Axis::X)?;
         let ys = few_coordinates(alloc, drawing, Axis::Y)?;

@@ -14,12 +14,13 @@ use std::alloc::Global;
 
 /// The grid of a drawing: along each axis the positions at which it shows something, and the styles of the segments between
 /// them. The first axis, in the order x, y, z, that has more than 64 grid coordinates is the fault TooFine, with their number;
-/// Memory comes for want of memory. The time grows as n log n in the number of runs, whatever their lengths, and the memory is
+/// Memory comes when out of memory. The time grows as n log n in the number of runs, whatever their lengths, and the memory is
 /// a small constant times their number.
 pub fn grid_of(alloc: Global, drawing: &Drawing) -> Result<Grid, Refused>
     ensures grid { IfOk result (IsGridOf (style_in drawing.now)) }
     ensures fault { (fault : Fault) → IsErrOf result (Refused.Fault fault)
-        → (a : Axis) × (count : ℕ) × (fault ≡ Fault.TooFine a count) × IsFirstTooFine (style_in drawing.now) a count }
+        → (a : Axis) × (count : ℕ) × (fault ≡ Fault.TooFine a count)
+        × IsFirstTooFine (style_in drawing.now) a count }
 {
     let coordinates = Coordinates::of_drawing(alloc, drawing)?;
     let panels = panels_of(alloc, drawing, &coordinates)?;

@@ -29,7 +29,8 @@ fn covers(run: &Run, line: i64, place: i64) -> bool
 fn begun_by(runs: &[Run], line: i64, place: i64) -> usize
     requires { AreRuns runs.now }
     ensures bound { result ≤ length runs.now }
-    ensures parted { IsPartitionPoint (λ r. begins_by line place r ≡ true) (λ r. begins_by line place r ≡ false) runs.now result }
+    ensures parted { IsPartitionPoint
+        (λ r. begins_by line place r ≡ true) (λ r. begins_by line place r ≡ false) runs.now result }
 {
     runs.partition_point(|run| begins_by(run, line, place))
 }
@@ -54,7 +55,8 @@ fn with_line(
     starts: &[i64],
 ) -> Result<Vec<Style>, AllocError>
     requires { AreRuns runs.now }
-    ensures { IfOk result (λ more. more.items ≡ styles.items ++ map (run_style runs.now line) starts.now) }
+    ensures { IfOk result (λ more.
+        more.items ≡ styles.items ++ map (run_style runs.now line) starts.now) }
 {
     for start in starts {
         styles.push(style_at(runs, line, *start))?;
@@ -69,7 +71,8 @@ fn styles_on(
     lines: &[i64],
     starts: &[i64],
 ) -> Result<Vec<Style>, AllocError>
-    ensures { IfOk result (λ styles. styles.items ≡ joined (map (λ line. map (run_style runs.now line) starts.now) lines.now)) }
+    ensures { IfOk result (λ styles.
+        styles.items ≡ joined (map (λ line. map (run_style runs.now line) starts.now) lines.now)) }
 {
     let mut styles = Vec::new(alloc);
     for line in lines {
@@ -86,7 +89,8 @@ fn segment_styles(
     view: View,
     upright: bool,
 ) -> Result<Vec<Style>, AllocError>
-    ensures { IfOk result (λ styles. styles.items ≡ grid_styles (style_in drawing.now) (coordinates_in coordinates.now) view upright) }
+    ensures { IfOk result (λ styles.
+        styles.items ≡ grid_styles (style_in drawing.now) (coordinates_in coordinates.now) view upright) }
 {
     let frame = view.frame();
     let lines = coordinates.along(frame.across(upright).axis);
@@ -102,8 +106,8 @@ fn panel_of(
     coordinates: &Coordinates,
     view: View,
 ) -> Result<Panel, AllocError>
-    ensures { IfOk result (λ panel. (upright : Bool)
-        → styles_along upright panel ≡ grid_styles (style_in drawing.now) (coordinates_in coordinates.now) view upright) }
+    ensures { IfOk result (λ panel. (upright : Bool) → styles_along upright panel
+        ≡ grid_styles (style_in drawing.now) (coordinates_in coordinates.now) view upright) }
 {
     Ok(Panel {
         level: segment_styles(alloc, drawing, coordinates, view, false)?,

@@ -4,7 +4,7 @@ ghost use Rattle.std.specs.Prelude.{◌≡◌, ◌⊎◌, ◌↔◌, ◌++◌, �
 ghost use Rattle.solid_model.specs.Grid.{IsGridCoordinate, AreGridCoordinates};
 ghost use Rattle.solid_model.specs.Lists.{Member, Ascends};
 ghost use Rattle.solid_model.specs.Runs.{IsDrawing, style_in};
-ghost use Rattle.grid.specs.Positions.{ends_of, lines_of, ShowsWhere, ShowsAlong};
+ghost use Rattle.grid.specs.Positions.{ends_of, lines_of, ShowsByKind, ShowsInView};
 
 use solid_model::{Axis, Drawing, Run, View};
 use std::alloc::{AllocError, Global};
@@ -39,7 +39,7 @@ fn with_kind(
     axis: Axis,
 ) -> Result<Vec<i64>, AllocError>
     ensures shown { IfOk result (λ more. (z : ℤ) → Member more.items z
-        ↔ (Member positions.items z ⊎ ShowsWhere (style_in drawing.now) axis view upright z)) }
+        ↔ (Member positions.items z ⊎ ShowsByKind (style_in drawing.now) axis view upright z)) }
     ensures kept { IsDrawing (style_in drawing.now) }
 {
     let runs = drawing.view(view);
@@ -58,7 +58,7 @@ fn with_view(
     axis: Axis,
 ) -> Result<Vec<i64>, AllocError>
     ensures shown { IfOk result (λ more. (z : ℤ) → Member more.items z
-        ↔ (Member positions.items z ⊎ ShowsAlong (style_in drawing.now) axis view z)) }
+        ↔ (Member positions.items z ⊎ ShowsInView (style_in drawing.now) axis view z)) }
     ensures kept { IsDrawing (style_in drawing.now) }
 {
     let positions = with_kind(positions, drawing, view, false, axis)?;
@@ -67,7 +67,8 @@ fn with_view(
 
 /// The positions along the axis at which the drawing shows something, in no order.
 fn positions_along(alloc: Global, drawing: &Drawing, axis: Axis) -> Result<Vec<i64>, AllocError>
-    ensures shown { IfOk result (λ positions. (z : ℤ) → Member positions.items z ↔ IsGridCoordinate (style_in drawing.now) axis z) }
+    ensures shown { IfOk result (λ positions. (z : ℤ)
+        → Member positions.items z ↔ IsGridCoordinate (style_in drawing.now) axis z) }
     ensures kept { IsDrawing (style_in drawing.now) }
 {
     let mut positions = Vec::new(alloc);

@@ -4,7 +4,7 @@ use Rattle.solid_model.specs.declared.frame.View.{View}
 use Rattle.solid_model.specs.declared.frame.View.TheVariants.{Front, Top, Side}
 use Rattle.solid_model.specs.Lists.{Member}
 use Rattle.solid_model.specs.Runs.{style_in}
-use Rattle.grid.specs.Positions.{ShowsInSome}
+use Rattle.grid.specs.Positions.{ShowsInSomeView}
 use Rattle.grid.proofs.ShownPositions.{with_next, in_three_views}
 use Rattle.grid.proofs.positions.positions_along.Goals as goal
 
@@ -17,7 +17,7 @@ loop-view-preserved c = record {
       let drawing = style_in c.args.drawing.now in
       let i = c.loop-view.view-index in
       let more = c.in_ok-positions.positions.items in
-      subst (λ vs. Member more z ↔ ShowsInSome drawing c.args.axis vs z) (sym (take_more three_views i _ c.loop-view-test.true))
+      subst (λ vs. Member more z ↔ ShowsInSomeView drawing c.args.axis vs z) (sym (take_more three_views i _ c.loop-view-test.true))
       (with_next drawing c.args.axis (take i three_views) _ c.loop-view.positions.items more c.loop-view.invariant.shown c.in_ok-positions.ensures.shown z);
   kept = λ some. c.with_view.ensures.kept;
 }
@@ -26,7 +26,7 @@ pub returns-clause-shown : goal.returns-clause-shown
 returns-clause-shown c =
     let drawing = style_in c.args.drawing.now in
     in_three_views drawing c.args.axis c.loop-view.positions.items
-    (subst (λ vs. (z : ℤ) → Member c.loop-view.positions.items z ↔ ShowsInSome drawing c.args.axis vs z)
+    (subst (λ vs. (z : ℤ) → Member c.loop-view.positions.items z ↔ ShowsInSomeView drawing c.args.axis vs z)
     (take_all c.loop-view.view-index three_views (let h = c.loop-view-test.false in omega arith)) c.loop-view.invariant.shown)
 
 pub returns-clause-kept : goal.returns-clause-kept

@@ -4,7 +4,7 @@ use Rattle.solid_model.specs.declared.frame.Direction.{Direction}
 use Rattle.solid_model.specs.Frames.{along}
 use Rattle.solid_model.specs.Lists.{Member}
 use Rattle.solid_model.specs.Runs.{AreRuns, style_in, runs_along, view_runs}
-use Rattle.grid.specs.Positions.{ends_of, lines_of, ShowsWhere}
+use Rattle.grid.specs.Positions.{ends_of, lines_of, ShowsByKind}
 use Rattle.grid.proofs.ShownPositions.{with_shown}
 use Rattle.grid.proofs.positions.with_kind.Goals as goal
 
@@ -17,7 +17,7 @@ returns-clause-shown c =
     let other : c.along-3.result.now ≡ runs_along (not upright) (view_runs v d) = c.along-3.ensures ∙ ap (runs_along (not upright)) c.view-runs.ensures.same in
     let same : c.along.result.axis ≡ c.args.axis = search rules in
     let on = ap (λ (w : Direction). w.axis) (sym (c.along.ensures ∙ ap (λ f. along f upright) c.frame.ensures)) ∙ same in
-    IfOk-weaker c.with_lines.result _ (λ more. (z : ℤ) → Member more.items z ↔ (Member c.args.positions.items z ⊎ ShowsWhere (style_in d) c.args.axis v upright z))
+    IfOk-weaker c.with_lines.result _ (λ more. (z : ℤ) → Member more.items z ↔ (Member c.args.positions.items z ⊎ ShowsByKind (style_in d) c.args.axis v upright z))
     (λ more e. with_shown d v upright (subst AreRuns own c.as_slice.ensures.kept) (subst AreRuns other c.as_slice-2.ensures.kept)
     c.args.axis on c.args.positions.items more.items
     (e ∙ ap₂ ◌++◌ (c.in_ok-positions.ensures ∙ ap (λ rs. c.args.positions.items ++ ends_of rs) (c.as_slice.ensures.same ∙ own))
