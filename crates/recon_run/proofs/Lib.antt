@@ -1,4 +1,5 @@
 pub mod Grids
+pub mod SmallBoxes
 pub mod Faults
 pub mod Solved
 pub mod Sources

@@ -1,5 +1,5 @@
 -- From what each stage finds to the answer of `solve`.
-use Rattle.std.proofs.Common.{◌≡◌, ℕ, ◌<◌, ◌≤◌, List, Bool, length, Option, Some, Ok, sym, subst, ◌∙◌, arith}
+use Rattle.std.proofs.Common.{◌≡◌, ℕ, ◌<◌, ◌≤◌, List, Bool, length, Option, Some, Ok, ap, sym, subst, ◌∙◌, arith}
 use Rattle.std.proofs.lemmas.List.FromFn.{length-map-range_with_len}
 use Rattle.dxf_entities.specs.Reading.{read_of}
 use Rattle.recon_run.specs.declared.fault.FirstFault.{FirstFault}
@@ -24,6 +24,10 @@ use Rattle.solid_model.proofs.OwnItems.{all_matching_solids}
 -- items of their own are as many as there are
 pub length-own_items : (n : ℕ) → length (own_items n) ≡ n
 length-own_items n = length-map-range_with_len Some 0 n
+
+-- so there are few of them where there are few cells
+pub few_items : {items : List (Option ℕ)} {n : ℕ} → items ≡ own_items n → n ≤ most_cells → length items ≤ most_cells
+few_items {items} {n} own few = omega (arith, ap (λ (xs : List (Option ℕ)). length xs) own, length-own_items n, few)
 
 module _ (t : List ℕ) (ls : List Line) (drawing : Segment → Style) (drawn : Drawn t ls drawing) (g : GridParts) (grid : IsGridOf drawing g) where
   -- the grid is that of the lines' drawing

@@ -1,6 +1,7 @@
 pub mod Words
 pub mod Status
 pub mod FirstText
+pub mod SmallBoxes
 pub mod FaultText
 pub mod Answers
 pub mod Refusals

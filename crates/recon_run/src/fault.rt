@@ -7,6 +7,6 @@ use solid_model::Fault;
 pub enum FirstFault {
     /// The file has this fault.
     File(Fault),
-    /// The unit box has more than 12 cells.
+    /// The grid of its drawing has more than 12 cells.
     TooLarge,
 }

@@ -1,6 +1,7 @@
 //! The top call: one command, from the bytes in to the bytes out.
 #![tactic(auto)]
 
+mod boxes;
 mod command;
 mod fault;
 mod fault_text;

@@ -1,11 +1,9 @@
 //! What no clause says: the very bytes that come out, that memory is found, and that the definitions mean what they say.
-mod bracket;
-mod broken;
-mod columns;
+mod drawings;
 mod entities;
-mod layers;
-mod numerals;
+mod files;
 mod rows;
 mod runs;
-mod sheet;
-mod sizes;
+mod sets;
+mod texts;
+mod values;

@@ -15,7 +15,7 @@ use Rattle.solid_model.specs.Frames.{IsFrame, along, across}
 use Rattle.solid_model.specs.Moved.{StandsFrom, BeginsAt}
 use Rattle.solid_model.specs.Segments.{segment_at, across_of}
 use Rattle.solid_model.proofs.Styles.{edge_not_blank, cell_beside_drawn}
-use Rattle.solid_model.proofs.UnitBox.{Least, outermost}
+use Rattle.solid_model.proofs.WithinViews.{Least, outermost}
 
 -- a segment's line isn't before a coordinate that its view stands from
 line_from : (v : View) (upright : Bool) (start line right up : ℤ)

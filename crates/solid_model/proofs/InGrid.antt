@@ -22,7 +22,7 @@ use Rattle.solid_model.specs.Segments.{segment_at}
 use Rattle.solid_model.proofs.ColumnRule.{beside_blank}
 use Rattle.solid_model.proofs.Integers.{natural}
 use Rattle.solid_model.proofs.Lists.{each-at, same_ascending}
-use Rattle.solid_model.proofs.UnitBox.{Least, Greatest, outermost_by}
+use Rattle.solid_model.proofs.WithinViews.{Least, Greatest, outermost_by}
 use Rattle.solid_model.proofs.Views.{views_are_frames, cell_at_its_places}
 
 -- ---- slices of cells

@@ -6,7 +6,7 @@ pub mod CellOrder
 pub mod SolidOrder
 pub mod Views
 pub mod Styles
-pub mod UnitBox
+pub mod WithinViews
 pub mod Moved
 pub mod Sheets
 pub mod KeptDrawings

@@ -15,7 +15,7 @@ use Rattle.solid_model.specs.Matching.{Matches}
 use Rattle.solid_model.specs.Moved.{StandsFrom}
 use Rattle.solid_model.specs.Runs.{IsDrawing}
 use Rattle.solid_model.proofs.FirstCells.{no_cell_before, cell_at_beginning}
-use Rattle.solid_model.proofs.UnitBox.{lies_in_rectangle}
+use Rattle.solid_model.proofs.WithinViews.{lies_in_rectangle}
 use Rattle.solid_model.proofs.Views.{views_are_frames}
 
 module _ (drawing : Segment → Style) (s : List Cell) (matches : Matches drawing s) where

@@ -21,8 +21,7 @@ pub use orders::{
     all_matching_solids_are_one_list, one_stated_form, small_orders, solids_are_ordered,
 };
 pub use places::{
-    matching_solids_begin_at_zero, matching_solids_lie_in_the_unit_box,
-    solids_begin_where_their_views_do,
+    matching_solids_begin_at_zero, solids_begin_where_their_views_do, solids_lie_within_their_views,
 };
 pub use runs::{one_list_of_runs, runs_are_maximal_stretches, small_runs};
 pub use sheets::{

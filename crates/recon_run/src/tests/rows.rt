@@ -1,203 +1,92 @@
-//! Drawings, and what is written for them.
+//! Tables of files, and what `solve` writes for them.
+//!
+//! A line of a table is a remark after `-- `, a frame after `= `, or a row: what is told of a file, ` -> `, and the status
+//! and the text that are wanted, with `|` for the end of a line. The parts of what is told, `; ` between two of them, stand
+//! for `#1`, `#2` and `#3` in the steps of the frame above. In the frame `text` what is told is the file itself, with `|`
+//! for the end of a line. A frame that begins with `wide: ` or `wide CR LF: ` has codes right in three places.
 
+use super::drawings::DRAWINGS;
+use super::entities::ENTITIES;
+use super::files::{file_of, wide_file};
 use super::runs::solve;
-use super::sheet::Stroke::{Line, Rect};
-use super::sheet::{Stroke, plain_file};
-use solid_model::Style::{Dashed, Solid};
+use super::texts::{SIZES, TEXTS};
+use super::values::{LINETYPES, NUMERALS};
+use std::alloc::{AllocError, Global};
 use std::test::Fail;
 
-/// A view of the unit cube.
-pub const CUBE_FACE: &[Stroke] = &[Rect(Solid, 0, 0, 1, 1)];
+/// The steps of the unit cube's lines.
+const CUBE: &str = "FRONT, rect S 0 0 1 1, TOP, rect S 0 0 1 1, SIDE, rect S 0 0 1 1";
 
-/// What is written for the unit cube.
-pub const UNIT_CUBE: &str = "whole 1\nsolid 1 volume 1\nbox 0,0,0 1,1,1\n";
-
-/// The unit cube's front view with each line twice, turned round, and under dashes that reach no further.
-const STROKED_FACE: &[Stroke] = &[
-    Line(Dashed, 0, 0, 1, 0),
-    Rect(Solid, 0, 0, 1, 1),
-    Rect(Solid, 1, 1, 0, 0),
-    Rect(Solid, 0, 0, 1, 1),
-    Rect(Dashed, 1, 0, 0, 1),
-    Line(Dashed, 1, 1, 1, 1),
-];
-
-const TWO_BY_ONE: &[Stroke] = &[Rect(Solid, 0, 0, 2, 1)];
-
-const HALVED: &[Stroke] = &[Rect(Solid, 0, 0, 2, 1), Line(Solid, 1, 0, 1, 1)];
-
-const PLATE_SIDE: &[Stroke] = &[
-    Rect(Solid, 0, 0, 3, 1),
-    Line(Dashed, 1, 0, 1, 1),
-    Line(Dashed, 2, 0, 2, 1),
-];
-
-const PLATE_TOP: &[Stroke] = &[Rect(Solid, 0, 0, 3, 3), Rect(Solid, 1, 1, 2, 2)];
-
-const QUARTERED: &[Stroke] = &[
-    Rect(Solid, 0, 0, 2, 2),
-    Line(Solid, 0, 1, 2, 1),
-    Line(Solid, 1, 0, 1, 2),
-];
-
-const HOLLOW: &[Stroke] = &[Rect(Solid, 0, 0, 3, 3), Rect(Dashed, 1, 1, 2, 2)];
-
-/// A level line as long as lines can be.
-const LONGEST_LINE: &[Stroke] = &[Line(Solid, -1_000_000_000, 7, 1_000_000_000, 7)];
-
-/// A square as large as they can be.
-const GREATEST_SQUARE: &[Stroke] = &[Rect(
-    Solid,
-    -1_000_000_000,
-    -1_000_000_000,
-    1_000_000_000,
-    1_000_000_000,
-)];
-
-/// A drawing, and what `solve` answers to it.
-struct Row {
-    name: &'static str,
-    views: [&'static [Stroke]; 3],
-    status: u8,
-    text: &'static str,
+/// The steps of a frame with what is told.
+fn steps_of(alloc: Global, frame: &str, told: &str) -> Result<String, AllocError> {
+    let mut steps = String::from_str(alloc, frame)?;
+    for (place, part) in told.split("; ").enumerate() {
+        let hole = match place {
+            0 => "#1",
+            1 => "#2",
+            _ => "#3",
+        };
+        steps = steps.replace(alloc, hole, part)?;
+    }
+    steps.replace(alloc, "cube", CUBE)
 }
 
-const ROWS: [Row; 16] = [
-    Row {
-        name: "unit cube",
-        views: [CUBE_FACE, CUBE_FACE, CUBE_FACE],
-        status: 0,
-        text: UNIT_CUBE,
-    },
-    Row {
-        name: "unit cube, stroked over",
-        views: [STROKED_FACE, STROKED_FACE, STROKED_FACE],
-        status: 0,
-        text: UNIT_CUBE,
-    },
-    Row {
-        name: "unit cube, moved on the sheet",
-        views: [
-            &[Rect(Solid, -7, 1_000, -6, 1_001)],
-            &[Rect(
-                Solid,
-                999_999_999,
-                -1_000_000_000,
-                1_000_000_000,
-                -999_999_999,
-            )],
-            &[Rect(Solid, -1, -1, 0, 0)],
-        ],
-        status: 0,
-        text: UNIT_CUBE,
-    },
-    Row {
-        name: "unit cube, moved on the sheet, with its first line turned round",
-        views: [
-            &[
-                Line(Solid, 101, 200, 100, 200),
-                Line(Solid, 100, 201, 101, 201),
-                Line(Solid, 100, 200, 100, 201),
-                Line(Solid, 101, 200, 101, 201),
-            ],
-            &[Rect(Solid, 100, 350, 101, 351)],
-            &[Rect(Solid, 250, 200, 251, 201)],
-        ],
-        status: 0,
-        text: UNIT_CUBE,
-    },
-    Row {
-        name: "two cubes along an edge",
-        views: [
-            HALVED,
-            &[Rect(Solid, 0, 0, 1, 1), Rect(Solid, 1, 1, 2, 2)],
-            HALVED,
-        ],
-        status: 0,
-        text: "whole 1\nsolid 1 volume 2\nbox 0,0,0 1,1,1\nbox 1,1,0 2,2,1\n",
-    },
-    Row {
-        name: "narrow top",
-        views: [TWO_BY_ONE, CUBE_FACE, CUBE_FACE],
-        status: 0,
-        text: "whole 0\n",
-    },
-    Row {
-        name: "flat strokes",
-        views: [&[Line(Solid, 0, 0, 1, 0)]; 3],
-        status: 0,
-        text: "whole 0\n",
-    },
-    Row {
-        name: "flat strokes of the greatest width",
-        views: [LONGEST_LINE, LONGEST_LINE, &[Line(Solid, 0, 3, 1, 3)]],
-        status: 0,
-        text: "whole 0\n",
-    },
-    Row {
-        name: "pierced plate",
-        views: [PLATE_SIDE, PLATE_TOP, PLATE_SIDE],
-        status: 0,
-        text: "whole 1\nsolid 1 volume 8\n\
-            box 0,0,0 1,1,1\nbox 1,0,0 2,1,1\nbox 2,0,0 3,1,1\n\
-            box 0,1,0 1,2,1\nbox 2,1,0 3,2,1\n\
-            box 0,2,0 1,3,1\nbox 1,2,0 2,3,1\nbox 2,2,0 3,3,1\n",
-    },
-    Row {
-        name: "quartered cube",
-        views: [QUARTERED, QUARTERED, QUARTERED],
-        status: 0,
-        text: "whole 3\n\
-            solid 1 volume 5\nbox 0,0,0 1,1,1\nbox 0,1,0 1,2,1\nbox 1,1,0 2,2,1\n\
-            box 1,0,1 2,1,2\nbox 0,1,1 1,2,2\n\
-            solid 2 volume 4\nbox 0,0,0 1,1,1\nbox 1,1,0 2,2,1\nbox 1,0,1 2,1,2\nbox 0,1,1 1,2,2\n\
-            solid 3 volume 4\nbox 1,0,0 2,1,1\nbox 0,1,0 1,2,1\nbox 0,0,1 1,1,2\nbox 1,1,1 2,2,2\n",
-    },
-    Row {
-        name: "hollow cube",
-        views: [HOLLOW, HOLLOW, HOLLOW],
-        status: 1,
-        text: "fault F92 TooLarge\n",
-    },
-    Row {
-        name: "cube of the greatest width",
-        views: [GREATEST_SQUARE, GREATEST_SQUARE, GREATEST_SQUARE],
-        status: 1,
-        text: "fault F92 TooLarge\n",
-    },
-    Row {
-        name: "no side view",
-        views: [CUBE_FACE, CUBE_FACE, &[]],
-        status: 1,
-        text: "fault F14 EmptyView view SIDE\n",
-    },
-    Row {
-        name: "a point in the side view",
-        views: [CUBE_FACE, CUBE_FACE, &[Line(Solid, 3, 3, 3, 3)]],
-        status: 1,
-        text: "fault F14 EmptyView view SIDE\n",
-    },
-    Row {
-        name: "a point in the top view, and no side view",
-        views: [CUBE_FACE, &[Line(Solid, 4, 4, 4, 4)], &[]],
-        status: 1,
-        text: "fault F14 EmptyView view TOP\n",
-    },
-    Row {
-        name: "no line",
-        views: [&[], &[], &[]],
-        status: 1,
-        text: "fault F14 EmptyView view FRONT\n",
-    },
-];
+/// The file that is told in a frame.
+fn told_file(alloc: Global, frame: &str, told: &str) -> Result<String, AllocError> {
+    if frame == "text" {
+        return told.replace(alloc, "|", "\n");
+    }
+    let steps = steps_of(alloc, frame, told)?;
+    match steps.as_str().split_once(": ") {
+        Some(("wide", steps)) => wide_file(alloc, steps, "\n"),
+        Some((_, steps)) => wide_file(alloc, steps, "\r\n"),
+        None => file_of(alloc, steps.as_str()),
+    }
+}
+
+/// The status and the text that are wanted.
+fn wanted_text(alloc: Global, told: &str) -> Result<String, AllocError> {
+    let text = match told {
+        "unit cube" => "0 whole 1|solid 1 volume 1|box 0,0,0 1,1,1",
+        "three cubes" => {
+            "0 whole 1|solid 1 volume 3|box 0,0,0 1,1,1|box 1,0,0 2,1,1|box 0,1,0 1,2,1"
+        }
+        text => text,
+    };
+    text.replace(alloc, "|", "\n")
+}
+
+/// Whether a row is right.
+fn is_right(alloc: Global, frame: &str, row: &str) -> Result<bool, AllocError> {
+    let (told, wanted) = row.rsplit_once(" -> ").unwrap_or((row, ""));
+    let wrote = solve(alloc, told_file(alloc, frame, told)?)?;
+    let wanted = wanted_text(alloc, wanted)?;
+    Ok(wrote.as_str().strip_suffix('\n') == Some(wanted.as_str()))
+}
+
+/// The first row of a table that isn't right; nothing where all are.
+fn wrong_row(alloc: Global, table: &str) -> Result<&str, AllocError> {
+    for framed in table.split("\n= ").skip(1) {
+        let (frame, rows) = framed.split_once('\n').unwrap_or((framed, ""));
+        for row in rows.lines() {
+            if !row.starts_with("-- ") && !is_right(alloc, frame, row)? {
+                return Ok(row);
+            }
+        }
+    }
+    Ok("")
+}
 
 #[test]
-fn drawings_give_their_texts(rt: HostRuntime) -> Result<(), Fail> {
-    let alloc = rt.alloc();
-    for row in &ROWS {
-        let file = plain_file(alloc, row.views)?;
-        let ran = solve(alloc, file.as_str())?;
-        assert!(rt; ran.wrote(row.status, row.text), "{}: {ran:?}", row.name);
+fn files_give_their_texts(rt: HostRuntime) -> Result<(), Fail> {
+    for table in [TEXTS, ENTITIES, LINETYPES, NUMERALS, DRAWINGS] {
+        assert_eq!(rt; wrong_row(rt.alloc(), table)?, "");
     }
+    Ok(())
+}
+
+#[test]
+fn files_at_the_limits_give_their_texts(rt: HostRuntime) -> Result<(), Fail> {
+    assert_eq!(rt; wrong_row(rt.alloc(), SIZES)?, "");
     Ok(())
 }

@@ -1,108 +1,76 @@
 //! Runs over a source and a sink in memory.
 
-use super::rows::{CUBE_FACE, UNIT_CUBE};
-use super::sheet::plain_file;
+use super::files::file_of;
 use crate::run;
-use std::alloc::Global;
+use std::alloc::{AllocError, Global};
 use std::test::Fail;
-use tv_base::{MemSink, MemSource, OpenGate, read_all};
+use tv_base::{MemSink, MemSource, OpenGate};
 
-/// The usage line.
-const USAGE: &str = "usage: recon solve|redraw|make|trial\n";
-
-/// What a run left behind.
-#[derive(Debug, Drop)]
-pub struct Ran {
-    pub status: u8,
-    pub source: MemSource,
-    pub sink: MemSink,
-}
-
-impl Ran {
-    /// The run ended with this status, and wrote this text.
-    pub fn wrote(&self, status: u8, text: &str) -> bool {
-        self.status == status && self.sink.bytes() == text.as_bytes()
-    }
-
-    /// The run gave this answer: `unit cube` for what is written for the unit cube, or else a fault.
-    pub fn answered(&self, alloc: Global, answer: &str) -> Result<bool, Fail> {
-        let fault = format!(in alloc; "fault {answer}\n")?;
-        Ok(if answer == "unit cube" {
-            self.wrote(0, UNIT_CUBE)
-        } else {
-            self.wrote(1, fault.as_str())
-        })
-    }
-}
-
-/// Runs a command over a file. The source's calls of the numbers in `read_faults` fail, and the sink's calls as
-/// `write_faults` says.
+/// The status and the text of a run. The sink's calls fail as `faults` says.
 fn run_over(
     alloc: Global,
-    words: &[&str],
-    file: Vec<u8>,
-    read_faults: &[u32],
-    write_faults: &[(u32, usize)],
-) -> Result<Ran, Fail> {
+    words: &str,
+    source: &mut MemSource,
+    faults: Vec<(u32, usize)>,
+) -> Result<String, AllocError> {
     let mut command = Vec::new(alloc);
-    for word in words {
+    for word in words.split_terminator('|') {
         command.push(String::from_str(alloc, word)?)?;
     }
-    let mut source = MemSource::new(file, read_faults.to_vec(alloc)?);
-    let mut sink = MemSink::new(write_faults.to_vec(alloc)?);
-    let status = run(alloc, command.as_slice(), &mut source, &mut sink, &OpenGate);
-    Ok(Ran {
-        status,
-        source,
-        sink,
-    })
+    let mut sink = MemSink::new(faults);
+    let status = run(alloc, command.as_slice(), source, &mut sink, &OpenGate);
+    let text = std::str::from_utf8(sink.bytes()).unwrap_or("no text");
+    format!(in alloc; "{status} {text}")
 }
 
-/// Runs `solve` over a file's bytes.
-pub fn solve_bytes(alloc: Global, file: Vec<u8>) -> Result<Ran, Fail> {
-    run_over(alloc, &["solve"], file, &[], &[])
+/// The status and the text of `solve` over a file.
+pub fn solve(alloc: Global, file: String) -> Result<String, AllocError> {
+    let mut source = MemSource::new(file.into_bytes(), Vec::new(alloc));
+    run_over(alloc, "solve|", &mut source, Vec::new(alloc))
 }
 
-/// Runs `solve` over a file.
-pub fn solve(alloc: Global, file: &str) -> Result<Ran, Fail> {
-    solve_bytes(alloc, file.as_bytes().to_vec(alloc)?)
-}
-
-#[test]
-fn other_words_leave_the_source_unread(rt: HostRuntime) -> Result<(), Fail> {
-    let alloc = rt.alloc();
-    let file = plain_file(alloc, [CUBE_FACE; 3])?;
-    let table: [&[&str]; 6] = [
-        &[],
-        &["sovle"],
-        &["solve", "solve"],
-        &["Solve"],
-        &["solve "],
-        &[""],
-    ];
-    for words in table {
-        let mut ran = run_over(alloc, words, file.as_bytes().to_vec(alloc)?, &[], &[])?;
-        assert!(rt; ran.wrote(2, USAGE), "{words:?}: {ran:?}");
-        let left = read_all(alloc, &mut ran.source, file.len())?;
-        assert_eq!(rt; left.as_slice(), file.as_bytes(), "{words:?}");
-    }
-    Ok(())
-}
-
-#[test]
-fn faults_of_source_and_sink(rt: HostRuntime) -> Result<(), Fail> {
-    let alloc = rt.alloc();
-    let file = plain_file(alloc, [CUBE_FACE; 3])?;
-    let unread = run_over(alloc, &["solve"], file.as_bytes().to_vec(alloc)?, &[2], &[])?;
-    assert!(rt; unread.wrote(5, ""), "{unread:?}");
-
-    let unwritten = run_over(
+/// The file of the unit cube.
+fn cube_file(alloc: Global) -> Result<String, AllocError> {
+    file_of(
         alloc,
-        &["solve"],
-        file.as_bytes().to_vec(alloc)?,
-        &[],
-        &[(1, 3)],
-    )?;
-    assert!(rt; unwritten.wrote(6, "who"), "{unwritten:?}");
+        "0 SECTION, 2 ENTITIES, FRONT, rect S 0 0 1 1, TOP, rect S 0 0 1 1, SIDE, rect S 0 0 1 1, 0 ENDSEC, 0 EOF",
+    )
+}
+
+/// What a run over the unit cube's file writes, and what `solve` writes then for what is left of the source. The source's
+/// call of the number `read` fails, and the sink's call of the number `write` after three bytes; the calls count from 1.
+fn runs_over_cube(alloc: Global, words: &str, read: u32, write: u32) -> Result<String, AllocError> {
+    let mut source = MemSource::new(cube_file(alloc)?.into_bytes(), vec![in alloc; read]?);
+    let first = run_over(alloc, words, &mut source, vec![in alloc; (write, 3usize)]?)?;
+    let second = run_over(alloc, "solve|", &mut source, Vec::new(alloc))?;
+    format!(in alloc; "{first} then {second}")
+}
+
+/// Words that aren't taken, a list in each line, and `|` behind each word; the first list has none.
+const OTHER_WORDS: &str = "
+sovle|
+solve|solve|
+Solve|
+solve |
+|";
+
+/// What is written for them, and then for the unit cube, of which nothing was read.
+const USAGE: &str = "2 usage: recon solve|redraw|make|trial\n then \
+    0 whole 1\nsolid 1 volume 1\nbox 0,0,0 1,1,1\n";
+
+#[test]
+fn runs_end_so(rt: HostRuntime) -> Result<(), Fail> {
+    let alloc = rt.alloc();
+    for words in OTHER_WORDS.lines() {
+        assert_eq!(rt;
+            runs_over_cube(alloc, words, 0, 0)?.as_str(),
+            USAGE,
+            "{words}"
+        );
+    }
+    let unread = runs_over_cube(alloc, "solve|", 2, 0)?;
+    assert_eq!(rt; unread.as_str(), "5  then 1 fault F4 NoEof line 1\n");
+    let unwritten = runs_over_cube(alloc, "solve|", 0, 1)?;
+    assert_eq!(rt; unwritten.as_str(), "6 who then 1 fault F4 NoEof line 1\n");
     Ok(())
 }

@@ -19,7 +19,7 @@ ghost use Rattle.solid_model.specs.Runs.{IsDrawing};
 /// all that is drawn lies in the rectangle from (0, 0) to (width, height), its cells stand at places 0 to width - 1 to the
 /// right and 0 to height - 1 upwards. So a solid that matches a drawing whose three views lie in the sides of a box lies in
 /// the box.
-pub fn matching_solids_lie_in_the_unit_box()
+pub fn solids_lie_within_their_views()
     ensures view { (f : Frame) → IsFrame f → (drawing : Segment → Style) (s : List Cell) (v : View) → DrawsView f (is_full s) drawing v
         → (width height : ℤ) → FitsIn drawing v width height → (c : Cell) → IsTrue (is_full s c)
         → StandsBetween (pos 0) width f.right c × StandsBetween (pos 0) height f.up c }

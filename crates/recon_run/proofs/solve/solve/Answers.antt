@@ -4,7 +4,7 @@ use Rattle.dxf_entities.specs.Reading.{read_of}
 use Rattle.dxf_groups.specs.Groups.{GroupsState}
 use Rattle.recon_run.specs.FirstText.{first_text}
 use Rattle.recon_run.proofs.Faults.{Drawn, drawing_fault, grid_fault, no_fault}
-use Rattle.recon_run.proofs.Solved.{length-own_items, items_fault, solids_listed}
+use Rattle.recon_run.proofs.Solved.{few_items, items_fault, solids_listed}
 use Rattle.solid_model.specs.Grid.{grid_cell_count}
 use Rattle.solid_model.specs.Panels.{coordinates_of}
 use Rattle.solid_model.specs.Line.{Line}
@@ -12,17 +12,16 @@ use Rattle.solid_model.specs.Runs.{style_in}
 use Rattle.recon_run.proofs.solve.solve.Goals as goal
 
 -- what the pairs of a file read as is what it reads as
-of_file : (pairs : GroupsState) (file : List ℕ) (read lines : List Line) → pairs.text ≡ file
-    → read_of pairs.text ≡ Ok read → lines ≡ read → read_of file ≡ Ok lines
-of_file pairs file read lines text reads same =
-    subst (λ t. read_of t ≡ Ok lines) text (reads ∙ ap Ok (sym same))
+of_file : {pairs first : GroupsState} {read lines : List Line} → pairs ≡ first
+    → read_of pairs.text ≡ Ok read → lines ≡ read → read_of first.text ≡ Ok lines
+of_file {lines = lines} begun reads same =
+    subst (λ (pairs : GroupsState). read_of pairs.text ≡ Ok lines) begun (reads ∙ ap Ok (sym same))
 
 pub returns-in_err-drawing-clause-fault : goal.returns-in_err-drawing-clause-fault
 returns-in_err-drawing-clause-fault c fault is =
     let file = c.args.file.items in
     let lines = c.as_slice.result.now in
-    let text = ap (λ (pairs : GroupsState). pairs.text) c.new.ensures in
-    let reads = of_file c.new.result file _ lines text c.in_ok-lines.ensures.lines c.as_slice.ensures.value in
+    let reads = of_file c.new.ensures c.in_ok-lines.ensures.lines c.as_slice.ensures.value in
     let refused = c.in_err-drawing.field-0.0 in
     let result = c.from_residual-in_err-drawing in
     let from = err_from_is_err_and result.result result.ensures.1 in
@@ -33,8 +32,7 @@ pub returns-in_err-grid-clause-fault : goal.returns-in_err-grid-clause-fault
 returns-in_err-grid-clause-fault c fault is =
     let file = c.args.file.items in
     let lines = c.as_slice.result.now in
-    let text = ap (λ (pairs : GroupsState). pairs.text) c.new.ensures in
-    let reads = of_file c.new.result file _ lines text c.in_ok-lines.ensures.lines c.as_slice.ensures.value in
+    let reads = of_file c.new.ensures c.in_ok-lines.ensures.lines c.as_slice.ensures.value in
     let ensured = c.in_ok-drawing.ensures in
     let drawn : Drawn file lines (style_in c.in_ok-drawing.drawing)
     = record { reads = reads; shown = ensured.shown; same = ensured.drawn } in
@@ -48,8 +46,7 @@ pub returns-in_err-items-clause-fault : goal.returns-in_err-items-clause-fault
 returns-in_err-items-clause-fault c fault is =
     let file = c.args.file.items in
     let lines = c.as_slice.result.now in
-    let text = ap (λ (pairs : GroupsState). pairs.text) c.new.ensures in
-    let reads = of_file c.new.result file _ lines text c.in_ok-lines.ensures.lines c.as_slice.ensures.value in
+    let reads = of_file c.new.ensures c.in_ok-lines.ensures.lines c.as_slice.ensures.value in
     let ensured = c.in_ok-drawing.ensures in
     let drawn : Drawn file lines (style_in c.in_ok-drawing.drawing)
     = record { reads = reads; shown = ensured.shown; same = ensured.drawn } in
@@ -59,27 +56,17 @@ returns-in_err-items-clause-fault c fault is =
     items_fault file lines (style_in c.in_ok-drawing.drawing) drawn c.in_ok-grid.grid c.in_ok-grid.ensures.grid refused c.requires
     (λ f e. c.in_err-items.ensures.large f (ap Err e)) fault cc
 
-pub matching_choices-requires-clause-cells : goal.matching_choices-requires-clause-cells
-matching_choices-requires-clause-cells c =
-    let items = c.as_slice-2.ensures.value ∙ c.in_ok-items.ensures.items in
-    ap (λ (xs : List (Option ℕ)). length xs) items ∙ length-own_items (grid_cell_count (coordinates_of c.in_ok-grid.grid))
-
-pub matching_choices-requires-clause-few : goal.matching_choices-requires-clause-few
-matching_choices-requires-clause-few c =
-    let long = ap (λ (xs : List (Option ℕ)). length xs) c.in_ok-items.ensures.items ∙ length-own_items (grid_cell_count (coordinates_of c.in_ok-grid.grid)) in
-    omega (arith, long, c.in_ok-items.ensures.few, c.len.ensures)
+pub matching_choices-requires : goal.matching_choices-requires
+matching_choices-requires c = omega (arith, few_items c.in_ok-items.ensures.items c.in_ok-items.ensures.few, c.len.ensures)
 
 pub overflow_cast-len : goal.overflow_cast-len
-overflow_cast-len c =
-    let long = ap (λ (xs : List (Option ℕ)). length xs) c.in_ok-items.ensures.items ∙ length-own_items (grid_cell_count (coordinates_of c.in_ok-grid.grid)) in
-    omega (arith, long, c.in_ok-items.ensures.few, c.len.ensures)
+overflow_cast-len c = omega (arith, few_items c.in_ok-items.ensures.items c.in_ok-items.ensures.few, c.len.ensures)
 
 pub returns-clause-whole : goal.returns-clause-whole
 returns-clause-whole c =
     let file = c.args.file.items in
     let lines = c.as_slice.result.now in
-    let text = ap (λ (pairs : GroupsState). pairs.text) c.new.ensures in
-    let reads = of_file c.new.result file _ lines text c.in_ok-lines.ensures.lines c.as_slice.ensures.value in
+    let reads = of_file c.new.ensures c.in_ok-lines.ensures.lines c.as_slice.ensures.value in
     let ensured = c.in_ok-drawing.ensures in
     let drawn : Drawn file lines (style_in c.in_ok-drawing.drawing)
     = record { reads = reads; shown = ensured.shown; same = ensured.drawn } in

@@ -1,4 +1,4 @@
--- An outermost full cell draws an outermost edge, so a matching solid lies in the box of its drawing.
+-- An outermost full cell draws an outermost edge, so a solid lies within what a view shows of it.
 use Rattle.std.proofs.Common.{◌≡◌, Bool, true, false, ◌&&◌, List, ℤ, pos, ◌+ℤ◌, ◌-ℤ◌, ◌≤ℤ◌, ◌<ℤ◌, IsTrue, Decides, refl, ap, sym, subst, ◌∙◌, arith}
 use Rattle.std.specs.Ordering.{int_eq}
 use Rattle.std.proofs.lemmas.Bool.{false_from_ne_true}

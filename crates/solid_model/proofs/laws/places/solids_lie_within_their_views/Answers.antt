@@ -1,6 +1,6 @@
 use Rattle.solid_model.proofs.Matched.{lies_in_box}
-use Rattle.solid_model.proofs.UnitBox.{lies_in_rectangle}
-use Rattle.solid_model.proofs.laws.places.matching_solids_lie_in_the_unit_box.Goals as goal
+use Rattle.solid_model.proofs.WithinViews.{lies_in_rectangle}
+use Rattle.solid_model.proofs.laws.places.solids_lie_within_their_views.Goals as goal
 
 pub returns-clause-view : goal.returns-clause-view
 returns-clause-view c = lies_in_rectangle

@@ -1,0 +1,131 @@
+//! Small solids, drawn by their columns of cells.
+
+use super::files::{file_of, layer_of};
+use super::runs::solve;
+use solid_model::View;
+use std::alloc::{AllocError, Global};
+use std::test::Fail;
+
+/// Whether a set has a cell. The sets are those of a box of 2 by 2 by 2 cells, whose coordinates are 1 and 2; a set has a bit
+/// for each cell, by z, then y, then x.
+fn is_full(set: u8, x: u8, y: u8, z: u8) -> bool {
+    let is_inside = (x == 1 || x == 2) && (y == 1 || y == 2) && (z == 1 || z == 2);
+    is_inside && set >> (x - 1 + 2 * (y - 1) + 4 * (z - 1)) & 1 == 1
+}
+
+/// Which cells are full on the sight line at a place of a view, the nearer one first.
+fn column(set: u8, view: View, right: u8, up: u8) -> [bool; 2] {
+    match view {
+        View::Front => [is_full(set, right, 1, up), is_full(set, right, 2, up)],
+        View::Top => [is_full(set, right, up, 2), is_full(set, right, up, 1)],
+        View::Side => [is_full(set, 2, right, up), is_full(set, 1, right, up)],
+    }
+}
+
+/// The style of a segment between two columns: nothing where they are the same, and hidden where they differ behind
+/// their first full cell.
+fn style_between(one: [bool; 2], other: [bool; 2]) -> Option<&'static str> {
+    match (one, other) {
+        ([true, a], [true, b]) if a != b => Some("D"),
+        ([true, _], [true, _]) => None,
+        ([false, a], [false, b]) if a == b => None,
+        _ => Some("S"),
+    }
+}
+
+/// Adds the strokes of a view, a segment each: nine level ones, and nine upright ones.
+fn push_view(steps: &mut String, set: u8, view: View) -> Result<(), AllocError> {
+    write!(steps, ", {}", layer_of(view))?;
+    for place in 0..18u8 {
+        let (right, up, upright) = (place % 3, place / 3 % 3, place / 9);
+        let (to_right, to_up) = (right + 1 - upright, up + upright);
+        let ahead = column(set, view, right + 1, up + 1);
+        if let Some(style) = style_between(column(set, view, to_right, to_up), ahead) {
+            write!(steps, ", line {style} {right} {up} {to_right} {to_up}")?;
+        }
+    }
+    Ok(())
+}
+
+/// The file of a set's drawing.
+fn drawn_file(alloc: Global, set: u8) -> Result<String, AllocError> {
+    let mut steps = String::from_str(alloc, "0 SECTION, 2 ENTITIES")?;
+    for view in [View::Front, View::Top, View::Side] {
+        push_view(&mut steps, set, view)?;
+    }
+    steps.push_str(", 0 ENDSEC, 0 EOF")?;
+    file_of(alloc, steps.as_str())
+}
+
+/// A set, moved so that its least coordinates are 1.
+fn moved(set: u8) -> u8 {
+    let set = if set & 0b0101_0101 == 0 {
+        set >> 1
+    } else {
+        set
+    };
+    let set = if set & 0b0011_0011 == 0 {
+        set >> 2
+    } else {
+        set
+    };
+    if set & 0b0000_1111 == 0 {
+        set >> 4
+    } else {
+        set
+    }
+}
+
+/// The cells from one coordinate to another along an axis: those at 0, those at 1, or both.
+fn cells_between(low: &str, high: &str, at_0: u8, at_1: u8) -> u8 {
+    match (low, high) {
+        ("0", "1") => at_0,
+        ("1", "2") => at_1,
+        ("0", "2") => at_0 | at_1,
+        _ => 0,
+    }
+}
+
+/// The cells of a set along x, y and z: those at 0, and those at 1.
+const HALVES: [(u8, u8); 3] = [
+    (0b0101_0101, 0b1010_1010),
+    (0b0011_0011, 0b1100_1100),
+    (0b0000_1111, 0b1111_0000),
+];
+
+/// The cells of a box line, each of which has coordinates 0 or 1.
+fn cells_of(line: &str) -> u8 {
+    let (low, high) = line.strip_prefix("box ").and_then(|corners| corners.split_once(' ')).unwrap_or(("", ""));
+    let mut pairs = low.split(',').zip(high.split(','));
+    let mut cells = 255;
+    for (at_0, at_1) in HALVES {
+        let (low, high) = pairs.next().unwrap_or(("", ""));
+        cells &= cells_between(low, high, at_0, at_1);
+    }
+    cells
+}
+
+/// The cells of a solid's box lines.
+fn listed_set(solid: &str) -> u8 {
+    let mut set = 0;
+    for line in solid.lines().skip(1) {
+        set |= cells_of(line);
+    }
+    set
+}
+
+/// Whether a set is listed for its own drawing, with its volume.
+fn is_found(alloc: Global, set: u8) -> Result<bool, AllocError> {
+    let wrote = solve(alloc, drawn_file(alloc, set)?)?;
+    let volume = format!(in alloc; " volume {}\n", set.count_ones())?;
+    let mut solids = wrote.as_str().split("\nsolid ").skip(1);
+    Ok(solids.any(|solid| solid.contains(volume.as_str()) && listed_set(solid) == moved(set)))
+}
+
+#[test]
+fn every_small_set_is_found_again(rt: HostRuntime) -> Result<(), Fail> {
+    for set in 1..=255u8 {
+        assert!(rt; is_found(rt.alloc(), set)?, "the set {set}");
+    }
+    Ok(())
+}
