@@ -8,8 +8,9 @@ ghost use Rattle.columns.specs.GridColumns.{numbers_of};
 use crate::column::{Column, style_of};
 use crate::draw::{columns_in, draw_in};
 use crate::per_axis::PerAxis;
-use solid_model::{Panel, Style, View};
+use solid_model::{Style, View};
 use std::alloc::Global;
+use std::fmt::Write;
 use std::test::Fail;
 
 /// A row a drawing: the numbers of coordinates along x, y and z; the cells, layer by layer from the bottom, in each row by row
@@ -45,19 +46,17 @@ fn cells(alloc: Global, text: &str) -> Result<Vec<bool>, Fail> {
     Ok(cells)
 }
 
-/// The columns, as a row has them.
-fn columns_told(alloc: Global, columns: &[Column]) -> Result<String, Fail> {
-    let mut told = String::new(alloc);
+/// Adds the columns, as a row has them.
+fn push_columns(told: &mut String, columns: &[Column]) -> Result<(), Fail> {
     for column in columns {
-        let number = format!(in alloc; " {}", column.0)?;
-        told.push_str(number.as_str())?;
+        write!(told, " {}", column.0)?;
     }
-    Ok(told)
+    told.push_str(";")?;
+    Ok(())
 }
 
-/// The styles, as a row has them, in lines of so many.
-fn styles_told(alloc: Global, styles: &[Style], width: usize) -> Result<String, Fail> {
-    let mut told = String::new(alloc);
+/// Adds the styles, as a row has them, in lines of so many.
+fn push_styles(told: &mut String, styles: &[Style], width: usize) -> Result<(), Fail> {
     for (place, style) in styles.iter().enumerate() {
         if width > 0 && place % width == 0 {
             told.push_str(" ")?;
@@ -68,47 +67,26 @@ fn styles_told(alloc: Global, styles: &[Style], width: usize) -> Result<String, 
             Style::Solid => "#",
         })?;
     }
-    Ok(told)
+    told.push_str(";")?;
+    Ok(())
 }
 
-/// What a view shows, as a row has it.
-fn view_told(
-    alloc: Global,
-    view: View,
-    gaps: PerAxis,
-    columns: &[Column],
-    panel: &Panel,
-) -> Result<String, Fail> {
-    let frame = view.frame();
-    let columns = columns_told(alloc, columns)?;
-    let level = styles_told(alloc, panel.along(false), gaps.along(frame.right.axis))?;
-    let upright = styles_told(alloc, panel.along(true), gaps.along(frame.up.axis))?;
-    Ok(format!(in alloc; "{columns};{level};{upright};")?)
-}
-
-/// What the three views show.
+/// What the three views show, as a row has it.
 fn told(alloc: Global, counts: PerAxis, cells: &[bool]) -> Result<String, Fail>
     requires { (a : Axis) → numbers_of counts a ≤ most_grid_coordinates }
 {
     let gaps = counts.gaps();
     let columns = columns_in(alloc, counts, cells)?;
     let panels = draw_in(alloc, counts, cells)?;
-    let front = view_told(
-        alloc,
-        View::Front,
-        gaps,
-        columns.view(View::Front),
-        &panels.front,
-    )?;
-    let top = view_told(alloc, View::Top, gaps, columns.view(View::Top), &panels.top)?;
-    let side = view_told(
-        alloc,
-        View::Side,
-        gaps,
-        columns.view(View::Side),
-        &panels.side,
-    )?;
-    Ok(format!(in alloc; "{front}{top}{side}")?)
+    let mut told = String::new(alloc);
+    for view in [View::Front, View::Top, View::Side] {
+        push_columns(&mut told, columns.view(view))?;
+        for upright in [false, true] {
+            let width = gaps.along(view.frame().along(upright).axis);
+            push_styles(&mut told, panels.view(view).along(upright), width)?;
+        }
+    }
+    Ok(told)
 }
 
 /// The numbers of coordinates.
