@@ -1,6 +1,6 @@
 //! Drawings of grid cells that were worked out by hand.
 
-ghost use Rattle.std.specs.Prelude.{◌≤◌, IfOk};
+ghost use Rattle.std.specs.Prelude.{◌≤◌};
 ghost use Rattle.solid_model.specs.declared.cell.Axis.{Axis};
 ghost use Rattle.solid_model.specs.Limits.{most_grid_coordinates};
 ghost use Rattle.columns.specs.GridColumns.{numbers_of};
@@ -8,30 +8,40 @@ ghost use Rattle.columns.specs.GridColumns.{numbers_of};
 use crate::column::{Column, style_of};
 use crate::draw::{columns_in, draw_in};
 use crate::per_axis::PerAxis;
-use solid_model::{Panel, Style, View};
+use solid_model::{Style, View};
 use std::alloc::Global;
+use std::fmt::Write;
 use std::test::Fail;
 
-/// A row a drawing: the numbers of coordinates along x, y and z; the cells, layer by layer from the bottom, in each row by row
-/// from the front, a `#` for each that is chosen; and for the front, the top and the side the columns, and the styles of the
-/// level and of the upright segments, line by line, with `#` for Solid, `-` for Dashed and `.` for Blank.
+/// A row a drawing: the numbers of coordinates along x, y and z, a digit each; the cells, layer by layer from the bottom,
+/// in each row by row from the front, a `#` for each that is chosen; and for the front, the top and the side the columns,
+/// and the styles of the level and of the upright segments, line by line, with `#` for Solid, `-` for Dashed and `.` for
+/// Blank.
 const DRAWINGS: &str = "\
-3 4 5|###.#. ##.#.. ....#. ....##| \
+345|###.#. ##.#.. ....#. ....##| \
 7 1 1 3 4 0 4 4; ## -- ## .# ##; #### --#. ##.#; \
 12 12 8 4 11 1; ## #- ## ##; ### .#- ###; \
 3 2 2 3 1 0 0 0 2 0 0 3; ### .## ### ..# ..#; ##.. #-.. .### #.##;
-1 3 2||;; .;;; ..; 0 0; .. ..; . . .;
-1 1 1||;;;;;;;;;";
+132||;; .;;; ..; 0 0; .. ..; . . .;
+111||;;;;;;;;;";
 
-/// A number of coordinates.
-fn count(text: Option<&str>) -> Result<usize, Fail>
-    ensures { IfOk result (λ n. n ≤ most_grid_coordinates) }
+/// The number of coordinates that a digit stands for.
+fn count(digit: Option<u8>) -> usize
+    ensures { result ≤ most_grid_coordinates }
 {
-    let count: usize = text.ok_or("a number")?.parse()?;
-    if count > 64 {
-        return Err(Fail::new("too many coordinates"));
+    usize::from(digit.unwrap_or(b'0').saturating_sub(b'0') % 10)
+}
+
+/// The numbers of coordinates.
+fn counts(text: &str) -> PerAxis
+    ensures { (a : Axis) → numbers_of result a ≤ most_grid_coordinates }
+{
+    let mut digits = text.bytes();
+    PerAxis {
+        x: count(digits.next()),
+        y: count(digits.next()),
+        z: count(digits.next()),
     }
-    Ok(count)
 }
 
 /// The cells that are chosen.
@@ -45,19 +55,17 @@ fn cells(alloc: Global, text: &str) -> Result<Vec<bool>, Fail> {
     Ok(cells)
 }
 
-/// The columns, as a row has them.
-fn columns_told(alloc: Global, columns: &[Column]) -> Result<String, Fail> {
-    let mut told = String::new(alloc);
+/// Adds the columns, as a row has them.
+fn push_columns(told: &mut String, columns: &[Column]) -> Result<(), Fail> {
     for column in columns {
-        let number = format!(in alloc; " {}", column.0)?;
-        told.push_str(number.as_str())?;
+        write!(told, " {}", column.0)?;
     }
-    Ok(told)
+    told.push_str(";")?;
+    Ok(())
 }
 
-/// The styles, as a row has them, in lines of so many.
-fn styles_told(alloc: Global, styles: &[Style], width: usize) -> Result<String, Fail> {
-    let mut told = String::new(alloc);
+/// Adds the styles, as a row has them, in lines of so many.
+fn push_styles(told: &mut String, styles: &[Style], width: usize) -> Result<(), Fail> {
     for (place, style) in styles.iter().enumerate() {
         if width > 0 && place % width == 0 {
             told.push_str(" ")?;
@@ -68,59 +76,26 @@ fn styles_told(alloc: Global, styles: &[Style], width: usize) -> Result<String, 
             Style::Solid => "#",
         })?;
     }
-    Ok(told)
+    told.push_str(";")?;
+    Ok(())
 }
 
-/// What a view shows, as a row has it.
-fn view_told(
-    alloc: Global,
-    view: View,
-    gaps: PerAxis,
-    columns: &[Column],
-    panel: &Panel,
-) -> Result<String, Fail> {
-    let frame = view.frame();
-    let columns = columns_told(alloc, columns)?;
-    let level = styles_told(alloc, panel.along(false), gaps.along(frame.right.axis))?;
-    let upright = styles_told(alloc, panel.along(true), gaps.along(frame.up.axis))?;
-    Ok(format!(in alloc; "{columns};{level};{upright};")?)
-}
-
-/// What the three views show.
+/// What the three views show, as a row has it.
 fn told(alloc: Global, counts: PerAxis, cells: &[bool]) -> Result<String, Fail>
     requires { (a : Axis) → numbers_of counts a ≤ most_grid_coordinates }
 {
     let gaps = counts.gaps();
     let columns = columns_in(alloc, counts, cells)?;
     let panels = draw_in(alloc, counts, cells)?;
-    let front = view_told(
-        alloc,
-        View::Front,
-        gaps,
-        columns.view(View::Front),
-        &panels.front,
-    )?;
-    let top = view_told(alloc, View::Top, gaps, columns.view(View::Top), &panels.top)?;
-    let side = view_told(
-        alloc,
-        View::Side,
-        gaps,
-        columns.view(View::Side),
-        &panels.side,
-    )?;
-    Ok(format!(in alloc; "{front}{top}{side}")?)
-}
-
-/// The numbers of coordinates.
-fn counts(text: &str) -> Result<PerAxis, Fail>
-    ensures { IfOk result (λ counts. (a : Axis) → numbers_of counts a ≤ most_grid_coordinates) }
-{
-    let mut numbers = text.split(' ');
-    Ok(PerAxis {
-        x: count(numbers.next())?,
-        y: count(numbers.next())?,
-        z: count(numbers.next())?,
-    })
+    let mut told = String::new(alloc);
+    for view in [View::Front, View::Top, View::Side] {
+        push_columns(&mut told, columns.view(view))?;
+        for upright in [false, true] {
+            let width = gaps.along(view.frame().along(upright).axis);
+            push_styles(&mut told, panels.view(view).along(upright), width)?;
+        }
+    }
+    Ok(told)
 }
 
 #[test]
@@ -128,7 +103,7 @@ fn chosen_cells_draw_what_was_found_by_hand(rt: HostRuntime) -> Result<(), Fail>
     let alloc = rt.alloc();
     for row in DRAWINGS.lines() {
         let mut parts = row.split('|');
-        let counts = counts(parts.next().ok_or("numbers")?)?;
+        let counts = counts(parts.next().ok_or("numbers")?);
         let cells = cells(alloc, parts.next().ok_or("cells")?)?;
         let told = told(alloc, counts, cells.as_slice())?;
         assert_eq!(rt; Some(told.as_str()), parts.next(), "{row}");
@@ -137,7 +112,7 @@ fn chosen_cells_draw_what_was_found_by_hand(rt: HostRuntime) -> Result<(), Fail>
 }
 
 #[test]
-fn columns_have_64_depths(rt: HostRuntime) {
+fn columns_have_all_64_depths(rt: HostRuntime) {
     let far = Column(1 << 63);
     for depth in 0..63_u32 {
         let near = Column(1 << depth);
