@@ -22,7 +22,7 @@ use Rattle.solid_model.specs.Lists.{Ascends}
 use Rattle.solid_model.specs.Segments.{segment_at}
 use Rattle.solid_model.proofs.ColumnRule.{columns_drawn}
 use Rattle.solid_model.proofs.Styles.{one_style, drawn_style_drawn}
-use Rattle.solid_model.proofs.Views.{views_are_frames, across_each, across_along, across_next, across_turned, cell_on_twice, places_of_cell_in}
+use Rattle.solid_model.proofs.Views.{views_are_frames, across_each, each_axis, across_along, across_next, across_turned, cell_on_twice, places_of_cell_in}
 use Rattle.columns.specs.Bits.{bits}
 use Rattle.columns.specs.GridColumns.{by_axis, numbered, number_on, grid_cell_in, grid_column}
 use Rattle.columns.specs.GridPanels.{place_right, place_up, IsColumnBeside, AreColumnsBeside}
@@ -30,24 +30,6 @@ use Rattle.columns.proofs.Gaps.{member, lies_in, some_gap_or_none, gaps_keep_ord
 use Rattle.columns.proofs.Stretched.{KeepsOrder, IsStretched, stretched_draw}
 
 -- ---- axes and frames
-
--- what holds of three axes holds of each
-of_each : (P : Axis → Type 0) (a b c : Axis) → AreAcross a b c → P a → P b → P c → (x : Axis) → P x
-of_each P = across_each (λ a b c. P a → P b → P c → (x : Axis) → P x) inorder turned
-  where
-    inorder : (a : Axis) → P a → P (second_axis a) → P (third_axis a) → (x : Axis) → P x
-    inorder X p q r X = p
-    inorder X p q r Y = q
-    inorder X p q r Z = r
-    inorder Y p q r X = r
-    inorder Y p q r Y = p
-    inorder Y p q r Z = q
-    inorder Z p q r X = q
-    inorder Z p q r Y = r
-    inorder Z p q r Z = p
-
-    turned : (a : Axis) → P a → P (third_axis a) → P (second_axis a) → (x : Axis) → P x
-    turned a p q r = inorder a p r q
 
 -- the grid cell with three numbers has those numbers
 record HasNumbers (a b c : Axis) (i j k : ℕ) (n : GridCell) : Type 0 where
@@ -201,7 +183,7 @@ module _ (coordinates : Coordinates) (ordered : (a : Axis) → Ascends ◌<ℤ�
           let c : Cell = cell_in f upright i j k in
           let n : GridCell = grid_cell_in f sizes right up d in
           let stand = stands_at i j k in
-          of_each (λ a. is_in_gap (coordinates a) (n a) (coordinate a c) ≡ true) (along f upright).axis (across f upright).axis f.away.axis (across_along f is upright)
+          each_axis (λ a. is_in_gap (coordinates a) (n a) (coordinate a c) ≡ true) (along f upright).axis (across f upright).axis f.away.axis (across_along f is upright)
           ((λ t. is_in_gap (coordinates (along f upright).axis) (number_along f is sizes upright runs start line d t) (stand.on_stretch t)) ∙ on_stretch)
           ((λ t. is_in_gap (coordinates (across f upright).axis) (number_across f is sizes upright stands start line d t) (stand.beside t)) ∙ beside)
           ((λ t. is_in_gap (coordinates f.away.axis) ((cell_numbers f is sizes right up d).third t) (stand.deep t)) ∙ at.1)

@@ -13,8 +13,8 @@ use Rattle.recon_run.proofs.Grids.{coordinates_from_grid}
 use Rattle.solid_model.specs.declared.segment.Segment.{Segment}
 use Rattle.solid_model.specs.declared.segment.Style.{Style}
 use Rattle.solid_model.specs.Choices.{own_items, AreChoicesThat, IsMatchingChoice}
-use Rattle.solid_model.specs.Drawings.{drawing_of}
-use Rattle.solid_model.specs.Grid.{grid_cell_count}
+use Rattle.solid_model.specs.Drawings.{drawing_of, IsShown}
+use Rattle.solid_model.specs.Grid.{Coordinates, AreCoordinatesOf, grid_cell_count}
 use Rattle.solid_model.specs.Limits.{most_cells, most_file_bytes}
 use Rattle.solid_model.specs.Line.{Line}
 use Rattle.solid_model.specs.Panels.{GridParts, coordinates_of, IsGridOf}
@@ -28,6 +28,28 @@ length-own_items n = length-map-range_with_len Some 0 n
 -- so there are few of them where there are few cells
 pub few_items : {items : List (Option ℕ)} {n : ℕ} → items ≡ own_items n → n ≤ most_cells → length items ≤ most_cells
 few_items {items} {n} own few = omega (arith, ap (λ (xs : List (Option ℕ)). length xs) own, length-own_items n, few)
+
+-- all matching choices are told by the text that lists the solids
+pub solids_of_choices : (t : List ℕ) (ls : List Line) → read_of t ≡ Ok ls → IsShown ls
+    → (coordinates : Coordinates) → AreCoordinatesOf (drawing_of ls) coordinates → grid_cell_count coordinates ≤ most_cells
+    → (choices : List (List Bool))
+    → AreChoicesThat (IsMatchingChoice (drawing_of ls) coordinates (own_items (grid_cell_count coordinates))) (grid_cell_count coordinates) choices
+    → (text : List ℕ) → text ≡ first_text coordinates choices → ListsSolidsOf t text
+solids_of_choices t ls reads shown coordinates grid small choices matching text told =
+    let all = all_matching_solids (drawing_of ls) coordinates (λ a. (grid a).0) choices matching in
+    record {
+      lines = ls;
+      reads = reads;
+      shown = shown;
+      coordinates = coordinates;
+      grid = grid;
+      small = small;
+      solids = all.0;
+      all = all.1;
+      choices = choices;
+      filled = all.2;
+      told = told;
+    }
 
 module _ (t : List ℕ) (ls : List Line) (drawing : Segment → Style) (drawn : Drawn t ls drawing) (g : GridParts) (grid : IsGridOf drawing g) where
   -- the grid is that of the lines' drawing
@@ -54,17 +76,4 @@ module _ (t : List ℕ) (ls : List Line) (drawing : Segment → Style) (drawn : 
       let long : n ≡ count = counted ∙ (λ i. length (own i)) ∙ length-own_items count in
       let found = subst (λ m. AreChoicesThat (IsMatchingChoice d (coordinates_of g) (own_items count)) m choices) long
       (subst (λ i. AreChoicesThat (IsMatchingChoice d (coordinates_of g) i) n choices) own (matching d (lines_drawing t ls drawing drawn) lines_grid)) in
-      let all = all_matching_solids d (coordinates_of g) lines_grid.coordinates choices found in
-      record {
-        lines = ls;
-        reads = drawn.reads;
-        shown = drawn.shown;
-        coordinates = coordinates_of g;
-        grid = coordinates_from_grid d g lines_grid;
-        small = small;
-        solids = all.0;
-        all = all.1;
-        choices = choices;
-        filled = all.2;
-        told = told;
-      }
+      solids_of_choices t ls drawn.reads drawn.shown (coordinates_of g) (coordinates_from_grid d g lines_grid) small choices found text told

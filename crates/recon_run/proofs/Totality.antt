@@ -14,6 +14,7 @@ use Rattle.recon_run.specs.FirstText.{first_text}
 use Rattle.recon_run.specs.Endings.{Answers, IsReadThrough}
 use Rattle.recon_run.specs.Words.{IsSolve}
 use Rattle.recon_run.proofs.Faults.{fault_read, lines_drawing, no_fault}
+use Rattle.recon_run.proofs.Solved.{solids_of_choices}
 use Rattle.solid_model.specs.declared.cell.Axis.{Axis}
 use Rattle.solid_model.specs.declared.cell.Axis.TheVariants.{X, Y, Z}
 use Rattle.solid_model.specs.declared.fault.Fault as of_file
@@ -26,7 +27,6 @@ use Rattle.solid_model.specs.Grid.{Coordinates, AreGridCoordinates, AreCoordinat
 use Rattle.solid_model.specs.Limits.{most_cells, most_file_bytes, most_grid_coordinates}
 use Rattle.solid_model.specs.Line.{Line}
 use Rattle.solid_model.specs.Runs.{IsDrawing}
-use Rattle.solid_model.proofs.OwnItems.{all_matching_solids}
 use Rattle.solid_model.proofs.SomeGrid.{some_coordinates}
 
 -- where no view is the first empty one, every view shows something
@@ -73,20 +73,8 @@ module _ (t : List ℕ) (short : length t ≤ most_file_bytes) (faultless : (fau
     listed : (coordinates : Coordinates) → AreCoordinatesOf (drawing_of ls) coordinates → grid_cell_count coordinates ≤ most_cells → ⊥
     listed coordinates grid small =
         some_choices (IsMatchingChoice (drawing_of ls) coordinates (own_items (grid_cell_count coordinates))) (grid_cell_count coordinates) (λ choices matching.
-        let all = all_matching_solids (drawing_of ls) coordinates (λ a. (grid a).0) choices matching in
-        listless (first_text coordinates choices) (record {
-          lines = ls;
-          reads = reads;
-          shown = shown;
-          coordinates = coordinates;
-          grid = grid;
-          small = small;
-          solids = all.0;
-          all = all.1;
-          choices = choices;
-          filled = all.2;
-          told = refl;
-        }))
+        listless (first_text coordinates choices)
+        (solids_of_choices t ls reads shown coordinates grid small choices matching (first_text coordinates choices) refl))
 
     -- it can't be that an input with lines has no fault and no list of solids
     input_with_lines : ⊥

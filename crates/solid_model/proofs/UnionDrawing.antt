@@ -93,12 +93,8 @@ runs_forward Side true z = refl
 runs_forward Side false z = refl
 
 lies_forward : (v : View) (upright : Bool) (z : ℤ) → cell_on (across (frame_of v) upright) z ≡ z
-lies_forward Front true z = refl
-lies_forward Front false z = refl
-lies_forward Top true z = refl
-lies_forward Top false z = refl
-lies_forward Side true z = refl
-lies_forward Side false z = refl
+lies_forward v true z = runs_forward v false z
+lies_forward v false z = runs_forward v true z
 
 module _ (coordinates : Coordinates) (ascends : (a : Axis) → Ascends ◌<ℤ◌ (coordinates a)) where
   -- a cell lies in a grid cell, or outside all of them

@@ -5,7 +5,9 @@ use Rattle.dxf_groups.specs.Groups.{GroupsState}
 use Rattle.recon_run.specs.FirstText.{first_text}
 use Rattle.recon_run.proofs.Faults.{Drawn, drawing_fault, grid_fault, no_fault}
 use Rattle.recon_run.proofs.Solved.{few_items, items_fault, solids_listed}
-use Rattle.solid_model.specs.Grid.{grid_cell_count}
+use Rattle.solid_model.specs.declared.segment.Segment.{Segment}
+use Rattle.solid_model.specs.declared.segment.Style.{Style}
+use Rattle.solid_model.specs.Drawings.{drawing_of, IsShown}
 use Rattle.solid_model.specs.Panels.{coordinates_of}
 use Rattle.solid_model.specs.Line.{Line}
 use Rattle.solid_model.specs.Runs.{style_in}
@@ -16,6 +18,12 @@ of_file : {pairs first : GroupsState} {read lines : List Line} → pairs ≡ fir
     → read_of pairs.text ≡ Ok read → lines ≡ read → read_of first.text ≡ Ok lines
 of_file {lines = lines} begun reads same =
     subst (λ (pairs : GroupsState). read_of pairs.text ≡ Ok lines) begun (reads ∙ ap Ok (sym same))
+
+-- so the drawing of what was read is that of the file's lines
+drawn_of : {pairs first : GroupsState} {read lines : List Line} {drawing : Segment → Style} → pairs ≡ first
+    → read_of pairs.text ≡ Ok read → lines ≡ read
+    → IsShown lines → ((g : Segment) → drawing g ≡ drawing_of lines g) → Drawn first.text lines drawing
+drawn_of begun reads same shown drawn = record { reads = of_file begun reads same; shown = shown; same = drawn }
 
 pub returns-in_err-drawing-clause-fault : goal.returns-in_err-drawing-clause-fault
 returns-in_err-drawing-clause-fault c fault is =
@@ -32,10 +40,9 @@ pub returns-in_err-grid-clause-fault : goal.returns-in_err-grid-clause-fault
 returns-in_err-grid-clause-fault c fault is =
     let file = c.args.file.items in
     let lines = c.as_slice.result.now in
-    let reads = of_file c.new.ensures c.in_ok-lines.ensures.lines c.as_slice.ensures.value in
     let ensured = c.in_ok-drawing.ensures in
-    let drawn : Drawn file lines (style_in c.in_ok-drawing.drawing)
-    = record { reads = reads; shown = ensured.shown; same = ensured.drawn } in
+    let drawn = drawn_of {drawing = style_in c.in_ok-drawing.drawing} c.new.ensures c.in_ok-lines.ensures.lines
+    c.as_slice.ensures.value ensured.shown ensured.drawn in
     let refused = c.in_err-grid.field-0.0 in
     let result = c.from_residual-in_err-grid in
     let from = err_from_is_err_and result.result result.ensures.1 in
@@ -46,10 +53,9 @@ pub returns-in_err-items-clause-fault : goal.returns-in_err-items-clause-fault
 returns-in_err-items-clause-fault c fault is =
     let file = c.args.file.items in
     let lines = c.as_slice.result.now in
-    let reads = of_file c.new.ensures c.in_ok-lines.ensures.lines c.as_slice.ensures.value in
     let ensured = c.in_ok-drawing.ensures in
-    let drawn : Drawn file lines (style_in c.in_ok-drawing.drawing)
-    = record { reads = reads; shown = ensured.shown; same = ensured.drawn } in
+    let drawn = drawn_of {drawing = style_in c.in_ok-drawing.drawing} c.new.ensures c.in_ok-lines.ensures.lines
+    c.as_slice.ensures.value ensured.shown ensured.drawn in
     let refused = c.in_err-items.field-0.0 in
     let result = c.from_residual-in_err-items in
     let from = err_from_is_err_and result.result result.ensures.1 in
@@ -66,10 +72,9 @@ pub returns-clause-whole : goal.returns-clause-whole
 returns-clause-whole c =
     let file = c.args.file.items in
     let lines = c.as_slice.result.now in
-    let reads = of_file c.new.ensures c.in_ok-lines.ensures.lines c.as_slice.ensures.value in
     let ensured = c.in_ok-drawing.ensures in
-    let drawn : Drawn file lines (style_in c.in_ok-drawing.drawing)
-    = record { reads = reads; shown = ensured.shown; same = ensured.drawn } in
+    let drawn = drawn_of {drawing = style_in c.in_ok-drawing.drawing} c.new.ensures c.in_ok-lines.ensures.lines
+    c.as_slice.ensures.value ensured.shown ensured.drawn in
     let items = c.as_slice-2.result.now in
     let own = c.as_slice-2.ensures.value ∙ c.in_ok-items.ensures.items in
     let slice = ap (λ (xs : List (Option ℕ)). length xs) c.as_slice-2.ensures.value in
