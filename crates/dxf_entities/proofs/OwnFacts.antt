@@ -1,17 +1,16 @@
 -- What counts of an entry, pair by pair and all at once.
-use Rattle.std.proofs.Common.{◌≡◌, ℕ, Bool, true, false, not, List, [], ◌∷◌, Option, Some, None, Result, Ok, Err, if◌then◌else◌, codes, refl, sym, ap, ◌∙◌}
+use Rattle.std.proofs.Common.{◌≡◌, ℕ, Bool, true, false, not, List, [], ◌∷◌, Option, Some, None, Result, Ok, Err, if◌then◌else◌, refl, sym, ap, ◌∙◌}
 use Rattle.std.specs.Option.{option_map, option_or, option_flatten}
-use Rattle.std.specs.Str.{bytes_eq}
 use Rattle.solid_model.specs.declared.fault.Fault.{Fault}
 use Rattle.solid_model.specs.declared.frame.View.{View}
 use Rattle.dxf_groups.specs.Pairs.{TextPair}
 use Rattle.dxf_entities.specs.declared.facts.Facts.{Facts}
-use Rattle.dxf_entities.specs.declared.layers.LayerFacts.{LayerFacts}
-use Rattle.dxf_entities.specs.declared.names.Kind.TheVariants.{Other}
-use Rattle.dxf_entities.specs.declared.names.Linetype.{Linetype}
+use Rattle.dxf_entities.specs.declared.layer_facts.LayerFacts.{LayerFacts}
+use Rattle.dxf_entities.specs.declared.kind.Kind.TheVariants.{Other}
+use Rattle.dxf_entities.specs.declared.linetype.Linetype.{Linetype}
 use Rattle.dxf_entities.specs.Coordinates.{◌>>=◌, with_coordinate, coordinates_of}
 use Rattle.dxf_entities.specs.Entries.{has_code, own_pairs, first_value, opens_application, closes_application}
-use Rattle.dxf_entities.specs.Judging.{is_on_paper, judged_in, judged_on, judged}
+use Rattle.dxf_entities.specs.Judging.{is_on_paper, is_one, judged_in, judged_on, judged}
 use Rattle.dxf_entities.specs.Names.{view_on, linetype_of}
 use Rattle.dxf_entities.specs.Resuming.{or_first, with_fact, with_layer_fact, with_own}
 
@@ -26,7 +25,8 @@ first_of_more : {A : Type 0} (code : ℕ) (meaning : List ℕ → A) (p : TextPa
 first_of_more code meaning p own (Some x) = refl
 first_of_more code meaning p own None = by (has_code code p)
   where
-    by : (b : Bool) → option_or (if b then Some (meaning p.value) else None) (option_map meaning (first_value code own))
+    by : (b : Bool)
+        → option_or (if b then Some (meaning p.value) else None) (option_map meaning (first_value code own))
         ≡ option_map meaning (if b then Some p.value else first_value code own)
     by true = refl
     by false = refl
@@ -46,7 +46,7 @@ bind_bind (Err e) f g = refl
 abbrev pub with_facts : List TextPair → Facts → Facts
 with_facts own f = record f {
   layer = option_or f.layer (option_map view_on (first_value 8 own));
-  paper = option_or f.paper (option_map (λ value. bytes_eq value (codes "1")) (first_value 67 own));
+  paper = option_or f.paper (option_map is_one (first_value 67 own));
   linetype = option_or f.linetype (option_map linetype_of (first_value 6 own));
   coordinates = f.coordinates >>= coordinates_of own;
 }
@@ -61,10 +61,11 @@ no_facts f = λ i. record f {
 }
 
 -- one more pair, and then the others
-more_facts : (p : TextPair) (own : List TextPair) (f : Facts) → with_facts own (with_fact p f) ≡ with_facts (p ∷ own) f
+more_facts : (p : TextPair) (own : List TextPair) (f : Facts)
+    → with_facts own (with_fact p f) ≡ with_facts (p ∷ own) f
 more_facts p own f = λ i. record f {
   layer = first_of_more 8 view_on p own f.layer i;
-  paper = first_of_more 67 (λ value. bytes_eq value (codes "1")) p own f.paper i;
+  paper = first_of_more 67 is_one p own f.paper i;
   linetype = first_of_more 6 linetype_of p own f.linetype i;
   coordinates = bind_bind f.coordinates (with_coordinate p) (coordinates_of own) i;
 }
@@ -91,7 +92,8 @@ more_layer_facts p own f = λ i. record {
 -- what is found pair by pair is found of an entry's own pairs
 module _ {F : Type 0} (with : TextPair → F → F) (all : List TextPair → F → F) (none : (f : F) → all [] f ≡ f)
     (more : (p : TextPair) (own : List TextPair) (f : F) → all own (with p f) ≡ all (p ∷ own) f) where
-  found : (inside : Bool) (ps : List TextPair) (f : F) → with_own with inside ps f ≡ all (own_pairs inside ps) f
+  found : (inside : Bool) (ps : List TextPair) (f : F)
+      → with_own with inside ps f ≡ all (own_pairs inside ps) f
   found true [] f = sym (none f)
   found false [] f = sym (none f)
   found true (p ∷ ps) f = found (not (closes_application p)) ps f
@@ -105,7 +107,8 @@ module _ {F : Type 0} (with : TextPair → F → F) (all : List TextPair → F �
       by false inside outside = outside ∙ more p (own_pairs false ps) f
 
 -- so are the facts of an entity
-pub own_facts : (inside : Bool) (ps : List TextPair) (f : Facts) → with_own with_fact inside ps f ≡ with_facts (own_pairs inside ps) f
+pub own_facts : (inside : Bool) (ps : List TextPair) (f : Facts)
+    → with_own with_fact inside ps f ≡ with_facts (own_pairs inside ps) f
 own_facts = found with_fact with_facts no_facts more_facts
 
 -- and those of a layer's entry
@@ -114,12 +117,14 @@ pub own_layer_facts : (inside : Bool) (ps : List TextPair) (f : LayerFacts)
 own_layer_facts = found with_layer_fact with_layer_facts no_layer_facts more_layer_facts
 
 -- an entity that stands on a layer that is no view's is passed over
-pub elsewhere : (layers : View → Option Linetype) (count : ℕ) (f : Facts) → f.layer ≡ Some None → judged layers count f ≡ Ok None
+pub elsewhere : (layers : View → Option Linetype) (count : ℕ) (f : Facts) → f.layer ≡ Some None
+    → judged layers count f ≡ Ok None
 unfolding judged
 elsewhere layers count f e = ap (λ layer. judged_on (option_flatten layer) layers count f) e
 
 -- no view, or paper space: what is no geometry is passed over in each case
-no_geometry_on : (layer : Option View) (layers : View → Option Linetype) (count : ℕ) (f : Facts) → f.kind ≡ Other → judged_on layer layers count f ≡ Ok None
+no_geometry_on : (layer : Option View) (layers : View → Option Linetype) (count : ℕ) (f : Facts)
+    → f.kind ≡ Other → judged_on layer layers count f ≡ Ok None
 no_geometry_on None layers count f e = refl
 no_geometry_on (Some view) layers count f e = by (is_on_paper f.paper)
   where
@@ -128,6 +133,7 @@ no_geometry_on (Some view) layers count f e = by (is_on_paper f.paper)
     by false = ap (λ kind. judged_in kind (layers view) count view f) e
 
 -- as is one that is no geometry
-pub no_geometry : (layers : View → Option Linetype) (count : ℕ) (f : Facts) → f.kind ≡ Other → judged layers count f ≡ Ok None
+pub no_geometry : (layers : View → Option Linetype) (count : ℕ) (f : Facts) → f.kind ≡ Other
+    → judged layers count f ≡ Ok None
 unfolding judged
 no_geometry layers count f e = no_geometry_on (option_flatten f.layer) layers count f e

@@ -31,7 +31,8 @@ abbrev pub coordinate_at : TextPair → Option ℤ → Result ℤ Fault
 coordinate_at p (Some z) = Err (fault.Repeated p.line p.code)
 coordinate_at p None = value_at p (whole_of p.value)
 
--- One more pair is looked at: those with the codes 10 and 20 give the line's start, those with 11 and 21 its end.
+-- One more pair is looked at: those with the codes 10 and 20 give the line's start, those with 11 and
+-- 21 its end.
 abbrev pub with_coordinate : TextPair → Known → Result Known Fault
 with_coordinate p c =
     if has_code 10 p then (coordinate_at p c.x0 >>= λ z. Ok (record c { x0 = Some z }))
@@ -39,6 +40,10 @@ with_coordinate p c =
     else (if has_code 11 p then (coordinate_at p c.x1 >>= λ z. Ok (record c { x1 = Some z }))
     else (if has_code 21 p then (coordinate_at p c.y1 >>= λ z. Ok (record c { y1 = Some z }))
     else Ok c)))
+
+-- one more pair is looked at, unless there is a fault
+abbrev pub more_coordinates : TextPair → Result Known Fault → Result Known Fault
+more_coordinates p read = read >>= with_coordinate p
 
 -- the pairs are looked at in the file's order
 abbrev pub coordinates_of : List TextPair → Known → Result Known Fault

@@ -2,14 +2,14 @@
 use Rattle.std.specs.Prelude.{ℕ, Bool, true, false, not, ◌&&◌, List, [], ◌∷◌, pos, Option, Some, None, codes, if◌then◌else◌}
 use Rattle.std.specs.Ordering.{int_eq}
 use Rattle.std.specs.Str.{bytes_eq}
-use Rattle.dxf_groups.specs.declared.pair.Pair.{Pair}
 use Rattle.dxf_groups.specs.Pairs.{TextPair}
 
 -- the pair has this code
 abbrev pub has_code : ℕ → TextPair → Bool
 has_code code p = int_eq p.code (pos code)
 
--- An entry begins with a pair of code 0, which names it, and has the pairs up to the next one of code 0.
+-- An entry begins with a pair of code 0, which names it, and has the pairs up to the next one of
+-- code 0.
 pub record Entry : Type 0 where
   pub name : List ℕ
   pub line : ℕ
@@ -39,7 +39,8 @@ opens_application p = has_code 102 p && begins_with_brace p.value
 abbrev pub closes_application : TextPair → Bool
 closes_application p = has_code 102 p && bytes_eq p.value (codes "}")
 
--- The pairs that don't belong to an application; whether the first ones do is told. The end of the list ends all.
+-- The pairs that don't belong to an application; whether the first ones do is told. The end of the
+-- list ends all.
 abbrev pub own_pairs : Bool → List TextPair → List TextPair
 own_pairs inside [] = []
 own_pairs true (p ∷ ps) = own_pairs (not (closes_application p)) ps
@@ -49,7 +50,3 @@ own_pairs false (p ∷ ps) = if opens_application p then own_pairs true ps else 
 abbrev pub first_value : ℕ → List TextPair → Option (List ℕ)
 first_value code [] = None
 first_value code (p ∷ ps) = if has_code code p then Some p.value else first_value code ps
-
--- a pair as it was read, with its value
-abbrev pub pair_with : Pair → List ℕ → TextPair
-pair_with p value = record { code = p.code; value = value; line = p.line }

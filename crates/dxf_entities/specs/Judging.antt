@@ -1,5 +1,5 @@
 -- How an entity is judged: it gives a line, is passed over, or has a fault.
-use Rattle.std.specs.Prelude.{ℕ, Bool, false, ◌||◌, pos, Option, Some, None, Result, Ok, Err, codes, nat_lt, if◌then◌else◌}
+use Rattle.std.specs.Prelude.{ℕ, List, Bool, false, ◌||◌, pos, Option, Some, None, Result, Ok, Err, codes, nat_lt, if◌then◌else◌}
 use Rattle.std.specs.Option.{option_map, option_flatten, unwrap_or}
 use Rattle.std.specs.Ordering.{int_eq}
 use Rattle.std.specs.Str.{bytes_eq}
@@ -11,23 +11,28 @@ use Rattle.solid_model.specs.declared.segment.Style.TheVariants.{Dashed, Solid}
 use Rattle.solid_model.specs.Limits.{most_lines}
 use Rattle.solid_model.specs.Line.{Line}
 use Rattle.dxf_entities.specs.declared.facts.Facts.{Facts}
-use Rattle.dxf_entities.specs.declared.names.Kind.{Kind}
-use Rattle.dxf_entities.specs.declared.names.Kind.TheVariants as kind
-use Rattle.dxf_entities.specs.declared.names.Linetype.{Linetype}
-use Rattle.dxf_entities.specs.declared.names.Linetype.TheVariants.{Continuous, Hidden, Center, ByLayer, Unlisted}
+use Rattle.dxf_entities.specs.declared.kind.Kind.{Kind}
+use Rattle.dxf_entities.specs.declared.kind.Kind.TheVariants as kind
+use Rattle.dxf_entities.specs.declared.linetype.Linetype.{Linetype}
+use Rattle.dxf_entities.specs.declared.linetype.Linetype.TheVariants.{Continuous, Hidden, Center, ByLayer, Unlisted}
 use Rattle.dxf_entities.specs.Coordinates.{◌>>=◌, coordinates_of, present}
 use Rattle.dxf_entities.specs.Entries.{Entry, own_pairs, first_value}
 use Rattle.dxf_entities.specs.Known.{Known, none_known}
 use Rattle.dxf_entities.specs.Names.{view_on, linetype_of, kind_of}
 
--- What counts of an entity: the line at which it begins and its kind; of the pairs that belong to no application the first
--- layer, the first mark of paper space and the first linetype; and the coordinates.
+-- a value that is `1`
+abbrev pub is_one : List ℕ → Bool
+is_one value = bytes_eq value (codes "1")
+
+-- What counts of an entity: the line at which it begins and its kind; of the pairs that belong to no
+-- application the first layer, the first mark of paper space and the first linetype; and the
+-- coordinates.
 abbrev pub facts_of : Entry → Facts
 facts_of e = let own = own_pairs false e.pairs in record {
   line = e.line;
   kind = kind_of e.name;
   layer = option_map view_on (first_value 8 own);
-  paper = option_map (λ value. bytes_eq value (codes "1")) (first_value 67 own);
+  paper = option_map is_one (first_value 67 own);
   linetype = option_map linetype_of (first_value 6 own);
   coordinates = coordinates_of own none_known;
 }
@@ -77,7 +82,8 @@ styled_line count view f (Some style) = do
 
 -- the line that a LINE draws, whose layer has this linetype
 unfoldable pub line_in : Option Linetype → ℕ → View → Facts → Result (Option Line) Fault
-line_in layer count view f = style_of f.line (by_layer (unwrap_or f.linetype ByLayer) layer) >>= styled_line count view f
+line_in layer count view f =
+    style_of f.line (by_layer (unwrap_or f.linetype ByLayer) layer) >>= styled_line count view f
 
 -- an entity of a view and of this kind: a line, other geometry, or something that is passed over
 abbrev pub judged_in : Kind → Option Linetype → ℕ → View → Facts → Result (Option Line) Fault
@@ -88,9 +94,10 @@ judged_in kind.Other layer count view f = Ok None
 -- an entity that stands on a view's layer, or on none
 abbrev pub judged_on : Option View → (View → Option Linetype) → ℕ → Facts → Result (Option Line) Fault
 judged_on None layers count f = Ok None
-judged_on (Some view) layers count f = if is_on_paper f.paper then Ok None else judged_in f.kind (layers view) count view f
+judged_on (Some view) layers count f =
+    if is_on_paper f.paper then Ok None else judged_in f.kind (layers view) count view f
 
--- An entity, where the views' layers have these linetypes and so many lines are kept: the line that it gives, none where it
--- is passed over, or its first fault.
+-- An entity, where the views' layers have these linetypes and so many lines are kept: the line that it
+-- gives, none where it is passed over, or its first fault.
 unfoldable pub judged : (View → Option Linetype) → ℕ → Facts → Result (Option Line) Fault
 judged layers count f = judged_on (option_flatten f.layer) layers count f

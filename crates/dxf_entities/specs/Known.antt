@@ -14,5 +14,8 @@ abbrev pub none_known : Known
 none_known = record { x0 = None; y0 = None; x1 = None; y1 = None }
 
 -- each that is known is near
-abbrev pub AreNear : Known → Type 0
-AreNear c = IfSome c.x0 IsNear × IfSome c.y0 IsNear × IfSome c.x1 IsNear × IfSome c.y1 IsNear
+pub record AreNear (c : Known) : Type 0 where
+  pub x0 : IfSome c.x0 IsNear
+  pub y0 : IfSome c.y0 IsNear
+  pub x1 : IfSome c.x1 IsNear
+  pub y1 : IfSome c.y1 IsNear

@@ -3,12 +3,12 @@ use Rattle.std.specs.Prelude.{ℕ, Bool, List, ◌||◌, Option, Some, None, cod
 use Rattle.std.specs.Str.{str_eq_ignore_ascii_case}
 use Rattle.solid_model.specs.declared.frame.View.{View}
 use Rattle.solid_model.specs.declared.frame.View.TheVariants.{Front, Top, Side}
-use Rattle.dxf_entities.specs.declared.names.Kind.{Kind}
-use Rattle.dxf_entities.specs.declared.names.Kind.TheVariants as kind
-use Rattle.dxf_entities.specs.declared.names.Linetype.{Linetype}
-use Rattle.dxf_entities.specs.declared.names.Linetype.TheVariants as linetype
-use Rattle.dxf_entities.specs.declared.names.Section.{Section}
-use Rattle.dxf_entities.specs.declared.names.Section.TheVariants as section
+use Rattle.dxf_entities.specs.declared.kind.Kind.{Kind}
+use Rattle.dxf_entities.specs.declared.kind.Kind.TheVariants as kind
+use Rattle.dxf_entities.specs.declared.linetype.Linetype.{Linetype}
+use Rattle.dxf_entities.specs.declared.linetype.Linetype.TheVariants as linetype
+use Rattle.dxf_entities.specs.declared.section.Section.{Section}
+use Rattle.dxf_entities.specs.declared.section.Section.TheVariants as section
 
 -- two names are the same
 abbrev pub is_name : List ℕ → List ℕ → Bool
@@ -26,12 +26,14 @@ is_continuous value = is_name (codes "CONTINUOUS") value || is_name (codes "BYBL
 
 -- linetypes of hidden edges
 abbrev pub is_hidden_linetype : List ℕ → Bool
-is_hidden_linetype value = is_name (codes "HIDDEN") value || (is_name (codes "HIDDEN2") value || (is_name (codes "HIDDENX2") value
-    || (is_name (codes "DASHED") value || (is_name (codes "DASHED2") value || is_name (codes "DASHEDX2") value))))
+is_hidden_linetype value = is_name (codes "HIDDEN") value || (is_name (codes "HIDDEN2") value
+    || (is_name (codes "HIDDENX2") value || (is_name (codes "DASHED") value
+    || (is_name (codes "DASHED2") value || is_name (codes "DASHEDX2") value))))
 
 -- linetypes of centre lines
 abbrev pub is_center : List ℕ → Bool
-is_center value = is_name (codes "CENTER") value || (is_name (codes "CENTER2") value || is_name (codes "CENTERX2") value)
+is_center value = is_name (codes "CENTER") value
+    || (is_name (codes "CENTER2") value || is_name (codes "CENTERX2") value)
 
 -- what a linetype's name means
 unfoldable pub linetype_of : List ℕ → Linetype
@@ -42,13 +44,16 @@ linetype_of value = if is_continuous value then linetype.Continuous
 
 -- kinds of entities that are geometry, but no line
 abbrev pub is_geometry : List ℕ → Bool
-is_geometry value = is_name (codes "ARC") value || (is_name (codes "CIRCLE") value || (is_name (codes "ELLIPSE") value
-    || (is_name (codes "SPLINE") value || (is_name (codes "POLYLINE") value || (is_name (codes "LWPOLYLINE") value
-    || (is_name (codes "INSERT") value || (is_name (codes "SOLID") value || is_name (codes "3DFACE") value)))))))
+is_geometry value = is_name (codes "ARC") value || (is_name (codes "CIRCLE") value
+    || (is_name (codes "ELLIPSE") value || (is_name (codes "SPLINE") value
+    || (is_name (codes "POLYLINE") value || (is_name (codes "LWPOLYLINE") value
+    || (is_name (codes "INSERT") value || (is_name (codes "SOLID") value
+    || is_name (codes "3DFACE") value)))))))
 
 -- what an entity of this name is
 unfoldable pub kind_of : List ℕ → Kind
-kind_of value = if is_name (codes "LINE") value then kind.Line else (if is_geometry value then kind.Geometry else kind.Other)
+kind_of value = if is_name (codes "LINE") value then kind.Line
+    else (if is_geometry value then kind.Geometry else kind.Other)
 
 -- what a section of this name holds
 unfoldable pub section_of : List ℕ → Section

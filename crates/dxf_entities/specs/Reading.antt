@@ -7,10 +7,11 @@ use Rattle.solid_model.specs.declared.frame.View.{View}
 use Rattle.solid_model.specs.Drawings.{same_view}
 use Rattle.solid_model.specs.Line.{Line}
 use Rattle.dxf_groups.specs.Pairs.{TextPair, Pairs, pairs_of}
-use Rattle.dxf_entities.specs.declared.names.Linetype.{Linetype}
-use Rattle.dxf_entities.specs.declared.names.Linetype.TheVariants.{Continuous}
-use Rattle.dxf_entities.specs.declared.names.Section.{Section}
-use Rattle.dxf_entities.specs.declared.names.Section.TheVariants.{Tables, Entities, Other}
+use Rattle.dxf_entities.specs.declared.facts.Facts.{Facts}
+use Rattle.dxf_entities.specs.declared.linetype.Linetype.{Linetype}
+use Rattle.dxf_entities.specs.declared.linetype.Linetype.TheVariants.{Continuous}
+use Rattle.dxf_entities.specs.declared.section.Section.{Section}
+use Rattle.dxf_entities.specs.declared.section.Section.TheVariants.{Tables, Entities, Other}
 use Rattle.dxf_entities.specs.declared.place.Place.{Place}
 use Rattle.dxf_entities.specs.declared.place.Place.TheVariants.{Outside, Unnamed, Inside}
 use Rattle.dxf_entities.specs.Coordinates.{◌>>=◌}
@@ -18,34 +19,40 @@ use Rattle.dxf_entities.specs.Entries.{Entry, has_code, before_entries, entries_
 use Rattle.dxf_entities.specs.Judging.{facts_of, judged}
 use Rattle.dxf_entities.specs.Names.{is_name, view_on, linetype_of, section_of}
 
--- how far a file is read: where that is, which linetypes the layers of the views have so far, and the lines kept so far
+-- how far a file is read: where that is, which linetypes the layers of the views have so far, and the
+-- lines kept so far
 pub record Progress : Type 0 where
   pub place : Place
   pub layers : View → Option Linetype
   pub lines : List Line
 
 -- nothing is read
-abbrev pub start : Progress
-start = record { place = Outside; layers = λ _. None; lines = [] }
+abbrev pub nothing_read : Progress
+nothing_read = record { place = Outside; layers = λ _. None; lines = [] }
 
 -- between sections no pair may stand but one that begins a section
 abbrev pub between : List TextPair → Progress → Result Progress Fault
 between [] s = Ok (record s { place = Outside })
 between (p ∷ ps) s = Err (BadSection p.line)
 
--- a section begins with a pair of code 2, which names it; what follows up to its first entry is passed over
+-- a section begins with a pair of code 2, which names it; what follows up to its first entry is passed
+-- over
 abbrev pub opened : List TextPair → Progress → Result Progress Fault
 opened [] s = Ok (record s { place = Unnamed })
-opened (p ∷ ps) s = if has_code 2 p then Ok (record s { place = Inside (section_of p.value) }) else Err (BadSection p.line)
+opened (p ∷ ps) s = if has_code 2 p then Ok (record s { place = Inside (section_of p.value) })
+    else Err (BadSection p.line)
 
 -- the name of a layer is that of this view's
 abbrev pub is_layer_of : View → Option (Option View) → Bool
 is_layer_of v (Some (Some w)) = same_view v w
 is_layer_of v _ = false
 
--- the views' layers, with one of this name and linetype, CONTINUOUS where it has none; the first of its name counts
-abbrev pub layers_with : Option (Option View) → Option Linetype → (View → Option Linetype) → View → Option Linetype
-layers_with name linetype layers v = option_or (layers v) (if is_layer_of v name then Some (unwrap_or linetype Continuous) else None)
+-- the views' layers, with one of this name and linetype, CONTINUOUS where it has none; the first of
+-- its name counts
+abbrev pub layers_with : Option (Option View) → Option Linetype → (View → Option Linetype)
+    → View → Option Linetype
+layers_with name linetype layers v = option_or (layers v)
+    (if is_layer_of v name then Some (unwrap_or linetype Continuous) else None)
 
 abbrev pub with_layer : Option (Option View) → Option Linetype → Progress → Progress
 with_layer name linetype s = record s { layers = layers_with name linetype s.layers }
@@ -54,26 +61,33 @@ with_layer name linetype s = record s { layers = layers_with name linetype s.lay
 abbrev pub layer_added : Entry → Progress → Progress
 layer_added e s = let own = own_pairs false e.pairs in
     if is_name (codes "LAYER") e.name
-    then with_layer (option_map view_on (first_value 2 own)) (option_map linetype_of (first_value 6 own)) s
+    then with_layer (option_map view_on (first_value 2 own))
+    (option_map linetype_of (first_value 6 own)) s
     else s
 
 -- one more line, or none
-abbrev pub with_line : Option Line → Progress → Progress
-with_line None s = s
-with_line (Some l) s = record s { lines = s.lines ++ l ∷ [] }
+abbrev pub line_added : Option Line → Progress → Progress
+line_added None s = s
+line_added (Some l) s = record s { lines = s.lines ++ l ∷ [] }
+
+-- an entity is judged, and its line is added, where it gives one
+abbrev pub entity_read : Facts → Progress → Result Progress Fault
+entity_read f s = judged s.layers (length s.lines) f >>= λ l. Ok (line_added l s)
 
 -- an entry of a section, where a pair ends it; without that it counts for nothing
 abbrev pub entry_read : Bool → Section → Entry → Progress → Result Progress Fault
 entry_read false section e s = Ok s
 entry_read true Tables e s = Ok (layer_added e s)
-entry_read true Entities e s = judged s.layers (length s.lines) (facts_of e) >>= λ l. Ok (with_line l s)
+entry_read true Entities e s = entity_read (facts_of e) s
 entry_read true Other e s = Ok s
 
 -- the next entry, at this place; whether a pair ends it is told
 abbrev pub read_at : Place → Bool → Entry → Progress → Result Progress Fault
-read_at Outside ended e s = if is_name (codes "SECTION") e.name then opened e.pairs s else Err (BadSection e.line)
+read_at Outside ended e s =
+    if is_name (codes "SECTION") e.name then opened e.pairs s else Err (BadSection e.line)
 read_at Unnamed ended e s = Err (BadSection e.line)
-read_at (Inside section) ended e s = if is_name (codes "SECTION") e.name then Err (BadSection e.line)
+read_at (Inside section) ended e s =
+    if is_name (codes "SECTION") e.name then Err (BadSection e.line)
     else (if is_name (codes "ENDSEC") e.name then between e.pairs s else entry_read ended section e s)
 
 -- where the pairs end with the end pair on this line, which stands outside the sections
@@ -96,7 +110,8 @@ entries_read (e ∷ es) ending s = read_at s.place (is_ended es ending) e s >>= 
 
 -- all pairs
 abbrev pub pairs_read : Pairs → Result (List Line) Fault
-pairs_read ps = between (before_entries ps.pairs) start >>= entries_read (entries_of ps.pairs) ps.ending
+pairs_read ps =
+    between (before_entries ps.pairs) nothing_read >>= entries_read (entries_of ps.pairs) ps.ending
 
 -- the lines that are kept of a text, in its order, or its first fault
 unfoldable pub read_of : List ℕ → Result (List Line) Fault

@@ -1,43 +1,43 @@
 -- How the reading of a file goes on in the midst of an entry.
-use Rattle.std.specs.Prelude.{ℕ, Bool, true, false, not, List, [], ◌∷◌, length, Option, Some, None, Result, Ok, codes, if◌then◌else◌}
+use Rattle.std.specs.Prelude.{ℕ, Bool, true, false, not, List, [], ◌∷◌, Option, Some, None, Result, Ok, codes, if◌then◌else◌}
 use Rattle.std.specs.Option.{option_or}
-use Rattle.std.specs.Str.{bytes_eq}
 use Rattle.solid_model.specs.declared.fault.Fault.{Fault}
 use Rattle.solid_model.specs.declared.frame.View.{View}
 use Rattle.solid_model.specs.declared.frame.View.TheVariants.{Front, Top, Side}
 use Rattle.solid_model.specs.Line.{Line}
 use Rattle.dxf_groups.specs.Pairs.{TextPair}
 use Rattle.dxf_entities.specs.declared.facts.Facts.{Facts}
-use Rattle.dxf_entities.specs.declared.layers.LayerFacts.{LayerFacts}
+use Rattle.dxf_entities.specs.declared.layer_facts.LayerFacts.{LayerFacts}
 use Rattle.dxf_entities.specs.declared.layers.Layers.{Layers}
-use Rattle.dxf_entities.specs.declared.names.Kind.{Kind}
-use Rattle.dxf_entities.specs.declared.names.Kind.TheVariants as kind
-use Rattle.dxf_entities.specs.declared.names.Linetype.{Linetype}
-use Rattle.dxf_entities.specs.declared.names.Section.{Section}
-use Rattle.dxf_entities.specs.declared.names.Section.TheVariants.{Tables, Entities, Other}
+use Rattle.dxf_entities.specs.declared.kind.Kind.{Kind}
+use Rattle.dxf_entities.specs.declared.kind.Kind.TheVariants as kind
+use Rattle.dxf_entities.specs.declared.linetype.Linetype.{Linetype}
+use Rattle.dxf_entities.specs.declared.section.Section.{Section}
+use Rattle.dxf_entities.specs.declared.section.Section.TheVariants.{Tables, Entities, Other}
 use Rattle.dxf_entities.specs.declared.place.Place.{Place}
 use Rattle.dxf_entities.specs.declared.place.Place.TheVariants.{Outside, Unnamed, Inside}
-use Rattle.dxf_entities.specs.declared.reader.Open.{Open}
-use Rattle.dxf_entities.specs.declared.reader.Open.TheVariants.{Passed, Layer, Entity}
+use Rattle.dxf_entities.specs.declared.open.Open.{Open}
+use Rattle.dxf_entities.specs.declared.open.Open.TheVariants.{Passed, Layer, Entity}
 use Rattle.dxf_entities.specs.declared.reader.Reader.{Reader}
-use Rattle.dxf_entities.specs.Coordinates.{◌>>=◌, with_coordinate}
+use Rattle.dxf_entities.specs.Coordinates.{◌>>=◌, more_coordinates}
 use Rattle.dxf_entities.specs.Entries.{has_code, before_entries, entries_of, opens_application, closes_application}
-use Rattle.dxf_entities.specs.Judging.{judged}
+use Rattle.dxf_entities.specs.Judging.{is_one}
 use Rattle.dxf_entities.specs.Known.{none_known}
 use Rattle.dxf_entities.specs.Names.{is_name, view_on, linetype_of, kind_of}
-use Rattle.dxf_entities.specs.Reading.{Progress, between, opened, with_layer, with_line, is_ended, entries_read}
+use Rattle.dxf_entities.specs.Reading.{Progress, between, opened, with_layer, entity_read, is_ended, entries_read}
 
 -- what is known, or else what a pair with this code tells
 abbrev pub or_first : {A : Type 0} → ℕ → (List ℕ → A) → TextPair → Option A → Option A
-or_first code meaning p known = option_or known (if has_code code p then Some (meaning p.value) else None)
+or_first code meaning p known =
+    option_or known (if has_code code p then Some (meaning p.value) else None)
 
 -- what counts of an entity, with one more pair of its own
 abbrev pub with_fact : TextPair → Facts → Facts
 with_fact p f = record f {
   layer = or_first 8 view_on p f.layer;
-  paper = or_first 67 (λ value. bytes_eq value (codes "1")) p f.paper;
+  paper = or_first 67 is_one p f.paper;
   linetype = or_first 6 linetype_of p f.linetype;
-  coordinates = f.coordinates >>= with_coordinate p;
+  coordinates = more_coordinates p f.coordinates;
 }
 
 -- what counts of a layer's entry, with one more pair of its own
@@ -51,7 +51,12 @@ with_layer_fact p f = record {
 abbrev pub with_own : {F : Type 0} → (TextPair → F → F) → Bool → List TextPair → F → F
 with_own with inside [] f = f
 with_own with true (p ∷ ps) f = with_own with (not (closes_application p)) ps f
-with_own with false (p ∷ ps) f = if opens_application p then with_own with true ps f else with_own with false ps (with p f)
+with_own with false (p ∷ ps) f =
+    if opens_application p then with_own with true ps f else with_own with false ps (with p f)
+
+-- what counts of a layer's entry that begins
+abbrev pub nothing_told : LayerFacts
+nothing_told = record { name = None; linetype = None }
 
 -- what counts of an entity that begins so
 abbrev pub begun_facts : TextPair → Facts
@@ -65,14 +70,14 @@ begun_facts p = record {
 }
 
 -- the linetypes of the views' layers
-abbrev pub layer_on : Layers → View → Option Linetype
-layer_on l Front = l.front
-layer_on l Top = l.top
-layer_on l Side = l.side
+abbrev pub layer_linetype : Layers → View → Option Linetype
+layer_linetype l Front = l.front
+layer_linetype l Top = l.top
+layer_linetype l Side = l.side
 
 -- how far a reader has read, but for the entry that is open
 abbrev pub progress_of : Reader → Progress
-progress_of r = record { place = r.place; layers = layer_on r.layers; lines = r.lines.items }
+progress_of r = record { place = r.place; layers = layer_linetype r.layers; lines = r.lines.items }
 
 -- an entity of this kind that a pair opens
 abbrev pub opened_entity : TextPair → Kind → Open
@@ -82,7 +87,8 @@ opened_entity p kind.Other = Passed
 
 -- the entry that a pair opens in a section
 abbrev pub opened_entry : Section → TextPair → Open
-opened_entry Tables p = if is_name (codes "LAYER") p.value then Layer (record { name = None; linetype = None }) else Passed
+opened_entry Tables p =
+    if is_name (codes "LAYER") p.value then Layer nothing_told else Passed
 opened_entry Entities p = opened_entity p (kind_of p.value)
 opened_entry Other p = Passed
 
@@ -118,8 +124,9 @@ fact_taken p r = record r {
 -- an entry is closed, with what more pairs it has
 abbrev pub entry_closed : Open → Bool → List TextPair → Progress → Result Progress Fault
 entry_closed Passed inside ps s = Ok s
-entry_closed (Layer f) inside ps s = let all = with_own with_layer_fact inside ps f in Ok (with_layer all.name all.linetype s)
-entry_closed (Entity f) inside ps s = judged s.layers (length s.lines) (with_own with_fact inside ps f) >>= λ l. Ok (with_line l s)
+entry_closed (Layer f) inside ps s =
+    let all = with_own with_layer_fact inside ps f in Ok (with_layer all.name all.linetype s)
+entry_closed (Entity f) inside ps s = entity_read (with_own with_fact inside ps f) s
 
 -- the open entry is closed
 abbrev pub closed : List TextPair → Reader → Result Progress Fault
@@ -138,4 +145,6 @@ advanced (Inside section) ended ps r = closed_where ended ps r
 
 -- what a reader reads where these pairs and this ending are left
 unfoldable pub resumed : List TextPair → Result ℕ Fault → Reader → Result (List Line) Fault
-resumed ps ending r = advanced r.place (is_ended (entries_of ps) ending) (before_entries ps) r >>= entries_read (entries_of ps) ending
+resumed ps ending r =
+    advanced r.place (is_ended (entries_of ps) ending) (before_entries ps) r
+    >>= entries_read (entries_of ps) ending

@@ -4,28 +4,30 @@ use Rattle.solid_model.specs.declared.frame.View.TheVariants.{Front}
 use Rattle.solid_model.specs.declared.segment.Style.{Style}
 use Rattle.solid_model.specs.Line.{Line}
 use Rattle.dxf_groups.specs.Pairs.{TextPair}
+use Rattle.dxf_groups.specs.SmallTexts.{pair_on}
 
--- a pair on the lines n and n + 1
-abbrev pub pair_at : ℕ → ℕ → List ℕ → TextPair
-pair_at n code value = record { code = pos code; value = value; line = n }
-
--- from the line n on, an entity on the layer FRONT from (0, 0) to (x, y), with these pairs before its coordinates
+-- from the line n on, an entity on the layer FRONT from (0, 0) to (x, y), with these pairs before its
+-- coordinates
 abbrev pub line_from : ℕ → List TextPair → List ℕ → List ℕ → List TextPair
-line_from n more x y = pair_at n 0 (codes "LINE") ∷ pair_at (n + 2) 8 (codes "Front") ∷ (more
-    ++ pair_at (n + 10) 10 (codes "0.0") ∷ pair_at (n + 12) 20 (codes "-0") ∷ pair_at (n + 14) 11 x ∷ pair_at (n + 16) 21 y ∷ [])
+line_from n more x y =
+    pair_on n (pos 0) (codes "LINE") ∷ pair_on (n + 2) (pos 8) (codes "Front")
+    ∷ (more ++ pair_on (n + 10) (pos 10) (codes "0.0") ∷ pair_on (n + 12) (pos 20) (codes "-0")
+    ∷ pair_on (n + 14) (pos 11) x ∷ pair_on (n + 16) (pos 21) y ∷ [])
 
 -- a section of this name begins at the line n, or ends there
 abbrev pub section_at : ℕ → List ℕ → List TextPair
-section_at n name = pair_at n 0 (codes "SECTION") ∷ pair_at (n + 2) 2 name ∷ []
+section_at n name = pair_on n (pos 0) (codes "SECTION") ∷ pair_on (n + 2) (pos 2) name ∷ []
 
 abbrev pub end_at : ℕ → List TextPair
-end_at n = pair_at n 0 (codes "endsec") ∷ []
+end_at n = pair_on n (pos 0) (codes "endsec") ∷ []
 
 -- a table with one layer FRONT, whose linetype is HIDDEN
 abbrev pub hidden_layer : ℕ → List TextPair
 hidden_layer n = section_at n (codes "TABLES")
-    ++ (pair_at (n + 4) 0 (codes "LAYER") ∷ pair_at (n + 6) 2 (codes "FRONT") ∷ pair_at (n + 8) 6 (codes "Hidden") ∷ end_at (n + 10))
+    ++ (pair_on (n + 4) (pos 0) (codes "LAYER") ∷ pair_on (n + 6) (pos 2) (codes "FRONT")
+    ∷ pair_on (n + 8) (pos 6) (codes "Hidden") ∷ end_at (n + 10))
 
 -- the line from (0, 0) to (1, 0) that begins at the line n
 abbrev pub unit_line : ℕ → Style → Line
-unit_line n style = record { of = Front; style = style; x0 = pos 0; y0 = pos 0; x1 = pos 1; y1 = pos 0; number = n }
+unit_line n style =
+    record { of = Front; style = style; x0 = pos 0; y0 = pos 0; x1 = pos 1; y1 = pos 0; number = n }

@@ -5,7 +5,7 @@ use solid_model::Fault;
 use std::marker::Model;
 
 /// The coordinates that are known of a line's start (x0, y0) and end (x1, y1).
-#[derive(Clone, Copy, Debug)]
+#[derive(Clone, Copy)]
 pub struct Coordinates {
     pub x0: Option<i64>,
     pub y0: Option<i64>,
@@ -29,7 +29,7 @@ impl Coordinates {
     ghost use Rattle.std.specs.Prelude.{◌≡◌, IfOk};
     ghost use Rattle.solid_model.specs.Line.{IsNear};
     ghost use Rattle.dxf_entities.specs.Coordinates.{coordinate_at, with_coordinate};
-    ghost use Rattle.dxf_entities.specs.Entries.{pair_with};
+    ghost use Rattle.dxf_groups.specs.Pairs.{text_pair};
 
     /// None is known.
     pub const NONE: Coordinates = Coordinates {
@@ -41,7 +41,7 @@ impl Coordinates {
 
     /// The coordinate that a pair with this value gives, where `known` may be known already.
     fn coordinate_at(pair: &Pair, value: &[u8], known: Option<i64>) -> Result<i64, Fault>
-        ensures read { result ≡ coordinate_at (pair_with pair.now value.now) known }
+        ensures read { result ≡ coordinate_at (text_pair pair.now value.now) known }
         ensures near { IfOk result IsNear }
     {
         let (line, code) = (pair.line, pair.code);
@@ -57,10 +57,10 @@ impl Coordinates {
         }
     }
 
-    /// One more pair with this value is looked at: those with the codes 10 and 20 give the start, those with 11 and 21
-    /// the end.
+    /// One more pair with this value is looked at: those with the codes 10 and 20 give the start,
+    /// those with 11 and 21 the end.
     pub fn with(self, pair: &Pair, value: &[u8]) -> Result<Coordinates, Fault>
-        ensures { result ≡ with_coordinate (pair_with pair.now value.now) self }
+        ensures { result ≡ with_coordinate (text_pair pair.now value.now) self }
     {
         let mut known = self;
         match pair.code {

@@ -2,14 +2,17 @@
 
 ghost use Rattle.std.specs.Prelude.{◌≡◌, ◌≢◌, Some};
 ghost use Rattle.solid_model.specs.declared.segment.Style.TheVariants.{Blank};
-ghost use Rattle.dxf_entities.specs.Coordinates.{present};
-ghost use Rattle.dxf_entities.specs.Entries.{pair_with};
-ghost use Rattle.dxf_entities.specs.Judging.{line_with, styled_line, line_in, judged};
-ghost use Rattle.dxf_entities.specs.Resuming.{with_fact, begun_facts, layer_on};
+ghost use Rattle.dxf_groups.specs.Pairs.{text_pair};
+ghost use Rattle.dxf_entities.specs.Coordinates.{more_coordinates, present};
+ghost use Rattle.dxf_entities.specs.Judging.{is_one, judged, line_in, line_with, styled_line};
+ghost use Rattle.dxf_entities.specs.Resuming.{begun_facts, layer_linetype, or_first, with_fact};
 
+use crate::codes::has_code;
 use crate::coordinates::Coordinates;
+use crate::kind::{Kind, kind_of};
 use crate::layers::Layers;
-use crate::names::{Kind, Linetype, kind_of, linetype_of, view_on};
+use crate::linetype::{Linetype, first_linetype};
+use crate::names::first_view;
 use dxf_groups::Pair;
 use solid_model::{Fault, SheetLine, Style, View};
 
@@ -17,7 +20,7 @@ use solid_model::{Fault, SheetLine, Style, View};
 const MOST_LINES: usize = 100_000;
 
 /// What counts of an entity.
-#[derive(Clone, Copy, Debug)]
+#[derive(Clone, Copy)]
 pub struct Facts {
     /// The number of the line at which it begins.
     pub line: u32,
@@ -38,10 +41,33 @@ fn present(line: u32, code: i32, known: Option<i64>) -> Result<i64, Fault>
     known.ok_or(Fault::Missing { line, code })
 }
 
+/// Whether an entity stands in paper space, where that is known, or one more pair with this value
+/// tells it.
+fn first_paper(known: Option<bool>, pair: &Pair, value: &[u8]) -> Option<bool>
+    ensures { result ≡ or_first 67 is_one (text_pair pair.now value.now) known }
+{
+    if known.is_none() && has_code(pair, 67) {
+        Some(value == b"1".as_slice())
+    } else {
+        known
+    }
+}
+
+/// The coordinates with one more pair, which has this value; a fault stays.
+fn more_coordinates(
+    coordinates: Result<Coordinates, Fault>,
+    pair: &Pair,
+    value: &[u8],
+) -> Result<Coordinates, Fault>
+    ensures { result ≡ more_coordinates (text_pair pair.now value.now) coordinates }
+{
+    coordinates?.with(pair, value)
+}
+
 impl Facts {
     /// Those of an entity that begins with this pair, which has this value.
     pub fn begun(pair: &Pair, value: &[u8]) -> Facts
-        ensures { result ≡ begun_facts (pair_with pair.now value.now) }
+        ensures { result ≡ begun_facts (text_pair pair.now value.now) }
     {
         Facts {
             line: pair.line,
@@ -55,23 +81,19 @@ impl Facts {
 
     /// Those with one more pair, which has this value and belongs to no application.
     pub fn with(self, pair: &Pair, value: &[u8]) -> Facts
-        ensures { result ≡ with_fact (pair_with pair.now value.now) self }
+        ensures { result ≡ with_fact (text_pair pair.now value.now) self }
     {
-        let mut facts = self;
-        match pair.code {
-            8 => facts.layer = facts.layer.or_else(|| Some(view_on(value))),
-            67 => facts.paper = facts.paper.or_else(|| Some(value == b"1".as_slice())),
-            6 => facts.linetype = facts.linetype.or_else(|| Some(linetype_of(value))),
-            _ => {
-                if let Ok(known) = facts.coordinates {
-                    facts.coordinates = known.with(pair, value);
-                }
-            }
+        Facts {
+            layer: first_view(self.layer, 8, pair, value),
+            paper: first_paper(self.paper, pair, value),
+            linetype: first_linetype(self.linetype, pair, value),
+            coordinates: more_coordinates(self.coordinates, pair, value),
+            ..self
         }
-        facts
     }
 
-    /// The line of this view and style with these coordinates, where it has all and is level or upright.
+    /// The line of this view and style with these coordinates, where it has all and is level or
+    /// upright.
     #[tactic(auto, unfolding(crate::specs::Judging::line_with))]
     fn line_with(self, view: View, style: Style, known: Coordinates) -> Result<SheetLine, Fault>
         requires { style ≢ Blank }
@@ -96,7 +118,8 @@ impl Facts {
         })
     }
 
-    /// The line of this view and style that the entity draws, where it may be kept beside `count` others.
+    /// The line of this view and style that the entity draws, where it may be kept beside `count`
+    /// others.
     #[tactic(auto, unfolding(crate::specs::Judging::styled_line))]
     fn styled_line(self, count: usize, view: View, style: Style) -> Result<Option<SheetLine>, Fault>
         requires { style ≢ Blank }
@@ -110,7 +133,8 @@ impl Facts {
         }
     }
 
-    /// The line that a LINE of this view draws, where its layer has this linetype; None for a centre line.
+    /// The line that a LINE of this view draws, where its layer has this linetype; None for a centre
+    /// line.
     #[tactic(auto, unfolding(crate::specs::Judging::line_in, crate::specs::Judging::styled_line))]
     fn line_in(
         self,
@@ -135,11 +159,11 @@ impl Facts {
         }
     }
 
-    /// The line that the entity draws, where the layers have these linetypes and `count` lines are kept already; None
-    /// where it is passed over.
+    /// The line that the entity draws, where the layers have these linetypes and `count` lines are kept
+    /// already; None where it is passed over.
     #[tactic(auto, unfolding(crate::specs::Judging::judged))]
     pub fn judged(self, layers: &Layers, count: usize) -> Result<Option<SheetLine>, Fault>
-        ensures { result ≡ judged (layer_on layers.now) count self }
+        ensures { result ≡ judged (layer_linetype layers.now) count self }
     {
         let Some(Some(view)) = self.layer else {
             return Ok(None);

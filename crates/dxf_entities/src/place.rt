@@ -1,9 +1,9 @@
 //! Where the reading of a file stands.
 
-use crate::names::Section;
+use crate::section::Section;
 
 /// Where the reading of a file stands.
-#[derive(Clone, Copy, Debug, PartialEq, Eq)]
+#[derive(Clone, Copy)]
 pub enum Place {
     /// Between sections.
     Outside,

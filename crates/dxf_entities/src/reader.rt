@@ -1,95 +1,39 @@
-//! The reader of a file's pairs.
+//! The reader that makes lines of a file's pairs. `dxf_groups::Groups` gives the pairs of a text.
 
 ghost use Rattle.std.specs.Prelude.{◌≡◌, ℕ, List, [], ◌∷◌, Result, Ok, Err, IfOk, OnOk, IsErrOf, true, false, IsTrue};
 ghost use Rattle.solid_model.specs.declared.fault.Fault.{Fault};
 ghost use Rattle.solid_model.specs.declared.fault.Refused.TheVariants as refused;
-ghost use Rattle.dxf_groups.specs.Pairs.{TextPair, Pairs};
-ghost use Rattle.dxf_entities.specs.Entries.{has_code, pair_with, opens_application, closes_application};
+ghost use Rattle.dxf_groups.specs.Pairs.{TextPair, Pairs, text_pair};
+ghost use Rattle.dxf_entities.specs.Entries.{has_code, opens_application, closes_application};
 ghost use Rattle.dxf_entities.specs.Reading.{pairs_read};
-ghost use Rattle.dxf_entities.specs.Resuming.{progress_of, closed, opened_entry, with_own_pair, fact_taken, resumed};
+ghost use Rattle.dxf_entities.specs.Resuming.{progress_of, closed, opened_entry, fact_taken, resumed};
 
-use crate::facts::Facts;
-use crate::layers::{LayerFacts, Layers};
-use crate::names::{Kind, Section, is_name, kind_of, section_of};
+use crate::codes::has_code;
+use crate::layers::Layers;
+use crate::names::is_name;
+use crate::open::Open;
 use crate::place::Place;
+use crate::section::{Section, section_of};
 use dxf_groups::Pair;
 use solid_model::{Fault, Refused, SheetLine};
 use std::alloc::Global;
 
-/// An entry that no pair has ended yet.
-#[derive(Clone, Copy, Debug)]
-pub enum Open {
-    /// None, or one that is passed over.
-    Passed,
-    /// An entry that gives a layer.
-    Layer(LayerFacts),
-    /// An entity that may be a line of a view.
-    Entity(Facts),
-}
-
-impl Open {
-    /// The entry of a section that begins with this pair, which has this value.
-    fn begun(section: Section, pair: &Pair, value: &[u8]) -> Open
-        ensures { result ≡ opened_entry section (pair_with pair.now value.now) }
-    {
-        match section {
-            Section::Tables if is_name(b"LAYER", value) => Open::Layer(LayerFacts::NONE),
-            Section::Entities if kind_of(value) != Kind::Other => {
-                Open::Entity(Facts::begun(pair, value))
-            }
-            _ => Open::Passed,
-        }
-    }
-
-    /// The entry with one more pair, which has this value and belongs to no application.
-    fn with(self, pair: &Pair, value: &[u8]) -> Open
-        ensures { result ≡ with_own_pair (pair_with pair.now value.now) self }
-    {
-        match self {
-            Open::Passed => Open::Passed,
-            Open::Layer(facts) => Open::Layer(facts.with(pair, value)),
-            Open::Entity(facts) => {
-                let facts = facts.with(pair, value);
-                if let Some(None) = facts.layer {
-                    Open::Passed
-                } else {
-                    Open::Entity(facts)
-                }
-            }
-        }
-    }
-}
-
-/// Whether the pair begins an entry.
-fn begins_entry(pair: &Pair) -> bool
-    ensures { result ≡ has_code 0 (pair_with pair.now []) }
-{
-    pair.code == 0
-}
-
-/// Whether the pair names a section, where it stands behind the one that begins it.
-fn names_section(pair: &Pair) -> bool
-    ensures { result ≡ has_code 2 (pair_with pair.now []) }
-{
-    pair.code == 2
-}
-
 /// Whether the pair begins what belongs to an application.
 fn opens_application(pair: &Pair, value: &[u8]) -> bool
-    ensures { result ≡ opens_application (pair_with pair.now value.now) }
+    ensures { result ≡ opens_application (text_pair pair.now value.now) }
 {
-    pair.code == 102 && value.first() == Some(&b'{')
+    has_code(pair, 102) && value.first() == Some(&b'{')
 }
 
 /// Whether the pair ends what belongs to an application.
 fn closes_application(pair: &Pair, value: &[u8]) -> bool
-    ensures { result ≡ closes_application (pair_with pair.now value.now) }
+    ensures { result ≡ closes_application (text_pair pair.now value.now) }
 {
-    pair.code == 102 && value == b"}".as_slice()
+    has_code(pair, 102) && value == b"}".as_slice()
 }
 
 /// What is known of the pairs so far.
-#[derive(Debug, Drop)]
+#[derive(Drop)]
 pub struct Reader {
     pub place: Place,
     pub layers: Layers,
@@ -117,7 +61,8 @@ impl Reader {
     fn close(&mut self) -> Result<(), Refused>
         ensures place { self.new.place ≡ self.old.place }
         ensures closed { OnOk result (closed [] self.old ≡ Ok (progress_of self.new)) }
-        ensures fault { (fault : Fault) → IsErrOf result (refused.Fault fault) → closed [] self.old ≡ Err fault }
+        ensures fault { (fault : Fault) → IsErrOf result (refused.Fault fault)
+            → closed [] self.old ≡ Err fault }
     {
         match self.entry {
             Open::Passed => (),
@@ -133,7 +78,10 @@ impl Reader {
 
     /// Opens an entry of a section that begins with this pair, which has this value.
     fn open(&mut self, section: Section, pair: &Pair, value: &[u8])
-        ensures { self.new ≡ record self.old { entry = opened_entry section (pair_with pair.now value.now); in_application = false } }
+        ensures { self.new ≡ record self.old {
+          entry = opened_entry section (text_pair pair.now value.now);
+          in_application = false;
+        } }
     {
         self.in_application = false;
         self.entry = Open::begun(section, pair, value);
@@ -141,11 +89,13 @@ impl Reader {
 
     /// Takes a pair with code 0, which ends the open entry and begins the next one.
     fn take_entry(&mut self, pair: &Pair, value: &[u8]) -> Result<(), Refused>
-        requires { IsTrue (has_code 0 (pair_with pair.now value.now)) }
+        requires { IsTrue (has_code 0 (text_pair pair.now value.now)) }
         ensures taken { OnOk result ((ps : List TextPair) (ending : Result ℕ Fault)
-            → resumed (pair_with pair.now value.now ∷ ps) ending self.old ≡ resumed ps ending self.new) }
-        ensures fault { (fault : Fault) → IsErrOf result (refused.Fault fault) → (ps : List TextPair) (ending : Result ℕ Fault)
-            → resumed (pair_with pair.now value.now ∷ ps) ending self.old ≡ Err fault }
+            → resumed (text_pair pair.now value.now ∷ ps) ending self.old
+            ≡ resumed ps ending self.new) }
+        ensures fault { (fault : Fault) → IsErrOf result (refused.Fault fault)
+            → (ps : List TextPair) (ending : Result ℕ Fault)
+            → resumed (text_pair pair.now value.now ∷ ps) ending self.old ≡ Err fault }
     {
         let misplaced = Fault::BadSection { line: pair.line };
         match self.place {
@@ -171,7 +121,7 @@ impl Reader {
 
     /// Takes one more pair of the open entry.
     fn take_fact(&mut self, pair: &Pair, value: &[u8])
-        ensures { self.new ≡ fact_taken (pair_with pair.now value.now) self.old }
+        ensures { self.new ≡ fact_taken (text_pair pair.now value.now) self.old }
     {
         if self.in_application {
             self.in_application = !closes_application(pair, value);
@@ -185,15 +135,17 @@ impl Reader {
     /// Takes the next pair, which has this value.
     pub fn take(&mut self, pair: &Pair, value: &[u8]) -> Result<(), Refused>
         ensures taken { OnOk result ((ps : List TextPair) (ending : Result ℕ Fault)
-            → resumed (pair_with pair.now value.now ∷ ps) ending self.old ≡ resumed ps ending self.new) }
-        ensures fault { (fault : Fault) → IsErrOf result (refused.Fault fault) → (ps : List TextPair) (ending : Result ℕ Fault)
-            → resumed (pair_with pair.now value.now ∷ ps) ending self.old ≡ Err fault }
+            → resumed (text_pair pair.now value.now ∷ ps) ending self.old
+            ≡ resumed ps ending self.new) }
+        ensures fault { (fault : Fault) → IsErrOf result (refused.Fault fault)
+            → (ps : List TextPair) (ending : Result ℕ Fault)
+            → resumed (text_pair pair.now value.now ∷ ps) ending self.old ≡ Err fault }
     {
-        if begins_entry(pair) {
+        if has_code(pair, 0) {
             return self.take_entry(pair, value);
         }
         match self.place {
-            Place::Unnamed if names_section(pair) => {
+            Place::Unnamed if has_code(pair, 2) => {
                 self.place = Place::Inside(section_of(value));
                 self.entry = Open::Passed;
                 Ok(())
@@ -209,7 +161,8 @@ impl Reader {
     /// The lines, where the text ends with the end pair at this line.
     pub fn finish(self, end: u32) -> Result<Vec<SheetLine>, Refused>
         ensures read { IfOk result (λ lines. resumed [] (Ok end) self ≡ Ok lines.items) }
-        ensures fault { (fault : Fault) → IsErrOf result (refused.Fault fault) → resumed [] (Ok end) self ≡ Err fault }
+        ensures fault { (fault : Fault) → IsErrOf result (refused.Fault fault)
+            → resumed [] (Ok end) self ≡ Err fault }
     {
         let mut reader = self;
         match reader.place {

@@ -2,7 +2,7 @@
 use Rattle.std.specs.Prelude.{◌≡◌, ℕ, List, Option, Some, None, Result, Ok, Err}
 use Rattle.solid_model.specs.declared.fault.Fault.{Fault}
 use Rattle.dxf_groups.specs.declared.pair.Pair.{Pair}
-use Rattle.dxf_groups.specs.Pairs.{Pairs, ended, text_pair, with_pair}
+use Rattle.dxf_groups.specs.Pairs.{Pairs, ended, pairs_of, text_pair, with_pair}
 use Rattle.dxf_groups.specs.Spans.{IsSpanIn, span_of}
 
 -- a reader's text, the pairs that it hasn't given yet, and the line of the end pair's code, once that was read
@@ -29,3 +29,10 @@ abbrev pub Gives : GroupsState → Result (Option Pair) Fault → GroupsState �
 Gives old (Ok (Some pair)) new = GivesPair old pair new
 Gives old (Ok None) new = GivesEnd old new
 Gives old (Err fault) new = (old.left ≡ ended (Err fault)) × (new ≡ old)
+
+-- A reader was read through: it has the same text, no pair is left, and the line of the end pair, with
+-- which the pairs of the text end, is known.
+pub record IsReadThrough (old new : GroupsState) : Type 0 where
+  pub line : ℕ
+  pub ends : (pairs_of old.text).ending ≡ Ok line
+  pub read_out : new ≡ record { text = old.text; left = ended (Ok line); end_line = Some line }

@@ -1,4 +1,4 @@
-//! The reader of a text, which gives its pairs; the reader that makes lines of pairs is `dxf_entities`'.
+//! The reader that gives the pairs of a text. The reader of `dxf_entities` makes lines of pairs.
 
 ghost use Rattle.std.specs.Prelude.{◌≡◌, ◌≤◌, length, drop, None};
 ghost use Rattle.dxf_groups.specs.Groups.{GroupsState, Gives};
