@@ -80,13 +80,15 @@ fn wrong_row(alloc: Global, table: &str) -> Result<&str, AllocError> {
 #[test]
 fn files_give_their_texts(rt: HostRuntime) -> Result<(), Fail> {
     for table in [TEXTS, ENTITIES, LINETYPES, NUMERALS, DRAWINGS] {
-        assert_eq!(rt; wrong_row(rt.alloc(), table)?, "");
+        let row = wrong_row(rt.alloc(), table)?;
+        assert!(rt; row.is_empty(), "{row}");
     }
     Ok(())
 }
 
 #[test]
 fn files_at_the_limits_give_their_texts(rt: HostRuntime) -> Result<(), Fail> {
-    assert_eq!(rt; wrong_row(rt.alloc(), SIZES)?, "");
+    let row = wrong_row(rt.alloc(), SIZES)?;
+    assert!(rt; row.is_empty(), "{row}");
     Ok(())
 }

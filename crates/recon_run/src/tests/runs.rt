@@ -37,13 +37,19 @@ fn cube_file(alloc: Global) -> Result<String, AllocError> {
     )
 }
 
-/// What a run over the unit cube's file writes, and what `solve` writes then for what is left of the source. The source's
-/// call of the number `read` fails, and the sink's call of the number `write` after three bytes; the calls count from 1.
-fn runs_over_cube(alloc: Global, words: &str, read: u32, write: u32) -> Result<String, AllocError> {
+/// Whether this is what a run over the unit cube's file writes, and what `solve` writes then for what is left of the source.
+/// The source's call of the number `read` fails, and the sink's call of the number `write`, after three bytes; the calls
+/// count from 1.
+fn writes(
+    alloc: Global,
+    words: &str,
+    [read, write]: [u32; 2],
+    [first, second]: [&str; 2],
+) -> Result<bool, AllocError> {
     let mut source = MemSource::new(cube_file(alloc)?.into_bytes(), vec![in alloc; read]?);
-    let first = run_over(alloc, words, &mut source, vec![in alloc; (write, 3usize)]?)?;
-    let second = run_over(alloc, "solve|", &mut source, Vec::new(alloc))?;
-    format!(in alloc; "{first} then {second}")
+    let wrote = run_over(alloc, words, &mut source, vec![in alloc; (write, 3usize)]?)?;
+    let rest = run_over(alloc, "solve|", &mut source, Vec::new(alloc))?;
+    Ok(wrote.as_str() == first && rest.as_str() == second)
 }
 
 /// Words that aren't taken, a list in each line, and `|` behind each word; the first list has none.
@@ -54,23 +60,23 @@ Solve|
 solve |
 |";
 
-/// What is written for them, and then for the unit cube, of which nothing was read.
-const USAGE: &str = "2 usage: recon solve|redraw|make|trial\n then \
-    0 whole 1\nsolid 1 volume 1\nbox 0,0,0 1,1,1\n";
+const USAGE: &str = "2 usage: recon solve|redraw|make|trial\n";
+
+const UNIT_CUBE: &str = "0 whole 1\nsolid 1 volume 1\nbox 0,0,0 1,1,1\n";
+
+/// What `solve` writes where nothing is left.
+const NOTHING_LEFT: &str = "1 fault F4 NoEof line 1\n";
 
 #[test]
 fn runs_end_so(rt: HostRuntime) -> Result<(), Fail> {
     let alloc = rt.alloc();
     for words in OTHER_WORDS.lines() {
-        assert_eq!(rt;
-            runs_over_cube(alloc, words, 0, 0)?.as_str(),
-            USAGE,
+        assert!(rt;
+            writes(alloc, words, [0, 0], [USAGE, UNIT_CUBE])?,
             "{words}"
         );
     }
-    let unread = runs_over_cube(alloc, "solve|", 2, 0)?;
-    assert_eq!(rt; unread.as_str(), "5  then 1 fault F4 NoEof line 1\n");
-    let unwritten = runs_over_cube(alloc, "solve|", 0, 1)?;
-    assert_eq!(rt; unwritten.as_str(), "6 who then 1 fault F4 NoEof line 1\n");
+    assert!(rt; writes(alloc, "solve|", [2, 0], ["5 ", NOTHING_LEFT])?);
+    assert!(rt; writes(alloc, "solve|", [0, 1], ["6 who", NOTHING_LEFT])?);
     Ok(())
 }
