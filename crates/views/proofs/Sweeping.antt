@@ -64,7 +64,7 @@ settled_place at from until solid_to dashed_to j z h =
 pub settled_draws : (runs with_solid with_dashed : List Run) (at from until solid_to dashed_to : ℤ) → from ≤ℤ until
     → ((j z : ℤ) → run_style with_solid j z ≡ stronger (run_style runs j z) (stroke_style (stroke at from (int_min solid_to until) Solid ∷ []) j z))
     → ((j z : ℤ) → run_style with_dashed j z
-        ≡ stronger (run_style with_solid j z) (stroke_style (stroke at (int_max from solid_to) (int_min dashed_to until) Dashed ∷ []) j z))
+    ≡ stronger (run_style with_solid j z) (stroke_style (stroke at (int_max from solid_to) (int_min dashed_to until) Dashed ∷ []) j z))
     → (j z : ℤ) → stronger (run_style with_dashed j z) (stroke_style (stroke at until solid_to Solid ∷ stroke at until dashed_to Dashed ∷ []) j z)
     ≡ stronger (run_style runs j z) (stroke_style (stroke at from solid_to Solid ∷ stroke at from dashed_to Dashed ∷ []) j z)
 settled_draws runs with_solid with_dashed at from until solid_to dashed_to h first second j z =

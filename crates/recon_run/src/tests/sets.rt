@@ -95,7 +95,10 @@ const HALVES: [(u8, u8); 3] = [
 
 /// The cells of a box line, each of which has coordinates 0 or 1.
 fn cells_of(line: &str) -> u8 {
-    let (low, high) = line.strip_prefix("box ").and_then(|corners| corners.split_once(' ')).unwrap_or(("", ""));
+    let (low, high) = line
+        .strip_prefix("box ")
+        .and_then(|corners| corners.split_once(' '))
+        .unwrap_or(("", ""));
     let mut pairs = low.split(',').zip(high.split(','));
     let mut cells = 255;
     for (at_0, at_1) in HALVES {
