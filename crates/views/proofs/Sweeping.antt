@@ -1,5 +1,5 @@
 -- A sweep over strokes: what goes into the runs, and what still reaches beyond.
-use Rattle.std.proofs.Common.{◌≡◌, ◌⊎◌, inl, inr, ⊎_elim, Bool, true, false, not, ◌&&◌, List, [], ◌∷◌, ◌++◌, ℤ, ◌≤ℤ◌, ◌<ℤ◌, int_lt, int_le, int_eq, refl, sym, ap, ap₂, ◌∙◌, arith}
+use Rattle.std.proofs.Common.{◌≡◌, inl, inr, ⊎_elim, Bool, true, false, not, ◌&&◌, List, [], ◌∷◌, ℤ, ◌≤ℤ◌, ◌<ℤ◌, int_lt, int_le, int_eq, refl, sym, ap, ap₂, ◌∙◌, arith}
 use Rattle.std.specs.Int.{int_min, int_max}
 use Rattle.std.proofs.lemmas.Bool.{false≢true, and_parts, false_from_ne_true}
 use Rattle.std.proofs.lemmas.Int.{ints}
@@ -11,7 +11,8 @@ use Rattle.solid_model.proofs.Lists.{each-weaker}
 use Rattle.views.specs.declared.strokes.Stroke.{Stroke}
 use Rattle.views.specs.Joined.{EndsBy, EndBy}
 use Rattle.views.specs.Strokes.{stroke_covers, stroke_style, stronger}
-use Rattle.views.specs.Sweeps.{stroke}
+use Rattle.views.specs.declared.sweep.Sweep.{Sweep}
+use Rattle.views.specs.Sweeps.{stroke, solid_piece, dashed_piece, seen_style}
 use Rattle.views.proofs.IntTests.{lt-min, lt-max, max-le, le-not_lt}
 use Rattle.views.proofs.Together.{stronger_assoc, stronger-blank, stronger_swap, drawn_if, drawn_if-or, and-or, stroke_style-one, stroke_style-two}
 
@@ -61,25 +62,23 @@ settled_place at from until solid_to dashed_to j z h =
     ∙ settled_tests (int_eq at j) (int_le from z) (int_lt z until) (int_lt z solid_to) (int_lt z dashed_to) (past_until from until z h)
 
 -- two pieces behind the runs, and what reaches beyond
-pub settled_draws : (runs with_solid with_dashed : List Run) (at from until solid_to dashed_to : ℤ) → from ≤ℤ until
-    → ((j z : ℤ) → run_style with_solid j z ≡ stronger (run_style runs j z) (stroke_style (stroke at from (int_min solid_to until) Solid ∷ []) j z))
-    → ((j z : ℤ) → run_style with_dashed j z
-    ≡ stronger (run_style with_solid j z) (stroke_style (stroke at (int_max from solid_to) (int_min dashed_to until) Dashed ∷ []) j z))
-    → (j z : ℤ) → stronger (run_style with_dashed j z) (stroke_style (stroke at until solid_to Solid ∷ stroke at until dashed_to Dashed ∷ []) j z)
-    ≡ stronger (run_style runs j z) (stroke_style (stroke at from solid_to Solid ∷ stroke at from dashed_to Dashed ∷ []) j z)
-settled_draws runs with_solid with_dashed at from until solid_to dashed_to h first second j z =
-    let one : Stroke = stroke at from (int_min solid_to until) Solid in
-    let two : Stroke = stroke at (int_max from solid_to) (int_min dashed_to until) Dashed in
-    let a = stroke_style (one ∷ []) j z in
-    let b = stroke_style (two ∷ []) j z in
-    let beyond = stroke_style (stroke at until solid_to Solid ∷ stroke at until dashed_to Dashed ∷ []) j z in
-    let before = run_style runs j z in
-    ap (λ s. stronger s beyond) (second j z ∙ ap (λ s. stronger s b) (first j z) ∙ stronger_assoc before a b)
+pub settled_draws : (s : Sweep) (with_solid with_dashed : List Run) (until : ℤ) → s.from ≤ℤ until
+    → ((j z : ℤ) → run_style with_solid j z ≡ stronger (run_style s.runs.items j z) (stroke_style (solid_piece s until ∷ []) j z))
+    → ((j z : ℤ) → run_style with_dashed j z ≡ stronger (run_style with_solid j z) (stroke_style (dashed_piece s until ∷ []) j z))
+    → (j z : ℤ) → stronger (run_style with_dashed j z) (stroke_style (stroke s.at until s.solid_to Solid ∷ stroke s.at until s.dashed_to Dashed ∷ []) j z)
+    ≡ seen_style s j z
+settled_draws s with_solid with_dashed until h first second j z =
+    let a = stroke_style (solid_piece s until ∷ []) j z in
+    let b = stroke_style (dashed_piece s until ∷ []) j z in
+    let beyond = stroke_style (stroke s.at until s.solid_to Solid ∷ stroke s.at until s.dashed_to Dashed ∷ []) j z in
+    let before = run_style s.runs.items j z in
+    ap (λ t. stronger t beyond) (second j z ∙ ap (λ t. stronger t b) (first j z) ∙ stronger_assoc before a b)
     ∙ stronger_assoc before (stronger a b) beyond
     ∙ ap (stronger before)
-    (ap₂ stronger (ap₂ stronger (stroke_style-one one j z) (stroke_style-one two j z)) (stroke_style-two (stroke at until solid_to Solid) (stroke at until dashed_to Dashed) j z)
-    ∙ settled_place at from until solid_to dashed_to j z h
-    ∙ sym (stroke_style-two (stroke at from solid_to Solid) (stroke at from dashed_to Dashed) j z))
+    (ap₂ stronger (ap₂ stronger (stroke_style-one (solid_piece s until) j z) (stroke_style-one (dashed_piece s until) j z))
+    (stroke_style-two (stroke s.at until s.solid_to Solid) (stroke s.at until s.dashed_to Dashed) j z)
+    ∙ settled_place s.at s.from until s.solid_to s.dashed_to j z h
+    ∙ sym (stroke_style-two (stroke s.at s.from s.solid_to Solid) (stroke s.at s.from s.dashed_to Dashed) j z))
 
 -- ---- on to a later line
 

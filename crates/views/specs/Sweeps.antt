@@ -1,5 +1,6 @@
 -- What a sweep over strokes has seen.
 use Rattle.std.specs.Prelude.{◌≡◌, List, [], ◌∷◌, ℤ}
+use Rattle.std.specs.Int.{int_min, int_max}
 use Rattle.solid_model.specs.declared.segment.Style.{Style}
 use Rattle.solid_model.specs.declared.segment.Style.TheVariants.{Dashed, Solid}
 use Rattle.solid_model.specs.Runs.{run_style, AreRuns}
@@ -11,6 +12,14 @@ use Rattle.views.specs.Strokes.{stroke_style, stronger}
 -- a stroke, by its parts
 abbrev pub stroke : ℤ → ℤ → ℤ → Style → Stroke
 stroke at from to style = record { at = at; from = from; to = to; style = style }
+
+-- what is drawn solid on the line from the place at which the sweep stands to another
+abbrev pub solid_piece : Sweep → ℤ → Stroke
+solid_piece s until = stroke s.at s.from (int_min s.solid_to until) Solid
+
+-- and what is drawn dashed there, where nothing solid is
+abbrev pub dashed_piece : Sweep → ℤ → Stroke
+dashed_piece s until = stroke s.at (int_max s.from s.solid_to) (int_min s.dashed_to until) Dashed
 
 -- what reaches beyond the place at which the sweep stands
 abbrev pub open_strokes : Sweep → List Stroke

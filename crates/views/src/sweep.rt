@@ -25,7 +25,8 @@ impl Sweep {
     ghost use Rattle.std.specs.Prelude.{◌≡◌, [], ℤ, ◌≤ℤ◌, ◌<ℤ◌, IfOk};
     ghost use Rattle.solid_model.specs.Runs.{AreRuns, run_style};
     ghost use Rattle.views.specs.Strokes.{BeginsFrom};
-    ghost use Rattle.views.specs.Sweeps.{seen_style, HasSeen, HasSeenAs, HasSeenWith, StandsAt, KeepsRuns};
+    ghost use Rattle.views.specs.Sweeps.{solid_piece, dashed_piece, seen_style, HasSeen, HasSeenAs, HasSeenWith};
+    ghost use Rattle.views.specs.Sweeps.{StandsAt, KeepsRuns};
 
     /// A sweep that stands where the first stroke begins, and has seen nothing.
     fn before(alloc: Global, first: &Stroke) -> Sweep
@@ -42,6 +43,30 @@ impl Sweep {
         }
     }
 
+    /// What is drawn solid before `until` on the line.
+    fn solid_piece(&self, until: i64) -> Stroke
+        ensures { result ≡ solid_piece self.now until }
+    {
+        Stroke {
+            at: self.at,
+            from: self.from,
+            to: self.solid_to.min(until),
+            style: Style::Solid,
+        }
+    }
+
+    /// What is drawn dashed before `until`, which begins where nothing solid is left.
+    fn dashed_piece(&self, until: i64) -> Stroke
+        ensures { result ≡ dashed_piece self.now until }
+    {
+        Stroke {
+            at: self.at,
+            from: self.from.max(self.solid_to),
+            to: self.dashed_to.min(until),
+            style: Style::Dashed,
+        }
+    }
+
     /// Everything before `until` on the line goes into the runs.
     fn settled(self, until: i64) -> Result<Sweep, AllocError>
         requires sweep { KeepsRuns self }
@@ -52,18 +77,8 @@ impl Sweep {
         ensures dashed { IfOk result (λ settled. settled.dashed_to ≡ self.dashed_to) }
         ensures drawn { IfOk result (HasSeenAs self) }
     {
-        let solid = Stroke {
-            at: self.at,
-            from: self.from,
-            to: self.solid_to.min(until),
-            style: Style::Solid,
-        };
-        let dashed = Stroke {
-            at: self.at,
-            from: self.from.max(self.solid_to),
-            to: self.dashed_to.min(until),
-            style: Style::Dashed,
-        };
+        let solid = self.solid_piece(until);
+        let dashed = self.dashed_piece(until);
         let runs = with_piece(with_piece(self.runs, solid)?, dashed)?;
         Ok(Sweep {
             runs,
