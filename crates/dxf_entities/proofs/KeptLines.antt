@@ -68,14 +68,16 @@ one_more_near : (p : TextPair) (known : Option ℤ) (with : ℤ → Known) (d : 
     → (coordinate_at p known >>= λ z. Ok (with z)) ≡ Ok d → AreNear d
 one_more_near p known with d near e =
     let z = after_ok (coordinate_at p known) (λ z. Ok (with z)) d e in
-    subst AreNear (ok_value (with z.value) d z.second) (near z.value (coordinate_near p known z.value z.first))
+    subst AreNear (ok_value (with z.value) d z.second)
+    (near z.value (coordinate_near p known z.value z.first))
 
 -- and with one more pair, whichever of the four codes it has
 pair_near : (x0 y0 x1 y1 : Bool) (p : TextPair) (c d : Known) → AreNear c
     → (if x0 then (coordinate_at p c.x0 >>= λ z. Ok (record c { x0 = Some z }))
     else (if y0 then (coordinate_at p c.y0 >>= λ z. Ok (record c { y0 = Some z }))
     else (if x1 then (coordinate_at p c.x1 >>= λ z. Ok (record c { x1 = Some z }))
-    else (if y1 then (coordinate_at p c.y1 >>= λ z. Ok (record c { y1 = Some z })) else Ok c)))) ≡ Ok d → AreNear d
+    else
+    (if y1 then (coordinate_at p c.y1 >>= λ z. Ok (record c { y1 = Some z })) else Ok c)))) ≡ Ok d → AreNear d
 pair_near true y0 x1 y1 p c d near e =
     one_more_near p c.x0 (λ z. record c { x0 = Some z }) d
     (λ z n. record { x0 = n; y0 = near.y0; x1 = near.x1; y1 = near.y1 }) e
@@ -97,7 +99,8 @@ coordinates_near [] c d near e = subst AreNear (ok_value c d e) near
 coordinates_near (p ∷ ps) c d near e =
     let k = after_ok (with_coordinate p c) (coordinates_of ps) d e in
     let one_more =
-    pair_near (has_code 10 p) (has_code 20 p) (has_code 11 p) (has_code 21 p) p c k.value near k.first in
+    pair_near (has_code 10 p) (has_code 20 p) (has_code 11 p) (has_code 21 p) p c k.value near
+    k.first in
     coordinates_near ps k.value d one_more k.second
 
 -- ---- lines
@@ -205,7 +208,8 @@ module _ (f : Facts) (near : (c : Known) → f.coordinates ≡ Ok c → AreNear 
   on_layer_kept : (view : Option View) (layers : View → Option Linetype) (count : ℕ) (m : Option Line)
       → judged_on view layers count f ≡ Ok m → IfSome m IsKept
   on_layer_kept None layers count m e = subst (λ o. IfSome o IsKept) (ok_value None m e) tt
-  on_layer_kept (Some view) layers count m e = on_paper_kept (is_on_paper f.paper) (layers view) count view m e
+  on_layer_kept (Some view) layers count m e =
+      on_paper_kept (is_on_paper f.paper) (layers view) count view m e
 
   -- so what an entity gives is kept
   judged_kept : (layers : View → Option Linetype) (count : ℕ) (m : Option Line)
@@ -261,7 +265,8 @@ entry_kept true Tables e s t is =
     same_lines s t (layer_added e s) (layer_added_kept (is_name (codes "LAYER") e.name) s _ refl) is
 entry_kept true Other e s t is = same_lines s t s refl is
 entry_kept true Entities e s t is =
-    let m = after_ok (judged s.layers (length s.lines) (facts_of e)) (λ l. Ok (line_added l s)) t is in
+    let m =
+    after_ok (judged s.layers (length s.lines) (facts_of e)) (λ l. Ok (line_added l s)) t is in
     let none : AreNear none_known = record { x0 = tt; y0 = tt; x1 = tt; y1 = tt } in
     let near : (c : Known) → (facts_of e).coordinates ≡ Ok c → AreNear c =
     λ c. coordinates_near (own_pairs false e.pairs) none_known c none in
@@ -278,7 +283,8 @@ entry_between false e fault s t is = absurd cc
 
 -- an entry in a section begins one, ends it, or stands in it
 entry_inside : (is_section is_end ended : Bool) (section : Section) (e : Entry) (fault : Fault) (s : Progress)
-    → KeepsLines (if is_section then Err fault else (if is_end then between e.pairs s else entry_read ended section e s)) s
+    → KeepsLines (if is_section then Err fault
+    else (if is_end then between e.pairs s else entry_read ended section e s)) s
 entry_inside true is_end ended section e fault s t is = absurd cc
 entry_inside false true ended section e fault s t is = between_kept e.pairs s t is
 entry_inside false false ended section e fault s t is = entry_kept ended section e s t is
@@ -289,7 +295,8 @@ entry_at_kept : (place : Place) (ended : Bool) (e : Entry) (s : Progress)
 entry_at_kept Outside ended e s t is = entry_between (is_name (codes "SECTION") e.name) e _ s t is
 entry_at_kept Unnamed ended e s t is = absurd cc
 entry_at_kept (Inside section) ended e s t is =
-    entry_inside (is_name (codes "SECTION") e.name) (is_name (codes "ENDSEC") e.name) ended section e _ s t is
+    entry_inside (is_name (codes "SECTION") e.name) (is_name (codes "ENDSEC") e.name) ended section
+    e _ s t is
 
 -- the end adds no line
 end_kept : (place : Place) (line : ℕ) (s : Progress) (ls : List Line)

@@ -20,8 +20,10 @@ or_nothing (Some x) = refl
 or_nothing None = refl
 
 -- what is known, or else what the first pair with a code tells
-first_of_more : {A : Type 0} (code : ℕ) (meaning : List ℕ → A) (p : TextPair) (own : List TextPair) (known : Option A)
-    → option_or (or_first code meaning p known) (option_map meaning (first_value code own)) ≡ option_or known (option_map meaning (first_value code (p ∷ own)))
+first_of_more : {A : Type 0} (code : ℕ) (meaning : List ℕ → A) (p : TextPair)
+    (own : List TextPair) (known : Option A)
+    → option_or (or_first code meaning p known) (option_map meaning (first_value code own))
+    ≡ option_or known (option_map meaning (first_value code (p ∷ own)))
 first_of_more code meaning p own (Some x) = refl
 first_of_more code meaning p own None = by (has_code code p)
   where
@@ -91,20 +93,21 @@ more_layer_facts p own f = λ i. record {
 
 -- what is found pair by pair is found of an entry's own pairs
 module _ {F : Type 0} (with : TextPair → F → F) (all : List TextPair → F → F) (none : (f : F) → all [] f ≡ f)
-    (more : (p : TextPair) (own : List TextPair) (f : F) → all own (with p f) ≡ all (p ∷ own) f) where
-  found : (inside : Bool) (ps : List TextPair) (f : F)
-      → with_own with inside ps f ≡ all (own_pairs inside ps) f
-  found true [] f = sym (none f)
-  found false [] f = sym (none f)
-  found true (p ∷ ps) f = found (not (closes_application p)) ps f
-  found false (p ∷ ps) f = by (opens_application p) (found true ps f) (found false ps (with p f))
-    where
-      by : (b : Bool) → with_own with true ps f ≡ all (own_pairs true ps) f
-          → with_own with false ps (with p f) ≡ all (own_pairs false ps) (with p f)
-          → (if b then with_own with true ps f else with_own with false ps (with p f))
-          ≡ all (if b then own_pairs true ps else p ∷ own_pairs false ps) f
-      by true inside outside = inside
-      by false inside outside = outside ∙ more p (own_pairs false ps) f
+    (more : (p : TextPair) (own : List TextPair) (f : F) → all own (with p f) ≡ all (p ∷ own) f)
+  where
+    found : (inside : Bool) (ps : List TextPair) (f : F)
+        → with_own with inside ps f ≡ all (own_pairs inside ps) f
+    found true [] f = sym (none f)
+    found false [] f = sym (none f)
+    found true (p ∷ ps) f = found (not (closes_application p)) ps f
+    found false (p ∷ ps) f = by (opens_application p) (found true ps f) (found false ps (with p f))
+      where
+        by : (b : Bool) → with_own with true ps f ≡ all (own_pairs true ps) f
+            → with_own with false ps (with p f) ≡ all (own_pairs false ps) (with p f)
+            → (if b then with_own with true ps f else with_own with false ps (with p f))
+            ≡ all (if b then own_pairs true ps else p ∷ own_pairs false ps) f
+        by true inside outside = inside
+        by false inside outside = outside ∙ more p (own_pairs false ps) f
 
 -- so are the facts of an entity
 pub own_facts : (inside : Bool) (ps : List TextPair) (f : Facts)

@@ -90,7 +90,8 @@ entry_closed_after b p ps (Layer f) s =
     else with_own with_layer_fact false ps (with_layer_fact p f) in
     Ok (with_layer all.name all.linetype s)
 entry_closed_after b p ps (Entity f) s =
-    entity_read (if b then with_own with_fact true ps f else with_own with_fact false ps (with_fact p f)) s
+    entity_read
+    (if b then with_own with_fact true ps f else with_own with_fact false ps (with_fact p f)) s
 
 -- a pair of its own is added to an open entry
 own_taken : (p : TextPair) (ps : List TextPair) (entry : Open) (s : Progress) (b : Bool)
@@ -345,7 +346,7 @@ ends_at_fault r f = by r.place
 
 -- ---- what is handed over
 
--- a pair that the groups give is the next one that is left
+-- a pair that the reader of the text gives is the next one that is left
 pub pair_read : (old new : GroupsState) (r : Reader) (p : Pair) (value : List ℕ)
     → Gives old (Ok (Some p)) new → value ≡ span_of new.text p.value
     → resumed old.left.pairs old.left.ending r
@@ -355,7 +356,7 @@ pair_read old new r p value gives is =
     ∙ ap (λ v. resumed (text_pair p v ∷ new.left.pairs) new.left.ending r)
     (ap (λ text. span_of text p.value) (sym gives.same_text) ∙ sym is)
 
--- where the groups give no more, none is left, and the end pair was read
+-- where it gives no more, none is left, and the end pair was read
 pub end_read_at : (old new : GroupsState) (line : ℕ) (r : Reader)
     → Gives old (Ok None) new → new.end_line ≡ Some line
     → resumed old.left.pairs old.left.ending r ≡ resumed [] (Ok line) r

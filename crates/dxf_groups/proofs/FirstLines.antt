@@ -23,7 +23,8 @@ lines-first (b ∷ []) some = at (is_feed b)
   where
     at : (feed : Bool)
         → cond feed ([] ∷ []) ((b ∷ []) ∷ [])
-        ≡ take (cond (not feed) (1 + 0) 0) (b ∷ []) ∷ text_lines (drop (cond (not feed) (1 + 0) 0 + 1) (b ∷ []))
+        ≡ take (cond (not feed) (1 + 0) 0) (b ∷ []) ∷ text_lines
+        (drop (cond (not feed) (1 + 0) 0 + 1) (b ∷ []))
     at true = refl
     at false = refl
 lines-first (b ∷ c ∷ bytes) some = at (is_feed b) (lines-first (c ∷ bytes) (omega arith))
@@ -32,7 +33,9 @@ lines-first (b ∷ c ∷ bytes) some = at (is_feed b) (lines-first (c ∷ bytes)
         → text_lines (c ∷ bytes)
         ≡ before_first is_feed (c ∷ bytes) ∷ text_lines (after_first is_feed (c ∷ bytes))
         → cond feed ([] ∷ text_lines (c ∷ bytes)) (onto_first b (text_lines (c ∷ bytes)))
-        ≡ take (cond (not feed) (1 + position_or_len is_feed (c ∷ bytes)) 0) (b ∷ c ∷ bytes) ∷ text_lines (drop (cond (not feed) (1 + position_or_len is_feed (c ∷ bytes)) 0 + 1) (b ∷ c ∷ bytes))
+        ≡ take (cond (not feed) (1 + position_or_len is_feed (c ∷ bytes)) 0) (b ∷ c ∷ bytes)
+        ∷ text_lines
+        (drop (cond (not feed) (1 + position_or_len is_feed (c ∷ bytes)) 0 + 1) (b ∷ c ∷ bytes))
     at true later = refl
     at false later = one_more (position_or_len is_feed (c ∷ bytes)) b (c ∷ bytes) _ later
 
@@ -46,11 +49,14 @@ part_of_prefix : (xs : List ℕ) (start len m : ℕ) → start + len ≤ m
     → take len (drop start (take m xs)) ≡ take len (drop start xs)
 part_of_prefix xs start len m le =
     let split : m ≡ start + (m - start) = omega arith in
-    ap (λ k. take len (drop start (take k xs))) split ∙ ap (take len) (drop-take start (m - start) xs) ∙ take-take len (m - start) (drop start xs) (omega arith)
+    ap (λ k. take len (drop start (take k xs))) split
+    ∙ ap (take len) (drop-take start (m - start) xs)
+    ∙ take-take len (m - start) (drop start xs) (omega arith)
 
 -- a span of a prefix of what is left of a text is a span of the text
 span_shifted : (text : List ℕ) (start feed : ℕ) (s : Span) → s.start ≤ s.end → s.end ≤ feed
-    → span_of (take feed (drop start text)) s ≡ span_of text (record { start = start + s.start; end = start + s.end })
+    → span_of (take feed (drop start text)) s
+    ≡ span_of text (record { start = start + s.start; end = start + s.end })
 span_shifted text start feed s ordered within =
     let same : s.end - s.start ≡ start + s.end - (start + s.start) = omega arith in
     part_of_prefix (drop start text) s.start (s.end - s.start) feed (omega arith)
@@ -60,14 +66,23 @@ span_shifted text start feed s ordered within =
 -- the first line of what is left of a text, by its line feed and the span of its content
 pub line_found : (text rest : List ℕ) (start feed : ℕ) (s : Span) (after : ℕ)
     → rest ≡ drop start text → start < length text → feed ≡ position_or_len is_feed rest
-    → IsSpanIn (take feed rest) s → span_of (take feed rest) s ≡ content_of (take feed rest) → drop after text ≡ drop (start + feed + 1) text
-    → contents_of (drop start text) ≡ span_of text (record { start = start + s.start; end = start + s.end }) ∷ contents_of (drop after text)
+    → IsSpanIn (take feed rest) s → span_of (take feed rest) s ≡ content_of (take feed rest)
+    → drop after text ≡ drop (start + feed + 1) text
+    → contents_of (drop start text)
+    ≡ span_of text (record { start = start + s.start; end = start + s.end })
+    ∷ contents_of (drop after text)
 line_found text rest start feed s after left some is inside content same =
     let some_left : 0 < length rest = rw left (omega (arith, length-drop start text)) in
     let place : Span = record { start = start + s.start; end = start + s.end } in
-    let whole = subst (λ (xs : List ℕ). contents_of xs ≡ content_of (take feed rest) ∷ contents_of (drop (feed + 1) xs)) left (first_content rest feed some_left is) in
+    let whole =
+    subst
+    (λ (xs : List ℕ). contents_of xs ≡ content_of (take feed rest) ∷ contents_of (drop (feed + 1) xs))
+    left (first_content rest feed some_left is) in
     let within : s.end ≤ feed = omega (arith, inside.1, length-take feed rest) in
-    let of_text = sym content ∙ subst (λ (xs : List ℕ). span_of (take feed xs) s ≡ span_of text place) (sym left) (span_shifted text start feed s inside.0 within) in
+    let of_text =
+    sym content
+    ∙ subst (λ (xs : List ℕ). span_of (take feed xs) s ≡ span_of text place) (sym left)
+    (span_shifted text start feed s inside.0 within) in
     let next : start + (feed + 1) ≡ start + feed + 1 = omega arith in
     let rest_after = drop-drop (feed + 1) start text ∙ ap (λ k. drop k text) next ∙ sym same in
     whole ∙ ap₂ (λ (x : List ℕ) (xs : List ℕ). x ∷ contents_of xs) of_text rest_after

@@ -35,7 +35,9 @@ digit_byte b small =
 -- the digit at a place of a list of digits
 pub value_at : (ds : List ℕ) (i : ℕ) → AllDigits 10 ds → i < length ds
     → (48 ≤ get_or ds i 0) × (digit_value (get_or ds i 0) ≡ get_or ds i 0 - 48)
-value_at ds i digits within = let range = digit_at ds i digits within in (range.0, range_value (get_or ds i 0) range)
+value_at ds i digits within =
+    let range = digit_at ds i digits within in
+    (range.0, range_value (get_or ds i 0) range)
 
 -- a byte is a digit by its value just where it is one by its range
 pub same_test : (b : ℕ) → is_digit b 10 ≡ is_ascii_digit b
@@ -52,7 +54,9 @@ from_is_digit b test = grind (arith, nat_tests)
 -- where two lists together are digits, each of them is
 pub digits_parts : (ds es : List ℕ) → AllDigits 10 (ds ++ es) → AllDigits 10 ds × AllDigits 10 es
 digits_parts [] es digits = (tt, digits)
-digits_parts (d ∷ ds) es digits = let more = digits_parts ds es digits.1 in ((digits.0, more.0), more.1)
+digits_parts (d ∷ ds) es digits =
+    let more = digits_parts ds es digits.1 in
+    ((digits.0, more.0), more.1)
 
 -- and where each is, both together are
 pub digits_append : (ds es : List ℕ) → AllDigits 10 ds → AllDigits 10 es → AllDigits 10 (ds ++ es)
@@ -99,22 +103,32 @@ leading_length (b ∷ bs) = at (is_digit b 10) (same_test b) (leading_length bs)
 
 -- a place of a text, or its end
 place_or_end : (p n : ℕ) → p ≤ n → unwrap_or (cond (ltb p n) (Some p) None) n ≡ p
-place_or_end p n within = elim (cases_lt p n) as (λ _. unwrap_or (cond (ltb p n) (Some p) None) n ≡ p) [ inl less ↦ rw (lt-ltb p n less) refl | inr same ↦ rw (le-ltb p n same) (omega arith) ]
+place_or_end p n within =
+    elim (cases_lt p n) as (λ _. unwrap_or (cond (ltb p n) (Some p) None) n ≡ p) [
+      | inl less ↦ rw (lt-ltb p n less) refl
+      | inr same ↦ rw (le-ltb p n same) (omega arith)
+    ]
 
 -- that place ends them, or the text's end does
 pub leading_ends : (bs : List ℕ)
     → unwrap_or (position is_other bs) (length bs) ≡ length (leading_digits bs)
 leading_ends bs =
-    let within : length (leading_digits bs) ≤ length bs = omega (arith, ap length (leading_and_past bs), length-append (leading_digits bs) (past_digits bs)) in
+    let within : length (leading_digits bs) ≤ length bs =
+    omega
+    (arith, ap length (leading_and_past bs), length-append (leading_digits bs) (past_digits bs)) in
     rw (leading_length bs) (place_or_end (length (leading_digits bs)) (length bs) within)
 
 -- the text before that place is the digits
 pub leading_taken : (bs : List ℕ) → take (length (leading_digits bs)) bs ≡ leading_digits bs
-leading_taken bs = ap (take (length (leading_digits bs))) (sym (leading_and_past bs)) ∙ take-append_seam (leading_digits bs) (past_digits bs)
+leading_taken bs =
+    ap (take (length (leading_digits bs))) (sym (leading_and_past bs))
+    ∙ take-append_seam (leading_digits bs) (past_digits bs)
 
 -- and the rest is what follows them
 pub past_dropped : (bs : List ℕ) → drop (length (leading_digits bs)) bs ≡ past_digits bs
-past_dropped bs = ap (drop (length (leading_digits bs))) (sym (leading_and_past bs)) ∙ drop-append_seam (leading_digits bs) (past_digits bs)
+past_dropped bs =
+    ap (drop (length (leading_digits bs))) (sym (leading_and_past bs))
+    ∙ drop-append_seam (leading_digits bs) (past_digits bs)
 
 -- ---- the number that digits write
 
@@ -127,14 +141,20 @@ pub value_after : (n : ℕ) (ds : List ℕ)
     → digits_value_after 10 n ds ≡ n * 10 ^ length ds + digits_value 10 ds
 value_after n [] = omega arith
 value_after n (d ∷ ds) =
-    let alone = ap (λ m. digits_value_after 10 m ds) (zero-add (digit_value d)) ∙ value_after (digit_value d) ds in
+    let alone =
+    ap (λ m. digits_value_after 10 m ds) (zero-add (digit_value d))
+    ∙ value_after (digit_value d) ds in
     value_after (n * 10 + digit_value d) ds
-    ∙ (spread n (digit_value d) (10 ^ length ds) (digits_value 10 ds) ∙ sym (ap₂ (λ p m. n * p + m) (pow-suc 10 (length ds)) alone))
+    ∙
+    (spread n (digit_value d) (10 ^ length ds) (digits_value 10 ds)
+    ∙ sym (ap₂ (λ p m. n * p + m) (pow-suc 10 (length ds)) alone))
 
 -- the number of digits after a first one
 pub value_cons : (d : ℕ) (ds : List ℕ)
     → digits_value 10 (d ∷ ds) ≡ digit_value d * 10 ^ length ds + digits_value 10 ds
-value_cons d ds = ap (λ n. digits_value_after 10 n ds) (zero-add (digit_value d)) ∙ value_after (digit_value d) ds
+value_cons d ds =
+    ap (λ n. digits_value_after 10 n ds) (zero-add (digit_value d))
+    ∙ value_after (digit_value d) ds
 
 -- digits that follow others are read on from their number
 pub value_append : (n : ℕ) (ds es : List ℕ)
@@ -166,7 +186,8 @@ value_zeros [] digits none = refl
 value_zeros (d ∷ ds) digits none =
     let value = value_cons d ds in
     let rest : digits_value 10 ds ≡ 0 = omega arith in
-    let weight : digit_value d * 1 ≤ digit_value d * 10 ^ length ds = mul-le-mul_left (digit_value d) (one-le-pow (length ds) 10 (omega arith)) in
+    let weight : digit_value d * 1 ≤ digit_value d * 10 ^ length ds =
+    mul-le-mul_left (digit_value d) (one-le-pow (length ds) 10 (omega arith)) in
     let byte = digit_byte d digits.0 in
     let first : d ≡ 48 = omega arith in
     rw (eq-eqb d 48 first) (value_zeros ds digits.1 rest)
@@ -183,14 +204,18 @@ pub capped_after : (n : ℕ) (ds : List ℕ)
 capped_after n [] = omega arith
 capped_after n (d ∷ ds) =
     sym (capped_after (capped n * 10 + digit_value d) ds)
-    ∙ (ap (λ m. capped (digits_value_after 10 m ds)) (capped_step n (digit_value d)) ∙ capped_after (n * 10 + digit_value d) ds)
+    ∙
+    (ap (λ m. capped (digits_value_after 10 m ds)) (capped_step n (digit_value d))
+    ∙ capped_after (n * 10 + digit_value d) ds)
 
 -- the next digit of a text
 pub capped_next : (n next : ℕ) (ds : List ℕ) (i : ℕ) → i < length ds
     → next ≡ capped (n * 10 + digit_value (get_or ds i 0))
     → capped (digits_value_after 10 next (drop (i + 1) ds))
     ≡ capped (digits_value_after 10 n (drop i ds))
-capped_next n next ds i within is = rw (is, drop_more ds i 0 within) (capped_after (n * 10 + digit_value (get_or ds i 0)) (drop (i + 1) ds))
+capped_next n next ds i within is =
+    rw (is, drop_more ds i 0 within)
+    (capped_after (n * 10 + digit_value (get_or ds i 0)) (drop (i + 1) ds))
 
 -- twenty zeros or more after a number that isn't 0
 pub capped_zeros : (n zeros : ℕ) → n ≢ 0 → 19 < zeros → 2 ^ 64 - 1 ≡ capped (n * 10 ^ zeros)
@@ -203,10 +228,17 @@ capped_zeros n zeros some many =
 pub capped_power : (n power places : ℕ) → places < 2 ^ 63
     → capped (n * 10 ^ (capped power - places)) ≡ capped (n * 10 ^ (power - places))
 capped_power zero power places few = omega arith
-capped_power (suc n) power places few = elim (cases_lt power (2 ^ 64)) as (λ _. capped (suc n * 10 ^ (capped power - places)) ≡ capped (suc n * 10 ^ (power - places))) [
-  | inl small ↦ (let same : capped power ≡ power = omega arith in ap (λ e. capped (suc n * 10 ^ (e - places))) same)
-  | inr large ↦ sym (capped_zeros (suc n) (capped power - places) (λ none. omega arith) (omega arith)) ∙ capped_zeros (suc n) (power - places) (λ none. omega arith) (omega arith)
-]
+capped_power (suc n) power places few =
+    elim (cases_lt power (2 ^ 64)) as (λ _.
+    capped (suc n * 10 ^ (capped power - places)) ≡ capped (suc n * 10 ^ (power - places))) [
+      | inl small ↦ (
+          let same : capped power ≡ power = omega arith in
+          ap (λ e. capped (suc n * 10 ^ (e - places))) same
+          )
+      | inr large ↦
+          sym (capped_zeros (suc n) (capped power - places) (λ none. omega arith) (omega arith))
+          ∙ capped_zeros (suc n) (power - places) (λ none. omega arith) (omega arith)
+    ]
 
 -- a number that is kept, times another that isn't 0
 pub capped_times : (n m : ℕ) → 1 ≤ m → capped (capped n * m) ≡ capped (n * m)

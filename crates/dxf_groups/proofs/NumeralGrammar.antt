@@ -27,7 +27,12 @@ sign_spelled (b ∷ bs) = at (b == 45) (b == 43) refl refl
     at true plus is_minus is_plus =
         record { sign = 45 ∷ []; signed = refl; split = ap (λ c. c ∷ bs) (eqb-true b 45 is_minus) }
     at false true is_minus is_plus =
-        record { sign = 43 ∷ []; signed = inr refl; split = ap (λ c. c ∷ bs) (eqb-true b 43 is_plus) }
+        record {
+          sign =
+              43 ∷ [];
+          signed = inr refl;
+          split = ap (λ c. c ∷ bs) (eqb-true b 43 is_plus);
+        }
     at false false is_minus is_plus = record { sign = []; signed = inl refl; split = refl }
 
 -- what follows the digits before a point begins with the point, or there are no places
@@ -264,7 +269,8 @@ digits_read before after digits last spells no_digit no_point =
       | inl point ↦ (
           let first = leading_read before (46 ∷ (after ++ last)) spells.digits_before refl in
           let places = leading_read after last spells.digits_after no_digit in
-          subst (ReadsDigits before after last) (sym (point_text before after digits last point)) (record {
+          subst (ReadsDigits before after last) (sym (point_text before after digits last point))
+          (record {
             is_before = first.0;
             is_after = rw first.1 places.0;
             is_last = rw first.1 places.1;

@@ -9,8 +9,12 @@ use Rattle.dxf_groups.specs.Numerals.{Numeral, numeral_of, magnitude_of, value_o
 -- a magnitude within reach gives a near number, with either sign
 magnitude_near : (negative : Bool) (m : ℕ) (b : Bool) → nat_le m 1000000000 ≡ b
     → IfOk (cond b (Ok (with_sign negative m)) (Err TooFar)) IsNear
-magnitude_near true m true e = let small = leb-true m 1000000000 e in (omega (arith, ints), omega (arith, ints))
-magnitude_near false m true e = let small = leb-true m 1000000000 e in (omega (arith, ints), omega (arith, ints))
+magnitude_near true m true e =
+    let small = leb-true m 1000000000 e in
+    (omega (arith, ints), omega (arith, ints))
+magnitude_near false m true e =
+    let small = leb-true m 1000000000 e in
+    (omega (arith, ints), omega (arith, ints))
 magnitude_near negative m false e = tt
 
 -- so does what may be a magnitude

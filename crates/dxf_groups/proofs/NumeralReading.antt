@@ -17,7 +17,8 @@ has_digit negative (b ∷ bs) after e some = refl
 -- a text's parts, read one after the other: whether its sign is a minus, the text after it, the digits
 -- there and the text after them, the places there and the text after them
 module _ (text : List ℕ) (negative : Bool) (unsigned before rest after last : List ℕ)
-    (is_negative : negative ≡ starts_with_minus text) (is_unsigned : unsigned ≡ without_leading_sign text)
+    (is_negative : negative ≡ starts_with_minus text)
+    (is_unsigned : unsigned ≡ without_leading_sign text)
     (is_before : before ≡ leading_digits unsigned) (is_rest : rest ≡ past_digits unsigned)
     (is_after : after ≡ leading_places rest) (is_last : last ≡ past_places rest) where
   -- the text stands for what its parts do
@@ -34,12 +35,14 @@ module _ (text : List ℕ) (negative : Bool) (unsigned before rest after last : 
   pub no_digit : (e : ℤ) → exponent_of last ≡ Some e → length before ≡ 0 → length after ≡ 0
       → Err BadNumber ≡ whole_of text
   no_digit e is none_before none_after =
-      rw (whole_by_parts, is, nil_from_length before none_before, nil_from_length after none_after) refl
+      rw (whole_by_parts, is, nil_from_length before none_before, nil_from_length after none_after)
+      refl
 
   -- else it has its sign, and the magnitude of its digits and its exponent
   pub with_digit : (e : ℤ) → exponent_of last ≡ Some e → (length before ≡ 0 → length after ≡ 0 → ⊥)
       → whole_of text ≡ within_reach negative (magnitude_of before after e)
-  with_digit e is some = rw (whole_by_parts, is) (ap value_or_fault (has_digit negative before after e some))
+  with_digit e is some =
+      rw (whole_by_parts, is) (ap value_or_fault (has_digit negative before after e some))
 
 -- a digit or more, and nothing after them, are a number
 pub signed_digits : (negative : Bool) (ds rest : List ℕ) → length ds ≢ 0 → length rest ≡ 0

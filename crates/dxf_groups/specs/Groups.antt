@@ -5,7 +5,8 @@ use Rattle.dxf_groups.specs.declared.pair.Pair.{Pair}
 use Rattle.dxf_groups.specs.Pairs.{Pairs, ended, pairs_of, text_pair, with_pair}
 use Rattle.dxf_groups.specs.Spans.{IsSpanIn, span_of}
 
--- a reader's text, the pairs that it hasn't given yet, and the line of the end pair's code, once that was read
+-- a reader's text, the pairs that it hasn't given yet, and the line of the end pair's code, once that
+-- was read
 pub record GroupsState : Type 0 where
   pub text : List ℕ
   pub left : Pairs
@@ -24,7 +25,8 @@ pub record GivesEnd (old new : GroupsState) : Type 0 where
   pub at_end : old.left ≡ ended (Ok line)
   pub told : new ≡ record old { end_line = Some line }
 
--- what a reader answers: a pair; the end or the fault once no pair is left, and at every later call again
+-- what a reader answers: a pair; the end or the fault once no pair is left, and at every later call
+-- again
 abbrev pub Gives : GroupsState → Result (Option Pair) Fault → GroupsState → Type 0
 Gives old (Ok (Some pair)) new = GivesPair old pair new
 Gives old (Ok None) new = GivesEnd old new

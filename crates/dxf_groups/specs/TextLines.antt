@@ -28,7 +28,8 @@ without_leading_blanks line = drop (prefix_len is_blank line) line
 abbrev pub without_trailing_blanks : List ℕ → List ℕ
 without_trailing_blanks line = take (length line - suffix_len is_blank line) line
 
--- what counts of a line: what is left without one carriage return, and then without the blanks at both ends
+-- what counts of a line: what is left without one carriage return, and then without the blanks at
+-- both ends
 abbrev pub content_of : List ℕ → List ℕ
 content_of line = without_trailing_blanks (without_leading_blanks (without_return line))
 

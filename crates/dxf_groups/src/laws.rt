@@ -56,7 +56,8 @@ pub fn small_texts()
 #[tactic(auto, unfolding(crate::specs::Numerals::numeral_of, crate::specs::Numerals::whole_of))]
 pub fn small_numerals()
     ensures ten { Each (λ text. whole_of text ≡ Ok (pos 10))
-        (codes "10" ∷ codes "+10" ∷ codes "10." ∷ codes "1.0E+01" ∷ codes "1000e-2" ∷ codes ".1E2" ∷ []) }
+        (codes "10" ∷ codes "+10" ∷ codes "10." ∷ codes "1.0E+01" ∷ codes "1000e-2"
+        ∷ codes ".1E2" ∷ []) }
     ensures five { whole_of (codes ".5e1") ≡ Ok (pos 5) }
     ensures one { Each (λ text. whole_of text ≡ Ok (pos 1))
         (codes "10E-1" ∷ codes "100000000000000000000E-20" ∷ codes "0.00000000000000000001E20" ∷ []) }

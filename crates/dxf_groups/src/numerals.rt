@@ -73,7 +73,8 @@ fn split_places(text: &[u8]) -> (&[u8], &[u8])
     }
 }
 
-/// The number that digits write when they follow those of `number`. One that is too large counts as the greatest.
+/// The number that digits write when they follow those of `number`. One that is too large counts as
+/// the greatest.
 fn number_after(number: u64, digits: &[u8]) -> u64
     requires { AllDigits 10 digits.now }
     ensures { result ≡ capped (digits_value_after 10 number digits.now) }

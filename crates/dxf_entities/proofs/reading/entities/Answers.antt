@@ -45,12 +45,15 @@ loop-reader-preserved c =
           gives c.value_of.ensures
           ∙ c.in_ok-take.ensures.taken c.next.new.self.left.pairs c.next.new.self.left.ending);
       same_text = gives.same_text ∙ c.loop-reader.invariant.same_text;
-      same_ending = c.loop-reader.invariant.same_ending ∙ ap (λ (ps : Pairs). ps.ending) gives.first;
+      same_ending =
+          c.loop-reader.invariant.same_ending
+          ∙ ap (λ (ps : Pairs). ps.ending) gives.first;
     }
 
 pub returns-in_err-take-clause-fault : goal.returns-in_err-take-clause-fault
 returns-in_err-take-clause-fault c = λ f is.
-    let q = err_from_is_err_and c.from_residual-in_err-take.result c.from_residual-in_err-take.ensures.1 in
+    let q =
+    err_from_is_err_and c.from_residual-in_err-take.result c.from_residual-in_err-take.ensures.1 in
     let faulty : IsErrOf {T = Unit {0}} (Err c.in_err-take.field-0.0) (refused.Fault f) = cc in
     let gives =
     subst (λ r. Gives c.loop-reader.groups r c.next.new.self)
@@ -67,7 +70,8 @@ returns-clause-lines c =
     subst (λ r. Gives c.loop-reader.groups r c.next.new.self)
     (c.in_ok-pair.was ∙ ap Ok c.in_default.is) c.next.ensures in
     let all = c.loop-reader.invariant.read
-    ∙ end_read_at c.loop-reader.groups c.next.new.self c.unwrap-end.result c.loop-reader.reader gives
+    ∙ end_read_at c.loop-reader.groups c.next.new.self c.unwrap-end.result c.loop-reader.reader
+    gives
     (sym c.end_line.ensures ∙ c.unwrap-end.ensures) in
     IfOk-weaker c.finish.result _ _ (λ lines read. all ∙ read) c.finish.ensures.read
 
@@ -88,6 +92,7 @@ returns-clause-fault c = λ f is.
     subst (λ r. Gives c.loop-reader.groups r c.next.new.self)
     (c.in_ok-pair.was ∙ ap Ok c.in_default.is) c.next.ensures in
     c.loop-reader.invariant.read
-    ∙ (end_read_at c.loop-reader.groups c.next.new.self c.unwrap-end.result c.loop-reader.reader gives
+    ∙
+    (end_read_at c.loop-reader.groups c.next.new.self c.unwrap-end.result c.loop-reader.reader gives
     (sym c.end_line.ensures ∙ c.unwrap-end.ensures)
     ∙ c.finish.ensures.fault f is)

@@ -10,5 +10,6 @@ pub returns : goal.returns
 returns c =
     let ds = c.args.digits.now in
     let same : c.all.result ≡ list_all is_zero ds =
-    all_from_yields_List is_zero _ _ c.all.result c.all.ensures.ran (YieldsList-from_slice ds cc) (λ x b q k. search (rules, tests)) in
+    all_from_yields_List is_zero _ _ c.all.result c.all.ensures.ran (YieldsList-from_slice ds cc)
+    (λ x b q k. search (rules, tests)) in
     rw same (zeros_value ds, value_zeros ds c.requires)

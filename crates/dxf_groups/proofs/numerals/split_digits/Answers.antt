@@ -14,7 +14,8 @@ ends : (c : goal.After-split_at) → c.unwrap_or-end.result ≡ length (leading_
 ends c =
     let text = c.args.text.now in
     let found : c.position.result ≡ position is_other text =
-    position_from_yields_List is_other _ _ c.position.result c.position.ensures.ran (YieldsList-from_slice text cc) (λ x b q k. search (rules, tests)) in
+    position_from_yields_List is_other _ _ c.position.result c.position.ensures.ran
+    (YieldsList-from_slice text cc) (λ x b q k. search (rules, tests)) in
     c.unwrap_or-end.ensures ∙ (ap (λ p. unwrap_or p (length text)) found ∙ leading_ends text)
 
 pub returns-clause-leading : goal.returns-clause-leading
@@ -28,4 +29,5 @@ returns-clause-past c =
     c.split_at.ensures.back ∙ (ap (λ n. drop n text) (ends c) ∙ past_dropped text)
 
 pub returns-clause-digits : goal.returns-clause-digits
-returns-clause-digits c = subst (AllDigits 10) (sym (returns-clause-leading c)) (leading_all_digits c.args.text.now)
+returns-clause-digits c =
+    subst (AllDigits 10) (sym (returns-clause-leading c)) (leading_all_digits c.args.text.now)

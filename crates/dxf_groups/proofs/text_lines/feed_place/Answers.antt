@@ -7,8 +7,10 @@ use Rattle.dxf_groups.proofs.text_lines.feed_place.Goals as goal
 
 pub returns-then-byte-eq10-clause-place : goal.returns-then-byte-eq10-clause-place
 returns-then-byte-eq10-clause-place c =
-    sym (position_or_len_is is_feed c.args.text.now c.loop-place.place 0 (omega arith) (λ k lt. c.loop-place.invariant k 0 lt) (λ lt. eq-eqb _ _ c.if-byte-eq10.true))
+    sym (position_or_len_is is_feed c.args.text.now c.loop-place.place 0 (omega arith)
+    (λ k lt. c.loop-place.invariant k 0 lt) (λ lt. eq-eqb _ _ c.if-byte-eq10.true))
 
 pub returns-clause-place : goal.returns-clause-place
 returns-clause-place c =
-    sym (position_or_len_is is_feed c.args.text.now (length c.args.text.now) 0 (omega arith) (λ k lt. c.loop-place.invariant k 0 (omega arith)) (λ lt. absurd (omega arith)))
+    sym (position_or_len_is is_feed c.args.text.now (length c.args.text.now) 0 (omega arith)
+    (λ k lt. c.loop-place.invariant k 0 (omega arith)) (λ lt. absurd (omega arith)))

@@ -6,12 +6,17 @@ use Rattle.dxf_groups.proofs.text_lines.len_before_trailing_blanks.Goals as goal
 
 pub returns-else-is_blank : goal.returns-else-is_blank
 returns-else-is_blank c =
-    let is = suffix_len_is is_blank c.args.line.now c.loop-len.len 0 c.loop-len.invariant.0 (λ k le lt. c.loop-len.invariant.1 k 0 le lt) (λ some. sym c.is_blank.ensures ∙ c.if-is_blank.false) in
+    let is =
+    suffix_len_is is_blank c.args.line.now c.loop-len.len 0 c.loop-len.invariant.0
+    (λ k le lt. c.loop-len.invariant.1 k 0 le lt)
+    (λ some. sym c.is_blank.ensures ∙ c.if-is_blank.false) in
     let within = c.loop-len.invariant.0 in
     omega arith
 
 pub returns-after-loop-len : goal.returns-after-loop-len
 returns-after-loop-len c =
-    let is = suffix_len_is is_blank c.args.line.now c.loop-len.len 0 c.loop-len.invariant.0 (λ k le lt. c.loop-len.invariant.1 k 0 le lt) (λ some. absurd (omega arith)) in
+    let is =
+    suffix_len_is is_blank c.args.line.now c.loop-len.len 0 c.loop-len.invariant.0
+    (λ k le lt. c.loop-len.invariant.1 k 0 le lt) (λ some. absurd (omega arith)) in
     let within = c.loop-len.invariant.0 in
     omega arith

@@ -6,11 +6,15 @@ use Rattle.dxf_groups.proofs.text_lines.text_line_at.Goals as goal
 
 pub returns-then-end-text-clause-content : goal.returns-then-end-text-clause-content
 returns-then-end-text-clause-content c =
-    line_found c.args.text.now _ c.args.start c.feed_place-feed.result c.content_span-span.result _ (take_rest c.args.text.now c.args.start) c.requires
-    c.feed_place-feed.ensures.place c.content_span-span.ensures.span c.content_span-span.ensures.content refl
+    line_found c.args.text.now _ c.args.start c.feed_place-feed.result c.content_span-span.result _
+    (take_rest c.args.text.now c.args.start) c.requires
+    c.feed_place-feed.ensures.place c.content_span-span.ensures.span
+    c.content_span-span.ensures.content refl
 
 pub returns-else-end-text-clause-content : goal.returns-else-end-text-clause-content
 returns-else-end-text-clause-content c =
-    line_found c.args.text.now _ c.args.start c.feed_place-feed.result c.content_span-span.result _ (take_rest c.args.text.now c.args.start) c.requires
-    c.feed_place-feed.ensures.place c.content_span-span.ensures.span c.content_span-span.ensures.content
+    line_found c.args.text.now _ c.args.start c.feed_place-feed.result c.content_span-span.result _
+    (take_rest c.args.text.now c.args.start) c.requires
+    c.feed_place-feed.ensures.place c.content_span-span.ensures.span
+    c.content_span-span.ensures.content
     (drop_all _ c.args.text.now (omega arith) ∙ sym (drop_all _ c.args.text.now (omega arith)))

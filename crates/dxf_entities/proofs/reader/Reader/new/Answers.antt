@@ -10,7 +10,14 @@ use Rattle.dxf_entities.proofs.reader.Reader.new.Goals as goal
 
 pub returns : goal.returns
 returns c =
-    begins (record { place = Outside; layers = record { front = None; top = None; side = None }; lines = c.new.result; entry = Passed; in_application = false }) refl
+    begins (record {
+      place =
+          Outside;
+      layers = record { front = None; top = None; side = None };
+      lines = c.new.result;
+      entry = Passed;
+      in_application = false;
+    }) refl
     (λ i. record { place = Outside; layers = λ v. none v i; lines = c.new.ensures.items i })
   where
     none : (v : View) → layer_linetype (record { front = None; top = None; side = None }) v ≡ None

@@ -13,7 +13,11 @@ returns-in-Unnamed-clause-taken c = λ ps ending.
     let p = text_pair c.args.pair.now c.args.value.now in
     let other = sym c.has_code.ensures ∙ c.if-has_code.false in
     section_named p c.args.self.now other c.in-Unnamed.is (search rules) ps ending
-    ∙ ap (λ section. resumed ps ending (record c.args.self.now { place = Inside section; entry = Passed }))
+    ∙ ap (λ section. resumed ps ending (record c.args.self.now {
+      place =
+          Inside section;
+      entry = Passed;
+    }))
     (sym c.section_of.ensures)
 
 pub returns-in-Inside-clause-taken : goal.returns-in-Inside-clause-taken

@@ -14,26 +14,31 @@ returns-in_err-close-in-Inside-clause-fault c = λ f is.
 
 pub returns-then-is_name-2-clause-fault : goal.returns-then-is_name-2-clause-fault
 returns-then-is_name-2-clause-fault c = λ f is ps ending.
-    section_in_section (text_pair c.args.pair.now c.args.value.now) c.requires c.args.self.now c.close.new.self
+    section_in_section (text_pair c.args.pair.now c.args.value.now) c.requires c.args.self.now
+    c.close.new.self
     c.in-Inside.section c.in-Inside.is (c.close.ensures.place ∙ c.in-Inside.is)
-    c.in_ok-close-in-Inside.ensures.closed (sym c.is_name-in-Inside.ensures ∙ c.if-is_name-2.true) ps ending
+    c.in_ok-close-in-Inside.ensures.closed (sym c.is_name-in-Inside.ensures ∙ c.if-is_name-2.true)
+    ps ending
     ∙ ap Err (refused_is _ f is)
 
 pub returns-in-Outside-clause-taken : goal.returns-in-Outside-clause-taken
 returns-in-Outside-clause-taken c =
-    section_begins (text_pair c.args.pair.now c.args.value.now) c.requires c.args.self.now c.in-Outside.is
+    section_begins (text_pair c.args.pair.now c.args.value.now) c.requires c.args.self.now
+    c.in-Outside.is
     (sym c.is_name.ensures ∙ c.if-is_name.true)
 
 pub returns-then-is_name-3-clause-taken : goal.returns-then-is_name-3-clause-taken
 returns-then-is_name-3-clause-taken c =
-    section_ends (text_pair c.args.pair.now c.args.value.now) c.requires c.args.self.now c.close.new.self
+    section_ends (text_pair c.args.pair.now c.args.value.now) c.requires c.args.self.now
+    c.close.new.self
     c.in-Inside.section c.in-Inside.is (c.close.ensures.place ∙ c.in-Inside.is)
     c.in_ok-close-in-Inside.ensures.closed (sym c.is_name-in-Inside.ensures ∙ c.if-is_name-2.false)
     (sym c.is_name-in-Inside-2.ensures ∙ c.if-is_name-3.true)
 
 pub returns-else-is_name-3-clause-taken : goal.returns-else-is_name-3-clause-taken
 returns-else-is_name-3-clause-taken c = λ ps ending.
-    entry_begins (text_pair c.args.pair.now c.args.value.now) c.requires c.args.self.now c.close.new.self
+    entry_begins (text_pair c.args.pair.now c.args.value.now) c.requires c.args.self.now
+    c.close.new.self
     c.in-Inside.section c.in-Inside.is (c.close.ensures.place ∙ c.in-Inside.is)
     c.in_ok-close-in-Inside.ensures.closed (sym c.is_name-in-Inside.ensures ∙ c.if-is_name-2.false)
     (sym c.is_name-in-Inside-2.ensures ∙ c.if-is_name-3.false) ps ending
@@ -41,11 +46,13 @@ returns-else-is_name-3-clause-taken c = λ ps ending.
 
 pub returns-in_default-clause-fault : goal.returns-in_default-clause-fault
 returns-in_default-clause-fault c = λ f is ps ending.
-    nothing_begins (text_pair c.args.pair.now c.args.value.now) c.requires c.args.self.now c.in-Outside.is
+    nothing_begins (text_pair c.args.pair.now c.args.value.now) c.requires c.args.self.now
+    c.in-Outside.is
     (sym c.is_name.ensures ∙ c.if-is_name.false) ps ending
     ∙ ap Err (refused_is _ f is)
 
 pub returns-in_default-2-clause-fault : goal.returns-in_default-2-clause-fault
 returns-in_default-2-clause-fault c = λ f is ps ending.
-    unnamed_ends (text_pair c.args.pair.now c.args.value.now) c.requires c.args.self.now c.in_default.is
+    unnamed_ends (text_pair c.args.pair.now c.args.value.now) c.requires c.args.self.now
+    c.in_default.is
     ps ending ∙ ap Err (refused_is _ f is)
