@@ -283,7 +283,8 @@ entry_between false e fault s t is = absurd cc
 
 -- an entry in a section begins one, ends it, or stands in it
 entry_inside : (is_section is_end ended : Bool) (section : Section) (e : Entry) (fault : Fault) (s : Progress)
-    → KeepsLines (if is_section then Err fault else (if is_end then between e.pairs s else entry_read ended section e s)) s
+    → KeepsLines (if is_section then Err fault
+    else (if is_end then between e.pairs s else entry_read ended section e s)) s
 entry_inside true is_end ended section e fault s t is = absurd cc
 entry_inside false true ended section e fault s t is = between_kept e.pairs s t is
 entry_inside false false ended section e fault s t is = entry_kept ended section e s t is

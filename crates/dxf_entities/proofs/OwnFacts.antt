@@ -20,8 +20,10 @@ or_nothing (Some x) = refl
 or_nothing None = refl
 
 -- what is known, or else what the first pair with a code tells
-first_of_more : {A : Type 0} (code : ℕ) (meaning : List ℕ → A) (p : TextPair) (own : List TextPair) (known : Option A)
-    → option_or (or_first code meaning p known) (option_map meaning (first_value code own)) ≡ option_or known (option_map meaning (first_value code (p ∷ own)))
+first_of_more : {A : Type 0} (code : ℕ) (meaning : List ℕ → A) (p : TextPair)
+    (own : List TextPair) (known : Option A)
+    → option_or (or_first code meaning p known) (option_map meaning (first_value code own))
+    ≡ option_or known (option_map meaning (first_value code (p ∷ own)))
 first_of_more code meaning p own (Some x) = refl
 first_of_more code meaning p own None = by (has_code code p)
   where

@@ -5,20 +5,19 @@ use Rattle.dxf_groups.proofs.FirstPairs.{pair_first}
 use Rattle.dxf_groups.proofs.pairs.pair_at.Goals as goal
 
 pub returns : goal.returns
-returns c = record {
-  span = c.text_line_at-value_line.ensures.span;
-  goes_on =
-      omega
-      (arith, c.text_line_at-code_line.ensures.goes_on, c.text_line_at-value_line.ensures.goes_on);
-  place_after = record {
-    short = c.requires.short;
-    within = c.text_line_at-value_line.ensures.within;
-    counted =
-        omega
-        (arith, c.requires.counted, c.text_line_at-code_line.ensures.goes_on, c.text_line_at-value_line.ensures.goes_on);
-  };
-  pairs =
-      let fits : FitsSigned w32 c.in-Some.code = search rules in
-      rw to_z-of_z
-      (pair_first c.args.line _ _ _ _ _ _ c.text_line_at-code_line.ensures.content c.text_line_at-value_line.ensures.content (sym c.group_code.ensures ∙ c.in-Some.is));
-}
+returns c =
+    let code_line = c.text_line_at-code_line.ensures in
+    let value_line = c.text_line_at-value_line.ensures in
+    record {
+      span = value_line.span;
+      goes_on = omega (arith, code_line.goes_on, value_line.goes_on);
+      place_after = record {
+        short = c.requires.short;
+        within = value_line.within;
+        counted = omega (arith, c.requires.counted, code_line.goes_on, value_line.goes_on);
+      };
+      pairs =
+          let fits : FitsSigned w32 c.in-Some.code = search rules in
+          rw to_z-of_z (pair_first c.args.line _ _ _ _ _ _ code_line.content value_line.content
+          (sym c.group_code.ensures ∙ c.in-Some.is));
+    }
