@@ -5,7 +5,8 @@ ghost use Rattle.columns.specs.Bits.{bits};
 
 use solid_model::Style;
 
-/// The cells that stand one behind another in a view: a bit that is set is a full cell. Bit 0 is the nearest.
+/// The cells that stand one behind another in a view: a bit that is set is a full cell. Bit 0 is
+/// the nearest.
 #[derive(Clone, Copy, Debug, PartialEq, Eq)]
 pub struct Column(pub u64);
 

@@ -21,7 +21,8 @@ use solid_model::{Axis, Grid, Memory, Panel, Panels, View};
 use std::alloc::Global;
 use std::marker::Model;
 
-/// The columns of a grid's cells in the three views. Those of a view stand by place upwards, then to the right.
+/// The columns of a grid's cells in the three views. Those of a view stand by place upwards, then
+/// to the right.
 #[derive(Debug, Drop)]
 pub struct ColumnSet {
     pub front: Vec<Column>,
@@ -84,7 +85,8 @@ fn panel(alloc: Global, view: View, counts: PerAxis, columns: &[Column]) -> Resu
     requires counts { (a : Axis) → numbers_of counts a ≤ most_grid_coordinates }
     requires count { length columns.now
         ≡ gaps_of (numbers_of counts) (frame_of view).up.axis * gaps_of (numbers_of counts) (frame_of view).right.axis }
-    ensures { IfOk result (λ panel. (chosen : List Bool) → AreColumns (frame_of view) (gaps_of (numbers_of counts)) chosen columns.now
+    ensures { IfOk result (λ panel. (chosen : List Bool)
+        → AreColumns (frame_of view) (gaps_of (numbers_of counts)) chosen columns.now
         → (upright : Bool) → AreStylesAlong (numbers_of counts) chosen view upright (styles_along upright panel)) }
 {
     Ok(Panel {
@@ -106,8 +108,9 @@ pub fn draw_in(alloc: Global, counts: PerAxis, cells: &[bool]) -> Result<Panels,
     })
 }
 
-/// The columns of the cells of a grid that are chosen, z slowest and x fastest, in the three views: bit k of a column is the
-/// grid cell at depth k. A cell that isn't in the list counts as not chosen.
+/// The columns of the cells of a grid that are chosen, z slowest and x fastest, in the three views:
+/// bit k of a column is the grid cell at depth k. A cell that isn't in the list counts as not
+/// chosen.
 pub fn columns_of(alloc: Global, grid: &Grid, cells: &[bool]) -> Result<ColumnSet, Memory>
     ensures { IfOk result (λ columns. (v : View)
         → AreColumns (frame_of v) (gaps_along (coordinates_of grid.now)) cells.now (columns_in v columns)) }
@@ -115,10 +118,11 @@ pub fn columns_of(alloc: Global, grid: &Grid, cells: &[bool]) -> Result<ColumnSe
     columns_in(alloc, counts_of(grid), cells)
 }
 
-/// What the union of the chosen cells of a grid draws on the grid's segments. Cells are listed with z slowest and x fastest; one
-/// that isn't in the list counts as not chosen.
+/// What the union of the chosen cells of a grid draws on the grid's segments. Cells are listed with
+/// z slowest and x fastest; one that isn't in the list counts as not chosen.
 pub fn draw_cells(alloc: Global, grid: &Grid, cells: &[bool]) -> Result<Panels, Memory>
-    ensures { IfOk result (λ panels. (s : List Cell) → IsUnionOf (coordinates_of grid.now) cells.now (is_full s)
+    ensures { IfOk result (λ panels. (s : List Cell)
+        → IsUnionOf (coordinates_of grid.now) cells.now (is_full s)
         → AreGridStyles (solid_drawing s) (coordinates_of grid.now) panels) }
 {
     draw_in(alloc, counts_of(grid), cells)

@@ -12,11 +12,13 @@ use crate::per_axis::PerAxis;
 use solid_model::{Direction, Frame, Memory};
 use std::alloc::Global;
 
-/// The number of the grid cell at a place along a direction, where there are so many along each axis.
+/// The number of the grid cell at a place along a direction, where there are so many along each
+/// axis.
 fn number_on(sizes: PerAxis, direction: Direction, place: usize) -> usize
     requires { place ≤ most_grid_coordinates }
     ensures same { result ≡ number_on (numbers_of sizes) direction place }
-    ensures few { numbers_of sizes direction.axis ≤ most_grid_coordinates → result ≤ most_grid_coordinates }
+    ensures few { numbers_of sizes direction.axis ≤ most_grid_coordinates
+        → result ≤ most_grid_coordinates }
 {
     if direction.forward {
         place

@@ -12,7 +12,8 @@ use crate::per_axis::PerAxis;
 use solid_model::{Frame, Memory, Style, View};
 use std::alloc::Global;
 
-/// The places to the right and upwards of what stands at two places along and across the level, or the upright, segments.
+/// The places to the right and upwards of what stands at two places along and across the level, or
+/// the upright, segments.
 fn places(upright: bool, start: usize, line: usize) -> (usize, usize)
     ensures right { result.0 ≡ place_right upright start line }
     ensures up { result.1 ≡ place_up upright start line }
@@ -71,7 +72,8 @@ fn segment_style(
     }
 }
 
-/// The styles of the level, or of the upright, segments of a view, by line and then by place along it.
+/// The styles of the level, or of the upright, segments of a view, by line and then by place along
+/// it.
 pub fn styles_along(
     alloc: Global,
     view: View,
@@ -82,7 +84,8 @@ pub fn styles_along(
     requires counts { (a : Axis) → numbers_of counts a ≤ most_grid_coordinates }
     requires count { length columns.now
         ≡ gaps_of (numbers_of counts) (frame_of view).up.axis * gaps_of (numbers_of counts) (frame_of view).right.axis }
-    ensures { IfOk result (λ styles. (chosen : List Bool) → AreColumns (frame_of view) (gaps_of (numbers_of counts)) chosen columns.now
+    ensures { IfOk result (λ styles. (chosen : List Bool)
+        → AreColumns (frame_of view) (gaps_of (numbers_of counts)) chosen columns.now
         → AreStylesAlong (numbers_of counts) chosen view upright styles.items) }
 {
     let frame = view.frame();

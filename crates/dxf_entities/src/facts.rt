@@ -133,8 +133,8 @@ impl Facts {
         }
     }
 
-    /// The line that a LINE of this view draws, where its layer has this linetype; None for a centre
-    /// line.
+    /// The line that a LINE of this view draws, where its layer has this linetype; None for a
+    /// centre line.
     #[tactic(auto, unfolding(crate::specs::Judging::line_in, crate::specs::Judging::styled_line))]
     fn line_in(
         self,
@@ -159,8 +159,8 @@ impl Facts {
         }
     }
 
-    /// The line that the entity draws, where the layers have these linetypes and `count` lines are kept
-    /// already; None where it is passed over.
+    /// The line that the entity draws, where the layers have these linetypes and `count` lines are
+    /// kept already; None where it is passed over.
     #[tactic(auto, unfolding(crate::specs::Judging::judged))]
     pub fn judged(self, layers: &Layers, count: usize) -> Result<Option<SheetLine>, Fault>
         ensures { result ≡ judged (layer_linetype layers.now) count self }

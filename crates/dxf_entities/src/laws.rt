@@ -10,9 +10,10 @@ ghost use Rattle.dxf_entities.specs.Reading.{pairs_read, read_of};
 ghost use Rattle.dxf_entities.specs.SmallFiles.{line_from, section_at, end_at, hidden_layer, unit_line};
 
 /// Small files, written out by hand. A line on the layer FRONT is kept; without a linetype it takes
-/// its layer's from a table that stands before it, and not from one that stands after it. A pair that
-/// belongs to an application doesn't count. An oblique line is a fault where a pair ends its entity,
-/// which comes before the fault of that pair; where the text ends first, the fault is the text's.
+/// its layer's from a table that stands before it, and not from one that stands after it. A pair
+/// that belongs to an application doesn't count. An oblique line is a fault where a pair ends its
+/// entity, which comes before the fault of that pair; where the text ends first, the fault is the
+/// text's.
 pub fn small_files()
     ensures kept { pairs_read (record {
       pairs = section_at 1 (codes "Entities")
@@ -49,8 +50,8 @@ pub fn small_files()
     }) ≡ Err (BadSection 5) }
 {}
 
-/// Each line that is read of a text is level or upright, is drawn, and has coordinates of an absolute
-/// value of at most 1,000,000,000.
+/// Each line that is read of a text is level or upright, is drawn, and has coordinates of an
+/// absolute value of at most 1,000,000,000.
 pub fn read_lines_are_kept()
     ensures { (text : List ℕ) (ls : List Line) → read_of text ≡ Ok ls → Each IsKept ls }
 {}

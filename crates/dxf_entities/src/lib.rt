@@ -1,4 +1,5 @@
-//! The entities of a DXF file: the lines of the three views that are kept, or the file's first fault.
+//! The entities of a DXF file: the lines of the three views that are kept, or the file's first
+//! fault.
 #![tactic(auto)]
 
 mod codes;

@@ -74,12 +74,12 @@ impl Groups {
         }
     }
 
-    /// The next pair that is no comment; None once the end pair was read, and at every later call. A
-    /// fault comes again at every later call: `Binary` where the text begins as a binary DXF file
-    /// does; `BadCode` where a pair should begin and the line is anything but a minus sign or none and
-    /// one to four digits; `NoValue` where the text ends after a group code; `NoEof` where a pair
-    /// should begin and the text is at its end. It copies nothing and takes no memory, and over all
-    /// calls each byte of the text is looked at no more than eight times.
+    /// The next pair that is no comment; None once the end pair was read, and at every later call.
+    /// A fault comes again at every later call: `Binary` where the text begins as a binary DXF file
+    /// does; `BadCode` where a pair should begin and the line is anything but a minus sign or none
+    /// and one to four digits; `NoValue` where the text ends after a group code; `NoEof` where a
+    /// pair should begin and the text is at its end. It copies nothing and takes no memory, and
+    /// over all calls each byte of the text is looked at no more than eight times.
     pub fn next(&mut self) -> Result<Option<Pair>, Fault>
         ensures { Gives self.old result self.new }
     {

@@ -8,8 +8,8 @@ ghost use Rattle.dxf_groups.specs.Numerals.{IsNumeral, Numeral, numeral_of, whol
 ghost use Rattle.dxf_groups.specs.Pairs.{ended, pairs_of, utf8_mark, with_pair};
 ghost use Rattle.dxf_groups.specs.SmallTexts.{pair_on, pairs_of_marked};
 
-/// The pairs of small texts, written out by hand: what is no code; what of a line doesn't count, and
-/// what does; comments; how a text begins, and how it ends.
+/// The pairs of small texts, written out by hand: what is no code; what of a line doesn't count,
+/// and what does; comments; how a text begins, and how it ends.
 #[tactic(auto, unfolding(crate::specs::Pairs::pairs_of))]
 pub fn small_texts()
     ensures no_code { Each (λ text. pairs_of text ≡ ended (Err (BadCode 1)))
@@ -60,7 +60,8 @@ pub fn small_numerals()
         ∷ codes ".1E2" ∷ []) }
     ensures five { whole_of (codes ".5e1") ≡ Ok (pos 5) }
     ensures one { Each (λ text. whole_of text ≡ Ok (pos 1))
-        (codes "10E-1" ∷ codes "100000000000000000000E-20" ∷ codes "0.00000000000000000001E20" ∷ []) }
+        (codes "10E-1" ∷ codes "100000000000000000000E-20" ∷ codes "0.00000000000000000001E20"
+        ∷ []) }
     ensures zero { Each (λ text. whole_of text ≡ Ok (pos 0)) (codes "-0.0" ∷ codes "0E400" ∷ []) }
     ensures negative { whole_of (codes "-12.5000E1") ≡ Ok (neg_ℤ (pos 125)) }
     ensures greatest { whole_of (codes "1000000000") ≡ Ok (pos 1000000000) }
@@ -74,8 +75,8 @@ pub fn small_numerals()
         ∷ codes "1,0" ∷ codes " 1" ∷ codes "+-1" ∷ []) }
 {}
 
-/// A text is read as a numeral just where the grammar of numerals spells it so. So each text has one
-/// reading at most.
+/// A text is read as a numeral just where the grammar of numerals spells it so. So each text has
+/// one reading at most.
 pub fn numerals_are_spelled_so()
     ensures read { (text : List ℕ) (n : Numeral) → numeral_of text ≡ Some n → IsNumeral text n }
     ensures spelled { (text : List ℕ) (n : Numeral) → IsNumeral text n → numeral_of text ≡ Some n }

@@ -187,7 +187,8 @@ fn magnitude(before: &[u8], after: &[u8], exponent: Exponent) -> Option<u64>
     }
 }
 
-/// The whole number of a sign and an absolute value, where there is one and it's at most `GREATEST`.
+/// The whole number of a sign and an absolute value, where there is one and it's at most
+/// `GREATEST`.
 fn within_reach(negative: bool, magnitude: Option<u64>) -> Result<i64, NumeralFault>
     ensures { (m : Option ℕ) → magnitude ≡ option_map capped m
         → result ≡ within_reach negative m }
@@ -200,13 +201,13 @@ fn within_reach(negative: bool, magnitude: Option<u64>) -> Result<i64, NumeralFa
     }
 }
 
-/// The whole number that a text stands for. A numeral is an optional `+` or `-`, then digits with at
-/// most one point among, before or after them, at least one digit in all, then optionally `E` or `e`,
-/// an optional sign and at least one digit. Its value is exact, however many digits it has: the digits
-/// as a whole number, times ten to the power of the exponent, divided by ten for each digit after the
-/// point. `BadNumber` comes where the text is no numeral, else `NotWhole` where its value isn't whole,
-/// else `TooFar` where its absolute value is above 1,000,000,000. It takes no memory, and looks at
-/// each byte no more than four times.
+/// The whole number that a text stands for. A numeral is an optional `+` or `-`, then digits with
+/// at most one point among, before or after them, at least one digit in all, then optionally `E` or
+/// `e`, an optional sign and at least one digit. Its value is exact, however many digits it has:
+/// the digits as a whole number, times ten to the power of the exponent, divided by ten for each
+/// digit after the point. `BadNumber` comes where the text is no numeral, else `NotWhole` where its
+/// value isn't whole, else `TooFar` where its absolute value is above 1,000,000,000. It takes no
+/// memory, and looks at each byte no more than four times.
 pub fn whole(text: &[u8]) -> Result<i64, NumeralFault>
     ensures value { result ≡ whole_of text.now }
     ensures near { IfOk result IsNear }

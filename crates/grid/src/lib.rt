@@ -1,5 +1,5 @@
-//! The grid of a drawing: the positions along each axis at which it shows something, and the styles of the segments between
-//! them.
+//! The grid of a drawing: the positions along each axis at which it shows something, and the styles
+//! of the segments between them.
 #![tactic(auto)]
 
 mod coordinates;

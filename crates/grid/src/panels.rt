@@ -35,8 +35,8 @@ fn begun_by(runs: &[Run], line: i64, place: i64) -> usize
     runs.partition_point(|run| begins_by(run, line, place))
 }
 
-/// The style of the unit length that begins at the place on a line. Of the runs that begin by then only the last one may
-/// cover it.
+/// The style of the unit length that begins at the place on a line. Of the runs that begin by then
+/// only the last one may cover it.
 fn style_at(runs: &[Run], line: i64, place: i64) -> Style
     requires { AreRuns runs.now }
     ensures { result ≡ run_style runs.now line place }

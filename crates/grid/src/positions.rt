@@ -29,8 +29,9 @@ fn with_lines(mut positions: Vec<i64>, runs: &[Run]) -> Result<Vec<i64>, AllocEr
     Ok(positions)
 }
 
-/// The positions, and those that a view shows along its level, or its upright, segments, where these run along the axis: a
-/// run of that kind begins or ends at each change of style, and a run of the other kind lies on each line that is drawn.
+/// The positions, and those that a view shows along its level, or its upright, segments, where
+/// these run along the axis: a run of that kind begins or ends at each change of style, and a run
+/// of the other kind lies on each line that is drawn.
 fn with_kind(
     positions: Vec<i64>,
     drawing: &Drawing,

@@ -41,7 +41,8 @@ fn try_rest(
     requires chosen { chosen ≤ length choice.old }
     ensures length { length choice.new ≡ length choice.old }
     ensures chosen { OnOk result (take chosen choice.new ≡ take chosen choice.old) }
-    ensures found { OnOk result ((new : List (List Bool)) × (found.new.items ≡ found.old.items ++ new)
+    ensures found { OnOk result ((new : List (List Bool))
+        × (found.new.items ≡ found.old.items ++ new)
         × AreChoicesFrom wanted.now.grid.now wanted.now.items.now (take chosen choice.old)
         (length choice.old) new) }
 {
@@ -54,9 +55,9 @@ fn try_rest(
     try_rest(choice, chosen + 1, wanted, cells, found)
 }
 
-/// All choices of `count` items whose solid has the grid's drawing, in the stated order. For each grid
-/// cell `items` says to which item it belongs; one that belongs to none of them is empty. Every choice
-/// is drawn and compared, so that `count` is small. `Memory` comes for want of memory.
+/// All choices of `count` items whose solid has the grid's drawing, in the stated order. For each
+/// grid cell `items` says to which item it belongs; one that belongs to none of them is empty.
+/// Every choice is drawn and compared, so that `count` is small. `Memory` comes for want of memory.
 pub fn matching_choices(
     alloc: Global,
     grid: &Grid,

@@ -38,8 +38,8 @@ fn fill(cells: &mut Vec<bool>, items: &[Option<u16>], choice: &[bool]) -> Result
     Ok(())
 }
 
-/// The solid that the choice fills has the grid's drawing. `cells` is room for the grid cells that it
-/// fills.
+/// The solid that the choice fills has the grid's drawing. `cells` is room for the grid cells that
+/// it fills.
 pub fn is_matching(
     wanted: &Wanted<'_>,
     choice: &[bool],

@@ -76,8 +76,8 @@ fn push_solid(
     push_boxes(text, boxes, choice)
 }
 
-/// The text that lists the solids that these choices of a grid's cells fill: `whole S`, and then for
-/// each solid, numbered from 1, `solid K volume V` and a line `box x,y,z X,Y,Z` for each of its
+/// The text that lists the solids that these choices of a grid's cells fill: `whole S`, and then
+/// for each solid, numbered from 1, `solid K volume V` and a line `box x,y,z X,Y,Z` for each of its
 /// boxes, from its least to its greatest corner. An `Err` is out of memory.
 pub fn first_text(alloc: Global, grid: &Grid, choices: &[Choice]) -> Result<Vec<u8>, Memory>
     requires { grid_cell_count (coordinates_of grid.now) ≤ most_cells }

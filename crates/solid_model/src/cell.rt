@@ -8,7 +8,8 @@ pub enum Axis {
     Z,
 }
 
-/// The unit cell that fills the cube from (x, y, z) to (x + 1, y + 1, z + 1); also the whole point (x, y, z).
+/// The unit cell that fills the cube from (x, y, z) to (x + 1, y + 1, z + 1); also the whole point
+/// (x, y, z).
 #[derive(Clone, Copy, Debug, PartialEq, Eq)]
 pub struct Cell {
     pub x: i64,

@@ -4,8 +4,8 @@ use crate::frame::View;
 use crate::runs::Runs;
 use std::marker::Model;
 
-/// The runs of a view. Level runs lie on a line by its up coordinate and go to the right; upright ones lie on a line by
-/// its right coordinate and go upwards.
+/// The runs of a view. Level runs lie on a line by its up coordinate and go to the right; upright
+/// ones lie on a line by its right coordinate and go upwards.
 #[derive(Debug, Drop)]
 pub struct ViewLines {
     pub level: Runs,
@@ -32,8 +32,8 @@ impl ViewLines {
     }
 }
 
-/// The drawing of three views, each shifted so that its least right and its least up coordinate are 0. No view is empty,
-/// and no coordinate is above 2,000,000,000.
+/// The drawing of three views, each shifted so that its least right and its least up coordinate are
+/// 0. No view is empty, and no coordinate is above 2,000,000,000.
 #[derive(Debug, Drop)]
 pub struct Drawing {
     pub front: ViewLines,
@@ -48,7 +48,11 @@ impl Model for Drawing {
 
     ghost view = { λ s. record { front = s.front; top = s.top; side = s.side } };
 
-    ghost invariant = { λ s. IsDrawing (style_in record { front = s.front; top = s.top; side = s.side }) };
+    ghost invariant = { λ s. IsDrawing (style_in record {
+      front = s.front;
+      top = s.top;
+      side = s.side;
+    }) };
 }
 
 impl Drawing {

@@ -5,8 +5,8 @@ use crate::frame::View;
 use std::alloc::{AllocError, AllocFailed};
 use thiserror::Error;
 
-/// A fault of a file: what isn't read, or can't be searched. `line` counts the file's lines from 1; `code` is the group
-/// code of the pair at fault.
+/// A fault of a file: what isn't read, or can't be searched. `line` counts the file's lines from 1;
+/// `code` is the group code of the pair at fault.
 #[derive(Clone, Copy, Debug, PartialEq, Eq, Error)]
 pub enum Fault {
     /// The text is a binary DXF file.
@@ -18,7 +18,8 @@ pub enum Fault {
     /// The text ends after this code line, without the value line.
     #[error("line {line}: this group code has no value")]
     NoValue { line: u32 },
-    /// The text ends where a pair should begin, without the pair that ends it; `line` is the number of its lines plus 1.
+    /// The text ends where a pair should begin, without the pair that ends it; `line` is the number
+    /// of its lines plus 1.
     #[error("line {line}: the file ends without EOF")]
     NoEof { line: u32 },
     /// The pair may not stand here, between or in sections; `line` is that of its code.
@@ -42,7 +43,8 @@ pub enum Fault {
     /// The line is neither level nor upright; `line` is that at which its entity begins.
     #[error("line {line}: this line is oblique")]
     Oblique { line: u32 },
-    /// The linetype isn't one of those that have a style; `line` is that at which the line's entity begins.
+    /// The linetype isn't one of those that have a style; `line` is that at which the line's entity
+    /// begins.
     #[error("line {line}: this line's linetype has no style")]
     Linetype { line: u32 },
     /// A view has geometry that is no line; `line` is that at which its entity begins.

@@ -22,7 +22,8 @@ pub struct Direction {
     pub forward: bool,
 }
 
-/// How a view stands in space: which direction runs to the right, which upwards, and which away from the viewer.
+/// How a view stands in space: which direction runs to the right, which upwards, and which away
+/// from the viewer.
 #[derive(Clone, Copy, Debug, PartialEq, Eq)]
 pub struct Frame {
     pub right: Direction,

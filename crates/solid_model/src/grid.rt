@@ -4,7 +4,8 @@ use crate::cell::Axis;
 use crate::panels::Panels;
 use std::marker::Model;
 
-/// The grid of a drawing: its coordinates along the three axes, 1 to 64 each, in order, and the styles of its segments.
+/// The grid of a drawing: its coordinates along the three axes, 1 to 64 each, in order, and the
+/// styles of its segments.
 #[derive(Debug, Drop)]
 pub struct Grid {
     xs: Vec<i64>,
@@ -18,9 +19,19 @@ impl Model for Grid {
 
     ghost Value = { GridParts };
 
-    ghost view = { λ s. record { xs = s.xs.items; ys = s.ys.items; zs = s.zs.items; panels = s.panels } };
+    ghost view = { λ s. record {
+      xs = s.xs.items;
+      ys = s.ys.items;
+      zs = s.zs.items;
+      panels = s.panels;
+    } };
 
-    ghost invariant = { λ s. IsGrid record { xs = s.xs.items; ys = s.ys.items; zs = s.zs.items; panels = s.panels } };
+    ghost invariant = { λ s. IsGrid record {
+      xs = s.xs.items;
+      ys = s.ys.items;
+      zs = s.zs.items;
+      panels = s.panels;
+    } };
 }
 
 impl Grid {

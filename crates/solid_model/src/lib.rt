@@ -1,4 +1,5 @@
-//! The plain types of the project, the definitions of solids and their drawings, and the laws over them.
+//! The plain types of the project, the definitions of solids and their drawings, and the laws over
+//! them.
 #![tactic(auto)]
 
 mod cell;

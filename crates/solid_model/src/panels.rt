@@ -6,8 +6,8 @@ use crate::frame::View;
 use crate::segment::Style;
 use std::marker::Model;
 
-/// The styles of a view's grid segments. Level ones stand by position upwards, then by cell to the right; upright ones by
-/// position to the right, then by cell upwards.
+/// The styles of a view's grid segments. Level ones stand by position upwards, then by cell to the
+/// right; upright ones by position to the right, then by cell upwards.
 #[derive(Debug, Drop)]
 pub struct Panel {
     pub level: Vec<Style>,

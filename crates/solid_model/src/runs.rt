@@ -3,7 +3,8 @@
 use crate::segment::Style;
 use std::marker::Model;
 
-/// A maximal stretch of one style that isn't Blank, on the line `at` across it, from `from` to `to` along it.
+/// A maximal stretch of one style that isn't Blank, on the line `at` across it, from `from` to `to`
+/// along it.
 #[derive(Clone, Copy, Debug, PartialEq, Eq)]
 pub struct Run {
     pub at: i64,
@@ -12,8 +13,8 @@ pub struct Run {
     pub style: Style,
 }
 
-/// The level or the upright runs of a view, sorted by line and then start; contracts see them as their list. Each has some
-/// length and isn't blank, no two overlap, and each is maximal.
+/// The level or the upright runs of a view, sorted by line and then start; contracts see them as
+/// their list. Each has some length and isn't blank, no two overlap, and each is maximal.
 #[derive(Debug, Drop)]
 pub struct Runs {
     items: Vec<Run>,

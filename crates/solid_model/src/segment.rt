@@ -13,8 +13,8 @@ pub enum Style {
     Solid,
 }
 
-/// A unit segment of a view. It begins at the point (right, up) of the view and is one unit long: to the right, or
-/// upwards where it is upright.
+/// A unit segment of a view. It begins at the point (right, up) of the view and is one unit long:
+/// to the right, or upwards where it is upright.
 #[derive(Clone, Copy, Debug, PartialEq, Eq)]
 pub struct Segment {
     pub view: View,

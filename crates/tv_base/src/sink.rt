@@ -33,8 +33,8 @@ pub trait Sink {
     /// How often the sink has failed. The count stands still at the greatest `u64`.
     ghost faults: { Self → ℕ };
 
-    /// Appends the piece. At an `Err` some prefix of it was appended, or nothing: `Failed` comes only
-    /// where the count of faults rose in this call, `Memory` where memory ran out.
+    /// Appends the piece. At an `Err` some prefix of it was appended, or nothing: `Failed` comes
+    /// only where the count of faults rose in this call, `Memory` where memory ran out.
     fn write_all(&mut self, piece: &[u8]) -> Result<(), SinkError>
         ensures later { faults self.old ≤ faults self.new }
         ensures written { OnOk result (Appends (held self.old) (held self.new) piece.now) }

@@ -65,8 +65,8 @@ impl<W: Write> Sink for StdSink<W> {
         ensures memory { result ≢ Err SinkError.Memory }
 
         // What the writer itself tells of its bytes.
-        ensures writer { OnOk result
-            (Appends (W.contents (writer_of self.old)) (W.contents (writer_of self.new)) piece.now) }
+        ensures writer { OnOk result (Appends
+            (W.contents (writer_of self.old)) (W.contents (writer_of self.new)) piece.now) }
         ensures writer_prefix { OnErr result (AppendsPrefix
             (W.contents (writer_of self.old)) (W.contents (writer_of self.new)) piece.now) }
     {

@@ -1,5 +1,5 @@
-//! std's readers as sources. As sources they tell nothing of their bytes; what a reader itself tells
-//! is kept.
+//! std's readers as sources. As sources they tell nothing of their bytes; what a reader itself
+//! tells is kept.
 
 ghost use Rattle.std.specs.Prelude.{◌≡◌, ◌<◌, ◌≤◌, length, take, None, IfOk, OnErr, is_ok, if◌then◌else◌};
 ghost use Rattle.std.specs.Io.KnownBytes.{Consumes, IsAtEnd, ReadConsumes};

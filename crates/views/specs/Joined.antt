@@ -28,8 +28,10 @@ goes_on r p = int_eq r.at p.at && (int_eq r.to p.from && same_style r.style p.st
 abbrev pub as_far_as : Run → Stroke → Run
 as_far_as r p = record r { to = p.to }
 
--- The runs with the piece at their end: they are runs, end where the runs and the piece do, and draw what both draw.
+-- The runs with the piece at their end: they are runs, end where the runs and the piece do, and draw
+-- what both draw.
 pub record AreWith (p : Stroke) (rs joined : List Run) : Type 0 where
   pub are_runs : AreRuns joined
   pub end_by : (place : ℤ) → EndBy p.at place rs → p.to ≤ℤ place → EndBy p.at place joined
-  pub drawn : (j z : ℤ) → run_style joined j z ≡ stronger (run_style rs j z) (stroke_style (p ∷ []) j z)
+  pub drawn : (j z : ℤ)
+      → run_style joined j z ≡ stronger (run_style rs j z) (stroke_style (p ∷ []) j z)

@@ -22,7 +22,9 @@ covers_along v upright l = same_view v l.of && lies_along upright l
 abbrev pub stroke_of : Corner → Bool → Line → Stroke
 stroke_of c upright l = record {
   at = across_of upright l.x0 l.y0 -ℤ across_of upright c.right c.up;
-  from = int_min (along_of upright l.x0 l.y0) (along_of upright l.x1 l.y1) -ℤ along_of upright c.right c.up;
-  to = int_max (along_of upright l.x0 l.y0) (along_of upright l.x1 l.y1) -ℤ along_of upright c.right c.up;
+  from = int_min (along_of upright l.x0 l.y0) (along_of upright l.x1 l.y1)
+      -ℤ along_of upright c.right c.up;
+  to = int_max (along_of upright l.x0 l.y0) (along_of upright l.x1 l.y1)
+      -ℤ along_of upright c.right c.up;
   style = l.style;
 }

@@ -18,7 +18,8 @@ is_drawn style j z s = same_style style s.style && stroke_covers j z s
 -- the style that strokes give that unit length: solid ones win over dashed ones
 abbrev pub stroke_style : List Stroke → ℤ → ℤ → Style
 stroke_style ss j z =
-    if list_any (is_drawn Solid j z) ss then Solid else (if list_any (is_drawn Dashed j z) ss then Dashed else Blank)
+    if list_any (is_drawn Solid j z) ss then Solid
+    else (if list_any (is_drawn Dashed j z) ss then Dashed else Blank)
 
 -- of two styles solid wins, then dashed
 abbrev pub stronger : Style → Style → Style

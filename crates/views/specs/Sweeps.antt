@@ -39,9 +39,11 @@ HasSeenAs other s = (j z : ℤ) → seen_style s j z ≡ seen_style other j z
 
 -- it has seen what another has, and the stroke
 abbrev pub HasSeenWith : Stroke → Sweep → Sweep → Type 0
-HasSeenWith p other s = (j z : ℤ) → seen_style s j z ≡ stronger (seen_style other j z) (stroke_style (p ∷ []) j z)
+HasSeenWith p other s = (j z : ℤ)
+    → seen_style s j z ≡ stronger (seen_style other j z) (stroke_style (p ∷ []) j z)
 
--- what is kept as the sweep goes on: its runs are in order and maximal, and end by the place at which it stands
+-- what is kept as the sweep goes on: its runs are in order and maximal, and end by the place at which
+-- it stands
 pub record KeepsRuns (s : Sweep) : Type 0 where
   pub are_runs : AreRuns s.runs.items
   pub end_by : EndBy s.at s.from s.runs.items

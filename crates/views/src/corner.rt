@@ -73,7 +73,8 @@ impl Corner {
         if upright { self.right } else { self.up }
     }
 
-    /// Where the view begins; None where its lines cover nothing. Each line that is looked at is kept.
+    /// Where the view begins; `None` where its lines cover nothing. Each line that is looked at is
+    /// kept.
     pub fn of_view(view: View, lines: &[SheetLine]) -> Option<Corner>
         ensures none { IfNone result (covering_lines view lines.now ≡ []) }
         ensures some { IfSome result (IsCornerOf view lines.now) }

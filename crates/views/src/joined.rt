@@ -38,8 +38,8 @@ fn as_far_as(run: Run, piece: Stroke) -> Run
     }
 }
 
-/// The runs and then the piece, which is joined to the last run where it goes on with it. A piece of
-/// no length changes nothing.
+/// The runs and then the piece, which is joined to the last run where it goes on with it. A piece
+/// of no length changes nothing.
 pub fn with_piece(mut runs: Vec<Run>, piece: Stroke) -> Result<Vec<Run>, AllocError>
     requires runs { AreRuns runs.items }
     requires before { EndBy piece.at piece.from runs.items }

@@ -1,4 +1,5 @@
-//! The drawing of a file's lines: each view's lines are cut into maximal runs, and shifted so that they begin at 0.
+//! The drawing of a file's lines: each view's lines are cut into maximal runs, and shifted so that
+//! they begin at 0.
 #![tactic(auto)]
 
 mod corner;

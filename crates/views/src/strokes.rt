@@ -15,8 +15,8 @@ use crate::corner::Corner;
 use solid_model::{SheetLine, Style, View};
 use std::alloc::{AllocError, Global};
 
-/// What a line covers of a view, of one style, on the line `at` across it, from `from` to `to` along
-/// it. Strokes may overlap.
+/// What a line covers of a view, of one style, on the line `at` across it, from `from` to `to`
+/// along it. Strokes may overlap.
 #[derive(Clone, Copy, Debug)]
 pub struct Stroke {
     pub at: i64,

@@ -25,8 +25,8 @@ impl Sweep {
     ghost use Rattle.std.specs.Prelude.{◌≡◌, [], ℤ, ◌≤ℤ◌, ◌<ℤ◌, IfOk};
     ghost use Rattle.solid_model.specs.Runs.{AreRuns, run_style};
     ghost use Rattle.views.specs.Strokes.{BeginsFrom};
-    ghost use Rattle.views.specs.Sweeps.{solid_piece, dashed_piece, seen_style, HasSeen, HasSeenAs, HasSeenWith};
-    ghost use Rattle.views.specs.Sweeps.{StandsAt, KeepsRuns};
+    ghost use Rattle.views.specs.Sweeps.{solid_piece, dashed_piece, seen_style};
+    ghost use Rattle.views.specs.Sweeps.{HasSeen, HasSeenAs, HasSeenWith, KeepsRuns, StandsAt};
 
     /// A sweep that stands where the first stroke begins, and has seen nothing.
     fn before(alloc: Global, first: &Stroke) -> Sweep

@@ -9,8 +9,8 @@ use std::alloc::Global;
 use std::str::Split;
 use std::test::Fail;
 
-/// What it is, the lines of each view, and the runs that it has then. Each is told by its style, its
-/// kind, where it lies across, and where it begins and ends along.
+/// What it is, the lines of each view, and the runs that it has then. Each is told by its style,
+/// its kind, where it lies across, and where it begins and ends along.
 const SHEETS: &str = "\
 one side in pieces that overlap, dashed in between
 solid level 0 0 6, solid level 0 4 10, dashed level 0 2 9
@@ -58,7 +58,7 @@ solid level 2 0 5, solid upright 1 0 3, dashed upright 1 3 7";
 fn near(words: &mut Split<'_, char>) -> Result<i64, Fail>
     ensures { IfOk result IsNear }
 {
-    let place: i64 = words.next().ok_or("a number is wanting")?.parse()?;
+    let place: i64 = words.next().ok_or("a number is missing")?.parse()?;
     if place < -1_000_000_000 || place > 1_000_000_000 {
         return Err(Fail::new("too far out"));
     }

@@ -48,11 +48,12 @@ fn view_lines(alloc: Global, lines: &[SheetLine], view: View) -> Result<ViewLine
     })
 }
 
-/// The drawing of a file's lines, each view shifted so that its least right and least up coordinate are 0. Lines that
-/// overlap, repeat or run back count as one, solid ones win over dashed ones, and a line of no length covers nothing. The
-/// first view of which no line covers anything, in the order front, top, side, is the fault EmptyView; Memory comes for want
-/// of memory. The time grows as n log n in the number of lines, whatever their lengths, and the memory is a small constant
-/// times the number of lines of one view and kind, beside the runs.
+/// The drawing of a file's lines, each view shifted so that its least right and least up coordinate
+/// are 0. Lines that overlap, repeat or run back count as one, solid ones win over dashed ones, and
+/// a line of no length covers nothing. The first view of which no line covers anything, in the
+/// order front, top, side, is the fault `EmptyView`; `Memory` comes where memory ran out. The time
+/// grows as n log n in the number of lines, whatever their lengths, and the memory is a small
+/// constant times the number of lines of one view and kind, beside the runs.
 pub fn drawing(alloc: Global, lines: &[SheetLine]) -> Result<Drawing, Refused>
     ensures drawn { IfOk result (λ d. (g : Segment) → style_in d g ≡ drawing_of lines.now g) }
     ensures shown { OnOk result (IsShown lines.now) }

@@ -17,19 +17,24 @@ ghost use Rattle.solid_model.specs.Frames.{IsFrame, frame_of};
 ghost use Rattle.solid_model.specs.Lists.{Each};
 ghost use Rattle.solid_model.specs.SmallSolids.{unit_cube, cubes_along_edge, three_cubes, third_behind, third_before, five_of_eight, four_of_eight, other_four_of_eight, styles_near_zero, none_drawn, four_quarters};
 
-/// The drawing of a solid gives each unit segment exactly one style, which can be computed: in each frame, of which the
-/// three views are some.
+/// The drawing of a solid gives each unit segment exactly one style, which can be computed: in each
+/// frame, of which the three views are some.
 pub fn each_segment_has_one_style()
     ensures views { (v : View) → IsFrame (frame_of v) }
-    ensures some { (f : Frame) → IsFrame f → (s : List Cell) (g : Segment) → (style : Style) × Draws f (is_full s) g style }
-    ensures one { (f : Frame) (full : Cell → Bool) (g : Segment) (a b : Style) → Draws f full g a → Draws f full g b → a ≡ b }
-    ensures computed { (f : Frame) → IsFrame f → (s : List Cell) (g : Segment) → Draws f (is_full s) g (drawn_style f s g) }
+    ensures some { (f : Frame) → IsFrame f → (s : List Cell) (g : Segment) → (style : Style)
+        × Draws f (is_full s) g style }
+    ensures one { (f : Frame) (full : Cell → Bool) (g : Segment) (a b : Style) → Draws f full g a
+        → Draws f full g b → a ≡ b }
+    ensures computed { (f : Frame) → IsFrame f → (s : List Cell) (g : Segment)
+        → Draws f (is_full s) g (drawn_style f s g) }
 {}
 
-/// The sixteen fillings of the four cells round an edge. No full cell, four of them, and two on one side of a plane make
-/// none; one full cell, three, and two that touch along the edge alone make one.
+/// The sixteen fillings of the four cells round an edge. No full cell, four of them, and two on one
+/// side of a plane make none; one full cell, three, and two that touch along the edge alone make
+/// one.
 pub fn fillings_round_an_edge()
-    ensures none_or_all { is_edge_of false false false false ∷ is_edge_of true true true true ∷ [] ≡ false ∷ false ∷ [] }
+    ensures none_or_all { is_edge_of false false false false ∷ is_edge_of true true true true
+        ∷ [] ≡ false ∷ false ∷ [] }
     ensures flat { is_edge_of true true false false ∷ is_edge_of false false true true
         ∷ is_edge_of true false true false ∷ is_edge_of false true false true ∷ []
         ≡ false ∷ false ∷ false ∷ false ∷ [] }
@@ -39,20 +44,24 @@ pub fn fillings_round_an_edge()
     ensures three_full { is_edge_of false true true true ∷ is_edge_of true false true true
         ∷ is_edge_of true true false true ∷ is_edge_of true true true false ∷ []
         ≡ true ∷ true ∷ true ∷ true ∷ [] }
-    ensures diagonal { is_edge_of true false false true ∷ is_edge_of false true true false ∷ [] ≡ true ∷ true ∷ [] }
+    ensures diagonal { is_edge_of true false false true ∷ is_edge_of false true true false
+        ∷ [] ≡ true ∷ true ∷ [] }
 {}
 
-/// The column rule, in any frame: a solid draws on a segment what the two columns of cells beside it draw between them.
+/// The column rule, in any frame: a solid draws on a segment what the two columns of cells beside
+/// it draw between them.
 pub fn column_rule()
     ensures { (f : Frame) → IsFrame f → (s : List Cell) (g : Segment) (style : Style)
-        → ColumnsDraw (column_after f (is_full s) g) (column_before f (is_full s) g) style → Draws f (is_full s) g style }
+        → ColumnsDraw (column_after f (is_full s) g) (column_before f (is_full s) g) style
+        → Draws f (is_full s) g style }
 {}
 
-/// Small drawings, written out by hand. Lines of level segments are listed upwards, lines of upright ones from the left,
-/// at the coordinates from -1 to 2. The unit cube draws a square in each view. Two cubes that touch along an upright edge
-/// draw a rectangle with that edge in front and from the side, and two squares that touch from above. Three cubes, with one
-/// to the right of the first and one behind it, hide an edge in front, show it from the side, and draw their outline from
-/// above.
+/// Small drawings, written out by hand. Lines of level segments are listed upwards, lines of
+/// upright ones from the left, at the coordinates from -1 to 2. The unit cube draws a square in
+/// each view. Two cubes that touch along an upright edge draw a rectangle with that edge in front
+/// and from the side, and two squares that touch from above. Three cubes, with one to the right of
+/// the first and one behind it, hide an edge in front, show it from the side, and draw their
+/// outline from above.
 pub fn small_drawings()
     ensures cube_level { (v : View) → styles_near_zero (solid_drawing unit_cube) v false ≡
         none_drawn
@@ -126,9 +135,9 @@ pub fn small_drawings()
         ∷ (Blank ∷ Solid ∷ Blank ∷ Blank ∷ []) ∷ [] }
 {}
 
-/// Each view is seen from its own side: the front from the least y, the top from the greatest z, the side from the greatest
-/// x. Of two cubes side by side in a view, with a third one behind the first, the edge between the two is hidden; with the
-/// third one before the first it is seen.
+/// Each view is seen from its own side: the front from the least y, the top from the greatest z,
+/// the side from the greatest x. Of two cubes side by side in a view, with a third one behind the
+/// first, the edge between the two is hidden; with the third one before the first it is seen.
 pub fn views_are_seen_from_their_sides()
     ensures behind { (v : View) → solid_drawing (third_behind v) (record {
       view = v;
@@ -144,17 +153,20 @@ pub fn views_are_seen_from_their_sides()
     }) ≡ Solid }
 {}
 
-/// The quartered cube: three different solids of the cube of eight cells draw a square in four quarters in every view, so a
-/// drawing may show several solids.
+/// The quartered cube: three different solids of the cube of eight cells draw a square in four
+/// quarters in every view, so a drawing may show several solids.
 pub fn quartered_cube()
-    ensures level { Each (λ s. (v : View) → styles_near_zero (solid_drawing s) v false ≡ four_quarters)
+    ensures level { Each (λ s. (v : View)
+        → styles_near_zero (solid_drawing s) v false ≡ four_quarters)
         (five_of_eight ∷ four_of_eight ∷ other_four_of_eight ∷ []) }
-    ensures upright { Each (λ s. (v : View) → styles_near_zero (solid_drawing s) v true ≡ four_quarters)
+    ensures upright { Each (λ s. (v : View)
+        → styles_near_zero (solid_drawing s) v true ≡ four_quarters)
         (five_of_eight ∷ four_of_eight ∷ other_four_of_eight ∷ []) }
 {}
 
 /// A solid's drawing, in any frame, rests on its set of cells alone.
 pub fn order_and_repeats_do_not_matter()
     ensures { (f : Frame) (s t : List Cell) → SameCells s t
-        → (g : Segment) (style : Style) → Draws f (is_full s) g style → Draws f (is_full t) g style }
+        → (g : Segment) (style : Style) → Draws f (is_full s) g style
+        → Draws f (is_full t) g style }
 {}

@@ -19,16 +19,18 @@ pub fn one_list_of_grid_coordinates()
         → AreGridCoordinates drawing a zs → AreGridCoordinates drawing a ws → zs ≡ ws }
 {}
 
-/// A matching solid lies in the grid. Where a cell begins at no grid coordinate along an axis, it and the cell before it are
-/// both full or both empty, since nothing is drawn between the two slices of cells, and columns beside a blank segment are
-/// equal. So the solid is a union of grid cells, and lies in the box of all of them.
+/// A matching solid lies in the grid. Where a cell begins at no grid coordinate along an axis, it
+/// and the cell before it are both full or both empty, since nothing is drawn between the two
+/// slices of cells, and columns beside a blank segment are equal. So the solid is a union of grid
+/// cells, and lies in the box of all of them.
 pub fn matching_solids_lie_in_the_grid()
     ensures slices { (drawing : Segment → Style) (s : List Cell) → Matches drawing s
         → (a : Axis) (c : Cell) → (IsGridCoordinate drawing a (coordinate a c) → ⊥)
         → is_full s (cell_before a c) ≡ is_full s c }
     ensures union { (drawing : Segment → Style) (s : List Cell) → Matches drawing s
         → (coordinates : Coordinates) → ((a : Axis) → AreGridCoordinates drawing a (coordinates a))
-        → (n : GridCell) (c d : Cell) → LiesInGridCell coordinates n c → LiesInGridCell coordinates n d
+        → (n : GridCell) (c d : Cell) → LiesInGridCell coordinates n c
+        → LiesInGridCell coordinates n d
         → is_full s c ≡ is_full s d }
     ensures inside { (drawing : Segment → Style) (s : List Cell) → Matches drawing s
         → (coordinates : Coordinates) → ((a : Axis) → AreGridCoordinates drawing a (coordinates a))
@@ -37,12 +39,13 @@ pub fn matching_solids_lie_in_the_grid()
 
 /// A grid determines its drawing.
 pub fn one_drawing_of_a_grid()
-    ensures { (drawing other : Segment → Style) (g : GridParts) → IsDrawing drawing → IsDrawing other
+    ensures { (drawing other : Segment → Style) (g : GridParts) → IsDrawing drawing
+        → IsDrawing other
         → IsGridOf drawing g → IsGridOf other g → (s : Segment) → drawing s ≡ other s }
 {}
 
-/// Whether a union of grid cells matches a drawing is seen on the grid: it does exactly where the styles that it draws on
-/// the grid's segments are those of the grid.
+/// Whether a union of grid cells matches a drawing is seen on the grid: it does exactly where the
+/// styles that it draws on the grid's segments are those of the grid.
 pub fn matching_is_seen_on_the_grid()
     ensures { (drawing : Segment → Style) (g : GridParts) → IsDrawing drawing → IsGridOf drawing g
         → (chosen : List Bool) (s : List Cell) → IsUnionOf (coordinates_of g) chosen (is_full s)
@@ -50,10 +53,11 @@ pub fn matching_is_seen_on_the_grid()
         → (panels ≡ g.panels) ↔ Matches drawing s }
 {}
 
-/// Where each grid cell is an item of its own, all choices of items that match a drawing are all solids that match it, one
-/// for each choice, and they come in the same order.
+/// Where each grid cell is an item of its own, all choices of items that match a drawing are all
+/// solids that match it, one for each choice, and they come in the same order.
 pub fn all_matching_choices_are_all_matching_solids()
-    ensures { (drawing : Segment → Style) (coordinates : Coordinates) → ((a : Axis) → AreGridCoordinates drawing a (coordinates a))
+    ensures { (drawing : Segment → Style) (coordinates : Coordinates)
+        → ((a : Axis) → AreGridCoordinates drawing a (coordinates a))
         → (choices : List (List Bool))
         → AreChoicesThat (IsMatchingChoice drawing coordinates (own_items (grid_cell_count coordinates)))
         (grid_cell_count coordinates) choices

@@ -1,4 +1,5 @@
-//! Laws of the stated orders: there is one list of all matching solids, and one stated form of each solid.
+//! Laws of the stated orders: there is one list of all matching solids, and one stated form of each
+//! solid.
 
 ghost use Rattle.std.specs.Prelude.{◌≡◌, ◌⊎◌, Bool, List, [], ◌∷◌};
 ghost use Rattle.solid_model.specs.declared.cell.Cell.{Cell};
@@ -10,16 +11,19 @@ ghost use Rattle.solid_model.specs.Orders.{ComesBefore, IsInStatedForm, Precedes
 ghost use Rattle.solid_model.specs.Lists.{Each, Ascends};
 ghost use Rattle.solid_model.specs.SmallSolids.{eight_cells, five_of_eight, four_of_eight, other_four_of_eight};
 
-/// A drawing has one list of all matching solids: whoever finds them all, in the stated form and order, finds this list.
+/// A drawing has one list of all matching solids: whoever finds them all, in the stated form and
+/// order, finds this list.
 pub fn all_matching_solids_are_one_list()
-    ensures { (drawing : Segment → Style) (ss ts : List (List Cell)) → AreSolidsOf drawing ss → AreSolidsOf drawing ts → ss ≡ ts }
+    ensures { (drawing : Segment → Style) (ss ts : List (List Cell)) → AreSolidsOf drawing ss
+        → AreSolidsOf drawing ts → ss ≡ ts }
 {}
 
-/// The stated order of solids is an order, and of two solids that differ one comes first: at the first cell in which
-/// they differ.
+/// The stated order of solids is an order, and of two solids that differ one comes first: at the
+/// first cell in which they differ.
 pub fn solids_are_ordered()
     ensures one { (full other : Cell → Bool) → Precedes full other → Precedes other full → ⊥ }
-    ensures onward { (full other third : Cell → Bool) → Precedes full other → Precedes other third → Precedes full third }
+    ensures onward { (full other third : Cell → Bool) → Precedes full other → Precedes other third
+        → Precedes full third }
     ensures some { (s t : List Cell) → SameCells s t ⊎ (SolidPrecedes s t ⊎ SolidPrecedes t s) }
 {}
 
@@ -29,10 +33,11 @@ pub fn one_stated_form()
     ensures some { (s : List Cell) → (t : List Cell) × IsInStatedForm t × SameCells s t }
 {}
 
-/// The stated orders on what is written out: the eight cells of a cube, and the three solids of the quartered cube, each in
-/// its stated form.
+/// The stated orders on what is written out: the eight cells of a cube, and the three solids of the
+/// quartered cube, each in its stated form.
 pub fn small_orders()
     ensures cells { Ascends ComesBefore eight_cells }
     ensures forms { Each IsInStatedForm (five_of_eight ∷ four_of_eight ∷ other_four_of_eight ∷ []) }
-    ensures solids { Ascends SolidPrecedes (five_of_eight ∷ four_of_eight ∷ other_four_of_eight ∷ []) }
+    ensures solids { Ascends SolidPrecedes (five_of_eight ∷ four_of_eight ∷ other_four_of_eight
+        ∷ []) }
 {}
