@@ -84,10 +84,12 @@ pub fn columns_in(alloc: Global, counts: PerAxis, cells: &[bool]) -> Result<Colu
 fn panel(alloc: Global, view: View, counts: PerAxis, columns: &[Column]) -> Result<Panel, Memory>
     requires counts { (a : Axis) → numbers_of counts a ≤ most_grid_coordinates }
     requires count { length columns.now
-        ≡ gaps_of (numbers_of counts) (frame_of view).up.axis * gaps_of (numbers_of counts) (frame_of view).right.axis }
+        ≡ gaps_of (numbers_of counts) (frame_of view).up.axis
+        * gaps_of (numbers_of counts) (frame_of view).right.axis }
     ensures { IfOk result (λ panel. (chosen : List Bool)
         → AreColumns (frame_of view) (gaps_of (numbers_of counts)) chosen columns.now
-        → (upright : Bool) → AreStylesAlong (numbers_of counts) chosen view upright (styles_along upright panel)) }
+        → (upright : Bool)
+        → AreStylesAlong (numbers_of counts) chosen view upright (styles_along upright panel)) }
 {
     Ok(Panel {
         level: styles_along(alloc, view, counts, columns, false)?,
@@ -113,7 +115,8 @@ pub fn draw_in(alloc: Global, counts: PerAxis, cells: &[bool]) -> Result<Panels,
 /// chosen.
 pub fn columns_of(alloc: Global, grid: &Grid, cells: &[bool]) -> Result<ColumnSet, Memory>
     ensures { IfOk result (λ columns. (v : View)
-        → AreColumns (frame_of v) (gaps_along (coordinates_of grid.now)) cells.now (columns_in v columns)) }
+        → AreColumns (frame_of v) (gaps_along (coordinates_of grid.now)) cells.now
+        (columns_in v columns)) }
 {
     columns_in(alloc, counts_of(grid), cells)
 }

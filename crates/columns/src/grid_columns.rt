@@ -46,7 +46,8 @@ fn cell_in(frame: Frame, sizes: PerAxis, right: usize, up: usize, depth: usize) 
 fn is_chosen(cells: &[bool], sizes: PerAxis, cell: PerAxis) -> bool
     requires sizes { (a : Axis) → numbers_of sizes a ≤ most_grid_coordinates }
     requires cell { (a : Axis) → numbers_of cell a ≤ most_grid_coordinates }
-    ensures { result ≡ slice_index_or cells.now (place_in (numbers_of sizes) (numbers_of cell)) false }
+    ensures { result
+        ≡ slice_index_or cells.now (place_in (numbers_of sizes) (numbers_of cell)) false }
 {
     let place = (cell.z * sizes.y + cell.y) * sizes.x + cell.x;
     place < cells.len() && cells[place]
@@ -57,7 +58,8 @@ fn column_of(frame: Frame, sizes: PerAxis, cells: &[bool], right: usize, up: usi
     requires sizes { (a : Axis) → numbers_of sizes a ≤ most_grid_coordinates }
     requires right { right ≤ most_grid_coordinates }
     requires up { up ≤ most_grid_coordinates }
-    ensures { (k : ℤ) → bits result.0 k ≡ grid_column frame (numbers_of sizes) cells.now right up k }
+    ensures { (k : ℤ) → bits result.0 k
+        ≡ grid_column frame (numbers_of sizes) cells.now right up k }
 {
     let mut column: u64 = 0;
     for depth in 0..sizes.along(frame.away.axis) {

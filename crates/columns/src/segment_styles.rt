@@ -35,7 +35,8 @@ fn column_beside(
     line: usize,
 ) -> Column
     requires sizes { (a : Axis) → numbers_of sizes a ≤ most_grid_coordinates }
-    requires count { length columns.now ≡ numbers_of sizes frame.up.axis * numbers_of sizes frame.right.axis }
+    requires count { length columns.now
+        ≡ numbers_of sizes frame.up.axis * numbers_of sizes frame.right.axis }
     requires start { start < numbers_of sizes (along frame upright).axis }
     ensures { (chosen : List Bool) → AreColumns frame (numbers_of sizes) chosen columns.now
         → IsColumnBeside frame (numbers_of sizes) chosen upright start line result.0 }
@@ -58,7 +59,8 @@ fn segment_style(
     line: usize,
 ) -> Style
     requires sizes { (a : Axis) → numbers_of sizes a ≤ most_grid_coordinates }
-    requires count { length columns.now ≡ numbers_of sizes frame.up.axis * numbers_of sizes frame.right.axis }
+    requires count { length columns.now
+        ≡ numbers_of sizes frame.up.axis * numbers_of sizes frame.right.axis }
     requires start { start < numbers_of sizes (along frame upright).axis }
     ensures { (chosen : List Bool) → AreColumns frame (numbers_of sizes) chosen columns.now
         → IsStyleBetween frame (numbers_of sizes) chosen upright start line result }
@@ -83,7 +85,8 @@ pub fn styles_along(
 ) -> Result<Vec<Style>, Memory>
     requires counts { (a : Axis) → numbers_of counts a ≤ most_grid_coordinates }
     requires count { length columns.now
-        ≡ gaps_of (numbers_of counts) (frame_of view).up.axis * gaps_of (numbers_of counts) (frame_of view).right.axis }
+        ≡ gaps_of (numbers_of counts) (frame_of view).up.axis
+        * gaps_of (numbers_of counts) (frame_of view).right.axis }
     ensures { IfOk result (λ styles. (chosen : List Bool)
         → AreColumns (frame_of view) (gaps_of (numbers_of counts)) chosen columns.now
         → AreStylesAlong (numbers_of counts) chosen view upright styles.items) }

@@ -8,11 +8,12 @@ use Rattle.solid_model.specs.declared.runs.Run.{Run}
 use Rattle.solid_model.specs.declared.segment.Style.TheVariants.{Blank}
 use Rattle.solid_model.specs.Lists.{Member}
 use Rattle.solid_model.specs.Runs.{run_covers, run_style, IsRun, StandsApart, AreRuns}
+use Rattle.solid_model.proofs.InGrid.{blank_or_drawn}
 use Rattle.solid_model.proofs.Lists.{each-at}
 use Rattle.solid_model.proofs.ListPlaces.{member-at, member-place, ascends-pairs}
 use Rattle.solid_model.proofs.RunStyles.{covers_parts, covering_run}
 use Rattle.grid.specs.Positions.{begins_by}
-use Rattle.grid.proofs.ShownPositions.{blank_or_drawn, run_style-covered}
+use Rattle.grid.proofs.ShownPositions.{run_style-covered}
 
 -- a run that covers a place begins by then
 covers-begins : (j z : ℤ) (r : Run) → run_covers j z r ≡ true → begins_by j z r ≡ true

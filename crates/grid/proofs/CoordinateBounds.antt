@@ -11,8 +11,8 @@ use Rattle.solid_model.specs.Limits.{farthest_in_view}
 use Rattle.solid_model.specs.Lists.{Each, Ascends}
 use Rattle.solid_model.specs.Runs.{IsDrawing}
 use Rattle.solid_model.specs.Segments.{segment_at}
+use Rattle.solid_model.proofs.InGrid.{blank_or_drawn}
 use Rattle.solid_model.proofs.Lists.{each-from, each-weaker, each-both}
-use Rattle.grid.proofs.ShownPositions.{blank_or_drawn}
 
 -- ---- how many ascend between two bounds
 

@@ -8,13 +8,14 @@ use Rattle.solid_model.specs.declared.frame.View.TheVariants.{Front, Top, Side}
 use Rattle.solid_model.specs.declared.runs.Run.{Run}
 use Rattle.solid_model.specs.declared.segment.Segment.{Segment}
 use Rattle.solid_model.specs.declared.segment.Style.{Style}
-use Rattle.solid_model.specs.declared.segment.Style.TheVariants.{Blank, Dashed, Solid}
+use Rattle.solid_model.specs.declared.segment.Style.TheVariants.{Blank}
 use Rattle.solid_model.specs.Drawings.{same_style}
 use Rattle.solid_model.specs.Frames.{frame_of, along}
 use Rattle.solid_model.specs.Grid.{IsDrawnAcross, ChangesAt, IsGridCoordinate}
 use Rattle.solid_model.specs.Lists.{Member}
 use Rattle.solid_model.specs.Runs.{run_covers, run_style, IsRun, AreRuns, DrawingRuns, view_runs, runs_along, style_in}
 use Rattle.solid_model.specs.Segments.{segment_at}
+use Rattle.solid_model.proofs.InGrid.{blank_or_drawn}
 use Rattle.solid_model.proofs.Lists.{each-at, member-append, member-append_left, member-append_right, member-push, member-push_last, member-map, member-from_map}
 use Rattle.solid_model.proofs.RunStyles.{covers_parts, covers_from, covering_run, run_stretch}
 use Rattle.solid_model.proofs.Sheets.{same_style-one}
@@ -41,12 +42,6 @@ member-from_ends (r ∷ rs) z (inr (inl e)) = (r, inl refl, inr e)
 member-from_ends (r ∷ rs) z (inr (inr k)) = let m = member-from_ends rs z k in (m.0, inr m.1, m.2)
 
 -- ---- along a line, and across it
-
--- a style is Blank or isn't
-pub blank_or_drawn : (style : Style) → (style ≡ Blank) ⊎ (style ≢ Blank)
-blank_or_drawn Blank = inl refl
-blank_or_drawn Dashed = inr (λ e. cc)
-blank_or_drawn Solid = inr (λ e. cc)
 
 module _ (rs : List Run) (runs : AreRuns rs) where
   -- what a run covers has its style

@@ -11,7 +11,7 @@ use Rattle.solid_model.specs.declared.segment.Style.TheVariants.{Blank}
 use Rattle.solid_model.specs.Grid.{IsDrawnAcross, ChangesAt, IsGridCoordinate, AreGridCoordinates}
 use Rattle.solid_model.specs.Runs.{IsDrawing}
 use Rattle.solid_model.specs.Segments.{segment_at}
-use Rattle.grid.proofs.ShownPositions.{blank_or_drawn}
+use Rattle.solid_model.proofs.InGrid.{blank_or_drawn}
 use Rattle.grid.proofs.CoordinateBounds.{drawn_near}
 
 module _ (drawing : Segment → Style) (is : IsDrawing drawing) where

@@ -16,7 +16,8 @@ const MOST_COORDINATES: usize = 64;
 
 /// The grid coordinates of an axis, if they are few enough.
 fn few_coordinates(alloc: Global, drawing: &Drawing, axis: Axis) -> Result<Vec<i64>, Refused>
-    ensures coordinates { IfOk result (λ zs. AreFewCoordinates (style_in drawing.now) axis zs.items) }
+    ensures coordinates { IfOk result (λ zs.
+        AreFewCoordinates (style_in drawing.now) axis zs.items) }
     ensures kept { IsDrawing (style_in drawing.now) }
     ensures fault { (fault : Fault) → IsErrOf result (Refused.Fault fault)
         → (count : ℕ) × (fault ≡ Fault.TooFine axis count)

@@ -90,7 +90,8 @@ fn segment_styles(
     upright: bool,
 ) -> Result<Vec<Style>, AllocError>
     ensures { IfOk result (λ styles.
-        styles.items ≡ grid_styles (style_in drawing.now) (coordinates_in coordinates.now) view upright) }
+        styles.items
+        ≡ grid_styles (style_in drawing.now) (coordinates_in coordinates.now) view upright) }
 {
     let frame = view.frame();
     let lines = coordinates.along(frame.across(upright).axis);

@@ -21,7 +21,8 @@ fn try_choice(
     found: &mut Vec<Choice>,
 ) -> Result<(), Memory>
     ensures { OnOk result ((new : List (List Bool)) × (found.new.items ≡ found.old.items ++ new)
-        × AreChoicesFrom wanted.now.grid.now wanted.now.items.now choice.now (length choice.now) new) }
+        × AreChoicesFrom wanted.now.grid.now wanted.now.items.now choice.now (length choice.now)
+        new) }
 {
     if is_matching(wanted, choice, cells)? {
         let values = Vec::from_slice(*found.allocator(), choice)?;
@@ -57,7 +58,8 @@ fn try_rest(
 
 /// All choices of `count` items whose solid has the grid's drawing, in the stated order. For each
 /// grid cell `items` says to which item it belongs; one that belongs to none of them is empty.
-/// Every choice is drawn and compared, so that `count` is small. `Memory` comes for want of memory.
+/// Every choice is drawn and compared, so that `count` is small. An `Err`
+/// is out of memory.
 pub fn matching_choices(
     alloc: Global,
     grid: &Grid,

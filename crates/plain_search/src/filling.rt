@@ -47,7 +47,8 @@ pub fn is_matching(
 ) -> Result<bool, Memory>
     ensures { IfOk result (λ matching. (drawing : Segment → Style) → IsDrawing drawing
         → IsGridOf drawing wanted.now.grid.now → IsTrue matching
-        ↔ IsMatchingChoice drawing (coordinates_of wanted.now.grid.now) wanted.now.items.now choice.now) }
+        ↔ IsMatchingChoice drawing (coordinates_of wanted.now.grid.now) wanted.now.items.now
+        choice.now) }
 {
     fill(cells, wanted.items, choice)?;
     let panels = draw_cells(*cells.allocator(), wanted.grid, cells.as_slice())?;

@@ -1,5 +1,5 @@
 -- The boxes of a grid are small: how far their corners, and so their volumes, reach.
-use Rattle.std.proofs.Common.{◌≡◌, ◌⊎◌, Bool, true, ◌+◌, ◌*◌, ◌≤◌, ℕ, zero, suc, List, [], ◌∷◌, length, slice_index_or, ℤ, pos, negsuc, neg_ℤ, ◌+ℤ◌, ◌-ℤ◌, ◌*ℤ◌, ◌≤ℤ◌, refl, ◌∙◌, length-append, sym, inl, inr, FitsSigned, arith}
+use Rattle.std.proofs.Common.{◌≡◌, ◌⊎◌, Bool, true, ◌+◌, ◌*◌, ◌≤◌, ℕ, zero, suc, List, [], ◌∷◌, length, slice_index_or, ℤ, pos, negsuc, neg_ℤ, ◌+ℤ◌, ◌-ℤ◌, ◌*ℤ◌, ◌≤ℤ◌, refl, ◌∙◌, sym, inl, inr, FitsSigned, arith}
 use Rattle.std.proofs.Math.Nat.{mul-one, mul_assoc, mul-le-mul_left, mul-le-mul_right}
 use Rattle.std.proofs.lemmas.Int.{ints, unsigned_abs-mul, fits_signed_from_abs}
 use Rattle.std.specs.Int.{w128}
@@ -13,7 +13,7 @@ use Rattle.solid_model.specs.Grid.{Coordinates, gaps_along, grid_cell_count}
 use Rattle.solid_model.specs.Limits.{most_cells}
 use Rattle.solid_model.specs.Lists.{Member, Each, pieces}
 use Rattle.solid_model.specs.Panels.{GridParts, IsGrid, coordinates_of}
-use Rattle.solid_model.proofs.Lists.{each-append}
+use Rattle.solid_model.proofs.Lists.{each-pieces, length-pieces}
 use Rattle.solid_model.proofs.SomeGrid.{coordinate_near}
 
 -- ---- absolute values
@@ -80,16 +80,6 @@ volume_small : (b : GridBox) → IsInView b → unsigned_abs (box_volume b) ≤ 
 volume_small b = product_small (record { width = refl; depth = refl; height = refl })
 
 -- ---- the boxes of a grid
-
--- what holds of each member of each piece holds of each member of the pieces together
-each-pieces : {A : Type 0} (P : A → Type 0) (f : ℕ → List A) → ((k : ℕ) → Each P (f k)) → (n : ℕ) → Each P (pieces f n)
-each-pieces P f each zero = tt
-each-pieces P f each (suc n) = each-append P (pieces f n) (f n) (each-pieces P f each n) (each n)
-
--- pieces of one length
-length-pieces : {A : Type 0} (f : ℕ → List A) (m : ℕ) → ((k : ℕ) → length (f k) ≡ m) → (n : ℕ) → length (pieces f n) ≡ n * m
-length-pieces f m each zero = omega arith
-length-pieces f m each (suc n) = omega (arith, length-append (pieces f n) (f n), length-pieces f m each n, each n)
 
 -- what is read of coordinates in view is in view, past their end too
 at_in_view : (zs : List ℤ) → ((z : ℤ) → Member zs z → StandsInView z) → (n : ℕ) → StandsInView (slice_index_or zs n (pos 0))

@@ -1,4 +1,5 @@
-//! What no clause says: the very bytes that come out, that memory is found, and that the definitions mean what they say.
+//! What no clause says: the very bytes that come out, that memory is found, and that the definitions
+//! mean what they say.
 mod drawings;
 mod entities;
 mod files;

@@ -1,5 +1,5 @@
 -- Facts of lists: members, what holds of each, ascending lists, and a least member.
-use Rattle.std.proofs.Common.{◌≡◌, ◌⊎◌, inl, inr, ℕ, zero, suc, ◌<◌, Bool, true, false, cond, List, [], ◌∷◌, ◌++◌, map, filter, ℤ, ◌≤ℤ◌, refl, sym, ◌∙◌, ap, ap₂, subst, arith}
+use Rattle.std.proofs.Common.{◌≡◌, ◌⊎◌, inl, inr, ℕ, zero, suc, ◌<◌, ◌*◌, Bool, true, false, cond, List, [], ◌∷◌, ◌++◌, map, filter, ℤ, ◌≤ℤ◌, length, length-append, refl, sym, ◌∙◌, ap, ap₂, subst, arith}
 use Rattle.std.proofs.lemmas.Int.{ints, by_lt_z}
 use Rattle.std.proofs.lemmas.Bool.{both_ways, cases_lt}
 use Rattle.solid_model.specs.Lists.{Member, Each, Ascends, pieces}
@@ -174,6 +174,16 @@ ascends-filter p R (x ∷ xs) h = at (p x) (ascends-filter p R xs h.1)
     at false rest = rest
 
 -- ---- pieces, one after another
+
+-- what holds of each member of each piece holds of each member of the pieces together
+pub each-pieces : {A : Type 0} (P : A → Type 0) (f : ℕ → List A) → ((k : ℕ) → Each P (f k)) → (n : ℕ) → Each P (pieces f n)
+each-pieces P f each zero = tt
+each-pieces P f each (suc n) = each-append P (pieces f n) (f n) (each-pieces P f each n) (each n)
+
+-- pieces of one length
+pub length-pieces : {A : Type 0} (f : ℕ → List A) (m : ℕ) → ((k : ℕ) → length (f k) ≡ m) → (n : ℕ) → length (pieces f n) ≡ n * m
+length-pieces f m each zero = omega arith
+length-pieces f m each (suc n) = omega (arith, length-append (pieces f n) (f n), length-pieces f m each n, each n)
 
 -- a member of a piece is a member of the pieces together
 pub member-pieces : {A : Type 0} (f : ℕ → List A) (n k : ℕ) (x : A) → k < n → Member (f k) x → Member (pieces f n) x

@@ -31,7 +31,7 @@ pub enum Fault {
     /// The value of a coordinate isn't whole; `line` is that of the value.
     #[error("line {line}: the value of group code {code} isn't whole")]
     NotWhole { line: u32, code: i32 },
-    /// The size of a coordinate is above 1,000,000,000; `line` is that of the value.
+    /// The absolute value of a coordinate is above 1,000,000,000; `line` is that of the value.
     #[error("line {line}: the value of group code {code} is too far out")]
     TooFar { line: u32, code: i32 },
     /// A line has no such coordinate; `line` is that at which its entity begins.
@@ -67,12 +67,12 @@ pub enum Fault {
     TooManyBlocks { count: u32 },
 }
 
-/// Why a file is refused: a fault, or want of memory.
+/// Why a file is refused: a fault, or out of memory.
 #[derive(Clone, Copy, Debug, PartialEq, Eq, Error)]
 pub enum Refused {
     #[error(transparent)]
     Fault(Fault),
-    #[error("want of memory")]
+    #[error("out of memory")]
     Memory,
 }
 

@@ -5,11 +5,13 @@ pub const DRAWINGS: &str = "\
 -- The same strokes in each view: the unit cube; stroked over; flat strokes.
 = 0 SECTION, 2 ENTITIES, FRONT, #1, TOP, #1, SIDE, #1, 0 ENDSEC, 0 EOF
 rect S 0 0 1 1 -> unit cube
-line D 0 0 1 0, rect S 0 0 1 1, rect S 1 1 0 0, rect S 0 0 1 1, rect D 1 0 0 1, line D 1 1 1 1 -> unit cube
+line D 0 0 1 0, rect S 0 0 1 1, rect S 1 1 0 0, rect S 0 0 1 1, rect D 1 0 0 1, line D 1 1 1 1 -> \
+    unit cube
 line S 0 0 1 0 -> 0 whole 0
 -- The quartered cube.
 rect S 0 0 2 2, line S 0 1 2 1, line S 1 0 1 2 -> 0 whole 3|\
-    solid 1 volume 5|box 0,0,0 1,1,1|box 0,1,0 1,2,1|box 1,1,0 2,2,1|box 1,0,1 2,1,2|box 0,1,1 1,2,2|\
+    solid 1 volume 5|box 0,0,0 1,1,1|box 0,1,0 1,2,1|box 1,1,0 2,2,1|\
+    box 1,0,1 2,1,2|box 0,1,1 1,2,2|\
     solid 2 volume 4|box 0,0,0 1,1,1|box 1,1,0 2,2,1|box 1,0,1 2,1,2|box 0,1,1 1,2,2|\
     solid 3 volume 4|box 1,0,0 2,1,1|box 0,1,0 1,2,1|box 0,0,1 1,1,2|box 1,1,1 2,2,2
 -- The hollow cube, whose grid has 27 cells; and a cube of the greatest width, whose grid has one.
@@ -35,17 +37,19 @@ rect S 0 0 3 1, line D 1 0 1 1, line D 2 0 2 1; rect S 0 0 3 3, rect S 1 1 2 2; 
     rect S 0 0 3 1, line D 1 0 1 1, line D 2 0 2 1 -> 0 whole 1|solid 1 volume 8|\
     box 0,0,0 1,1,1|box 1,0,0 2,1,1|box 2,0,0 3,1,1|box 0,1,0 1,2,1|box 2,1,0 3,2,1|\
     box 0,2,0 1,3,1|box 1,2,0 2,3,1|box 2,2,0 3,3,1
--- A row of 12 cubes is one grid cell. Edges that only the top shows part it: into 12 cells, and into 13.
+-- A row of 12 cubes is one grid cell. Edges that the top alone shows part it into 12 and 13.
 rect S 0 0 12 1; rect S 0 0 12 1; rect S 0 0 1 1 -> 0 whole 1|solid 1 volume 12|box 0,0,0 12,1,1
-rect S 0 0 12 1; rect S 0 0 12 1, rect S 1 0 11 1, rect S 2 0 10 1, rect S 3 0 9 1, rect S 4 0 8 1, \
-    rect S 5 0 7 1, line S 6 0 6 1; rect S 0 0 1 1 -> 0 whole 0
-rect S 0 0 13 1; rect S 0 0 13 1, rect S 1 0 12 1, rect S 2 0 11 1, rect S 3 0 10 1, rect S 4 0 9 1, \
-    rect S 5 0 8 1, rect S 6 0 7 1; rect S 0 0 1 1 -> 1 fault F92 TooLarge
+rect S 0 0 12 1; rect S 0 0 12 1, rect S 1 0 11 1, rect S 2 0 10 1, rect S 3 0 9 1, \
+    rect S 4 0 8 1, rect S 5 0 7 1, line S 6 0 6 1; rect S 0 0 1 1 -> 0 whole 0
+rect S 0 0 13 1; rect S 0 0 13 1, rect S 1 0 12 1, rect S 2 0 11 1, rect S 3 0 10 1, \
+    rect S 4 0 9 1, rect S 5 0 8 1, rect S 6 0 7 1; rect S 0 0 1 1 -> 1 fault F92 TooLarge
 -- Strokes that overlap: a solid one wins, and where they are cut leaves no trace.
-line S 0 0 6 0, line S 4 0 10 0, line D 2 0 9 0, line S 0 10 10 10, line S 0 0 0 10, line S 10 0 10 10; \
+line S 0 0 6 0, line S 4 0 10 0, line D 2 0 9 0, line S 0 10 10 10, line S 0 0 0 10, \
+    line S 10 0 10 10; \
     rect S 0 0 10 10; rect S 0 0 10 10 -> 0 whole 1|solid 1 volume 1000|box 0,0,0 10,10,10
--- A slab with a block on its corner, in front on the left: three unequal sides, and an edge hidden behind the block.
-line S 0 0 5 0, line D 0 3 2 3, line S 2 3 5 3, line S 0 4 2 4, line S 0 0 0 4, line S 2 3 2 4, line S 5 0 5 3; \
+-- A slab with a block on its corner, in front on the left: unequal along all three axes.
+line S 0 0 5 0, line D 0 3 2 3, line S 2 3 5 3, line S 0 4 2 4, line S 0 0 0 4, line S 2 3 2 4, \
+    line S 5 0 5 3; \
     rect S 0 0 5 5, line S 0 1 2 1, line S 2 0 2 1; \
     rect S 0 0 5 3, line S 0 4 1 4, line S 0 3 0 4, line S 1 3 1 4 -> 0 whole 1|solid 1 volume 77|\
     box 0,0,0 2,1,3|box 2,0,0 5,1,3|box 0,1,0 2,5,3|box 2,1,0 5,5,3|box 0,0,3 2,1,4
@@ -65,10 +69,10 @@ FRONT -> 1 fault F14 EmptyView view FRONT
 line S 0 0 1 1 -> 1 fault F11 Oblique line 5
 0 LINE, 8 NOTES, 6 CONTINUOUS, 10 0, 20 0, 30 0, 11 1, 21 1, 31 0, line S 0 0 1 0 -> unit cube
 -- The unit cube with its codes right in three places.
-= wide: #1
+= padded: #1
 0 SECTION, 2 ENTITIES, cube, 0 ENDSEC, 0 EOF -> unit cube
 -- A bracket, as drawing programs write it, with further sections and layers.
-= wide CR LF: #1
+= padded CR LF: #1
 0 SECTION, 2 HEADER, 9 $ACADVER, 1 AC1015, 0 ENDSEC, \
     0 SECTION, 2 TABLES, 0 TABLE, 2 LAYER, 5 2, 330 0, 100 AcDbSymbolTable, 70 5, \
     0 LAYER, 5 10, 330 2, 100 AcDbSymbolTableRecord, 100 AcDbLayerTableRecord, \

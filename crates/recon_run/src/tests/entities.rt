@@ -43,7 +43,8 @@ pub const ENTITIES: &str = "\
 0 LINE, 8 FRONT, 20 0, 10 0, 20 0 -> 1 fault F10 Repeated line 13 code 20
 0 LINE, 8 FRONT, 11 0, 11 0 -> 1 fault F10 Repeated line 11 code 11
 0 LINE, 8 FRONT, 10 0, 20 0, 11 1, 21 0, 21 0 -> 1 fault F10 Repeated line 17 code 21
-0 LINE, 8 FRONT, 6 CONTINUOUS, 10 0, 20 0, 30 0, 11 1, 21 0, 31 0, 10 0 -> 1 fault F10 Repeated line 23 code 10
+0 LINE, 8 FRONT, 6 CONTINUOUS, 10 0, 20 0, 30 0, 11 1, 21 0, 31 0, 10 0 -> \
+    1 fault F10 Repeated line 23 code 10
 0 LINE, 8 FRONT, 10 x, 10 0 -> 1 fault F6 BadNumber line 10 code 10
 -- Coordinates that are missing, the first of 10, 20, 11 and 21.
 0 LINE, 8 FRONT -> 1 fault F9 Missing line 5 code 10
@@ -53,7 +54,8 @@ pub const ENTITIES: &str = "\
 0 LINE, 8 FRONT, 10 0, 20 0, 11 1 -> 1 fault F9 Missing line 5 code 21
 -- Lines that are neither level nor upright.
 0 LINE, 8 FRONT, 10 0, 20 0, 11 1, 21 1 -> 1 fault F11 Oblique line 5
-0 LINE, 8 TOP, 10 0, 20 0, 11 1, 21 0, 0 LINE, 8 TOP, 10 0, 20 0, 11 1, 21 1 -> 1 fault F11 Oblique line 17
+0 LINE, 8 TOP, 10 0, 20 0, 11 1, 21 0, 0 LINE, 8 TOP, 10 0, 20 0, 11 1, 21 1 -> \
+    1 fault F11 Oblique line 17
 -- Linetypes come before coordinates.
 0 LINE, 8 TOP, 6 PHANTOM, 10 0, 20 0, 11 1, 21 0 -> 1 fault F12 Linetype line 5
 0 LINE, 8 TOP, 6 PHANTOM, 10 x -> 1 fault F12 Linetype line 5
@@ -68,15 +70,21 @@ pub const ENTITIES: &str = "\
 -- What stands before and after the entities of the unit cube.
 = #1, cube, #2
 0 section, 2 entities; 0 endsec, 0 eof -> unit cube
-0 Section, 2 Entities, 0 line, 8 front, 6 continuous, 10 0, 20 0, 11 1, 21 0; 0 EndSec, 0 Eof -> unit cube
-0 SECTION, 2 HEADER, 9 x, 0 LINE, 8 FRONT, 10 x, 0 ENDSEC, 0 SECTION, 2 ENTITIES; 0 ENDSEC, 0 EOF -> unit cube
+0 Section, 2 Entities, 0 line, 8 front, 6 continuous, 10 0, 20 0, 11 1, 21 0; \
+    0 EndSec, 0 Eof -> unit cube
+0 SECTION, 2 HEADER, 9 x, 0 LINE, 8 FRONT, 10 x, 0 ENDSEC, \
+    0 SECTION, 2 ENTITIES; 0 ENDSEC, 0 EOF -> unit cube
 0 SECTION, 2 ENTITIES, 0 ENDSEC, 0 SECTION, 2 ENTITIES; 0 ENDSEC, 0 EOF -> unit cube
-0 SECTION, 2 ENTITIES, 0 ARC, 8 TOP, 0 ENDSEC, 0 SECTION, 2 ENTITIES; 0 ENDSEC, 0 EOF -> 1 fault F13 Geometry line 5
+0 SECTION, 2 ENTITIES, 0 ARC, 8 TOP, 0 ENDSEC, \
+    0 SECTION, 2 ENTITIES; 0 ENDSEC, 0 EOF -> 1 fault F13 Geometry line 5
 0 SECTION, 2 BLOCKS, 0 ENDSEC, 0 SECTION, 2 ENTITIES; 0 ENDSEC, 0 EOF, x, 0 SECTION -> unit cube
 0 SECTION, 2 ENTITIES; 0 ENDSEC, 0 SECTION, 2 OBJECTS, 0 ARC, 8 TOP, 0 ENDSEC, 0 EOF -> unit cube
 0 SECTION, 2 ENTITIES; 0 ENDSEC, 0 SECTION, 2 OBJECTS, 0 ENDSEC -> 1 fault F4 NoEof line 229
 0 SECTION, 2 ENTITIES; 0 ARC, 8 SIDE, 0 ENDSEC, 0 EOF -> 1 fault F13 Geometry line 221
 0 SECTION, 2 ENTITIES; 0 LINE, 8 SIDE, 0 EOF -> 1 fault F9 Missing line 221 code 10
-0 SECTION, 2 ENTITIES, 0 LINE, 8 TOP, 10 0, 20 0, 11 1, 21 0; 0 ENDSEC, 0 SECTION, 2 TABLES, 0 LAYER, 2 TOP, 6 PHANTOM, 0 ENDSEC, 0 EOF -> unit cube
-0 SECTION, 2 TABLES, 0 LAYER, 2 TOP, 6 PHANTOM, 0 ENDSEC, 0 SECTION, 2 ENTITIES, 0 LINE, 8 TOP; 0 ENDSEC, 0 EOF -> 1 fault F12 Linetype line 17
-0 SECTION, 2 BLOCKS, 0 LAYER, 2 TOP, 6 PHANTOM, 0 ENDSEC, 0 SECTION, 2 ENTITIES, 0 LINE, 8 TOP, 10 0, 20 0, 11 1, 21 0; 0 ENDSEC, 0 EOF -> unit cube";
+0 SECTION, 2 ENTITIES, 0 LINE, 8 TOP, 10 0, 20 0, 11 1, 21 0; \
+    0 ENDSEC, 0 SECTION, 2 TABLES, 0 LAYER, 2 TOP, 6 PHANTOM, 0 ENDSEC, 0 EOF -> unit cube
+0 SECTION, 2 TABLES, 0 LAYER, 2 TOP, 6 PHANTOM, 0 ENDSEC, \
+    0 SECTION, 2 ENTITIES, 0 LINE, 8 TOP; 0 ENDSEC, 0 EOF -> 1 fault F12 Linetype line 17
+0 SECTION, 2 BLOCKS, 0 LAYER, 2 TOP, 6 PHANTOM, 0 ENDSEC, \
+    0 SECTION, 2 ENTITIES, 0 LINE, 8 TOP, 10 0, 20 0, 11 1, 21 0; 0 ENDSEC, 0 EOF -> unit cube";

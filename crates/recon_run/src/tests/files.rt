@@ -8,11 +8,15 @@
 //!     line S 0 0 1 0      the solid line (dashed: D) from a point to another one
 //!     rect S 0 0 1 1      the rectangle between two points: its lower, upper, left and right side
 //!     diagonal 3          so many unit squares on the diagonal from (0,0), each 1 off the next
-//!     blanks              16 spaces
+//!     cube                the strokes of the unit cube
+//!     blanks              16 blanks
 //!     9 * line S 0 0 1 0  a step so many times
 
 use solid_model::View;
 use std::alloc::{AllocError, Global};
+
+/// The strokes of the unit cube.
+const CUBE: &str = "FRONT, rect S 0 0 1 1, TOP, rect S 0 0 1 1, SIDE, rect S 0 0 1 1";
 
 /// A stroke, as it is told: its style, S or D, and its two points.
 #[derive(Clone, Copy)]
@@ -111,9 +115,10 @@ fn counted(step: &str) -> (usize, &str) {
 
 /// The file of these steps.
 pub fn file_of(alloc: Global, steps: &str) -> Result<String, AllocError> {
+    let steps = steps.replace(alloc, "cube", CUBE)?;
     let mut file = String::new(alloc);
     let mut view = View::Front;
-    for step in steps.split(", ") {
+    for step in steps.as_str().split(", ") {
         let (count, step) = counted(step);
         match view_on(step) {
             Some(next) => view = next,
@@ -126,12 +131,12 @@ pub fn file_of(alloc: Global, steps: &str) -> Result<String, AllocError> {
 }
 
 /// The file of these steps, with its codes right in three places, and with these ends of lines.
-pub fn wide_file(alloc: Global, steps: &str, end: &str) -> Result<String, AllocError> {
+pub fn padded_file(alloc: Global, steps: &str, end: &str) -> Result<String, AllocError> {
     let file = file_of(alloc, steps)?;
-    let mut wide = String::new(alloc);
+    let mut padded = String::new(alloc);
     for (place, line) in file.as_str().lines().enumerate() {
         let width = if place % 2 == 0 { 3 } else { 0 };
-        write!(wide, "{line:>width$}{end}")?;
+        write!(padded, "{line:>width$}{end}")?;
     }
-    Ok(wide)
+    Ok(padded)
 }

@@ -1,21 +1,20 @@
 //! Tables of files, and what `solve` writes for them.
 //!
-//! A line of a table is a remark after `-- `, a frame after `= `, or a row: what is told of a file, ` -> `, and the status
-//! and the text that are wanted, with `|` for the end of a line. The parts of what is told, `; ` between two of them, stand
-//! for `#1`, `#2` and `#3` in the steps of the frame above. In the frame `text` what is told is the file itself, with `|`
-//! for the end of a line. A frame that begins with `wide: ` or `wide CR LF: ` has codes right in three places.
+//! A table begins with a remark, which is a line after `-- `. Each other line is a remark too, a
+//! frame after `= `, or a row: what is told of a file, ` -> `, and the status and the text that are
+//! wanted, with `|` for the end of a line. The parts of what is told, `; ` between two of them, stand
+//! for `#1`, `#2` and `#3` in the steps of the frame above. In the frame `text` what is told is the
+//! file itself, with `|` for the end of a line. Where a frame begins with `padded: ` or
+//! `padded CR LF: `, the codes of the file are right in three places.
 
 use super::drawings::DRAWINGS;
 use super::entities::ENTITIES;
-use super::files::{file_of, wide_file};
+use super::files::{file_of, padded_file};
 use super::runs::solve;
 use super::texts::{SIZES, TEXTS};
 use super::values::{LINETYPES, NUMERALS};
 use std::alloc::{AllocError, Global};
 use std::test::Fail;
-
-/// The steps of the unit cube's lines.
-const CUBE: &str = "FRONT, rect S 0 0 1 1, TOP, rect S 0 0 1 1, SIDE, rect S 0 0 1 1";
 
 /// The steps of a frame with what is told.
 fn steps_of(alloc: Global, frame: &str, told: &str) -> Result<String, AllocError> {
@@ -28,7 +27,7 @@ fn steps_of(alloc: Global, frame: &str, told: &str) -> Result<String, AllocError
         };
         steps = steps.replace(alloc, hole, part)?;
     }
-    steps.replace(alloc, "cube", CUBE)
+    Ok(steps)
 }
 
 /// The file that is told in a frame.
@@ -38,8 +37,8 @@ fn told_file(alloc: Global, frame: &str, told: &str) -> Result<String, AllocErro
     }
     let steps = steps_of(alloc, frame, told)?;
     match steps.as_str().split_once(": ") {
-        Some(("wide", steps)) => wide_file(alloc, steps, "\n"),
-        Some((_, steps)) => wide_file(alloc, steps, "\r\n"),
+        Some(("padded", steps)) => padded_file(alloc, steps, "\n"),
+        Some((_, steps)) => padded_file(alloc, steps, "\r\n"),
         None => file_of(alloc, steps.as_str()),
     }
 }

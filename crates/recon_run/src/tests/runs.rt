@@ -31,15 +31,12 @@ pub fn solve(alloc: Global, file: String) -> Result<String, AllocError> {
 
 /// The file of the unit cube.
 fn cube_file(alloc: Global) -> Result<String, AllocError> {
-    file_of(
-        alloc,
-        "0 SECTION, 2 ENTITIES, FRONT, rect S 0 0 1 1, TOP, rect S 0 0 1 1, SIDE, rect S 0 0 1 1, 0 ENDSEC, 0 EOF",
-    )
+    file_of(alloc, "0 SECTION, 2 ENTITIES, cube, 0 ENDSEC, 0 EOF")
 }
 
-/// Whether this is what a run over the unit cube's file writes, and what `solve` writes then for what is left of the source.
-/// The source's call of the number `read` fails, and the sink's call of the number `write`, after three bytes; the calls
-/// count from 1.
+/// Whether this is what a run over the unit cube's file writes, and then `solve` for what is left of
+/// the source. The source's call of the number `read` fails, and the sink's call of the number
+/// `write`, after three bytes; the calls count from 1.
 fn writes(
     alloc: Global,
     words: &str,

@@ -6,8 +6,8 @@ use solid_model::View;
 use std::alloc::{AllocError, Global};
 use std::test::Fail;
 
-/// Whether a set has a cell. The sets are those of a box of 2 by 2 by 2 cells, whose coordinates are 1 and 2; a set has a bit
-/// for each cell, by z, then y, then x.
+/// Whether a set of cells has this one. The sets are those of a box of 2 by 2 by 2 cells, whose
+/// coordinates are 1 and 2; a set has a bit for each cell, by z, then y, then x.
 fn is_full(set: u8, x: u8, y: u8, z: u8) -> bool {
     let is_inside = (x == 1 || x == 2) && (y == 1 || y == 2) && (z == 1 || z == 2);
     is_inside && set >> (x - 1 + 2 * (y - 1) + 4 * (z - 1)) & 1 == 1
@@ -22,8 +22,8 @@ fn column(set: u8, view: View, right: u8, up: u8) -> [bool; 2] {
     }
 }
 
-/// The style of a segment between two columns: nothing where they are the same, and hidden where they differ behind
-/// their first full cell.
+/// The style of a segment between two columns: none where they are the same, and dashed where they
+/// differ behind their first full cell.
 fn style_between(one: [bool; 2], other: [bool; 2]) -> Option<&'static str> {
     match (one, other) {
         ([true, a], [true, b]) if a != b => Some("D"),

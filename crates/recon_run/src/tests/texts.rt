@@ -90,8 +90,8 @@ x -> 1 fault F2 BadCode line 1
 
 /// Files at the limits of their size.
 pub const SIZES: &str = "\
--- The unit cube's file, which has 720 bytes, with blanks after its end up to 16,777,216 bytes, and with one blank more,
--- behind the word EOF.
+-- The unit cube's file, which has 720 bytes, with blanks after its end up to 16,777,216 bytes; and
+-- with one blank more, behind EOF.
 = 0 SECTION, 2 ENTITIES, cube, 0 ENDSEC, #1, 1048531 * blanks
 0 EOF -> unit cube
 0 EOF  -> 1 fault F16 TooLong

@@ -59,9 +59,11 @@ pub fn all_matching_choices_are_all_matching_solids()
     ensures { (drawing : Segment → Style) (coordinates : Coordinates)
         → ((a : Axis) → AreGridCoordinates drawing a (coordinates a))
         → (choices : List (List Bool))
-        → AreChoicesThat (IsMatchingChoice drawing coordinates (own_items (grid_cell_count coordinates)))
+        → AreChoicesThat
+        (IsMatchingChoice drawing coordinates (own_items (grid_cell_count coordinates)))
         (grid_cell_count coordinates) choices
         → (ss : List (List Cell)) × AreSolidsOf drawing ss
-        × AreSolidsOfChoices coordinates (own_items (grid_cell_count coordinates)) (grid_cell_count coordinates)
+        × AreSolidsOfChoices coordinates (own_items (grid_cell_count coordinates))
+        (grid_cell_count coordinates)
         choices ss }
 {}

@@ -26,7 +26,8 @@ pub fn solids_lie_within_their_views()
         → StandsBetween (pos 0) width f.right c × StandsBetween (pos 0) height f.up c }
     ensures three_views { (drawing : Segment → Style) (s : List Cell) → Matches drawing s
         → (extent : Axis → ℤ)
-        → ((v : View) → FitsIn drawing v (extent (frame_of v).right.axis) (extent (frame_of v).up.axis))
+        → ((v : View)
+        → FitsIn drawing v (extent (frame_of v).right.axis) (extent (frame_of v).up.axis))
         → (c : Cell) → IsTrue (is_full s c) → LiesInBox extent c }
 {}
 
