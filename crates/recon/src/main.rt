@@ -7,7 +7,7 @@ use std::rt::Env;
 use std::{env, io};
 use tv_base::{OpenGate, StdSink, StdSource};
 
-/// The words after the program's name.
+/// The arguments after the program's name.
 fn words(rt: &(impl Env + AllocGlobal)) -> io::Result<Vec<String>> {
     let mut words = Vec::new(rt.alloc());
     for word in env::args(rt)?.skip(1) {
@@ -19,7 +19,7 @@ fn words(rt: &(impl Env + AllocGlobal)) -> io::Result<Vec<String>> {
 fn main(rt: HostRuntime) -> ExitCode {
     let words = match words(&rt) {
         Ok(words) => words,
-        // A word that isn't text is none that is taken, and no words at all give the same answer.
+        // An argument that isn't text is none that is taken, and none at all gives the same answer.
         Err(error) if error.kind() == io::ErrorKind::InvalidData => Vec::new(rt.alloc()),
         Err(_) => return ExitCode::from(Status::Stopped(Stop::Memory).code()),
     };

@@ -26,7 +26,7 @@ use tv_base::{Gate, ReadEnd, Sink, SinkError, Source, read_all};
 const MOST_BYTES: usize = 16_777_216;
 
 /// Why there is no reply.
-#[derive(Clone, Copy, Debug, PartialEq, Eq)]
+#[derive(Clone, Copy)]
 enum NoReply {
     /// The source failed.
     ReadFault,
@@ -67,7 +67,7 @@ fn solve_source<S: Source>(alloc: Global, source: &mut S) -> Result<Reply, NoRep
     }
 }
 
-/// The reply to the words and to what the source has left.
+/// The reply to the arguments and to what the source has left.
 fn reply<S: Source>(alloc: Global, words: &[String], source: &mut S) -> Result<Reply, NoReply>
     ensures later { S.faults source.old ≤ S.faults source.new }
     ensures unread { (IsSolve (map string_bytes words.now) → ⊥) → source.new ≡ source.old }
@@ -96,10 +96,10 @@ fn write<K: Sink>(reply: &Reply, sink: &mut K) -> Status
     }
 }
 
-/// Runs the command that the words give: what `solve` writes for the source's bytes, or the usage
-/// line. The status is 0 where all matching solids are listed, 1 where the input has a fault, 2
-/// where the words aren't taken, 5 or 6 where the source or the sink failed, and 7 where it ran out
-/// of memory. The gate isn't passed.
+/// Runs the command that the arguments give, the program's `words`: what `solve` writes for the
+/// source's bytes, or the usage line. The status is 0 where all matching solids are listed, 1 where
+/// the input has a fault, 2 where the arguments aren't taken, 5 or 6 where the source or the sink
+/// failed, and 7 where it ran out of memory. The gate isn't passed.
 pub fn run<S: Source, K: Sink, G: Gate>(
     alloc: Global,
     words: &[String],

@@ -12,7 +12,7 @@ pub fn one_first_fault()
         → IsFirstFault input a → IsFirstFault input b → a ≡ b }
 {}
 
-/// Words and an input have at most one right answer, and one text that goes with it.
+/// Arguments and an input have at most one right answer, and one text that goes with it.
 pub fn one_answer()
     ensures answer { (words : List (List ℕ)) (input : List ℕ) (rest left : Option (List ℕ))
         (a b : Answer) (text other : List ℕ) → Answers words (Some input) rest a text
@@ -22,8 +22,8 @@ pub fn one_answer()
         → Answers words (Some input) left b other → text ≡ other }
 {}
 
-/// Words and an input never lack a right answer: it can't be that no answer goes with a text. So
-/// the clauses of `run` ask for nothing that can't be given.
+/// Arguments and an input never lack a right answer: it can't be that no answer goes with a text.
+/// So the clauses of `run` ask for nothing that can't be given.
 pub fn some_answer()
     ensures { (words : List (List ℕ)) (input : List ℕ)
         → ((rest : Option (List ℕ)) (answer : Answer) (text : List ℕ)

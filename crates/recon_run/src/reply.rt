@@ -13,7 +13,7 @@ use solid_model::Memory;
 use std::alloc::Global;
 
 /// An answer, and its text.
-#[derive(Debug, Drop)]
+#[derive(Drop)]
 pub struct Reply {
     pub answer: Answer,
     pub text: Vec<u8>,
@@ -22,7 +22,7 @@ pub struct Reply {
 /// The usage line.
 const USAGE: &str = "usage: recon solve|redraw|make|trial\n";
 
-/// The reply to words that aren't taken.
+/// The reply to arguments that aren't taken.
 pub fn usage_reply(alloc: Global) -> Result<Reply, Memory>
     ensures answer { IfOk result (λ reply. reply.answer ≡ Usage) }
     ensures text { IfOk result (λ reply. reply.text.items ≡ usage_text) }

@@ -20,7 +20,7 @@ use std::alloc::Global;
 use views::drawing;
 
 /// Why a file's solids aren't listed.
-#[derive(Clone, Copy, Debug, PartialEq, Eq)]
+#[derive(Clone, Copy)]
 pub enum Unsolved {
     /// The file has this first fault.
     Fault(FirstFault),

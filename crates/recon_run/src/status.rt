@@ -11,12 +11,12 @@ pub enum Found {
     Fault,
 }
 
-/// What words and an input are answered.
+/// What a run answers.
 #[derive(Clone, Copy, Debug, PartialEq, Eq)]
 pub enum Answer {
     /// What `solve` found.
     Solve(Found),
-    /// That the words aren't taken.
+    /// That the arguments aren't taken.
     Usage,
 }
 

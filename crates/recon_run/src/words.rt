@@ -1,4 +1,4 @@
-//! The words of a command.
+//! The words of a command: the program's arguments.
 
 ghost use Rattle.std.specs.Prelude.{◌↔◌, IsTrue, map, string_bytes};
 ghost use Rattle.recon_run.specs.Words.{IsSolve};
