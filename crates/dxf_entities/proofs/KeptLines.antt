@@ -11,7 +11,7 @@ use Rattle.dxf_entities.specs.declared.section.Section.{Section}
 use Rattle.dxf_entities.specs.declared.section.Section.TheVariants.{Tables, Entities, Other}
 use Rattle.dxf_entities.specs.declared.place.Place.{Place}
 use Rattle.dxf_entities.specs.declared.place.Place.TheVariants.{Outside, Unnamed, Inside}
-use Rattle.dxf_entities.specs.Coordinates.{◌>>=◌, value_at, coordinate_at, with_coordinate, coordinates_of, present}
+use Rattle.dxf_entities.specs.Coordinates.{◌>>=◌, value_at, coordinate_at, with_coordinate, known_coordinates, present}
 use Rattle.dxf_entities.specs.Entries.{Entry, has_code, before_entries, entries_of, own_pairs}
 use Rattle.dxf_entities.specs.Judging.{facts_of, is_on_paper, by_layer, style_of, line_with, kept, styled_line, line_in, judged_in, judged_on, judged}
 use Rattle.solid_model.specs.Limits.{most_lines}
@@ -93,11 +93,11 @@ pair_near false false false true p c d near e =
 pair_near false false false false p c d near e = subst AreNear (ok_value c d e) near
 
 -- the coordinates of an entity are near
-coordinates_near : (ps : List TextPair) (c d : Known) → AreNear c → coordinates_of ps c ≡ Ok d
+coordinates_near : (ps : List TextPair) (c d : Known) → AreNear c → known_coordinates ps c ≡ Ok d
     → AreNear d
 coordinates_near [] c d near e = subst AreNear (ok_value c d e) near
 coordinates_near (p ∷ ps) c d near e =
-    let k = after_ok (with_coordinate p c) (coordinates_of ps) d e in
+    let k = after_ok (with_coordinate p c) (known_coordinates ps) d e in
     let one_more =
     pair_near (has_code 10 p) (has_code 20 p) (has_code 11 p) (has_code 21 p) p c k.value near
     k.first in

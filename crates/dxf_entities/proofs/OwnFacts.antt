@@ -8,7 +8,7 @@ use Rattle.dxf_entities.specs.declared.facts.Facts.{Facts}
 use Rattle.dxf_entities.specs.declared.layer_facts.LayerFacts.{LayerFacts}
 use Rattle.dxf_entities.specs.declared.kind.Kind.TheVariants.{Other}
 use Rattle.dxf_entities.specs.declared.linetype.Linetype.{Linetype}
-use Rattle.dxf_entities.specs.Coordinates.{◌>>=◌, with_coordinate, coordinates_of}
+use Rattle.dxf_entities.specs.Coordinates.{◌>>=◌, with_coordinate, known_coordinates}
 use Rattle.dxf_entities.specs.Entries.{has_code, own_pairs, first_value, opens_application, closes_application}
 use Rattle.dxf_entities.specs.Judging.{is_on_paper, is_one, judged_in, judged_on, judged}
 use Rattle.dxf_entities.specs.Names.{view_on, linetype_of}
@@ -50,7 +50,7 @@ with_facts own f = record f {
   layer = option_or f.layer (option_map view_on (first_value 8 own));
   paper = option_or f.paper (option_map is_one (first_value 67 own));
   linetype = option_or f.linetype (option_map linetype_of (first_value 6 own));
-  coordinates = f.coordinates >>= coordinates_of own;
+  coordinates = f.coordinates >>= known_coordinates own;
 }
 
 -- with no pairs nothing more counts
@@ -69,7 +69,7 @@ more_facts p own f = λ i. record f {
   layer = first_of_more 8 view_on p own f.layer i;
   paper = first_of_more 67 is_one p own f.paper i;
   linetype = first_of_more 6 linetype_of p own f.linetype i;
-  coordinates = bind_bind f.coordinates (with_coordinate p) (coordinates_of own) i;
+  coordinates = bind_bind f.coordinates (with_coordinate p) (known_coordinates own) i;
 }
 
 -- what counts of a layer's entry with these pairs of its own

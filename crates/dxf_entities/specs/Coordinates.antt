@@ -46,9 +46,9 @@ abbrev pub more_coordinates : TextPair → Result Known Fault → Result Known F
 more_coordinates p read = read >>= with_coordinate p
 
 -- the pairs are looked at in the file's order
-abbrev pub coordinates_of : List TextPair → Known → Result Known Fault
-coordinates_of [] c = Ok c
-coordinates_of (p ∷ ps) c = with_coordinate p c >>= coordinates_of ps
+abbrev pub known_coordinates : List TextPair → Known → Result Known Fault
+known_coordinates [] c = Ok c
+known_coordinates (p ∷ ps) c = with_coordinate p c >>= known_coordinates ps
 
 -- a coordinate that is there; or it is missing
 abbrev pub present : ℕ → ℤ → Option ℤ → Result ℤ Fault

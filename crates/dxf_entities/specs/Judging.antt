@@ -15,7 +15,7 @@ use Rattle.dxf_entities.specs.declared.kind.Kind.{Kind}
 use Rattle.dxf_entities.specs.declared.kind.Kind.TheVariants as kind
 use Rattle.dxf_entities.specs.declared.linetype.Linetype.{Linetype}
 use Rattle.dxf_entities.specs.declared.linetype.Linetype.TheVariants.{Continuous, Hidden, Center, ByLayer, Unlisted}
-use Rattle.dxf_entities.specs.Coordinates.{◌>>=◌, coordinates_of, present}
+use Rattle.dxf_entities.specs.Coordinates.{◌>>=◌, known_coordinates, present}
 use Rattle.dxf_entities.specs.Entries.{Entry, own_pairs, first_value}
 use Rattle.dxf_entities.specs.Known.{Known, none_known}
 use Rattle.dxf_entities.specs.Names.{view_on, linetype_of, kind_of}
@@ -34,7 +34,7 @@ facts_of e = let own = own_pairs false e.pairs in record {
   layer = option_map view_on (first_value 8 own);
   paper = option_map is_one (first_value 67 own);
   linetype = option_map linetype_of (first_value 6 own);
-  coordinates = coordinates_of own none_known;
+  coordinates = known_coordinates own none_known;
 }
 
 -- what stands in paper space is no part of a view

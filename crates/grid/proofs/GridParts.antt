@@ -10,7 +10,7 @@ use Rattle.solid_model.specs.Limits.{most_grid_coordinates}
 use Rattle.solid_model.specs.Panels.{PanelsStyles, GridParts, coordinates_of, AreGridStyles, IsGridOf}
 use Rattle.solid_model.proofs.Lists.{same_ascending}
 use Rattle.grid.specs.declared.coordinates.Coordinates.{Coordinates}
-use Rattle.grid.specs.Coordinates.{coordinates_in, AreFewCoordinates}
+use Rattle.grid.specs.AxisCoordinates.{coordinates_in, AreFewCoordinates}
 
 -- an axis that has few enough coordinates doesn't have too many, since it has one list of them
 pub few-fine_enough : (drawing : Segment → Style) (a : Axis) (zs : List ℤ) → AreFewCoordinates drawing a zs → IsFineEnough drawing a

@@ -5,7 +5,7 @@ ghost use Rattle.solid_model.specs.declared.fault.Fault.{Fault};
 ghost use Rattle.solid_model.specs.Grid.{AreGridCoordinates, IsTooFine, IsFirstTooFine};
 ghost use Rattle.solid_model.specs.Limits.{most_grid_coordinates};
 ghost use Rattle.solid_model.specs.Runs.{IsDrawing, style_in};
-ghost use Rattle.grid.specs.Coordinates.{AreFewCoordinates};
+ghost use Rattle.grid.specs.AxisCoordinates.{AreFewCoordinates};
 
 use crate::positions::grid_coordinates;
 use solid_model::{Axis, Drawing, Fault, Refused};
@@ -45,7 +45,7 @@ impl Coordinates {
     ghost use Rattle.solid_model.specs.declared.fault.Fault.{Fault};
     ghost use Rattle.solid_model.specs.Grid.{IsFirstTooFine};
     ghost use Rattle.solid_model.specs.Runs.{IsDrawing, style_in};
-    ghost use Rattle.grid.specs.Coordinates.{coordinates_in, AreFewCoordinates};
+    ghost use Rattle.grid.specs.AxisCoordinates.{coordinates_in, AreFewCoordinates};
 
     /// The grid coordinates of a drawing.
     pub fn of_drawing(alloc: Global, drawing: &Drawing) -> Result<Coordinates, Refused>

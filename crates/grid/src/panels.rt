@@ -4,7 +4,7 @@ ghost use Rattle.std.specs.Prelude.{◌≡◌, ◌≤◌, ◌++◌, Bool, true, 
 ghost use Rattle.std.specs.List.Sorted.{IsPartitionPoint};
 ghost use Rattle.solid_model.specs.Panels.{joined, styles_along, grid_styles, AreGridStyles};
 ghost use Rattle.solid_model.specs.Runs.{AreRuns, run_covers, run_style, style_in};
-ghost use Rattle.grid.specs.Coordinates.{coordinates_in};
+ghost use Rattle.grid.specs.AxisCoordinates.{coordinates_in};
 ghost use Rattle.grid.specs.Positions.{begins_by};
 
 use crate::coordinates::Coordinates;

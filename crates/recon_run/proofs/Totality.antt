@@ -11,7 +11,7 @@ use Rattle.recon_run.specs.declared.status.Found.TheVariants.{Whole, Fault}
 use Rattle.recon_run.specs.Answers.{usage_text, IsFirstFault, ListsSolidsOf}
 use Rattle.recon_run.specs.FaultText.{fault_text}
 use Rattle.recon_run.specs.FirstText.{first_text}
-use Rattle.recon_run.specs.Endings.{Answers, IsReadThrough}
+use Rattle.recon_run.specs.Endings.{Answers, ReadsAllOrPast}
 use Rattle.recon_run.specs.Words.{IsSolve}
 use Rattle.recon_run.proofs.Faults.{fault_read, lines_drawing, no_fault}
 use Rattle.recon_run.proofs.Solved.{solids_of_choices}
@@ -109,7 +109,7 @@ pub answered_somehow : (words : List (List ℕ)) (t : List ℕ)
     → ((rest : Option (List ℕ)) (answer : Answer) (text : List ℕ) → Answers words (Some t) rest answer text → ⊥) → ⊥
 answered_somehow words t never = never (Some []) Usage usage_text (solve_asked, refl)
   where
-    read_to_end : length t ≤ most_file_bytes → IsReadThrough t (Some [])
+    read_to_end : length t ≤ most_file_bytes → ReadsAllOrPast t (Some [])
     read_to_end short = inl (short, refl)
 
     solve_asked : IsSolve words → ⊥

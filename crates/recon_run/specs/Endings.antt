@@ -15,14 +15,14 @@ use Rattle.tv_base.specs.Pieces.{AppendsPrefix, ReadsPast}
 
 -- The source had t left and was read to its end; or, where t is too long, up to one byte more than
 -- the most.
-abbrev pub IsReadThrough : List ℕ → Option (List ℕ) → Type 0
-IsReadThrough t rest = ((length t ≤ most_file_bytes) × (rest ≡ Some []))
+abbrev pub ReadsAllOrPast : List ℕ → Option (List ℕ) → Type 0
+ReadsAllOrPast t rest = ((length t ≤ most_file_bytes) × (rest ≡ Some []))
     ⊎ ReadsPast (Some t) rest most_file_bytes
 
 -- the right answer to words and a source that had `left` and has `rest`, where told, and its text
 abbrev pub Answers : List (List ℕ) → Option (List ℕ) → Option (List ℕ) → Answer → List ℕ → Type 0
 Answers words left rest (Solve found) text =
-    IsSolve words × IfSome left (λ t. IsReadThrough t rest × IsSolved t found text)
+    IsSolve words × IfSome left (λ t. ReadsAllOrPast t rest × IsSolved t found text)
 Answers words left rest Usage text = (IsSolve words → ⊥) × (text ≡ usage_text)
 
 -- A reply's text is written whole; or a prefix of it: the sink failed, and then its count rose, or

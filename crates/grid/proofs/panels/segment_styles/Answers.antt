@@ -4,7 +4,7 @@ use Rattle.solid_model.specs.declared.frame.Direction.{Direction}
 use Rattle.solid_model.specs.Frames.{along, across}
 use Rattle.solid_model.specs.Panels.{starts_of, grid_styles}
 use Rattle.solid_model.specs.Runs.{run_style, runs_along, style_in}
-use Rattle.grid.specs.Coordinates.{coordinates_in}
+use Rattle.grid.specs.AxisCoordinates.{coordinates_in}
 use Rattle.grid.proofs.GridStyles.{styles_by, grid_styles-runs}
 use Rattle.grid.proofs.panels.segment_styles.Goals as goal
 
