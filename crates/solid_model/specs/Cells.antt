@@ -1,5 +1,5 @@
 -- Cells, and solids as finite sets of cells.
-use Rattle.std.specs.Prelude.{◌≡◌, Bool, false, ◌&&◌, ◌||◌, List, [], ◌∷◌, ℕ, ℤ, pos, ◌-ℤ◌}
+use Rattle.std.specs.Prelude.{◌≡◌, Bool, false, ◌&&◌, ◌||◌, List, [], ◌∷◌, ℕ, ℤ, pos, ◌+ℤ◌, ◌-ℤ◌}
 use Rattle.std.specs.Ordering.{int_eq}
 use Rattle.solid_model.specs.declared.cell.Axis.{Axis}
 use Rattle.solid_model.specs.declared.cell.Axis.TheVariants.{X, Y, Z}
@@ -24,6 +24,10 @@ placed Z k c = record c { z = k }
 -- the neighbour before a cell along an axis
 abbrev pub cell_before : Axis → Cell → Cell
 cell_before a c = placed a (coordinate a c -ℤ pos 1) c
+
+-- and the one after it
+abbrev pub cell_after : Axis → Cell → Cell
+cell_after a c = placed a (coordinate a c +ℤ pos 1) c
 
 -- two names of one cell
 abbrev pub same_cell : Cell → Cell → Bool

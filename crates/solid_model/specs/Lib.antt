@@ -21,3 +21,8 @@ pub mod SmallSheet
 pub mod Grid
 pub mod Panels
 pub mod Choices
+pub mod Chains
+pub mod Rooms
+pub mod Wire
+pub mod VirtualFaces
+pub mod Blocks

@@ -25,6 +25,10 @@ farthest_in_view = pos 2000000000
 abbrev pub most_grid_coordinates : ℕ
 most_grid_coordinates = 64
 
+-- the most blocks of a grid
+abbrev pub most_blocks : ℕ
+most_blocks = 4096
+
 -- the most cells of a box that is searched
 abbrev pub most_cells : ℕ
 most_cells = 12
