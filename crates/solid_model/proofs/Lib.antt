@@ -26,3 +26,6 @@ pub mod OwnItems
 pub mod SomeGrid
 pub mod MaximalStretches
 pub mod RunStyles
+pub mod Pushed
+pub mod BoxPlaces
+pub mod MarkedCells

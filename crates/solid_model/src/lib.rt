@@ -10,8 +10,10 @@ mod frame;
 mod grid;
 mod laws;
 mod line;
+mod marks;
 mod memory;
 mod panels;
+mod per_axis;
 mod runs;
 mod segment;
 
@@ -32,7 +34,9 @@ pub use laws::{
     solids_lie_within_their_views, views_are_seen_from_their_sides, views_begin_at_the_least_lines,
 };
 pub use line::SheetLine;
+pub use marks::{CellTest, Marks, MarksByAxis};
 pub use memory::Memory;
 pub use panels::{Panel, Panels};
+pub use per_axis::PerAxis;
 pub use runs::{Run, Runs};
 pub use segment::{Segment, Style};
