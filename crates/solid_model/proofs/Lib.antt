@@ -29,3 +29,4 @@ pub mod RunStyles
 pub mod Pushed
 pub mod BoxPlaces
 pub mod MarkedCells
+pub mod GridStyle

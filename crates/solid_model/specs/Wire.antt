@@ -3,7 +3,7 @@
 --
 -- Counted by its own coordinates, a grid is once more a box of cells from (0, 0, 0): the grid cell (x, y, z) reaches from the
 -- x-th coordinate of the x axis to the next one, and so along y and z, and the grid point (x, y, z) is its least corner.
-use Rattle.std.specs.Prelude.{Bool, true, false, not, ◌&&◌, ◌||◌, suc, ◌+◌, ◌*◌, nat_lt, slice_index_or, ℤ, pos, if◌then◌else◌}
+use Rattle.std.specs.Prelude.{Bool, true, false, not, ◌&&◌, ◌||◌, suc, ◌+◌, ◌*◌, nat_lt, slice_index_or, ℤ, pos, IsTrue, if◌then◌else◌}
 use Rattle.solid_model.specs.declared.cell.Axis.{Axis}
 use Rattle.solid_model.specs.declared.cell.Cell.{Cell}
 use Rattle.solid_model.specs.declared.frame.View.{View}
@@ -14,7 +14,8 @@ use Rattle.solid_model.specs.Cells.{coordinate, cell_before, cell_after}
 use Rattle.solid_model.specs.Frames.{frame_of, along, across}
 use Rattle.solid_model.specs.Grid.{gaps_along}
 use Rattle.solid_model.specs.Panels.{GridParts, coordinates_of, panel_of, styles_along}
-use Rattle.solid_model.specs.Rooms.{Sizes, same_axis}
+use Rattle.solid_model.specs.Marks.{AxisMarks, marks_along, AreMarksOf}
+use Rattle.solid_model.specs.Rooms.{Sizes, same_axis, edge_sizes}
 
 -- how many grid cells stand in a row along each axis
 abbrev pub grid_sizes : GridParts → Sizes
@@ -71,3 +72,7 @@ is_drawn_or_point g a n v = (not (same_axis (axis_along v false) a) || is_drawn_
 abbrev pub is_pseudo_edge : GridParts → Axis → Cell → Bool
 is_pseudo_edge g a n = (is_drawn_or_point g a n Front && (is_drawn_or_point g a n Top && is_drawn_or_point g a n Side))
     && (is_pseudo_vertex g n && is_pseudo_vertex g (cell_after a n))
+
+-- what is marked along each axis are the pseudo edges
+abbrev pub IsWireOf : GridParts → AxisMarks → Type 0
+IsWireOf g wire = (a : Axis) → AreMarksOf (edge_sizes (grid_sizes g) a) (λ n. IsTrue (is_pseudo_edge g a n)) (marks_along a wire)

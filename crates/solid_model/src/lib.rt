@@ -5,6 +5,7 @@
 mod cell;
 mod choice;
 mod drawing;
+mod face_map;
 mod fault;
 mod frame;
 mod grid;
@@ -16,10 +17,12 @@ mod panels;
 mod per_axis;
 mod runs;
 mod segment;
+mod wire;
 
 pub use cell::{Axis, Cell};
 pub use choice::Choice;
 pub use drawing::{Drawing, ViewLines};
+pub use face_map::FaceMap;
 pub use fault::{Fault, Refused};
 pub use frame::{Direction, Frame, View};
 pub use grid::Grid;
@@ -40,3 +43,4 @@ pub use panels::{Panel, Panels};
 pub use per_axis::PerAxis;
 pub use runs::{Run, Runs};
 pub use segment::{Segment, Style};
+pub use wire::Wire;
