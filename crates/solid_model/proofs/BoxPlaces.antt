@@ -1,12 +1,13 @@
 -- The places of a box's cells in a list of all of them.
-use Rattle.std.proofs.Common.{◌≡◌, true, ◌&&◌, ℕ, ◌+◌, ◌*◌, ◌/◌, ◌%◌, ◌<◌, ◌≤◌, ℤ, pos, negsuc, refl, ap, sym, subst, ◌∙◌, arith}
+use Rattle.std.proofs.Common.{◌≡◌, Bool, true, false, if◌then◌else◌, ◌&&◌, ℕ, suc, ◌+◌, ◌*◌, ◌/◌, ◌%◌, ◌<◌, ◌≤◌, ℤ, pos, negsuc, refl, ap, sym, subst, ◌∙◌, arith}
 use Rattle.std.proofs.lemmas.Bool.{false≢true, and_parts, and_from}
 use Rattle.std.proofs.lemmas.Nat.{mul-le, mod-mul-add, div-mul-add}
+use Rattle.solid_model.specs.declared.cell.Axis.{Axis}
 use Rattle.solid_model.specs.declared.cell.Axis.TheVariants.{X, Y, Z}
 use Rattle.solid_model.specs.declared.cell.Cell.{Cell}
 use Rattle.solid_model.specs.Cells.{cell_at}
-use Rattle.solid_model.specs.PerAxis.{AreFew}
-use Rattle.solid_model.specs.Rooms.{Sizes, is_below, is_within, box_place, box_count}
+use Rattle.solid_model.specs.PerAxis.{numbered, AreFew}
+use Rattle.solid_model.specs.Rooms.{Sizes, is_below, is_within, box_place, box_count, same_axis, edge_sizes, face_sizes}
 use Rattle.solid_model.proofs.Unions.{within_product}
 
 -- ---- how far they go
@@ -91,3 +92,48 @@ cell_there sizes n n_in =
     let a = cell_of_box sizes n n_in in
     subst (λ p. p < box_count sizes) (λ t. box_place sizes (record { x = sym a.x.is t; y = sym a.y.is t; z = sym a.z.is t }))
     (place_there sizes a.x.number a.y.number a.z.number a.x.less a.y.less a.z.less)
+
+-- ---- the edges and faces of a box's cells
+
+pub numbered_edges : (sizes : Sizes) (a : Axis) (points : Sizes) → ((b : Axis) → points b ≡ suc (sizes b)) → numbered a (sizes a) points ≡ edge_sizes sizes a
+numbered_edges sizes a points more = λ t b. by a b t
+  where
+    by : (c : Axis) (b : Axis) → numbered c (sizes c) points b ≡ edge_sizes sizes c b
+    by X X = refl
+    by X Y = more Y
+    by X Z = more Z
+    by Y X = more X
+    by Y Y = refl
+    by Y Z = more Z
+    by Z X = more X
+    by Z Y = more Y
+    by Z Z = refl
+
+pub numbered_faces : (sizes : Sizes) (a : Axis) (k : ℕ) → k ≡ suc (sizes a) → numbered a k sizes ≡ face_sizes sizes a
+numbered_faces sizes a k more = λ t b. by a k more b t
+  where
+    by : (c : Axis) (l : ℕ) → l ≡ suc (sizes c) → (b : Axis) → numbered c l sizes b ≡ face_sizes sizes c b
+    by X l e X = e
+    by X l e Y = refl
+    by X l e Z = refl
+    by Y l e X = refl
+    by Y l e Y = e
+    by Y l e Z = refl
+    by Z l e X = refl
+    by Z l e Y = refl
+    by Z l e Z = e
+
+-- from a grid's sizes they are few
+pub few_edges : (sizes : Sizes) → ((a : Axis) → sizes a ≤ 63) → (a : Axis) → AreFew (edge_sizes sizes a)
+few_edges sizes few a b = by (same_axis a b)
+  where
+    by : (s : Bool) → (if s then sizes b else suc (sizes b)) ≤ 1024
+    by true = omega (arith, few b)
+    by false = omega (arith, few b)
+
+pub few_faces : (sizes : Sizes) → ((a : Axis) → sizes a ≤ 63) → (a : Axis) → AreFew (face_sizes sizes a)
+few_faces sizes few a b = by (same_axis a b)
+  where
+    by : (s : Bool) → (if s then suc (sizes b) else sizes b) ≤ 1024
+    by true = omega (arith, few b)
+    by false = omega (arith, few b)

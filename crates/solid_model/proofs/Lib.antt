@@ -30,3 +30,4 @@ pub mod Pushed
 pub mod BoxPlaces
 pub mod MarkedCells
 pub mod GridStyle
+pub mod Numbers

@@ -1,8 +1,9 @@
 //! Numbers along the three axes.
 
-ghost use Rattle.std.specs.Prelude.{◌≡◌, ◌<◌};
+ghost use Rattle.std.specs.Prelude.{◌≡◌, ◌<◌, ◌≤◌, None, IfSome};
+ghost use Rattle.solid_model.specs.Cells.{cell_before, cell_after};
 ghost use Rattle.solid_model.specs.PerAxis.{numbers_of, cell_of, numbered, gaps_of, AreFew};
-ghost use Rattle.solid_model.specs.Rooms.{box_count, box_place};
+ghost use Rattle.solid_model.specs.Rooms.{edge_sizes, face_sizes, box_count, box_place};
 
 use crate::cell::Axis;
 
@@ -40,6 +41,23 @@ impl PerAxis {
         }
     }
 
+    /// The next cell along an axis.
+    pub fn after(self, axis: Axis) -> PerAxis
+        requires { numbers_of self axis ≤ 1024 }
+        ensures { cell_of result ≡ cell_after axis (cell_of self) }
+    {
+        self.numbered(axis, self.along(axis) + 1)
+    }
+
+    /// The cell before it along an axis, where its number is 0 or more.
+    pub fn before(self, axis: Axis) -> Option<PerAxis>
+        ensures some { IfSome result (λ n. cell_of n ≡ cell_before axis (cell_of self)) }
+        ensures none { result ≡ None → numbers_of self axis ≡ 0 }
+    {
+        let number = self.along(axis).checked_sub(1)?;
+        Some(self.numbered(axis, number))
+    }
+
     /// How many gaps there are along each axis between so many coordinates.
     pub fn gaps(self) -> PerAxis
         ensures { numbers_of result ≡ gaps_of (numbers_of self) }
@@ -49,6 +67,28 @@ impl PerAxis {
             y: self.y.saturating_sub(1),
             z: self.z.saturating_sub(1),
         }
+    }
+
+    /// How many edges along an axis the cells of a box of these sizes have: as many as cells in its
+    /// rows, and one more across them.
+    pub fn edges(self, axis: Axis) -> PerAxis
+        requires { AreFew (numbers_of self) }
+        ensures { numbers_of result ≡ edge_sizes (numbers_of self) axis }
+    {
+        let points = PerAxis {
+            x: self.x + 1,
+            y: self.y + 1,
+            z: self.z + 1,
+        };
+        points.numbered(axis, self.along(axis))
+    }
+
+    /// How many faces across an axis they have: one more than cells in its rows.
+    pub fn faces(self, axis: Axis) -> PerAxis
+        requires { AreFew (numbers_of self) }
+        ensures { numbers_of result ≡ face_sizes (numbers_of self) axis }
+    {
+        self.numbered(axis, self.along(axis) + 1)
     }
 
     /// How many cells a box of these sizes has.

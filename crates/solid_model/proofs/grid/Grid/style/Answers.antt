@@ -1,5 +1,5 @@
 -- The code's numbers are the definition's.
-use Rattle.std.proofs.Common.{◌≡◌, ◌⊎◌, inl, inr, ◌+◌, ◌*◌, ◌<◌, ◌≤◌, slice_index_or, ap, subst, ◌∙◌, arith}
+use Rattle.std.proofs.Common.{◌≡◌, ◌⊎◌, inl, inr, ◌+◌, ◌*◌, ◌<◌, ◌≤◌, slice_index_or, ap, ◌∙◌, arith}
 use Rattle.solid_model.specs.declared.segment.Style.TheVariants.{Blank}
 use Rattle.solid_model.specs.Frames.{along, across}
 use Rattle.solid_model.specs.Panels.{styles_along, panel_of}
