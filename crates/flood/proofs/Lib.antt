@@ -1,1 +1,2 @@
 pub mod RingPlaces
+pub mod Outside
