@@ -1,2 +1,3 @@
 pub mod RingPlaces
 pub mod Outside
+pub mod RingChains
