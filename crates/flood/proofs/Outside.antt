@@ -1,5 +1,5 @@
 -- Steps between cells lead back, and outside a box all is one: none of its own walls stands between two cells out there.
-use Rattle.std.proofs.Common.{◌≡◌, ◌⊎◌, inl, inr, Bool, false, ◌&&◌, ◌||◌, ℕ, zero, suc, ℤ, pos, negsuc, ◌-ℤ◌, ◌≤ℤ◌, refl, sym, ◌∙◌, ap, subst, arith}
+use Rattle.std.proofs.Common.{◌≡◌, ◌⊎◌, inl, inr, false, ◌&&◌, ◌||◌, ℕ, zero, suc, ℤ, pos, negsuc, ◌-ℤ◌, ◌≤ℤ◌, refl, sym, ◌∙◌, ap, subst, arith}
 use Rattle.std.proofs.lemmas.Bool.{both_ways, and_cases, and_left, and_right, or_from}
 use Rattle.std.proofs.lemmas.Int.{ints, by_lt_z}
 use Rattle.solid_model.specs.declared.cell.Axis.{Axis}

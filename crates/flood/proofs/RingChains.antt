@@ -1,12 +1,12 @@
 -- Chains of steps between the nodes of a ringed box are chains between the cells: a chain on the lattice is brought into the
 -- ring by taking each cell to the nearest one of the box or its ring.
-use Rattle.std.proofs.Common.{◌≡◌, ◌↔◌, ◌⊎◌, inl, inr, ⊎_elim, Bool, true, false, ◌&&◌, ◌||◌, ℕ, zero, suc, ◌<◌, ◌≤◌, min, ltb, ℤ, pos, negsuc, ◌+ℤ◌, ◌-ℤ◌, ◌≤ℤ◌, IsTrue, refl, sym, ◌∙◌, ap, ap₂, subst, subst₂, arith}
-use Rattle.std.proofs.lemmas.Bool.{cases_lt, cases_Bool, or_cases, lt-ltb, le-ltb, true_from_ne_false}
+use Rattle.std.proofs.Common.{◌≡◌, ◌↔◌, ◌⊎◌, inl, inr, ⊎_elim, true, ◌&&◌, ◌||◌, ℕ, zero, suc, ◌<◌, ◌≤◌, min, ltb, ℤ, pos, negsuc, ◌+ℤ◌, ◌-ℤ◌, ◌≤ℤ◌, IsTrue, refl, sym, ◌∙◌, ap, ap₂, subst, subst₂, arith}
+use Rattle.std.proofs.lemmas.Bool.{cases_lt, or_cases, le-ltb}
 use Rattle.std.proofs.lemmas.Int.{ints}
 use Rattle.solid_model.specs.declared.cell.Axis.{Axis}
 use Rattle.solid_model.specs.declared.cell.Axis.TheVariants.{X, Y, Z}
 use Rattle.solid_model.specs.declared.cell.Cell.{Cell}
-use Rattle.solid_model.specs.Cells.{coordinate, placed, cell_before}
+use Rattle.solid_model.specs.Cells.{coordinate, cell_before}
 use Rattle.solid_model.specs.Chains.{Reaches}
 use Rattle.solid_model.specs.Rooms.{Sizes, is_below, is_within, Walls, Passes}
 use Rattle.solid_model.proofs.Chains.{reaches-step, reaches-back, reaches-map}
@@ -14,7 +14,7 @@ use Rattle.solid_model.proofs.Fullness.{same_coordinates}
 use Rattle.flood.specs.Graph.{GoesBack}
 use Rattle.flood.specs.Ring.{ring_count, ring_place, ring_cell, OwnWalls, RingStep}
 use Rattle.flood.proofs.RingPlaces.{IsRingedNumber, IsRinged, below-bounds, within-below, within-ringed, ring_place-below, ring_cell-ring_place, ring_cell-ringed, ring_place-ring_cell}
-use Rattle.flood.proofs.Outside.{passes-back, no_wall_outside}
+use Rattle.flood.proofs.Outside.{passes-back}
 
 -- ---- the nearest number from -1 to the size
 
@@ -157,7 +157,16 @@ module _ (sizes : Sizes) (wall : Walls) where
       subst₂ (Reaches (RingStep sizes wall)) (ap (ring_place sizes) (nearest_cell-itself sizes n n_ring)) (ap (ring_place sizes) (nearest_cell-itself sizes m m_ring))
       (reaches-map (Passes (OwnWalls sizes wall)) (RingStep sizes wall) node node_step n m chain)
 
-  -- chains of nodes are chains of cells
+  -- chains between the nodes of such cells are chains between the cells
+  pub places_chain_iff_cells : (n m : Cell) → IsRinged sizes n → IsRinged sizes m
+      → Reaches (RingStep sizes wall) (ring_place sizes n) (ring_place sizes m) ↔ Reaches (Passes (OwnWalls sizes wall)) n m
+  places_chain_iff_cells n m n_ring m_ring = (
+    λ chain. subst₂ (Reaches (Passes (OwnWalls sizes wall))) (ring_cell-ring_place sizes n n_ring) (ring_cell-ring_place sizes m m_ring)
+        (ring_chain-cells (ring_place sizes n) (ring_place sizes m) chain),
+    cells-ring_chain n m n_ring m_ring,
+  )
+
+  -- and those between nodes are chains between their cells
   pub ring_chain_iff_cells : (p q : ℕ) → p < ring_count sizes → q < ring_count sizes
       → Reaches (RingStep sizes wall) p q ↔ Reaches (Passes (OwnWalls sizes wall)) (ring_cell sizes p) (ring_cell sizes q)
   ring_chain_iff_cells p q p_below q_below = (

@@ -1,5 +1,5 @@
 -- The nodes of a ringed box and the cells that they stand for: each is the other's, and nodes come in the order of cells.
-use Rattle.std.proofs.Common.{◌≡◌, ◌↔◌, ◌⊎◌, inl, inr, ⊎_elim, Bool, true, false, ℕ, zero, suc, ◌+◌, ◌*◌, ◌/◌, ◌%◌, ◌<◌, ltb, ℤ, pos, negsuc, ◌+ℤ◌, ◌-ℤ◌, ◌≤ℤ◌, ◌<ℤ◌, IsTrue, refl, sym, ◌∙◌, ap, subst, arith}
+use Rattle.std.proofs.Common.{◌≡◌, ◌↔◌, ◌⊎◌, inl, inr, ℕ, zero, suc, ◌+◌, ◌*◌, ◌/◌, ◌%◌, ◌<◌, ℤ, pos, negsuc, ◌+ℤ◌, ◌-ℤ◌, ◌≤ℤ◌, ◌<ℤ◌, IsTrue, refl, sym, ◌∙◌, ap, subst, arith}
 use Rattle.std.proofs.lemmas.Bool.{false≢true, and_parts, and_from, ltb-true, lt-ltb}
 use Rattle.std.proofs.lemmas.Int.{ints}
 use Rattle.std.proofs.lemmas.Nat.{div-add-mod', div-mul-add, mod-mul-add, div_below, mod_below}
@@ -8,8 +8,8 @@ use Rattle.solid_model.specs.declared.cell.Axis.TheVariants.{X, Y, Z}
 use Rattle.solid_model.specs.declared.cell.Cell.{Cell}
 use Rattle.solid_model.specs.Cells.{coordinate, placed, cell_before, cell_after}
 use Rattle.solid_model.specs.Orders.{ComesBefore}
-use Rattle.solid_model.specs.Rooms.{Sizes, is_below, is_within, place_of_number, box_count}
-use Rattle.solid_model.proofs.CellOrder.{LiesBefore, before-lies, one_or_before, before_one_way}
+use Rattle.solid_model.specs.Rooms.{Sizes, is_below, is_within, place_of_number}
+use Rattle.solid_model.proofs.CellOrder.{LiesBefore, before-lies, one_or_before}
 use Rattle.solid_model.proofs.Fullness.{same_coordinates}
 use Rattle.solid_model.proofs.Unions.{within_product}
 use Rattle.flood.specs.Ring.{ringed, ring_count, ring_place, ring_cell}
@@ -214,3 +214,15 @@ ring_place-after sizes a n ring = at a (next a (coordinate a n) (ring a).0)
     at X e = ap (λ k. (ring_number Z n * ringed sizes Y + ring_number Y n) * ringed sizes X + k) e ∙ omega arith
     at Y e = ap (λ k. (ring_number Z n * ringed sizes Y + k) * ringed sizes X + ring_number X n) e ∙ omega arith
     at Z e = ap (λ k. (k * ringed sizes Y + ring_number Y n) * ringed sizes X + ring_number X n) e ∙ omega arith
+
+-- and of a cell whose neighbour before it has a node
+pub ring_place-before : (sizes : Sizes) (a : Axis) (n : Cell) → IsRinged sizes (cell_before a n) → ring_place sizes n ≡ ring_place sizes (cell_before a n) + ring_stride sizes a
+ring_place-before sizes a n ring = ap (ring_place sizes) (sym (after_before a)) ∙ ring_place-after sizes a (cell_before a n) ring
+  where
+    up_again : (z : ℤ) → (z -ℤ pos 1) +ℤ pos 1 ≡ z
+    up_again z = omega (arith, ints)
+
+    after_before : (b : Axis) → cell_after b (cell_before b n) ≡ n
+    after_before X = λ t. placed X (up_again n.x t) n
+    after_before Y = λ t. placed Y (up_again n.y t) n
+    after_before Z = λ t. placed Z (up_again n.z t) n
