@@ -22,13 +22,15 @@ pub step-leads_out : (sizes : Sizes) (wall : Walls) (n m : Cell) → Passes wall
 step-leads_out sizes wall n m step (end, chain, out) = (end, reaches-step_then (Passes wall) n m end step chain, out)
 
 -- where each wall of w that the box has is one of v
-module _ (sizes : Sizes) (v w : Walls) (fewer : (a : Axis) (n : Cell) → IsTrue (is_within sizes n || is_within sizes (cell_before a n)) → w a n → v a n) where
+module _ (sizes : Sizes) (v w : Walls)
+    (fewer : (a : Axis) (n : Cell) → IsTrue (is_within sizes n || is_within sizes (cell_before a n)) → w a n → v a n) where
   -- a step from a cell of the box that passes v passes w
   passes-from_within : (n m : Cell) → IsTrue (is_within sizes n) → Passes v n m → Passes w n m
   passes-from_within n m within (a, inl (e, no_wall)) =
       (a, inl (e, λ h. no_wall (fewer a n (or_left (is_within sizes n) (is_within sizes (cell_before a n)) within) h)))
   passes-from_within n m within (a, inr (e, no_wall)) =
-      (a, inr (e, λ h. no_wall (fewer a m (or_right (is_within sizes m) (is_within sizes (cell_before a m)) (sym (ap (is_within sizes) e) ∙ within)) h)))
+      let before = sym (ap (is_within sizes) e) ∙ within in
+      (a, inr (e, λ h. no_wall (fewer a m (or_right (is_within sizes m) (is_within sizes (cell_before a m)) before) h)))
 
   -- a chain that passes v to a cell that leads out past w, from its end on
   from_end : (k : ℕ) (n m : Cell) → Chain (Passes v) k n m → LeadsOut sizes w m → LeadsOut sizes w n
@@ -58,7 +60,8 @@ module _ (sizes : Sizes) (wall : Walls) where
 
   -- and so does a chain
   pub passages-own : (n m : Cell) → Reaches (Passes wall) n m → Reaches (Passes (OwnWalls sizes wall)) n m
-  passages-own = reaches-map (Passes wall) (Passes (OwnWalls sizes wall)) (λ n. n) (λ n m step. reaches-step (Passes (OwnWalls sizes wall)) n m (own_passes n m step))
+  passages-own = reaches-map (Passes wall) (Passes (OwnWalls sizes wall)) (λ n. n)
+      (λ n m step. reaches-step (Passes (OwnWalls sizes wall)) n m (own_passes n m step))
 
   -- a chain past the box's own walls from a cell that doesn't lead out stays in the box, where it meets no others
   pub own-passages : (n m : Cell) → (LeadsOut sizes wall n → ⊥) → Reaches (Passes (OwnWalls sizes wall)) n m → Reaches (Passes wall) n m

@@ -34,7 +34,8 @@ module _ (sizes : Sizes) (wall : Walls) where
   -- none of the box's walls stands between two cells outside
   pub no_wall_outside : (a : Axis) (n : Cell) → is_within sizes n ≡ false → is_within sizes (cell_before a n) ≡ false → OwnWalls sizes wall a n → ⊥
   no_wall_outside a n out before h =
-      both_ways (is_within sizes n || is_within sizes (cell_before a n)) (or_from (is_within sizes n) (is_within sizes (cell_before a n)) out before) h.0
+      let here = is_within sizes n in let back = is_within sizes (cell_before a n) in
+      both_ways (here || back) (or_from here back out before) h.0
 
   module _ (a : Axis) (n : Cell) (out : (z : ℤ) → is_within sizes (placed a z n) ≡ false) where
     -- a row of cells that stands outside is joined, downwards
@@ -58,7 +59,8 @@ module _ (sizes : Sizes) (wall : Walls) where
     -- and either way
     along_row : (from to : ℤ) → OwnReaches (placed a from n) (placed a to n)
     along_row from to = by_lt_z from to
-        (λ l. passages-back (OwnWalls sizes wall) (placed a to n) (placed a from n) (downwards to from (omega (arith, ints)))) (λ l. downwards from to l)
+        (λ l. passages-back (OwnWalls sizes wall) (placed a to n) (placed a from n) (downwards to from (omega (arith, ints))))
+        (λ l. downwards from to l)
 
   -- a cell outside is joined with the ring's first one
   pub outside-first_corner : (n : Cell) → is_within sizes n ≡ false → Reaches (Passes (OwnWalls sizes wall)) n first_corner
@@ -79,9 +81,11 @@ module _ (sizes : Sizes) (wall : Walls) where
       by : (is_below (sizes X) n.x ≡ false) ⊎ ((is_below (sizes Y) n.y && is_below (sizes Z) n.z) ≡ false) → OwnReaches n first_corner
       by (inl x_out) =
           let level : Cell = placed Y (negsuc 0) n in
-          let start : OwnReaches n level = along_row Y n (λ z. and_left (is_below (sizes X) n.x) (is_below (sizes Y) z && is_below (sizes Z) n.z) x_out) n.y (negsuc 0) in
+          let out_still = λ (z : ℤ). and_left (is_below (sizes X) n.x) (is_below (sizes Y) z && is_below (sizes Z) n.z) x_out in
+          let start : OwnReaches n level = along_row Y n out_still n.y (negsuc 0) in
           let aside = along_row X level (λ z. and_right (is_below (sizes X) z) false refl) n.x (negsuc 0) in
-          onward n level first_corner start (onward level (placed X (negsuc 0) level) first_corner aside (from_before (placed X (negsuc 0) level) refl))
+          onward n level first_corner start
+          (onward level (placed X (negsuc 0) level) first_corner aside (from_before (placed X (negsuc 0) level) refl))
       by (inr rest) =
           let aside = along_row X n (λ z. and_right (is_below (sizes X) z) (is_below (sizes Y) n.y && is_below (sizes Z) n.z) rest) n.x (negsuc 0) in
           onward n (placed X (negsuc 0) n) first_corner aside (from_before (placed X (negsuc 0) n) refl)

@@ -1,12 +1,12 @@
 -- Chains of steps between the nodes of a ringed box are chains between the cells: a chain on the lattice is brought into the
 -- ring by taking each cell to the nearest one of the box or its ring.
-use Rattle.std.proofs.Common.{◌≡◌, ◌↔◌, ◌⊎◌, inl, inr, ⊎_elim, true, ◌&&◌, ◌||◌, ℕ, zero, suc, ◌<◌, ◌≤◌, min, ltb, ℤ, pos, negsuc, ◌+ℤ◌, ◌-ℤ◌, ◌≤ℤ◌, IsTrue, refl, sym, ◌∙◌, ap, ap₂, subst, subst₂, arith}
+use Rattle.std.proofs.Common.{◌≡◌, ◌↔◌, ◌⊎◌, inl, inr, ⊎_elim, Bool, true, ◌&&◌, ◌||◌, ℕ, zero, suc, ◌<◌, ◌≤◌, min, ltb, ℤ, pos, negsuc, ◌+ℤ◌, ◌-ℤ◌, ◌≤ℤ◌, IsTrue, refl, sym, ◌∙◌, ap, ap₂, subst, subst₂, arith}
 use Rattle.std.proofs.lemmas.Bool.{cases_lt, or_cases, le-ltb}
 use Rattle.std.proofs.lemmas.Int.{ints}
 use Rattle.solid_model.specs.declared.cell.Axis.{Axis}
 use Rattle.solid_model.specs.declared.cell.Axis.TheVariants.{X, Y, Z}
 use Rattle.solid_model.specs.declared.cell.Cell.{Cell}
-use Rattle.solid_model.specs.Cells.{coordinate, cell_before}
+use Rattle.solid_model.specs.Cells.{coordinate, placed, cell_before}
 use Rattle.solid_model.specs.Chains.{Reaches}
 use Rattle.solid_model.specs.Rooms.{Sizes, is_below, is_within, Walls, Passes}
 use Rattle.solid_model.proofs.Chains.{reaches-step, reaches-back, reaches-map}
@@ -49,7 +49,8 @@ nearest-before size (pos (suc k)) = by (cases_lt k size)
     back : pos (suc k) -ℤ pos 1 ≡ pos k
     back = omega (arith, ints)
 
-    by : (k < size) ⊎ (size ≤ k) → (nearest size (pos (suc k) -ℤ pos 1) ≡ pos (min (suc k) size)) ⊎ (nearest size (pos (suc k) -ℤ pos 1) ≡ pos (min (suc k) size) -ℤ pos 1)
+    by : (k < size) ⊎ (size ≤ k)
+        → (nearest size (pos (suc k) -ℤ pos 1) ≡ pos (min (suc k) size)) ⊎ (nearest size (pos (suc k) -ℤ pos 1) ≡ pos (min (suc k) size) -ℤ pos 1)
     by (inl l) = let e : pos (min k size) ≡ pos (min (suc k) size) -ℤ pos 1 = omega (arith, ints) in inr (ap (nearest size) back ∙ e)
     by (inr l) = let e : pos (min k size) ≡ pos (min (suc k) size) = omega (arith, ints) in inl (ap (nearest size) back ∙ e)
 nearest-before size (negsuc k) = inl refl
@@ -75,9 +76,17 @@ nearest_cell-within sizes n =
 
 nearest_cell-before : (sizes : Sizes) (a : Axis) (n : Cell)
     → (nearest_cell sizes (cell_before a n) ≡ nearest_cell sizes n) ⊎ (nearest_cell sizes (cell_before a n) ≡ cell_before a (nearest_cell sizes n))
-nearest_cell-before sizes X n = ⊎_elim (λ e. inl (λ t. record (nearest_cell sizes n) { x = e t })) (λ e. inr (λ t. record (nearest_cell sizes n) { x = e t })) (nearest-before (sizes X) n.x)
-nearest_cell-before sizes Y n = ⊎_elim (λ e. inl (λ t. record (nearest_cell sizes n) { y = e t })) (λ e. inr (λ t. record (nearest_cell sizes n) { y = e t })) (nearest-before (sizes Y) n.y)
-nearest_cell-before sizes Z n = ⊎_elim (λ e. inl (λ t. record (nearest_cell sizes n) { z = e t })) (λ e. inr (λ t. record (nearest_cell sizes n) { z = e t })) (nearest-before (sizes Z) n.z)
+nearest_cell-before sizes a n = by a (nearest-before (sizes a) (coordinate a n))
+  where
+    near : Cell
+    near = nearest_cell sizes n
+
+    by : (b : Axis) → (nearest (sizes b) (coordinate b n -ℤ pos 1) ≡ nearest (sizes b) (coordinate b n))
+        ⊎ (nearest (sizes b) (coordinate b n -ℤ pos 1) ≡ nearest (sizes b) (coordinate b n) -ℤ pos 1)
+        → (nearest_cell sizes (cell_before b n) ≡ near) ⊎ (nearest_cell sizes (cell_before b n) ≡ cell_before b near)
+    by X = ⊎_elim (λ e. inl (λ t. placed X (e t) near)) (λ e. inr (λ t. placed X (e t) near))
+    by Y = ⊎_elim (λ e. inl (λ t. placed Y (e t) near)) (λ e. inr (λ t. placed Y (e t) near))
+    by Z = ⊎_elim (λ e. inl (λ t. placed Z (e t) near)) (λ e. inr (λ t. placed Z (e t) near))
 
 -- a cell behind one of the box stands in the box or its ring
 behind_within-ringed : (sizes : Sizes) (a : Axis) (n : Cell) → IsTrue (is_within sizes (cell_before a n)) → IsRinged sizes n
@@ -103,7 +112,8 @@ module _ (sizes : Sizes) (wall : Walls) where
   ring_chain-back = reaches-back (RingStep sizes wall) (λ p q step. ring_step-back p q step.from step.to step)
 
   -- a chain of nodes is one of their cells
-  pub ring_chain-cells : (p q : ℕ) → Reaches (RingStep sizes wall) p q → Reaches (Passes (OwnWalls sizes wall)) (ring_cell sizes p) (ring_cell sizes q)
+  pub ring_chain-cells : (p q : ℕ) → Reaches (RingStep sizes wall) p q
+      → Reaches (Passes (OwnWalls sizes wall)) (ring_cell sizes p) (ring_cell sizes q)
   ring_chain-cells = reaches-map (RingStep sizes wall) (Passes (OwnWalls sizes wall)) (ring_cell sizes)
       (λ p q step. reaches-step (Passes (OwnWalls sizes wall)) (ring_cell sizes p) (ring_cell sizes q) step.passes)
 
@@ -112,7 +122,8 @@ module _ (sizes : Sizes) (wall : Walls) where
   node n = ring_place sizes (nearest_cell sizes n)
 
   -- a step between two cells of the box or its ring is one between their nodes
-  step_of_cells : (n m : Cell) → IsRinged sizes n → IsRinged sizes m → Passes (OwnWalls sizes wall) n m → RingStep sizes wall (ring_place sizes n) (ring_place sizes m)
+  step_of_cells : (n m : Cell) → IsRinged sizes n → IsRinged sizes m → Passes (OwnWalls sizes wall) n m
+      → RingStep sizes wall (ring_place sizes n) (ring_place sizes m)
   step_of_cells n m n_ring m_ring passes = record {
     from = ring_place-below sizes n n_ring;
     to = ring_place-below sizes m m_ring;
@@ -122,15 +133,21 @@ module _ (sizes : Sizes) (wall : Walls) where
   -- a wall between the nearest cells of two neighbours is one between the two
   wall_of_nearest : (a : Axis) (n : Cell) → nearest_cell sizes (cell_before a n) ≡ cell_before a (nearest_cell sizes n)
       → OwnWalls sizes wall a (nearest_cell sizes n) → OwnWalls sizes wall a n
-  wall_of_nearest a n moved own = subst (OwnWalls sizes wall a) (nearest_cell-itself sizes n (ring (or_cases (is_within sizes n) (is_within sizes (cell_before a n)) has))) own
+  wall_of_nearest a n moved own = subst (OwnWalls sizes wall a) (nearest_cell-itself sizes n (ring (or_cases here back has))) own
     where
-      has : IsTrue (is_within sizes n || is_within sizes (cell_before a n))
-      has =
-          let here = nearest_cell-within sizes n in
-          let before : is_within sizes (cell_before a (nearest_cell sizes n)) ≡ is_within sizes (cell_before a n) = ap (is_within sizes) (sym moved) ∙ nearest_cell-within sizes (cell_before a n) in
-          sym (ap₂ ◌||◌ here before) ∙ own.0
+      here : Bool
+      here = is_within sizes n
 
-      ring : (is_within sizes n ≡ true) ⊎ (is_within sizes (cell_before a n) ≡ true) → IsRinged sizes n
+      back : Bool
+      back = is_within sizes (cell_before a n)
+
+      has : IsTrue (here || back)
+      has =
+          let same_here = nearest_cell-within sizes n in
+          let same_back = ap (is_within sizes) (sym moved) ∙ nearest_cell-within sizes (cell_before a n) in
+          sym (ap₂ ◌||◌ same_here same_back) ∙ own.0
+
+      ring : (here ≡ true) ⊎ (back ≡ true) → IsRinged sizes n
       ring (inl within) = within-ringed sizes n within
       ring (inr within) = behind_within-ringed sizes a n within
 
@@ -138,23 +155,30 @@ module _ (sizes : Sizes) (wall : Walls) where
   node_before : (a : Axis) (n : Cell) → (OwnWalls sizes wall a n → ⊥) → Reaches (RingStep sizes wall) (node n) (node (cell_before a n))
   node_before a n no_wall = by (nearest_cell-before sizes a n)
     where
-      by : (nearest_cell sizes (cell_before a n) ≡ nearest_cell sizes n) ⊎ (nearest_cell sizes (cell_before a n) ≡ cell_before a (nearest_cell sizes n))
-          → Reaches (RingStep sizes wall) (node n) (node (cell_before a n))
+      near : Cell
+      near = nearest_cell sizes n
+
+      near_before : Cell
+      near_before = nearest_cell sizes (cell_before a n)
+
+      by : (near_before ≡ near) ⊎ (near_before ≡ cell_before a near) → Reaches (RingStep sizes wall) (node n) (node (cell_before a n))
       by (inl same) = (zero, ap (ring_place sizes) (sym same))
       by (inr moved) = reaches-step (RingStep sizes wall) (node n) (node (cell_before a n))
-          (step_of_cells (nearest_cell sizes n) (nearest_cell sizes (cell_before a n)) (nearest_cell-ringed sizes n) (nearest_cell-ringed sizes (cell_before a n))
+          (step_of_cells near near_before (nearest_cell-ringed sizes n) (nearest_cell-ringed sizes (cell_before a n))
           (a, inl (moved, λ own. no_wall (wall_of_nearest a n moved own))))
 
   -- and so does each step
   node_step : (n m : Cell) → Passes (OwnWalls sizes wall) n m → Reaches (RingStep sizes wall) (node n) (node m)
   node_step n m (a, inl (e, no_wall)) = subst (λ c. Reaches (RingStep sizes wall) (node n) (node c)) (sym e) (node_before a n no_wall)
-  node_step n m (a, inr (e, no_wall)) = ring_chain-back (node m) (node n) (subst (λ c. Reaches (RingStep sizes wall) (node m) (node c)) (sym e) (node_before a m no_wall))
+  node_step n m (a, inr (e, no_wall)) =
+      ring_chain-back (node m) (node n) (subst (λ c. Reaches (RingStep sizes wall) (node m) (node c)) (sym e) (node_before a m no_wall))
 
   -- a chain between two cells of the box or its ring is one of their nodes
   pub cells-ring_chain : (n m : Cell) → IsRinged sizes n → IsRinged sizes m → Reaches (Passes (OwnWalls sizes wall)) n m
       → Reaches (RingStep sizes wall) (ring_place sizes n) (ring_place sizes m)
   cells-ring_chain n m n_ring m_ring chain =
-      subst₂ (Reaches (RingStep sizes wall)) (ap (ring_place sizes) (nearest_cell-itself sizes n n_ring)) (ap (ring_place sizes) (nearest_cell-itself sizes m m_ring))
+      let n_itself = nearest_cell-itself sizes n n_ring in let m_itself = nearest_cell-itself sizes m m_ring in
+      subst₂ (Reaches (RingStep sizes wall)) (ap (ring_place sizes) n_itself) (ap (ring_place sizes) m_itself)
       (reaches-map (Passes (OwnWalls sizes wall)) (RingStep sizes wall) node node_step n m chain)
 
   -- chains between the nodes of such cells are chains between the cells

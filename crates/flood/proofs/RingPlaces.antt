@@ -190,7 +190,8 @@ earlier-before sizes n m ring_n ring_m earlier = by (one_or_before n m)
     by (inr (inr after)) = let later = before-earlier sizes m n ring_m ring_n after in absurd (omega arith)
 
 -- the order of nodes is the order of cells
-pub earlier_iff_before : (sizes : Sizes) (n m : Cell) → IsRinged sizes n → IsRinged sizes m → (ring_place sizes n < ring_place sizes m) ↔ ComesBefore n m
+pub earlier_iff_before : (sizes : Sizes) (n m : Cell) → IsRinged sizes n → IsRinged sizes m
+    → (ring_place sizes n < ring_place sizes m) ↔ ComesBefore n m
 earlier_iff_before sizes n m ring_n ring_m = (earlier-before sizes n m ring_n ring_m, before-earlier sizes n m ring_n ring_m)
 
 -- ---- neighbours
@@ -202,7 +203,8 @@ ring_stride sizes Y = ringed sizes X
 ring_stride sizes Z = ringed sizes X * ringed sizes Y
 
 -- the node of the next cell along an axis
-pub ring_place-after : (sizes : Sizes) (a : Axis) (n : Cell) → IsRinged sizes n → ring_place sizes (cell_after a n) ≡ ring_place sizes n + ring_stride sizes a
+pub ring_place-after : (sizes : Sizes) (a : Axis) (n : Cell) → IsRinged sizes n
+    → ring_place sizes (cell_after a n) ≡ ring_place sizes n + ring_stride sizes a
 ring_place-after sizes a n ring = at a (next a (coordinate a n) (ring a).0)
   where
     next : (b : Axis) (z : ℤ) → negsuc 0 ≤ℤ z → place_of_number ((z +ℤ pos 1) +ℤ pos 1) ≡ place_of_number (z +ℤ pos 1) + 1
@@ -210,13 +212,15 @@ ring_place-after sizes a n ring = at a (next a (coordinate a n) (ring a).0)
     next b (negsuc zero) from = refl
     next b (negsuc (suc k)) from = absurd (omega (arith, ints))
 
-    at : (b : Axis) → place_of_number ((coordinate b n +ℤ pos 1) +ℤ pos 1) ≡ ring_number b n + 1 → ring_place sizes (cell_after b n) ≡ ring_place sizes n + ring_stride sizes b
+    at : (b : Axis) → place_of_number ((coordinate b n +ℤ pos 1) +ℤ pos 1) ≡ ring_number b n + 1
+        → ring_place sizes (cell_after b n) ≡ ring_place sizes n + ring_stride sizes b
     at X e = ap (λ k. (ring_number Z n * ringed sizes Y + ring_number Y n) * ringed sizes X + k) e ∙ omega arith
     at Y e = ap (λ k. (ring_number Z n * ringed sizes Y + k) * ringed sizes X + ring_number X n) e ∙ omega arith
     at Z e = ap (λ k. (k * ringed sizes Y + ring_number Y n) * ringed sizes X + ring_number X n) e ∙ omega arith
 
 -- and of a cell whose neighbour before it has a node
-pub ring_place-before : (sizes : Sizes) (a : Axis) (n : Cell) → IsRinged sizes (cell_before a n) → ring_place sizes n ≡ ring_place sizes (cell_before a n) + ring_stride sizes a
+pub ring_place-before : (sizes : Sizes) (a : Axis) (n : Cell) → IsRinged sizes (cell_before a n)
+    → ring_place sizes n ≡ ring_place sizes (cell_before a n) + ring_stride sizes a
 ring_place-before sizes a n ring = ap (ring_place sizes) (sym (after_before a)) ∙ ring_place-after sizes a (cell_before a n) ring
   where
     up_again : (z : ℤ) → (z -ℤ pos 1) +ℤ pos 1 ≡ z

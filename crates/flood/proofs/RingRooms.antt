@@ -34,8 +34,9 @@ module _ (sizes : Sizes) (wall : Walls) where
   -- a chain of nodes from the first one leads to whatever leads out
   pub first_node_iff_leads_out : (n : Cell) → IsRinged sizes n → Reaches (RingStep sizes wall) 0 (ring_place sizes n) ↔ LeadsOut sizes wall n
   first_node_iff_leads_out n ring = (
-    λ chain. (leads_out_iff_own sizes wall n).1
-        (first_corner, to_corner.0 (ring_chain-back sizes wall (ring_place sizes first_corner) (ring_place sizes n) (subst (λ p. Reaches (RingStep sizes wall) p (ring_place sizes n)) (sym start) chain)), refl),
+    λ chain. let from_corner = subst (λ p. Reaches (RingStep sizes wall) p (ring_place sizes n)) (sym start) chain in
+        (leads_out_iff_own sizes wall n).1
+        (first_corner, to_corner.0 (ring_chain-back sizes wall (ring_place sizes first_corner) (ring_place sizes n) from_corner), refl),
     λ leads. let own = (leads_out_iff_own sizes wall n).0 leads in
         subst (λ p. Reaches (RingStep sizes wall) p (ring_place sizes n)) start
         (ring_chain-back sizes wall (ring_place sizes n) (ring_place sizes first_corner) (to_corner.1
@@ -45,7 +46,8 @@ module _ (sizes : Sizes) (wall : Walls) where
       start : ring_place sizes first_corner ≡ 0
       start = first_corner-place sizes
 
-      to_corner : Reaches (RingStep sizes wall) (ring_place sizes n) (ring_place sizes first_corner) ↔ Reaches (Passes (OwnWalls sizes wall)) n first_corner
+      to_corner : Reaches (RingStep sizes wall) (ring_place sizes n) (ring_place sizes first_corner)
+          ↔ Reaches (Passes (OwnWalls sizes wall)) n first_corner
       to_corner = places_chain_iff_cells sizes wall n first_corner ring (first_corner-ringed sizes)
 
   -- the same by the node
@@ -76,7 +78,8 @@ room_of-earlier : (j k : ℕ) → j < suc k → IsEarlier k (room_of j)
 room_of-earlier zero k l = tt
 room_of-earlier (suc j) k l = omega arith
 
-module _ (sizes : Sizes) (wall : Walls) (numbers : List ℕ) (count : ℕ) (are : AreComponents (RingStep sizes wall) (ring_count sizes) numbers count) where
+module _ (sizes : Sizes) (wall : Walls) (numbers : List ℕ) (count : ℕ)
+    (are : AreComponents (RingStep sizes wall) (ring_count sizes) numbers count) where
   -- the first node is in the first component
   pub first_component : component numbers 0 ≡ 0
   first_component = at first.0 first.2 first.3
@@ -110,13 +113,15 @@ module _ (sizes : Sizes) (wall : Walls) (numbers : List ℕ) (count : ℕ) (are 
         let ring = ring_cell-ringed sizes p first.1 in
         let place = ring_place-ring_cell sizes p in
         let is : component numbers (ring_place sizes n) ≡ suc k = ap (component numbers) place ∙ first.2 in
-        let within = enclosed-within sizes wall n (λ leads. let none = (first_component_iff_leads_out n ring).1 leads in omega arith) in (
+        let leads_out = first_component_iff_leads_out n ring in
+        let within = enclosed-within sizes wall n (λ leads. let none = leads_out.1 leads in omega arith) in (
           n,
           within,
           at n within ∙ ap room_of is,
           λ m m_within before.
               let earlier = before-earlier sizes m n (within-ringed sizes m m_within) ring before in
-              subst (IsEarlier k) (sym (at m m_within)) (room_of-earlier (component numbers (ring_place sizes m)) k (first.3 (ring_place sizes m) (omega arith))),
+              let smaller = first.3 (ring_place sizes m) (omega arith) in
+              subst (IsEarlier k) (sym (at m m_within)) (room_of-earlier (component numbers (ring_place sizes m)) k smaller),
         )
 
     -- the rooms of a box, by the components of its ringed graph
@@ -124,8 +129,10 @@ module _ (sizes : Sizes) (wall : Walls) (numbers : List ℕ) (count : ℕ) (are 
     rooms_of_components = record {
       listed = listed;
       outside = λ n within.
-          let leads = first_component_iff_leads_out n (within-ringed sizes n within) in
-          (λ e. leads.0 (room_of-none (component numbers (ring_place sizes n)) (sym (at n within) ∙ e)), λ out. at n within ∙ ap room_of (leads.1 out));
+          let leads = first_component_iff_leads_out n (within-ringed sizes n within) in (
+            λ e. leads.0 (room_of-none (component numbers (ring_place sizes n)) (sym (at n within) ∙ e)),
+            λ out. at n within ∙ ap room_of (leads.1 out),
+          );
       joined = λ n m n_within m_within none.
           let n_ring = within-ringed sizes n n_within in let m_ring = within-ringed sizes m m_within in
           let p = ring_place sizes n in let q = ring_place sizes m in
