@@ -16,8 +16,9 @@ use Rattle.flood.specs.Ring.{ring_count, ring_place, ring_cell, OwnWalls, RingSt
 use Rattle.flood.proofs.RingPlaces.{IsRingedNumber, IsRinged, below-bounds, within-below, within-ringed, ring_place-below, ring_cell-ring_place, ring_cell-ringed, ring_place-ring_cell}
 use Rattle.flood.proofs.Outside.{passes-back}
 
--- ---- the nearest number from -1 to the size
+-- ---- numbers brought into the ring
 
+-- the nearest number from -1 to the size
 abbrev nearest : ℕ → ℤ → ℤ
 nearest size (pos k) = pos (min k size)
 nearest size (negsuc k) = negsuc 0
@@ -55,25 +56,30 @@ nearest-before size (pos (suc k)) = by (cases_lt k size)
     by (inr l) = let e : pos (min k size) ≡ pos (min (suc k) size) = omega (arith, ints) in inl (ap (nearest size) back ∙ e)
 nearest-before size (negsuc k) = inl refl
 
--- ---- the nearest cell of the box or its ring
+-- ---- cells brought into the ring
 
+-- the nearest cell of the box or its ring
 abbrev nearest_cell : Sizes → Cell → Cell
 nearest_cell sizes n = record { x = nearest (sizes X) n.x; y = nearest (sizes Y) n.y; z = nearest (sizes Z) n.z }
 
+-- it is such a cell
 nearest_cell-ringed : (sizes : Sizes) (n : Cell) → IsRinged sizes (nearest_cell sizes n)
 nearest_cell-ringed sizes n X = nearest-ringed (sizes X) n.x
 nearest_cell-ringed sizes n Y = nearest-ringed (sizes Y) n.y
 nearest_cell-ringed sizes n Z = nearest-ringed (sizes Z) n.z
 
+-- of such a cell it is the cell
 nearest_cell-itself : (sizes : Sizes) (n : Cell) → IsRinged sizes n → nearest_cell sizes n ≡ n
 nearest_cell-itself sizes n ring = same_coordinates (nearest_cell sizes n) n
     (nearest-itself (sizes X) n.x (ring X)) (nearest-itself (sizes Y) n.y (ring Y)) (nearest-itself (sizes Z) n.z (ring Z))
 
+-- it is in the box where the cell is
 nearest_cell-within : (sizes : Sizes) (n : Cell) → is_within sizes (nearest_cell sizes n) ≡ is_within sizes n
 nearest_cell-within sizes n =
     let x = nearest-below (sizes X) n.x in let y = nearest-below (sizes Y) n.y in let z = nearest-below (sizes Z) n.z in
     λ t. x t && (y t && z t)
 
+-- of the cell before it is the same, or the cell before
 nearest_cell-before : (sizes : Sizes) (a : Axis) (n : Cell)
     → (nearest_cell sizes (cell_before a n) ≡ nearest_cell sizes n) ⊎ (nearest_cell sizes (cell_before a n) ≡ cell_before a (nearest_cell sizes n))
 nearest_cell-before sizes a n = by a (nearest-before (sizes a) (coordinate a n))
@@ -87,6 +93,8 @@ nearest_cell-before sizes a n = by a (nearest-before (sizes a) (coordinate a n))
     by X = ⊎_elim (λ e. inl (λ t. placed X (e t) near)) (λ e. inr (λ t. placed X (e t) near))
     by Y = ⊎_elim (λ e. inl (λ t. placed Y (e t) near)) (λ e. inr (λ t. placed Y (e t) near))
     by Z = ⊎_elim (λ e. inl (λ t. placed Z (e t) near)) (λ e. inr (λ t. placed Z (e t) near))
+
+-- ---- chains
 
 -- a cell behind one of the box stands in the box or its ring
 behind_within-ringed : (sizes : Sizes) (a : Axis) (n : Cell) → IsTrue (is_within sizes (cell_before a n)) → IsRinged sizes n
