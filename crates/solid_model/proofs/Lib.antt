@@ -1,6 +1,7 @@
 pub mod Integers
 pub mod Lists
 pub mod ListPlaces
+pub mod Chains
 pub mod Fullness
 pub mod CellOrder
 pub mod SolidOrder

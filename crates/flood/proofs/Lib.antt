@@ -1,0 +1,5 @@
+pub mod RingPlaces
+pub mod Outside
+pub mod RingChains
+pub mod LeadingOut
+pub mod RingRooms
