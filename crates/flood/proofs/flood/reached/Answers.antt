@@ -2,6 +2,7 @@
 use Rattle.std.proofs.Common.{◌≡◌, ◌↔◌, ◌<◌, ℕ, List, [], false, length, map, get_or, replicate, IsTrue, ◌∙◌, sym, ap, subst, arith}
 use Rattle.std.proofs.lemmas.List.{length-map, length-replicate, get_or-map, take_at}
 use Rattle.std.proofs.lemmas.Bool.{ltb-true, lt-ltb}
+use Rattle.std.proofs.lemmas.Grind.{common_steps}
 use Rattle.flood.specs.Marks.{no_mark, mark_of, is_marked, IsMarked, Floods}
 use Rattle.flood.proofs.Spreading.{none_marked}
 use Rattle.flood.proofs.Flooding.{floods_exactly}
@@ -13,7 +14,7 @@ returns g c =
     let nodes = g.G.Graph.nodes c.args.graph.now in
     let marks = c.flood.new.marks in
     let begun : c.as_mut_slice.result.now ≡ replicate nodes no_mark =
-    c.as_mut_slice.ensures.value ∙ c.in_ok-marks.ensures.items ∙ ap (λ n. replicate n no_mark) c.node_count-size.ensures in
+    grind (arith, common_steps) in
     let floods : Floods step c.args.start 0 (replicate nodes no_mark) marks [] = rw begun at c.flood.ensures.floods in
     let told : c.tell.new.reached.items ≡ map is_marked marks = c.tell.ensures ∙ ap (map is_marked) (c.as_slice.ensures.value ∙ take_at marks _ c.in_ok-marks.marks.len (c.flood.auto.marks ∙ c.as_mut_slice.ensures.len)) in
     let long : length marks ≡ nodes = floods.size ∙ length-replicate nodes no_mark in
