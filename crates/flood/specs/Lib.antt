@@ -1,3 +1,4 @@
 pub mod Graph
 pub mod Marks
 pub mod Ring
+pub mod Passages

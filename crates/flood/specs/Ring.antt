@@ -1,8 +1,10 @@
 -- A box with a ring of cells round it, as a graph: whatever stands outside the box is one with the ring.
-use Rattle.std.specs.Prelude.{◌||◌, ℕ, zero, suc, ◌+◌, ◌/◌, ◌%◌, ◌<◌, Option, Some, None, pos, ◌-ℤ◌, ◌+ℤ◌, IsTrue}
+use Rattle.std.specs.Prelude.{◌||◌, ◌&&◌, Bool, ℕ, zero, suc, ◌+◌, ◌/◌, ◌%◌, ◌<◌, Option, Some, None, pos, negsuc, ◌-ℤ◌, ◌+ℤ◌, IsTrue}
+use Rattle.std.specs.Ordering.{int_eq}
+use Rattle.solid_model.specs.declared.cell.Axis.{Axis}
 use Rattle.solid_model.specs.declared.cell.Axis.TheVariants.{X, Y}
 use Rattle.solid_model.specs.declared.cell.Cell.{Cell}
-use Rattle.solid_model.specs.Cells.{cell_before}
+use Rattle.solid_model.specs.Cells.{coordinate, cell_before}
 use Rattle.solid_model.specs.Rooms.{Sizes, box_place, box_count, is_within, Walls, Passes}
 
 -- how many cells stand in a row with the ring: one more at either end
@@ -25,9 +27,13 @@ ring_cell sizes p = record {
   z = pos ((p / ringed sizes X) / ringed sizes Y) -ℤ pos 1;
 }
 
+-- one of the two cells on the sides of a face stands in the box
+abbrev pub touches_box : Sizes → Axis → Cell → Bool
+touches_box sizes a n = is_within sizes n || is_within sizes (cell_before a n)
+
 -- the walls that the box has: each has a cell of the box on at least one side
 abbrev pub OwnWalls : Sizes → Walls → Walls
-OwnWalls sizes wall a n = IsTrue (is_within sizes n || is_within sizes (cell_before a n)) × wall a n
+OwnWalls sizes wall a n = IsTrue (touches_box sizes a n) × wall a n
 
 -- one step of the graph
 pub record RingStep (sizes : Sizes) (wall : Walls) (p q : ℕ) : Type 0 where
@@ -39,3 +45,11 @@ pub record RingStep (sizes : Sizes) (wall : Walls) (p q : ℕ) : Type 0 where
 abbrev pub room_of : ℕ → Option ℕ
 room_of zero = None
 room_of (suc k) = Some k
+
+-- The number that a cell has in the box, by that which it has with the ring, whose first cell is (0, 0, 0).
+abbrev pub inner : Cell → Cell
+inner c = record { x = c.x -ℤ pos 1; y = c.y -ℤ pos 1; z = c.z -ℤ pos 1 }
+
+-- what bars the way back from a cell along an axis: nothing of the ring comes before it, or a wall of the box does
+abbrev pub is_barred : Sizes → (Axis → Cell → Bool) → Axis → Cell → Bool
+is_barred sizes stands a n = int_eq (coordinate a n) (negsuc 0) || (touches_box sizes a n && stands a n)

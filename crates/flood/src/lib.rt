@@ -4,7 +4,10 @@
 mod flood;
 mod graph;
 mod numbering;
+mod passages;
+mod walls;
 
 pub use flood::reached;
 pub use graph::Graph;
 pub use numbering::{Numbering, components};
+pub use walls::Walls;

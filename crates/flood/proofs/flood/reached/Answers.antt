@@ -1,9 +1,9 @@
 -- A node is told as reached exactly where it has a mark after the flood.
-use Rattle.std.proofs.Common.{◌≡◌, ◌↔◌, ◌<◌, ℕ, List, [], false, length, map, get_or, replicate, IsTrue, ◌∙◌, sym, ap, subst, arith}
+use Rattle.std.proofs.Common.{◌≡◌, [], false, length, map, get_or, replicate, ◌∙◌, sym, ap, arith}
 use Rattle.std.proofs.lemmas.List.{length-map, length-replicate, get_or-map, take_at}
 use Rattle.std.proofs.lemmas.Bool.{ltb-true, lt-ltb}
 use Rattle.std.proofs.lemmas.Grind.{common_steps}
-use Rattle.flood.specs.Marks.{no_mark, mark_of, is_marked, IsMarked, Floods}
+use Rattle.flood.specs.Marks.{no_mark, mark_of, is_marked, Floods}
 use Rattle.flood.proofs.Spreading.{none_marked}
 use Rattle.flood.proofs.Flooding.{floods_exactly}
 use Rattle.flood.proofs.flood.reached.Goals as goal

@@ -1,7 +1,7 @@
 -- One node more; and all of them.
-use Rattle.std.proofs.Common.{◌≡◌, ◌<◌, ◌≤◌, ◌+◌, length, vec_len, vec_capacity, ◌∙◌, sym, ap, subst, arith}
+use Rattle.std.proofs.Common.{◌≡◌, ◌<◌, ◌≤◌, length, vec_len, vec_capacity, ◌∙◌, sym, ap, subst, arith}
 use Rattle.std.proofs.lemmas.Grind.{common_steps}
-use Rattle.std.proofs.lemmas.List.{get_or_default, length-replicate}
+use Rattle.std.proofs.lemmas.List.{get_or_default}
 use Rattle.flood.specs.Marks.{no_mark, mark_of, IsMarked, Numbers}
 use Rattle.flood.proofs.Numbered.{numbers_skip, numbers_more}
 use Rattle.flood.proofs.numbering.number_nodes.Goals as goal
