@@ -1,4 +1,4 @@
 pub mod Graph
 pub mod Marks
-pub mod Ring
 pub mod Passages
+pub mod Ring

@@ -1,15 +1,24 @@
 -- A box with a ring of cells round it, as a graph: whatever stands outside the box is one with the ring.
-use Rattle.std.specs.Prelude.{◌||◌, ◌&&◌, Bool, ℕ, zero, suc, ◌+◌, ◌/◌, ◌%◌, ◌<◌, Option, Some, None, pos, negsuc, ◌-ℤ◌, ◌+ℤ◌, IsTrue}
+use Rattle.std.specs.Prelude.{◌≡◌, ◌||◌, ◌&&◌, Bool, ℕ, zero, suc, ◌+◌, ◌*◌, ◌/◌, ◌%◌, ◌<◌, Option, Some, None, ℤ, pos, negsuc, ◌-ℤ◌, ◌+ℤ◌, ◌≤ℤ◌, IsTrue}
 use Rattle.std.specs.Ordering.{int_eq}
 use Rattle.solid_model.specs.declared.cell.Axis.{Axis}
-use Rattle.solid_model.specs.declared.cell.Axis.TheVariants.{X, Y}
+use Rattle.solid_model.specs.declared.cell.Axis.TheVariants.{X, Y, Z}
 use Rattle.solid_model.specs.declared.cell.Cell.{Cell}
 use Rattle.solid_model.specs.Cells.{coordinate, cell_before}
 use Rattle.solid_model.specs.Rooms.{Sizes, box_place, box_count, is_within, Walls, Passes}
+use Rattle.flood.specs.Passages.{PassageParts, has_bar}
 
 -- how many cells stand in a row with the ring: one more at either end
 abbrev pub ringed : Sizes → Sizes
 ringed sizes a = sizes a + 2
+
+-- a number stands from -1 to the size
+abbrev pub IsRingedNumber : ℕ → ℤ → Type 0
+IsRingedNumber size z = (negsuc 0 ≤ℤ z) × (z ≤ℤ pos size)
+
+-- a cell stands in the box or in its ring
+abbrev pub IsRinged : Sizes → Cell → Type 0
+IsRinged sizes n = (a : Axis) → IsRingedNumber (sizes a) (coordinate a n)
 
 -- how many nodes the graph has
 abbrev pub ring_count : Sizes → ℕ
@@ -26,6 +35,12 @@ ring_cell sizes p = record {
   y = pos ((p / ringed sizes X) % ringed sizes Y) -ℤ pos 1;
   z = pos ((p / ringed sizes X) / ringed sizes Y) -ℤ pos 1;
 }
+
+-- how far apart the nodes of two neighbours along an axis are
+abbrev pub ring_stride : Sizes → Axis → ℕ
+ring_stride sizes X = 1
+ring_stride sizes Y = ringed sizes X
+ring_stride sizes Z = ringed sizes X * ringed sizes Y
 
 -- one of the two cells on the sides of a face stands in the box
 abbrev pub touches_box : Sizes → Axis → Cell → Bool
@@ -53,3 +68,9 @@ inner c = record { x = c.x -ℤ pos 1; y = c.y -ℤ pos 1; z = c.z -ℤ pos 1 }
 -- what bars the way back from a cell along an axis: nothing of the ring comes before it, or a wall of the box does
 abbrev pub is_barred : Sizes → (Axis → Cell → Bool) → Axis → Cell → Bool
 is_barred sizes stands a n = int_eq (coordinate a n) (negsuc 0) || (touches_box sizes a n && stands a n)
+
+-- the nodes of the ringed box with such bars before them
+pub record ArePassages (sizes : Sizes) (stands : Axis → Cell → Bool) (g : PassageParts) : Type 0 where
+  pub count : g.count ≡ ring_count sizes
+  pub strides : g.strides ≡ ring_stride sizes
+  pub bars : (a : Axis) (n : Cell) → IsRinged sizes n → has_bar g a (ring_place sizes n) ≡ is_barred sizes stands a n
