@@ -24,9 +24,17 @@ IsRinged sizes n = (a : Axis) → IsRingedNumber (sizes a) (coordinate a n)
 abbrev pub ring_count : Sizes → ℕ
 ring_count sizes = box_count (ringed sizes)
 
+-- The number that a cell has in the box, by that which it has with the ring, whose first cell is (0, 0, 0).
+abbrev pub inner : Cell → Cell
+inner c = record { x = c.x -ℤ pos 1; y = c.y -ℤ pos 1; z = c.z -ℤ pos 1 }
+
+-- and the other way round
+abbrev pub outer : Cell → Cell
+outer n = record { x = n.x +ℤ pos 1; y = n.y +ℤ pos 1; z = n.z +ℤ pos 1 }
+
 -- the node that stands for a cell of the box or of the ring, in which the box's first cell is (1, 1, 1)
 abbrev pub ring_place : Sizes → Cell → ℕ
-ring_place sizes n = box_place (ringed sizes) (record { x = n.x +ℤ pos 1; y = n.y +ℤ pos 1; z = n.z +ℤ pos 1 })
+ring_place sizes n = box_place (ringed sizes) (outer n)
 
 -- the cell for which a node stands
 abbrev pub ring_cell : Sizes → ℕ → Cell
@@ -60,10 +68,6 @@ pub record RingStep (sizes : Sizes) (wall : Walls) (p q : ℕ) : Type 0 where
 abbrev pub room_of : ℕ → Option ℕ
 room_of zero = None
 room_of (suc k) = Some k
-
--- The number that a cell has in the box, by that which it has with the ring, whose first cell is (0, 0, 0).
-abbrev pub inner : Cell → Cell
-inner c = record { x = c.x -ℤ pos 1; y = c.y -ℤ pos 1; z = c.z -ℤ pos 1 }
 
 -- what bars the way back from a cell along an axis: nothing of the ring comes before it, or a wall of the box does
 abbrev pub is_barred : Sizes → (Axis → Cell → Bool) → Axis → Cell → Bool

@@ -5,6 +5,7 @@ mod flood;
 mod graph;
 mod numbering;
 mod passages;
+mod ring;
 mod walls;
 
 pub use flood::reached;
