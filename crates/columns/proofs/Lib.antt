@@ -2,6 +2,5 @@ pub mod FirstBits
 pub mod Pushed
 pub mod GridColumns
 pub mod Stretched
-pub mod Gaps
 pub mod GridSegments
 pub mod GridStyles

@@ -2,6 +2,9 @@ pub mod Integers
 pub mod Lists
 pub mod ListPlaces
 pub mod Chains
+pub mod Gaps
+pub mod GridFillings
+pub mod GridSegmentStyles
 pub mod Fullness
 pub mod CellOrder
 pub mod SolidOrder
