@@ -1,12 +1,13 @@
 -- The style that a grid gives a segment is that of its first unit segment.
-use Rattle.std.proofs.Common.{◌≡◌, Bool, true, ◌&&◌, ℕ, suc, ◌+◌, ◌*◌, ◌-◌, ◌<◌, List, length, map, get_or, slice_index_or, nat_lt, ℤ, pos, if◌then◌else◌, refl, ap, sym, subst, ◌∙◌, arith}
-use Rattle.std.proofs.lemmas.Bool.{and_from, lt-ltb}
+use Rattle.std.proofs.Common.{◌≡◌, Bool, true, false, ◌&&◌, ℕ, suc, ◌+◌, ◌*◌, ◌-◌, ◌<◌, List, length, map, get_or, slice_index_or, nat_lt, ℤ, pos, negsuc, if◌then◌else◌, refl, ap, sym, subst, ◌∙◌, arith}
+use Rattle.std.proofs.lemmas.Bool.{false≢true, and_from, lt-ltb, ltb-true}
 use Rattle.std.proofs.lemmas.List.{length-map, get_or-map, get_or-take}
 use Rattle.solid_model.specs.declared.frame.View.{View}
 use Rattle.solid_model.specs.declared.segment.Segment.{Segment}
 use Rattle.solid_model.specs.declared.segment.Style.{Style}
 use Rattle.solid_model.specs.declared.segment.Style.TheVariants.{Blank}
 use Rattle.solid_model.specs.Panels.{GridParts, coordinates_of, panel_of, styles_along, starts_of, AreGridStyles}
+use Rattle.solid_model.specs.Rooms.{is_below, place_of_number}
 use Rattle.solid_model.specs.Segments.{segment_at}
 use Rattle.solid_model.specs.Wire.{grid_sizes, axis_along, axis_across, grid_style}
 use Rattle.solid_model.proofs.Corners.{length-starts_of}
@@ -43,3 +44,12 @@ module _ (drawing : Segment → Style) (g : GridParts) (styles : AreGridStyles d
 
       within : (nat_lt line (suc (grid_sizes g (axis_across v upright))) && nat_lt cell size) ≡ true
       within = and_from _ _ (lt-ltb line (suc (grid_sizes g (axis_across v upright))) (let l = at_line in omega arith)) (lt-ltb cell size at_cell)
+
+  -- the same by whole numbers
+  pub grid_style-at : (v : View) (upright : Bool) (line cell : ℤ)
+      → is_below (length (coordinates_of g (axis_across v upright))) line ≡ true → is_below (grid_sizes g (axis_along v upright)) cell ≡ true
+      → grid_style g v upright line cell ≡ drawing (segment_at v upright
+      (member (coordinates_of g (axis_along v upright)) (place_of_number cell)) (member (coordinates_of g (axis_across v upright)) (place_of_number line)))
+  grid_style-at v upright (pos line) (pos cell) at_line at_cell = grid_style-drawing v upright line cell (ltb-true _ _ at_line) (ltb-true _ _ at_cell)
+  grid_style-at v upright (pos line) (negsuc cell) at_line at_cell = absurd (false≢true at_cell)
+  grid_style-at v upright (negsuc line) cell at_line at_cell = absurd (false≢true at_line)

@@ -5,6 +5,11 @@ pub mod Chains
 pub mod Gaps
 pub mod GridFillings
 pub mod GridSegmentStyles
+pub mod BoxPlaces
+pub mod GridFullness
+pub mod GridEdges
+pub mod PseudoEdges
+pub mod ConstantOnBlocks
 pub mod Fullness
 pub mod CellOrder
 pub mod SolidOrder

@@ -173,6 +173,23 @@ pub has_edge_at : (f : Frame) → IsFrame f → (full : Cell → Bool) (v : View
 has_edge_at f is full v true i j k = has_edge_is f is full (segment_at v true i j) k
 has_edge_at f is full v false i j k = has_edge_is f is full (segment_at v false i j) k
 
+-- the coordinate of the point at the place of a coordinate is that coordinate
+pub point_on_twice : (d : Direction) (z : ℤ) → point_on d (point_on d z) ≡ z
+point_on_twice d z = turned d.forward
+  where
+    turned : (b : Bool) → (if b then (if b then z else neg_ℤ z) else neg_ℤ (if b then z else neg_ℤ z)) ≡ z
+    turned true = refl
+    turned false = omega (arith, ints)
+
+-- in a view, by the edge's own point
+pub has_edge_from : (full : Cell → Bool) (v : View) (upright : Bool) (i j k : ℤ)
+    → has_edge (frame_of v) full (segment_at v upright i j) (point_on (frame_of v).away k)
+    ≡ is_edge full (along (frame_of v) upright).axis (at_places (along (frame_of v) upright).axis i (across (frame_of v) upright).axis j (frame_of v).away.axis k)
+has_edge_from full v true i j k = λ t. is_edge full (along (frame_of v) true).axis (at_places (along (frame_of v) true).axis (forward_cell (along (frame_of v) true) i (runs_forward v true) t)
+    (across (frame_of v) true).axis (forward_point (across (frame_of v) true) j (stands_forward v true) t) (frame_of v).away.axis (point_on_twice (frame_of v).away k t))
+has_edge_from full v false i j k = λ t. is_edge full (along (frame_of v) false).axis (at_places (along (frame_of v) false).axis (forward_cell (along (frame_of v) false) i (runs_forward v false) t)
+    (across (frame_of v) false).axis (forward_point (across (frame_of v) false) j (stands_forward v false) t) (frame_of v).away.axis (point_on_twice (frame_of v).away k t))
+
 -- the coordinate of the cell at the place of a coordinate is that coordinate
 cell_on_turned : (forward : Bool) (axis : Axis) (z : ℤ)
     → cell_on (record { axis = axis; forward = forward }) (cell_on (record { axis = axis; forward = forward }) z) ≡ z
@@ -181,14 +198,6 @@ cell_on_turned false axis z = omega (arith, ints)
 
 pub cell_on_twice : (d : Direction) (z : ℤ) → cell_on d (cell_on d z) ≡ z
 cell_on_twice d z = cell_on_turned d.forward d.axis z
-
--- the coordinate of the point at the place of a coordinate is that coordinate
-pub point_on_twice : (d : Direction) (z : ℤ) → point_on d (point_on d z) ≡ z
-point_on_twice d z = turned d.forward
-  where
-    turned : (b : Bool) → (if b then (if b then z else neg_ℤ z) else neg_ℤ (if b then z else neg_ℤ z)) ≡ z
-    turned true = refl
-    turned false = omega (arith, ints)
 
 -- a cell is the one at its own coordinates, along three axes
 pub at_own_coordinates : (cell : Cell) (a b c : Axis) → AreAcross a b c → at_places a (coordinate a cell) b (coordinate b cell) c (coordinate c cell) ≡ cell
