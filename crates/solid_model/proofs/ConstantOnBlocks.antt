@@ -1,5 +1,5 @@
 -- A matching solid is constant on each block and empty outside.
-use Rattle.std.proofs.Common.{◌≡◌, ◌≢◌, ◌⊎◌, inl, inr, Bool, true, false, suc, List, pos, ◌-ℤ◌, IsTrue, refl, sym, ap, subst, ◌∙◌, arith}
+use Rattle.std.proofs.Common.{◌≡◌, ◌≢◌, inl, inr, Bool, true, false, suc, List, pos, ◌-ℤ◌, IsTrue, refl, sym, ap, subst, ◌∙◌, arith}
 use Rattle.std.proofs.lemmas.Bool.{false≢true, true≢false, both_ways, or_parts, cond-true, cond-false, false_from_ne_true, true_from_ne_false}
 use Rattle.solid_model.specs.declared.cell.Axis.{Axis}
 use Rattle.solid_model.specs.declared.cell.Axis.TheVariants.{X, Y, Z}
@@ -7,7 +7,7 @@ use Rattle.solid_model.specs.declared.cell.Cell.{Cell}
 use Rattle.solid_model.specs.declared.segment.Segment.{Segment}
 use Rattle.solid_model.specs.declared.segment.Style.{Style}
 use Rattle.solid_model.specs.Blocks.{Joined, IsOutside}
-use Rattle.solid_model.specs.Cells.{coordinate, placed, cell_before, is_full}
+use Rattle.solid_model.specs.Cells.{coordinate, cell_before, is_full}
 use Rattle.solid_model.specs.Edges.{is_edge}
 use Rattle.solid_model.specs.Grid.{LiesInGridCell}
 use Rattle.solid_model.specs.Matching.{Matches}
@@ -91,7 +91,7 @@ module _ (drawing : Segment → Style) (g : GridParts) (grid : IsGridOf drawing 
       n m (λ flat. flat) chain (flat_outside a m out)
 
   -- so the cells on both sides of a face that isn't virtual agree
-  flat_unless_virtual : (a : Axis) (n : Cell) → (IsVirtual g a n → ⊥) → IsFlatFace full a n
+  pub flat_unless_virtual : (a : Axis) (n : Cell) → (IsVirtual g a n → ⊥) → IsFlatFace full a n
   flat_unless_virtual a n none = never_differ (full n) (full (cell_before a n)) (λ differ.
       none (true_from_ne_false _ (λ out. differ (flat_outside a n out)), λ leads. differ (flat_where_leading_out a n leads)))
 

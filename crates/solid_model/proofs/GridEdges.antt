@@ -1,8 +1,7 @@
 -- A grid edge that is an edge of a matching solid is drawn in both views that show it as a segment.
-use Rattle.std.proofs.Common.{◌≡◌, ◌≢◌, Bool, true, not, List, ℤ, IsTrue, refl, ap, sym, ◌∙◌}
+use Rattle.std.proofs.Common.{◌≡◌, ◌≢◌, Bool, true, not, List, ℤ, refl, ap, ◌∙◌}
 use Rattle.solid_model.specs.declared.cell.Axis.{Axis}
 use Rattle.solid_model.specs.declared.cell.Cell.{Cell}
-use Rattle.solid_model.specs.declared.frame.Frame.{Frame}
 use Rattle.solid_model.specs.declared.frame.View.{View}
 use Rattle.solid_model.specs.declared.segment.Segment.{Segment}
 use Rattle.solid_model.specs.declared.segment.Style.{Style}

@@ -1,5 +1,5 @@
 -- A matching solid, counted in grid cells: round a grid edge it fills the cells that it fills round the unit edge at its beginning.
-use Rattle.std.proofs.Common.{◌≡◌, ◌⊎◌, inl, inr, ⊎_elim, Bool, true, false, ◌&&◌, ℕ, zero, suc, ◌-◌, List, length, ℤ, pos, negsuc, ◌-ℤ◌, ◌<ℤ◌, refl, ap, sym, subst, ◌∙◌, arith}
+use Rattle.std.proofs.Common.{◌≡◌, inl, ⊎_elim, Bool, true, false, ◌&&◌, ℕ, zero, suc, ◌-◌, List, length, ℤ, pos, negsuc, ◌-ℤ◌, ◌<ℤ◌, refl, ap, sym, subst, ◌∙◌, arith}
 use Rattle.std.proofs.lemmas.Bool.{false≢true, both_ways, false_from_ne_true, true_from_ne_false, ltb-true, ltb-false, lt-ltb}
 use Rattle.std.proofs.lemmas.Int.{ints}
 use Rattle.solid_model.specs.declared.cell.Axis.{Axis}
@@ -51,9 +51,9 @@ module _ (zs : List ℤ) (ascends : Ascends ◌<ℤ◌ zs) where
   stands_before (pos (suc k)) h =
       let before : pos k ≡ pos (suc k) -ℤ pos 1 = omega (arith, ints) in
       subst (λ j. StandsAt zs j (member_of zs (pos (suc k)) -ℤ pos 1)) before (record {
-    inside = λ e. ends_gap zs ascends k (ltb-true (suc k) (length zs) h);
-    outside = λ e. absurd (both_ways _ e (lt-ltb k (length zs - 1) (let l = ltb-true (suc k) (length zs) h in omega arith)));
-  })
+        inside = λ e. ends_gap zs ascends k (ltb-true (suc k) (length zs) h);
+        outside = λ e. absurd (both_ways _ e (lt-ltb k (length zs - 1) (let l = ltb-true (suc k) (length zs) h in omega arith)));
+      })
   stands_before (negsuc k) h = absurd (false≢true h)
 
 -- ---- a matching solid

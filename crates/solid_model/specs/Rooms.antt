@@ -1,9 +1,9 @@
 -- Boxes of cells with walls between them, and their rooms.
-use Rattle.std.specs.Prelude.{◌≡◌, ◌⊎◌, ◌↔◌, Bool, true, false, ◌&&◌, ◌||◌, ℕ, suc, nat_lt, ◌+◌, ◌*◌, ◌<◌, List, length, slice_index_or, Option, Some, None, ℤ, pos, negsuc, IsTrue, if◌then◌else◌}
+use Rattle.std.specs.Prelude.{◌≡◌, ◌⊎◌, ◌↔◌, Bool, true, false, ◌&&◌, ℕ, suc, nat_lt, ◌+◌, ◌*◌, ◌<◌, List, length, slice_index_or, Option, Some, None, ℤ, pos, negsuc, IsTrue, if◌then◌else◌}
 use Rattle.solid_model.specs.declared.cell.Axis.{Axis}
 use Rattle.solid_model.specs.declared.cell.Axis.TheVariants.{X, Y, Z}
 use Rattle.solid_model.specs.declared.cell.Cell.{Cell}
-use Rattle.solid_model.specs.Cells.{coordinate, cell_before}
+use Rattle.solid_model.specs.Cells.{cell_before}
 use Rattle.solid_model.specs.Chains.{Reaches}
 use Rattle.solid_model.specs.Orders.{ComesBefore}
 

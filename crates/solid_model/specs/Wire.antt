@@ -3,7 +3,7 @@
 --
 -- Counted by its own coordinates, a grid is once more a box of cells from (0, 0, 0): the grid cell (x, y, z) reaches from the
 -- x-th coordinate of the x axis to the next one, and so along y and z, and the grid point (x, y, z) is its least corner.
-use Rattle.std.specs.Prelude.{◌≡◌, Bool, true, false, not, ◌&&◌, ◌||◌, ℕ, suc, ◌+◌, ◌*◌, nat_lt, List, slice_index_or, ℤ, pos, IsTrue, if◌then◌else◌}
+use Rattle.std.specs.Prelude.{◌≡◌, Bool, true, false, not, ◌&&◌, ◌||◌, suc, ◌+◌, ◌*◌, nat_lt, List, slice_index_or, ℤ, pos, IsTrue, if◌then◌else◌}
 use Rattle.solid_model.specs.declared.cell.Axis.{Axis}
 use Rattle.solid_model.specs.declared.cell.Cell.{Cell}
 use Rattle.solid_model.specs.declared.frame.View.{View}
