@@ -20,12 +20,13 @@ use Rattle.solid_model.specs.Grid.{Coordinates, GridCell, is_in_gap, LiesInGridC
 use Rattle.solid_model.specs.Lists.{Ascends}
 use Rattle.solid_model.specs.Segments.{segment_at}
 use Rattle.solid_model.proofs.ColumnRule.{columns_drawn}
+use Rattle.solid_model.proofs.InGrid.{gap_or_none}
 use Rattle.solid_model.proofs.Styles.{one_style, drawn_style_drawn}
 use Rattle.solid_model.proofs.Views.{views_are_frames, across_each, each_axis, across_along, across_next, across_turned, cell_on_twice, places_of_cell_in, runs_forward, stands_forward, forward_cell}
 use Rattle.columns.specs.Bits.{bits}
 use Rattle.columns.specs.GridColumns.{by_axis, numbered, number_on, grid_cell_in, grid_column}
 use Rattle.columns.specs.GridPanels.{place_right, place_up, IsColumnBeside, AreColumnsBeside}
-use Rattle.solid_model.proofs.Gaps.{member, lies_in, some_gap_or_none, gaps_keep_order, begins_gap, ends_gap, last_in_none, before_first_in_none}
+use Rattle.solid_model.proofs.Gaps.{member, lies_in, gaps_keep_order, begins_gap, ends_gap, last_in_none, before_first_in_none}
 use Rattle.columns.proofs.Stretched.{KeepsOrder, IsStretched, stretched_draw}
 
 -- ---- axes and frames
@@ -182,8 +183,8 @@ module _ (coordinates : Coordinates) (ordered : (a : Axis) → Ascends ◌<ℤ�
           (λ gap. depth_of_gap coordinates ordered f.away.forward f.away.axis k gap.0 gap.1)
           (λ none. absurd (both_ways (unit_column k) (union.outside (cell_in f upright i j k) (λ lies.
           let gap = lies f.away.axis in
-          none gap.0 (subst (λ z. is_in_gap (coordinates f.away.axis) gap.0 z ≡ true) (stands_at i j k).deep gap.1))) e))
-          (some_gap_or_none (coordinates f.away.axis) (cell_on f.away k))
+          none (gap.0, subst (λ z. is_in_gap (coordinates f.away.axis) gap.0 z ≡ true) (stands_at i j k).deep gap.1))) e))
+          (gap_or_none (coordinates f.away.axis) (ordered f.away.axis) (cell_on f.away k))
 
       first_of : (d : ℤ) → grid_column f sizes chosen right up d ≡ true → (k : ℤ) × comes k d × ((n : ℤ) → comes n d → k ≤ℤ n)
       first_of (pos d) e = first_depth coordinates ordered f.away.forward f.away.axis d (depth_within f sizes chosen right up d e)

@@ -10,34 +10,36 @@ use Rattle.solid_model.specs.Rooms.{Sizes, is_below, is_within}
 
 -- ---- numbers within a size
 
-pub is_below-range : (n : ℕ) (z : ℤ) → is_below n z ≡ true → (pos 0 ≤ℤ z) × (z <ℤ pos n)
-is_below-range n (pos k) h = let l = ltb-true k n h in (omega (arith, ints), omega (arith, ints))
-is_below-range n (negsuc k) h = absurd (false≢true h)
+-- a number of the box stands between its ends
+pub below-bounds : (size : ℕ) (z : ℤ) → is_below size z ≡ true → (pos 0 ≤ℤ z) × (z <ℤ pos size)
+below-bounds size (pos k) below = let l = ltb-true k size below in (omega (arith, ints), omega (arith, ints))
+below-bounds size (negsuc k) below = absurd (false≢true below)
 
-pub is_below-from : (n : ℕ) (z : ℤ) → pos 0 ≤ℤ z → z <ℤ pos n → is_below n z ≡ true
-is_below-from n (pos k) from to = lt-ltb k n (omega (arith, ints))
-is_below-from n (negsuc k) from to = absurd (omega (arith, ints))
+-- and what stands between them is one
+pub bounds-below : (size : ℕ) (z : ℤ) → pos 0 ≤ℤ z → z <ℤ pos size → is_below size z ≡ true
+bounds-below size (pos k) from to = lt-ltb k size (omega (arith, ints))
+bounds-below size (negsuc k) from to = absurd (omega (arith, ints))
 
 -- what is within a size is within a greater one
-pub is_below-more : (m n : ℕ) → m ≤ n → (z : ℤ) → is_below m z ≡ true → is_below n z ≡ true
-is_below-more m n l z h = let r = is_below-range m z h in is_below-from n z r.0 (omega (arith, ints, r.1))
+pub below-more : (m n : ℕ) → m ≤ n → (z : ℤ) → is_below m z ≡ true → is_below n z ≡ true
+below-more m n l z below = let r = below-bounds m z below in bounds-below n z r.0 (omega (arith, ints, r.1))
 
 -- and so is the number after it
-pub is_below-next : (m n : ℕ) → m ≤ n - 1 → (z : ℤ) → is_below m (z -ℤ pos 1) ≡ true → is_below n z ≡ true
-is_below-next m n l z h = let r = is_below-range m (z -ℤ pos 1) h in is_below-from n z (omega (arith, ints, r.0)) (omega (arith, ints, r.0, r.1))
+pub below-next : (m n : ℕ) → m ≤ n - 1 → (z : ℤ) → is_below m (z -ℤ pos 1) ≡ true → is_below n z ≡ true
+below-next m n l z below = let r = below-bounds m (z -ℤ pos 1) below in bounds-below n z (omega (arith, ints, r.0)) (omega (arith, ints, r.0, r.1))
 
 -- ---- cells within a box
 
--- a cell within a box is so along each axis
-pub within-along : (sizes : Sizes) (n : Cell) → is_within sizes n ≡ true → (a : Axis) → is_below (sizes a) (coordinate a n) ≡ true
-within-along sizes n h X = (and_parts _ _ h).0
-within-along sizes n h Y = (and_parts _ _ (and_parts (is_below (sizes X) n.x) _ h).1).0
-within-along sizes n h Z = (and_parts _ _ (and_parts (is_below (sizes X) n.x) _ h).1).1
+-- a cell of the box has each of its numbers in the box
+pub within-below : (sizes : Sizes) (n : Cell) → is_within sizes n ≡ true → (a : Axis) → is_below (sizes a) (coordinate a n) ≡ true
+within-below sizes n within X = (and_parts _ _ within).0
+within-below sizes n within Y = (and_parts _ _ (and_parts (is_below (sizes X) n.x) _ within).1).0
+within-below sizes n within Z = (and_parts _ _ (and_parts (is_below (sizes X) n.x) _ within).1).1
 
--- and one outside isn't along some axis
-pub outside-along : (sizes : Sizes) (n : Cell) → is_within sizes n ≡ false → (a : Axis) × (is_below (sizes a) (coordinate a n) ≡ false)
-outside-along sizes n h = ⊎_elim {C = Out} (λ e. (X, e))
-    (λ rest. ⊎_elim {C = Out} (λ e. (Y, e)) (λ e. (Z, e)) (and_cases (is_below (sizes Y) n.y) _ rest)) (and_cases (is_below (sizes X) n.x) _ h)
+-- and one outside has some number that isn't
+pub outside-below : (sizes : Sizes) (n : Cell) → is_within sizes n ≡ false → (a : Axis) × (is_below (sizes a) (coordinate a n) ≡ false)
+outside-below sizes n out = ⊎_elim {C = Out} (λ e. (X, e))
+    (λ rest. ⊎_elim {C = Out} (λ e. (Y, e)) (λ e. (Z, e)) (and_cases (is_below (sizes Y) n.y) _ rest)) (and_cases (is_below (sizes X) n.x) _ out)
   where
     Out : Type 0
     Out = (a : Axis) × (is_below (sizes a) (coordinate a n) ≡ false)

@@ -15,7 +15,7 @@ use Rattle.solid_model.specs.Panels.{GridParts, coordinates_of, IsGridOf}
 use Rattle.solid_model.specs.Rooms.{is_below, is_within, same_axis, face_sizes, Passes, LeadsOut}
 use Rattle.solid_model.specs.VirtualFaces.{axis_across_both, is_barred, Bars, IsVirtual}
 use Rattle.solid_model.specs.Wire.{grid_sizes, numbers_of, IsGridFullness}
-use Rattle.solid_model.proofs.BoxPlaces.{is_below-more, is_below-next, outside-along}
+use Rattle.solid_model.proofs.BoxPlaces.{below-more, below-next, outside-below}
 use Rattle.solid_model.proofs.Chains.{reaches-keeps}
 use Rattle.solid_model.proofs.GridFillings.{IsFlatFace, flat_after, flat_before}
 use Rattle.solid_model.proofs.GridFullness.{full_within, grid_fullness, is_grid_fullness}
@@ -50,7 +50,8 @@ module _ (drawing : Segment → Style) (g : GridParts) (grid : IsGridOf drawing 
       let parts = or_parts (same_axis a b) _ (false_from_ne_true (is_barred g a b n) unbarred) in
       record {
         other = parts.0;
-        no_edge = false_from_ne_true _ (λ edge. both_ways _ parts.1 (edges_are_pseudo drawing g grid s matches full counts (axis_across_both a b) n edge));
+        no_edge = false_from_ne_true _ (λ edge. both_ways _ parts.1
+            (edges_are_pseudo drawing g grid s matches full counts (axis_across_both a b) n edge));
       }
 
   -- so the cells on both sides of one agree where those of the other do
@@ -68,20 +69,22 @@ module _ (drawing : Segment → Style) (g : GridParts) (grid : IsGridOf drawing 
 
   -- outside the box of faces both cells are empty
   flat_outside : (a : Axis) (n : Cell) → is_within (face_sizes (grid_sizes g) a) n ≡ false → IsFlatFace full a n
-  flat_outside a n out = let along = outside-along (face_sizes (grid_sizes g) a) n out in by along.0 (same_axis a along.0) refl along.1
+  flat_outside a n out = let along = outside-below (face_sizes (grid_sizes g) a) n out in by along.0 (same_axis a along.0) refl along.1
     where
       by : (b : Axis) (t : Bool) → same_axis a b ≡ t → is_below (face_sizes (grid_sizes g) a b) (coordinate b n) ≡ false → IsFlatFace full a n
       by b true same beyond =
           let size = grid_sizes g b in
-          let e : is_below (suc size) (coordinate b n) ≡ false = ap (λ k. is_below k (coordinate b n)) (sym (cond-true (same_axis a b) (suc size) size same)) ∙ beyond in
+          let e : is_below (suc size) (coordinate b n) ≡ false =
+          ap (λ k. is_below k (coordinate b n)) (sym (cond-true (same_axis a b) (suc size) size same)) ∙ beyond in
           let before : coordinate b (cell_before a n) ≡ coordinate b n -ℤ pos 1 =
-          subst (λ x. coordinate b (cell_before x n) ≡ coordinate b n -ℤ pos 1) (sym (same_axis-true a b same)) (placed_at b (coordinate b n -ℤ pos 1) n) in
-          empty_along n b (false_from_ne_true _ (λ h. both_ways _ e (is_below-more size (suc size) (omega arith) (coordinate b n) h)))
+          ap (λ x. coordinate b (cell_before x n)) (same_axis-true a b same) ∙ placed_at b (coordinate b n -ℤ pos 1) n in
+          empty_along n b (false_from_ne_true _ (λ h. both_ways _ e (below-more size (suc size) (omega arith) (coordinate b n) h)))
           ∙ sym (empty_along (cell_before a n) b (ap (is_below size) before
-          ∙ false_from_ne_true _ (λ h. both_ways _ e (is_below-next size (suc size) (omega arith) (coordinate b n) h))))
+          ∙ false_from_ne_true _ (λ h. both_ways _ e (below-next size (suc size) (omega arith) (coordinate b n) h))))
       by b false other beyond =
           let size = grid_sizes g b in
-          let e : is_below size (coordinate b n) ≡ false = ap (λ k. is_below k (coordinate b n)) (sym (cond-false (same_axis a b) (suc size) size other)) ∙ beyond in
+          let e : is_below size (coordinate b n) ≡ false =
+          ap (λ k. is_below k (coordinate b n)) (sym (cond-false (same_axis a b) (suc size) size other)) ∙ beyond in
           empty_along n b e ∙ sym (empty_along (cell_before a n) b (ap (is_below size) (kept_coordinate a b n other) ∙ e))
 
   -- from a chain's end outside the cells on both sides agree all along it
@@ -123,7 +126,8 @@ module _ (drawing : Segment → Style) (g : GridParts) (grid : IsGridOf drawing 
   pub same_in_joined : (n m c d : Cell) → IsTrue (is_within (grid_sizes g) n) → IsTrue (is_within (grid_sizes g) m) → Joined g n m
       → LiesInGridCell (coordinates_of g) (numbers_of n) c → LiesInGridCell (coordinates_of g) (numbers_of m) d → is_full s c ≡ is_full s d
   same_in_joined n m c d at_n at_m chain in_n in_m =
-      sym (counts_here.inside n c at_n in_n) ∙ same_in_block drawing g grid s matches full_here counts_here n m chain ∙ counts_here.inside m d at_m in_m
+      sym (counts_here.inside n c at_n in_n) ∙ same_in_block drawing g grid s matches full_here counts_here n m chain
+      ∙ counts_here.inside m d at_m in_m
 
   pub empty_in_outside : (n c : Cell) → IsTrue (is_within (grid_sizes g) n) → IsOutside g n
       → LiesInGridCell (coordinates_of g) (numbers_of n) c → is_full s c ≡ false

@@ -13,7 +13,8 @@ use Rattle.solid_model.specs.Matching.{Matches}
 use Rattle.solid_model.specs.Panels.{GridParts, coordinates_of, IsGridOf}
 use Rattle.solid_model.specs.Segments.{segment_at}
 use Rattle.solid_model.specs.Wire.{axis_along, axis_across, is_blank, is_drawn_from, IsGridFullness}
-use Rattle.solid_model.proofs.GridFullness.{member_of, IsEdgeWithin, edge_within, unit_edge}
+use Rattle.solid_model.proofs.Gaps.{member_of}
+use Rattle.solid_model.proofs.GridFullness.{IsEdgeWithin, edge_within, unit_edge}
 use Rattle.solid_model.proofs.GridSegmentStyles.{grid_style-at}
 use Rattle.solid_model.proofs.Styles.{edge_not_blank}
 use Rattle.solid_model.proofs.Views.{views_are_frames, across_along, at_own_coordinates, has_edge_from}
@@ -38,7 +39,8 @@ module _ (drawing : Segment → Style) (g : GridParts) (grid : IsGridOf drawing 
   pub edge_drawn : (v : View) (upright : Bool) (n : Cell) → is_edge full (axis_along v upright) n ≡ true → is_drawn_from g v upright n ≡ true
   edge_drawn v upright n edge =
       ap (λ style. not (is_blank style)) (grid_style-at drawing g grid.styles v upright j i within.at_second within.at_first)
-      ∙ not_blank _ (unit_drawn drawing s matches v upright (at a i) (at b j) (at c k) (unit_edge drawing g grid s matches full counts a b c across i j k placed))
+      ∙ not_blank _ (unit_drawn drawing s matches v upright (at a i) (at b j) (at c k)
+      (unit_edge drawing g grid s matches full counts a b c across i j k placed))
     where
       a : Axis
       a = axis_along v upright

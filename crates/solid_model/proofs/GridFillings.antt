@@ -47,8 +47,12 @@ always_at a b c d = of_each_four (goes_on_or_turns a b c d) (of_each_four (λ x 
 abbrev IsOneEdge : Bool → Bool → Type 0
 IsOneEdge a b = (a ≡ true) ⊎ (b ≡ true)
 
-ends_at_turn : (a b c d e f g h : Bool) → is_edge_of e f g h ≡ true → is_edge_of a b c d ≡ false
+-- where an edge among e to h isn't one among a to d, a further edge ends or begins
+abbrev EndsAtTurn : Bool → Bool → Bool → Bool → Bool → Bool → Bool → Bool → Type 0
+EndsAtTurn a b c d e f g h = is_edge_of e f g h ≡ true → is_edge_of a b c d ≡ false
     → IsOneEdge (is_edge_of a c e g) (is_edge_of b d f h) ⊎ IsOneEdge (is_edge_of a e b f) (is_edge_of c g d h)
+
+ends_at_turn : (a b c d e f g h : Bool) → EndsAtTurn a b c d e f g h
 ends_at_turn a b c d e f g h edge none =
     ⊎_elim {C = Turns} (λ stops. absurd (both_ways _ (not_from_true _ edge) stops))
     (λ rest. ⊎_elim {C = Turns} (λ goes_on. absurd (both_ways _ none goes_on))
@@ -66,21 +70,17 @@ IsEdgeAt full a p = IsOneEdge (is_edge full a p) (is_edge full a (cell_before a 
 -- where an edge along an axis ends at a point, and none goes on from it, an edge along one of the two other axes begins or ends there
 pub turns_where_it_ends : (full : Cell → Bool) (a : Axis) (p : Cell) → is_edge full a (cell_before a p) ≡ true → is_edge full a p ≡ false
     → IsEdgeAt full (second_axis a) p ⊎ IsEdgeAt full (third_axis a) p
-turns_where_it_ends full a p = along a (λ b c. ends_at_turn (full p) (full (cell_before b p)) (full (cell_before c p)) (full (cell_before b (cell_before c p)))
-    (full (cell_before a p)) (full (cell_before b (cell_before a p))) (full (cell_before c (cell_before a p))) (full (cell_before b (cell_before c (cell_before a p)))))
+turns_where_it_ends full a p = along a (λ b c.
+    let q = cell_before a p in
+    ends_at_turn (full p) (full (cell_before b p)) (full (cell_before c p)) (full (cell_before b (cell_before c p)))
+    (full q) (full (cell_before b q)) (full (cell_before c q)) (full (cell_before b (cell_before c q))))
   where
-    -- the eight cells by the axes b and c
-    TurnsAt : Axis → Axis → Axis → Type 0
-    TurnsAt x b c =
-        is_edge_of (full (cell_before x p)) (full (cell_before b (cell_before x p))) (full (cell_before c (cell_before x p)))
-        (full (cell_before b (cell_before c (cell_before x p)))) ≡ true
-        → is_edge_of (full p) (full (cell_before b p)) (full (cell_before c p)) (full (cell_before b (cell_before c p))) ≡ false
-        → IsOneEdge (is_edge_of (full p) (full (cell_before c p)) (full (cell_before x p)) (full (cell_before c (cell_before x p))))
-        (is_edge_of (full (cell_before b p)) (full (cell_before b (cell_before c p))) (full (cell_before b (cell_before x p))) (full (cell_before b (cell_before c (cell_before x p)))))
-        ⊎ IsOneEdge (is_edge_of (full p) (full (cell_before x p)) (full (cell_before b p)) (full (cell_before b (cell_before x p))))
-        (is_edge_of (full (cell_before c p)) (full (cell_before c (cell_before x p))) (full (cell_before b (cell_before c p))) (full (cell_before b (cell_before c (cell_before x p)))))
+    -- the same of the cells round p, those before it counted from the point q, by the axes b and c
+    Round : Axis → Axis → Cell → Type 0
+    Round b c q = EndsAtTurn (full p) (full (cell_before b p)) (full (cell_before c p)) (full (cell_before b (cell_before c p)))
+        (full q) (full (cell_before b q)) (full (cell_before c q)) (full (cell_before b (cell_before c q)))
 
-    along : (x : Axis) → ((b c : Axis) → TurnsAt x b c) → is_edge full x (cell_before x p) ≡ true → is_edge full x p ≡ false
+    along : (x : Axis) → ((b c : Axis) → Round b c (cell_before x p)) → is_edge full x (cell_before x p) ≡ true → is_edge full x p ≡ false
         → IsEdgeAt full (second_axis x) p ⊎ IsEdgeAt full (third_axis x) p
     along X h = h Y Z
     along Y h = h Z X
@@ -121,4 +121,5 @@ flat_after full a b n other none flat =
 pub flat_before : (full : Cell → Bool) (a b : Axis) (n : Cell) → same_axis a b ≡ false → is_edge full (axis_across_both a b) n ≡ false
     → IsFlatFace full a n → IsFlatFace full a (cell_before b n)
 flat_before full a b n other none flat =
-    flat_sides (full n) (full (cell_before a n)) (full (cell_before b n)) (full (cell_before a (cell_before b n))) (sym (edge_across_both full a b n other) ∙ none) flat
+    flat_sides (full n) (full (cell_before a n)) (full (cell_before b n)) (full (cell_before a (cell_before b n)))
+    (sym (edge_across_both full a b n other) ∙ none) flat

@@ -16,8 +16,8 @@ use Rattle.solid_model.specs.Matching.{Matches}
 use Rattle.solid_model.specs.Panels.{GridParts, coordinates_of, IsGridOf}
 use Rattle.solid_model.specs.Rooms.{is_below, is_within, place_of_number}
 use Rattle.solid_model.specs.Wire.{grid_sizes, numbers_of, IsGridFullness}
-use Rattle.solid_model.proofs.BoxPlaces.{is_below-more, is_below-next, within-along, outside-along}
-use Rattle.solid_model.proofs.Gaps.{member, begins_gap, ends_gap, last_in_none, before_first_in_none}
+use Rattle.solid_model.proofs.BoxPlaces.{below-more, below-next, within-below, outside-below}
+use Rattle.solid_model.proofs.Gaps.{member_of, begins_gap, ends_gap, last_in_none, before_first_in_none}
 use Rattle.solid_model.proofs.InGrid.{agree_in_grid_cell, lies_in_grid}
 use Rattle.solid_model.proofs.Styles.{full_beside_edge}
 use Rattle.solid_model.proofs.Views.{each_axis, coordinates_at, at_own_coordinates, edge_across}
@@ -31,10 +31,6 @@ record StandsAt (zs : List ℤ) (k z : ℤ) : Type 0 where
 
 stands-like : (zs : List ℤ) (k z m w : ℤ) → k ≡ m → z ≡ w → StandsAt zs m w → StandsAt zs k z
 stands-like zs k z m w p q stands = subst (λ x. StandsAt zs k x) (sym q) (subst (λ x. StandsAt zs x w) (sym p) stands)
-
--- the member of a number
-abbrev pub member_of : List ℤ → ℤ → ℤ
-member_of zs k = member zs (place_of_number k)
 
 module _ (zs : List ℤ) (ascends : Ascends ◌<ℤ◌ zs) where
   -- a member stands at its number,
@@ -66,12 +62,17 @@ module _ (drawing : Segment → Style) (g : GridParts) (grid : IsGridOf drawing 
   abbrev least_cell : Cell → Cell
   least_cell n = record { x = member_of g.xs n.x; y = member_of g.ys n.y; z = member_of g.zs n.z }
 
+  -- the number of a gap is that of the member with which it begins
+  member-below : (a : Axis) (z : ℤ) → is_below (grid_sizes g a) z ≡ true → is_below (length (coordinates_of g a)) z ≡ true
+  member-below a = below-more (grid_sizes g a) (length (coordinates_of g a)) (omega arith)
+
   lies_there : (n : Cell) → is_within (grid_sizes g) n ≡ true → LiesInGridCell (coordinates_of g) (numbers_of n) (least_cell n)
   lies_there n within = along
     where
       at : (a : Axis) → is_in_gap (coordinates_of g a) (numbers_of n a) (member_of (coordinates_of g a) (coordinate a n)) ≡ true
-      at a = (stands_at (coordinates_of g a) (ascends_along a) (coordinate a n) (is_below-more (grid_sizes g a) (length (coordinates_of g a)) (omega arith) (coordinate a n) (within-along (grid_sizes g) n within a))).inside
-          (within-along (grid_sizes g) n within a)
+      at a =
+          let below = within-below (grid_sizes g) n within a in
+          (stands_at (coordinates_of g a) (ascends_along a) (coordinate a n) (member-below a (coordinate a n) below)).inside below
 
       along : (a : Axis) → is_in_gap (coordinates_of g a) (numbers_of n a) (coordinate a (least_cell n)) ≡ true
       along X = at X
@@ -96,15 +97,15 @@ module _ (drawing : Segment → Style) (g : GridParts) (grid : IsGridOf drawing 
     counted n c stands = by (is_within (grid_sizes g) n) refl
       where
         by : (t : Bool) → is_within (grid_sizes g) n ≡ t → full n ≡ is_full s c
-        by true e = counts.inside n c e (λ a. (stands a).inside (within-along (grid_sizes g) n e a))
+        by true e = counts.inside n c e (λ a. (stands a).inside (within-below (grid_sizes g) n e a))
         by false e = counts.outside n e ∙ sym (false_from_ne_true (is_full s c) (λ h.
-            let out = outside-along (grid_sizes g) n e in
+            let out = outside-below (grid_sizes g) n e in
             let gap = lies_in_grid drawing s matches (coordinates_of g) grid.coordinates c h out.0 in
             (stands out.0).outside out.1 gap.0 gap.1))
 
     -- a full cell is within the box
     pub full_within : (n : Cell) → full n ≡ true → (a : Axis) → is_below (grid_sizes g a) (coordinate a n) ≡ true
-    full_within n h = within-along (grid_sizes g) n (true_from_ne_false _ (λ out. both_ways (full n) (counts.outside n out) h))
+    full_within n h = within-below (grid_sizes g) n (true_from_ne_false _ (λ out. both_ways (full n) (counts.outside n out) h))
 
     module _ (a b c : Axis) (across : AreAcross a b c) where
       -- by coordinates along three axes
@@ -127,15 +128,13 @@ module _ (drawing : Segment → Style) (g : GridParts) (grid : IsGridOf drawing 
       pub edge_within : (i j k : ℤ) → is_edge full a (at_places a i b j c k) ≡ true → IsEdgeWithin i j k
       edge_within i j k edge =
           ⊎_elim {C = IsEdgeWithin i j k}
-          (⊎_elim {C = IsEdgeWithin i j k} (beside j k (here b j) (here c k)) (beside (j -ℤ pos 1) k (next b j) (here c k)))
-          (⊎_elim {C = IsEdgeWithin i j k} (beside j (k -ℤ pos 1) (here b j) (next c k)) (beside (j -ℤ pos 1) (k -ℤ pos 1) (next b j) (next c k)))
+          (⊎_elim {C = IsEdgeWithin i j k} (beside j k (member-below b j) (member-below c k)) (beside (j -ℤ pos 1) k (next b j) (member-below c k)))
+          (⊎_elim {C = IsEdgeWithin i j k} (beside j (k -ℤ pos 1) (member-below b j) (next c k))
+          (beside (j -ℤ pos 1) (k -ℤ pos 1) (next b j) (next c k)))
           (full_beside_edge _ _ _ _ (sym (edge_across full i j k a b c across) ∙ edge))
         where
-          here : (x : Axis) (z : ℤ) → is_below (grid_sizes g x) z ≡ true → is_below (length (coordinates_of g x)) z ≡ true
-          here x z = is_below-more (grid_sizes g x) (length (coordinates_of g x)) (omega arith) z
-
           next : (x : Axis) (z : ℤ) → is_below (grid_sizes g x) (z -ℤ pos 1) ≡ true → is_below (length (coordinates_of g x)) z ≡ true
-          next x z = is_below-next (grid_sizes g x) (length (coordinates_of g x)) (omega arith) z
+          next x = below-next (grid_sizes g x) (length (coordinates_of g x)) (omega arith)
 
           beside : (m n : ℤ) → (is_below (grid_sizes g b) m ≡ true → is_below (length (coordinates_of g b)) j ≡ true)
               → (is_below (grid_sizes g c) n ≡ true → is_below (length (coordinates_of g c)) k ≡ true)
@@ -151,7 +150,8 @@ module _ (drawing : Segment → Style) (g : GridParts) (grid : IsGridOf drawing 
 
       -- where it is an edge of the solid, so is the unit edge at its beginning
       pub unit_edge : (i j k : ℤ) → is_edge full a (at_places a i b j c k) ≡ true
-          → is_edge (is_full s) a (at_places a (member_of (coordinates_of g a) i) b (member_of (coordinates_of g b) j) c (member_of (coordinates_of g c) k)) ≡ true
+          → is_edge (is_full s) a (at_places a (member_of (coordinates_of g a) i) b (member_of (coordinates_of g b) j)
+          c (member_of (coordinates_of g c) k)) ≡ true
       unit_edge i j k edge =
           edge_across (is_full s) (at a i) (at b j) (at c k) a b c across
           ∙ (λ t. is_edge_of (cell j k (at b j) (at c k) here_b here_c t) (cell (j -ℤ pos 1) k (at b j -ℤ pos 1) (at c k) before_b here_c t)
@@ -164,6 +164,9 @@ module _ (drawing : Segment → Style) (g : GridParts) (grid : IsGridOf drawing 
 
           at : Axis → ℤ → ℤ
           at x z = member_of (coordinates_of g x) z
+
+          here_a : StandsAt (coordinates_of g a) i (at a i)
+          here_a = stands_at (coordinates_of g a) (ascends_along a) i (member-below a i within.at_first)
 
           here_b : StandsAt (coordinates_of g b) j (at b j)
           here_b = stands_at (coordinates_of g b) (ascends_along b) j within.at_second
@@ -179,7 +182,7 @@ module _ (drawing : Segment → Style) (g : GridParts) (grid : IsGridOf drawing 
 
           cell : (m n l o : ℤ) → StandsAt (coordinates_of g b) m l → StandsAt (coordinates_of g c) n o
               → is_full s (at_places a (at a i) b l c o) ≡ full (at_places a i b m c n)
-          cell m n l o p q = sym (counted_at i m n (at a i) l o (stands_at (coordinates_of g a) (ascends_along a) i (is_below-more (grid_sizes g a) (length (coordinates_of g a)) (omega arith) i within.at_first)) p q)
+          cell m n l o p q = sym (counted_at i m n (at a i) l o here_a p q)
 
     -- along its axis an edge stands within the box
     pub edge_along : (a : Axis) (n : Cell) → is_edge full a n ≡ true → is_below (grid_sizes g a) (coordinate a n) ≡ true

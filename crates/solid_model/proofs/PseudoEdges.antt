@@ -16,7 +16,7 @@ use Rattle.solid_model.specs.Matching.{Matches}
 use Rattle.solid_model.specs.Panels.{GridParts, IsGridOf}
 use Rattle.solid_model.specs.Rooms.{same_axis}
 use Rattle.solid_model.specs.Wire.{grid_sizes, axis_along, is_drawn_from, is_end_of_drawn, is_on_drawn, is_pseudo_vertex, is_drawn_or_point, is_pseudo_edge, IsGridFullness}
-use Rattle.solid_model.proofs.BoxPlaces.{is_below-range}
+use Rattle.solid_model.proofs.BoxPlaces.{below-bounds}
 use Rattle.solid_model.proofs.GridEdges.{edge_drawn}
 use Rattle.solid_model.proofs.GridFillings.{IsEdgeAt, turns_where_it_ends}
 use Rattle.solid_model.proofs.GridFullness.{edge_along}
@@ -63,19 +63,23 @@ seen_as_one g v a looks n = subst (λ x. is_on_drawn g (cell_after x n) v ≡ is
 
 module _ (drawing : Segment → Style) (g : GridParts) (grid : IsGridOf drawing g) (s : List Cell) (matches : Matches drawing s)
     (full : Cell → Bool) (counts : IsGridFullness g s full) where
-  drawn : (v : View) (upright : Bool) (a : Axis) → axis_along v upright ≡ a → (n : Cell) → is_edge full a n ≡ true → is_drawn_from g v upright n ≡ true
+  drawn : (v : View) (upright : Bool) (a : Axis) → axis_along v upright ≡ a
+      → (n : Cell) → is_edge full a n ≡ true → is_drawn_from g v upright n ≡ true
   drawn v upright a shows n edge = edge_drawn drawing g grid s matches full counts v upright n (ap (λ x. is_edge full x n) shows ∙ edge)
 
   -- where an edge that the view shows as a segment begins or ends, something is drawn
-  begins_on_drawn : (v : View) (upright : Bool) (a : Axis) → axis_along v upright ≡ a → (n : Cell) → is_edge full a n ≡ true → is_on_drawn g n v ≡ true
+  begins_on_drawn : (v : View) (upright : Bool) (a : Axis) → axis_along v upright ≡ a
+      → (n : Cell) → is_edge full a n ≡ true → is_on_drawn g n v ≡ true
   begins_on_drawn v upright a shows n edge = on_drawn g v upright n (or_left (is_drawn_from g v upright n) _ (drawn v upright a shows n edge))
 
-  ends_on_drawn : (v : View) (upright : Bool) (a : Axis) → axis_along v upright ≡ a → (n : Cell) → is_edge full a (cell_before a n) ≡ true → is_on_drawn g n v ≡ true
+  ends_on_drawn : (v : View) (upright : Bool) (a : Axis) → axis_along v upright ≡ a
+      → (n : Cell) → is_edge full a (cell_before a n) ≡ true → is_on_drawn g n v ≡ true
   ends_on_drawn v upright a shows n edge = on_drawn g v upright n (or_right (is_drawn_from g v upright n) _
       (ap (λ x. is_drawn_from g v upright (cell_before x n)) shows ∙ drawn v upright a shows (cell_before a n) edge))
 
   at_on_drawn : (v : View) (upright : Bool) (a : Axis) → axis_along v upright ≡ a → (n : Cell) → IsEdgeAt full a n → is_on_drawn g n v ≡ true
-  at_on_drawn v upright a shows n at = ⊎_elim {C = is_on_drawn g n v ≡ true} (begins_on_drawn v upright a shows n) (ends_on_drawn v upright a shows n) at
+  at_on_drawn v upright a shows n at =
+      ⊎_elim {C = is_on_drawn g n v ≡ true} (begins_on_drawn v upright a shows n) (ends_on_drawn v upright a shows n) at
 
   -- a view that looks along an axis draws something where an edge across it begins or ends
   across_on_drawn : (v : View) (a b : Axis) → (frame_of v).away.axis ≡ a → (a ≡ b → ⊥) → (n : Cell) → IsEdgeAt full b n → is_on_drawn g n v ≡ true
@@ -87,7 +91,7 @@ module _ (drawing : Segment → Style) (g : GridParts) (grid : IsGridOf drawing 
   along_on_drawn : (v : View) (a : Axis) → (frame_of v).away.axis ≡ a → (left : ℕ) (n : Cell) → pos (grid_sizes g a) ≤ℤ (coordinate a n +ℤ pos left)
       → is_edge full a n ≡ true → is_on_drawn g n v ≡ true
   along_on_drawn v a looks zero n far edge =
-      let within = is_below-range (grid_sizes g a) (coordinate a n) (edge_along drawing g grid s matches full counts a n edge) in
+      let within = below-bounds (grid_sizes g a) (coordinate a n) (edge_along drawing g grid s matches full counts a n edge) in
       absurd (omega (arith, ints, far, within.1))
   along_on_drawn v a looks (suc left) n far edge = sym (seen_as_one g v a looks n) ∙ by (is_edge full a (cell_after a n)) refl
       (along_on_drawn v a looks left (cell_after a n) (let at = placed_at a (coordinate a n +ℤ pos 1) n in omega (arith, ints, at, far)))
@@ -99,14 +103,15 @@ module _ (drawing : Segment → Style) (g : GridParts) (grid : IsGridOf drawing 
           → is_on_drawn g (cell_after a n) v ≡ true
       by true e later = later e
       by false e later = ⊎_elim {C = is_on_drawn g (cell_after a n) v ≡ true}
-          (across_on_drawn v a (second_axis a) looks (second_differs a) (cell_after a n)) (across_on_drawn v a (third_axis a) looks (third_differs a) (cell_after a n))
+          (across_on_drawn v a (second_axis a) looks (second_differs a) (cell_after a n))
+          (across_on_drawn v a (third_axis a) looks (third_differs a) (cell_after a n))
           (turns_where_it_ends full a (cell_after a n) back e)
 
   -- ---- both ends
 
   first_on_drawn : (a : Axis) (n : Cell) → is_edge full a n ≡ true → (v : View) → is_on_drawn g n v ≡ true
   first_on_drawn a n edge v = ⊎_elim {C = is_on_drawn g n v ≡ true} (λ shows. begins_on_drawn v shows.0 a shows.1 n edge)
-      (λ looks. let within = is_below-range (grid_sizes g a) (coordinate a n) (edge_along drawing g grid s matches full counts a n edge) in
+      (λ looks. let within = below-bounds (grid_sizes g a) (coordinate a n) (edge_along drawing g grid s matches full counts a n edge) in
       along_on_drawn v a looks (grid_sizes g a) n (omega (arith, ints, within.0)) edge) (shows_or_looks_along v a)
 
   second_on_drawn : (a : Axis) (n : Cell) → is_edge full a n ≡ true → (v : View) → is_on_drawn g (cell_after a n) v ≡ true

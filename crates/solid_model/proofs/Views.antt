@@ -181,14 +181,28 @@ point_on_twice d z = turned d.forward
     turned true = refl
     turned false = omega (arith, ints)
 
--- in a view, by the edge's own point
+-- the segment that begins at i along its way, on the line j across it
+start_at : (v : View) (upright : Bool) (i j : ℤ) → start_of (segment_at v upright i j) ≡ i
+start_at v true i j = refl
+start_at v false i j = refl
+
+line_at : (v : View) (upright : Bool) (i j : ℤ) → line_of (segment_at v upright i j) ≡ j
+line_at v true i j = refl
+line_at v false i j = refl
+
+-- on it projects the edge from the point with these coordinates
 pub has_edge_from : (full : Cell → Bool) (v : View) (upright : Bool) (i j k : ℤ)
-    → has_edge (frame_of v) full (segment_at v upright i j) (point_on (frame_of v).away k)
-    ≡ is_edge full (along (frame_of v) upright).axis (at_places (along (frame_of v) upright).axis i (across (frame_of v) upright).axis j (frame_of v).away.axis k)
-has_edge_from full v true i j k = λ t. is_edge full (along (frame_of v) true).axis (at_places (along (frame_of v) true).axis (forward_cell (along (frame_of v) true) i (runs_forward v true) t)
-    (across (frame_of v) true).axis (forward_point (across (frame_of v) true) j (stands_forward v true) t) (frame_of v).away.axis (point_on_twice (frame_of v).away k t))
-has_edge_from full v false i j k = λ t. is_edge full (along (frame_of v) false).axis (at_places (along (frame_of v) false).axis (forward_cell (along (frame_of v) false) i (runs_forward v false) t)
-    (across (frame_of v) false).axis (forward_point (across (frame_of v) false) j (stands_forward v false) t) (frame_of v).away.axis (point_on_twice (frame_of v).away k t))
+    → has_edge (frame_of v) full (segment_at v upright i j) (point_on (frame_of v).away k) ≡ is_edge full (along (frame_of v) upright).axis
+    (at_places (along (frame_of v) upright).axis i (across (frame_of v) upright).axis j (frame_of v).away.axis k)
+has_edge_from full v upright i j k =
+    let way = along (frame_of v) upright in
+    let beside = across (frame_of v) upright in
+    let away = (frame_of v).away in
+    let begins : cell_on way (start_of (segment_at v upright i j)) ≡ i =
+    ap (cell_on way) (start_at v upright i j) ∙ forward_cell way i (runs_forward v upright) in
+    let lies : point_on beside (line_of (segment_at v upright i j)) ≡ j =
+    ap (point_on beside) (line_at v upright i j) ∙ forward_point beside j (stands_forward v upright) in
+    λ t. is_edge full way.axis (at_places way.axis (begins t) beside.axis (lies t) away.axis (point_on_twice away k t))
 
 -- the coordinate of the cell at the place of a coordinate is that coordinate
 cell_on_turned : (forward : Bool) (axis : Axis) (z : ℤ)
