@@ -14,8 +14,8 @@ use Rattle.solid_model.specs.Matching.{Matches}
 use Rattle.solid_model.specs.Panels.{GridParts, coordinates_of, IsGridOf}
 use Rattle.solid_model.specs.Rooms.{is_below, is_within, same_axis, face_sizes, Passes, LeadsOut}
 use Rattle.solid_model.specs.VirtualFaces.{axis_across_both, is_barred, Bars, IsVirtual}
-use Rattle.solid_model.specs.Wire.{grid_sizes, numbers_of, IsGridFullness}
-use Rattle.solid_model.proofs.BoxPlaces.{below-more, below-next, outside-below}
+use Rattle.solid_model.specs.Wire.{grid_sizes, grid_cell_of, IsGridFullness}
+use Rattle.solid_model.proofs.BoxCells.{below-more, below-next, outside-below}
 use Rattle.solid_model.proofs.Chains.{reaches-keeps}
 use Rattle.solid_model.proofs.GridFillings.{IsFlatFace, flat_after, flat_before}
 use Rattle.solid_model.proofs.GridFullness.{full_within, grid_fullness, is_grid_fullness}
@@ -124,11 +124,11 @@ module _ (drawing : Segment → Style) (g : GridParts) (grid : IsGridOf drawing 
   some_fullness = (full_here, counts_here)
 
   pub same_in_joined : (n m c d : Cell) → IsTrue (is_within (grid_sizes g) n) → IsTrue (is_within (grid_sizes g) m) → Joined g n m
-      → LiesInGridCell (coordinates_of g) (numbers_of n) c → LiesInGridCell (coordinates_of g) (numbers_of m) d → is_full s c ≡ is_full s d
+      → LiesInGridCell (coordinates_of g) (grid_cell_of n) c → LiesInGridCell (coordinates_of g) (grid_cell_of m) d → is_full s c ≡ is_full s d
   same_in_joined n m c d at_n at_m chain in_n in_m =
       sym (counts_here.inside n c at_n in_n) ∙ same_in_block drawing g grid s matches full_here counts_here n m chain
       ∙ counts_here.inside m d at_m in_m
 
   pub empty_in_outside : (n c : Cell) → IsTrue (is_within (grid_sizes g) n) → IsOutside g n
-      → LiesInGridCell (coordinates_of g) (numbers_of n) c → is_full s c ≡ false
+      → LiesInGridCell (coordinates_of g) (grid_cell_of n) c → is_full s c ≡ false
   empty_in_outside n c at_n out in_n = sym (counts_here.inside n c at_n in_n) ∙ empty_outside drawing g grid s matches full_here counts_here n out

@@ -15,8 +15,8 @@ use Rattle.solid_model.specs.Lists.{Ascends}
 use Rattle.solid_model.specs.Matching.{Matches}
 use Rattle.solid_model.specs.Panels.{GridParts, coordinates_of, IsGridOf}
 use Rattle.solid_model.specs.Rooms.{is_below, is_within, place_of_number}
-use Rattle.solid_model.specs.Wire.{grid_sizes, numbers_of, IsGridFullness}
-use Rattle.solid_model.proofs.BoxPlaces.{below-more, below-next, within-below, outside-below}
+use Rattle.solid_model.specs.Wire.{grid_sizes, grid_cell_of, IsGridFullness}
+use Rattle.solid_model.proofs.BoxCells.{below-more, below-next, within-below, outside-below}
 use Rattle.solid_model.proofs.Gaps.{member_of, begins_gap, ends_gap, last_in_none, before_first_in_none}
 use Rattle.solid_model.proofs.InGrid.{agree_in_grid_cell, lies_in_grid}
 use Rattle.solid_model.proofs.Styles.{full_beside_edge}
@@ -66,15 +66,15 @@ module _ (drawing : Segment → Style) (g : GridParts) (grid : IsGridOf drawing 
   member-below : (a : Axis) (z : ℤ) → is_below (grid_sizes g a) z ≡ true → is_below (length (coordinates_of g a)) z ≡ true
   member-below a = below-more (grid_sizes g a) (length (coordinates_of g a)) (omega arith)
 
-  lies_there : (n : Cell) → is_within (grid_sizes g) n ≡ true → LiesInGridCell (coordinates_of g) (numbers_of n) (least_cell n)
+  lies_there : (n : Cell) → is_within (grid_sizes g) n ≡ true → LiesInGridCell (coordinates_of g) (grid_cell_of n) (least_cell n)
   lies_there n within = along
     where
-      at : (a : Axis) → is_in_gap (coordinates_of g a) (numbers_of n a) (member_of (coordinates_of g a) (coordinate a n)) ≡ true
+      at : (a : Axis) → is_in_gap (coordinates_of g a) (grid_cell_of n a) (member_of (coordinates_of g a) (coordinate a n)) ≡ true
       at a =
           let below = within-below (grid_sizes g) n within a in
           (stands_at (coordinates_of g a) (ascends_along a) (coordinate a n) (member-below a (coordinate a n) below)).inside below
 
-      along : (a : Axis) → is_in_gap (coordinates_of g a) (numbers_of n a) (coordinate a (least_cell n)) ≡ true
+      along : (a : Axis) → is_in_gap (coordinates_of g a) (grid_cell_of n a) (coordinate a (least_cell n)) ≡ true
       along X = at X
       along Y = at Y
       along Z = at Z
@@ -87,7 +87,7 @@ module _ (drawing : Segment → Style) (g : GridParts) (grid : IsGridOf drawing 
   unfolding grid_fullness
   is_grid_fullness = record {
     inside = λ n c within lies. ap (λ b. b && is_full s (least_cell n)) within
-        ∙ agree_in_grid_cell drawing s matches (coordinates_of g) grid.coordinates (numbers_of n) (least_cell n) c (lies_there n within) lies;
+        ∙ agree_in_grid_cell drawing s matches (coordinates_of g) grid.coordinates (grid_cell_of n) (least_cell n) c (lies_there n within) lies;
     outside = λ n out. ap (λ b. b && is_full s (least_cell n)) out;
   }
 

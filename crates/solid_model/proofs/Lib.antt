@@ -5,7 +5,7 @@ pub mod Chains
 pub mod Gaps
 pub mod GridFillings
 pub mod GridSegmentStyles
-pub mod BoxPlaces
+pub mod BoxCells
 pub mod GridFullness
 pub mod GridEdges
 pub mod PseudoEdges

@@ -20,13 +20,13 @@ use Rattle.solid_model.specs.Rooms.{Sizes, is_within, place_of_number, same_axis
 abbrev pub grid_sizes : GridParts → Sizes
 grid_sizes g = gaps_along (coordinates_of g)
 
--- the numbers of a cell of this box
-abbrev pub numbers_of : Cell → GridCell
-numbers_of n a = place_of_number (coordinate a n)
+-- the grid cell that has the numbers of a cell of this box
+abbrev pub grid_cell_of : Cell → GridCell
+grid_cell_of n a = place_of_number (coordinate a n)
 
 -- A solid that is a union of grid cells, counted in them: full tells which grid cells it fills. Outside the box it fills none.
 pub record IsGridFullness (g : GridParts) (s : List Cell) (full : Cell → Bool) : Type 0 where
-  pub inside : (n c : Cell) → IsTrue (is_within (grid_sizes g) n) → LiesInGridCell (coordinates_of g) (numbers_of n) c → full n ≡ is_full s c
+  pub inside : (n c : Cell) → IsTrue (is_within (grid_sizes g) n) → LiesInGridCell (coordinates_of g) (grid_cell_of n) c → full n ≡ is_full s c
   pub outside : (n : Cell) → is_within (grid_sizes g) n ≡ false → full n ≡ false
 
 -- ---- grid segments

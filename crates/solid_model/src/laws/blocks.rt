@@ -13,7 +13,7 @@ ghost use Rattle.solid_model.specs.Matching.{Matches};
 ghost use Rattle.solid_model.specs.Panels.{GridParts, coordinates_of, IsGridOf};
 ghost use Rattle.solid_model.specs.Rooms.{is_within};
 ghost use Rattle.solid_model.specs.VirtualFaces.{IsVirtual};
-ghost use Rattle.solid_model.specs.Wire.{grid_sizes, numbers_of, IsGridFullness, is_pseudo_edge};
+ghost use Rattle.solid_model.specs.Wire.{grid_sizes, grid_cell_of, IsGridFullness, is_pseudo_edge};
 
 /// A solid that matches a drawing is made of blocks of the drawing's grid. Counted in grid cells,
 /// each edge of the solid is a pseudo edge: both views that show it as a segment draw it, and
@@ -38,12 +38,12 @@ pub fn matching_solids_are_constant_on_blocks()
         → (n m c d : Cell)
         → IsTrue (is_within (grid_sizes g) n) → IsTrue (is_within (grid_sizes g) m)
         → Joined g n m
-        → LiesInGridCell (coordinates_of g) (numbers_of n) c
-        → LiesInGridCell (coordinates_of g) (numbers_of m) d
+        → LiesInGridCell (coordinates_of g) (grid_cell_of n) c
+        → LiesInGridCell (coordinates_of g) (grid_cell_of m) d
         → is_full s c ≡ is_full s d }
     ensures outside { (drawing : Segment → Style) (g : GridParts) → IsGridOf drawing g
         → (s : List Cell) → Matches drawing s
         → (n c : Cell) → IsTrue (is_within (grid_sizes g) n) → IsOutside g n
-        → LiesInGridCell (coordinates_of g) (numbers_of n) c
+        → LiesInGridCell (coordinates_of g) (grid_cell_of n) c
         → is_full s c ≡ false }
 {}
