@@ -13,11 +13,12 @@ use Rattle.solid_model.specs.Frames.{frame_of, along, across}
 use Rattle.solid_model.specs.Grid.{gaps_along}
 use Rattle.solid_model.specs.Panels.{joined, starts_of}
 use Rattle.solid_model.specs.Segments.{segment_at}
+use Rattle.solid_model.specs.PerAxis.{gaps_of}
 use Rattle.columns.specs.declared.column.Column.{Column}
 use Rattle.columns.specs.GridColumns.{AreColumns}
-use Rattle.columns.specs.GridPanels.{gaps_of, place_right, place_up, IsColumnBeside, IsStyleBetween, AreStylesAlong}
+use Rattle.columns.specs.GridPanels.{place_right, place_up, IsColumnBeside, IsStyleBetween, AreStylesAlong}
 use Rattle.columns.proofs.GridSegments.{segment_drawn}
-use Rattle.columns.proofs.Pushed.{HoldsSoFar}
+use Rattle.solid_model.proofs.Pushed.{HoldsSoFar}
 
 -- ---- columns beside a line
 

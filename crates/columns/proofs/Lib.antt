@@ -1,5 +1,4 @@
 pub mod FirstBits
-pub mod Pushed
 pub mod GridColumns
 pub mod Stretched
 pub mod GridSegments

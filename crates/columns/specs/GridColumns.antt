@@ -7,25 +7,9 @@ use Rattle.solid_model.specs.declared.frame.Frame.{Frame}
 use Rattle.solid_model.specs.declared.frame.View.{View}
 use Rattle.solid_model.specs.declared.frame.View.TheVariants.{Front, Top, Side}
 use Rattle.solid_model.specs.Grid.{GridCell}
+use Rattle.solid_model.specs.PerAxis.{by_axis, numbered}
 use Rattle.columns.specs.declared.column.Column.{Column}
-use Rattle.columns.specs.declared.per_axis.PerAxis.{PerAxis}
 use Rattle.columns.specs.Bits.{bits}
-
--- a number for each axis
-abbrev pub by_axis : ℕ → ℕ → ℕ → Axis → ℕ
-by_axis x y z X = x
-by_axis x y z Y = y
-by_axis x y z Z = z
-
--- those that are kept
-abbrev pub numbers_of : PerAxis → Axis → ℕ
-numbers_of n = by_axis n.x n.y n.z
-
--- the grid cell with another number along an axis
-abbrev pub numbered : Axis → ℕ → GridCell → GridCell
-numbered X k n = by_axis k (n Y) (n Z)
-numbered Y k n = by_axis (n X) k (n Z)
-numbered Z k n = by_axis (n X) (n Y) k
 
 -- the place of a grid cell in a list of all of them, where there are so many along each axis
 abbrev pub place_in : (Axis → ℕ) → GridCell → ℕ

@@ -20,10 +20,6 @@ pub record HasCounts (counts : Axis → ℕ) (coordinates : Coordinates) : Type 
   pub ordered : (a : Axis) → Ascends ◌<ℤ◌ (coordinates a)
   pub count : (a : Axis) → length (coordinates a) ≡ counts a
 
--- how many grid cells there are along each axis, by the number of coordinates
-abbrev pub gaps_of : (Axis → ℕ) → Axis → ℕ
-gaps_of counts a = counts a - 1
-
 -- the place to the right of what stands at two places along and across the level, or the upright, segments
 abbrev pub place_right : Bool → ℕ → ℕ → ℕ
 place_right upright start line = if upright then line else start

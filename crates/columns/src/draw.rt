@@ -10,14 +10,14 @@ ghost use Rattle.solid_model.specs.Frames.{frame_of};
 ghost use Rattle.solid_model.specs.Grid.{gaps_along, IsUnionOf};
 ghost use Rattle.solid_model.specs.Limits.{most_grid_coordinates};
 ghost use Rattle.solid_model.specs.Panels.{coordinates_of, AreGridStyles, panel_of, styles_along};
-ghost use Rattle.columns.specs.GridColumns.{numbers_of, AreColumns, columns_in};
-ghost use Rattle.columns.specs.GridPanels.{gaps_of, HasCounts, ArePanels, AreStylesAlong};
+ghost use Rattle.solid_model.specs.PerAxis.{numbers_of, gaps_of};
+ghost use Rattle.columns.specs.GridColumns.{AreColumns, columns_in};
+ghost use Rattle.columns.specs.GridPanels.{HasCounts, ArePanels, AreStylesAlong};
 
 use crate::column::Column;
 use crate::grid_columns::view_columns;
-use crate::per_axis::PerAxis;
 use crate::segment_styles::styles_along;
-use solid_model::{Axis, Grid, Memory, Panel, Panels, View};
+use solid_model::{Axis, Grid, Memory, Panel, Panels, PerAxis, View};
 use std::alloc::Global;
 use std::marker::Model;
 

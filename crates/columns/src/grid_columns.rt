@@ -4,12 +4,12 @@ ghost use Rattle.std.specs.Prelude.{◌≡◌, ◌≤◌, ◌<◌, false, slice_
 ghost use Rattle.solid_model.specs.declared.cell.Axis.{Axis};
 ghost use Rattle.solid_model.specs.Frames.{frame_of};
 ghost use Rattle.solid_model.specs.Limits.{most_grid_coordinates};
+ghost use Rattle.solid_model.specs.PerAxis.{numbers_of};
 ghost use Rattle.columns.specs.Bits.{bits};
-ghost use Rattle.columns.specs.GridColumns.{numbers_of, place_in, number_on, grid_cell_in, grid_column, AreColumns};
+ghost use Rattle.columns.specs.GridColumns.{place_in, number_on, grid_cell_in, grid_column, AreColumns};
 
 use crate::column::Column;
-use crate::per_axis::PerAxis;
-use solid_model::{Direction, Frame, Memory};
+use solid_model::{Direction, Frame, Memory, PerAxis};
 use std::alloc::Global;
 
 /// The number of the grid cell at a place along a direction, where there are so many along each

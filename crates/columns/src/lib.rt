@@ -4,7 +4,6 @@
 mod column;
 mod draw;
 mod grid_columns;
-mod per_axis;
 mod segment_styles;
 #[cfg(test)]
 mod tests;

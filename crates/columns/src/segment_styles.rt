@@ -4,12 +4,12 @@ ghost use Rattle.std.specs.Prelude.{◌≡◌, ◌≤◌, ◌<◌, ◌*◌, ◌+
 ghost use Rattle.solid_model.specs.declared.cell.Axis.{Axis};
 ghost use Rattle.solid_model.specs.Frames.{frame_of, along, across};
 ghost use Rattle.solid_model.specs.Limits.{most_grid_coordinates};
-ghost use Rattle.columns.specs.GridColumns.{numbers_of, AreColumns};
-ghost use Rattle.columns.specs.GridPanels.{gaps_of, place_right, place_up, IsColumnBeside, IsStyleBetween, AreStylesAlong};
+ghost use Rattle.solid_model.specs.PerAxis.{numbers_of, gaps_of};
+ghost use Rattle.columns.specs.GridColumns.{AreColumns};
+ghost use Rattle.columns.specs.GridPanels.{place_right, place_up, IsColumnBeside, IsStyleBetween, AreStylesAlong};
 
 use crate::column::{Column, style_of};
-use crate::per_axis::PerAxis;
-use solid_model::{Frame, Memory, Style, View};
+use solid_model::{Frame, Memory, PerAxis, Style, View};
 use std::alloc::Global;
 
 /// The places to the right and upwards of what stands at two places along and across the level, or

@@ -3,12 +3,11 @@
 ghost use Rattle.std.specs.Prelude.{◌≤◌};
 ghost use Rattle.solid_model.specs.declared.cell.Axis.{Axis};
 ghost use Rattle.solid_model.specs.Limits.{most_grid_coordinates};
-ghost use Rattle.columns.specs.GridColumns.{numbers_of};
+ghost use Rattle.solid_model.specs.PerAxis.{numbers_of};
 
 use crate::column::{Column, style_of};
 use crate::draw::{columns_in, draw_in};
-use crate::per_axis::PerAxis;
-use solid_model::{Style, View};
+use solid_model::{PerAxis, Style, View};
 use std::alloc::Global;
 use std::fmt::Write;
 use std::test::Fail;

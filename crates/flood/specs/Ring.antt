@@ -1,5 +1,5 @@
 -- A box with a ring of cells round it, as a graph: whatever stands outside the box is one with the ring.
-use Rattle.std.specs.Prelude.{◌||◌, ℕ, ◌+◌, ◌/◌, ◌%◌, ◌<◌, pos, ◌-ℤ◌, ◌+ℤ◌, IsTrue}
+use Rattle.std.specs.Prelude.{◌||◌, ℕ, zero, suc, ◌+◌, ◌/◌, ◌%◌, ◌<◌, Option, Some, None, pos, ◌-ℤ◌, ◌+ℤ◌, IsTrue}
 use Rattle.solid_model.specs.declared.cell.Axis.TheVariants.{X, Y}
 use Rattle.solid_model.specs.declared.cell.Cell.{Cell}
 use Rattle.solid_model.specs.Cells.{cell_before}
@@ -34,3 +34,8 @@ pub record RingStep (sizes : Sizes) (wall : Walls) (p q : ℕ) : Type 0 where
   pub from : p < ring_count sizes
   pub to : q < ring_count sizes
   pub passes : Passes (OwnWalls sizes wall) (ring_cell sizes p) (ring_cell sizes q)
+
+-- The room of a component's nodes. The first component is that of the ring, and of all that leads out: it is no room.
+abbrev pub room_of : ℕ → Option ℕ
+room_of zero = None
+room_of (suc k) = Some k

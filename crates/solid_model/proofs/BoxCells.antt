@@ -1,6 +1,6 @@
 -- Boxes of cells: numbers within a size, and cells within a box.
 use Rattle.std.proofs.Common.{◌≡◌, ⊎_elim, true, false, ℕ, ◌-◌, ◌≤◌, ℤ, pos, negsuc, ◌-ℤ◌, ◌≤ℤ◌, ◌<ℤ◌, arith}
-use Rattle.std.proofs.lemmas.Bool.{false≢true, and_parts, and_cases, lt-ltb, ltb-true}
+use Rattle.std.proofs.lemmas.Bool.{false≢true, and_parts, and_from, and_cases, lt-ltb, ltb-true}
 use Rattle.std.proofs.lemmas.Int.{ints}
 use Rattle.solid_model.specs.declared.cell.Axis.{Axis}
 use Rattle.solid_model.specs.declared.cell.Axis.TheVariants.{X, Y, Z}
@@ -36,7 +36,11 @@ within-below sizes n within X = (and_parts _ _ within).0
 within-below sizes n within Y = (and_parts _ _ (and_parts (is_below (sizes X) n.x) _ within).1).0
 within-below sizes n within Z = (and_parts _ _ (and_parts (is_below (sizes X) n.x) _ within).1).1
 
--- and one outside has some number that isn't
+-- the cell whose numbers are is one of the box
+pub below-within : (sizes : Sizes) (n : Cell) → ((a : Axis) → is_below (sizes a) (coordinate a n) ≡ true) → is_within sizes n ≡ true
+below-within sizes n below = and_from _ _ (below X) (and_from _ _ (below Y) (below Z))
+
+-- and a cell outside has some number that isn't
 pub outside-below : (sizes : Sizes) (n : Cell) → is_within sizes n ≡ false → (a : Axis) × (is_below (sizes a) (coordinate a n) ≡ false)
 outside-below sizes n out = ⊎_elim {C = Out} (λ e. (X, e))
     (λ rest. ⊎_elim {C = Out} (λ e. (Y, e)) (λ e. (Z, e)) (and_cases (is_below (sizes Y) n.y) _ rest)) (and_cases (is_below (sizes X) n.x) _ out)

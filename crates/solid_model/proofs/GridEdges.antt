@@ -15,7 +15,7 @@ use Rattle.solid_model.specs.Segments.{segment_at}
 use Rattle.solid_model.specs.Wire.{axis_along, axis_across, is_blank, is_drawn_from, IsGridFullness}
 use Rattle.solid_model.proofs.Gaps.{member_of}
 use Rattle.solid_model.proofs.GridFullness.{IsEdgeWithin, edge_within, unit_edge}
-use Rattle.solid_model.proofs.GridSegmentStyles.{grid_style-at}
+use Rattle.solid_model.proofs.GridStyle.{grid_style-at}
 use Rattle.solid_model.proofs.Styles.{edge_not_blank}
 use Rattle.solid_model.proofs.Views.{views_are_frames, across_along, at_own_coordinates, has_edge_from}
 

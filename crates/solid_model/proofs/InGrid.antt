@@ -169,7 +169,7 @@ steady_between p low high step y z at_y at_z = by_lt_z y z (λ l. upwards y z at
         steady p low high step d.0 x at_x.0 (omega (arith, ints, d.1)) ∙ ap p e
 
 -- the cell before one that was placed is the one placed before it
-before_placed : (a : Axis) (z : ℤ) (c : Cell) → cell_before a (placed a z c) ≡ placed a (z -ℤ pos 1) c
+pub before_placed : (a : Axis) (z : ℤ) (c : Cell) → cell_before a (placed a z c) ≡ placed a (z -ℤ pos 1) c
 before_placed X z c = refl
 before_placed Y z c = refl
 before_placed Z z c = refl

@@ -4,8 +4,8 @@ pub mod ListPlaces
 pub mod Chains
 pub mod Gaps
 pub mod GridFillings
-pub mod GridSegmentStyles
 pub mod BoxCells
+pub mod GridStyle
 pub mod GridFullness
 pub mod GridEdges
 pub mod PseudoEdges
@@ -35,3 +35,7 @@ pub mod OwnItems
 pub mod SomeGrid
 pub mod MaximalStretches
 pub mod RunStyles
+pub mod Pushed
+pub mod BoxPlaces
+pub mod MarkedCells
+pub mod Numbers

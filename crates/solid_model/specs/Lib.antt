@@ -23,6 +23,8 @@ pub mod Panels
 pub mod Choices
 pub mod Chains
 pub mod Rooms
+pub mod PerAxis
+pub mod Marks
 pub mod Wire
 pub mod VirtualFaces
 pub mod Blocks

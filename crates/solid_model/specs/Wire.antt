@@ -14,7 +14,8 @@ use Rattle.solid_model.specs.Cells.{coordinate, cell_before, cell_after, is_full
 use Rattle.solid_model.specs.Frames.{frame_of, along, across}
 use Rattle.solid_model.specs.Grid.{GridCell, LiesInGridCell, gaps_along}
 use Rattle.solid_model.specs.Panels.{GridParts, coordinates_of, panel_of, styles_along}
-use Rattle.solid_model.specs.Rooms.{Sizes, is_within, place_of_number, same_axis}
+use Rattle.solid_model.specs.Marks.{AxisMarks, marks_along, AreMarksOf}
+use Rattle.solid_model.specs.Rooms.{Sizes, is_within, place_of_number, same_axis, edge_sizes}
 
 -- how many grid cells stand in a row along each axis
 abbrev pub grid_sizes : GridParts → Sizes
@@ -80,3 +81,7 @@ is_drawn_or_point g a n v = (not (same_axis (axis_along v false) a) || is_drawn_
 abbrev pub is_pseudo_edge : GridParts → Axis → Cell → Bool
 is_pseudo_edge g a n = (is_drawn_or_point g a n Front && (is_drawn_or_point g a n Top && is_drawn_or_point g a n Side))
     && (is_pseudo_vertex g n && is_pseudo_vertex g (cell_after a n))
+
+-- what is marked along each axis are the pseudo edges
+abbrev pub IsWireOf : GridParts → AxisMarks → Type 0
+IsWireOf g wire = (a : Axis) → AreMarksOf (edge_sizes (grid_sizes g) a) (λ n. IsTrue (is_pseudo_edge g a n)) (marks_along a wire)

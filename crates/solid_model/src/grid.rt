@@ -1,7 +1,13 @@
 //! Grids: the positions at which a drawing shows something.
 
+ghost use Rattle.std.specs.Prelude.{◌≡◌, slice_index_or};
+ghost use Rattle.solid_model.specs.declared.segment.Style.TheVariants.{Blank};
+
 use crate::cell::Axis;
+use crate::frame::View;
 use crate::panels::Panels;
+use crate::per_axis::PerAxis;
+use crate::segment::Style;
 use std::marker::Model;
 
 /// The grid of a drawing: its coordinates along the three axes, 1 to 64 each, in order, and the
@@ -34,10 +40,24 @@ impl Model for Grid {
     } };
 }
 
+/// The style at a place of a list, Blank beyond its end.
+fn style_in(styles: &[Style], place: usize) -> Style
+    ensures { result ≡ slice_index_or styles.now place Blank }
+{
+    if place < styles.len() {
+        styles[place]
+    } else {
+        Style::Blank
+    }
+}
+
 impl Grid {
-    ghost use Rattle.std.specs.Prelude.{◌≡◌, ◌≤◌};
+    ghost use Rattle.std.specs.Prelude.{◌≡◌, ◌≤◌, pos};
+    ghost use Rattle.solid_model.specs.declared.cell.Axis.{Axis};
     ghost use Rattle.solid_model.specs.Grid.{gaps_along, grid_cell_count};
     ghost use Rattle.solid_model.specs.Panels.{coordinates_of, IsGrid};
+    ghost use Rattle.solid_model.specs.PerAxis.{numbers_of};
+    ghost use Rattle.solid_model.specs.Wire.{grid_sizes, grid_style};
 
     /// The grid with these coordinates, whose segments have these styles: those of a drawing.
     pub fn new(xs: Vec<i64>, ys: Vec<i64>, zs: Vec<i64>, panels: Panels) -> Grid
@@ -85,6 +105,31 @@ impl Grid {
         ensures { result.now ≡ self.now.panels }
     {
         &self.panels
+    }
+
+    /// How many grid cells there are along each axis.
+    pub fn sizes(&self) -> PerAxis
+        ensures sizes { numbers_of result ≡ grid_sizes self.now }
+        ensures few { (a : Axis) → numbers_of result a ≤ 63 }
+    {
+        PerAxis {
+            x: self.gaps(Axis::X),
+            y: self.gaps(Axis::Y),
+            z: self.gaps(Axis::Z),
+        }
+    }
+
+    /// The style of a view's level, or upright, segment on the line at the `line`-th coordinate
+    /// across it, along which it is the `cell`-th: Blank where there is none.
+    pub fn style(&self, view: View, upright: bool, line: usize, cell: usize) -> Style
+        ensures { result ≡ grid_style self.now view upright (pos line) (pos cell) }
+    {
+        let sizes = self.sizes();
+        let width = sizes.along(view.frame().along(upright).axis);
+        if line > sizes.along(view.frame().across(upright).axis) || cell >= width {
+            return Style::Blank;
+        }
+        style_in(self.panels.view(view).along(upright), line * width + cell)
     }
 
     /// How many grid cells there are along an axis.

@@ -5,19 +5,24 @@
 mod cell;
 mod choice;
 mod drawing;
+mod face_map;
 mod fault;
 mod frame;
 mod grid;
 mod laws;
 mod line;
+mod marks;
 mod memory;
 mod panels;
+mod per_axis;
 mod runs;
 mod segment;
+mod wire;
 
 pub use cell::{Axis, Cell};
 pub use choice::Choice;
 pub use drawing::{Drawing, ViewLines};
+pub use face_map::FaceMap;
 pub use fault::{Fault, Refused};
 pub use frame::{Direction, Frame, View};
 pub use grid::Grid;
@@ -33,7 +38,10 @@ pub use laws::{
     views_are_seen_from_their_sides, views_begin_at_the_least_lines,
 };
 pub use line::SheetLine;
+pub use marks::{CellTest, Marks, MarksByAxis};
 pub use memory::Memory;
 pub use panels::{Panel, Panels};
+pub use per_axis::PerAxis;
 pub use runs::{Run, Runs};
 pub use segment::{Segment, Style};
+pub use wire::Wire;

@@ -1,6 +1,6 @@
 -- The columns of each view, by its frame.
 use Rattle.solid_model.specs.declared.frame.View.TheVariants.{Front, Top, Side}
-use Rattle.columns.specs.GridColumns.{numbers_of}
+use Rattle.solid_model.specs.PerAxis.{numbers_of}
 use Rattle.columns.proofs.GridStyles.{few_gaps, same_columns}
 use Rattle.columns.proofs.draw.columns_in.Goals as goal
 

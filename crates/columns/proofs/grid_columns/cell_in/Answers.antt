@@ -1,7 +1,7 @@
 -- The numbers are put in one after another.
 use Rattle.std.proofs.Common.{refl, ap₂, ◌∙◌}
 use Rattle.solid_model.specs.Limits.{most_grid_coordinates}
-use Rattle.columns.specs.GridColumns.{numbered}
+use Rattle.solid_model.specs.PerAxis.{numbered}
 use Rattle.columns.proofs.GridColumns.{few_more, few_first}
 use Rattle.columns.proofs.grid_columns.cell_in.Goals as goal
 

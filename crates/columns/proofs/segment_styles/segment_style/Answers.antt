@@ -1,6 +1,6 @@
 -- The columns after and before the line draw the style; before the first line there is none.
+use Rattle.solid_model.specs.PerAxis.{numbers_of}
 use Rattle.std.proofs.Common.{refl, subst, arith}
-use Rattle.columns.specs.GridColumns.{numbers_of}
 use Rattle.columns.specs.GridPanels.{IsColumnBeside}
 use Rattle.columns.proofs.segment_styles.segment_style.Goals as goal
 

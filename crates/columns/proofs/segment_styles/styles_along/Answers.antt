@@ -4,10 +4,10 @@ use Rattle.std.proofs.Math.Nat.{mul-le-mul}
 use Rattle.solid_model.specs.declared.cell.Axis.{Axis}
 use Rattle.solid_model.specs.declared.frame.Frame.{Frame}
 use Rattle.solid_model.specs.Frames.{frame_of, along, across}
-use Rattle.columns.specs.GridColumns.{numbers_of, AreColumns}
-use Rattle.columns.specs.GridPanels.{gaps_of}
+use Rattle.solid_model.specs.PerAxis.{numbers_of, gaps_of}
+use Rattle.columns.specs.GridColumns.{AreColumns}
 use Rattle.columns.proofs.GridStyles.{IsStyleAt, few_gaps, all_styles}
-use Rattle.columns.proofs.Pushed.{HoldsSoFar, holds_more}
+use Rattle.solid_model.proofs.Pushed.{HoldsSoFar, holds_more}
 use Rattle.columns.proofs.segment_styles.styles_along.Goals as goal
 
 pub overflow_mul-place-end : goal.overflow_mul-place-end

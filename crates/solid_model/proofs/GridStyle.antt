@@ -1,18 +1,39 @@
--- The style that a grid gives a segment is that of its first unit segment.
-use Rattle.std.proofs.Common.{◌≡◌, Bool, true, ◌&&◌, ℕ, suc, ◌+◌, ◌*◌, ◌<◌, List, length, map, slice_index_or, nat_lt, ℤ, pos, negsuc, if◌then◌else◌, ap, sym, subst, ◌∙◌, arith}
-use Rattle.std.proofs.lemmas.Bool.{false≢true, and_from, lt-ltb, ltb-true}
+-- The style of a grid segment, looked up, and that of its first unit segment.
+use Rattle.std.proofs.Common.{◌≡◌, ◌⊎◌, inl, inr, Bool, true, false, ◌&&◌, ℕ, suc, ◌<◌, ◌≤◌, nat_lt, if◌then◌else◌, refl, ap, sym, arith, ◌+◌, ◌*◌, List, length, map, slice_index_or, ℤ, pos, negsuc, subst, ◌∙◌}
+use Rattle.std.proofs.lemmas.Bool.{and_from, false≢true, ltb-true}
 use Rattle.std.proofs.lemmas.List.{length-map, get_or-map, get_or-take}
 use Rattle.solid_model.specs.declared.frame.View.{View}
 use Rattle.solid_model.specs.declared.segment.Segment.{Segment}
 use Rattle.solid_model.specs.declared.segment.Style.{Style}
 use Rattle.solid_model.specs.declared.segment.Style.TheVariants.{Blank}
-use Rattle.solid_model.specs.Panels.{GridParts, coordinates_of, panel_of, styles_along, starts_of, AreGridStyles}
+use Rattle.solid_model.specs.Panels.{GridParts, coordinates_of, starts_of, AreGridStyles}
 use Rattle.solid_model.specs.Rooms.{is_below}
 use Rattle.solid_model.specs.Segments.{segment_at}
 use Rattle.solid_model.specs.Wire.{grid_sizes, axis_along, axis_across, grid_style}
 use Rattle.solid_model.proofs.Corners.{length-starts_of}
 use Rattle.solid_model.proofs.Gaps.{member, member_of}
 use Rattle.solid_model.proofs.Unions.{get_or-joined}
+
+-- off the grid it is Blank
+pub blank_off_grid : (line lines cell cells : ℕ) (style : Style) → (lines < line) ⊎ (cells ≤ cell)
+    → Blank ≡ if nat_lt line (suc lines) && nat_lt cell cells then style else Blank
+blank_off_grid line lines cell cells style (inl far) =
+    let off : nat_lt line (suc lines) ≡ false = grind (arith, far) in
+    sym (ap (λ (b : Bool). if b && nat_lt cell cells then style else Blank) off)
+blank_off_grid line lines cell cells style (inr far) = off (nat_lt line (suc lines)) (grind (arith, far))
+  where
+    off : (b : Bool) → nat_lt cell cells ≡ false → Blank ≡ if b && nat_lt cell cells then style else Blank
+    off true e = sym (ap (λ (b : Bool). if b then style else Blank) e)
+    off false e = refl
+
+-- on the grid it is the style that is kept
+pub style_on_grid : (line lines cell cells : ℕ) (style : Style) → line ≤ lines → cell < cells
+    → style ≡ if nat_lt line (suc lines) && nat_lt cell cells then style else Blank
+style_on_grid line lines cell cells style l m =
+    let on : (nat_lt line (suc lines) && nat_lt cell cells) ≡ true = and_from (nat_lt line (suc lines)) (nat_lt cell cells) (grind (arith, l)) (grind (arith, m)) in
+    sym (ap (λ (b : Bool). if b then style else Blank) on)
+
+-- ---- the first unit segment
 
 module _ (drawing : Segment → Style) (g : GridParts) (styles : AreGridStyles drawing (coordinates_of g) g.panels) where
   -- on a line of the grid, by the place of the cell along it
@@ -22,7 +43,7 @@ module _ (drawing : Segment → Style) (g : GridParts) (styles : AreGridStyles d
       ≡ drawing (segment_at v upright
       (member (coordinates_of g (axis_along v upright)) cell) (member (coordinates_of g (axis_across v upright)) line))
   grid_style-drawing v upright line cell at_line at_cell =
-      ap (λ b. if b then slice_index_or (styles_along upright (panel_of v g.panels)) (line * size + cell) Blank else Blank) within
+      sym (style_on_grid line (grid_sizes g (axis_across v upright)) cell size _ (let l = at_line in omega arith) at_cell)
       ∙ ap (λ xs. slice_index_or xs (line * size + cell) Blank) (styles v upright)
       ∙ get_or-joined (λ at. map (λ start. drawing (segment_at v upright start at)) starts) size long lines line cell Blank (pos 0) at_line at_cell
       ∙ get_or-map (λ start. drawing (segment_at v upright start (member lines line))) starts cell (pos 0) Blank
@@ -43,9 +64,6 @@ module _ (drawing : Segment → Style) (g : GridParts) (styles : AreGridStyles d
 
       long : (at : ℤ) → length (map (λ start. drawing (segment_at v upright start at)) starts) ≡ size
       long at = length-map starts (λ start. drawing (segment_at v upright start at)) ∙ length-starts_of all
-
-      within : (nat_lt line (suc (grid_sizes g (axis_across v upright))) && nat_lt cell size) ≡ true
-      within = and_from _ _ (lt-ltb line (suc (grid_sizes g (axis_across v upright))) (let l = at_line in omega arith)) (lt-ltb cell size at_cell)
 
   -- the same by whole numbers
   pub grid_style-at : (v : View) (upright : Bool) (line cell : ℤ)

@@ -1,0 +1,69 @@
+//! What the views show of a grid's points and edges.
+
+ghost use Rattle.std.specs.Prelude.{◌≡◌, ◌≤◌};
+ghost use Rattle.solid_model.specs.PerAxis.{numbers_of, cell_of};
+ghost use Rattle.solid_model.specs.Wire.{is_drawn_from, is_end_of_drawn, is_on_drawn, is_pseudo_vertex, is_drawn_or_point, is_pseudo_edge};
+
+use solid_model::{Axis, Grid, PerAxis, Style, View};
+
+/// The view shows something on the level, or the upright, segment that begins where the point
+/// projects.
+fn is_drawn_from(grid: &Grid, view: View, upright: bool, point: PerAxis) -> bool
+    ensures { result ≡ is_drawn_from grid.now view upright (cell_of point) }
+{
+    let frame = view.frame();
+    let line = point.along(frame.across(upright).axis);
+    let cell = point.along(frame.along(upright).axis);
+    grid.style(view, upright, line, cell) != Style::Blank
+}
+
+/// The point's projection is an end of such a segment.
+fn is_end_of_drawn(grid: &Grid, view: View, upright: bool, point: PerAxis) -> bool
+    ensures { result ≡ is_end_of_drawn grid.now view upright (cell_of point) }
+{
+    let axis = view.frame().along(upright).axis;
+    is_drawn_from(grid, view, upright, point)
+        || match point.before(axis) {
+            Some(before) => is_drawn_from(grid, view, upright, before),
+            None => false,
+        }
+}
+
+/// The point's projection lies on something that the view shows.
+fn is_on_drawn(grid: &Grid, point: PerAxis, view: View) -> bool
+    ensures { result ≡ is_on_drawn grid.now (cell_of point) view }
+{
+    is_end_of_drawn(grid, view, false, point) || is_end_of_drawn(grid, view, true, point)
+}
+
+/// The point is a pseudo vertex.
+fn is_pseudo_vertex(grid: &Grid, point: PerAxis) -> bool
+    ensures { result ≡ is_pseudo_vertex grid.now (cell_of point) }
+{
+    is_on_drawn(grid, point, View::Front)
+        && is_on_drawn(grid, point, View::Top)
+        && is_on_drawn(grid, point, View::Side)
+}
+
+/// The view shows something where the edge along an axis from a point projects, or sees the edge as
+/// a point.
+fn is_drawn_or_point(grid: &Grid, axis: Axis, point: PerAxis, view: View) -> bool
+    ensures { result ≡ is_drawn_or_point grid.now axis (cell_of point) view }
+{
+    let frame = view.frame();
+    (frame.along(false).axis != axis || is_drawn_from(grid, view, false, point))
+        && (frame.along(true).axis != axis || is_drawn_from(grid, view, true, point))
+}
+
+/// The edge along an axis from a point is a pseudo edge.
+pub fn is_pseudo_edge(grid: &Grid, axis: Axis, point: PerAxis) -> bool
+    requires { numbers_of point axis ≤ 1024 }
+    ensures { result ≡ is_pseudo_edge grid.now axis (cell_of point) }
+{
+    let end = point.after(axis);
+    is_drawn_or_point(grid, axis, point, View::Front)
+        && is_drawn_or_point(grid, axis, point, View::Top)
+        && is_drawn_or_point(grid, axis, point, View::Side)
+        && is_pseudo_vertex(grid, point)
+        && is_pseudo_vertex(grid, end)
+}

@@ -1,0 +1,7 @@
+//! The pseudo wire frame of a grid.
+#![tactic(auto)]
+
+mod edges;
+mod wire;
+
+pub use wire::wire_of;

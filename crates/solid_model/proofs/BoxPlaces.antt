@@ -1,0 +1,146 @@
+-- The places of a box's cells in a list of all of them.
+use Rattle.std.proofs.Common.{◌≡◌, Bool, true, false, if◌then◌else◌, ◌&&◌, ℕ, suc, ◌+◌, ◌*◌, ◌/◌, ◌%◌, ◌<◌, ◌≤◌, ℤ, pos, negsuc, refl, ap, sym, subst, ◌∙◌, arith}
+use Rattle.std.proofs.lemmas.Bool.{false≢true, and_parts, and_from}
+use Rattle.std.proofs.lemmas.Nat.{mul-le, mod-mul-add, div-mul-add}
+use Rattle.solid_model.specs.declared.cell.Axis.{Axis}
+use Rattle.solid_model.specs.declared.cell.Axis.TheVariants.{X, Y, Z}
+use Rattle.solid_model.specs.declared.cell.Cell.{Cell}
+use Rattle.solid_model.specs.declared.per_axis.PerAxis.{PerAxis}
+use Rattle.solid_model.specs.Cells.{cell_at}
+use Rattle.solid_model.specs.PerAxis.{numbers_of, numbered, AreFew}
+use Rattle.solid_model.specs.Rooms.{Sizes, is_below, is_within, box_place, box_count, same_axis, edge_sizes, face_sizes}
+use Rattle.solid_model.proofs.Unions.{within_product}
+
+-- ---- how far they go
+
+-- the first two products, and all of them, are small where the sizes are
+pub layers_small : (sizes : Sizes) → AreFew sizes → sizes Z * sizes Y ≤ 1048576
+layers_small sizes few = mul-le (sizes Z) (sizes Y) 1024 1024 (few Z) (few Y)
+
+pub cells_small : (sizes : Sizes) → AreFew sizes → box_count sizes ≤ 1073741824
+cells_small sizes few = mul-le (sizes Z * sizes Y) (sizes X) 1048576 1024 (layers_small sizes few) (few X)
+
+module _ (sizes : Sizes) (x y z : ℕ) (at_x : x < sizes X) (at_y : y < sizes Y) (at_z : z < sizes Z) where
+  -- a row is one of all rows,
+  pub row_there : z * sizes Y + y < sizes Z * sizes Y
+  row_there = within_product z (sizes Z) y (sizes Y) at_z at_y
+
+  -- and a cell's place one of all places
+  pub place_there : box_place sizes (cell_at x y z) < box_count sizes
+  place_there = within_product (z * sizes Y + y) (sizes Z * sizes Y) x (sizes X) row_there at_x
+
+-- ---- cells of a box, by their numbers
+
+-- a number that is below a size
+pub record IsNumber (n : ℕ) (k : ℤ) : Type 0 where
+  pub number : ℕ
+  pub is : k ≡ pos number
+  pub less : number < n
+
+pub number_below : (n : ℕ) (k : ℤ) → is_below n k ≡ true → IsNumber n k
+number_below n (pos k) below = record { number = k; is = refl; less = grind (arith, below) }
+number_below n (negsuc k) below = absurd (false≢true below)
+
+pub below_number : (n k : ℕ) → k < n → is_below n (pos k) ≡ true
+below_number n k less = grind (arith, less)
+
+-- the numbers of a cell of the box
+pub record IsCellOfBox (sizes : Sizes) (n : Cell) : Type 0 where
+  pub x : IsNumber (sizes X) n.x
+  pub y : IsNumber (sizes Y) n.y
+  pub z : IsNumber (sizes Z) n.z
+
+pub cell_of_box : (sizes : Sizes) (n : Cell) → is_within sizes n ≡ true → IsCellOfBox sizes n
+cell_of_box sizes n within =
+    let outer = and_parts (is_below (sizes X) n.x) (is_below (sizes Y) n.y && is_below (sizes Z) n.z) within in
+    let inner = and_parts (is_below (sizes Y) n.y) (is_below (sizes Z) n.z) outer.1 in
+    record { x = number_below (sizes X) n.x outer.0; y = number_below (sizes Y) n.y inner.0; z = number_below (sizes Z) n.z inner.1 }
+
+pub within_box : (sizes : Sizes) (x y z : ℕ) → x < sizes X → y < sizes Y → z < sizes Z → is_within sizes (cell_at x y z) ≡ true
+within_box sizes x y z at_x at_y at_z =
+    and_from (is_below (sizes X) (pos x)) (is_below (sizes Y) (pos y) && is_below (sizes Z) (pos z)) (below_number (sizes X) x at_x)
+    (and_from (is_below (sizes Y) (pos y)) (is_below (sizes Z) (pos z)) (below_number (sizes Y) y at_y) (below_number (sizes Z) z at_z))
+
+-- ---- one cell a place
+
+-- a number of two digits has one pair of them
+one_pair : (a b c d w : ℕ) → b < w → d < w → a * w + b ≡ c * w + d → (a ≡ c) × (b ≡ d)
+one_pair a b c d w l m e = (
+  sym (div-mul-add a w b l) ∙ ap (λ n. n / w) e ∙ div-mul-add c w d m,
+  sym (mod-mul-add a w b l) ∙ ap (λ n. n % w) e ∙ mod-mul-add c w d m,
+)
+
+-- two cells of the box with one place are one cell
+pub one_cell : (sizes : Sizes) (n m : Cell) → is_within sizes n ≡ true → is_within sizes m ≡ true → box_place sizes n ≡ box_place sizes m → n ≡ m
+one_cell sizes n m n_in m_in e = one (cell_of_box sizes n n_in) (cell_of_box sizes m m_in)
+  where
+    one : IsCellOfBox sizes n → IsCellOfBox sizes m → n ≡ m
+    one a b =
+        let same : box_place sizes (cell_at a.x.number a.y.number a.z.number) ≡ box_place sizes (cell_at b.x.number b.y.number b.z.number) =
+        (λ t. box_place sizes (record { x = sym a.x.is t; y = sym a.y.is t; z = sym a.z.is t })) ∙ e
+        ∙ (λ t. box_place sizes (record { x = b.x.is t; y = b.y.is t; z = b.z.is t })) in
+        let rows = one_pair _ _ _ _ (sizes X) a.x.less b.x.less same in
+        let layers = one_pair _ _ _ _ (sizes Y) a.y.less b.y.less rows.0 in
+        λ t. record {
+          x = (a.x.is ∙ ap pos rows.1 ∙ sym b.x.is) t;
+          y = (a.y.is ∙ ap pos layers.1 ∙ sym b.y.is) t;
+          z = (a.z.is ∙ ap pos layers.0 ∙ sym b.z.is) t;
+        }
+
+-- a cell of the box has one of the places
+pub cell_there : (sizes : Sizes) (n : Cell) → is_within sizes n ≡ true → box_place sizes n < box_count sizes
+cell_there sizes n n_in =
+    let a = cell_of_box sizes n n_in in
+    subst (λ p. p < box_count sizes) (λ t. box_place sizes (record { x = sym a.x.is t; y = sym a.y.is t; z = sym a.z.is t }))
+    (place_there sizes a.x.number a.y.number a.z.number a.x.less a.y.less a.z.less)
+
+-- ---- the edges and faces of a box's cells
+
+pub numbered_edges : (sizes : Sizes) (a : Axis) (points : Sizes) → ((b : Axis) → points b ≡ suc (sizes b)) → numbered a (sizes a) points ≡ edge_sizes sizes a
+numbered_edges sizes a points more = λ t b. by a b t
+  where
+    by : (c : Axis) (b : Axis) → numbered c (sizes c) points b ≡ edge_sizes sizes c b
+    by X X = refl
+    by X Y = more Y
+    by X Z = more Z
+    by Y X = more X
+    by Y Y = refl
+    by Y Z = more Z
+    by Z X = more X
+    by Z Y = more Y
+    by Z Z = refl
+
+pub numbered_faces : (sizes : Sizes) (a : Axis) (k : ℕ) → k ≡ suc (sizes a) → numbered a k sizes ≡ face_sizes sizes a
+numbered_faces sizes a k more = λ t b. by a k more b t
+  where
+    by : (c : Axis) (l : ℕ) → l ≡ suc (sizes c) → (b : Axis) → numbered c l sizes b ≡ face_sizes sizes c b
+    by X l e X = e
+    by X l e Y = refl
+    by X l e Z = refl
+    by Y l e X = refl
+    by Y l e Y = e
+    by Y l e Z = refl
+    by Z l e X = refl
+    by Z l e Y = refl
+    by Z l e Z = e
+
+-- from a grid's sizes they are few
+pub few_edges : (sizes : Sizes) → ((a : Axis) → sizes a ≤ 63) → (a : Axis) → AreFew (edge_sizes sizes a)
+few_edges sizes few a b = by (same_axis a b)
+  where
+    by : (s : Bool) → (if s then sizes b else suc (sizes b)) ≤ 1024
+    by true = omega (arith, few b)
+    by false = omega (arith, few b)
+
+pub few_faces : (sizes : Sizes) → ((a : Axis) → sizes a ≤ 63) → (a : Axis) → AreFew (face_sizes sizes a)
+few_faces sizes few a b = by (same_axis a b)
+  where
+    by : (s : Bool) → (if s then suc (sizes b) else sizes b) ≤ 1024
+    by true = omega (arith, few b)
+    by false = omega (arith, few b)
+
+-- numbers of a cell of a box with few cells are few
+pub few_numbers : (sizes : Sizes) → AreFew sizes → (n : PerAxis) → n.x < sizes X → n.y < sizes Y → n.z < sizes Z → AreFew (numbers_of n)
+few_numbers sizes few n x y z X = omega (arith, few X)
+few_numbers sizes few n x y z Y = omega (arith, few Y)
+few_numbers sizes few n x y z Z = omega (arith, few Z)

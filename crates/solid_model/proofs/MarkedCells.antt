@@ -1,0 +1,41 @@
+-- Marks that are made cell by cell.
+use Rattle.std.proofs.Common.{◌≡◌, ◌<◌, Bool, true, false, ℕ, List, IsTrue, refl, ap, sym, subst, ◌∙◌}
+use Rattle.solid_model.specs.declared.cell.Axis.{Axis}
+use Rattle.solid_model.specs.declared.cell.Axis.TheVariants.{X, Y, Z}
+use Rattle.solid_model.specs.declared.cell.Cell.{Cell}
+use Rattle.solid_model.specs.declared.per_axis.PerAxis.{PerAxis}
+use Rattle.solid_model.specs.Marks.{BoxMarks, AreMarksOf, AxisMarks, marks_along}
+use Rattle.solid_model.specs.PerAxis.{numbers_of}
+use Rattle.solid_model.specs.Rooms.{Sizes, is_within, box_place, box_count}
+use Rattle.solid_model.proofs.BoxPlaces.{one_cell, cell_there}
+use Rattle.solid_model.proofs.Pushed.{HoldsSoFar}
+
+-- a value is what is true of the cell that has this place
+abbrev pub IsAnswerAt : Sizes → (Cell → Bool) → ℕ → Bool → Type 0
+IsAnswerAt sizes holds p value = (n : Cell) → is_within sizes n ≡ true → box_place sizes n ≡ p → value ≡ holds n
+
+-- what is true of a cell is the answer at its place
+pub answer_at : (sizes : Sizes) (holds : Cell → Bool) (m : Cell) (p : ℕ) (value : Bool) → is_within sizes m ≡ true → p ≡ box_place sizes m
+    → value ≡ holds m → IsAnswerAt sizes holds p value
+answer_at sizes holds m p value m_in there is n n_in e = is ∙ ap holds (one_cell sizes m n m_in n_in (sym there ∙ sym e))
+
+-- all answers are the marks
+pub all_marked : (sizes : PerAxis) (values : List Bool) (count : ℕ) (holds : Cell → Bool)
+    → HoldsSoFar (IsAnswerAt (numbers_of sizes) holds) values count → count ≡ box_count (numbers_of sizes)
+    → AreMarksOf (numbers_of sizes) (λ n. IsTrue (holds n)) (record { sizes = sizes; values = values })
+all_marked sizes values count holds so_far all = record {
+  sized = λ a. refl;
+  exact = λ n n_in.
+      let is = so_far.each (box_place (numbers_of sizes) n) false (subst (λ c. box_place (numbers_of sizes) n < c) (sym all) (cell_there (numbers_of sizes) n n_in)) n n_in refl in
+      (λ marked. subst (λ (b : Bool). IsTrue b) is marked, λ true_of. subst (λ (b : Bool). IsTrue b) (sym is) true_of);
+}
+
+-- what holds of the marks for each axis holds of them together
+pub marks_by_axis : (P : Axis → BoxMarks → Type 0) (x y z : BoxMarks) (m : AxisMarks) → m ≡ record { x = x; y = y; z = z } → P X x → P Y y → P Z z
+    → (a : Axis) → P a (marks_along a m)
+marks_by_axis P x y z m e at_x at_y at_z a = subst (λ n. P a (marks_along a n)) (sym e) (by a)
+  where
+    by : (b : Axis) → P b (marks_along b (record { x = x; y = y; z = z }))
+    by X = at_x
+    by Y = at_y
+    by Z = at_z

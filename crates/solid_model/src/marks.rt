@@ -1,0 +1,137 @@
+//! Marks on the cells of a box.
+
+use crate::cell::Axis;
+use crate::memory::Memory;
+use crate::per_axis::PerAxis;
+use std::alloc::Global;
+use std::marker::Model;
+
+/// A truth value for each cell of a box, z slowest and x fastest.
+#[derive(Debug, Drop)]
+pub struct Marks {
+    sizes: PerAxis,
+    values: Vec<bool>,
+}
+
+impl Model for Marks {
+    ghost use Rattle.solid_model.specs.Marks.{BoxMarks, IsFull};
+
+    ghost Value = { BoxMarks };
+
+    ghost view = { λ s. record { sizes = s.sizes; values = s.values.items } };
+
+    ghost invariant = { λ s. IsFull record { sizes = s.sizes; values = s.values.items } };
+}
+
+/// A question about each cell of a box.
+pub trait CellTest {
+    ghost use Rattle.std.specs.Prelude.{◌≡◌, ◌<◌, Bool};
+    ghost use Rattle.solid_model.specs.declared.cell.Axis.TheVariants.{X, Y, Z};
+    ghost use Rattle.solid_model.specs.declared.cell.Cell.{Cell};
+    ghost use Rattle.solid_model.specs.PerAxis.{numbers_of, cell_of, AreFew};
+    ghost use Rattle.solid_model.specs.Rooms.{Sizes};
+
+    /// The sizes of the box.
+    ghost sizes: { Self → Sizes };
+    /// What is true of a cell.
+    ghost holds: { Self → Cell → Bool };
+
+    /// The sizes of the box.
+    fn sizes(&self) -> PerAxis
+        ensures sizes { numbers_of result ≡ sizes self.now }
+        ensures few { AreFew (numbers_of result) };
+
+    /// Whether it is true of a cell.
+    fn test(&self, cell: PerAxis) -> bool
+        requires few { AreFew (sizes self.now) }
+        requires x { cell.x < sizes self.now X }
+        requires y { cell.y < sizes self.now Y }
+        requires z { cell.z < sizes self.now Z }
+        ensures { result ≡ holds self.now (cell_of cell) };
+}
+
+impl Marks {
+    ghost use Rattle.std.specs.Prelude.{◌≡◌, ◌<◌, length, IsTrue, IfOk};
+    ghost use Rattle.solid_model.specs.Marks.{BoxMarks, IsFull, is_marked, AreMarksOf};
+    ghost use Rattle.solid_model.specs.PerAxis.{numbers_of, cell_of, AreFew};
+    ghost use Rattle.solid_model.specs.Rooms.{box_count};
+
+    /// The marks with these values, one for each cell of a box of these sizes.
+    pub fn new(sizes: PerAxis, values: Vec<bool>) -> Marks
+        requires { IsFull record { sizes = sizes; values = values.items } }
+        ensures { result ≡ record { sizes = sizes; values = values.items } }
+    {
+        Marks { sizes, values }
+    }
+
+    /// Marks on the cells of which the answer is yes.
+    pub fn of<T: CellTest>(alloc: Global, test: &T) -> Result<Marks, Memory>
+        ensures { IfOk result (λ marks. AreMarksOf (T.sizes test.now)
+            (λ n. IsTrue (T.holds test.now n)) marks) }
+    {
+        let sizes = test.sizes();
+        let mut values = Vec::with_capacity(alloc, sizes.count())?;
+        for place in 0..sizes.count() {
+            values.push(test.test(sizes.cell(place)))?;
+        }
+        Ok(Marks { sizes, values })
+    }
+
+    /// The sizes of the box.
+    pub fn sizes(&self) -> PerAxis
+        ensures sizes { result ≡ self.now.sizes }
+        ensures few { AreFew (numbers_of result) }
+    {
+        self.sizes
+    }
+
+    /// The values, cell by cell.
+    pub fn values(&self) -> &[bool]
+        ensures values { result.now ≡ self.now.values }
+        ensures all { length result.now ≡ box_count (numbers_of self.now.sizes) }
+    {
+        self.values.as_slice()
+    }
+
+    /// The mark on a cell.
+    pub fn at(&self, cell: PerAxis) -> bool
+        requires x { cell.x < self.now.sizes.x }
+        requires y { cell.y < self.now.sizes.y }
+        requires z { cell.z < self.now.sizes.z }
+        ensures { result ≡ is_marked self.now (cell_of cell) }
+    {
+        self.values[self.sizes.place(cell)]
+    }
+}
+
+/// Marks for each axis, each on the cells of a box of its own.
+#[derive(Debug, Drop)]
+pub struct MarksByAxis {
+    pub x: Marks,
+    pub y: Marks,
+    pub z: Marks,
+}
+
+impl Model for MarksByAxis {
+    ghost use Rattle.solid_model.specs.Marks.{AxisMarks};
+
+    ghost Value = { AxisMarks };
+
+    ghost view = { λ s. record { x = s.x; y = s.y; z = s.z } };
+}
+
+impl MarksByAxis {
+    ghost use Rattle.std.specs.Prelude.{◌≡◌};
+    ghost use Rattle.solid_model.specs.Marks.{marks_along};
+
+    /// Those for an axis.
+    pub fn along(&self, axis: Axis) -> &Marks
+        ensures { result.now ≡ marks_along axis self.now }
+    {
+        match axis {
+            Axis::X => &self.x,
+            Axis::Y => &self.y,
+            Axis::Z => &self.z,
+        }
+    }
+}
