@@ -1,6 +1,5 @@
 -- The nodes of a ringed box and the cells that they stand for: each is the other's, and nodes come in the order of cells.
 use Rattle.std.proofs.Common.{◌≡◌, ◌↔◌, ◌⊎◌, inl, inr, ℕ, zero, suc, ◌+◌, ◌*◌, ◌/◌, ◌%◌, ◌<◌, ℤ, pos, negsuc, ◌+ℤ◌, ◌-ℤ◌, ◌≤ℤ◌, ◌<ℤ◌, IsTrue, refl, sym, ◌∙◌, ap, subst, arith}
-use Rattle.std.proofs.lemmas.Bool.{false≢true, and_parts, and_from, ltb-true, lt-ltb}
 use Rattle.std.proofs.lemmas.Int.{ints}
 use Rattle.std.proofs.lemmas.Nat.{div-add-mod', div-mul-add, mod-mul-add, div_below, mod_below}
 use Rattle.solid_model.specs.declared.cell.Axis.{Axis}
@@ -8,8 +7,8 @@ use Rattle.solid_model.specs.declared.cell.Axis.TheVariants.{X, Y, Z}
 use Rattle.solid_model.specs.declared.cell.Cell.{Cell}
 use Rattle.solid_model.specs.Cells.{coordinate, placed, cell_before, cell_after}
 use Rattle.solid_model.specs.Orders.{ComesBefore}
-use Rattle.solid_model.specs.Rooms.{Sizes, is_below, is_within, place_of_number}
-use Rattle.solid_model.proofs.BoxCells.{below-bounds, bounds-below, within-below, below-within}
+use Rattle.solid_model.specs.Rooms.{Sizes, is_within, place_of_number}
+use Rattle.solid_model.proofs.BoxCells.{below-bounds, within-below}
 use Rattle.solid_model.proofs.CellOrder.{LiesBefore, before-lies, one_or_before}
 use Rattle.solid_model.proofs.Fullness.{same_coordinates}
 use Rattle.solid_model.proofs.Unions.{within_product}
