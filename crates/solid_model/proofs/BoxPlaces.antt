@@ -1,13 +1,16 @@
 -- The places of a box's cells in a list of all of them.
-use Rattle.std.proofs.Common.{◌≡◌, Bool, true, false, if◌then◌else◌, ◌&&◌, ℕ, suc, ◌+◌, ◌*◌, ◌/◌, ◌%◌, ◌<◌, ◌≤◌, ℤ, pos, negsuc, refl, ap, sym, subst, ◌∙◌, arith}
+use Rattle.std.proofs.Common.{◌≡◌, ◌⊎◌, inl, inr, Bool, true, false, if◌then◌else◌, ◌&&◌, ℕ, zero, suc, ◌+◌, ◌*◌, ◌/◌, ◌%◌, ◌<◌, ◌≤◌, ℤ, pos, negsuc, ◌<ℤ◌, refl, ap, sym, subst, ◌∙◌, arith}
 use Rattle.std.proofs.lemmas.Bool.{false≢true, and_parts, and_from}
-use Rattle.std.proofs.lemmas.Nat.{mul-le, mod-mul-add, div-mul-add}
+use Rattle.std.proofs.lemmas.Int.{ints}
+use Rattle.std.proofs.lemmas.Nat.{mul-le, mod-mul-add, div-mul-add, div-add-mod', div_below, mod_below}
 use Rattle.solid_model.specs.declared.cell.Axis.{Axis}
 use Rattle.solid_model.specs.declared.cell.Axis.TheVariants.{X, Y, Z}
 use Rattle.solid_model.specs.declared.cell.Cell.{Cell}
 use Rattle.solid_model.specs.Cells.{cell_at}
+use Rattle.solid_model.specs.Orders.{ComesBefore}
 use Rattle.solid_model.specs.PerAxis.{numbered, AreFew}
 use Rattle.solid_model.specs.Rooms.{Sizes, is_below, is_within, box_place, box_count, same_axis, edge_sizes, face_sizes}
+use Rattle.solid_model.proofs.CellOrder.{LiesBefore, before-lies, one_or_before}
 use Rattle.solid_model.proofs.Unions.{within_product}
 
 -- ---- how far they go
@@ -92,6 +95,109 @@ cell_there sizes n n_in =
     let a = cell_of_box sizes n n_in in
     subst (λ p. p < box_count sizes) (λ t. box_place sizes (record { x = sym a.x.is t; y = sym a.y.is t; z = sym a.z.is t }))
     (place_there sizes a.x.number a.y.number a.z.number a.x.less a.y.less a.z.less)
+
+-- ---- a cell a place
+
+-- each place is that of some cell of the box
+pub some_cell : (sizes : Sizes) (p : ℕ) → p < box_count sizes → (n : Cell) × (is_within sizes n ≡ true) × (box_place sizes n ≡ p)
+some_cell sizes p below = (cell_at (p % w) (row % h) (row / h), within_box sizes (p % w) (row % h) (row / h) at_x at_y at_z, same)
+  where
+    w : ℕ
+    w = sizes X
+
+    h : ℕ
+    h = sizes Y
+
+    row : ℕ
+    row = p / w
+
+    some_columns : 0 < w
+    some_columns = by w refl
+      where
+        by : (k : ℕ) → sizes X ≡ k → 0 < k
+        by zero e = let none = subst (λ k. p < sizes Z * sizes Y * k) e below in absurd (omega arith)
+        by (suc k) e = omega arith
+
+    row_below : row < sizes Z * h
+    row_below = div_below p w (sizes Z * h) some_columns below
+
+    some_rows : 0 < h
+    some_rows = by h refl
+      where
+        by : (k : ℕ) → sizes Y ≡ k → 0 < k
+        by zero e = let none = subst (λ k. row < sizes Z * k) e row_below in absurd (omega arith)
+        by (suc k) e = omega arith
+
+    at_x : p % w < sizes X
+    at_x = mod_below p w some_columns
+
+    at_y : row % h < sizes Y
+    at_y = mod_below row h some_rows
+
+    at_z : row / h < sizes Z
+    at_z = div_below row h (sizes Z) some_rows row_below
+
+    same : box_place sizes (cell_at (p % w) (row % h) (row / h)) ≡ p
+    same = ap (λ k. k * w + p % w) (div-add-mod' row h) ∙ div-add-mod' p w
+
+-- ---- the order of places
+
+-- a place in an earlier row comes earlier
+place_in_earlier_row : (a b c d w : ℕ) → a < c → b < w → a * w + b < c * w + d
+place_in_earlier_row a b c d w earlier within = let end = within_product a c b w earlier within in omega arith
+
+-- of two cells of a box the one that comes before the other has the earlier place
+pub before_earlier : (sizes : Sizes) (n m : Cell) → is_within sizes n ≡ true → is_within sizes m ≡ true → ComesBefore n m
+    → box_place sizes n < box_place sizes m
+before_earlier sizes n m n_in m_in before = by (before-lies n m before)
+  where
+    a : IsCellOfBox sizes n
+    a = cell_of_box sizes n n_in
+
+    b : IsCellOfBox sizes m
+    b = cell_of_box sizes m m_in
+
+    w : ℕ
+    w = sizes X
+
+    h : ℕ
+    h = sizes Y
+
+    smaller : {s t : ℕ} {k l : ℤ} (i : IsNumber s k) (j : IsNumber t l) → k <ℤ l → i.number < j.number
+    smaller i j l = omega (arith, ints, i.is, j.is)
+
+    same : {s t : ℕ} {k l : ℤ} (i : IsNumber s k) (j : IsNumber t l) → k ≡ l → i.number ≡ j.number
+    same i j e = omega (arith, ints, i.is, j.is)
+
+    numbered_less : (a.z.number * h + a.y.number) * w + a.x.number < (b.z.number * h + b.y.number) * w + b.x.number
+        → box_place sizes n < box_place sizes m
+    numbered_less less =
+        subst (λ k. k < box_place sizes m) (λ t. box_place sizes (record { x = sym a.x.is t; y = sym a.y.is t; z = sym a.z.is t }))
+        (subst (λ k. box_place sizes (cell_at a.x.number a.y.number a.z.number) < k)
+        (λ t. box_place sizes (record { x = sym b.x.is t; y = sym b.y.is t; z = sym b.z.is t })) less)
+
+    by_rows : a.z.number * h + a.y.number < b.z.number * h + b.y.number → box_place sizes n < box_place sizes m
+    by_rows earlier = numbered_less (place_in_earlier_row _ a.x.number _ b.x.number w earlier a.x.less)
+
+    by : LiesBefore n m → box_place sizes n < box_place sizes m
+    by (inl l) = by_rows (place_in_earlier_row _ a.y.number _ b.y.number h (smaller a.z b.z l) a.y.less)
+    by (inr (same_z, inl l)) =
+        let less = smaller a.y b.y l in
+        by_rows (subst (λ k. a.z.number * h + a.y.number < k * h + b.y.number) (same a.z b.z same_z) (omega arith))
+    by (inr (same_z, inr (same_y, l))) =
+        let less = smaller a.x b.x l in
+        let layer = same a.z b.z same_z in let rows = same a.y b.y same_y in
+        numbered_less (subst (λ k. (a.z.number * h + a.y.number) * w + a.x.number < k * w + b.x.number) (λ t. layer t * h + rows t) (omega arith))
+
+-- and the one with the earlier place comes before the other
+pub earlier_before : (sizes : Sizes) (n m : Cell) → is_within sizes n ≡ true → is_within sizes m ≡ true
+    → box_place sizes n < box_place sizes m → ComesBefore n m
+earlier_before sizes n m n_in m_in earlier = by (one_or_before n m)
+  where
+    by : (n ≡ m) ⊎ (ComesBefore n m ⊎ ComesBefore m n) → ComesBefore n m
+    by (inl e) = let same = ap (box_place sizes) e in absurd (omega arith)
+    by (inr (inl before)) = before
+    by (inr (inr after)) = let later = before_earlier sizes m n m_in n_in after in absurd (omega arith)
 
 -- ---- the edges and faces of a box's cells
 

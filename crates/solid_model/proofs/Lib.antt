@@ -32,3 +32,4 @@ pub mod BoxPlaces
 pub mod MarkedCells
 pub mod GridStyle
 pub mod Numbers
+pub mod OneNumbering
