@@ -98,47 +98,39 @@ cell_there sizes n n_in =
 
 -- ---- a cell a place
 
--- each place is that of some cell of the box
-pub some_cell : (sizes : Sizes) (p : ℕ) → p < box_count sizes → (n : Cell) × (is_within sizes n ≡ true) × (box_place sizes n ≡ p)
-some_cell sizes p below = (cell_at (p % w) (row % h) (row / h), within_box sizes (p % w) (row % h) (row / h) at_x at_y at_z, same)
+-- the cell with a place
+abbrev pub cell_of_place : Sizes → ℕ → Cell
+cell_of_place sizes p = cell_at (p % sizes X) (p / sizes X % sizes Y) (p / sizes X / sizes Y)
+
+-- it is one of the box,
+pub cell_of_place-within : (sizes : Sizes) (p : ℕ) → p < box_count sizes → is_within sizes (cell_of_place sizes p) ≡ true
+cell_of_place-within sizes p below = within_box sizes _ _ _ (mod_below p (sizes X) some_columns)
+    (mod_below (p / sizes X) (sizes Y) some_rows) (div_below (p / sizes X) (sizes Y) (sizes Z) some_rows row_below)
   where
-    w : ℕ
-    w = sizes X
-
-    h : ℕ
-    h = sizes Y
-
-    row : ℕ
-    row = p / w
-
-    some_columns : 0 < w
-    some_columns = by w refl
+    some_columns : 0 < sizes X
+    some_columns = by (sizes X) refl
       where
         by : (k : ℕ) → sizes X ≡ k → 0 < k
         by zero e = let none = subst (λ k. p < sizes Z * sizes Y * k) e below in absurd (omega arith)
         by (suc k) e = omega arith
 
-    row_below : row < sizes Z * h
-    row_below = div_below p w (sizes Z * h) some_columns below
+    row_below : p / sizes X < sizes Z * sizes Y
+    row_below = div_below p (sizes X) (sizes Z * sizes Y) some_columns below
 
-    some_rows : 0 < h
-    some_rows = by h refl
+    some_rows : 0 < sizes Y
+    some_rows = by (sizes Y) refl
       where
         by : (k : ℕ) → sizes Y ≡ k → 0 < k
-        by zero e = let none = subst (λ k. row < sizes Z * k) e row_below in absurd (omega arith)
+        by zero e = let none = subst (λ k. p / sizes X < sizes Z * k) e row_below in absurd (omega arith)
         by (suc k) e = omega arith
 
-    at_x : p % w < sizes X
-    at_x = mod_below p w some_columns
+-- has the place,
+pub cell_of_place-there : (sizes : Sizes) (p : ℕ) → box_place sizes (cell_of_place sizes p) ≡ p
+cell_of_place-there sizes p = ap (λ k. k * sizes X + p % sizes X) (div-add-mod' (p / sizes X) (sizes Y)) ∙ div-add-mod' p (sizes X)
 
-    at_y : row % h < sizes Y
-    at_y = mod_below row h some_rows
-
-    at_z : row / h < sizes Z
-    at_z = div_below row h (sizes Z) some_rows row_below
-
-    same : box_place sizes (cell_at (p % w) (row % h) (row / h)) ≡ p
-    same = ap (λ k. k * w + p % w) (div-add-mod' row h) ∙ div-add-mod' p w
+-- and is the only such cell of the box
+pub cell_of_place-own : (sizes : Sizes) (n : Cell) → is_within sizes n ≡ true → cell_of_place sizes (box_place sizes n) ≡ n
+cell_of_place-own sizes n n_in = one_cell sizes _ n (cell_of_place-within sizes _ (cell_there sizes n n_in)) n_in (cell_of_place-there sizes _)
 
 -- ---- the order of places
 

@@ -33,3 +33,8 @@ pub mod MarkedCells
 pub mod GridStyle
 pub mod Numbers
 pub mod OneNumbering
+pub mod Passages
+pub mod Decisions
+pub mod ItemOrder
+pub mod NumberedPlaces
+pub mod SomeNumbering

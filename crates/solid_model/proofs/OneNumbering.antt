@@ -2,19 +2,12 @@
 use Rattle.std.proofs.Common.{◌≡◌, ◌⊎◌, inl, inr, true, ℕ, zero, suc, ◌<◌, ◌≤◌, List, get_or, Option, Some, None, refl, ap, sym, subst, ◌∙◌, arith}
 use Rattle.std.proofs.lemmas.Bool.{cases_lt}
 use Rattle.std.proofs.lemmas.List.{ext_get_or}
+use Rattle.std.proofs.lemmas.Option.{none-some, same_Some}
 use Rattle.solid_model.specs.declared.cell.Cell.{Cell}
 use Rattle.solid_model.specs.Orders.{ComesBefore}
 use Rattle.solid_model.specs.Rooms.{Sizes, is_within, box_place, box_count, Walls, LeadsOut, number_at, IsEarlier, AreRooms}
-use Rattle.solid_model.proofs.BoxPlaces.{some_cell, cell_there, before_earlier}
+use Rattle.solid_model.proofs.BoxPlaces.{cell_there, cell_of_place, cell_of_place-within, cell_of_place-there, before_earlier}
 use Rattle.solid_model.proofs.CellOrder.{one_or_before}
-
--- a room's number isn't none
-some_is_not_none : (k : ℕ) → Some k ≡ None → ⊥
-some_is_not_none k e = cc
-
--- numbers of one room are one
-same_number : (k l : ℕ) → Some k ≡ Some l → k ≡ l
-same_number k l e = cc
 
 module _ (sizes : Sizes) (wall : Walls) (numbers others : List (Option ℕ)) (count many : ℕ)
     (are : AreRooms sizes wall numbers count) (are_too : AreRooms sizes wall others many) where
@@ -32,11 +25,11 @@ module _ (sizes : Sizes) (wall : Walls) (numbers others : List (Option ℕ)) (co
       by : (m : Cell) → is_within sizes m ≡ true → number_at sizes others m ≡ Some k
           → ((o : Cell) → is_within sizes o ≡ true → ComesBefore o m → IsEarlier k (number_at sizes others o))
           → (m ≡ n) ⊎ (ComesBefore m n ⊎ ComesBefore n m) → ⊥
-      by m m_in is none (inl same) = let one = same_number k l (sym is ∙ ap (number_at sizes others) same ∙ f) in omega arith
+      by m m_in is none (inl same) = let one = same_Some k l (sym is ∙ ap (number_at sizes others) same ∙ f) in omega arith
       by m m_in is none (inr (inl earlier)) =
-          let stays : LeadsOut sizes wall n → ⊥ = λ out. some_is_not_none k (sym e ∙ (are.outside n n_in).1 out) in
+          let stays : LeadsOut sizes wall n → ⊥ = λ out. none-some k (sym ((are.outside n n_in).1 out) ∙ e) in
           let joined = (are.joined n m n_in m_in stays).0 (e ∙ sym is ∙ sym (before m m_in earlier)) in
-          let one = same_number k l (sym is ∙ sym ((are_too.joined n m n_in m_in stays).1 joined) ∙ f) in omega arith
+          let one = same_Some k l (sym is ∙ sym ((are_too.joined n m n_in m_in stays).1 joined) ∙ f) in omega arith
       by m m_in is none (inr (inr later)) = let less_too : l < k = subst (IsEarlier k) f (none n n_in later) in omega arith
 
 -- Two numberings agree on a cell where they do on all earlier ones.
@@ -52,7 +45,8 @@ agree_after sizes wall numbers others count many are are_too n n_in before = by 
     by (Some k) (Some l) e f = elim (cases_lt k l) as (λ _. number_at sizes numbers n ≡ number_at sizes others n) [
       | inl less ↦ absurd (not_greater sizes wall numbers others count many are are_too n n_in before k l e f less)
       | inr least ↦ elim (cases_lt l k) as (λ _. number_at sizes numbers n ≡ number_at sizes others n) [
-        | inl less ↦ absurd (not_greater sizes wall others numbers many count are_too are n n_in (λ m m_in earlier. sym (before m m_in earlier)) l k f e less)
+        | inl less ↦ absurd (not_greater sizes wall others numbers many count are_too are n n_in
+            (λ m m_in earlier. sym (before m m_in earlier)) l k f e less)
         | inr most ↦ (let same : k ≡ l = omega arith in e ∙ ap Some same ∙ sym f)
       ]
     ]
@@ -72,8 +66,8 @@ pub one_numbering : (sizes : Sizes) (wall : Walls) (numbers others : List (Optio
     → AreRooms sizes wall numbers count → AreRooms sizes wall others many → (numbers ≡ others) × (count ≡ many)
 one_numbering sizes wall numbers others count many are are_too = (
   ext_get_or None numbers others (are.listed ∙ sym are_too.listed) (λ p l.
-      let at = some_cell sizes p (subst (λ c. p < c) are.listed l) in
-      subst (λ q. get_or numbers q None ≡ get_or others q None) at.2 (same at.0 at.1)),
+      let p_in = cell_of_place-within sizes p (subst (λ c. p < c) are.listed l) in
+      subst (λ q. get_or numbers q None ≡ get_or others q None) (cell_of_place-there sizes p) (same (cell_of_place sizes p) p_in)),
   (let most = no_more sizes wall numbers others count many are are_too same in
       let least = no_more sizes wall others numbers many count are_too are (λ n n_in. sym (same n n_in)) in omega arith),
 )
