@@ -1,4 +1,4 @@
--- Steps between cells lead back, and outside a box all is one: none of its own walls stands between two cells out there.
+-- Outside a box all is one: none of its own walls stands between two cells out there.
 use Rattle.std.proofs.Common.{◌≡◌, ◌⊎◌, inl, inr, false, ◌&&◌, ◌||◌, ℕ, zero, suc, ℤ, pos, negsuc, ◌-ℤ◌, ◌≤ℤ◌, refl, sym, ◌∙◌, ap, subst, arith}
 use Rattle.std.proofs.lemmas.Bool.{both_ways, and_cases, and_left, and_right, or_from}
 use Rattle.std.proofs.lemmas.Int.{ints, by_lt_z}
@@ -8,19 +8,11 @@ use Rattle.solid_model.specs.declared.cell.Cell.{Cell}
 use Rattle.solid_model.specs.Cells.{placed, cell_before}
 use Rattle.solid_model.specs.Chains.{Reaches}
 use Rattle.solid_model.specs.Rooms.{Sizes, is_below, is_within, Walls, Passes}
-use Rattle.solid_model.proofs.Chains.{reaches-then_step, reaches-onward, reaches-back}
+use Rattle.solid_model.proofs.Chains.{reaches-then_step, reaches-onward}
 use Rattle.solid_model.proofs.InGrid.{before_placed}
 use Rattle.solid_model.proofs.Integers.{natural}
+use Rattle.solid_model.proofs.Passages.{passages-back}
 use Rattle.flood.specs.Ring.{OwnWalls}
-
--- a step leads back
-pub passes-back : (wall : Walls) (n m : Cell) → Passes wall n m → Passes wall m n
-passes-back wall n m (a, inl h) = (a, inr h)
-passes-back wall n m (a, inr h) = (a, inl h)
-
--- and so does a chain
-pub passages-back : (wall : Walls) (n m : Cell) → Reaches (Passes wall) n m → Reaches (Passes wall) m n
-passages-back wall = reaches-back (Passes wall) (passes-back wall)
 
 -- the ring's first cell
 abbrev pub first_corner : Cell

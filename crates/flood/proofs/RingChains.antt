@@ -12,10 +12,10 @@ use Rattle.solid_model.specs.Rooms.{Sizes, is_below, is_within, Walls, Passes}
 use Rattle.solid_model.proofs.BoxCells.{below-bounds, within-below}
 use Rattle.solid_model.proofs.Chains.{reaches-step, reaches-back, reaches-map}
 use Rattle.solid_model.proofs.Fullness.{same_coordinates}
+use Rattle.solid_model.proofs.Passages.{passes-back}
 use Rattle.flood.specs.Graph.{GoesBack}
 use Rattle.flood.specs.Ring.{ring_count, ring_place, ring_cell, OwnWalls, RingStep, IsRingedNumber, IsRinged}
 use Rattle.flood.proofs.RingPlaces.{within-ringed, ring_place-below, ring_cell-ring_place, ring_cell-ringed, ring_place-ring_cell}
-use Rattle.flood.proofs.Outside.{passes-back}
 
 -- ---- numbers brought into the ring
 

@@ -1,14 +1,17 @@
 -- The places of a box's cells in a list of all of them.
-use Rattle.std.proofs.Common.{◌≡◌, Bool, true, false, if◌then◌else◌, ◌&&◌, ℕ, suc, ◌+◌, ◌*◌, ◌/◌, ◌%◌, ◌<◌, ◌≤◌, ℤ, pos, negsuc, IsTrue, refl, ap, sym, subst, ◌∙◌, arith}
+use Rattle.std.proofs.Common.{◌≡◌, ◌⊎◌, inl, inr, Bool, true, false, if◌then◌else◌, ◌&&◌, ℕ, zero, suc, ◌+◌, ◌*◌, ◌/◌, ◌%◌, ◌<◌, ◌≤◌, ℤ, pos, negsuc, ◌<ℤ◌, IsTrue, refl, ap, sym, subst, ◌∙◌, arith}
 use Rattle.std.proofs.lemmas.Bool.{false≢true, and_parts, and_from}
-use Rattle.std.proofs.lemmas.Nat.{mul-le, mod-mul-add, div-mul-add}
+use Rattle.std.proofs.lemmas.Int.{ints}
+use Rattle.std.proofs.lemmas.Nat.{mul-le, mod-mul-add, div-mul-add, div-add-mod', div_below, mod_below}
 use Rattle.solid_model.specs.declared.cell.Axis.{Axis}
 use Rattle.solid_model.specs.declared.cell.Axis.TheVariants.{X, Y, Z}
 use Rattle.solid_model.specs.declared.cell.Cell.{Cell}
 use Rattle.solid_model.specs.declared.per_axis.PerAxis.{PerAxis}
 use Rattle.solid_model.specs.Cells.{cell_at}
+use Rattle.solid_model.specs.Orders.{ComesBefore}
 use Rattle.solid_model.specs.PerAxis.{numbers_of, cell_of, numbered, AreFew}
 use Rattle.solid_model.specs.Rooms.{Sizes, is_below, is_within, box_place, box_count, same_axis, edge_sizes, face_sizes}
+use Rattle.solid_model.proofs.CellOrder.{LiesBefore, before-lies, one_or_before}
 use Rattle.solid_model.proofs.Unions.{within_product}
 
 -- ---- how far they go
@@ -93,6 +96,101 @@ cell_there sizes n n_in =
     let a = cell_of_box sizes n n_in in
     subst (λ p. p < box_count sizes) (λ t. box_place sizes (record { x = sym a.x.is t; y = sym a.y.is t; z = sym a.z.is t }))
     (place_there sizes a.x.number a.y.number a.z.number a.x.less a.y.less a.z.less)
+
+-- ---- a cell a place
+
+-- the cell with a place
+abbrev pub cell_of_place : Sizes → ℕ → Cell
+cell_of_place sizes p = cell_at (p % sizes X) (p / sizes X % sizes Y) (p / sizes X / sizes Y)
+
+-- it is one of the box,
+pub cell_of_place-within : (sizes : Sizes) (p : ℕ) → p < box_count sizes → is_within sizes (cell_of_place sizes p) ≡ true
+cell_of_place-within sizes p below = within_box sizes _ _ _ (mod_below p (sizes X) some_columns)
+    (mod_below (p / sizes X) (sizes Y) some_rows) (div_below (p / sizes X) (sizes Y) (sizes Z) some_rows row_below)
+  where
+    some_columns : 0 < sizes X
+    some_columns = by (sizes X) refl
+      where
+        by : (k : ℕ) → sizes X ≡ k → 0 < k
+        by zero e = let none = subst (λ k. p < sizes Z * sizes Y * k) e below in absurd (omega arith)
+        by (suc k) e = omega arith
+
+    row_below : p / sizes X < sizes Z * sizes Y
+    row_below = div_below p (sizes X) (sizes Z * sizes Y) some_columns below
+
+    some_rows : 0 < sizes Y
+    some_rows = by (sizes Y) refl
+      where
+        by : (k : ℕ) → sizes Y ≡ k → 0 < k
+        by zero e = let none = subst (λ k. p / sizes X < sizes Z * k) e row_below in absurd (omega arith)
+        by (suc k) e = omega arith
+
+-- has the place,
+pub cell_of_place-there : (sizes : Sizes) (p : ℕ) → box_place sizes (cell_of_place sizes p) ≡ p
+cell_of_place-there sizes p = ap (λ k. k * sizes X + p % sizes X) (div-add-mod' (p / sizes X) (sizes Y)) ∙ div-add-mod' p (sizes X)
+
+-- and is the only such cell of the box
+pub cell_of_place-own : (sizes : Sizes) (n : Cell) → is_within sizes n ≡ true → cell_of_place sizes (box_place sizes n) ≡ n
+cell_of_place-own sizes n n_in = one_cell sizes _ n (cell_of_place-within sizes _ (cell_there sizes n n_in)) n_in (cell_of_place-there sizes _)
+
+-- ---- the order of places
+
+-- a place in an earlier row comes earlier
+place_in_earlier_row : (a b c d w : ℕ) → a < c → b < w → a * w + b < c * w + d
+place_in_earlier_row a b c d w earlier within = let end = within_product a c b w earlier within in omega arith
+
+-- of two cells of a box the one that comes before the other has the earlier place
+pub before_earlier : (sizes : Sizes) (n m : Cell) → is_within sizes n ≡ true → is_within sizes m ≡ true → ComesBefore n m
+    → box_place sizes n < box_place sizes m
+before_earlier sizes n m n_in m_in before = by (before-lies n m before)
+  where
+    a : IsCellOfBox sizes n
+    a = cell_of_box sizes n n_in
+
+    b : IsCellOfBox sizes m
+    b = cell_of_box sizes m m_in
+
+    w : ℕ
+    w = sizes X
+
+    h : ℕ
+    h = sizes Y
+
+    smaller : {s t : ℕ} {k l : ℤ} (i : IsNumber s k) (j : IsNumber t l) → k <ℤ l → i.number < j.number
+    smaller i j l = omega (arith, ints, i.is, j.is)
+
+    same : {s t : ℕ} {k l : ℤ} (i : IsNumber s k) (j : IsNumber t l) → k ≡ l → i.number ≡ j.number
+    same i j e = omega (arith, ints, i.is, j.is)
+
+    numbered_less : (a.z.number * h + a.y.number) * w + a.x.number < (b.z.number * h + b.y.number) * w + b.x.number
+        → box_place sizes n < box_place sizes m
+    numbered_less less =
+        subst (λ k. k < box_place sizes m) (λ t. box_place sizes (record { x = sym a.x.is t; y = sym a.y.is t; z = sym a.z.is t }))
+        (subst (λ k. box_place sizes (cell_at a.x.number a.y.number a.z.number) < k)
+        (λ t. box_place sizes (record { x = sym b.x.is t; y = sym b.y.is t; z = sym b.z.is t })) less)
+
+    by_rows : a.z.number * h + a.y.number < b.z.number * h + b.y.number → box_place sizes n < box_place sizes m
+    by_rows earlier = numbered_less (place_in_earlier_row _ a.x.number _ b.x.number w earlier a.x.less)
+
+    by : LiesBefore n m → box_place sizes n < box_place sizes m
+    by (inl l) = by_rows (place_in_earlier_row _ a.y.number _ b.y.number h (smaller a.z b.z l) a.y.less)
+    by (inr (same_z, inl l)) =
+        let less = smaller a.y b.y l in
+        by_rows (subst (λ k. a.z.number * h + a.y.number < k * h + b.y.number) (same a.z b.z same_z) (omega arith))
+    by (inr (same_z, inr (same_y, l))) =
+        let less = smaller a.x b.x l in
+        let layer = same a.z b.z same_z in let rows = same a.y b.y same_y in
+        numbered_less (subst (λ k. (a.z.number * h + a.y.number) * w + a.x.number < k * w + b.x.number) (λ t. layer t * h + rows t) (omega arith))
+
+-- and the one with the earlier place comes before the other
+pub earlier_before : (sizes : Sizes) (n m : Cell) → is_within sizes n ≡ true → is_within sizes m ≡ true
+    → box_place sizes n < box_place sizes m → ComesBefore n m
+earlier_before sizes n m n_in m_in earlier = by (one_or_before n m)
+  where
+    by : (n ≡ m) ⊎ (ComesBefore n m ⊎ ComesBefore m n) → ComesBefore n m
+    by (inl e) = let same = ap (box_place sizes) e in absurd (omega arith)
+    by (inr (inl before)) = before
+    by (inr (inr after)) = let later = before_earlier sizes m n m_in n_in after in absurd (omega arith)
 
 -- ---- the edges and faces of a box's cells
 

@@ -39,3 +39,9 @@ pub mod Pushed
 pub mod BoxPlaces
 pub mod MarkedCells
 pub mod Numbers
+pub mod OneNumbering
+pub mod Passages
+pub mod Decisions
+pub mod ItemOrder
+pub mod NumberedPlaces
+pub mod SomeNumbering

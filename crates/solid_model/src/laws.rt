@@ -5,6 +5,7 @@ mod drawings;
 mod grid;
 mod orders;
 mod places;
+mod rooms;
 mod runs;
 mod sheets;
 mod stretches;
@@ -25,6 +26,7 @@ pub use orders::{
 pub use places::{
     matching_solids_begin_at_zero, solids_begin_where_their_views_do, solids_lie_within_their_views,
 };
+pub use rooms::one_numbering_of_rooms;
 pub use runs::{one_list_of_runs, runs_are_maximal_stretches, small_runs};
 pub use sheets::{
     lines_have_a_drawing, moved_drawings_begin_at_zero, small_sheet, views_begin_at_the_least_lines,
