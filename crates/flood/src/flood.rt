@@ -46,13 +46,7 @@ fn visit(neighbour: Option<usize>, number: u32, marks: &mut [u32], stack: &mut V
 }
 
 /// Marks the neighbours of a node that have no mark, and puts them on the stack.
-fn spread<G: Graph>(
-    graph: &G,
-    node: usize,
-    number: u32,
-    marks: &mut [u32],
-    stack: &mut Vec<usize>,
-)
+fn spread<G: Graph>(graph: &G, node: usize, number: u32, marks: &mut [u32], stack: &mut Vec<usize>)
     requires node { node < G.nodes graph.now }
     requires size { length marks.old ≡ G.nodes graph.now }
     requires number { number < no_mark }

@@ -4,6 +4,8 @@
 mod flood;
 mod graph;
 mod numbering;
+#[cfg(test)]
+mod tests;
 
 pub use flood::reached;
 pub use graph::Graph;

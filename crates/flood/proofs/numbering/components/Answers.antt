@@ -1,5 +1,5 @@
 -- All nodes are numbered.
-use Rattle.std.proofs.Common.{◌≡◌, List, length, ◌∙◌, sym, subst, arith}
+use Rattle.std.proofs.Common.{◌∙◌, sym, subst}
 use Rattle.std.proofs.lemmas.List.{take_at}
 use Rattle.flood.specs.Graph.{AreComponents}
 use Rattle.flood.proofs.Numbered.{numbers_all}
