@@ -18,7 +18,8 @@ marked_within marks a m = elim (cases_lt a (length marks)) as (λ _. a < length 
 pub none_marked : (size a : ℕ) → IsMarked (replicate size no_mark) a → ⊥
 none_marked size a m =
     let within = marked_within (replicate size no_mark) a m in
-    let none : mark_of (replicate size no_mark) a ≡ no_mark = get_or-replicate size a no_mark no_mark (omega (arith, within, length-replicate size no_mark)) in
+    let none : mark_of (replicate size no_mark) a ≡ no_mark =
+    get_or-replicate size a no_mark no_mark (omega (arith, within, length-replicate size no_mark)) in
     omega arith
 
 -- a node whose mark stays still has a mark
@@ -26,8 +27,9 @@ pub still_marked : (marks more : List ℕ) (a : ℕ) → mark_of more a ≡ mark
 still_marked marks more a kept m = subst (λ n. n < no_mark) (sym kept) m
 
 -- a node that had no mark gets one
-pub spreads_one : (neighbour : Option ℕ) (node number : ℕ) (marks stack : List ℕ) → neighbour ≡ Some node → node < length marks → mark_of marks node ≡ no_mark
-    → number < no_mark → Spreads (λ b. neighbour ≡ Some b) number marks stack (set marks node number) (stack ++ node ∷ [])
+pub spreads_one : (neighbour : Option ℕ) (node number : ℕ) (marks stack : List ℕ)
+    → neighbour ≡ Some node → node < length marks
+    → mark_of marks node ≡ no_mark → number < no_mark → Spreads (λ b. neighbour ≡ Some b) number marks stack (set marks node number) (stack ++ node ∷ [])
 spreads_one neighbour node number marks stack is within none small = record {
   size = length-set marks node number;
   kept = λ a m. get_or-set_other marks node a number no_mark (λ e. not_it a e m);
@@ -48,5 +50,7 @@ spreads_one neighbour node number marks stack is within none small = record {
 
     by : (a : ℕ) → IsMarked (set marks node number) a → (a ≡ node) ⊎ (a ≡ node → ⊥)
         → IsMarked marks a ⊎ ((mark_of (set marks node number) a ≡ number) × (neighbour ≡ Some a) × Member (stack ++ node ∷ []) a)
-    by a m (inl e) = inr (ap (mark_of (set marks node number)) e ∙ own, is ∙ ap Some (sym e), subst (Member (stack ++ node ∷ [])) (sym e) (member-push_last stack node))
+    by a m (inl e) =
+        let on = subst (Member (stack ++ node ∷ [])) (sym e) (member-push_last stack node) in
+        inr (ap (mark_of (set marks node number)) e ∙ own, is ∙ ap Some (sym e), on)
     by a m (inr other) = inl (subst (λ n. n < no_mark) (get_or-set_other marks node a number no_mark other) m)

@@ -13,9 +13,12 @@ returns g c =
     let nodes = g.G.Graph.nodes c.args.graph.now in
     let marks = c.flood.new.marks in
     let begun : c.as_mut_slice.result.now ≡ replicate nodes no_mark =
-    c.as_mut_slice.ensures.value ∙ c.in_ok-marks.ensures.items_if_clones_equal (λ y same. same) ∙ ap (λ n. replicate n no_mark) c.node_count-size.ensures in
+    c.as_mut_slice.ensures.value ∙ c.in_ok-marks.ensures.items_if_clones_equal (λ y same. same)
+    ∙ ap (λ n. replicate n no_mark) c.node_count-size.ensures in
     let floods : Floods step c.args.start 0 (replicate nodes no_mark) marks [] = rw begun at c.flood.ensures.floods in
-    let told : c.tell.new.reached.items ≡ map is_marked marks = c.tell.ensures ∙ ap (map is_marked) (c.as_slice.ensures.value ∙ take_at marks _ c.in_ok-marks.marks.len (c.flood.auto.marks ∙ c.as_mut_slice.ensures.len)) in
+    let told : c.tell.new.reached.items ≡ map is_marked marks =
+    c.tell.ensures
+    ∙ ap (map is_marked) (c.as_slice.ensures.value ∙ take_at marks _ c.in_ok-marks.marks.len (c.flood.auto.marks ∙ c.as_mut_slice.ensures.len)) in
     let long : length marks ≡ nodes = floods.size ∙ length-replicate nodes no_mark in (
       ap length told ∙ length-map marks is_marked ∙ long,
       λ b l.

@@ -15,7 +15,8 @@ from_if false w b e = absurd (none-some b e)
 pub returns-clause-steps : goal.returns-clause-steps
 returns-clause-steps c a b l =
     let size = c.args.self.now.size in
-    let says : ℕ → Bool = λ w. slice_index_or c.args.self.now.cells.items (a * 8 + w) false || slice_index_or c.args.self.now.cells.items (w * 8 + a) false in (
+    let cells = c.args.self.now.cells.items in
+    let says : ℕ → Bool = λ w. slice_index_or cells (a * 8 + w) false || slice_index_or cells (w * 8 + a) false in (
       λ (within, joined). (b, within, some_if (says b) b joined),
       λ (w, within, e). let (same, joined) = from_if (says w) w b e in subst (λ x. (x < size) × IsTrue (says x)) same (within, joined),
     )
