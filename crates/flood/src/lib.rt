@@ -6,6 +6,8 @@ mod graph;
 mod numbering;
 mod passages;
 mod ring;
+#[cfg(test)]
+mod tests;
 mod walls;
 
 pub use flood::reached;
