@@ -1,5 +1,5 @@
 -- With the right bars, the ways between nodes are the steps of the ringed box.
-use Rattle.std.proofs.Common.{◌≡◌, ◌↔◌, ◌⊎◌, inl, inr, Bool, true, false, ◌&&◌, ◌||◌, ℕ, zero, suc, ◌<◌, ℤ, pos, negsuc, ◌-ℤ◌, ◌≤ℤ◌, IsTrue, refl, ap, sym, subst, ◌∙◌, arith}
+use Rattle.std.proofs.Common.{◌≡◌, ◌↔◌, ◌⊎◌, inl, inr, Bool, true, false, ◌&&◌, ◌||◌, ℕ, zero, suc, ◌<◌, ℤ, pos, negsuc, ◌-ℤ◌, ◌≤ℤ◌, slice_index_or, IsTrue, refl, ap, sym, subst, ◌∙◌, arith, ◌+◌, ◌+ℤ◌}
 use Rattle.std.proofs.lemmas.Bool.{false≢true, and_from, both_ways, false_from_ne_true}
 use Rattle.std.proofs.lemmas.Int.{ints}
 use Rattle.std.specs.Ordering.{int_eq}
@@ -7,11 +7,14 @@ use Rattle.solid_model.specs.declared.cell.Axis.{Axis}
 use Rattle.solid_model.specs.declared.cell.Axis.TheVariants.{X, Y, Z}
 use Rattle.solid_model.specs.declared.cell.Cell.{Cell}
 use Rattle.solid_model.specs.Cells.{coordinate, cell_before}
-use Rattle.solid_model.specs.Rooms.{Sizes, Walls}
+use Rattle.solid_model.specs.Marks.{AxisMarks, marks_along, AreMarksOf}
+use Rattle.solid_model.specs.PerAxis.{numbers_of}
+use Rattle.solid_model.specs.Rooms.{Sizes, is_below, is_within, box_place, Walls}
+use Rattle.solid_model.proofs.BoxCells.{bounds-below, below-within}
 use Rattle.solid_model.proofs.InGrid.{placed_at}
 use Rattle.flood.specs.Graph.{GoesBack}
 use Rattle.flood.specs.Passages.{PassageParts, has_bar, LeadsBack, StepsAlong}
-use Rattle.flood.specs.Ring.{IsRinged, IsRingedNumber, ring_count, ring_place, ring_cell, ring_stride, OwnWalls, RingStep, touches_box, is_barred, ArePassages}
+use Rattle.flood.specs.Ring.{ringed, inner, outer, IsRinged, IsRingedNumber, ring_count, ring_place, ring_cell, ring_stride, OwnWalls, RingStep, touches_box, is_barred, ArePassages}
 use Rattle.flood.proofs.RingPlaces.{ring_cell-ringed, ring_place-ring_cell, ring_cell-ring_place, ring_place-before}
 
 -- steps go back
@@ -170,3 +173,42 @@ module _ (sizes : Sizes) (stands : Axis → Cell → Bool) (g : PassageParts) (a
               → LeadsBack g a p q ⊎ LeadsBack g a q p
           by a (inl passes) = inl (passes-back a p q step.from step.to passes.0 passes.1)
           by a (inr passes) = inr (passes-back a q p step.to step.from passes.0 passes.1)
+
+-- ---- the bars, as they are marked
+
+-- a ringed cell, counted from the ring, is one of the box with its ring
+pub outer-within : (sizes : Sizes) (n : Cell) → IsRinged sizes n → is_within (ringed sizes) (outer n) ≡ true
+outer-within sizes n ring = below-within (ringed sizes) (outer n) at
+  where
+    one_more : (size : ℕ) (z : ℤ) → IsRingedNumber size z → is_below (size + 2) (z +ℤ pos 1) ≡ true
+    one_more size z h = bounds-below (size + 2) (z +ℤ pos 1) (omega (arith, ints, h.0)) (omega (arith, ints, h.1))
+
+    at : (a : Axis) → IsTrue (is_below (ringed sizes a) (coordinate a (outer n)))
+    at X = one_more (sizes X) n.x (ring X)
+    at Y = one_more (sizes Y) n.y (ring Y)
+    at Z = one_more (sizes Z) n.z (ring Z)
+
+-- counted from the ring and back it is the same
+pub inner-outer : (n : Cell) → inner (outer n) ≡ n
+inner-outer n = λ t. record { x = back n.x t; y = back n.y t; z = back n.z t }
+  where
+    back : (z : ℤ) → (z +ℤ pos 1) -ℤ pos 1 ≡ z
+    back z = omega (arith, ints)
+
+-- marks of the right bars are the right bars
+pub bars_marked : (sizes : Sizes) (stands : Axis → Cell → Bool) (bars : AxisMarks)
+    → ((a : Axis) → AreMarksOf (ringed sizes) (λ c. IsTrue (is_barred sizes stands a (inner c))) (marks_along a bars))
+    → (a : Axis) (n : Cell) → IsRinged sizes n → slice_index_or (marks_along a bars).values (ring_place sizes n) false ≡ is_barred sizes stands a n
+bars_marked sizes stands bars are a n ring =
+    let marks = marks_along a bars in
+    let exact = (are a).exact (outer n) (outer-within sizes n ring) in
+    let place : box_place (numbers_of marks.sizes) (outer n) ≡ ring_place sizes n = λ t. box_place (λ b. (are a).sized b t) (outer n) in
+    let barred : is_barred sizes stands a (inner (outer n)) ≡ is_barred sizes stands a n = ap (is_barred sizes stands a) (inner-outer n) in
+    same_truth (slice_index_or marks.values (ring_place sizes n) false) (is_barred sizes stands a n)
+    (λ has. sym barred ∙ exact.0 (ap (λ p. slice_index_or marks.values p false) place ∙ has))
+    (λ is. ap (λ p. slice_index_or marks.values p false) (sym place) ∙ exact.1 (barred ∙ is))
+  where
+    same_truth : (b c : Bool) → (b ≡ true → c ≡ true) → (c ≡ true → b ≡ true) → b ≡ c
+    same_truth true c there back = sym (there refl)
+    same_truth false true there back = back refl
+    same_truth false false there back = refl

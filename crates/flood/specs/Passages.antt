@@ -1,5 +1,5 @@
 -- The ways between the nodes of a box's list of cells, which stand farther apart along each axis.
-use Rattle.std.specs.Prelude.{◌≡◌, ◌⊎◌, ◌&&◌, not, Bool, true, false, ℕ, zero, suc, ◌+◌, ◌-◌, ◌<◌, nat_lt, nat_le, slice_index_or, Option, Some, None, if◌then◌else◌}
+use Rattle.std.specs.Prelude.{◌≡◌, ◌⊎◌, ◌&&◌, not, Bool, false, ℕ, zero, suc, ◌+◌, ◌-◌, ◌<◌, nat_lt, nat_le, slice_index_or, Option, Some, None, if◌then◌else◌}
 use Rattle.solid_model.specs.declared.cell.Axis.{Axis}
 use Rattle.solid_model.specs.declared.cell.Axis.TheVariants.{X, Y, Z}
 use Rattle.solid_model.specs.Marks.{AxisMarks, marks_along}
@@ -18,7 +18,7 @@ parts_of g = record { count = g.count; strides = numbers_of g.strides; bars = g.
 
 -- a bar stands before a node along an axis
 abbrev pub has_bar : PassageParts → Axis → ℕ → Bool
-has_bar g a p = slice_index_or (marks_along a g.bars).values p true
+has_bar g a p = slice_index_or (marks_along a g.bars).values p false
 
 -- q is the node before p along an axis, and nothing bars the way
 pub record LeadsBack (g : PassageParts) (a : Axis) (p q : ℕ) : Type 0 where

@@ -24,7 +24,7 @@ impl Passages {
         ensures { result ≡ has_bar (parts_of self.now) axis node }
     {
         let bars = self.bars.along(axis).values();
-        node >= bars.len() || bars[node]
+        node < bars.len() && bars[node]
     }
 
     /// The node before one along an axis, if nothing bars the way.
