@@ -7,3 +7,4 @@ pub mod RingChains
 pub mod LeadingOut
 pub mod RingRooms
 pub mod RingPassages
+pub mod PassageRooms

@@ -1,11 +1,11 @@
 -- A box with a ring of cells round it, as a graph: whatever stands outside the box is one with the ring.
-use Rattle.std.specs.Prelude.{◌≡◌, ◌||◌, ◌&&◌, Bool, ℕ, zero, suc, ◌+◌, ◌*◌, ◌/◌, ◌%◌, ◌<◌, Option, Some, None, ℤ, pos, negsuc, ◌-ℤ◌, ◌+ℤ◌, ◌≤ℤ◌, IsTrue}
+use Rattle.std.specs.Prelude.{◌≡◌, ◌||◌, ◌&&◌, Bool, ℕ, zero, suc, ◌+◌, ◌*◌, ◌/◌, ◌%◌, ◌<◌, List, length, Option, Some, None, ℤ, pos, negsuc, ◌-ℤ◌, ◌+ℤ◌, ◌≤ℤ◌, IsTrue}
 use Rattle.std.specs.Ordering.{int_eq}
 use Rattle.solid_model.specs.declared.cell.Axis.{Axis}
 use Rattle.solid_model.specs.declared.cell.Axis.TheVariants.{X, Y, Z}
 use Rattle.solid_model.specs.declared.cell.Cell.{Cell}
 use Rattle.solid_model.specs.Cells.{coordinate, cell_before}
-use Rattle.solid_model.specs.Rooms.{Sizes, box_place, box_count, is_within, Walls, Passes}
+use Rattle.solid_model.specs.Rooms.{Sizes, box_place, box_count, is_within, Walls, Passes, number_at}
 use Rattle.flood.specs.Passages.{PassageParts, has_bar}
 
 -- how many cells stand in a row with the ring: one more at either end
@@ -78,3 +78,8 @@ pub record ArePassages (sizes : Sizes) (stands : Axis → Cell → Bool) (g : Pa
   pub count : g.count ≡ ring_count sizes
   pub strides : g.strides ≡ ring_stride sizes
   pub bars : (a : Axis) (n : Cell) → IsRinged sizes n → has_bar g a (ring_place sizes n) ≡ is_barred sizes stands a n
+
+-- the numbers of the rooms of a box's cells, where each node of the ringed box is in a component
+pub record AreRoomNumbers (sizes : Sizes) (component : ℕ → ℕ) (rooms : List (Option ℕ)) : Type 0 where
+  pub listed : length rooms ≡ box_count sizes
+  pub each : (n : Cell) → IsTrue (is_within sizes n) → number_at sizes rooms n ≡ room_of (component (ring_place sizes n))

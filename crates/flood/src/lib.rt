@@ -6,6 +6,7 @@ mod graph;
 mod numbering;
 mod passages;
 mod ring;
+mod rooms;
 #[cfg(test)]
 mod tests;
 mod walls;
@@ -13,4 +14,5 @@ mod walls;
 pub use flood::reached;
 pub use graph::Graph;
 pub use numbering::{Numbering, components};
+pub use rooms::{RoomNumbers, leading_out, rooms_of};
 pub use walls::Walls;
