@@ -1,6 +1,6 @@
 -- With the right bars, the ways between nodes are the steps of the ringed box.
 use Rattle.std.proofs.Common.{◌≡◌, ◌↔◌, ◌⊎◌, inl, inr, Bool, true, false, ◌&&◌, ◌||◌, ℕ, zero, suc, ◌<◌, ℤ, pos, negsuc, ◌-ℤ◌, ◌≤ℤ◌, slice_index_or, IsTrue, refl, ap, sym, subst, ◌∙◌, arith, ◌+◌, ◌+ℤ◌}
-use Rattle.std.proofs.lemmas.Bool.{false≢true, and_from, both_ways, false_from_ne_true}
+use Rattle.std.proofs.lemmas.Bool.{false≢true, and_parts, and_from, both_ways, false_from_ne_true}
 use Rattle.std.proofs.lemmas.Int.{ints}
 use Rattle.std.specs.Ordering.{int_eq}
 use Rattle.solid_model.specs.declared.cell.Axis.{Axis}
@@ -204,9 +204,13 @@ bars_marked sizes stands bars are a n ring =
     let exact = (are a).exact (outer n) (outer-within sizes n ring) in
     let place : box_place (numbers_of marks.sizes) (outer n) ≡ ring_place sizes n = λ t. box_place (λ b. (are a).sized b t) (outer n) in
     let barred : is_barred sizes stands a (inner (outer n)) ≡ is_barred sizes stands a n = ap (is_barred sizes stands a) (inner-outer n) in
+    let there = box_place (numbers_of marks.sizes) (outer n) in
+    let ringed_box : is_within (numbers_of marks.sizes) (outer n) ≡ true = (λ t. is_within (λ b. (are a).sized b t) (outer n)) ∙ outer-within sizes n ring in
     same_truth (slice_index_or marks.values (ring_place sizes n) false) (is_barred sizes stands a n)
-    (λ has. sym barred ∙ exact.0 (ap (λ p. slice_index_or marks.values p false) place ∙ has))
-    (λ is. ap (λ p. slice_index_or marks.values p false) (sym place) ∙ exact.1 (barred ∙ is))
+    (λ has. sym barred ∙ exact.0 (and_from (is_within (numbers_of marks.sizes) (outer n)) (slice_index_or marks.values there false) ringed_box
+    (ap (λ p. slice_index_or marks.values p false) place ∙ has)))
+    (λ is. ap (λ p. slice_index_or marks.values p false) (sym place)
+    ∙ (and_parts (is_within (numbers_of marks.sizes) (outer n)) (slice_index_or marks.values there false) (exact.1 (barred ∙ is))).1)
   where
     same_truth : (b c : Bool) → (b ≡ true → c ≡ true) → (c ≡ true → b ≡ true) → b ≡ c
     same_truth true c there back = sym (there refl)

@@ -90,12 +90,11 @@ impl Marks {
         self.values.as_slice()
     }
 
-    /// The mark on a cell.
-    pub fn at(&self, cell: PerAxis) -> bool
-        requires { IsTrue (is_within (numbers_of self.now.sizes) (cell_of cell)) }
+    /// A cell of the box has a mark; one that isn't of the box has none.
+    pub fn has(&self, cell: PerAxis) -> bool
         ensures { result ≡ is_marked self.now (cell_of cell) }
     {
-        self.values[self.sizes.place(cell)]
+        self.sizes.has(cell) && self.values[self.sizes.place(cell)]
     }
 }
 
