@@ -10,7 +10,6 @@ use Rattle.solid_model.specs.declared.cell.Cell.{Cell}
 use Rattle.solid_model.specs.declared.frame.Direction.{Direction}
 use Rattle.solid_model.specs.declared.frame.Frame.{Frame}
 use Rattle.solid_model.specs.declared.frame.View.{View}
-use Rattle.solid_model.specs.declared.frame.View.TheVariants.{Front, Top, Side}
 use Rattle.solid_model.specs.declared.segment.Style.{Style}
 use Rattle.solid_model.specs.Cells.{coordinate, is_full}
 use Rattle.solid_model.specs.Columns.{cell_in, ColumnsDraw}
@@ -21,13 +20,14 @@ use Rattle.solid_model.specs.Grid.{Coordinates, GridCell, is_in_gap, LiesInGridC
 use Rattle.solid_model.specs.Lists.{Ascends}
 use Rattle.solid_model.specs.Segments.{segment_at}
 use Rattle.solid_model.proofs.ColumnRule.{columns_drawn}
+use Rattle.solid_model.proofs.InGrid.{gap_or_none}
 use Rattle.solid_model.proofs.Styles.{one_style, drawn_style_drawn}
-use Rattle.solid_model.proofs.Views.{views_are_frames, across_each, each_axis, across_along, across_next, across_turned, cell_on_twice, places_of_cell_in}
+use Rattle.solid_model.proofs.Views.{views_are_frames, across_each, each_axis, across_along, across_next, across_turned, cell_on_twice, places_of_cell_in, runs_forward, stands_forward, forward_cell}
 use Rattle.solid_model.specs.PerAxis.{by_axis, numbered}
 use Rattle.columns.specs.Bits.{bits}
 use Rattle.columns.specs.GridColumns.{number_on, grid_cell_in, grid_column}
 use Rattle.columns.specs.GridPanels.{place_right, place_up, IsColumnBeside, AreColumnsBeside}
-use Rattle.columns.proofs.Gaps.{member, lies_in, some_gap_or_none, gaps_keep_order, begins_gap, ends_gap, last_in_none, before_first_in_none}
+use Rattle.solid_model.proofs.Gaps.{member, lies_in, gaps_keep_order, begins_gap, ends_gap, last_in_none, before_first_in_none}
 use Rattle.columns.proofs.Stretched.{KeepsOrder, IsStretched, stretched_draw}
 
 -- ---- axes and frames
@@ -51,23 +51,7 @@ numbers_at i j k = across_each (λ a b c. HasNumbers a b c i j k (numbered a i (
     turned Y = record { first = refl; second = refl; third = refl }
     turned Z = record { first = refl; second = refl; third = refl }
 
--- the segments of a view run forward, and its columns stand beside each other forward
-runs_forward : (v : View) (upright : Bool) → (along (frame_of v) upright).forward ≡ true
-runs_forward Front true = refl
-runs_forward Front false = refl
-runs_forward Top true = refl
-runs_forward Top false = refl
-runs_forward Side true = refl
-runs_forward Side false = refl
-
-stands_forward : (v : View) (upright : Bool) → (across (frame_of v) upright).forward ≡ true
-stands_forward v true = runs_forward v false
-stands_forward v false = runs_forward v true
-
--- forward, places are coordinates and numbers
-forward_cell : (d : Direction) (z : ℤ) → d.forward ≡ true → cell_on d z ≡ z
-forward_cell d z e = ap (λ b. if b then z else (neg_ℤ z -ℤ pos 1)) e
-
+-- forward, places are numbers
 forward_number : (sizes : Axis → ℕ) (d : Direction) (k : ℕ) → d.forward ≡ true → number_on sizes d k ≡ k
 forward_number sizes d k e = ap (λ b. if b then k else (sizes d.axis - (k + 1))) e
 
@@ -200,8 +184,8 @@ module _ (coordinates : Coordinates) (ordered : (a : Axis) → Ascends ◌<ℤ�
           (λ gap. depth_of_gap coordinates ordered f.away.forward f.away.axis k gap.0 gap.1)
           (λ none. absurd (both_ways (unit_column k) (union.outside (cell_in f upright i j k) (λ lies.
           let gap = lies f.away.axis in
-          none gap.0 (subst (λ z. is_in_gap (coordinates f.away.axis) gap.0 z ≡ true) (stands_at i j k).deep gap.1))) e))
-          (some_gap_or_none (coordinates f.away.axis) (cell_on f.away k))
+          none (gap.0, subst (λ z. is_in_gap (coordinates f.away.axis) gap.0 z ≡ true) (stands_at i j k).deep gap.1))) e))
+          (gap_or_none (coordinates f.away.axis) (ordered f.away.axis) (cell_on f.away k))
 
       first_of : (d : ℤ) → grid_column f sizes chosen right up d ≡ true → (k : ℤ) × comes k d × ((n : ℤ) → comes n d → k ≤ℤ n)
       first_of (pos d) e = first_depth coordinates ordered f.away.forward f.away.axis d (depth_within f sizes chosen right up d e)

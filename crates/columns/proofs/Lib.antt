@@ -1,6 +1,5 @@
 pub mod FirstBits
 pub mod GridColumns
 pub mod Stretched
-pub mod Gaps
 pub mod GridSegments
 pub mod GridStyles

@@ -1,3 +1,6 @@
+pub mod Spreading
+pub mod Flooding
+pub mod Numbered
 pub mod RingPlaces
 pub mod Outside
 pub mod RingChains

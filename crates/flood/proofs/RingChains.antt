@@ -9,12 +9,13 @@ use Rattle.solid_model.specs.declared.cell.Cell.{Cell}
 use Rattle.solid_model.specs.Cells.{coordinate, placed, cell_before}
 use Rattle.solid_model.specs.Chains.{Reaches}
 use Rattle.solid_model.specs.Rooms.{Sizes, is_below, is_within, Walls, Passes}
+use Rattle.solid_model.proofs.BoxCells.{below-bounds, within-below}
 use Rattle.solid_model.proofs.Chains.{reaches-step, reaches-back, reaches-map}
 use Rattle.solid_model.proofs.Fullness.{same_coordinates}
 use Rattle.solid_model.proofs.Passages.{passes-back}
 use Rattle.flood.specs.Graph.{GoesBack}
 use Rattle.flood.specs.Ring.{ring_count, ring_place, ring_cell, OwnWalls, RingStep}
-use Rattle.flood.proofs.RingPlaces.{IsRingedNumber, IsRinged, below-bounds, within-below, within-ringed, ring_place-below, ring_cell-ring_place, ring_cell-ringed, ring_place-ring_cell}
+use Rattle.flood.proofs.RingPlaces.{IsRingedNumber, IsRinged, within-ringed, ring_place-below, ring_cell-ring_place, ring_cell-ringed, ring_place-ring_cell}
 
 -- ---- numbers brought into the ring
 

@@ -1,6 +1,5 @@
 -- The nodes of a ringed box and the cells that they stand for: each is the other's, and nodes come in the order of cells.
 use Rattle.std.proofs.Common.{◌≡◌, ◌↔◌, ◌⊎◌, inl, inr, ℕ, zero, suc, ◌+◌, ◌*◌, ◌/◌, ◌%◌, ◌<◌, ℤ, pos, negsuc, ◌+ℤ◌, ◌-ℤ◌, ◌≤ℤ◌, ◌<ℤ◌, IsTrue, refl, sym, ◌∙◌, ap, subst, arith}
-use Rattle.std.proofs.lemmas.Bool.{false≢true, and_parts, and_from, ltb-true, lt-ltb}
 use Rattle.std.proofs.lemmas.Int.{ints}
 use Rattle.std.proofs.lemmas.Nat.{div-add-mod', div-mul-add, mod-mul-add, div_below, mod_below}
 use Rattle.solid_model.specs.declared.cell.Axis.{Axis}
@@ -8,7 +7,8 @@ use Rattle.solid_model.specs.declared.cell.Axis.TheVariants.{X, Y, Z}
 use Rattle.solid_model.specs.declared.cell.Cell.{Cell}
 use Rattle.solid_model.specs.Cells.{coordinate, placed, cell_before, cell_after}
 use Rattle.solid_model.specs.Orders.{ComesBefore}
-use Rattle.solid_model.specs.Rooms.{Sizes, is_below, is_within, place_of_number}
+use Rattle.solid_model.specs.Rooms.{Sizes, is_within, place_of_number}
+use Rattle.solid_model.proofs.BoxCells.{below-bounds, within-below}
 use Rattle.solid_model.proofs.CellOrder.{LiesBefore, before-lies, one_or_before}
 use Rattle.solid_model.proofs.Fullness.{same_coordinates}
 use Rattle.solid_model.proofs.Unions.{within_product}
@@ -23,33 +23,6 @@ IsRingedNumber size z = (negsuc 0 ≤ℤ z) × (z ≤ℤ pos size)
 -- a cell stands in the box or in its ring
 abbrev pub IsRinged : Sizes → Cell → Type 0
 IsRinged sizes n = (a : Axis) → IsRingedNumber (sizes a) (coordinate a n)
-
--- a number of the box stands between its ends
-pub below-bounds : (size : ℕ) (z : ℤ) → IsTrue (is_below size z) → (pos 0 ≤ℤ z) × (z <ℤ pos size)
-below-bounds size (pos k) below = let h = ltb-true k size below in (omega (arith, ints), omega (arith, ints))
-below-bounds size (negsuc k) below = absurd (false≢true below)
-
--- and what stands between them is one
-pub bounds-below : (size : ℕ) (z : ℤ) → pos 0 ≤ℤ z → z <ℤ pos size → IsTrue (is_below size z)
-bounds-below size (pos k) from to = lt-ltb k size (omega (arith, ints))
-bounds-below size (negsuc k) from to = absurd (omega (arith, ints))
-
--- a cell of the box has each of its numbers in the box
-pub within-below : (sizes : Sizes) (n : Cell) → IsTrue (is_within sizes n) → (a : Axis) → IsTrue (is_below (sizes a) (coordinate a n))
-within-below sizes n within a =
-    let first = and_parts _ _ within in
-    let rest = and_parts _ _ first.1 in
-    at a first.0 rest.0 rest.1
-  where
-    at : (b : Axis) → IsTrue (is_below (sizes X) n.x) → IsTrue (is_below (sizes Y) n.y) → IsTrue (is_below (sizes Z) n.z)
-        → IsTrue (is_below (sizes b) (coordinate b n))
-    at X x y z = x
-    at Y x y z = y
-    at Z x y z = z
-
--- and the cell whose numbers are is one of the box
-pub below-within : (sizes : Sizes) (n : Cell) → ((a : Axis) → IsTrue (is_below (sizes a) (coordinate a n))) → IsTrue (is_within sizes n)
-below-within sizes n below = and_from _ _ (below X) (and_from _ _ (below Y) (below Z))
 
 -- a cell of the box stands in the box or in its ring
 pub within-ringed : (sizes : Sizes) (n : Cell) → IsTrue (is_within sizes n) → IsRinged sizes n

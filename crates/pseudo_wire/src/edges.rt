@@ -1,6 +1,6 @@
 //! What the views show of a grid's points and edges.
 
-ghost use Rattle.std.specs.Prelude.{◌≡◌, ◌<◌};
+ghost use Rattle.std.specs.Prelude.{◌≡◌, ◌≤◌};
 ghost use Rattle.solid_model.specs.PerAxis.{numbers_of, cell_of};
 ghost use Rattle.solid_model.specs.Wire.{is_drawn_from, is_end_of_drawn, is_on_drawn, is_pseudo_vertex, is_drawn_or_point, is_pseudo_edge};
 
@@ -22,9 +22,11 @@ fn is_end_of_drawn(grid: &Grid, view: View, upright: bool, point: PerAxis) -> bo
     ensures { result ≡ is_end_of_drawn grid.now view upright (cell_of point) }
 {
     let axis = view.frame().along(upright).axis;
-    let number = point.along(axis);
     is_drawn_from(grid, view, upright, point)
-        || number > 0 && is_drawn_from(grid, view, upright, point.numbered(axis, number - 1))
+        || match point.before(axis) {
+            Some(before) => is_drawn_from(grid, view, upright, before),
+            None => false,
+        }
 }
 
 /// The point's projection lies on something that the view shows.
@@ -55,10 +57,10 @@ fn is_drawn_or_point(grid: &Grid, axis: Axis, point: PerAxis, view: View) -> boo
 
 /// The edge along an axis from a point is a pseudo edge.
 pub fn is_pseudo_edge(grid: &Grid, axis: Axis, point: PerAxis) -> bool
-    requires { numbers_of point axis < 1024 }
+    requires { numbers_of point axis ≤ 1024 }
     ensures { result ≡ is_pseudo_edge grid.now axis (cell_of point) }
 {
-    let end = point.numbered(axis, point.along(axis) + 1);
+    let end = point.after(axis);
     is_drawn_or_point(grid, axis, point, View::Front)
         && is_drawn_or_point(grid, axis, point, View::Top)
         && is_drawn_or_point(grid, axis, point, View::Side)

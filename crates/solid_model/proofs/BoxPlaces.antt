@@ -6,9 +6,10 @@ use Rattle.std.proofs.lemmas.Nat.{mul-le, mod-mul-add, div-mul-add, div-add-mod'
 use Rattle.solid_model.specs.declared.cell.Axis.{Axis}
 use Rattle.solid_model.specs.declared.cell.Axis.TheVariants.{X, Y, Z}
 use Rattle.solid_model.specs.declared.cell.Cell.{Cell}
+use Rattle.solid_model.specs.declared.per_axis.PerAxis.{PerAxis}
 use Rattle.solid_model.specs.Cells.{cell_at}
 use Rattle.solid_model.specs.Orders.{ComesBefore}
-use Rattle.solid_model.specs.PerAxis.{numbered, AreFew}
+use Rattle.solid_model.specs.PerAxis.{numbers_of, numbered, AreFew}
 use Rattle.solid_model.specs.Rooms.{Sizes, is_below, is_within, box_place, box_count, same_axis, edge_sizes, face_sizes}
 use Rattle.solid_model.proofs.CellOrder.{LiesBefore, before-lies, one_or_before}
 use Rattle.solid_model.proofs.Unions.{within_product}
@@ -235,3 +236,9 @@ few_faces sizes few a b = by (same_axis a b)
     by : (s : Bool) → (if s then suc (sizes b) else sizes b) ≤ 1024
     by true = omega (arith, few b)
     by false = omega (arith, few b)
+
+-- numbers of a cell of a box with few cells are few
+pub few_numbers : (sizes : Sizes) → AreFew sizes → (n : PerAxis) → n.x < sizes X → n.y < sizes Y → n.z < sizes Z → AreFew (numbers_of n)
+few_numbers sizes few n x y z X = omega (arith, few X)
+few_numbers sizes few n x y z Y = omega (arith, few Y)
+few_numbers sizes few n x y z Z = omega (arith, few Z)

@@ -30,7 +30,7 @@ no_edge_between false true = refl
 no_edge_between false false = refl
 
 -- where columns that were equal part, there is one
-edge_where_parting : (x y z : Bool) → not (agree x y) ≡ true → is_edge_of x y z z ≡ true
+pub edge_where_parting : (x y z : Bool) → not (agree x y) ≡ true → is_edge_of x y z z ≡ true
 edge_where_parting true true z e = absurd (false≢true e)
 edge_where_parting true false true e = refl
 edge_where_parting true false false e = refl
@@ -38,7 +38,7 @@ edge_where_parting false true true e = refl
 edge_where_parting false true false e = refl
 edge_where_parting false false z e = absurd (false≢true e)
 
-same_from_agree : (x y : Bool) → not (agree x y) ≡ false → x ≡ y
+pub same_from_agree : (x y : Bool) → not (agree x y) ≡ false → x ≡ y
 same_from_agree true true e = refl
 same_from_agree true false e = absurd (false≢true (sym e))
 same_from_agree false true e = absurd (false≢true (sym e))

@@ -18,7 +18,7 @@ use Rattle.solid_model.proofs.Unions.{cells_over, length-cells_over, get_or-cell
 
 -- ---- where gaps begin
 
-length-starts_of : (zs : List ℤ) → length (starts_of zs) ≡ length zs - 1
+pub length-starts_of : (zs : List ℤ) → length (starts_of zs) ≡ length zs - 1
 length-starts_of zs = length-take-le (length zs - 1) zs (omega arith)
 
 -- the gap of a number begins at the list's member of that number, which lies in it

@@ -11,7 +11,7 @@ use Rattle.solid_model.specs.declared.segment.Segment.{Segment}
 use Rattle.solid_model.specs.declared.segment.Style.{Style}
 use Rattle.solid_model.specs.declared.segment.Style.TheVariants.{Blank, Dashed, Solid}
 use Rattle.solid_model.specs.Boxes.{place_of}
-use Rattle.solid_model.specs.Cells.{coordinate, placed, cell_before, is_full}
+use Rattle.solid_model.specs.Cells.{coordinate, placed, cell_before, cell_after, is_full}
 use Rattle.solid_model.specs.Columns.{cell_in}
 use Rattle.solid_model.specs.Draws.{Draws}
 use Rattle.solid_model.specs.Frames.{frame_of, along, across}
@@ -179,6 +179,12 @@ placed_at X z c = refl
 placed_at Y z c = refl
 placed_at Z z c = refl
 
+-- the cell before the next one is the cell itself
+pub before_after : (a : Axis) (c : Cell) → cell_before a (cell_after a c) ≡ c
+before_after X c = let p : (c.x +ℤ pos 1) -ℤ pos 1 ≡ c.x = omega (arith, ints) in λ t. record c { x = p t }
+before_after Y c = let p : (c.y +ℤ pos 1) -ℤ pos 1 ≡ c.y = omega (arith, ints) in λ t. record c { y = p t }
+before_after Z c = let p : (c.z +ℤ pos 1) -ℤ pos 1 ≡ c.z = omega (arith, ints) in λ t. record c { z = p t }
+
 module _ (drawing : Segment → Style) (s : List Cell) (matches : Matches drawing s) (coordinates : Coordinates)
     (are : (a : Axis) → AreGridCoordinates drawing a (coordinates a)) where
   -- a place that is no member is no grid coordinate
@@ -222,14 +228,9 @@ module _ (drawing : Segment → Style) (s : List Cell) (matches : Matches drawin
           let next = placed a (coordinate a m.0 +ℤ pos 1) m.0 in
           let at = placed_at a (coordinate a m.0 +ℤ pos 1) m.0 in
           let agrees = slices_agree drawing s matches a next (no_coordinate a (coordinate a next) (λ k. let l = behind (coordinate a next) k in omega (arith, ints))) in
-          let back : cell_before a next ≡ m.0 = before_next a m.0 in
+          let back : cell_before a next ≡ m.0 = before_after a m.0 in
           let after = m.2 next (sym agrees ∙ ap (is_full s) back ∙ m.1) in
           omega (arith, ints)
-        where
-          before_next : (b : Axis) (e : Cell) → cell_before b (placed b (coordinate b e +ℤ pos 1) e) ≡ e
-          before_next X e = let p : (e.x +ℤ pos 1) -ℤ pos 1 ≡ e.x = omega (arith, ints) in λ t. record e { x = p t }
-          before_next Y e = let p : (e.y +ℤ pos 1) -ℤ pos 1 ≡ e.y = omega (arith, ints) in λ t. record e { y = p t }
-          before_next Z e = let p : (e.z +ℤ pos 1) -ℤ pos 1 ≡ e.z = omega (arith, ints) in λ t. record e { z = p t }
 
   -- and lies in the box of all grid cells
   pub lies_in_grid : (c : Cell) → is_full s c ≡ true → LiesInGrid coordinates c

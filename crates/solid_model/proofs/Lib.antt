@@ -2,6 +2,14 @@ pub mod Integers
 pub mod Lists
 pub mod ListPlaces
 pub mod Chains
+pub mod Gaps
+pub mod GridFillings
+pub mod BoxCells
+pub mod GridStyle
+pub mod GridFullness
+pub mod GridEdges
+pub mod PseudoEdges
+pub mod ConstantOnBlocks
 pub mod Fullness
 pub mod CellOrder
 pub mod SolidOrder
@@ -30,7 +38,6 @@ pub mod RunStyles
 pub mod Pushed
 pub mod BoxPlaces
 pub mod MarkedCells
-pub mod GridStyle
 pub mod Numbers
 pub mod OneNumbering
 pub mod Passages

@@ -1,8 +1,10 @@
 -- Marks that are made cell by cell.
 use Rattle.std.proofs.Common.{◌≡◌, ◌<◌, Bool, true, false, ℕ, List, IsTrue, refl, ap, sym, subst, ◌∙◌}
+use Rattle.solid_model.specs.declared.cell.Axis.{Axis}
+use Rattle.solid_model.specs.declared.cell.Axis.TheVariants.{X, Y, Z}
 use Rattle.solid_model.specs.declared.cell.Cell.{Cell}
 use Rattle.solid_model.specs.declared.per_axis.PerAxis.{PerAxis}
-use Rattle.solid_model.specs.Marks.{AreMarksOf}
+use Rattle.solid_model.specs.Marks.{BoxMarks, AreMarksOf, AxisMarks, marks_along}
 use Rattle.solid_model.specs.PerAxis.{numbers_of}
 use Rattle.solid_model.specs.Rooms.{Sizes, is_within, box_place, box_count}
 use Rattle.solid_model.proofs.BoxPlaces.{one_cell, cell_there}
@@ -27,3 +29,13 @@ all_marked sizes values count holds so_far all = record {
       let is = so_far.each (box_place (numbers_of sizes) n) false (subst (λ c. box_place (numbers_of sizes) n < c) (sym all) (cell_there (numbers_of sizes) n n_in)) n n_in refl in
       (λ marked. subst (λ (b : Bool). IsTrue b) is marked, λ true_of. subst (λ (b : Bool). IsTrue b) (sym is) true_of);
 }
+
+-- what holds of the marks for each axis holds of them together
+pub marks_by_axis : (P : Axis → BoxMarks → Type 0) (x y z : BoxMarks) (m : AxisMarks) → m ≡ record { x = x; y = y; z = z } → P X x → P Y y → P Z z
+    → (a : Axis) → P a (marks_along a m)
+marks_by_axis P x y z m e at_x at_y at_z a = subst (λ n. P a (marks_along a n)) (sym e) (by a)
+  where
+    by : (b : Axis) → P b (marks_along b (record { x = x; y = y; z = z }))
+    by X = at_x
+    by Y = at_y
+    by Z = at_z

@@ -6,7 +6,6 @@ use Rattle.solid_model.specs.declared.cell.Axis.{Axis}
 use Rattle.solid_model.specs.declared.cell.Axis.TheVariants.{X, Y, Z}
 use Rattle.solid_model.specs.declared.cell.Cell.{Cell}
 use Rattle.solid_model.specs.declared.frame.View.{View}
-use Rattle.solid_model.specs.declared.frame.View.TheVariants.{Front, Top, Side}
 use Rattle.solid_model.specs.declared.segment.Style.TheVariants.{Blank}
 use Rattle.solid_model.specs.Cells.{coordinate, is_full}
 use Rattle.solid_model.specs.Columns.{cell_in}
@@ -20,7 +19,7 @@ use Rattle.solid_model.proofs.ColumnRule.{equal_columns}
 use Rattle.solid_model.proofs.InGrid.{between_members, gap_or_none}
 use Rattle.solid_model.proofs.Lists.{each-at}
 use Rattle.solid_model.proofs.Styles.{one_style, same_columns, drawn_style_drawn}
-use Rattle.solid_model.proofs.Views.{across_along, views_are_frames, each_axis, coordinates_at}
+use Rattle.solid_model.proofs.Views.{across_along, views_are_frames, each_axis, coordinates_at, runs_forward, stands_forward, forward_cell}
 
 -- ---- places in the same gaps
 
@@ -83,19 +82,6 @@ numbered i j k X = i
 numbered i j k Y = j
 numbered i j k Z = k
 
--- a view's segments run forward
-runs_forward : (v : View) (upright : Bool) (z : ℤ) → cell_on (along (frame_of v) upright) z ≡ z
-runs_forward Front true z = refl
-runs_forward Front false z = refl
-runs_forward Top true z = refl
-runs_forward Top false z = refl
-runs_forward Side true z = refl
-runs_forward Side false z = refl
-
-lies_forward : (v : View) (upright : Bool) (z : ℤ) → cell_on (across (frame_of v) upright) z ≡ z
-lies_forward v true z = runs_forward v false z
-lies_forward v false z = runs_forward v true z
-
 module _ (coordinates : Coordinates) (ascends : (a : Axis) → Ascends ◌<ℤ◌ (coordinates a)) where
   -- a cell lies in a grid cell, or outside all of them
   pub in_grid_or_not : (c : Cell) → ((n : GridCell) × LiesInGridCell coordinates n c) ⊎ (LiesInGrid coordinates c → ⊥)
@@ -132,8 +118,8 @@ module _ (coordinates : Coordinates) (ascends : (a : Axis) → Ascends ◌<ℤ�
         agree_in_same_gaps (cell_in f upright i j k) (cell_in f upright m l k)
         (each_axis (λ a. LieInSameGaps (coordinates a) (coordinate a (cell_in f upright i j k)) (coordinate a (cell_in f upright m l k)))
         (along f upright).axis (across f upright).axis f.away.axis three
-        (same_gaps-like (coordinates (along f upright).axis) _ _ i m (at.first ∙ runs_forward v upright i) (to.first ∙ runs_forward v upright m) same_along)
-        (same_gaps-like (coordinates (across f upright).axis) _ _ j l (at.second ∙ lies_forward v upright j) (to.second ∙ lies_forward v upright l) same_across)
+        (same_gaps-like (coordinates (along f upright).axis) _ _ i m (at.first ∙ forward_cell (along f upright) i (runs_forward v upright)) (to.first ∙ forward_cell (along f upright) m (runs_forward v upright)) same_along)
+        (same_gaps-like (coordinates (across f upright).axis) _ _ j l (at.second ∙ forward_cell (across f upright) j (stands_forward v upright)) (to.second ∙ forward_cell (across f upright) l (stands_forward v upright)) same_across)
         (same_gaps-like (coordinates f.away.axis) _ _ (cell_on f.away k) (cell_on f.away k) at.third to.third (same_gaps-itself (coordinates f.away.axis) (cell_on f.away k))))
 
     -- a cell at a place along a view's segments that lies in no gap is empty
@@ -141,7 +127,7 @@ module _ (coordinates : Coordinates) (ascends : (a : Axis) → Ascends ◌<ℤ�
     empty_past_ends v upright i j k none =
         let f = frame_of v in
         let at = coordinates_at (cell_on (along f upright) i) (cell_on (across f upright) j) (cell_on f.away k) _ _ _ (across_along f (views_are_frames v) upright) in
-        union.outside (cell_in f upright i j k) (λ lies. none (subst (IsInSomeGap _) (at.first ∙ runs_forward v upright i) (lies (along f upright).axis)))
+        union.outside (cell_in f upright i j k) (λ lies. none (subst (IsInSomeGap _) (at.first ∙ forward_cell (along f upright) i (runs_forward v upright)) (lies (along f upright).axis)))
 
 -- ---- the drawing of a union
 

@@ -42,7 +42,7 @@ length-joined f m long (x ∷ xs) =
     length-append (f x) (joined (map f xs)) ∙ ap₂ ◌+◌ (long x) rest ∙ omega arith
 
 -- and the i-th member of the j-th of them
-get_or-joined : {A : Type 0} (f : ℤ → List A) (m : ℕ) → ((x : ℤ) → length (f x) ≡ m) → (xs : List ℤ) (j i : ℕ) (d : A) (e : ℤ) → j < length xs → i < m
+pub get_or-joined : {A : Type 0} (f : ℤ → List A) (m : ℕ) → ((x : ℤ) → length (f x) ≡ m) → (xs : List ℤ) (j i : ℕ) (d : A) (e : ℤ) → j < length xs → i < m
     → get_or (joined (map f xs)) (j * m + i) d ≡ get_or (f (get_or xs j e)) i d
 get_or-joined f m long [] j i d e p q = absurd (omega arith)
 get_or-joined f m long (x ∷ xs) zero i d e p q =

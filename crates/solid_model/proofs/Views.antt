@@ -41,7 +41,7 @@ is_edge_of_mirrored a b c d =
     is_edge_of_turned a b c d ∙ is_edge_of_flipped a c b d ∙ is_edge_of_turned b d a c
 
 -- the four cells round the point (j, k) of a plane make an edge
-abbrev is_corner : (ℤ → ℤ → Bool) → ℤ → ℤ → Bool
+abbrev pub is_corner : (ℤ → ℤ → Bool) → ℤ → ℤ → Bool
 is_corner full j k = is_edge_of (full j k) (full (j -ℤ pos 1) k) (full j (k -ℤ pos 1)) (full (j -ℤ pos 1) (k -ℤ pos 1))
 
 -- backward, the cell before place k begins at the point -k
@@ -113,8 +113,28 @@ views_are_frames Front = inr (refl, refl)
 views_are_frames Top = inl (refl, refl)
 views_are_frames Side = inl (refl, refl)
 
+-- the segments of a view run forward, and its columns stand beside each other forward
+pub runs_forward : (v : View) (upright : Bool) → (along (frame_of v) upright).forward ≡ true
+runs_forward Front true = refl
+runs_forward Front false = refl
+runs_forward Top true = refl
+runs_forward Top false = refl
+runs_forward Side true = refl
+runs_forward Side false = refl
+
+pub stands_forward : (v : View) (upright : Bool) → (across (frame_of v) upright).forward ≡ true
+stands_forward v true = runs_forward v false
+stands_forward v false = runs_forward v true
+
+-- forward, places are coordinates
+pub forward_cell : (d : Direction) (z : ℤ) → d.forward ≡ true → cell_on d z ≡ z
+forward_cell d z e = ap (λ b. if b then z else (neg_ℤ z -ℤ pos 1)) e
+
+pub forward_point : (d : Direction) (z : ℤ) → d.forward ≡ true → point_on d z ≡ z
+forward_point d z e = ap (λ b. if b then z else neg_ℤ z) e
+
 -- an edge along an axis, by the four cells round it in the plane of the two others
-edge_across : (full : Cell → Bool) (i j k : ℤ) (a b c : Axis) → AreAcross a b c
+pub edge_across : (full : Cell → Bool) (i j k : ℤ) (a b c : Axis) → AreAcross a b c
     → is_edge full a (at_places a i b j c k) ≡ is_corner (λ m n. full (at_places a i b m c n)) j k
 edge_across full i j k = across_each (λ a b c. is_edge full a (at_places a i b j c k) ≡ is_corner (λ m n. full (at_places a i b m c n)) j k) inorder turned
   where
@@ -153,6 +173,37 @@ pub has_edge_at : (f : Frame) → IsFrame f → (full : Cell → Bool) (v : View
 has_edge_at f is full v true i j k = has_edge_is f is full (segment_at v true i j) k
 has_edge_at f is full v false i j k = has_edge_is f is full (segment_at v false i j) k
 
+-- the coordinate of the point at the place of a coordinate is that coordinate
+pub point_on_twice : (d : Direction) (z : ℤ) → point_on d (point_on d z) ≡ z
+point_on_twice d z = turned d.forward
+  where
+    turned : (b : Bool) → (if b then (if b then z else neg_ℤ z) else neg_ℤ (if b then z else neg_ℤ z)) ≡ z
+    turned true = refl
+    turned false = omega (arith, ints)
+
+-- the segment that begins at i along its way, on the line j across it
+start_at : (v : View) (upright : Bool) (i j : ℤ) → start_of (segment_at v upright i j) ≡ i
+start_at v true i j = refl
+start_at v false i j = refl
+
+line_at : (v : View) (upright : Bool) (i j : ℤ) → line_of (segment_at v upright i j) ≡ j
+line_at v true i j = refl
+line_at v false i j = refl
+
+-- on it projects the edge from the point with these coordinates
+pub has_edge_from : (full : Cell → Bool) (v : View) (upright : Bool) (i j k : ℤ)
+    → has_edge (frame_of v) full (segment_at v upright i j) (point_on (frame_of v).away k) ≡ is_edge full (along (frame_of v) upright).axis
+    (at_places (along (frame_of v) upright).axis i (across (frame_of v) upright).axis j (frame_of v).away.axis k)
+has_edge_from full v upright i j k =
+    let way = along (frame_of v) upright in
+    let beside = across (frame_of v) upright in
+    let away = (frame_of v).away in
+    let begins : cell_on way (start_of (segment_at v upright i j)) ≡ i =
+    ap (cell_on way) (start_at v upright i j) ∙ forward_cell way i (runs_forward v upright) in
+    let lies : point_on beside (line_of (segment_at v upright i j)) ≡ j =
+    ap (point_on beside) (line_at v upright i j) ∙ forward_point beside j (stands_forward v upright) in
+    λ t. is_edge full way.axis (at_places way.axis (begins t) beside.axis (lies t) away.axis (point_on_twice away k t))
+
 -- the coordinate of the cell at the place of a coordinate is that coordinate
 cell_on_turned : (forward : Bool) (axis : Axis) (z : ℤ)
     → cell_on (record { axis = axis; forward = forward }) (cell_on (record { axis = axis; forward = forward }) z) ≡ z
@@ -163,7 +214,7 @@ pub cell_on_twice : (d : Direction) (z : ℤ) → cell_on d (cell_on d z) ≡ z
 cell_on_twice d z = cell_on_turned d.forward d.axis z
 
 -- a cell is the one at its own coordinates, along three axes
-at_own_coordinates : (cell : Cell) (a b c : Axis) → AreAcross a b c → at_places a (coordinate a cell) b (coordinate b cell) c (coordinate c cell) ≡ cell
+pub at_own_coordinates : (cell : Cell) (a b c : Axis) → AreAcross a b c → at_places a (coordinate a cell) b (coordinate b cell) c (coordinate c cell) ≡ cell
 at_own_coordinates cell = across_each (λ a b c. at_places a (coordinate a cell) b (coordinate b cell) c (coordinate c cell) ≡ cell) inorder turned
   where
     inorder : (a : Axis) → at_places a (coordinate a cell) (second_axis a) (coordinate (second_axis a) cell) (third_axis a) (coordinate (third_axis a) cell) ≡ cell

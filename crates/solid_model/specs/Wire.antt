@@ -3,23 +3,32 @@
 --
 -- Counted by its own coordinates, a grid is once more a box of cells from (0, 0, 0): the grid cell (x, y, z) reaches from the
 -- x-th coordinate of the x axis to the next one, and so along y and z, and the grid point (x, y, z) is its least corner.
-use Rattle.std.specs.Prelude.{Bool, true, false, not, ◌&&◌, ◌||◌, suc, ◌+◌, ◌*◌, nat_lt, slice_index_or, ℤ, pos, IsTrue, if◌then◌else◌}
+use Rattle.std.specs.Prelude.{◌≡◌, Bool, true, false, not, ◌&&◌, ◌||◌, suc, ◌+◌, ◌*◌, nat_lt, List, slice_index_or, ℤ, pos, IsTrue, if◌then◌else◌}
 use Rattle.solid_model.specs.declared.cell.Axis.{Axis}
 use Rattle.solid_model.specs.declared.cell.Cell.{Cell}
 use Rattle.solid_model.specs.declared.frame.View.{View}
 use Rattle.solid_model.specs.declared.frame.View.TheVariants.{Front, Top, Side}
 use Rattle.solid_model.specs.declared.segment.Style.{Style}
 use Rattle.solid_model.specs.declared.segment.Style.TheVariants.{Blank, Dashed, Solid}
-use Rattle.solid_model.specs.Cells.{coordinate, cell_before, cell_after}
+use Rattle.solid_model.specs.Cells.{coordinate, cell_before, cell_after, is_full}
 use Rattle.solid_model.specs.Frames.{frame_of, along, across}
-use Rattle.solid_model.specs.Grid.{gaps_along}
+use Rattle.solid_model.specs.Grid.{GridCell, LiesInGridCell, gaps_along}
 use Rattle.solid_model.specs.Panels.{GridParts, coordinates_of, panel_of, styles_along}
 use Rattle.solid_model.specs.Marks.{AxisMarks, marks_along, AreMarksOf}
-use Rattle.solid_model.specs.Rooms.{Sizes, same_axis, edge_sizes}
+use Rattle.solid_model.specs.Rooms.{Sizes, is_within, place_of_number, same_axis, edge_sizes}
 
 -- how many grid cells stand in a row along each axis
 abbrev pub grid_sizes : GridParts → Sizes
 grid_sizes g = gaps_along (coordinates_of g)
+
+-- the grid cell that has the numbers of a cell of this box
+abbrev pub grid_cell_of : Cell → GridCell
+grid_cell_of n a = place_of_number (coordinate a n)
+
+-- A solid that is a union of grid cells, counted in them: full tells which grid cells it fills. Outside the box it fills none.
+pub record IsGridFullness (g : GridParts) (s : List Cell) (full : Cell → Bool) : Type 0 where
+  pub inside : (n c : Cell) → IsTrue (is_within (grid_sizes g) n) → LiesInGridCell (coordinates_of g) (grid_cell_of n) c → full n ≡ is_full s c
+  pub outside : (n : Cell) → is_within (grid_sizes g) n ≡ false → full n ≡ false
 
 -- ---- grid segments
 

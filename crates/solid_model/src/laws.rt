@@ -1,5 +1,6 @@
 //! The laws over the definitions. Each is the contract of a function that does nothing.
 
+mod blocks;
 mod drawings;
 mod grid;
 mod orders;
@@ -9,6 +10,7 @@ mod runs;
 mod sheets;
 mod stretches;
 
+pub use blocks::matching_solids_are_constant_on_blocks;
 pub use drawings::{
     column_rule, each_segment_has_one_style, fillings_round_an_edge,
     order_and_repeats_do_not_matter, quartered_cube, small_drawings,

@@ -43,6 +43,7 @@ pub trait CellTest {
 
     /// Whether it is true of a cell.
     fn test(&self, cell: PerAxis) -> bool
+        requires few { AreFew (sizes self.now) }
         requires x { cell.x < sizes self.now X }
         requires y { cell.y < sizes self.now Y }
         requires z { cell.z < sizes self.now Z }

@@ -15,7 +15,7 @@ returns-then-line-along c =
     let lines : c.along-2.result ≡ grid_sizes g (axis_across c.args.view c.args.upright) =
     c.along-2.ensures ∙ (λ t. c.sizes-sizes.ensures.sizes t ((c.across.ensures ∙ ap (λ f. across f c.args.upright) c.frame-2.ensures) t).axis) in
     blank_off_grid c.args.line _ c.args.cell _ _ (elim c.then-line-along.either as (λ _. (grid_sizes g (axis_across c.args.view c.args.upright) < c.args.line)
-        ⊎ (grid_sizes g (axis_along c.args.view c.args.upright) ≤ c.args.cell)) [
+    ⊎ (grid_sizes g (axis_along c.args.view c.args.upright) ≤ c.args.cell)) [
       | inl far ↦ inl (omega (arith, far, lines))
       | inr far ↦ inr (omega (arith, far.1, width))
     ])

@@ -1,7 +1,7 @@
 -- One answer more; and all of them.
 use Rattle.std.proofs.Common.{IsTrue, subst, ◌∙◌, arith}
 use Rattle.solid_model.specs.Marks.{AreMarksOf}
-use Rattle.solid_model.specs.PerAxis.{numbers_of, cell_of}
+use Rattle.solid_model.specs.PerAxis.{numbers_of, cell_of, AreFew}
 use Rattle.solid_model.proofs.BoxPlaces.{within_box}
 use Rattle.solid_model.proofs.MarkedCells.{IsAnswerAt, answer_at, all_marked}
 use Rattle.solid_model.proofs.Pushed.{holds_more}
@@ -22,3 +22,6 @@ returns g c =
     subst (λ s. AreMarksOf s (λ n. IsTrue (holds n)) (record { sizes = c.sizes-sizes.result; values = c.loop-place.values.items }))
     c.sizes-sizes.ensures.sizes
     (all_marked c.sizes-sizes.result c.loop-place.values.items _ holds c.loop-place.invariant (omega arith ∙ c.count-place-end.ensures))
+
+pub test-requires-clause-few : goal.test-requires-clause-few
+test-requires-clause-few g c = subst (λ s. AreFew s) c.sizes-sizes.ensures.sizes c.sizes-sizes.ensures.few

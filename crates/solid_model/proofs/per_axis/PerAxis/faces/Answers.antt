@@ -1,6 +1,6 @@
 -- One more along the axis.
-use Rattle.std.proofs.Common.{ap, ◌∙◌, arith}
-use Rattle.solid_model.specs.PerAxis.{numbers_of, numbered}
+use Rattle.std.proofs.Common.{◌∙◌, arith}
+use Rattle.solid_model.specs.PerAxis.{numbers_of}
 use Rattle.solid_model.proofs.BoxPlaces.{numbered_faces}
 use Rattle.solid_model.proofs.per_axis.PerAxis.faces.Goals as goal
 

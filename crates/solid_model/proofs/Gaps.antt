@@ -1,14 +1,19 @@
 -- The gaps between the members of an ascending list.
-use Rattle.std.proofs.Common.{◌≡◌, ◌⊎◌, inl, inr, Bool, true, false, ◌&&◌, ℕ, zero, suc, ◌+◌, ◌<◌, ◌≤◌, List, [], ◌∷◌, length, get_or, ℤ, pos, ◌-ℤ◌, ◌≤ℤ◌, ◌<ℤ◌, int_lt, int_le, refl, sym, subst, ◌∙◌, arith}
+use Rattle.std.proofs.Common.{◌≡◌, inl, inr, true, ℕ, zero, suc, ◌+◌, ◌<◌, ◌≤◌, List, [], ◌∷◌, length, get_or, ℤ, pos, ◌-ℤ◌, ◌≤ℤ◌, ◌<ℤ◌, int_lt, int_le, subst, arith}
 use Rattle.std.proofs.lemmas.Bool.{false≢true, and_parts, and_from, cases_lt}
 use Rattle.std.proofs.lemmas.Int.{ints}
-use Rattle.solid_model.specs.Grid.{is_in_gap, IsInSomeGap}
+use Rattle.solid_model.specs.Grid.{is_in_gap}
 use Rattle.solid_model.specs.Lists.{Ascends}
+use Rattle.solid_model.specs.Rooms.{place_of_number}
 use Rattle.solid_model.proofs.ListPlaces.{ascends-pairs}
 
 -- a member by its place
 abbrev pub member : List ℤ → ℕ → ℤ
 member zs n = get_or zs n (pos 0)
+
+-- and by the whole number of its place
+abbrev pub member_of : List ℤ → ℤ → ℤ
+member_of zs k = member zs (place_of_number k)
 
 -- z lies between the two ends of a gap
 pub record LiesIn (zs : List ℤ) (n : ℕ) (z : ℤ) : Type 0 where
@@ -31,22 +36,6 @@ in_gap [] n z l low high = absurd (omega arith)
 in_gap (a ∷ []) n z l low high = absurd (omega arith)
 in_gap (a ∷ b ∷ zs) zero z l low high = and_from (int_le a z) (int_lt z b) (grind (arith, ints)) (grind (arith, ints))
 in_gap (a ∷ b ∷ zs) (suc n) z l low high = in_gap (b ∷ zs) n z (omega arith) low high
-
--- a place lies in some gap or in none
-pub some_gap_or_none : (zs : List ℤ) (z : ℤ) → IsInSomeGap zs z ⊎ ((n : ℕ) → is_in_gap zs n z ≡ true → ⊥)
-some_gap_or_none [] z = inr (λ n e. false≢true e)
-some_gap_or_none (a ∷ []) z = inr (λ n e. false≢true e)
-some_gap_or_none (a ∷ b ∷ zs) z = by (int_le a z && int_lt z b) refl (some_gap_or_none (b ∷ zs) z)
-  where
-    by : (here : Bool) → (int_le a z && int_lt z b) ≡ here → IsInSomeGap (b ∷ zs) z ⊎ ((n : ℕ) → is_in_gap (b ∷ zs) n z ≡ true → ⊥)
-        → IsInSomeGap (a ∷ b ∷ zs) z ⊎ ((n : ℕ) → is_in_gap (a ∷ b ∷ zs) n z ≡ true → ⊥)
-    by true e rest = inl (zero, e)
-    by false e (inl gap) = inl (suc gap.0, gap.1)
-    by false e (inr none) = inr not_here
-      where
-        not_here : (n : ℕ) → is_in_gap (a ∷ b ∷ zs) n z ≡ true → ⊥
-        not_here zero h = false≢true (sym e ∙ h)
-        not_here (suc n) h = none n h
 
 module _ (zs : List ℤ) (ascends : Ascends ◌<ℤ◌ zs) where
   -- an earlier member is less
