@@ -1,12 +1,12 @@
 -- Boxes of cells: numbers within a size, and cells within a box.
-use Rattle.std.proofs.Common.{◌≡◌, ⊎_elim, true, false, ℕ, ◌-◌, ◌≤◌, ℤ, pos, negsuc, ◌-ℤ◌, ◌≤ℤ◌, ◌<ℤ◌, arith}
+use Rattle.std.proofs.Common.{◌≡◌, ⊎_elim, true, false, ℕ, ◌-◌, ◌<◌, ◌≤◌, ℤ, pos, negsuc, ◌-ℤ◌, ◌≤ℤ◌, ◌<ℤ◌, arith}
 use Rattle.std.proofs.lemmas.Bool.{false≢true, and_parts, and_from, and_cases, lt-ltb, ltb-true}
 use Rattle.std.proofs.lemmas.Int.{ints}
 use Rattle.solid_model.specs.declared.cell.Axis.{Axis}
 use Rattle.solid_model.specs.declared.cell.Axis.TheVariants.{X, Y, Z}
 use Rattle.solid_model.specs.declared.cell.Cell.{Cell}
 use Rattle.solid_model.specs.Cells.{coordinate}
-use Rattle.solid_model.specs.Rooms.{Sizes, is_below, is_within}
+use Rattle.solid_model.specs.Rooms.{Sizes, is_below, is_within, place_of_number}
 
 -- ---- numbers within a size
 
@@ -19,6 +19,11 @@ below-bounds size (negsuc k) below = absurd (false≢true below)
 pub bounds-below : (size : ℕ) (z : ℤ) → pos 0 ≤ℤ z → z <ℤ pos size → is_below size z ≡ true
 bounds-below size (pos k) from to = lt-ltb k size (omega (arith, ints))
 bounds-below size (negsuc k) from to = absurd (omega (arith, ints))
+
+-- counted as a place it is less than the size
+pub place-below : (size : ℕ) (z : ℤ) → is_below size z ≡ true → place_of_number z < size
+place-below size (pos k) below = ltb-true k size below
+place-below size (negsuc k) below = absurd (false≢true below)
 
 -- what is within a size is within a greater one
 pub below-more : (m n : ℕ) → m ≤ n → (z : ℤ) → is_below m z ≡ true → is_below n z ≡ true

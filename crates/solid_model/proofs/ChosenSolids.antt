@@ -1,25 +1,27 @@
--- From choices to solids: choices of grid cells in their order are unions in theirs, and all matching choices are all matching
--- solids.
-use Rattle.std.proofs.Common.{◌≡◌, ◌⊎◌, inl, inr, ⊎_elim, Bool, true, false, ℕ, zero, suc, ◌*◌, ◌<◌, ◌/◌, ◌%◌, List, [], ◌∷◌, length, map, get_or, ◌≤ℤ◌, ◌<ℤ◌, refl, ap, sym, subst, ◌∙◌, arith}
-use Rattle.std.proofs.Math.Nat.{mod-lt, div-add-mod, div-lt_iff_lt-mul}
+-- From choices to solids: choices of grid cells in their order are unions in theirs, and each matching solid is such a union.
+use Rattle.std.proofs.Common.{◌≡◌, inl, inr, ⊎_elim, Bool, true, false, ℕ, ◌<◌, List, [], ◌∷◌, length, map, get_or, ◌≤ℤ◌, ◌<ℤ◌, refl, ap, sym, subst, ◌∙◌, arith}
+use Rattle.std.proofs.lemmas.Bool.{false_from_ne_true}
 use Rattle.std.proofs.lemmas.Int.{ints, by_lt_z}
 use Rattle.std.proofs.lemmas.List.{length-map, get_or-map, ext_get_or}
 use Rattle.solid_model.specs.declared.cell.Axis.{Axis}
 use Rattle.solid_model.specs.declared.cell.Axis.TheVariants.{X, Y, Z}
 use Rattle.solid_model.specs.declared.cell.Cell.{Cell}
+use Rattle.solid_model.specs.declared.segment.Segment.{Segment}
+use Rattle.solid_model.specs.declared.segment.Style.{Style}
+use Rattle.solid_model.specs.Cells.{is_full}
 use Rattle.solid_model.specs.Choices.{ChoicePrecedes}
-use Rattle.solid_model.specs.Grid.{Coordinates, GridCell, LiesInGridCell, gaps_along, grid_cell_count, grid_cell_place, IsUnionOf}
+use Rattle.solid_model.specs.Grid.{Coordinates, AreGridCoordinates, GridCell, LiesInGridCell, gaps_along, grid_cell_count, grid_cell_place, IsUnionOf}
 use Rattle.solid_model.specs.Lists.{Member, Ascends}
+use Rattle.solid_model.specs.Matching.{Matches}
 use Rattle.solid_model.specs.Orders.{ComesBefore, Precedes}
+use Rattle.solid_model.specs.Wire.{grid_cell_of}
+use Rattle.solid_model.proofs.BoxPlaces.{cell_of_place, cell_of_place-within, cell_of_place-there}
 use Rattle.solid_model.proofs.CellOrder.{LiesBefore, before-lies, lies-before, before_one_way, not_before_itself}
-use Rattle.solid_model.proofs.Corners.{corners, corner_of, corner_lies, corner_at_place, length-corners, place_within, ascends-corners, lying-is_grid_cell, numbered_gap, begins_no_later, IsGridCell}
+use Rattle.solid_model.proofs.Corners.{corners, corner_of, corner_lies, corner_at_place, length-corners, place_within, ascends-corners, lying-is_grid_cell, within-is_grid_cell, begins_no_later, IsGridCell}
+use Rattle.solid_model.proofs.InGrid.{agree_in_grid_cell, lies_in_grid}
 use Rattle.solid_model.proofs.ListPlaces.{member-at}
 use Rattle.solid_model.proofs.Lists.{each-at}
-use Rattle.solid_model.proofs.UnionDrawing.{numbered, in_grid_or_not}
-
-zero_or_more : (n : ℕ) → (n ≡ 0) ⊎ (0 < n)
-zero_or_more zero = inl refl
-zero_or_more (suc n) = inr (omega arith)
+use Rattle.solid_model.proofs.UnionDrawing.{in_grid_or_not}
 
 -- the first difference of two choices that are read off an ascending list of cells
 record IsFirstDifference (full other : Cell → Bool) (cells : List Cell) (c : Cell) : Type 0 where
@@ -84,52 +86,14 @@ module _ (coordinates : Coordinates) (ascends : (a : Axis) → Ascends ◌<ℤ�
       like_corner chosen full union n c at ∙ same ∙ sym (like_corner other full_too union_too n c at)
 
   -- each place of the list of corners is that of a grid cell
-  cell_at_place : (p : ℕ) → p < length (corners coordinates ascends) → (n : GridCell) × IsGridCell coordinates ascends n × (grid_cell_place coordinates n ≡ p)
-  cell_at_place p l = by (zero_or_more (gaps_along coordinates X)) (zero_or_more (gaps_along coordinates Y))
-    where
-      x : ℕ
-      x = gaps_along coordinates X
-
-      y : ℕ
-      y = gaps_along coordinates Y
-
-      z : ℕ
-      z = gaps_along coordinates Z
-
-      within : p < z * y * x
-      within = subst (λ n. p < n) (length-corners coordinates ascends) l
-
-      row : ℕ
-      row = p % (y * x)
-
-      n : GridCell
-      n = numbered (row % x) (row / x) (p / (y * x))
-
-      nothing : (e : z * y * x ≡ 0) → ⊥
-      nothing e = let w = within in omega arith
-
-      by : (gaps_along coordinates X ≡ 0) ⊎ (0 < gaps_along coordinates X) → (gaps_along coordinates Y ≡ 0) ⊎ (0 < gaps_along coordinates Y)
-          → (m : GridCell) × IsGridCell coordinates ascends m × (grid_cell_place coordinates m ≡ p)
-      by (inl e) q = absurd (nothing (ap (λ w. z * y * w) e ∙ omega arith))
-      by (inr in_x) (inl e) = absurd (nothing (ap (λ w. z * w * x) e ∙ omega arith))
-      by (inr in_x) (inr in_y) = (n, is_cell, place)
-        where
-          some : 0 < y * x
-          some = product_positive y x in_y in_x
-            where
-              product_positive : (a b : ℕ) → 0 < a → 0 < b → 0 < a * b
-              product_positive zero b h k = absurd (omega arith)
-              product_positive (suc a) b h k = omega arith
-
-          is_cell : IsGridCell coordinates ascends n
-          is_cell X = numbered_gap (coordinates X) (ascends X) (row % x) (mod-lt row in_x)
-          is_cell Y = numbered_gap (coordinates Y) (ascends Y) (row / x) ((div-lt_iff_lt-mul in_x).1 (mod-lt p some))
-          is_cell Z = numbered_gap (coordinates Z) (ascends Z) (p / (y * x)) ((div-lt_iff_lt-mul some).1 (let w = within in omega arith))
-
-          place : grid_cell_place coordinates n ≡ p
-          place =
-              let outer = div-add-mod p (y * x) in let inner = div-add-mod row x in
-              omega arith
+  cell_at_place : (p : ℕ) → p < length (corners coordinates ascends)
+      → (n : GridCell) × IsGridCell coordinates ascends n × (grid_cell_place coordinates n ≡ p)
+  cell_at_place p l =
+      let within = cell_of_place-within (gaps_along coordinates) p (subst (λ n. p < n) (length-corners coordinates ascends) l) in (
+        grid_cell_of (cell_of_place (gaps_along coordinates) p),
+        within-is_grid_cell coordinates ascends (cell_of_place (gaps_along coordinates) p) within,
+        cell_of_place-there (gaps_along coordinates) p,
+      )
 
   -- a choice of grid cells, read off its union at the corners
   pub chosen_at_corners : (chosen : List Bool) (full : Cell → Bool) → IsUnionOf coordinates chosen full → length chosen ≡ grid_cell_count coordinates
@@ -167,3 +131,20 @@ module _ (coordinates : Coordinates) (ascends : (a : Axis) → Ascends ◌<ℤ�
             (λ none. union.outside b none ∙ sym (union_too.outside b none))
             (in_grid_or_not coordinates ascends b),
       )
+
+module _ (drawing : Segment → Style) (coordinates : Coordinates) (are : (a : Axis) → AreGridCoordinates drawing a (coordinates a)) where
+  abbrev ascends_here : (a : Axis) → Ascends ◌<ℤ◌ (coordinates a)
+  ascends_here a = (are a).ordered
+
+  -- a matching solid is the union of the grid cells whose corners it fills
+  pub matching_union : (s : List Cell) → Matches drawing s → IsUnionOf coordinates (map (is_full s) (corners coordinates ascends_here)) (is_full s)
+  matching_union s matches = record {
+    inside = λ n c at.
+        let is = lying-is_grid_cell coordinates ascends_here n c at in
+        let corner = corner_of coordinates ascends_here n in
+        let there = place_within coordinates ascends_here n is in
+        agree_in_grid_cell drawing s matches coordinates are n c corner at (corner_lies coordinates ascends_here n is)
+        ∙ ap (is_full s) (sym (corner_at_place coordinates ascends_here n corner is))
+        ∙ sym (get_or-map (is_full s) (corners coordinates ascends_here) (grid_cell_place coordinates n) corner false there);
+    outside = λ c none. false_from_ne_true (is_full s c) (λ full. none (lies_in_grid drawing s matches coordinates are c full));
+  }

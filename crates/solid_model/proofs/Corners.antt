@@ -1,5 +1,5 @@
 -- The least unit cells of a grid's cells, and choices of grid cells read off them.
-use Rattle.std.proofs.Common.{◌≡◌, inl, inr, ℕ, zero, suc, ◌+◌, ◌*◌, ◌-◌, ◌<◌, List, [], ◌∷◌, length, map, get_or, ℤ, pos, ◌≤ℤ◌, ◌<ℤ◌, int_lt, int_le, IsTrue, refl, ap, sym, subst, ◌∙◌, arith}
+use Rattle.std.proofs.Common.{◌≡◌, inl, inr, true, ℕ, zero, suc, ◌+◌, ◌*◌, ◌-◌, ◌<◌, List, [], ◌∷◌, length, map, get_or, ℤ, pos, ◌≤ℤ◌, ◌<ℤ◌, int_lt, int_le, IsTrue, refl, ap, sym, subst, ◌∙◌, arith}
 use Rattle.std.proofs.lemmas.Bool.{false≢true, and_parts, and_from}
 use Rattle.std.proofs.lemmas.Int.{ints}
 use Rattle.std.proofs.lemmas.List.{length-take-le}
@@ -11,6 +11,9 @@ use Rattle.solid_model.specs.Grid.{Coordinates, GridCell, is_in_gap, LiesInGridC
 use Rattle.solid_model.specs.Lists.{Member, Each, Ascends}
 use Rattle.solid_model.specs.Orders.{ComesBefore}
 use Rattle.solid_model.specs.Panels.{joined, starts_of}
+use Rattle.solid_model.specs.Rooms.{is_within}
+use Rattle.solid_model.specs.Wire.{grid_cell_of}
+use Rattle.solid_model.proofs.BoxCells.{place-below, within-below}
 use Rattle.solid_model.proofs.CellOrder.{lies-before}
 use Rattle.solid_model.proofs.Lists.{each-at, each-from, each-append, each-map, ascends-append}
 use Rattle.solid_model.proofs.SameOnGrid.{starts_more}
@@ -140,6 +143,11 @@ module _ (coordinates : Coordinates) (ascends : (a : Axis) → Ascends ◌<ℤ�
 
   pub lying-is_grid_cell : (n : GridCell) (c : Cell) → LiesInGridCell coordinates n c → IsGridCell n
   lying-is_grid_cell n c at a = gap_begins (coordinates a) (n a) (coordinate a c) (at a)
+
+  -- a cell of the box that they make is one of them, by its numbers
+  pub within-is_grid_cell : (n : Cell) → is_within (gaps_along coordinates) n ≡ true → IsGridCell (grid_cell_of n)
+  within-is_grid_cell n within a = numbered_gap (coordinates a) (ascends a) (grid_cell_of n a)
+      (place-below (gaps_along coordinates a) (coordinate a n) (within-below (gaps_along coordinates) n within a))
 
   pub corner_lies : (n : GridCell) → IsGridCell n → LiesInGridCell coordinates n (corner_of n)
   corner_lies n is X = (is X).in_gap

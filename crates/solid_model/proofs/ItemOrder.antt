@@ -90,6 +90,13 @@ filled_at : (items : List (Option ℕ)) (choice : List Bool) (p : ℕ) → p < l
     → get_or (cells_of_choice items choice) p false ≡ is_chosen choice (get_or items p None)
 filled_at items choice p l = get_or-map (is_chosen choice) items p None false l
 
+-- a list of cells that is the same throughout each item, and empty outside
+pub record IsConstant (items : List (Option ℕ)) (cells : List Bool) : Type 0 where
+  pub listed : length cells ≡ length items
+  pub same : (p q k : ℕ) → p < length items → q < length items → get_or items p None ≡ Some k → get_or items q None ≡ Some k
+      → get_or cells p false ≡ get_or cells q false
+  pub empty : (p : ℕ) → p < length items → get_or items p None ≡ None → get_or cells p false ≡ false
+
 module _ (items : List (Option ℕ)) (n : ℕ) (order : AreInOrder items n) where
   -- choices come in the order of the cells that they fill
   pub cells_precede : (choice other : List Bool) → length choice ≡ n → ChoicePrecedes choice other
@@ -121,14 +128,7 @@ module _ (items : List (Option ℕ)) (n : ℕ) (order : AreInOrder items n) wher
       ap (is_chosen choice) (sym is) ∙ sym (filled_at items choice p p_in) ∙ ap (λ cells. get_or cells p false) same
       ∙ filled_at items other p p_in ∙ ap (is_chosen other) is)
 
-  -- a list of cells that is the same throughout each item, and empty outside
-  pub record IsConstant (cells : List Bool) : Type 0 where
-    pub listed : length cells ≡ length items
-    pub same : (p q k : ℕ) → p < length items → q < length items → get_or items p None ≡ Some k → get_or items q None ≡ Some k
-        → get_or cells p false ≡ get_or cells q false
-    pub empty : (p : ℕ) → p < length items → get_or items p None ≡ None → get_or cells p false ≡ false
-
-  module _ (cells : List Bool) (constant : IsConstant cells) where
+  module _ (cells : List Bool) (constant : IsConstant items cells) where
     -- a choice of the first so many items, read off their first cells
     record IsReadOff (m : ℕ) (choice : List Bool) : Type 0 where
       long : length choice ≡ m

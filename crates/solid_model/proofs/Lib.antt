@@ -45,3 +45,4 @@ pub mod Decisions
 pub mod ItemOrder
 pub mod NumberedPlaces
 pub mod SomeNumbering
+pub mod BlockChoices

@@ -1,19 +1,21 @@
 -- All matching choices are all matching solids, where each matching solid is the union that a choice fills, and choices come in
--- the order of their unions.
-use Rattle.std.proofs.Common.{◌≡◌, inl, inr, Bool, ℕ, List, [], ◌∷◌, length, Option, ◌<ℤ◌, refl, sym, subst, ◌∙◌}
+-- the order of their unions. They are one list, where what a choice fills determines it.
+use Rattle.std.proofs.Common.{◌≡◌, inl, inr, Bool, ℕ, List, [], ◌∷◌, length, map, Option, ◌<ℤ◌, refl, ap₂, sym, subst, ◌∙◌}
+use Rattle.std.proofs.lemmas.List.{length-map}
 use Rattle.solid_model.specs.declared.cell.Axis.{Axis}
 use Rattle.solid_model.specs.declared.cell.Cell.{Cell}
 use Rattle.solid_model.specs.declared.segment.Segment.{Segment}
 use Rattle.solid_model.specs.declared.segment.Style.{Style}
 use Rattle.solid_model.specs.Cells.{is_full, SameCells}
-use Rattle.solid_model.specs.Choices.{ChoicePrecedes, AreChoicesThat, cells_of_choice, IsMatchingChoice, AreSolidsOfChoices}
+use Rattle.solid_model.specs.Choices.{ChoicePrecedes, AreChoicesThat, is_chosen, cells_of_choice, IsMatchingChoice, AreSolidsOfChoices}
 use Rattle.solid_model.specs.Frames.{frame_of}
-use Rattle.solid_model.specs.Grid.{Coordinates, IsUnionOf}
+use Rattle.solid_model.specs.Grid.{Coordinates, grid_cell_count, IsUnionOf}
 use Rattle.solid_model.specs.Lists.{Member, Each, Ascends}
 use Rattle.solid_model.specs.Matching.{Matches, AreSolidsOf}
 use Rattle.solid_model.specs.Orders.{IsInStatedForm, SolidPrecedes}
 use Rattle.solid_model.proofs.CellOrder.{stated_form}
-use Rattle.solid_model.proofs.ChosenSolids.{one_union}
+use Rattle.solid_model.proofs.ChosenSolids.{one_union, chosen_at_corners}
+use Rattle.solid_model.proofs.Corners.{corners}
 use Rattle.solid_model.proofs.Fullness.{solid_with, full_cell_of}
 use Rattle.solid_model.proofs.Styles.{same_drawing}
 
@@ -104,3 +106,24 @@ module _ (drawing : Segment → Style) (coordinates : Coordinates) (ascends : (a
       },
       solids-filled choices are.each,
     )
+
+-- Where the grid cells that it fills determine a choice, the choices that fill these solids are one list.
+module _ (coordinates : Coordinates) (ascends : (a : Axis) → Ascends ◌<ℤ◌ (coordinates a)) (items : List (Option ℕ)) (n : ℕ)
+    (listed : length items ≡ grid_cell_count coordinates)
+    (determined : (choice other : List Bool) → length choice ≡ n → length other ≡ n
+    → cells_of_choice items choice ≡ cells_of_choice items other → choice ≡ other) where
+  -- what a choice fills is what its solid fills at the corners of the grid cells
+  at_corners : (choice : List Bool) (s : List Cell) → IsUnionOf coordinates (cells_of_choice items choice) (is_full s)
+      → cells_of_choice items choice ≡ map (is_full s) (corners coordinates ascends)
+  at_corners choice s union =
+      chosen_at_corners coordinates ascends (cells_of_choice items choice) (is_full s) union (length-map items (is_chosen choice) ∙ listed)
+
+  pub choices_of_solids : (choices others : List (List Bool)) (ss : List (List Cell))
+      → AreSolidsOfChoices coordinates items n choices ss → AreSolidsOfChoices coordinates items n others ss → choices ≡ others
+  choices_of_solids [] [] [] h k = refl
+  choices_of_solids [] (other ∷ others) [] h k = absurd k
+  choices_of_solids [] others (s ∷ ss) h k = absurd h
+  choices_of_solids (choice ∷ choices) others [] h k = absurd h
+  choices_of_solids (choice ∷ choices) [] (s ∷ ss) h k = absurd k
+  choices_of_solids (choice ∷ choices) (other ∷ others) (s ∷ ss) h k =
+      ap₂ ◌∷◌ (determined choice other h.0 k.0 (at_corners choice s h.1 ∙ sym (at_corners other s k.1))) (choices_of_solids choices others ss h.2 k.2)

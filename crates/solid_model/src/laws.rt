@@ -10,15 +10,17 @@ mod runs;
 mod sheets;
 mod stretches;
 
-pub use blocks::matching_solids_are_constant_on_blocks;
+pub use blocks::{
+    all_matching_choices_are_all_matching_solids, matching_solids_are_constant_on_blocks,
+};
 pub use drawings::{
     column_rule, each_segment_has_one_style, fillings_round_an_edge,
     order_and_repeats_do_not_matter, quartered_cube, small_drawings,
     views_are_seen_from_their_sides,
 };
 pub use grid::{
-    all_matching_choices_are_all_matching_solids, matching_is_seen_on_the_grid,
-    matching_solids_lie_in_the_grid, one_drawing_of_a_grid, one_list_of_grid_coordinates,
+    matching_is_seen_on_the_grid, matching_solids_lie_in_the_grid, one_drawing_of_a_grid,
+    one_list_of_grid_coordinates,
 };
 pub use orders::{
     all_matching_solids_are_one_list, one_stated_form, small_orders, solids_are_ordered,

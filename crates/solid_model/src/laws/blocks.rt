@@ -1,15 +1,16 @@
 //! Laws of the blocks of a grid.
 
-ghost use Rattle.std.specs.Prelude.{◌≡◌, Bool, false, List, IsTrue};
+ghost use Rattle.std.specs.Prelude.{◌≡◌, Bool, false, ℕ, List, Option, IsTrue};
 ghost use Rattle.solid_model.specs.declared.cell.Axis.{Axis};
 ghost use Rattle.solid_model.specs.declared.cell.Cell.{Cell};
 ghost use Rattle.solid_model.specs.declared.segment.Segment.{Segment};
 ghost use Rattle.solid_model.specs.declared.segment.Style.{Style};
-ghost use Rattle.solid_model.specs.Blocks.{Joined, IsOutside};
+ghost use Rattle.solid_model.specs.Blocks.{Joined, IsOutside, AreBlocksOf};
 ghost use Rattle.solid_model.specs.Cells.{cell_before, is_full};
+ghost use Rattle.solid_model.specs.Choices.{AreChoicesThat, IsMatchingChoice, AreSolidsOfChoices};
 ghost use Rattle.solid_model.specs.Edges.{is_edge};
 ghost use Rattle.solid_model.specs.Grid.{LiesInGridCell};
-ghost use Rattle.solid_model.specs.Matching.{Matches};
+ghost use Rattle.solid_model.specs.Matching.{Matches, AreSolidsOf};
 ghost use Rattle.solid_model.specs.Panels.{GridParts, coordinates_of, IsGridOf};
 ghost use Rattle.solid_model.specs.Rooms.{is_within};
 ghost use Rattle.solid_model.specs.VirtualFaces.{IsVirtual};
@@ -46,4 +47,15 @@ pub fn matching_solids_are_constant_on_blocks()
         → (n c : Cell) → IsTrue (is_within (grid_sizes g) n) → IsOutside g n
         → LiesInGridCell (coordinates_of g) (grid_cell_of n) c
         → is_full s c ≡ false }
+{}
+
+/// All choices of a grid's blocks that match the drawing are all solids that match it, one for each
+/// choice, and they come in the same order.
+pub fn all_matching_choices_are_all_matching_solids()
+    ensures { (drawing : Segment → Style) (g : GridParts) → IsGridOf drawing g
+        → (blocks : List (Option ℕ)) (count : ℕ) → AreBlocksOf g blocks count
+        → (choices : List (List Bool))
+        → AreChoicesThat (IsMatchingChoice drawing (coordinates_of g) blocks) count choices
+        → (ss : List (List Cell)) × AreSolidsOf drawing ss
+        × AreSolidsOfChoices (coordinates_of g) blocks count choices ss }
 {}

@@ -6,10 +6,9 @@ ghost use Rattle.solid_model.specs.declared.cell.Cell.{Cell};
 ghost use Rattle.solid_model.specs.declared.segment.Segment.{Segment};
 ghost use Rattle.solid_model.specs.declared.segment.Style.{Style};
 ghost use Rattle.solid_model.specs.Cells.{coordinate, cell_before, is_full};
-ghost use Rattle.solid_model.specs.Choices.{AreChoicesThat, own_items, IsMatchingChoice, AreSolidsOfChoices};
 ghost use Rattle.solid_model.specs.DrawnStyle.{solid_drawing};
-ghost use Rattle.solid_model.specs.Grid.{IsGridCoordinate, AreGridCoordinates, Coordinates, GridCell, LiesInGridCell, LiesInGrid, grid_cell_count, IsUnionOf};
-ghost use Rattle.solid_model.specs.Matching.{Matches, AreSolidsOf};
+ghost use Rattle.solid_model.specs.Grid.{IsGridCoordinate, AreGridCoordinates, Coordinates, GridCell, LiesInGridCell, LiesInGrid, IsUnionOf};
+ghost use Rattle.solid_model.specs.Matching.{Matches};
 ghost use Rattle.solid_model.specs.Panels.{PanelsStyles, AreGridStyles, GridParts, coordinates_of, IsGridOf};
 ghost use Rattle.solid_model.specs.Runs.{IsDrawing};
 
@@ -51,19 +50,4 @@ pub fn matching_is_seen_on_the_grid()
         → (chosen : List Bool) (s : List Cell) → IsUnionOf (coordinates_of g) chosen (is_full s)
         → (panels : PanelsStyles) → AreGridStyles (solid_drawing s) (coordinates_of g) panels
         → (panels ≡ g.panels) ↔ Matches drawing s }
-{}
-
-/// Where each grid cell is an item of its own, all choices of items that match a drawing are all
-/// solids that match it, one for each choice, and they come in the same order.
-pub fn all_matching_choices_are_all_matching_solids()
-    ensures { (drawing : Segment → Style) (coordinates : Coordinates)
-        → ((a : Axis) → AreGridCoordinates drawing a (coordinates a))
-        → (choices : List (List Bool))
-        → AreChoicesThat
-        (IsMatchingChoice drawing coordinates (own_items (grid_cell_count coordinates)))
-        (grid_cell_count coordinates) choices
-        → (ss : List (List Cell)) × AreSolidsOf drawing ss
-        × AreSolidsOfChoices coordinates (own_items (grid_cell_count coordinates))
-        (grid_cell_count coordinates)
-        choices ss }
 {}
