@@ -21,6 +21,7 @@ pub mod SmallSheet
 pub mod Grid
 pub mod Panels
 pub mod Choices
+pub mod Bits
 pub mod Chains
 pub mod Rooms
 pub mod PerAxis

@@ -2,8 +2,10 @@
 //! them.
 #![tactic(auto)]
 
+mod bits;
 mod cell;
 mod choice;
+mod choice_order;
 mod drawing;
 mod face_map;
 mod fault;
@@ -15,12 +17,14 @@ mod marks;
 mod memory;
 mod panels;
 mod per_axis;
+mod prefix;
 mod runs;
 mod segment;
 mod wire;
 
 pub use cell::{Axis, Cell};
 pub use choice::Choice;
+pub use choice_order::compare;
 pub use drawing::{Drawing, ViewLines};
 pub use face_map::FaceMap;
 pub use fault::{Fault, Refused};
@@ -42,6 +46,7 @@ pub use marks::{CellTest, Marks, MarksByAxis};
 pub use memory::Memory;
 pub use panels::{Panel, Panels};
 pub use per_axis::PerAxis;
+pub use prefix::Prefix;
 pub use runs::{Run, Runs};
 pub use segment::{Segment, Style};
 pub use wire::Wire;
