@@ -48,3 +48,5 @@ pub mod SomeNumbering
 pub mod BlockChoices
 pub mod KeptBits
 pub mod ComparedChoices
+pub mod WithoutRepeats
+pub mod Volumes

@@ -29,3 +29,4 @@ pub mod Marks
 pub mod Wire
 pub mod VirtualFaces
 pub mod Blocks
+pub mod Volumes
