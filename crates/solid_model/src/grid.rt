@@ -52,7 +52,7 @@ fn style_in(styles: &[Style], place: usize) -> Style
 }
 
 impl Grid {
-    ghost use Rattle.std.specs.Prelude.{◌≡◌, ◌≤◌, pos};
+    ghost use Rattle.std.specs.Prelude.{◌≡◌, ◌↔◌, ◌≤◌, pos, IsTrue};
     ghost use Rattle.solid_model.specs.declared.cell.Axis.{Axis};
     ghost use Rattle.solid_model.specs.Grid.{gaps_along, grid_cell_count};
     ghost use Rattle.solid_model.specs.Panels.{coordinates_of, IsGrid};
@@ -98,6 +98,16 @@ impl Grid {
             Axis::Y => self.ys.as_slice(),
             Axis::Z => self.zs.as_slice(),
         }
+    }
+
+    /// Both have the same coordinates and the same styles.
+    pub fn same(&self, other: &Grid) -> bool
+        ensures { IsTrue result ↔ (self.now ≡ other.now) }
+    {
+        self.xs == other.xs
+            && self.ys == other.ys
+            && self.zs == other.zs
+            && self.panels.same(&other.panels)
     }
 
     /// The styles of its segments.

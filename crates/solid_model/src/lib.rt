@@ -3,6 +3,7 @@
 #![tactic(auto)]
 
 mod bits;
+mod blocks;
 mod cell;
 mod choice;
 mod choice_order;
@@ -18,10 +19,12 @@ mod memory;
 mod panels;
 mod per_axis;
 mod prefix;
+mod problem;
 mod runs;
 mod segment;
 mod wire;
 
+pub use blocks::Blocks;
 pub use cell::{Axis, Cell};
 pub use choice::Choice;
 pub use choice_order::compare;
@@ -48,6 +51,7 @@ pub use memory::Memory;
 pub use panels::{Panel, Panels};
 pub use per_axis::PerAxis;
 pub use prefix::Prefix;
+pub use problem::Problem;
 pub use runs::{Run, Runs};
 pub use segment::{Segment, Style};
 pub use wire::Wire;

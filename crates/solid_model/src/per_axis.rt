@@ -8,7 +8,7 @@ ghost use Rattle.solid_model.specs.Rooms.{edge_sizes, face_sizes, is_within, box
 use crate::cell::Axis;
 
 /// A number for each axis: how many there are of something, or which cell of a grid or box it is.
-#[derive(Clone, Copy, Debug)]
+#[derive(Clone, Copy, Debug, PartialEq, Eq)]
 pub struct PerAxis {
     pub x: usize,
     pub y: usize,

@@ -1,0 +1,95 @@
+//! The blocks of a grid.
+
+ghost use Rattle.std.specs.Prelude.{◌≡◌, ◌↔◌, IsTrue};
+
+use crate::grid::Grid;
+use crate::per_axis::PerAxis;
+use std::marker::Model;
+
+/// The blocks of a grid: for each grid cell, z slowest and x fastest, the number of its block, or
+/// none where it is outside; and how many blocks there are.
+#[derive(Debug, Drop)]
+pub struct Blocks {
+    sizes: PerAxis,
+    of: Vec<Option<u16>>,
+    count: u16,
+}
+
+impl Model for Blocks {
+    ghost use Rattle.solid_model.specs.Blocks.{BlockNumbers, AreNumbers};
+
+    ghost Value = { BlockNumbers };
+
+    ghost view = { λ s. record { sizes = s.sizes; numbers = s.of.items; count = s.count } };
+
+    ghost invariant = { λ s. AreNumbers record {
+      sizes = s.sizes;
+      numbers = s.of.items;
+      count = s.count;
+    } };
+}
+
+/// The numbers are the same.
+fn same_numbers(numbers: &[Option<u16>], others: &[Option<u16>]) -> bool
+    ensures { IsTrue result ↔ (numbers.now ≡ others.now) }
+{
+    numbers == others
+}
+
+impl Blocks {
+    ghost use Rattle.std.specs.Prelude.{◌≡◌, ◌↔◌, length, IsTrue};
+    ghost use Rattle.solid_model.specs.Blocks.{IsBelow, block_at};
+    ghost use Rattle.solid_model.specs.Lists.{Each};
+    ghost use Rattle.solid_model.specs.PerAxis.{numbers_of, cell_of};
+    ghost use Rattle.solid_model.specs.Rooms.{box_count};
+    ghost use Rattle.solid_model.specs.Wire.{grid_sizes};
+
+    /// The blocks of a grid: so many, one number or none for each grid cell.
+    pub fn new(grid: &Grid, of: Vec<Option<u16>>, count: u16) -> Blocks
+        requires listed { length of.items ≡ box_count (grid_sizes grid.now) }
+        requires below { Each (IsBelow count) of.items }
+        ensures sizes { numbers_of result.sizes ≡ grid_sizes grid.now }
+        ensures numbers { result.numbers ≡ of.items }
+        ensures count { result.count ≡ count }
+    {
+        Blocks {
+            sizes: grid.sizes(),
+            of,
+            count,
+        }
+    }
+
+    /// How many blocks there are.
+    pub fn count(&self) -> u16
+        ensures { result ≡ self.now.count }
+    {
+        self.count
+    }
+
+    /// The block of each grid cell, or none where it is outside.
+    pub fn numbers(&self) -> &[Option<u16>]
+        ensures { result.now ≡ self.now.numbers }
+    {
+        self.of.as_slice()
+    }
+
+    /// The block of a grid cell, or none where it is outside.
+    pub fn of(&self, cell: PerAxis) -> Option<u16>
+        ensures { result ≡ block_at self.now (cell_of cell) }
+    {
+        if self.sizes.has(cell) {
+            self.of[self.sizes.place(cell)]
+        } else {
+            None
+        }
+    }
+
+    /// Both are the same.
+    pub fn same(&self, other: &Blocks) -> bool
+        ensures { IsTrue result ↔ (self.now ≡ other.now) }
+    {
+        self.sizes == other.sizes
+            && self.count == other.count
+            && same_numbers(&self.of, &other.of)
+    }
+}
