@@ -28,3 +28,4 @@ pub mod Marks
 pub mod Wire
 pub mod VirtualFaces
 pub mod Blocks
+pub mod Volumes
