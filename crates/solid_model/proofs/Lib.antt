@@ -45,3 +45,5 @@ pub mod Decisions
 pub mod ItemOrder
 pub mod NumberedPlaces
 pub mod SomeNumbering
+pub mod WithoutRepeats
+pub mod Volumes

@@ -36,6 +36,7 @@ pub use laws::{
     quartered_cube, runs_are_maximal_stretches, small_drawings, small_orders, small_runs,
     small_sheet, solids_are_ordered, solids_begin_where_their_views_do,
     solids_lie_within_their_views, views_are_seen_from_their_sides, views_begin_at_the_least_lines,
+    volumes_count_unit_cells,
 };
 pub use line::SheetLine;
 pub use marks::{CellTest, Marks, MarksByAxis};
