@@ -47,3 +47,4 @@ pub mod NumberedPlaces
 pub mod SomeNumbering
 pub mod WithoutRepeats
 pub mod Volumes
+pub mod SmallVolumes

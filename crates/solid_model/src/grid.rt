@@ -52,11 +52,12 @@ fn style_in(styles: &[Style], place: usize) -> Style
 }
 
 impl Grid {
-    ghost use Rattle.std.specs.Prelude.{◌≡◌, ◌≤◌, pos};
+    ghost use Rattle.std.specs.Prelude.{◌≡◌, ◌<◌, ◌≤◌, pos};
     ghost use Rattle.solid_model.specs.declared.cell.Axis.{Axis};
     ghost use Rattle.solid_model.specs.Grid.{gaps_along, grid_cell_count};
     ghost use Rattle.solid_model.specs.Panels.{coordinates_of, IsGrid};
     ghost use Rattle.solid_model.specs.PerAxis.{numbers_of};
+    ghost use Rattle.solid_model.specs.Volumes.{gap_width};
     ghost use Rattle.solid_model.specs.Wire.{grid_sizes, grid_style};
 
     /// The grid with these coordinates, whose segments have these styles: those of a drawing.
@@ -130,6 +131,16 @@ impl Grid {
             return Style::Blank;
         }
         style_in(self.panels.view(view).along(upright), line * width + cell)
+    }
+
+    /// How far it is from the coordinate of this number along an axis, counted from 0, to the next.
+    pub fn gap_width(&self, axis: Axis, number: usize) -> u64
+        requires { number < gaps_along (coordinates_of self.now) axis }
+        ensures width { result ≡ gap_width (coordinates_of self.now axis) number }
+        ensures small { result ≤ 2000000000 }
+    {
+        let coordinates = self.coordinates(axis);
+        coordinates[number + 1].abs_diff(coordinates[number])
     }
 
     /// How many grid cells there are along an axis.

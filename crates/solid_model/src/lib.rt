@@ -17,6 +17,7 @@ mod panels;
 mod per_axis;
 mod runs;
 mod segment;
+mod volume;
 mod wire;
 
 pub use cell::{Axis, Cell};
@@ -45,4 +46,5 @@ pub use panels::{Panel, Panels};
 pub use per_axis::PerAxis;
 pub use runs::{Run, Runs};
 pub use segment::{Segment, Style};
+pub use volume::chosen_volume;
 pub use wire::Wire;
