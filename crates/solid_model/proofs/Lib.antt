@@ -50,3 +50,4 @@ pub mod KeptBits
 pub mod ComparedChoices
 pub mod WithoutRepeats
 pub mod Volumes
+pub mod SmallVolumes

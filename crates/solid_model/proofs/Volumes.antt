@@ -99,13 +99,17 @@ before_differs : (c d : Cell) → ComesBefore c d → c ≢ d
 before_differs c d before same = not_before_itself c (subst (ComesBefore c) (sym same) before)
 
 module _ (coordinates : Coordinates) (ascends : (a : Axis) → Ascends ◌<ℤ◌ (coordinates a)) where
+  -- where it reaches along an axis
+  abbrev range_along : GridCell → Axis → List ℤ
+  range_along n a = gap_range (coordinates a) (n a)
+
   abbrev cells_in : GridCell → List Cell
-  cells_in n = cells_over (gap_range (coordinates X) (n X)) (gap_range (coordinates Y) (n Y)) (gap_range (coordinates Z) (n Z))
+  cells_in n = cells_over (range_along n X) (range_along n Y) (range_along n Z)
 
   -- they are as many as its volume,
   length-cells_in : (n : GridCell) → length (cells_in n) ≡ grid_cell_volume coordinates n
   length-cells_in n =
-      length-cells_over (gap_range (coordinates X) (n X)) (gap_range (coordinates Y) (n Y)) (gap_range (coordinates Z) (n Z))
+      length-cells_over (range_along n X) (range_along n Y) (range_along n Z)
       ∙ (λ t. length-range_from (width Z) (member (coordinates Z) (n Z)) t * (length-range_from (width Y) (member (coordinates Y) (n Y)) t
       * length-range_from (width X) (member (coordinates X) (n X)) t))
       ∙ regrouped (width X) (width Y) (width Z)
@@ -118,18 +122,17 @@ module _ (coordinates : Coordinates) (ascends : (a : Axis) → Ascends ◌<ℤ�
 
   -- come in order,
   ascends-cells_in : (n : GridCell) → Ascends ComesBefore (cells_in n)
-  ascends-cells_in n =
-      ascends-cells_over (gap_range (coordinates X) (n X)) (gap_range (coordinates Y) (n Y)) (gap_range (coordinates Z) (n Z)) (at X) (at Y) (at Z)
+  ascends-cells_in n = ascends-cells_over (range_along n X) (range_along n Y) (range_along n Z) (at X) (at Y) (at Z)
     where
-      at : (a : Axis) → Ascends ◌<ℤ◌ (gap_range (coordinates a) (n a))
+      at : (a : Axis) → Ascends ◌<ℤ◌ (range_along n a)
       at a = ascends-range_from (gap_width (coordinates a) (n a)) (member (coordinates a) (n a))
 
   -- and are those that lie in it
-  cells_in-lie : (n : GridCell) → ((a : Axis) → suc (n a) < length (coordinates a)) → (c : Cell) → Member (cells_in n) c → LiesInGridCell coordinates n c
-  cells_in-lie n there c k = at (member-from_cells_over (gap_range (coordinates X) (n X)) (gap_range (coordinates Y) (n Y)) (gap_range (coordinates Z) (n Z)) c k)
+  cells_in-lie : (n : GridCell) → ((a : Axis) → suc (n a) < length (coordinates a)) → (c : Cell) → Member (cells_in n) c
+      → LiesInGridCell coordinates n c
+  cells_in-lie n there c k = at (member-from_cells_over (range_along n X) (range_along n Y) (range_along n Z) c k)
     where
-      at : Member (gap_range (coordinates X) (n X)) c.x × Member (gap_range (coordinates Y) (n Y)) c.y × Member (gap_range (coordinates Z) (n Z)) c.z
-          → LiesInGridCell coordinates n c
+      at : Member (range_along n X) c.x × Member (range_along n Y) c.y × Member (range_along n Z) c.z → LiesInGridCell coordinates n c
       at (x, y, z) X = range-in_gap (coordinates X) (ascends X) (n X) (there X) c.x x
       at (x, y, z) Y = range-in_gap (coordinates Y) (ascends Y) (n Y) (there Y) c.y y
       at (x, y, z) Z = range-in_gap (coordinates Z) (ascends Z) (n Z) (there Z) c.z z
@@ -144,7 +147,8 @@ module _ (coordinates : Coordinates) (ascends : (a : Axis) → Ascends ◌<ℤ�
 
   -- a grid cell at a place has a gap along each axis
   place_has_gaps : (p : ℕ) → p < grid_cell_count coordinates → (a : Axis) → suc (grid_cell_at coordinates p a) < length (coordinates a)
-  place_has_gaps p l = at (numbers_below (gaps_along coordinates) (record { x = n X; y = n Y; z = n Z }) (cell_of_place-within (gaps_along coordinates) p l))
+  place_has_gaps p l =
+      at (numbers_below (gaps_along coordinates) (record { x = n X; y = n Y; z = n Z }) (cell_of_place-within (gaps_along coordinates) p l))
     where
       n : GridCell
       n = grid_cell_at coordinates p
@@ -185,11 +189,16 @@ module _ (coordinates : Coordinates) (ascends : (a : Axis) → Ascends ◌<ℤ�
     abbrev cells_at_place : ℕ → List Cell
     cells_at_place p = if slice_index_or chosen p false then cells_in (grid_cell_at coordinates p) else []
 
+    abbrev placed_cells : List Cell
+    placed_cells = pieces cells_at_place (grid_cell_count coordinates)
+
     length-places : (n : ℕ) → length (pieces cells_at_place n) ≡ volume_below coordinates chosen n
     length-places zero = refl
-    length-places (suc n) = length-append (pieces cells_at_place n) (cells_at_place n) ∙ ap₂ ◌+◌ (length-places n) (at (slice_index_or chosen n false))
+    length-places (suc n) =
+        length-append (pieces cells_at_place n) (cells_at_place n) ∙ ap₂ ◌+◌ (length-places n) (at (slice_index_or chosen n false))
       where
-        at : (t : Bool) → length (if t then cells_in (grid_cell_at coordinates n) else []) ≡ (if t then grid_cell_volume coordinates (grid_cell_at coordinates n) else 0)
+        at : (t : Bool) → length (if t then cells_in (grid_cell_at coordinates n) else [])
+            ≡ (if t then grid_cell_volume coordinates (grid_cell_at coordinates n) else 0)
         at true = length-cells_in (grid_cell_at coordinates n)
         at false = refl
 
@@ -203,7 +212,7 @@ module _ (coordinates : Coordinates) (ascends : (a : Axis) → Ascends ◌<ℤ�
         by false e k = absurd k
 
     -- no unit cell is there twice
-    places_once : Ascends ◌≢◌ (pieces cells_at_place (grid_cell_count coordinates))
+    places_once : Ascends ◌≢◌ placed_cells
     places_once = ascends-pieces ◌≢◌ cells_at_place (grid_cell_count coordinates) (λ k l. at k (slice_index_or chosen k false)) across
       where
         at : (k : ℕ) (t : Bool) → Ascends ◌≢◌ (if t then cells_in (grid_cell_at coordinates k) else [])
@@ -218,16 +227,16 @@ module _ (coordinates : Coordinates) (ascends : (a : Axis) → Ascends ◌<ℤ�
             omega (arith, one)
 
     module _ (s : List Cell) (union : IsUnionOf coordinates chosen (is_full s)) where
-      places_full : (c : Cell) → Member (pieces cells_at_place (grid_cell_count coordinates)) c → Member s c
+      places_full : (c : Cell) → Member placed_cells c → Member s c
       places_full c k =
           let found = member-from_pieces cells_at_place (grid_cell_count coordinates) c k in
           let at = cells_at_place-lie found.0 c found.1 found.2 in
           is_full-member s c (union.inside _ c at.1 ∙ ap (λ p. slice_index_or chosen p false) (own_place found.0) ∙ at.0)
 
-      full_placed : (c : Cell) → Member s c → Member (pieces cells_at_place (grid_cell_count coordinates)) c
+      full_placed : (c : Cell) → Member s c → Member placed_cells c
       full_placed c k = by (in_grid_or_not coordinates ascends c)
         where
-          by : ((n : GridCell) × LiesInGridCell coordinates n c) ⊎ (LiesInGrid coordinates c → ⊥) → Member (pieces cells_at_place (grid_cell_count coordinates)) c
+          by : ((n : GridCell) × LiesInGridCell coordinates n c) ⊎ (LiesInGrid coordinates c → ⊥) → Member placed_cells c
           by (inl (n, lies)) =
               let p = grid_cell_place coordinates n in
               let is_chosen : slice_index_or chosen p false ≡ true = sym (union.inside n c lies) ∙ member-is_full s c k in
@@ -237,6 +246,6 @@ module _ (coordinates : Coordinates) (ascends : (a : Axis) → Ascends ◌<ℤ�
           by (inr none) = absurd (both_ways (is_full s c) (union.outside c none) (member-is_full s c k))
 
       pub volume_counts : IsInStatedForm s → length s ≡ volume_of coordinates chosen
-      volume_counts stated = equally_long s (pieces cells_at_place (grid_cell_count coordinates))
+      volume_counts stated = equally_long s placed_cells
           (ascends-weaker ComesBefore ◌≢◌ s before_differs stated)
           places_once full_placed places_full ∙ length-places (grid_cell_count coordinates)

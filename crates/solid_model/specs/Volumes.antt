@@ -10,12 +10,15 @@ gap_width zs n = unsigned_abs (slice_index_or zs (n + 1) (pos 0) -ℤ slice_inde
 
 -- the volume of a grid cell
 abbrev pub grid_cell_volume : Coordinates → GridCell → ℕ
-grid_cell_volume coordinates n = gap_width (coordinates X) (n X) * gap_width (coordinates Y) (n Y) * gap_width (coordinates Z) (n Z)
+grid_cell_volume coordinates n =
+    gap_width (coordinates X) (n X) * gap_width (coordinates Y) (n Y) * gap_width (coordinates Z) (n Z)
 
 -- the grid cell at a place of a list of all of them, z slowest and x fastest
 abbrev pub grid_cell_at : Coordinates → ℕ → GridCell
-grid_cell_at coordinates p =
-    by_axis (p % gaps_along coordinates X) (p / gaps_along coordinates X % gaps_along coordinates Y) (p / gaps_along coordinates X / gaps_along coordinates Y)
+grid_cell_at coordinates p = by_axis
+    (p % gaps_along coordinates X)
+    (p / gaps_along coordinates X % gaps_along coordinates Y)
+    (p / gaps_along coordinates X / gaps_along coordinates Y)
 
 -- the volume of those of the first grid cells that are chosen in such a list
 abbrev pub volume_below : Coordinates → List Bool → ℕ → ℕ

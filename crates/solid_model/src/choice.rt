@@ -22,6 +22,7 @@ impl Model for Choice {
 
 impl Choice {
     ghost use Rattle.std.specs.Prelude.{◌≡◌, ◌<◌, false, length, slice_index_or, IfOk};
+    ghost use Rattle.solid_model.specs.Choices.{is_chosen};
 
     /// The choice with these values, block by block. An `Err` is out of memory.
     pub fn from_bools(alloc: Global, values: &[bool]) -> Result<Choice, Memory>
@@ -52,5 +53,15 @@ impl Choice {
         ensures { result ≡ slice_index_or self.now at false }
     {
         self.full.get(at)
+    }
+
+    /// Whether it fills what belongs to a block, or to none.
+    pub fn fills(&self, block: Option<u16>) -> bool
+        ensures { result ≡ is_chosen self.now block }
+    {
+        match block {
+            Some(block) => usize::from(block) < self.len() && self.get(usize::from(block)),
+            None => false,
+        }
     }
 }

@@ -1,6 +1,6 @@
 //! Grids: the positions at which a drawing shows something.
 
-ghost use Rattle.std.specs.Prelude.{◌≡◌, slice_index_or};
+ghost use Rattle.std.specs.Prelude.{◌≡◌, ◌↔◌, slice_index_or, IsTrue};
 ghost use Rattle.solid_model.specs.declared.segment.Style.TheVariants.{Blank};
 
 use crate::cell::Axis;
@@ -40,6 +40,13 @@ impl Model for Grid {
     } };
 }
 
+/// The coordinates are the same.
+fn same_coordinates(coordinates: &[i64], others: &[i64]) -> bool
+    ensures { IsTrue result ↔ (coordinates.now ≡ others.now) }
+{
+    coordinates == others
+}
+
 /// The style at a place of a list, Blank beyond its end.
 fn style_in(styles: &[Style], place: usize) -> Style
     ensures { result ≡ slice_index_or styles.now place Blank }
@@ -52,11 +59,12 @@ fn style_in(styles: &[Style], place: usize) -> Style
 }
 
 impl Grid {
-    ghost use Rattle.std.specs.Prelude.{◌≡◌, ◌↔◌, ◌≤◌, pos, IsTrue};
+    ghost use Rattle.std.specs.Prelude.{◌≡◌, ◌↔◌, ◌<◌, ◌≤◌, pos, IsTrue};
     ghost use Rattle.solid_model.specs.declared.cell.Axis.{Axis};
     ghost use Rattle.solid_model.specs.Grid.{gaps_along, grid_cell_count};
     ghost use Rattle.solid_model.specs.Panels.{coordinates_of, IsGrid};
     ghost use Rattle.solid_model.specs.PerAxis.{numbers_of};
+    ghost use Rattle.solid_model.specs.Volumes.{gap_width};
     ghost use Rattle.solid_model.specs.Wire.{grid_sizes, grid_style};
 
     /// The grid with these coordinates, whose segments have these styles: those of a drawing.
@@ -104,9 +112,9 @@ impl Grid {
     pub fn same(&self, other: &Grid) -> bool
         ensures { IsTrue result ↔ (self.now ≡ other.now) }
     {
-        self.xs == other.xs
-            && self.ys == other.ys
-            && self.zs == other.zs
+        same_coordinates(&self.xs, &other.xs)
+            && same_coordinates(&self.ys, &other.ys)
+            && same_coordinates(&self.zs, &other.zs)
             && self.panels.same(&other.panels)
     }
 
@@ -140,6 +148,16 @@ impl Grid {
             return Style::Blank;
         }
         style_in(self.panels.view(view).along(upright), line * width + cell)
+    }
+
+    /// How far it is from the coordinate of this number along an axis, counted from 0, to the next.
+    pub fn gap_width(&self, axis: Axis, number: usize) -> u64
+        requires { number < gaps_along (coordinates_of self.now) axis }
+        ensures width { result ≡ gap_width (coordinates_of self.now axis) number }
+        ensures small { result ≤ 2000000000 }
+    {
+        let coordinates = self.coordinates(axis);
+        coordinates[number + 1].abs_diff(coordinates[number])
     }
 
     /// How many grid cells there are along an axis.

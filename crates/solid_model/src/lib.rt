@@ -22,6 +22,7 @@ mod prefix;
 mod problem;
 mod runs;
 mod segment;
+mod volume;
 mod wire;
 
 pub use blocks::Blocks;
@@ -54,4 +55,5 @@ pub use prefix::Prefix;
 pub use problem::Problem;
 pub use runs::{Run, Runs};
 pub use segment::{Segment, Style};
+pub use volume::chosen_volume;
 pub use wire::Wire;

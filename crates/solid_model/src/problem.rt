@@ -1,12 +1,10 @@
 //! A grid and its blocks: what is searched.
 
-ghost use Rattle.std.specs.Prelude.{◌≡◌};
-ghost use Rattle.solid_model.specs.Choices.{is_chosen};
-
 use crate::blocks::Blocks;
 use crate::choice::Choice;
 use crate::grid::Grid;
 use crate::memory::Memory;
+use crate::volume::chosen_volume;
 use std::alloc::Global;
 use std::marker::Model;
 
@@ -27,20 +25,12 @@ impl Model for Problem {
     ghost invariant = { λ s. IsBlocksOf s.grid s.blocks };
 }
 
-/// A grid cell that belongs to this block, or to none, is full.
-fn is_chosen(choice: &Choice, block: Option<u16>) -> bool
-    ensures { result ≡ is_chosen choice.now block }
-{
-    match block {
-        Some(block) if usize::from(block) < choice.len() => choice.get(usize::from(block)),
-        _ => false,
-    }
-}
-
 impl Problem {
     ghost use Rattle.std.specs.Prelude.{◌≡◌, ◌↔◌, IsTrue, IfOk};
     ghost use Rattle.solid_model.specs.Blocks.{IsBlocksOf};
     ghost use Rattle.solid_model.specs.Choices.{cells_of_choice};
+    ghost use Rattle.solid_model.specs.Panels.{coordinates_of};
+    ghost use Rattle.solid_model.specs.Volumes.{volume_of};
 
     /// The problem of a grid, of which these are the blocks.
     pub fn new(grid: Grid, blocks: Blocks) -> Problem
@@ -80,8 +70,16 @@ impl Problem {
     {
         let mut cells = Vec::new(alloc);
         for block in self.blocks.numbers() {
-            cells.push(is_chosen(choice, *block))?;
+            cells.push(choice.fills(*block))?;
         }
         Ok(cells)
+    }
+
+    /// The number of unit cells that are full where these of its blocks are.
+    pub fn volume(&self, choice: &Choice) -> u128
+        ensures { result ≡ volume_of (coordinates_of self.now.grid)
+            (cells_of_choice self.now.blocks.numbers choice.now) }
+    {
+        chosen_volume(&self.grid, self.blocks.numbers(), choice)
     }
 }
