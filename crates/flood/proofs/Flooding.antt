@@ -11,7 +11,8 @@ use Rattle.flood.proofs.Spreading.{still_marked, spreads_one}
 
 module _ (step : ℕ → ℕ → Type 0) (start number : ℕ) (small : number < no_mark) (before : List ℕ) where
   -- from a node that has the number, and is alone on the stack
-  pub floods_begin : start < length before → mark_of before start ≡ no_mark → AreClosed step before → Floods step start number before (set before start number) (start ∷ [])
+  pub floods_begin : start < length before → mark_of before start ≡ no_mark → AreClosed step before
+      → Floods step start number before (set before start number) (start ∷ [])
   floods_begin within none closed = record {
     size = h.size;
     kept = h.kept;

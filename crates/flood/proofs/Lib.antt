@@ -6,3 +6,5 @@ pub mod Outside
 pub mod RingChains
 pub mod LeadingOut
 pub mod RingRooms
+pub mod RingPassages
+pub mod PassageRooms

@@ -30,7 +30,8 @@ module _ (step : ℕ → ℕ → Type 0) (size : ℕ) where
   }
 
   -- a node that has a mark
-  pub numbers_skip : (marks : List ℕ) (node count : ℕ) → Numbers step size marks node count → IsMarked marks node → Numbers step size marks (node + 1) count
+  pub numbers_skip : (marks : List ℕ) (node count : ℕ) → Numbers step size marks node count → IsMarked marks node
+      → Numbers step size marks (node + 1) count
   numbers_skip marks node count h m = record {
     listed = h.listed;
     few = let few = h.few in omega arith;

@@ -14,8 +14,8 @@ use Rattle.solid_model.proofs.Chains.{reaches-step, reaches-back, reaches-map}
 use Rattle.solid_model.proofs.Fullness.{same_coordinates}
 use Rattle.solid_model.proofs.Passages.{passes-back}
 use Rattle.flood.specs.Graph.{GoesBack}
-use Rattle.flood.specs.Ring.{ring_count, ring_place, ring_cell, OwnWalls, RingStep}
-use Rattle.flood.proofs.RingPlaces.{IsRingedNumber, IsRinged, within-ringed, ring_place-below, ring_cell-ring_place, ring_cell-ringed, ring_place-ring_cell}
+use Rattle.flood.specs.Ring.{ring_count, ring_place, ring_cell, OwnWalls, RingStep, IsRingedNumber, IsRinged}
+use Rattle.flood.proofs.RingPlaces.{within-ringed, ring_place-below, ring_cell-ring_place, ring_cell-ringed, ring_place-ring_cell}
 
 -- ---- numbers brought into the ring
 

@@ -12,17 +12,9 @@ use Rattle.solid_model.proofs.BoxCells.{below-bounds, within-below}
 use Rattle.solid_model.proofs.CellOrder.{LiesBefore, before-lies, one_or_before}
 use Rattle.solid_model.proofs.Fullness.{same_coordinates}
 use Rattle.solid_model.proofs.Unions.{within_product}
-use Rattle.flood.specs.Ring.{ringed, ring_count, ring_place, ring_cell}
+use Rattle.flood.specs.Ring.{ringed, IsRingedNumber, IsRinged, ring_count, ring_place, ring_cell, ring_stride}
 
 -- ---- cells of the box and of its ring
-
--- a number stands from -1 to the size
-abbrev pub IsRingedNumber : ℕ → ℤ → Type 0
-IsRingedNumber size z = (negsuc 0 ≤ℤ z) × (z ≤ℤ pos size)
-
--- a cell stands in the box or in its ring
-abbrev pub IsRinged : Sizes → Cell → Type 0
-IsRinged sizes n = (a : Axis) → IsRingedNumber (sizes a) (coordinate a n)
 
 -- a cell of the box stands in the box or in its ring
 pub within-ringed : (sizes : Sizes) (n : Cell) → IsTrue (is_within sizes n) → IsRinged sizes n
@@ -168,12 +160,6 @@ pub earlier_iff_before : (sizes : Sizes) (n m : Cell) → IsRinged sizes n → I
 earlier_iff_before sizes n m ring_n ring_m = (earlier-before sizes n m ring_n ring_m, before-earlier sizes n m ring_n ring_m)
 
 -- ---- neighbours
-
--- how far apart the nodes of two neighbours along an axis are
-abbrev pub ring_stride : Sizes → Axis → ℕ
-ring_stride sizes X = 1
-ring_stride sizes Y = ringed sizes X
-ring_stride sizes Z = ringed sizes X * ringed sizes Y
 
 -- the node of the next cell along an axis
 pub ring_place-after : (sizes : Sizes) (a : Axis) (n : Cell) → IsRinged sizes n

@@ -8,8 +8,8 @@ use Rattle.solid_model.specs.Orders.{ComesBefore}
 use Rattle.solid_model.specs.Rooms.{Sizes, box_count, is_within, Walls, Passes, LeadsOut, number_at, IsEarlier, AreRooms}
 use Rattle.solid_model.proofs.Chains.{reaches-onward}
 use Rattle.flood.specs.Graph.{component, AreComponents}
-use Rattle.flood.specs.Ring.{ring_count, ring_place, ring_cell, OwnWalls, RingStep, room_of}
-use Rattle.flood.proofs.RingPlaces.{IsRinged, within-ringed, ring_place-below, ring_cell-ringed, ring_place-ring_cell, before-earlier}
+use Rattle.flood.specs.Ring.{ring_count, ring_place, ring_cell, OwnWalls, RingStep, room_of, IsRinged}
+use Rattle.flood.proofs.RingPlaces.{within-ringed, ring_place-below, ring_cell-ringed, ring_place-ring_cell, before-earlier}
 use Rattle.flood.proofs.Outside.{first_corner, outside-first_corner}
 use Rattle.flood.proofs.RingChains.{ring_chain-back, places_chain_iff_cells}
 use Rattle.flood.proofs.LeadingOut.{enclosed-within, leads_out_iff_own, passages_iff_own}

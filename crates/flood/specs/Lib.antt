@@ -1,3 +1,4 @@
 pub mod Graph
 pub mod Marks
+pub mod Passages
 pub mod Ring

@@ -1,5 +1,5 @@
 -- Marks on the nodes of a graph, and what a flood makes of them.
-use Rattle.std.specs.Prelude.{◌≡◌, ◌⊎◌, ◌==◌, ◌↔◌, Bool, nat_lt, ℕ, ◌+◌, ◌<◌, List, length, slice_index_or}
+use Rattle.std.specs.Prelude.{◌≡◌, ◌⊎◌, ◌==◌, ◌↔◌, Bool, nat_lt, ℕ, ◌<◌, ◌≤◌, List, length, slice_index_or}
 use Rattle.std.specs.List.{count_by}
 use Rattle.solid_model.specs.Chains.{Reaches}
 use Rattle.solid_model.specs.Lists.{Member}
@@ -47,10 +47,11 @@ pub record Floods (step : ℕ → ℕ → Type 0) (start number : ℕ) (before m
   pub pending : (a : ℕ) → IsMarked marks a → Member stack a ⊎ ((b : ℕ) → step a b → IsMarked marks b)
   pub stacked : (a : ℕ) → Member stack a → IsMarked marks a × Reaches step start a
 
--- the first nodes are in components, numbered by their first nodes
+-- The first nodes have the numbers of their components, and so have all to which chains of steps lead from them. Components are
+-- numbered by their first nodes.
 pub record Numbers (step : ℕ → ℕ → Type 0) (size : ℕ) (marks : List ℕ) (nodes count : ℕ) : Type 0 where
   pub listed : length marks ≡ size
-  pub few : count < nodes + 1
+  pub few : count ≤ nodes
   pub all : (a : ℕ) → a < nodes → IsMarked marks a
   pub closed : AreClosed step marks
   pub below : (a : ℕ) → IsMarked marks a → mark_of marks a < count

@@ -46,13 +46,7 @@ fn visit(neighbour: Option<usize>, number: u32, marks: &mut [u32], stack: &mut V
 }
 
 /// Marks the neighbours of a node that have no mark, and puts them on the stack.
-fn spread<G: Graph>(
-    graph: &G,
-    node: usize,
-    number: u32,
-    marks: &mut [u32],
-    stack: &mut Vec<usize>,
-)
+fn spread<G: Graph>(graph: &G, node: usize, number: u32, marks: &mut [u32], stack: &mut Vec<usize>)
     requires node { node < G.nodes graph.now }
     requires size { length marks.old ≡ G.nodes graph.now }
     requires number { number < no_mark }
@@ -105,8 +99,8 @@ fn tell(marks: &[u32], reached: &mut Vec<bool>)
     }
 }
 
-/// Which nodes a chain of steps leads to from a node, in time that grows with the ways of the nodes
-/// that it leads to. Memory is taken once, at the beginning; an `Err` is want of it.
+/// Which nodes a chain of steps leads to from a node, in time that grows with the nodes and their
+/// ways. Memory is taken once, at the beginning; an `Err` is want of it.
 pub fn reached<G: Graph>(alloc: Global, graph: &G, start: usize) -> Result<Vec<bool>, Memory>
     requires start { start < G.nodes graph.now }
     ensures { IfOk result (λ reached. (length reached.items ≡ G.nodes graph.now)

@@ -4,7 +4,15 @@
 mod flood;
 mod graph;
 mod numbering;
+mod passages;
+mod ring;
+mod rooms;
+#[cfg(test)]
+mod tests;
+mod walls;
 
 pub use flood::reached;
 pub use graph::Graph;
 pub use numbering::{Numbering, components};
+pub use rooms::{RoomNumbers, leading_out, rooms_of};
+pub use walls::Walls;

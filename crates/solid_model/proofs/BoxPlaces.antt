@@ -1,5 +1,5 @@
 -- The places of a box's cells in a list of all of them.
-use Rattle.std.proofs.Common.{◌≡◌, ◌⊎◌, inl, inr, Bool, true, false, if◌then◌else◌, ◌&&◌, ℕ, zero, suc, ◌+◌, ◌*◌, ◌/◌, ◌%◌, ◌<◌, ◌≤◌, ℤ, pos, negsuc, ◌<ℤ◌, refl, ap, sym, subst, ◌∙◌, arith}
+use Rattle.std.proofs.Common.{◌≡◌, ◌⊎◌, inl, inr, Bool, true, false, if◌then◌else◌, ◌&&◌, ℕ, zero, suc, ◌+◌, ◌*◌, ◌/◌, ◌%◌, ◌<◌, ◌≤◌, ℤ, pos, negsuc, ◌<ℤ◌, IsTrue, refl, ap, sym, subst, ◌∙◌, arith}
 use Rattle.std.proofs.lemmas.Bool.{false≢true, and_parts, and_from}
 use Rattle.std.proofs.lemmas.Int.{ints}
 use Rattle.std.proofs.lemmas.Nat.{mul-le, mod-mul-add, div-mul-add, div-add-mod', div_below, mod_below}
@@ -9,7 +9,7 @@ use Rattle.solid_model.specs.declared.cell.Cell.{Cell}
 use Rattle.solid_model.specs.declared.per_axis.PerAxis.{PerAxis}
 use Rattle.solid_model.specs.Cells.{cell_at}
 use Rattle.solid_model.specs.Orders.{ComesBefore}
-use Rattle.solid_model.specs.PerAxis.{numbers_of, numbered, AreFew}
+use Rattle.solid_model.specs.PerAxis.{numbers_of, cell_of, numbered, AreFew}
 use Rattle.solid_model.specs.Rooms.{Sizes, is_below, is_within, box_place, box_count, same_axis, edge_sizes, face_sizes}
 use Rattle.solid_model.proofs.CellOrder.{LiesBefore, before-lies, one_or_before}
 use Rattle.solid_model.proofs.Unions.{within_product}
@@ -237,8 +237,23 @@ few_faces sizes few a b = by (same_axis a b)
     by true = omega (arith, few b)
     by false = omega (arith, few b)
 
--- numbers of a cell of a box with few cells are few
-pub few_numbers : (sizes : Sizes) → AreFew sizes → (n : PerAxis) → n.x < sizes X → n.y < sizes Y → n.z < sizes Z → AreFew (numbers_of n)
-few_numbers sizes few n x y z X = omega (arith, few X)
-few_numbers sizes few n x y z Y = omega (arith, few Y)
-few_numbers sizes few n x y z Z = omega (arith, few Z)
+-- the numbers of a cell of the box
+pub record HasNumbersBelow (sizes : Sizes) (n : PerAxis) : Type 0 where
+  pub x : n.x < sizes X
+  pub y : n.y < sizes Y
+  pub z : n.z < sizes Z
+
+pub numbers_below : (sizes : Sizes) (n : PerAxis) → IsTrue (is_within sizes (cell_of n)) → HasNumbersBelow sizes n
+numbers_below sizes n within =
+    let outer = and_parts (is_below (sizes X) (pos n.x)) (is_below (sizes Y) (pos n.y) && is_below (sizes Z) (pos n.z)) within in
+    let inner = and_parts (is_below (sizes Y) (pos n.y)) (is_below (sizes Z) (pos n.z)) outer.1 in
+    record { x = grind (arith, outer); y = grind (arith, inner); z = grind (arith, inner) }
+
+-- of a box with few cells they are few
+pub few_numbers : (sizes : Sizes) → AreFew sizes → (n : PerAxis) → IsTrue (is_within sizes (cell_of n)) → AreFew (numbers_of n)
+few_numbers sizes few n within = at (numbers_below sizes n within)
+  where
+    at : HasNumbersBelow sizes n → AreFew (numbers_of n)
+    at less X = omega (arith, few X, less.x)
+    at less Y = omega (arith, few Y, less.y)
+    at less Z = omega (arith, few Z, less.z)

@@ -1,5 +1,6 @@
 -- Marks that are made cell by cell.
-use Rattle.std.proofs.Common.{◌≡◌, ◌<◌, Bool, true, false, ℕ, List, IsTrue, refl, ap, sym, subst, ◌∙◌}
+use Rattle.std.proofs.Common.{◌≡◌, ◌<◌, Bool, true, false, ℕ, List, slice_index_or, IsTrue, refl, ap, sym, subst, ◌∙◌}
+use Rattle.std.proofs.lemmas.Bool.{and_parts, and_from}
 use Rattle.solid_model.specs.declared.cell.Axis.{Axis}
 use Rattle.solid_model.specs.declared.cell.Axis.TheVariants.{X, Y, Z}
 use Rattle.solid_model.specs.declared.cell.Cell.{Cell}
@@ -26,8 +27,10 @@ pub all_marked : (sizes : PerAxis) (values : List Bool) (count : ℕ) (holds : C
 all_marked sizes values count holds so_far all = record {
   sized = λ a. refl;
   exact = λ n n_in.
-      let is = so_far.each (box_place (numbers_of sizes) n) false (subst (λ c. box_place (numbers_of sizes) n < c) (sym all) (cell_there (numbers_of sizes) n n_in)) n n_in refl in
-      (λ marked. subst (λ (b : Bool). IsTrue b) is marked, λ true_of. subst (λ (b : Bool). IsTrue b) (sym is) true_of);
+      let place = box_place (numbers_of sizes) n in
+      let is = so_far.each place false (subst (λ c. place < c) (sym all) (cell_there (numbers_of sizes) n n_in)) n n_in refl in
+      (λ marked. sym is ∙ (and_parts (is_within (numbers_of sizes) n) (slice_index_or values place false) marked).1,
+       λ true_of. and_from (is_within (numbers_of sizes) n) (slice_index_or values place false) n_in (is ∙ true_of));
 }
 
 -- what holds of the marks for each axis holds of them together

@@ -1,5 +1,5 @@
 -- Marks on the cells of a box.
-use Rattle.std.specs.Prelude.{◌≡◌, ◌↔◌, Bool, false, List, length, slice_index_or, IsTrue}
+use Rattle.std.specs.Prelude.{◌≡◌, ◌↔◌, ◌&&◌, Bool, false, List, length, slice_index_or, IsTrue}
 use Rattle.solid_model.specs.declared.cell.Axis.{Axis}
 use Rattle.solid_model.specs.declared.cell.Axis.TheVariants.{X, Y, Z}
 use Rattle.solid_model.specs.declared.cell.Cell.{Cell}
@@ -17,9 +17,9 @@ pub record IsFull (m : BoxMarks) : Type 0 where
   pub few : AreFew (numbers_of m.sizes)
   pub listed : length m.values ≡ box_count (numbers_of m.sizes)
 
--- the mark on a cell
+-- a cell of the box has a mark
 abbrev pub is_marked : BoxMarks → Cell → Bool
-is_marked m n = slice_index_or m.values (box_place (numbers_of m.sizes) n) false
+is_marked m n = is_within (numbers_of m.sizes) n && slice_index_or m.values (box_place (numbers_of m.sizes) n) false
 
 -- marks on the cells of a box of these sizes that have a property, and on no others of its cells
 pub record AreMarksOf (sizes : Sizes) (P : Cell → Type 0) (m : BoxMarks) : Type 0 where

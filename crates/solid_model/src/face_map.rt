@@ -23,10 +23,9 @@ impl Model for FaceMap {
 }
 
 impl FaceMap {
-    ghost use Rattle.std.specs.Prelude.{◌≡◌, ◌<◌};
-    ghost use Rattle.solid_model.specs.declared.cell.Axis.TheVariants.{X, Y, Z};
+    ghost use Rattle.std.specs.Prelude.{◌≡◌};
     ghost use Rattle.solid_model.specs.Marks.{is_marked, marks_along};
-    ghost use Rattle.solid_model.specs.PerAxis.{numbers_of, cell_of};
+    ghost use Rattle.solid_model.specs.PerAxis.{cell_of};
 
     /// The map of the faces that are marked, across each axis.
     pub fn new(x: Marks, y: Marks, z: Marks) -> FaceMap
@@ -37,13 +36,10 @@ impl FaceMap {
         }
     }
 
-    /// Whether the face of these numbers across an axis is virtual.
+    /// Whether the face of these numbers across an axis is virtual; none beyond the box is.
     pub fn has(&self, axis: Axis, face: PerAxis) -> bool
-        requires x { face.x < numbers_of (marks_along axis self.now).sizes X }
-        requires y { face.y < numbers_of (marks_along axis self.now).sizes Y }
-        requires z { face.z < numbers_of (marks_along axis self.now).sizes Z }
         ensures { result ≡ is_marked (marks_along axis self.now) (cell_of face) }
     {
-        self.faces.along(axis).at(face)
+        self.faces.along(axis).has(face)
     }
 }

@@ -25,11 +25,10 @@ impl Model for Marks {
 
 /// A question about each cell of a box.
 pub trait CellTest {
-    ghost use Rattle.std.specs.Prelude.{◌≡◌, ◌<◌, Bool};
-    ghost use Rattle.solid_model.specs.declared.cell.Axis.TheVariants.{X, Y, Z};
+    ghost use Rattle.std.specs.Prelude.{◌≡◌, Bool, IsTrue};
     ghost use Rattle.solid_model.specs.declared.cell.Cell.{Cell};
     ghost use Rattle.solid_model.specs.PerAxis.{numbers_of, cell_of, AreFew};
-    ghost use Rattle.solid_model.specs.Rooms.{Sizes};
+    ghost use Rattle.solid_model.specs.Rooms.{Sizes, is_within};
 
     /// The sizes of the box.
     ghost sizes: { Self → Sizes };
@@ -44,17 +43,15 @@ pub trait CellTest {
     /// Whether it is true of a cell.
     fn test(&self, cell: PerAxis) -> bool
         requires few { AreFew (sizes self.now) }
-        requires x { cell.x < sizes self.now X }
-        requires y { cell.y < sizes self.now Y }
-        requires z { cell.z < sizes self.now Z }
+        requires within { IsTrue (is_within (sizes self.now) (cell_of cell)) }
         ensures { result ≡ holds self.now (cell_of cell) };
 }
 
 impl Marks {
-    ghost use Rattle.std.specs.Prelude.{◌≡◌, ◌<◌, length, IsTrue, IfOk};
+    ghost use Rattle.std.specs.Prelude.{◌≡◌, length, IsTrue, IfOk};
     ghost use Rattle.solid_model.specs.Marks.{BoxMarks, IsFull, is_marked, AreMarksOf};
     ghost use Rattle.solid_model.specs.PerAxis.{numbers_of, cell_of, AreFew};
-    ghost use Rattle.solid_model.specs.Rooms.{box_count};
+    ghost use Rattle.solid_model.specs.Rooms.{is_within, box_count};
 
     /// The marks with these values, one for each cell of a box of these sizes.
     pub fn new(sizes: PerAxis, values: Vec<bool>) -> Marks
@@ -93,14 +90,11 @@ impl Marks {
         self.values.as_slice()
     }
 
-    /// The mark on a cell.
-    pub fn at(&self, cell: PerAxis) -> bool
-        requires x { cell.x < self.now.sizes.x }
-        requires y { cell.y < self.now.sizes.y }
-        requires z { cell.z < self.now.sizes.z }
+    /// A cell of the box has a mark; one that isn't of the box has none.
+    pub fn has(&self, cell: PerAxis) -> bool
         ensures { result ≡ is_marked self.now (cell_of cell) }
     {
-        self.values[self.sizes.place(cell)]
+        self.sizes.has(cell) && self.values[self.sizes.place(cell)]
     }
 }
 

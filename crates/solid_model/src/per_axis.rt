@@ -1,9 +1,9 @@
 //! Numbers along the three axes.
 
-ghost use Rattle.std.specs.Prelude.{◌≡◌, ◌<◌, ◌≤◌, None, IfSome};
+ghost use Rattle.std.specs.Prelude.{◌≡◌, ◌<◌, ◌≤◌, None, IsTrue, IfSome};
 ghost use Rattle.solid_model.specs.Cells.{cell_before, cell_after};
 ghost use Rattle.solid_model.specs.PerAxis.{numbers_of, cell_of, numbered, gaps_of, AreFew};
-ghost use Rattle.solid_model.specs.Rooms.{edge_sizes, face_sizes, box_count, box_place};
+ghost use Rattle.solid_model.specs.Rooms.{edge_sizes, face_sizes, is_within, box_count, box_place};
 
 use crate::cell::Axis;
 
@@ -91,6 +91,13 @@ impl PerAxis {
         self.numbered(axis, self.along(axis) + 1)
     }
 
+    /// A box of these sizes has the cell.
+    pub fn has(self, cell: PerAxis) -> bool
+        ensures { result ≡ is_within (numbers_of self) (cell_of cell) }
+    {
+        cell.x < self.x && cell.y < self.y && cell.z < self.z
+    }
+
     /// How many cells a box of these sizes has.
     pub fn count(self) -> usize
         requires { AreFew (numbers_of self) }
@@ -102,9 +109,7 @@ impl PerAxis {
     /// The place of a cell in a list of all cells of a box of these sizes, z slowest and x fastest.
     pub fn place(self, cell: PerAxis) -> usize
         requires few { AreFew (numbers_of self) }
-        requires x { cell.x < self.x }
-        requires y { cell.y < self.y }
-        requires z { cell.z < self.z }
+        requires within { IsTrue (is_within (numbers_of self) (cell_of cell)) }
         ensures place { result ≡ box_place (numbers_of self) (cell_of cell) }
         ensures there { result < box_count (numbers_of self) }
     {
@@ -115,9 +120,7 @@ impl PerAxis {
     pub fn cell(self, place: usize) -> PerAxis
         requires { place < box_count (numbers_of self) }
         ensures place { place ≡ box_place (numbers_of self) (cell_of result) }
-        ensures x { result.x < self.x }
-        ensures y { result.y < self.y }
-        ensures z { result.z < self.z }
+        ensures within { IsTrue (is_within (numbers_of self) (cell_of result)) }
     {
         PerAxis {
             x: place % self.x,

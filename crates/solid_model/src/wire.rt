@@ -22,10 +22,9 @@ impl Model for Wire {
 }
 
 impl Wire {
-    ghost use Rattle.std.specs.Prelude.{◌≡◌, ◌<◌};
-    ghost use Rattle.solid_model.specs.declared.cell.Axis.TheVariants.{X, Y, Z};
+    ghost use Rattle.std.specs.Prelude.{◌≡◌};
     ghost use Rattle.solid_model.specs.Marks.{is_marked, marks_along};
-    ghost use Rattle.solid_model.specs.PerAxis.{numbers_of, cell_of};
+    ghost use Rattle.solid_model.specs.PerAxis.{cell_of};
 
     /// The wire whose edges along the axes are marked.
     pub fn new(x: Marks, y: Marks, z: Marks) -> Wire
@@ -36,13 +35,10 @@ impl Wire {
         }
     }
 
-    /// Whether the edge of these numbers along an axis is a pseudo edge.
+    /// Whether the edge of these numbers along an axis is a pseudo edge; none beyond the box is.
     pub fn has(&self, axis: Axis, edge: PerAxis) -> bool
-        requires x { edge.x < numbers_of (marks_along axis self.now).sizes X }
-        requires y { edge.y < numbers_of (marks_along axis self.now).sizes Y }
-        requires z { edge.z < numbers_of (marks_along axis self.now).sizes Z }
         ensures { result ≡ is_marked (marks_along axis self.now) (cell_of edge) }
     {
-        self.edges.along(axis).at(edge)
+        self.edges.along(axis).has(edge)
     }
 }

@@ -1,5 +1,5 @@
 -- All nodes are numbered.
-use Rattle.std.proofs.Common.{◌≡◌, List, length, ◌∙◌, sym, subst, arith}
+use Rattle.std.proofs.Common.{◌∙◌, sym, subst}
 use Rattle.std.proofs.lemmas.List.{take_at}
 use Rattle.flood.specs.Graph.{AreComponents}
 use Rattle.flood.proofs.Numbered.{numbers_all}
@@ -11,4 +11,5 @@ returns g c =
     let nodes = g.G.Graph.nodes c.args.graph.now in
     let marks = c.number_nodes-count.new.marks in
     let whole = take_at marks _ c.in_ok-numbers.numbers.len (c.number_nodes-count.auto.marks ∙ c.as_mut_slice.ensures.len) in
-    subst (λ ns. AreComponents step nodes ns c.number_nodes-count.result) (sym whole) (numbers_all step nodes marks c.number_nodes-count.result c.number_nodes-count.ensures)
+    let count = c.number_nodes-count.result in
+    subst (λ ns. AreComponents step nodes ns count) (sym whole) (numbers_all step nodes marks count c.number_nodes-count.ensures)

@@ -1,8 +1,8 @@
 -- One node more; and all of them.
-use Rattle.std.proofs.Common.{◌≡◌, ◌<◌, ◌≤◌, ◌+◌, length, vec_len, vec_capacity, ◌∙◌, sym, ap, subst, arith}
+use Rattle.std.proofs.Common.{◌≡◌, ◌<◌, ◌≤◌, length, vec_len, vec_capacity, ◌∙◌, sym, ap, subst, arith}
 use Rattle.std.proofs.lemmas.Grind.{common_steps}
-use Rattle.std.proofs.lemmas.List.{get_or_default, length-replicate}
-use Rattle.flood.specs.Marks.{no_mark, mark_of, IsMarked, Numbers}
+use Rattle.std.proofs.lemmas.List.{get_or_default}
+use Rattle.flood.specs.Marks.{no_mark, IsMarked, Numbers}
 use Rattle.flood.proofs.Numbered.{numbers_skip, numbers_more}
 use Rattle.flood.proofs.numbering.number_nodes.Goals as goal
 use Rattle.flood.proofs.numbering.number_nodes.Goals.{then-marks-node, else-marks-node}
@@ -19,16 +19,17 @@ loop-node-preserved g c =
     let within : node < length marks = omega (arith, so_far.listed, inside) in
     let small : count < no_mark = omega (arith, so_far.few, inside, c.requires.few) in
     elim c.if-marks-node.branch [
-      | then-marks-node w ↦ (let none : mark_of marks node ≡ no_mark = get_or_default marks node no_mark 0 within ∙ w.if-marks-node.true in record {
-          numbers = rw (w.marks-is, w.count-is) (numbers_more step nodes marks w.flood.new.marks node count so_far small c.requires.back none w.flood.ensures.floods);
-          empty = ap vec_len w.stack-is ∙ w.flood.ensures.empty;
-          room = subst (λ n. nodes ≤ n) (sym (ap vec_capacity w.stack-is ∙ w.flood.ensures.capacity)) c.loop-node.invariant.room;
-        })
+      | then-marks-node w ↦ (let none = get_or_default marks node no_mark 0 within ∙ w.if-marks-node.true in record {
+        numbers = rw (w.marks-is, w.count-is)
+            (numbers_more step nodes marks w.flood.new.marks node count so_far small c.requires.back none w.flood.ensures.floods);
+        empty = ap vec_len w.stack-is ∙ w.flood.ensures.empty;
+        room = subst (λ n. nodes ≤ n) (sym (ap vec_capacity w.stack-is ∙ w.flood.ensures.capacity)) c.loop-node.invariant.room;
+      })
       | else-marks-node w ↦ (let has : IsMarked marks node = grind (arith, common_steps) in record {
-          numbers = rw (w.marks-is, w.count-is) (numbers_skip step nodes marks node count so_far has);
-          empty = ap vec_len w.stack-is ∙ c.loop-node.invariant.empty;
-          room = subst (λ n. nodes ≤ n) (sym (ap vec_capacity w.stack-is)) c.loop-node.invariant.room;
-        })
+        numbers = rw (w.marks-is, w.count-is) (numbers_skip step nodes marks node count so_far has);
+        empty = ap vec_len w.stack-is ∙ c.loop-node.invariant.empty;
+        room = subst (λ n. nodes ≤ n) (sym (ap vec_capacity w.stack-is)) c.loop-node.invariant.room;
+      })
     ]
 
 pub returns : goal.returns

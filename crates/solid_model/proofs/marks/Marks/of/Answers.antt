@@ -2,7 +2,6 @@
 use Rattle.std.proofs.Common.{IsTrue, subst, ◌∙◌, arith}
 use Rattle.solid_model.specs.Marks.{AreMarksOf}
 use Rattle.solid_model.specs.PerAxis.{numbers_of, cell_of, AreFew}
-use Rattle.solid_model.proofs.BoxPlaces.{within_box}
 use Rattle.solid_model.proofs.MarkedCells.{IsAnswerAt, answer_at, all_marked}
 use Rattle.solid_model.proofs.Pushed.{holds_more}
 use Rattle.solid_model.proofs.marks.Marks.of.Goals as goal
@@ -12,8 +11,7 @@ loop-place-preserved g c =
     let sizes = numbers_of c.sizes-sizes.result in let holds = g.T.CellTest.holds c.args.test.now in
     holds_more (IsAnswerAt sizes holds) c.loop-place.values.items _ _ c.test.result c.loop-place.invariant
     (answer_at sizes holds (cell_of c.cell.result) _ _
-    (within_box sizes c.cell.result.x c.cell.result.y c.cell.result.z c.cell.ensures.x c.cell.ensures.y c.cell.ensures.z)
-    c.cell.ensures.place c.test.ensures)
+    c.cell.ensures.within c.cell.ensures.place c.test.ensures)
     c.in_ok-push.ensures.items
 
 pub returns : goal.returns

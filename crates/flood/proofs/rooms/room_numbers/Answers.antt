@@ -1,0 +1,27 @@
+-- One room more; and all of them.
+use Rattle.std.proofs.Common.{◌≡◌, ◌<◌, refl, ap, sym, subst, ◌∙◌, arith, None}
+use Rattle.solid_model.specs.PerAxis.{numbers_of, cell_of}
+use Rattle.solid_model.specs.Rooms.{box_place, box_count}
+use Rattle.solid_model.proofs.BoxPlaces.{cell_there}
+use Rattle.solid_model.proofs.Pushed.{holds_more}
+use Rattle.flood.specs.Graph.{component}
+use Rattle.flood.specs.Ring.{room_of}
+use Rattle.flood.proofs.PassageRooms.{IsRoomAt, room_at}
+use Rattle.flood.proofs.rooms.room_numbers.Goals as goal
+
+pub loop-place-preserved : goal.loop-place-preserved
+loop-place-preserved c =
+    let sizes = numbers_of c.args.sizes in let of = component c.args.components.now in
+    holds_more (IsRoomAt sizes of) c.loop-place.rooms.items _ _ c.room_of.result c.loop-place.invariant
+    (room_at sizes of (cell_of c.cell.result) _ _ c.cell.ensures.within c.cell.ensures.place
+    (c.room_of.ensures ∙ ap (λ node. room_of (of node)) c.node_of-node.ensures))
+    c.in_ok-push.ensures.items
+
+pub returns : goal.returns
+returns c =
+    let sizes = numbers_of c.args.sizes in
+    let all : c.loop-place.place ≡ box_count sizes = omega arith ∙ c.count-count.ensures in
+    record {
+      listed = c.loop-place.invariant.count ∙ all;
+      each = λ n within. c.loop-place.invariant.each (box_place sizes n) None (subst (λ m. box_place sizes n < m) (sym all) (cell_there sizes n within)) n within refl;
+    }
