@@ -25,8 +25,8 @@ fn try_choice(
         new) }
 {
     if is_matching(wanted, choice, cells)? {
-        let values = Vec::from_slice(*found.allocator(), choice)?;
-        found.push(Choice::new(values))?;
+        let listed = Choice::from_bools(*found.allocator(), choice)?;
+        found.push(listed)?;
     }
     Ok(())
 }

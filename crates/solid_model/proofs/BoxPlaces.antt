@@ -230,10 +230,10 @@ few_edges sizes few a b = by (same_axis a b)
     by true = omega (arith, few b)
     by false = omega (arith, few b)
 
-pub few_faces : (sizes : Sizes) → ((a : Axis) → sizes a ≤ 63) → (a : Axis) → AreFew (face_sizes sizes a)
+pub few_faces : (sizes : Sizes) → ((a : Axis) → sizes a ≤ 63) → (a b : Axis) → face_sizes sizes a b ≤ 64
 few_faces sizes few a b = by (same_axis a b)
   where
-    by : (s : Bool) → (if s then suc (sizes b) else sizes b) ≤ 1024
+    by : (s : Bool) → (if s then suc (sizes b) else sizes b) ≤ 64
     by true = omega (arith, few b)
     by false = omega (arith, few b)
 

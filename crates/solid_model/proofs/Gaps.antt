@@ -39,7 +39,7 @@ in_gap (a ∷ b ∷ zs) (suc n) z l low high = in_gap (b ∷ zs) n z (omega arit
 
 module _ (zs : List ℤ) (ascends : Ascends ◌<ℤ◌ zs) where
   -- an earlier member is less
-  earlier_less : (m n : ℕ) → m < n → n < length zs → member zs m <ℤ member zs n
+  pub earlier_less : (m n : ℕ) → m < n → n < length zs → member zs m <ℤ member zs n
   earlier_less m n l within = ascends-pairs ◌<ℤ◌ zs ascends m n (pos 0) l within
 
   earlier_at_most : (m n : ℕ) → m ≤ n → n < length zs → member zs m ≤ℤ member zs n

@@ -43,14 +43,14 @@ rooms_in_order sizes wall numbers count are = record {
 -- ---- the first place at which two choices differ
 
 -- the first is full there, the second empty, and before it they are the same
-record DifferAt (xs ys : List Bool) (p : ℕ) : Type 0 where
-  within : p < length xs
-  full : get_or xs p false ≡ true
-  empty : get_or ys p false ≡ false
-  same : (q : ℕ) → q < p → get_or xs q false ≡ get_or ys q false
+pub record DifferAt (xs ys : List Bool) (p : ℕ) : Type 0 where
+  pub within : p < length xs
+  pub full : get_or xs p false ≡ true
+  pub empty : get_or ys p false ≡ false
+  pub same : (q : ℕ) → q < p → get_or xs q false ≡ get_or ys q false
 
 -- where one precedes the other there is such a place
-precedes-differ : (xs ys : List Bool) → ChoicePrecedes xs ys → (p : ℕ) × DifferAt xs ys p
+pub precedes-differ : (xs ys : List Bool) → ChoicePrecedes xs ys → (p : ℕ) × DifferAt xs ys p
 precedes-differ [] ys h = absurd h
 precedes-differ (x ∷ xs) [] h = absurd h
 precedes-differ (x ∷ xs) (y ∷ ys) (inl (full, empty)) =
@@ -65,7 +65,7 @@ precedes-differ (x ∷ xs) (y ∷ ys) (inr (e, rest)) =
     same p before (suc q) l = before q (omega arith)
 
 -- and where there is one, it does
-differ-precedes : (xs ys : List Bool) (p : ℕ) → length xs ≡ length ys → DifferAt xs ys p → ChoicePrecedes xs ys
+pub differ-precedes : (xs ys : List Bool) (p : ℕ) → length xs ≡ length ys → DifferAt xs ys p → ChoicePrecedes xs ys
 differ-precedes [] ys p long d = absurd (let l = d.within in omega arith)
 differ-precedes (x ∷ xs) [] p long d = absurd (let e : suc (length xs) ≡ 0 = long in omega arith)
 differ-precedes (x ∷ xs) (y ∷ ys) zero long d = inl (d.full, d.empty)

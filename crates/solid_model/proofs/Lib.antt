@@ -46,3 +46,7 @@ pub mod ItemOrder
 pub mod NumberedPlaces
 pub mod SomeNumbering
 pub mod BlockChoices
+pub mod KeptBits
+pub mod ComparedChoices
+pub mod WithoutRepeats
+pub mod Volumes

@@ -202,13 +202,14 @@ member-from_pieces f (suc n) x m = elim (member-append (pieces f n) (f n) x m) a
 ]
 
 -- ascending pieces ascend together, where each member of a piece stands in the relation to each of a later one
-pub ascends-pieces : {A : Type 0} (R : A → A → Type 0) (f : ℕ → List A) → ((k : ℕ) → Ascends R (f k))
-    → ((j k : ℕ) (x y : A) → j < k → Member (f j) x → Member (f k) y → R x y) → (n : ℕ) → Ascends R (pieces f n)
-ascends-pieces R f each across zero = tt
-ascends-pieces R f each across (suc n) =
-    ascends-append R (pieces f n) (f n) (ascends-pieces R f each across n) (each n)
+pub ascends-pieces : {A : Type 0} (R : A → A → Type 0) (f : ℕ → List A) (n : ℕ) → ((k : ℕ) → k < n → Ascends R (f k))
+    → ((j k : ℕ) (x y : A) → j < k → k < n → Member (f j) x → Member (f k) y → R x y) → Ascends R (pieces f n)
+ascends-pieces R f zero each across = tt
+ascends-pieces R f (suc n) each across =
+    ascends-append R (pieces f n) (f n)
+    (ascends-pieces R f n (λ k l. each k (omega arith)) (λ j k x y earlier l. across j k x y earlier (omega arith))) (each n (omega arith))
     (each-from (λ x. Each (R x) (f n)) (pieces f n) (λ x m. each-from (R x) (f n) (λ y l.
-    let p = member-from_pieces f n x m in across p.0 n x y p.1 p.2 l)))
+    let p = member-from_pieces f n x m in across p.0 n x y p.1 (omega arith) p.2 l)))
 
 -- ---- two ascending lists with the same members
 

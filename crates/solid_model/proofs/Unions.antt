@@ -26,7 +26,7 @@ member-joined (ys ∷ xss) xs x (inr k) l = member-append_right ys (joined xss) 
 abbrev pub cells_over : List ℤ → List ℤ → List ℤ → List Cell
 cells_over xs ys zs = joined (map (λ z. joined (map (λ y. map (λ x. record { x = x; y = y; z = z }) xs) ys)) zs)
 
-member-cells_over : (xs ys zs : List ℤ) (c : Cell) → Member xs c.x → Member ys c.y → Member zs c.z → Member (cells_over xs ys zs) c
+pub member-cells_over : (xs ys zs : List ℤ) (c : Cell) → Member xs c.x → Member ys c.y → Member zs c.z → Member (cells_over xs ys zs) c
 member-cells_over xs ys zs c in_x in_y in_z =
     let row : ℤ → ℤ → List Cell = λ z y. map (λ x. record { x = x; y = y; z = z }) xs in
     let layer : ℤ → List Cell = λ z. joined (map (row z) ys) in
@@ -80,11 +80,11 @@ get_or-cells_over xs ys zs i j k d in_x in_y in_z =
 -- ---- the unit cells of a union
 
 -- n integers from one on
-abbrev range_from : ℤ → ℕ → List ℤ
+abbrev pub range_from : ℤ → ℕ → List ℤ
 range_from z zero = []
 range_from z (suc n) = z ∷ range_from (z +ℤ pos 1) n
 
-member-range_from : (n : ℕ) (z w : ℤ) → z ≤ℤ w → w <ℤ (z +ℤ pos n) → Member (range_from z n) w
+pub member-range_from : (n : ℕ) (z w : ℤ) → z ≤ℤ w → w <ℤ (z +ℤ pos n) → Member (range_from z n) w
 member-range_from zero z w from to = absurd (omega (arith, ints))
 member-range_from (suc n) z w from to = by_lt_z z w
     (λ l. inr (member-range_from n (z +ℤ pos 1) w (omega (arith, ints)) (omega (arith, ints)))) (λ l. inl (omega (arith, ints)))
@@ -116,7 +116,7 @@ member-gap_places (a ∷ b ∷ zs) (suc n) z e = member-append_right (range_from
 
 module _ (coordinates : Coordinates) (ascends : (a : Axis) → Ascends ◌<ℤ◌ (coordinates a)) where
   -- a cell lies in one grid cell
-  one_grid_cell : (n m : GridCell) (c : Cell) → LiesInGridCell coordinates n c → LiesInGridCell coordinates m c → grid_cell_place coordinates n ≡ grid_cell_place coordinates m
+  pub one_grid_cell : (n m : GridCell) (c : Cell) → LiesInGridCell coordinates n c → LiesInGridCell coordinates m c → grid_cell_place coordinates n ≡ grid_cell_place coordinates m
   one_grid_cell n m c at_n at_m =
       let same = λ (a : Axis). one_gap (coordinates a) (ascends a) (n a) (m a) (coordinate a c) (at_n a) (at_m a) in
       λ t. (same Z t * gaps_along coordinates Y + same Y t) * gaps_along coordinates X + same X t

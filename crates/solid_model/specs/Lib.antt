@@ -21,6 +21,7 @@ pub mod SmallSheet
 pub mod Grid
 pub mod Panels
 pub mod Choices
+pub mod Bits
 pub mod Chains
 pub mod Rooms
 pub mod PerAxis
@@ -28,3 +29,4 @@ pub mod Marks
 pub mod Wire
 pub mod VirtualFaces
 pub mod Blocks
+pub mod Volumes

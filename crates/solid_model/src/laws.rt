@@ -9,6 +9,7 @@ mod rooms;
 mod runs;
 mod sheets;
 mod stretches;
+mod volumes;
 
 pub use blocks::{
     all_matching_choices_are_all_matching_solids, matching_solids_are_constant_on_blocks,
@@ -34,3 +35,4 @@ pub use sheets::{
     lines_have_a_drawing, moved_drawings_begin_at_zero, small_sheet, views_begin_at_the_least_lines,
 };
 pub use stretches::maximal_stretches;
+pub use volumes::volumes_count_unit_cells;

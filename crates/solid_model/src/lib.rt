@@ -2,8 +2,10 @@
 //! them.
 #![tactic(auto)]
 
+mod bits;
 mod cell;
 mod choice;
+mod choice_order;
 mod drawing;
 mod face_map;
 mod fault;
@@ -15,12 +17,14 @@ mod marks;
 mod memory;
 mod panels;
 mod per_axis;
+mod prefix;
 mod runs;
 mod segment;
 mod wire;
 
 pub use cell::{Axis, Cell};
 pub use choice::Choice;
+pub use choice_order::compare;
 pub use drawing::{Drawing, ViewLines};
 pub use face_map::FaceMap;
 pub use fault::{Fault, Refused};
@@ -36,12 +40,14 @@ pub use laws::{
     quartered_cube, runs_are_maximal_stretches, small_drawings, small_orders, small_runs,
     small_sheet, solids_are_ordered, solids_begin_where_their_views_do,
     solids_lie_within_their_views, views_are_seen_from_their_sides, views_begin_at_the_least_lines,
+    volumes_count_unit_cells,
 };
 pub use line::SheetLine;
 pub use marks::{CellTest, Marks, MarksByAxis};
 pub use memory::Memory;
 pub use panels::{Panel, Panels};
 pub use per_axis::PerAxis;
+pub use prefix::Prefix;
 pub use runs::{Run, Runs};
 pub use segment::{Segment, Style};
 pub use wire::Wire;

@@ -10,7 +10,7 @@ pub returns-in_ok-push : goal.returns-in_ok-push
 returns-in_ok-push c =
     let wanted = c.args.wanted.now in
     let choice = c.args.choice.now in
-    let listed : c.push.new.self.items ≡ c.args.found.now.items ++ choice ∷ [] = rw (c.in_ok-push.ensures.items, c.new.ensures, c.in_ok-values.ensures.items) refl in (
+    let listed : c.push.new.self.items ≡ c.args.found.now.items ++ choice ∷ [] = rw (c.in_ok-push.ensures.items, c.in_ok-listed.ensures) refl in (
       choice ∷ [],
       listed,
       λ drawing is is_grid. choices-one (IsMatchingChoice drawing (coordinates_of wanted.grid.now) wanted.items.now) choice

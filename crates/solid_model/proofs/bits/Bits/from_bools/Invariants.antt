@@ -1,0 +1,7 @@
+-- The words so far.
+use Rattle.solid_model.proofs.KeptBits.{IsWordAt}
+use Rattle.solid_model.proofs.Pushed.{HoldsSoFar}
+use Rattle.solid_model.proofs.bits.Bits.from_bools.Given as goal
+
+abbrev pub invariant-loop-number : goal.invariant-loop-number
+invariant-loop-number l = HoldsSoFar (IsWordAt l.values) l.words.items l.number

@@ -1,0 +1,96 @@
+//! The virtual faces of a grid, across each axis.
+
+ghost use Rattle.std.specs.Prelude.{◌≡◌, ◌||◌, not, IsTrue, IfOk};
+ghost use Rattle.solid_model.specs.Marks.{marks_along, is_marked, AreMarksOf};
+ghost use Rattle.solid_model.specs.Rooms.{same_axis, face_sizes};
+ghost use Rattle.solid_model.specs.VirtualFaces.{axis_across_both, IsVirtual, IsFaceMapOf};
+ghost use Rattle.solid_model.specs.Wire.{grid_sizes, IsWireOf};
+
+use flood::{Walls, leading_out};
+use solid_model::{Axis, CellTest, FaceMap, Grid, Marks, Memory, PerAxis, Wire};
+use std::alloc::Global;
+
+/// The axis across two different ones.
+fn axis_across_both(axis: Axis, other: Axis) -> Axis
+    ensures { result ≡ axis_across_both axis other }
+{
+    match (axis, other) {
+        (Axis::X, Axis::Y) => Axis::Z,
+        (Axis::X, _) => Axis::Y,
+        (Axis::Y, Axis::Z) => Axis::X,
+        (Axis::Y, _) => Axis::Z,
+        (Axis::Z, Axis::X) => Axis::Y,
+        (Axis::Z, _) => Axis::X,
+    }
+}
+
+/// The grid faces across an axis, as the cells of a box. Between two of them in one plane stands a
+/// wall where the edge between them is a pseudo edge; between two planes there is always one.
+#[derive(Clone, Copy)]
+struct FacesAcross<'a> {
+    grid: &'a Grid,
+    wire: &'a Wire,
+    axis: Axis,
+}
+
+impl Walls for FacesAcross<'_> {
+    ghost sizes = { λ s. face_sizes (grid_sizes s.grid.now) s.axis };
+
+    ghost stands = { λ s b n. same_axis s.axis b
+        || is_marked (marks_along (axis_across_both s.axis b) s.wire.now) n };
+
+    fn sizes(&self) -> PerAxis {
+        self.grid.sizes().faces(self.axis)
+    }
+
+    fn stands(&self, axis: Axis, cell: PerAxis) -> bool {
+        axis == self.axis || self.wire.has(axis_across_both(self.axis, axis), cell)
+    }
+}
+
+/// The faces from which no chain leads out, where those from which one does are marked.
+#[derive(Clone, Copy)]
+struct EnclosedFaces<'a> {
+    leading: &'a Marks,
+}
+
+impl CellTest for EnclosedFaces<'_> {
+    ghost use Rattle.solid_model.specs.PerAxis.{numbers_of};
+
+    ghost sizes = { λ s. numbers_of s.leading.now.sizes };
+
+    ghost holds = { λ s n. not (is_marked s.leading.now n) };
+
+    fn sizes(&self) -> PerAxis {
+        self.leading.sizes()
+    }
+
+    fn test(&self, cell: PerAxis) -> bool {
+        !self.leading.has(cell)
+    }
+}
+
+/// The virtual faces across an axis.
+fn faces_across(alloc: Global, grid: &Grid, wire: &Wire, axis: Axis) -> Result<Marks, Memory>
+    requires { IsWireOf grid.now wire.now }
+    ensures { IfOk result (λ marks. AreMarksOf (face_sizes (grid_sizes grid.now) axis)
+        (IsVirtual grid.now axis) marks) }
+{
+    let leading = leading_out(alloc, &FacesAcross { grid, wire, axis })?;
+    let marks = Marks::of(alloc, &EnclosedFaces { leading: &leading })?;
+    Ok(marks)
+}
+
+/// The virtual faces of a grid (Wesley and Markowsky 1981), of which this is the pseudo wire frame:
+/// its faces from which no chain of neighbours in their plane, each step crossing an edge that is
+/// no pseudo edge, leads out of the box. An `Err` is out of memory.
+pub fn faces_of(alloc: Global, grid: &Grid, wire: &Wire) -> Result<FaceMap, Memory>
+    requires { IsWireOf grid.now wire.now }
+    ensures { IfOk result (λ faces. IsFaceMapOf grid.now faces) }
+{
+    Ok(FaceMap::new(
+        faces_across(alloc, grid, wire, Axis::X)?,
+        faces_across(alloc, grid, wire, Axis::Y)?,
+        faces_across(alloc, grid, wire, Axis::Z)?,
+    ))
+}
