@@ -4,7 +4,7 @@ ghost use Rattle.std.specs.Prelude.{◌≡◌, ◌≤◌, List, Bool, ◌++◌, 
 ghost use Rattle.solid_model.specs.declared.segment.Segment.{Segment};
 ghost use Rattle.solid_model.specs.declared.segment.Style.{Style};
 ghost use Rattle.solid_model.specs.Choices.{AreChoicesThat, IsMatchingChoice};
-ghost use Rattle.solid_model.specs.Limits.{most_cells};
+ghost use Rattle.solid_model.specs.Limits.{most_tried_blocks};
 ghost use Rattle.solid_model.specs.Panels.{coordinates_of, IsGridOf};
 ghost use Rattle.solid_model.specs.Runs.{IsDrawing};
 ghost use Rattle.plain_search.specs.Choosing.{AreChoicesFrom};
@@ -66,7 +66,7 @@ pub fn matching_choices(
     items: &[Option<u16>],
     count: u16,
 ) -> Result<Vec<Choice>, Memory>
-    requires few { count ≤ most_cells }
+    requires few { count ≤ most_tried_blocks }
     ensures { IfOk result (λ choices. (drawing : Segment → Style) → IsDrawing drawing
         → IsGridOf drawing grid.now → AreChoicesThat
         (IsMatchingChoice drawing (coordinates_of grid.now) items.now) count choices.items) }

@@ -19,7 +19,7 @@ use Rattle.solid_model.specs.declared.segment.Segment.{Segment}
 use Rattle.solid_model.specs.declared.segment.Style.{Style}
 use Rattle.solid_model.specs.Drawings.{drawing_of, IsShown, IsFirstEmptyView}
 use Rattle.solid_model.specs.Grid.{Coordinates, AreCoordinatesOf, grid_cell_count, IsFirstTooFine}
-use Rattle.solid_model.specs.Limits.{most_cells, most_file_bytes}
+use Rattle.solid_model.specs.Limits.{most_tried_blocks, most_file_bytes}
 use Rattle.solid_model.specs.Line.{Line}
 use Rattle.solid_model.specs.Runs.{IsDrawing}
 use Rattle.solid_model.proofs.KeptDrawings.{lines_are_drawing}
@@ -125,6 +125,6 @@ no_fault t text short listed fault is = ⊎_elim
     faultless (File f) after = no_drawing_fault listed.lines listed.coordinates listed.shown listed.grid f after
     faultless TooLarge after =
         let same = one_grid (drawing_of listed.lines) after.1 listed.coordinates after.2 listed.grid in
-        let large = subst (λ c. most_cells < grid_cell_count c) same after.3 in
+        let large = subst (λ c. most_tried_blocks < grid_cell_count c) same after.3 in
         let small = listed.small in
         omega arith

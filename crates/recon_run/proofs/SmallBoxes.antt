@@ -10,7 +10,7 @@ use Rattle.recon_run.specs.SmallBoxes.{StandsInView, IsInView, AreSmall}
 use Rattle.solid_model.specs.declared.cell.Axis.{Axis}
 use Rattle.solid_model.specs.declared.cell.Axis.TheVariants.{X, Y, Z}
 use Rattle.solid_model.specs.Grid.{Coordinates, gaps_along, grid_cell_count}
-use Rattle.solid_model.specs.Limits.{most_cells}
+use Rattle.solid_model.specs.Limits.{most_tried_blocks}
 use Rattle.solid_model.specs.Lists.{Member, Each, pieces}
 use Rattle.solid_model.specs.Panels.{GridParts, IsGrid, coordinates_of}
 use Rattle.solid_model.proofs.Lists.{each-pieces, length-pieces}
@@ -117,7 +117,7 @@ module _ (g : GridParts) (is : IsGrid g) where
       each-pieces IsInView (λ k. layer_of (coordinates_of g) k (gaps_along (coordinates_of g) Y))
       (λ k. layer_in_view k (gaps_along (coordinates_of g) Y)) (gaps_along (coordinates_of g) Z)
 
-  pub boxes_small : grid_cell_count (coordinates_of g) ≤ most_cells → AreSmall (boxes_of (coordinates_of g))
+  pub boxes_small : grid_cell_count (coordinates_of g) ≤ most_tried_blocks → AreSmall (boxes_of (coordinates_of g))
   boxes_small few = record {
     few = omega (arith, length-boxes (coordinates_of g), few);
     in_view = boxes_in_view;
@@ -128,7 +128,7 @@ module _ (g : GridParts) (is : IsGrid g) where
 -- a volume so far and that of the boxes still to come are all of it, and there is room for these boxes
 pub record Adds (all volume : ℤ) (boxes : List GridBox) (choice : List Bool) : Type 0 where
   pub sum : volume +ℤ volume_of boxes choice ≡ all
-  pub small : unsigned_abs volume + length boxes * most_volume ≤ most_cells * most_volume
+  pub small : unsigned_abs volume + length boxes * most_volume ≤ most_tried_blocks * most_volume
   pub in_view : Each IsInView boxes
 
 -- a full box is added

@@ -15,7 +15,7 @@ use Rattle.solid_model.specs.declared.segment.Style.{Style}
 use Rattle.solid_model.specs.Choices.{own_items, AreChoicesThat, IsMatchingChoice}
 use Rattle.solid_model.specs.Drawings.{drawing_of, IsShown}
 use Rattle.solid_model.specs.Grid.{Coordinates, AreCoordinatesOf, grid_cell_count}
-use Rattle.solid_model.specs.Limits.{most_cells, most_file_bytes}
+use Rattle.solid_model.specs.Limits.{most_tried_blocks, most_file_bytes}
 use Rattle.solid_model.specs.Line.{Line}
 use Rattle.solid_model.specs.Panels.{GridParts, coordinates_of, IsGridOf}
 use Rattle.solid_model.specs.Runs.{IsDrawing}
@@ -26,12 +26,12 @@ pub length-own_items : (n : ℕ) → length (own_items n) ≡ n
 length-own_items n = length-map-range_with_len Some 0 n
 
 -- so there are few of them where there are few cells
-pub few_items : {items : List (Option ℕ)} {n : ℕ} → items ≡ own_items n → n ≤ most_cells → length items ≤ most_cells
+pub few_items : {items : List (Option ℕ)} {n : ℕ} → items ≡ own_items n → n ≤ most_tried_blocks → length items ≤ most_tried_blocks
 few_items {items} {n} own few = omega (arith, ap (λ (xs : List (Option ℕ)). length xs) own, length-own_items n, few)
 
 -- all matching choices are told by the text that lists the solids
 pub solids_of_choices : (t : List ℕ) (ls : List Line) → read_of t ≡ Ok ls → IsShown ls
-    → (coordinates : Coordinates) → AreCoordinatesOf (drawing_of ls) coordinates → grid_cell_count coordinates ≤ most_cells
+    → (coordinates : Coordinates) → AreCoordinatesOf (drawing_of ls) coordinates → grid_cell_count coordinates ≤ most_tried_blocks
     → (choices : List (List Bool))
     → AreChoicesThat (IsMatchingChoice (drawing_of ls) coordinates (own_items (grid_cell_count coordinates))) (grid_cell_count coordinates) choices
     → (text : List ℕ) → text ≡ first_text coordinates choices → ListsSolidsOf t text
@@ -58,7 +58,7 @@ module _ (t : List ℕ) (ls : List Line) (drawing : Segment → Style) (drawn : 
 
   -- what the items refuse is the input's first fault
   pub items_fault : (x : Unsolved) → length t ≤ most_file_bytes
-      → ((f : FirstFault) → x ≡ unsolved.Fault f → (f ≡ TooLarge) × (most_cells < grid_cell_count (coordinates_of g)))
+      → ((f : FirstFault) → x ≡ unsolved.Fault f → (f ≡ TooLarge) × (most_tried_blocks < grid_cell_count (coordinates_of g)))
       → (fault : FirstFault) → x ≡ unsolved.Fault fault → IsFirstFault t fault
   items_fault x short large fault e =
       let (is, many) = large fault e in
@@ -67,7 +67,7 @@ module _ (t : List ℕ) (ls : List Line) (drawing : Segment → Style) (drawn : 
 
   -- the text of all choices that match lists the solids
   pub solids_listed : (items : List (Option ℕ)) (n : ℕ) → items ≡ own_items (grid_cell_count (coordinates_of g)) → n ≡ length items
-      → grid_cell_count (coordinates_of g) ≤ most_cells → (choices : List (List Bool))
+      → grid_cell_count (coordinates_of g) ≤ most_tried_blocks → (choices : List (List Bool))
       → ((d : Segment → Style) → IsDrawing d → IsGridOf d g → AreChoicesThat (IsMatchingChoice d (coordinates_of g) items) n choices)
       → (text : List ℕ) → text ≡ first_text (coordinates_of g) choices → ListsSolidsOf t text
   solids_listed items n own counted small choices matching text told =

@@ -24,7 +24,7 @@ use Rattle.solid_model.specs.declared.frame.View.TheVariants.{Front, Top, Side}
 use Rattle.solid_model.specs.Choices.{own_items, IsMatchingChoice}
 use Rattle.solid_model.specs.Drawings.{drawing_of, IsShown, IsEmptyView, IsFirstEmptyView}
 use Rattle.solid_model.specs.Grid.{Coordinates, AreGridCoordinates, AreCoordinatesOf, grid_cell_count, IsFineEnough, IsFirstTooFine}
-use Rattle.solid_model.specs.Limits.{most_cells, most_file_bytes, most_grid_coordinates}
+use Rattle.solid_model.specs.Limits.{most_tried_blocks, most_file_bytes, most_grid_coordinates}
 use Rattle.solid_model.specs.Line.{Line}
 use Rattle.solid_model.specs.Runs.{IsDrawing}
 use Rattle.solid_model.proofs.SomeGrid.{some_coordinates}
@@ -70,7 +70,7 @@ module _ (t : List ℕ) (short : length t ≤ most_file_bytes) (faultless : (fau
     few a zs are fine = ⊎_elim (λ many. absurd (fine (length zs) (zs, are, refl, many))) (λ l. l) (cases_lt most_grid_coordinates (length zs))
 
     -- with these coordinates, and few grid cells, all choices are listed
-    listed : (coordinates : Coordinates) → AreCoordinatesOf (drawing_of ls) coordinates → grid_cell_count coordinates ≤ most_cells → ⊥
+    listed : (coordinates : Coordinates) → AreCoordinatesOf (drawing_of ls) coordinates → grid_cell_count coordinates ≤ most_tried_blocks → ⊥
     listed coordinates grid small =
         some_choices (IsMatchingChoice (drawing_of ls) coordinates (own_items (grid_cell_count coordinates))) (grid_cell_count coordinates) (λ choices matching.
         listless (first_text coordinates choices)
@@ -98,7 +98,7 @@ module _ (t : List ℕ) (short : length t ≤ most_file_bytes) (faultless : (fau
         with_grid : (coordinates : Coordinates) → AreCoordinatesOf (drawing_of ls) coordinates → ⊥
         with_grid coordinates are = ⊎_elim
             (λ large. faultless TooLarge (fault_read t (Ok ls) TooLarge short reads (shown, coordinates, are, large)))
-            (listed coordinates are) (cases_lt most_cells (grid_cell_count coordinates))
+            (listed coordinates are) (cases_lt most_tried_blocks (grid_cell_count coordinates))
 
   -- it can't be that an input that isn't too long has no fault and no list of solids
   short_input : (r : Result (List Line) of_file.Fault) → read_of t ≡ r → ⊥

@@ -15,7 +15,7 @@ use Rattle.solid_model.specs.declared.frame.View.{View}
 use Rattle.solid_model.specs.Choices.{own_items, AreSolidsOfChoices}
 use Rattle.solid_model.specs.Drawings.{drawing_of, IsShown, IsFirstEmptyView}
 use Rattle.solid_model.specs.Grid.{Coordinates, AreCoordinatesOf, grid_cell_count, IsFirstTooFine}
-use Rattle.solid_model.specs.Limits.{most_cells, most_file_bytes}
+use Rattle.solid_model.specs.Limits.{most_tried_blocks, most_file_bytes}
 use Rattle.solid_model.specs.Line.{Line}
 use Rattle.solid_model.specs.Matching.{AreSolidsOf}
 
@@ -33,7 +33,7 @@ abbrev pub IsFaultAfter : Result (List Line) of_file.Fault → FirstFault → Ty
 IsFaultAfter (Err found) fault = fault ≡ File found
 IsFaultAfter (Ok ls) (File f) = HasEmptyView ls f ⊎ HasFineAxis ls f
 IsFaultAfter (Ok ls) TooLarge = IsShown ls
-    × (coordinates : Coordinates) × AreCoordinatesOf (drawing_of ls) coordinates × (most_cells < grid_cell_count coordinates)
+    × (coordinates : Coordinates) × AreCoordinatesOf (drawing_of ls) coordinates × (most_tried_blocks < grid_cell_count coordinates)
 
 -- the first fault of an input: it is too long, or else that of what it reads as
 abbrev pub IsFirstFault : List ℕ → FirstFault → Type 0
@@ -56,7 +56,7 @@ pub record ListsSolidsOf (t text : List ℕ) : Type 0 where
   pub shown : IsShown lines
   pub coordinates : Coordinates
   pub grid : AreCoordinatesOf (drawing_of lines) coordinates
-  pub small : grid_cell_count coordinates ≤ most_cells
+  pub small : grid_cell_count coordinates ≤ most_tried_blocks
   pub solids : List (List Cell)
   pub all : AreSolidsOf (drawing_of lines) solids
   pub choices : List (List Bool)

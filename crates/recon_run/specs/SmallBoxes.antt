@@ -3,7 +3,7 @@ use Rattle.std.specs.Prelude.{◌≤◌, List, length, ℤ, pos, ◌≤ℤ◌}
 use Rattle.recon_run.specs.declared.boxes.GridBox.{GridBox}
 use Rattle.solid_model.specs.declared.cell.Axis.{Axis}
 use Rattle.solid_model.specs.Cells.{coordinate}
-use Rattle.solid_model.specs.Limits.{farthest_in_view, most_cells}
+use Rattle.solid_model.specs.Limits.{farthest_in_view, most_tried_blocks}
 use Rattle.solid_model.specs.Lists.{Each}
 
 -- a coordinate of a drawing whose views begin at 0
@@ -16,5 +16,5 @@ IsInView b = (a : Axis) → StandsInView (coordinate a b.low) × StandsInView (c
 
 -- few boxes, each of them such a one
 pub record AreSmall (boxes : List GridBox) : Type 0 where
-  pub few : length boxes ≤ most_cells
+  pub few : length boxes ≤ most_tried_blocks
   pub in_view : Each IsInView boxes

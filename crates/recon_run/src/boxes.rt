@@ -5,7 +5,7 @@ ghost use Rattle.recon_run.specs.FirstText.{box_of, row_of, layer_of, boxes_of, 
 ghost use Rattle.recon_run.specs.SmallBoxes.{IsInView, AreSmall};
 ghost use Rattle.solid_model.specs.declared.cell.Axis.TheVariants.{X, Y, Z};
 ghost use Rattle.solid_model.specs.Grid.{gaps_along, grid_cell_count};
-ghost use Rattle.solid_model.specs.Limits.{most_cells};
+ghost use Rattle.solid_model.specs.Limits.{most_tried_blocks};
 ghost use Rattle.solid_model.specs.Panels.{coordinates_of, IsGrid};
 
 use solid_model::{Axis, Cell, Grid, Memory};
@@ -95,7 +95,7 @@ fn push_layer(boxes: &mut Vec<GridBox>, grid: &Grid, k: usize) -> Result<(), Mem
 
 /// The boxes of a grid in the order of its cells: z slowest, x fastest. An `Err` is out of memory.
 pub fn boxes_of(alloc: Global, grid: &Grid) -> Result<Vec<GridBox>, Memory>
-    requires { grid_cell_count (coordinates_of grid.now) ≤ most_cells }
+    requires { grid_cell_count (coordinates_of grid.now) ≤ most_tried_blocks }
     ensures all { IfOk result (λ boxes. boxes.items ≡ boxes_of (coordinates_of grid.now)) }
     ensures small { IfOk result (λ boxes. AreSmall boxes.items) }
 {

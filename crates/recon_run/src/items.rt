@@ -6,7 +6,7 @@ ghost use Rattle.recon_run.specs.declared.fault.FirstFault.TheVariants.{TooLarge
 ghost use Rattle.recon_run.specs.declared.solve.Unsolved.TheVariants as unsolved;
 ghost use Rattle.solid_model.specs.Choices.{own_items};
 ghost use Rattle.solid_model.specs.Grid.{grid_cell_count};
-ghost use Rattle.solid_model.specs.Limits.{most_cells};
+ghost use Rattle.solid_model.specs.Limits.{most_tried_blocks};
 ghost use Rattle.solid_model.specs.Panels.{coordinates_of};
 
 use crate::fault::FirstFault;
@@ -32,9 +32,9 @@ fn numbered_items(alloc: Global, count: u16) -> Result<Vec<Option<u16>>, Memory>
 pub fn own_items(alloc: Global, grid: &Grid) -> Result<Vec<Option<u16>>, Unsolved>
     ensures items { IfOk result (λ items.
         items.items ≡ own_items (grid_cell_count (coordinates_of grid.now))) }
-    ensures few { OnOk result (grid_cell_count (coordinates_of grid.now) ≤ most_cells) }
+    ensures few { OnOk result (grid_cell_count (coordinates_of grid.now) ≤ most_tried_blocks) }
     ensures large { (fault : FirstFault) → IsErrOf result (unsolved.Fault fault)
-        → (fault ≡ TooLarge) × (most_cells < grid_cell_count (coordinates_of grid.now)) }
+        → (fault ≡ TooLarge) × (most_tried_blocks < grid_cell_count (coordinates_of grid.now)) }
 {
     let count = grid.cell_count();
     if count > MOST_ITEMS {

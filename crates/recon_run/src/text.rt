@@ -4,7 +4,7 @@ ghost use Rattle.std.specs.Prelude.{◌≡◌, ◌++◌, ◌≤◌, IfOk, OnOk};
 ghost use Rattle.recon_run.specs.FirstText.{point_text, box_line, box_lines, solid_text, first_text};
 ghost use Rattle.recon_run.specs.SmallBoxes.{AreSmall};
 ghost use Rattle.solid_model.specs.Grid.{grid_cell_count};
-ghost use Rattle.solid_model.specs.Limits.{most_cells};
+ghost use Rattle.solid_model.specs.Limits.{most_tried_blocks};
 ghost use Rattle.solid_model.specs.Panels.{coordinates_of};
 
 use crate::boxes::{GridBox, boxes_of, volume_of};
@@ -80,7 +80,7 @@ fn push_solid(
 /// for each solid, numbered from 1, `solid K volume V` and a line `box x,y,z X,Y,Z` for each of its
 /// boxes, from its least to its greatest corner. An `Err` is out of memory.
 pub fn first_text(alloc: Global, grid: &Grid, choices: &[Choice]) -> Result<Vec<u8>, Memory>
-    requires { grid_cell_count (coordinates_of grid.now) ≤ most_cells }
+    requires { grid_cell_count (coordinates_of grid.now) ≤ most_tried_blocks }
     ensures { IfOk result (λ text. text.items ≡ first_text (coordinates_of grid.now) choices.now) }
 {
     let boxes = boxes_of(alloc, grid)?;

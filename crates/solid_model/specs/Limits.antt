@@ -29,6 +29,6 @@ most_grid_coordinates = 64
 abbrev pub most_blocks : ℕ
 most_blocks = 4096
 
--- the most cells of a box that is searched
-abbrev pub most_cells : ℕ
-most_cells = 12
+-- the most blocks of which all choices are tried
+abbrev pub most_tried_blocks : ℕ
+most_tried_blocks = 12

@@ -1,0 +1,2 @@
+//! The blocks of a grid.
+#![tactic(auto)]
