@@ -1,12 +1,14 @@
 -- Grids of drawings: too fine in one way, and otherwise one list of coordinates.
-use Rattle.std.proofs.Common.{◌≡◌, refl, ℕ, ◌≤◌, List, length, ℤ, sym, ap, ◌∙◌, arith}
+use Rattle.std.proofs.Common.{◌≡◌, refl, Bool, true, false, ℕ, ◌≤◌, List, length, ℤ, sym, ap, ◌∙◌, arith}
 use Rattle.solid_model.specs.declared.cell.Axis.{Axis}
 use Rattle.solid_model.specs.declared.cell.Axis.TheVariants.{X, Y, Z}
+use Rattle.solid_model.specs.declared.frame.View.{View}
+use Rattle.solid_model.specs.declared.frame.View.TheVariants.{Front, Top, Side}
 use Rattle.solid_model.specs.declared.segment.Segment.{Segment}
 use Rattle.solid_model.specs.declared.segment.Style.{Style}
 use Rattle.solid_model.specs.Grid.{Coordinates, AreGridCoordinates, AreCoordinatesOf, IsTooFine, IsFineEnough, IsFirstTooFine}
 use Rattle.solid_model.specs.Limits.{most_grid_coordinates}
-use Rattle.solid_model.specs.Panels.{GridParts, coordinates_of, IsGridOf}
+use Rattle.solid_model.specs.Panels.{GridParts, coordinates_of, panel_of, styles_along, grid_styles, IsGridOf}
 use Rattle.solid_model.proofs.InGrid.{one_coordinates}
 
 -- the first axis that is too fine, with its number of coordinates
@@ -40,9 +42,24 @@ module _ (drawing : Segment → Style) where
   none_too_fine coordinates are Y count fine = fine_enough Y (coordinates Y) (are Y).0 (are Y).1 count fine.1
   none_too_fine coordinates are Z count fine = fine_enough Z (coordinates Z) (are Z).0 (are Z).1 count fine.2
 
-  -- and the coordinates are one list along each axis
-  pub one_grid : (coordinates others : Coordinates) → AreCoordinatesOf drawing coordinates → AreCoordinatesOf drawing others → coordinates ≡ others
-  one_grid coordinates others are are_too = λ t a. one_coordinates drawing a (coordinates a) (others a) (are a).0 (are_too a).0 t
+  -- and there is one grid
+  pub one_grid : (g h : GridParts) → IsGridOf drawing g → IsGridOf drawing h → g ≡ h
+  one_grid g h is is_too = λ t. record {
+    xs = along X t;
+    ys = along Y t;
+    zs = along Z t;
+    panels = record {
+      front = record { level = shown Front false t; upright = shown Front true t };
+      top = record { level = shown Top false t; upright = shown Top true t };
+      side = record { level = shown Side false t; upright = shown Side true t };
+    };
+  }
+    where
+      along : (a : Axis) → coordinates_of g a ≡ coordinates_of h a
+      along a = one_coordinates drawing a (coordinates_of g a) (coordinates_of h a) (is.coordinates a) (is_too.coordinates a)
+
+      shown : (v : View) (upright : Bool) → styles_along upright (panel_of v g.panels) ≡ styles_along upright (panel_of v h.panels)
+      shown v upright = is.styles v upright ∙ (λ t. grid_styles drawing (λ a. along a t) v upright) ∙ sym (is_too.styles v upright)
 
   -- a grid has a drawing's coordinates
   pub coordinates_from_grid : (g : GridParts) → IsGridOf drawing g → AreCoordinatesOf drawing (coordinates_of g)

@@ -1,5 +1,5 @@
 pub mod Grids
-pub mod SmallBoxes
+pub mod Problems
 pub mod Faults
 pub mod Solved
 pub mod Sources

@@ -1,7 +1,6 @@
 pub mod Words
 pub mod Status
-pub mod FirstText
-pub mod SmallBoxes
+pub mod BlockText
 pub mod FaultText
 pub mod Answers
 pub mod Refusals

@@ -7,6 +7,6 @@ use solid_model::Fault;
 pub enum FirstFault {
     /// The file has this fault.
     File(Fault),
-    /// The grid of its drawing has more than 12 cells.
+    /// The grid of its drawing has more than 12 blocks, and all choices of them are too many.
     TooLarge,
 }

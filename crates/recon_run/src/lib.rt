@@ -1,12 +1,11 @@
 //! The top call: one command, from the bytes in to the bytes out.
 #![tactic(auto)]
 
-mod boxes;
 mod command;
 mod fault;
 mod fault_text;
-mod items;
 mod laws;
+mod problem;
 mod reply;
 mod solve;
 mod status;
@@ -16,6 +15,7 @@ mod words;
 pub use command::run;
 pub use fault::FirstFault;
 pub use laws::{one_answer, one_first_fault, some_answer};
+pub use problem::problem_of;
 pub use status::{Answer, Found, Status, Stop};
 
 #[cfg(test)]

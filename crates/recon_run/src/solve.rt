@@ -1,23 +1,20 @@
-//! The way from a file's bytes to the text that lists its solids, stage by stage: the pairs of the
-//! file's text, the lines that it keeps, their drawing in three views, the drawing's grid, all
-//! choices of the grid's cells whose solid matches the drawing, and the text that lists these.
+//! From a file's bytes to the text that lists its solids.
 
-ghost use Rattle.std.specs.Prelude.{◌≡◌, ◌≤◌, length, IfOk, IsErrOf};
+ghost use Rattle.std.specs.Prelude.{◌≤◌, length, IfOk, IsErrOf};
 ghost use Rattle.recon_run.specs.declared.fault.FirstFault.{FirstFault};
 ghost use Rattle.recon_run.specs.declared.status.Found.TheVariants.{Whole};
 ghost use Rattle.recon_run.specs.Answers.{IsFirstFault, IsSolved};
 ghost use Rattle.solid_model.specs.Limits.{most_file_bytes};
 
 use crate::fault::FirstFault;
-use crate::items::own_items;
-use crate::text::first_text;
-use dxf_entities::entities;
-use dxf_groups::Groups;
-use grid::grid_of;
+use crate::problem::problem_of;
+use crate::text::block_text;
 use plain_search::matching_choices;
 use solid_model::{Memory, Refused};
 use std::alloc::Global;
-use views::drawing;
+
+/// The most blocks of which all choices are tried.
+const MOST_TRIED_BLOCKS: u16 = 12;
 
 /// Why a file's solids aren't listed.
 #[derive(Clone, Copy)]
@@ -58,10 +55,10 @@ pub fn solve(alloc: Global, file: Vec<u8>) -> Result<Vec<u8>, Unsolved>
     ensures fault { (fault : FirstFault) → IsErrOf result (Unsolved.Fault fault)
         → IsFirstFault file.items fault }
 {
-    let lines = entities(alloc, &mut Groups::new(file))?;
-    let drawing = drawing(alloc, lines.as_slice())?;
-    let grid = grid_of(alloc, &drawing)?;
-    let items = own_items(alloc, &grid)?;
-    let choices = matching_choices(alloc, &grid, items.as_slice(), items.len() as u16)?;
-    Ok(first_text(alloc, &grid, choices.as_slice())?)
+    let problem = problem_of(alloc, file)?;
+    if problem.blocks().count() > MOST_TRIED_BLOCKS {
+        return Err(Unsolved::Fault(FirstFault::TooLarge));
+    }
+    let choices = matching_choices(alloc, &problem)?;
+    Ok(block_text(alloc, &problem, choices.as_slice())?)
 }
