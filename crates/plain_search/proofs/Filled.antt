@@ -14,15 +14,15 @@ use Rattle.solid_model.proofs.Unions.{some_union}
 
 -- the panels are those of whatever solid the choice fills
 abbrev pub ArePanelsOf : GridParts → List (Option ℕ) → List Bool → PanelsStyles → Type 0
-ArePanelsOf grid items choice panels = (s : List Cell) → IsUnionOf (coordinates_of grid) (cells_of_choice items choice) (is_full s)
+ArePanelsOf grid blocks choice panels = (s : List Cell) → IsUnionOf (coordinates_of grid) (cells_of_choice blocks choice) (is_full s)
     → AreGridStyles (solid_drawing s) (coordinates_of grid) panels
 
 -- they are the grid's exactly where that solid matches the drawing
 pub matching_by_panels : (drawing : Segment → Style) → IsDrawing drawing → (grid : GridParts) → IsGridOf drawing grid
-    → (items : List (Option ℕ)) (choice : List Bool) (panels : PanelsStyles) → ArePanelsOf grid items choice panels
-    → (panels ≡ grid.panels) ↔ IsMatchingChoice drawing (coordinates_of grid) items choice
-matching_by_panels drawing is grid is_grid items choice panels drawn = (
-  (λ same. let filled = some_union (coordinates_of grid) (λ a. (is_grid.coordinates a).ordered) (cells_of_choice items choice) in
-      (filled.0, filled.1, (matching_on_grid drawing is grid is_grid (cells_of_choice items choice) filled.0 filled.1 panels (drawn filled.0 filled.1)).0 same)),
-  (λ (s, union, matches). (matching_on_grid drawing is grid is_grid (cells_of_choice items choice) s union panels (drawn s union)).1 matches),
+    → (blocks : List (Option ℕ)) (choice : List Bool) (panels : PanelsStyles) → ArePanelsOf grid blocks choice panels
+    → (panels ≡ grid.panels) ↔ IsMatchingChoice drawing (coordinates_of grid) blocks choice
+matching_by_panels drawing is grid is_grid blocks choice panels drawn = (
+  (λ same. let filled = some_union (coordinates_of grid) (λ a. (is_grid.coordinates a).ordered) (cells_of_choice blocks choice) in
+      (filled.0, filled.1, (matching_on_grid drawing is grid is_grid (cells_of_choice blocks choice) filled.0 filled.1 panels (drawn filled.0 filled.1)).0 same)),
+  (λ (s, union, matches). (matching_on_grid drawing is grid is_grid (cells_of_choice blocks choice) s union panels (drawn s union)).1 matches),
 )

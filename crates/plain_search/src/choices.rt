@@ -1,4 +1,4 @@
-//! Every choice of a few items, in the stated order.
+//! Every choice of a few blocks, in the stated order.
 
 ghost use Rattle.std.specs.Prelude.{◌≡◌, ◌≤◌, List, Bool, ◌++◌, length, take, IfOk, OnOk};
 ghost use Rattle.solid_model.specs.declared.segment.Segment.{Segment};
@@ -9,72 +9,57 @@ ghost use Rattle.solid_model.specs.Panels.{coordinates_of, IsGridOf};
 ghost use Rattle.solid_model.specs.Runs.{IsDrawing};
 ghost use Rattle.plain_search.specs.Choosing.{AreChoicesFrom};
 
-use crate::filling::{Wanted, is_matching};
-use solid_model::{Choice, Grid, Memory};
+use crate::filling::is_matching;
+use solid_model::{Choice, Memory, Problem};
 use std::alloc::Global;
 
-/// Adds the choice to those found, where its solid has the grid's drawing.
-fn try_choice(
-    choice: &[bool],
-    wanted: &Wanted<'_>,
-    cells: &mut Vec<bool>,
-    found: &mut Vec<Choice>,
-) -> Result<(), Memory>
+/// Adds the choice with these values to those found, where its solid has the grid's drawing.
+fn try_choice(problem: &Problem, values: &[bool], found: &mut Vec<Choice>) -> Result<(), Memory>
     ensures { OnOk result ((new : List (List Bool)) × (found.new.items ≡ found.old.items ++ new)
-        × AreChoicesFrom wanted.now.grid.now wanted.now.items.now choice.now (length choice.now)
-        new) }
+        × AreChoicesFrom problem.now values.now (length values.now) new) }
 {
-    if is_matching(wanted, choice, cells)? {
-        let listed = Choice::from_bools(*found.allocator(), choice)?;
-        found.push(listed)?;
+    let alloc = *found.allocator();
+    let choice = Choice::from_bools(alloc, values)?;
+    if is_matching(alloc, problem, &choice)? {
+        found.push(choice)?;
     }
     Ok(())
 }
 
-/// Tries every choice that has the first `chosen` values: an item full before it is empty.
+/// Tries every choice that has the first `chosen` values: a block full before it is empty.
 fn try_rest(
-    choice: &mut [bool],
+    problem: &Problem,
+    values: &mut [bool],
     chosen: usize,
-    wanted: &Wanted<'_>,
-    cells: &mut Vec<bool>,
     found: &mut Vec<Choice>,
 ) -> Result<(), Memory>
-    requires chosen { chosen ≤ length choice.old }
-    ensures length { length choice.new ≡ length choice.old }
-    ensures chosen { OnOk result (take chosen choice.new ≡ take chosen choice.old) }
+    requires chosen { chosen ≤ length values.old }
+    ensures length { length values.new ≡ length values.old }
+    ensures chosen { OnOk result (take chosen values.new ≡ take chosen values.old) }
     ensures found { OnOk result ((new : List (List Bool))
         × (found.new.items ≡ found.old.items ++ new)
-        × AreChoicesFrom wanted.now.grid.now wanted.now.items.now (take chosen choice.old)
-        (length choice.old) new) }
+        × AreChoicesFrom problem.now (take chosen values.old) (length values.old) new) }
 {
-    if chosen == choice.len() {
-        return try_choice(choice, wanted, cells, found);
+    if chosen == values.len() {
+        return try_choice(problem, values, found);
     }
-    choice[chosen] = true;
-    try_rest(choice, chosen + 1, wanted, cells, found)?;
-    choice[chosen] = false;
-    try_rest(choice, chosen + 1, wanted, cells, found)
+    values[chosen] = true;
+    try_rest(problem, values, chosen + 1, found)?;
+    values[chosen] = false;
+    try_rest(problem, values, chosen + 1, found)
 }
 
-/// All choices of `count` items whose solid has the grid's drawing, in the stated order. For each
-/// grid cell `items` says to which item it belongs; one that belongs to none of them is empty.
-/// Every choice is drawn and compared, so that `count` is small. An `Err`
-/// is out of memory.
-pub fn matching_choices(
-    alloc: Global,
-    grid: &Grid,
-    items: &[Option<u16>],
-    count: u16,
-) -> Result<Vec<Choice>, Memory>
-    requires few { count ≤ most_tried_blocks }
+/// All choices of a problem's blocks whose solid has the grid's drawing, in the stated order. Every
+/// choice is drawn and compared, so that blocks are few. An `Err` is out of memory.
+pub fn matching_choices(alloc: Global, problem: &Problem) -> Result<Vec<Choice>, Memory>
+    requires few { problem.now.blocks.count ≤ most_tried_blocks }
     ensures { IfOk result (λ choices. (drawing : Segment → Style) → IsDrawing drawing
-        → IsGridOf drawing grid.now → AreChoicesThat
-        (IsMatchingChoice drawing (coordinates_of grid.now) items.now) count choices.items) }
+        → IsGridOf drawing problem.now.grid → AreChoicesThat
+        (IsMatchingChoice drawing (coordinates_of problem.now.grid) problem.now.blocks.numbers)
+        problem.now.blocks.count choices.items) }
 {
-    let mut choice = vec![in alloc; false; usize::from(count)]?;
-    let mut cells = Vec::new(alloc);
+    let mut values = vec![in alloc; false; usize::from(problem.blocks().count())]?;
     let mut found = Vec::new(alloc);
-    let wanted = Wanted { grid, items };
-    try_rest(choice.as_mut_slice(), 0, &wanted, &mut cells, &mut found)?;
+    try_rest(problem, values.as_mut_slice(), 0, &mut found)?;
     Ok(found)
 }

@@ -1,5 +1,4 @@
-//! The plain search: every choice of a few items, each of them some of a grid's cells, is drawn and
-//! compared with the grid.
+//! The plain search: every choice of a few blocks is drawn and compared with the grid's drawing.
 #![tactic(auto)]
 
 mod choices;

@@ -7,7 +7,8 @@ use Rattle.plain_search.proofs.choices.matching_choices.Goals as goal
 
 pub returns : goal.returns
 returns c = λ drawing is is_grid.
+    let problem = c.args.problem.now in
     let (new, found, are) = c.in_ok-try_rest.ensures.found in
-    let long : length c.as_mut_slice.result.now ≡ c.args.count = grind (arith, common_steps) in
-    let matching = IsMatchingChoice drawing (coordinates_of c.args.grid.now) c.args.items.now in
-    rw (found, c.new-found.ensures.items) (choices-all matching c.args.count new (subst (λ n. AreChoicesThat (From matching []) n new) long (are drawing is is_grid)))
+    let long : length c.as_mut_slice.result.now ≡ problem.blocks.count = grind (arith, common_steps) in
+    let matching = IsMatchingChoice drawing (coordinates_of problem.grid) problem.blocks.numbers in
+    rw (found, c.new-found.ensures.items) (choices-all matching problem.blocks.count new (subst (λ n. AreChoicesThat (From matching []) n new) long (are drawing is is_grid)))
