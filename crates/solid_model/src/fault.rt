@@ -2,6 +2,7 @@
 
 use crate::cell::Axis;
 use crate::frame::View;
+use crate::memory::Memory;
 use std::alloc::{AllocError, AllocFailed};
 use thiserror::Error;
 
@@ -84,6 +85,17 @@ impl From<Fault> for Refused {
 
     fn from(fault: Fault) -> Refused {
         Refused::Fault(fault)
+    }
+}
+
+impl From<Memory> for Refused {
+    ghost use Rattle.std.specs.Prelude.{◌≡◌};
+    ghost use Rattle.solid_model.specs.declared.fault.Refused.TheVariants as refused;
+
+    ghost from_gives = { λ _ e. e ≡ refused.Memory };
+
+    fn from(_memory: Memory) -> Refused {
+        Refused::Memory
     }
 }
 
