@@ -28,9 +28,10 @@ all_marked sizes values count holds so_far all = record {
   sized = λ a. refl;
   exact = λ n n_in.
       let place = box_place (numbers_of sizes) n in
-      let is = so_far.each place false (subst (λ c. place < c) (sym all) (cell_there (numbers_of sizes) n n_in)) n n_in refl in
-      (λ marked. sym is ∙ (and_parts (is_within (numbers_of sizes) n) (slice_index_or values place false) marked).1,
-       λ true_of. and_from (is_within (numbers_of sizes) n) (slice_index_or values place false) n_in (is ∙ true_of));
+      let is = so_far.each place false (subst (λ c. place < c) (sym all) (cell_there (numbers_of sizes) n n_in)) n n_in refl in (
+        λ marked. sym is ∙ (and_parts (is_within (numbers_of sizes) n) (slice_index_or values place false) marked).1,
+        λ true_of. and_from (is_within (numbers_of sizes) n) (slice_index_or values place false) n_in (is ∙ true_of),
+      );
 }
 
 -- what only cells of the box have is what the marks say, of every cell
