@@ -1,2 +1,6 @@
 //! The blocks of a grid.
 #![tactic(auto)]
+
+mod grid_blocks;
+
+pub use grid_blocks::blocks_of;

@@ -6,20 +6,13 @@ use Rattle.solid_model.specs.Chains.{Reaches}
 use Rattle.solid_model.specs.Marks.{BoxMarks, AreMarksOf}
 use Rattle.solid_model.specs.Rooms.{Sizes, is_within, box_place, LeadsOut, AreRooms}
 use Rattle.solid_model.proofs.BoxPlaces.{one_cell}
-use Rattle.solid_model.proofs.Chains.{reaches-step, reaches-map}
+use Rattle.solid_model.proofs.Chains.{same_chains}
 use Rattle.flood.specs.Graph.{component, AreComponents}
 use Rattle.flood.specs.Passages.{PassageParts, StepsAlong}
 use Rattle.flood.specs.Ring.{ring_count, ring_place, RingStep, ArePassages, room_of, AreRoomNumbers}
 use Rattle.flood.proofs.RingPassages.{Standing, steps_iff_ring}
 use Rattle.flood.proofs.RingPlaces.{within-ringed, ring_place-below}
 use Rattle.flood.proofs.RingRooms.{first_node_iff_leads_out, rooms_of_components}
-
--- chains of the same steps
-same_chains : {A : Type 0} (R S : A → A → Type 0) → ((a b : A) → R a b ↔ S a b) → (a b : A) → Reaches R a b ↔ Reaches S a b
-same_chains {A} R S same a b = (
-  reaches-map R S (λ (x : A). x) (λ x y step. reaches-step S x y ((same x y).0 step)) a b,
-  reaches-map S R (λ (x : A). x) (λ x y step. reaches-step R x y ((same x y).1 step)) a b,
-)
 
 module _ (sizes : Sizes) (stands : Axis → Cell → Bool) (g : PassageParts) (are : ArePassages sizes stands g) where
   -- the nodes that are reached from the ring's first are those of the cells that lead out

@@ -55,8 +55,11 @@ impl Passages {
 
 impl Graph for Passages {
     ghost nodes = { λ g. g.count };
+
     ghost steps = { λ g. StepsAlong (parts_of g) };
+
     ghost ways = { λ g. 6 };
+
     ghost next = { λ g. way_on (parts_of g) };
 
     fn node_count(&self) -> usize {

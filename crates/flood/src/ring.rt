@@ -71,6 +71,7 @@ struct BarsAlong<'a, W: Walls> {
 
 impl<W: Walls> CellTest for BarsAlong<'_, W> {
     ghost sizes = { λ s. ringed (W.sizes s.walls.now) };
+
     ghost holds = { λ s c. is_barred (W.sizes s.walls.now) (W.stands s.walls.now) s.axis (inner c) };
 
     fn sizes(&self) -> PerAxis {
@@ -83,7 +84,8 @@ impl<W: Walls> CellTest for BarsAlong<'_, W> {
         }
         match inner(cell) {
             Some(cell) => {
-                touches_box(self.walls.sizes(), self.axis, cell) && self.walls.stands(self.axis, cell)
+                touches_box(self.walls.sizes(), self.axis, cell)
+                    && self.walls.stands(self.axis, cell)
             }
             None => false,
         }

@@ -35,6 +35,7 @@ impl<W: Walls> CellTest for Reached<'_, W> {
     ghost use Rattle.std.specs.Prelude.{false, slice_index_or};
 
     ghost sizes = { λ s. W.sizes s.walls.now };
+
     ghost holds = { λ s n. slice_index_or s.nodes.now (ring_place (W.sizes s.walls.now) n) false };
 
     fn sizes(&self) -> PerAxis {

@@ -21,6 +21,7 @@ impl CellTest for EdgesAlong<'_> {
     ghost use Rattle.solid_model.specs.Wire.{grid_sizes, is_pseudo_edge};
 
     ghost sizes = { λ s. edge_sizes (grid_sizes s.grid.now) s.axis };
+
     ghost holds = { λ s n. is_pseudo_edge s.grid.now s.axis n };
 
     fn sizes(&self) -> PerAxis {

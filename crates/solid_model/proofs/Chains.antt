@@ -1,5 +1,5 @@
 -- Chains of steps: longer, one after another, back, and taken along a function.
-use Rattle.std.proofs.Common.{zero, suc, refl, sym, ap, subst}
+use Rattle.std.proofs.Common.{◌↔◌, zero, suc, refl, sym, ap, subst}
 use Rattle.solid_model.specs.Chains.{Reaches}
 
 module _ {A : Type 0} (R : A → A → Type 0) where
@@ -53,3 +53,10 @@ module _ {A B : Type 0} (R : A → A → Type 0) (S : B → B → Type 0) (f : A
   -- a chain along a function, where each step gives a chain along it
   pub reaches-map : ((a b : A) → R a b → Reaches S (f a) (f b)) → (a b : A) → Reaches R a b → Reaches S (f a) (f b)
   reaches-map along a b chain = reaches-map_within (λ _. Unit {0}) (λ _ _ _ _. tt) (λ x y _ step. along x y step) a b tt chain
+
+-- chains of the same steps are the same
+pub same_chains : {A : Type 0} (R S : A → A → Type 0) → ((a b : A) → R a b ↔ S a b) → (a b : A) → Reaches R a b ↔ Reaches S a b
+same_chains {A} R S same a b = (
+  reaches-map R S (λ (x : A). x) (λ x y step. reaches-step S x y ((same x y).0 step)) a b,
+  reaches-map S R (λ (x : A). x) (λ x y step. reaches-step R x y ((same x y).1 step)) a b,
+)

@@ -41,6 +41,7 @@ pub mod MarkedCells
 pub mod Numbers
 pub mod OneNumbering
 pub mod Passages
+pub mod Rooms
 pub mod Decisions
 pub mod ItemOrder
 pub mod NumberedPlaces

@@ -1,11 +1,11 @@
 -- Marks that are made cell by cell.
-use Rattle.std.proofs.Common.{◌≡◌, ◌<◌, Bool, true, false, ℕ, List, slice_index_or, IsTrue, refl, ap, sym, subst, ◌∙◌}
+use Rattle.std.proofs.Common.{◌≡◌, ◌↔◌, ◌<◌, Bool, true, false, ℕ, List, slice_index_or, IsTrue, refl, ap, sym, subst, ◌∙◌}
 use Rattle.std.proofs.lemmas.Bool.{and_parts, and_from}
 use Rattle.solid_model.specs.declared.cell.Axis.{Axis}
 use Rattle.solid_model.specs.declared.cell.Axis.TheVariants.{X, Y, Z}
 use Rattle.solid_model.specs.declared.cell.Cell.{Cell}
 use Rattle.solid_model.specs.declared.per_axis.PerAxis.{PerAxis}
-use Rattle.solid_model.specs.Marks.{BoxMarks, AreMarksOf, AxisMarks, marks_along}
+use Rattle.solid_model.specs.Marks.{BoxMarks, is_marked, AreMarksOf, AxisMarks, marks_along}
 use Rattle.solid_model.specs.PerAxis.{numbers_of}
 use Rattle.solid_model.specs.Rooms.{Sizes, is_within, box_place, box_count}
 use Rattle.solid_model.proofs.BoxPlaces.{one_cell, cell_there}
@@ -28,10 +28,21 @@ all_marked sizes values count holds so_far all = record {
   sized = λ a. refl;
   exact = λ n n_in.
       let place = box_place (numbers_of sizes) n in
-      let is = so_far.each place false (subst (λ c. place < c) (sym all) (cell_there (numbers_of sizes) n n_in)) n n_in refl in
-      (λ marked. sym is ∙ (and_parts (is_within (numbers_of sizes) n) (slice_index_or values place false) marked).1,
-       λ true_of. and_from (is_within (numbers_of sizes) n) (slice_index_or values place false) n_in (is ∙ true_of));
+      let is = so_far.each place false (subst (λ c. place < c) (sym all) (cell_there (numbers_of sizes) n n_in)) n n_in refl in (
+        λ marked. sym is ∙ (and_parts (is_within (numbers_of sizes) n) (slice_index_or values place false) marked).1,
+        λ true_of. and_from (is_within (numbers_of sizes) n) (slice_index_or values place false) n_in (is ∙ true_of),
+      );
 }
+
+-- what only cells of the box have is what the marks say, of every cell
+pub marked_everywhere : (sizes : Sizes) (P : Cell → Type 0) (m : BoxMarks) → AreMarksOf sizes P m → ((n : Cell) → P n → IsTrue (is_within sizes n))
+    → (n : Cell) → IsTrue (is_marked m n) ↔ P n
+marked_everywhere sizes P m are inside n = (
+  λ marked.
+      let within = (and_parts (is_within (numbers_of m.sizes) n) (slice_index_or m.values (box_place (numbers_of m.sizes) n) false) marked).0 in
+      (are.exact n (sym (λ t. is_within (λ a. are.sized a t) n) ∙ within)).0 marked,
+  λ holds. (are.exact n (inside n holds)).1 holds,
+)
 
 -- what holds of the marks for each axis holds of them together
 pub marks_by_axis : (P : Axis → BoxMarks → Type 0) (x y z : BoxMarks) (m : AxisMarks) → m ≡ record { x = x; y = y; z = z } → P X x → P Y y → P Z z

@@ -88,8 +88,6 @@ impl Blocks {
     pub fn same(&self, other: &Blocks) -> bool
         ensures { IsTrue result ↔ (self.now ≡ other.now) }
     {
-        self.sizes == other.sizes
-            && self.count == other.count
-            && same_numbers(&self.of, &other.of)
+        self.sizes == other.sizes && self.count == other.count && same_numbers(&self.of, &other.of)
     }
 }

@@ -1,0 +1,29 @@
+-- The rooms between the faces that are marked are the blocks.
+use Rattle.std.proofs.Common.{◌≤◌, ℕ, List, Option, Some, None, IsTrue, arith}
+use Rattle.solid_model.specs.Blocks.{IsBelow, AreBlocksOf}
+use Rattle.solid_model.specs.Limits.{most_blocks}
+use Rattle.solid_model.specs.Lists.{Each}
+use Rattle.solid_model.specs.Marks.{AxisMarks, marks_along, is_marked}
+use Rattle.solid_model.specs.Panels.{GridParts}
+use Rattle.solid_model.specs.Rooms.{face_sizes, AreRooms}
+use Rattle.solid_model.specs.VirtualFaces.{IsVirtual, IsFaceMapOf}
+use Rattle.solid_model.specs.Wire.{grid_sizes}
+use Rattle.solid_model.proofs.Lists.{each-weaker}
+use Rattle.solid_model.proofs.MarkedCells.{marked_everywhere}
+use Rattle.solid_model.proofs.Rooms.{rooms_between_same, room_numbers-below}
+
+-- a face is marked where it is virtual, and only there
+pub rooms_blocks : (g : GridParts) (faces : AxisMarks) → IsFaceMapOf g faces → (numbers : List (Option ℕ)) (count : ℕ)
+    → AreRooms (grid_sizes g) (λ a n. IsTrue (is_marked (marks_along a faces) n)) numbers count → AreBlocksOf g numbers count
+rooms_blocks g faces is = rooms_between_same (grid_sizes g) (λ a n. IsTrue (is_marked (marks_along a faces) n)) (IsVirtual g)
+    (λ a. marked_everywhere (face_sizes (grid_sizes g) a) (IsVirtual g a) (marks_along a faces) (is a) (λ n virtual. virtual.0))
+
+-- the numbers of few blocks are below the most that there may be
+pub block_numbers-few : (g : GridParts) (numbers : List (Option ℕ)) (count : ℕ) → AreBlocksOf g numbers count → count ≤ most_blocks
+    → Each (IsBelow most_blocks) numbers
+block_numbers-few g numbers count are few =
+    each-weaker (IsBelow count) (IsBelow most_blocks) numbers below (room_numbers-below (grid_sizes g) (IsVirtual g) numbers count are)
+  where
+    below : (x : Option ℕ) → IsBelow count x → IsBelow most_blocks x
+    below None h = tt
+    below (Some k) h = omega (arith, h, few)

@@ -1,0 +1,6 @@
+-- The numbers so far.
+use Rattle.std.proofs.Common.{◌≡◌, take}
+use Rattle.blocks.proofs.grid_blocks.short_numbers.Given as goal
+
+abbrev pub invariant-loop-number : goal.invariant-loop-number
+invariant-loop-number l = l.short.items ≡ take l.number-index l.numbers
