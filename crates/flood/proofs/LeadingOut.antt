@@ -7,6 +7,7 @@ use Rattle.solid_model.specs.Cells.{cell_before}
 use Rattle.solid_model.specs.Chains.{Chain, Reaches}
 use Rattle.solid_model.specs.Rooms.{Sizes, is_within, Walls, Passes, LeadsOut}
 use Rattle.solid_model.proofs.Chains.{reaches-itself, reaches-step, reaches-step_then, reaches-map, reaches-map_within}
+use Rattle.solid_model.proofs.Passages.{passes-past_fewer}
 use Rattle.flood.specs.Ring.{OwnWalls}
 
 -- a cell outside leads out at once
@@ -53,15 +54,11 @@ module _ (sizes : Sizes) (wall : Walls) where
     leads_out-past_fewer sizes (OwnWalls sizes wall) wall (λ a m beside h. (beside, h)) n,
   )
 
-  -- a step passes where there are fewer walls
-  own_passes : (n m : Cell) → Passes wall n m → Passes (OwnWalls sizes wall) n m
-  own_passes n m (a, inl (e, no_wall)) = (a, inl (e, λ h. no_wall h.1))
-  own_passes n m (a, inr (e, no_wall)) = (a, inr (e, λ h. no_wall h.1))
-
-  -- and so does a chain
+  -- a chain passes where there are fewer walls
   pub passages-own : (n m : Cell) → Reaches (Passes wall) n m → Reaches (Passes (OwnWalls sizes wall)) n m
   passages-own = reaches-map (Passes wall) (Passes (OwnWalls sizes wall)) (λ n. n)
-      (λ n m step. reaches-step (Passes (OwnWalls sizes wall)) n m (own_passes n m step))
+      (λ n m step. reaches-step (Passes (OwnWalls sizes wall)) n m
+      (passes-past_fewer wall (OwnWalls sizes wall) (λ a o own. own.1) n m step))
 
   -- a chain past the box's own walls from a cell that doesn't lead out stays in the box, where it meets no others
   pub own-passages : (n m : Cell) → (LeadsOut sizes wall n → ⊥) → Reaches (Passes (OwnWalls sizes wall)) n m → Reaches (Passes wall) n m

@@ -1,5 +1,6 @@
 -- Chains of cells that cross no walls.
 use Rattle.std.proofs.Common.{inl, inr}
+use Rattle.solid_model.specs.declared.cell.Axis.{Axis}
 use Rattle.solid_model.specs.declared.cell.Cell.{Cell}
 use Rattle.solid_model.specs.Chains.{Reaches}
 use Rattle.solid_model.specs.Rooms.{Sizes, Walls, Passes, LeadsOut}
@@ -18,3 +19,8 @@ passages-back wall = reaches-back (Passes wall) (passes-back wall)
 pub passages-leads_out : (sizes : Sizes) (wall : Walls) (n m : Cell) → Reaches (Passes wall) n m → LeadsOut sizes wall n → LeadsOut sizes wall m
 passages-leads_out sizes wall n m chain (o, onward, out) =
     (o, reaches-onward (Passes wall) m n o (passages-back wall n m chain) onward, out)
+
+-- a step passes where there are fewer walls
+pub passes-past_fewer : (v w : Walls) → ((a : Axis) (n : Cell) → w a n → v a n) → (n m : Cell) → Passes v n m → Passes w n m
+passes-past_fewer v w fewer n m (a, inl (e, no_wall)) = (a, inl (e, λ h. no_wall (fewer a n h)))
+passes-past_fewer v w fewer n m (a, inr (e, no_wall)) = (a, inr (e, λ h. no_wall (fewer a m h)))

@@ -1,5 +1,5 @@
 -- The rooms of a box: of walls that stand in the same places, and their numbers.
-use Rattle.std.proofs.Common.{◌≡◌, ◌↔◌, inl, inr, ℕ, ◌<◌, List, get_or, Option, Some, None, IsTrue, ap, subst, ◌∙◌}
+use Rattle.std.proofs.Common.{◌≡◌, ◌↔◌, ℕ, ◌<◌, List, get_or, Option, Some, None, IsTrue, ap, subst, ◌∙◌}
 use Rattle.solid_model.specs.Blocks.{IsBelow}
 use Rattle.solid_model.specs.declared.cell.Axis.{Axis}
 use Rattle.solid_model.specs.declared.cell.Cell.{Cell}
@@ -10,12 +10,9 @@ use Rattle.solid_model.proofs.BoxPlaces.{cell_of_place, cell_of_place-within, ce
 use Rattle.solid_model.proofs.Chains.{same_chains}
 use Rattle.solid_model.proofs.ListPlaces.{member-place}
 use Rattle.solid_model.proofs.Lists.{each-from}
+use Rattle.solid_model.proofs.Passages.{passes-past_fewer}
 
--- what passes where walls stand passes where no others do
-passes-past_fewer : (v w : Walls) → ((a : Axis) (n : Cell) → w a n → v a n) → (n m : Cell) → Passes v n m → Passes w n m
-passes-past_fewer v w fewer n m (a, inl (e, no_wall)) = (a, inl (e, λ h. no_wall (fewer a n h)))
-passes-past_fewer v w fewer n m (a, inr (e, no_wall)) = (a, inr (e, λ h. no_wall (fewer a m h)))
-
+-- where a wall of v stands, one of w does, and the other way round
 module _ (sizes : Sizes) (v w : Walls) (same : (a : Axis) (n : Cell) → v a n ↔ w a n) where
   same_passages : (n m : Cell) → Reaches (Passes v) n m ↔ Reaches (Passes w) n m
   same_passages = same_chains (Passes v) (Passes w) (λ n m. (
@@ -50,6 +47,7 @@ room_numbers-below sizes wall numbers count are = each-from (IsBelow count) numb
     at p (cell_of_place-within sizes p (subst (λ c. p < c) are.listed p_in)) x
     (ap (λ q. get_or numbers q None) (cell_of_place-there sizes p) ∙ there None))
   where
-    at : (p : ℕ) → IsTrue (is_within sizes (cell_of_place sizes p)) → (x : Option ℕ) → number_at sizes numbers (cell_of_place sizes p) ≡ x → IsBelow count x
+    at : (p : ℕ) → IsTrue (is_within sizes (cell_of_place sizes p)) → (x : Option ℕ)
+        → number_at sizes numbers (cell_of_place sizes p) ≡ x → IsBelow count x
     at p within None e = tt
     at p within (Some k) e = are.below (cell_of_place sizes p) k within e
