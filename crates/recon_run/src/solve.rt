@@ -1,6 +1,6 @@
 //! From a file's bytes to the text that lists its solids.
 
-ghost use Rattle.std.specs.Prelude.{◌≤◌, length, IfOk, IsErrOf};
+ghost use Rattle.std.specs.Prelude.{◌≡◌, ◌≤◌, length, IfOk, IsErrOf};
 ghost use Rattle.recon_run.specs.declared.fault.FirstFault.{FirstFault};
 ghost use Rattle.recon_run.specs.declared.status.Found.TheVariants.{Whole};
 ghost use Rattle.recon_run.specs.Answers.{IsFirstFault, IsSolved};

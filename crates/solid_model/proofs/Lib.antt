@@ -31,7 +31,6 @@ pub mod Unions
 pub mod Corners
 pub mod ChosenSolids
 pub mod SolidsOfChoices
-pub mod OwnItems
 pub mod SomeGrid
 pub mod MaximalStretches
 pub mod RunStyles

@@ -1,5 +1,4 @@
--- Choices of items, each of which is some of the grid's cells.
-use Rattle.std.specs.List.{range_with_len}
+-- Choices of items, each of which is some of the grid's cells, as blocks are.
 use Rattle.std.specs.Prelude.{◌≡◌, ◌⊎◌, Bool, true, false, ℕ, List, [], ◌∷◌, length, map, slice_index_or, Option, Some, None}
 use Rattle.solid_model.specs.declared.cell.Cell.{Cell}
 use Rattle.solid_model.specs.declared.segment.Segment.{Segment}
@@ -29,10 +28,6 @@ is_chosen choice (Some item) = slice_index_or choice item false
 -- the grid cells that a choice fills, where each belongs to an item or to none
 abbrev pub cells_of_choice : List (Option ℕ) → List Bool → List Bool
 cells_of_choice items choice = map (is_chosen choice) items
-
--- each of n grid cells is an item of its own
-abbrev pub own_items : ℕ → List (Option ℕ)
-own_items n = map Some (range_with_len 0 n)
 
 -- the solid that a choice fills matches the drawing
 abbrev pub IsMatchingChoice : (Segment → Style) → Coordinates → List (Option ℕ) → List Bool → Type 0
