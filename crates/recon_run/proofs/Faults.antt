@@ -1,18 +1,17 @@
 -- When an input has a fault, and when it has none.
-use Rattle.std.proofs.Common.{◌≡◌, ◌⊎◌, refl, inl, inr, ℕ, ◌≤◌, ◌<◌, List, Option, length, Result, Ok, Err, sym, subst, ap, ◌∙◌, arith}
+use Rattle.std.proofs.Common.{◌≡◌, refl, inl, inr, ℕ, ◌≤◌, List, Option, length, Result, Ok, Err, sym, subst, ap, ◌∙◌, arith}
 use Rattle.dxf_entities.specs.Reading.{read_of}
 use Rattle.recon_run.specs.declared.fault.FirstFault.{FirstFault}
 use Rattle.recon_run.specs.declared.fault.FirstFault.TheVariants.{File, TooLarge}
-use Rattle.recon_run.specs.Answers.{HasEmptyView, HasFineAxis, HasManyBlocks, IsFaultAfter, IsFileFault, HasProblem, IsFirstFault, HasNoFault, ListsSolidsOf}
+use Rattle.recon_run.specs.Answers.{HasFineAxis, IsFaultAfter, IsFileFault, HasProblem, IsFirstFault, HasNoFault, ListsSolidsOf}
 use Rattle.recon_run.proofs.Grids.{one_too_fine, none_too_fine, one_grid, coordinates_from_grid}
 use Rattle.recon_run.proofs.Problems.{one_blocks, one_problem}
 use Rattle.solid_model.specs.declared.fault.Fault.{Fault}
 use Rattle.solid_model.specs.declared.fault.Fault.TheVariants.{EmptyView, TooFine, TooManyBlocks}
 use Rattle.solid_model.specs.declared.frame.View.{View}
 use Rattle.solid_model.specs.declared.frame.View.TheVariants.{Front, Top, Side}
-use Rattle.solid_model.specs.Blocks.{AreBlocksOf}
 use Rattle.solid_model.specs.Drawings.{drawing_of, IsShown, IsFirstEmptyView}
-use Rattle.solid_model.specs.Limits.{most_blocks, most_tried_blocks, most_file_bytes}
+use Rattle.solid_model.specs.Limits.{most_file_bytes}
 use Rattle.solid_model.specs.Line.{Line}
 use Rattle.solid_model.specs.Panels.{GridParts, coordinates_of, IsGridOf}
 
@@ -53,8 +52,8 @@ one_lines_fault ls f g (inr (inr p)) (inl q) = absurd (shown_not_empty ls q.0 p.
 one_lines_fault ls f g (inr (inl (shown, a, count, fine, is))) (inr (inl (shown_too, b, other, fine_too, is_too))) =
     let one = one_too_fine (drawing_of ls) a b count other fine fine_too in
     is ∙ (λ t. TooFine (one.0 t) (one.1 t)) ∙ sym is_too
-one_lines_fault ls f g (inr (inl p)) (inr (inr (shown, grid, is_grid, rest))) = absurd (not_fine ls grid is_grid f p)
-one_lines_fault ls f g (inr (inr (shown, grid, is_grid, rest))) (inr (inl q)) = absurd (not_fine ls grid is_grid g q)
+one_lines_fault ls f g (inr (inl p)) (inr (inr (shown, grid, is_grid, count, many, is))) = absurd (not_fine ls grid is_grid f p)
+one_lines_fault ls f g (inr (inr (shown, grid, is_grid, count, many, is))) (inr (inl q)) = absurd (not_fine ls grid is_grid g q)
 one_lines_fault ls f g (inr (inr (shown, grid, is_grid, count, (numbers, are, many), is))) (inr (inr (shown_too, other, is_other, count_too, (others, are_too, many_too), is_too))) =
     let same = one_grid (drawing_of ls) grid other is_grid is_other in
     is ∙ ap TooManyBlocks (one_blocks grid other same numbers others count count_too are are_too).1 ∙ sym is_too

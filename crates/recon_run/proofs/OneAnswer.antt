@@ -1,5 +1,6 @@
 -- Words and an input have at most one right answer.
 use Rattle.std.proofs.Common.{◌≡◌, refl, ℕ, List, length, map, Option, Some, sym, subst, ap, ◌∙◌}
+use Rattle.std.proofs.Math.Path.{transport}
 use Rattle.recon_run.specs.declared.status.Answer.{Answer}
 use Rattle.recon_run.specs.declared.status.Answer.TheVariants.{Solve, Usage}
 use Rattle.recon_run.specs.declared.status.Found.{Found}
@@ -24,7 +25,9 @@ one_listing t text other first second =
     let one = one_problem first.problem second.problem in
     let drawing = drawing_of second.problem.lines in
     let solids = one_list_of_solids drawing first.solids second.solids (subst (λ ls. AreSolidsOf (drawing_of ls) first.solids) one.lines first.all) second.all in
-    let filled = (λ t. AreSolidsOfChoices (coordinates_of (one.grid t)) (one.numbers_same t) (one.count_same t) first.choices (solids t)) in
+    let filled : AreSolidsOfChoices (coordinates_of first.grid) first.numbers first.count first.choices first.solids
+        ≡ AreSolidsOfChoices (coordinates_of second.grid) second.numbers second.count first.choices second.solids =
+    λ t. AreSolidsOfChoices (coordinates_of (one.grid t)) (one.numbers_same t) (one.count_same t) first.choices (solids t) in
     let choices = one_list_of_block_choices second.grid (λ a. (second.problem.grid.coordinates a).ordered) second.numbers second.count second.problem.blocks
     first.choices second.choices second.solids (transport filled first.filled) second.filled in
     first.told ∙ (λ t. block_text (one.count_same t) (choices t) (map (λ (s : List Cell). length s) (solids t))) ∙ sym second.told

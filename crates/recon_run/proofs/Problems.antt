@@ -5,7 +5,6 @@ use Rattle.recon_run.specs.Answers.{HasProblem}
 use Rattle.recon_run.proofs.Grids.{one_grid}
 use Rattle.solid_model.specs.Blocks.{AreBlocksOf}
 use Rattle.solid_model.specs.Drawings.{drawing_of}
-use Rattle.solid_model.specs.Line.{Line}
 use Rattle.solid_model.specs.Panels.{GridParts, IsGridOf}
 use Rattle.solid_model.specs.Runs.{IsDrawing}
 use Rattle.solid_model.specs.VirtualFaces.{IsVirtual}

@@ -1,5 +1,5 @@
 -- Words and an input never lack a right answer.
-use Rattle.std.proofs.Common.{◌≡◌, refl, inl, inr, ⊎_elim, Bool, true, false, ℕ, ◌+◌, ◌≤◌, List, [], length, drop, Option, Some, Result, Ok, Err, ℤ}
+use Rattle.std.proofs.Common.{◌≡◌, refl, inl, inr, ⊎_elim, true, false, ℕ, ◌+◌, ◌≤◌, List, [], length, drop, Option, Some, Result, Ok, Err, ℤ}
 use Rattle.std.proofs.lemmas.Bool.{cases_lt}
 use Rattle.dxf_entities.specs.Reading.{read_of}
 use Rattle.dxf_entities.proofs.KeptLines.{read_lines_are_kept}
@@ -64,13 +64,13 @@ along xs ys zs Z = zs
 abbrev grid_with : (Segment → Style) → List ℤ → List ℤ → List ℤ → GridParts
 grid_with drawing xs ys zs = record { xs = xs; ys = ys; zs = zs; panels = record { front = panel Front; top = panel Top; side = panel Side } }
   where
-    abbrev panel : View → PanelStyles
+    panel : View → PanelStyles
     panel v = record { level = grid_styles drawing (along xs ys zs) v false; upright = grid_styles drawing (along xs ys zs) v true }
 
 module _ (t : List ℕ) (short : length t ≤ most_file_bytes) (faultless : (fault : FirstFault) → IsFirstFault t fault → ⊥)
     (listless : (text : List ℕ) → ListsSolidsOf t text → ⊥) where
   module _ (ls : List Line) (reads : read_of t ≡ Ok ls) where
-    drawing : Segment → Style
+    abbrev drawing : Segment → Style
     drawing = drawing_of ls
 
     no_fault_after : (f : of_file.Fault) → IsFaultAfter (Ok ls) f → ⊥
