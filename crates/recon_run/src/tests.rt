@@ -1,5 +1,6 @@
 //! What no clause says: the very bytes that come out, that memory is found, and that the definitions
 //! mean what they say.
+mod counts;
 mod drawings;
 mod entities;
 mod files;

@@ -8,6 +8,8 @@
 //!     line S 0 0 1 0      the solid line (dashed: D) from a point to another one
 //!     rect S 0 0 1 1      the rectangle between two points: its lower, upper, left and right side
 //!     diagonal 3          so many unit squares on the diagonal from (0,0), each 1 off the next
+//!     lattice 2 3         the rectangle from (0,0) to (5,7), and in it so many dashed unit squares
+//!                         to the right and upwards, each 1 off the next and the border
 //!     cube                the strokes of the unit cube
 //!     blanks              16 blanks
 //!     9 * line S 0 0 1 0  a step so many times
@@ -83,6 +85,25 @@ fn push_diagonal(file: &mut String, view: View, count: u8) -> Result<(), AllocEr
     Ok(())
 }
 
+/// Adds a rectangle, and in it so many dashed unit squares to the right and upwards.
+fn push_lattice(file: &mut String, view: View, wide: u8, high: u8) -> Result<(), AllocError> {
+    let (width, height) = (2 * u16::from(wide) + 1, 2 * u16::from(high) + 1);
+    let outline = format!(in *file.allocator(); "S 0 0 {width} {height}")?;
+    push_rect(file, view, stroke_of(outline.as_str()))?;
+    for square in 0..u16::from(wide) * u16::from(high) {
+        let (right, up) = (2 * (square % u16::from(wide)) + 1, 2 * (square / u16::from(wide)) + 1);
+        let told = format!(in *file.allocator(); "D {right} {up} {} {}", right + 1, up + 1)?;
+        push_rect(file, view, stroke_of(told.as_str()))?;
+    }
+    Ok(())
+}
+
+/// The numbers of a lattice.
+fn lattice_of(told: &str) -> (u8, u8) {
+    let (wide, high) = told.split_once(' ').unwrap_or((told, ""));
+    (wide.parse().unwrap_or(0), high.parse().unwrap_or(0))
+}
+
 /// Does a step.
 fn take_step(file: &mut String, view: View, step: &str) -> Result<(), AllocError> {
     match step.split_once(' ') {
@@ -91,6 +112,10 @@ fn take_step(file: &mut String, view: View, step: &str) -> Result<(), AllocError
         Some(("line", rest)) => push_line(file, view, stroke_of(rest)),
         Some(("rect", rest)) => push_rect(file, view, stroke_of(rest)),
         Some(("diagonal", count)) => push_diagonal(file, view, count.parse().unwrap_or(0)),
+        Some(("lattice", told)) => {
+            let (wide, high) = lattice_of(told);
+            push_lattice(file, view, wide, high)
+        }
         Some((code, value)) => write!(file, "{code}\n{value}\n"),
     }
 }

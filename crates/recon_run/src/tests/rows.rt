@@ -2,7 +2,7 @@
 //!
 //! A table begins with a remark, which is a line after `-- `. Each other line is a remark too, a
 //! frame after `= `, or a row: what is told of a file, ` -> `, and the status and the text that are
-//! wanted, with `|` for the end of a line. The parts of what is told, `; ` between two of them, stand
+//! wanted, with `|` for the end of a line; ` .. ` in it stands for whatever is between. The parts of what is told, `; ` between two of them, stand
 //! for `#1`, `#2` and `#3` in the steps of the frame above. In the frame `text` what is told is the
 //! file itself, with `|` for the end of a line. Where a frame begins with `padded: ` or
 //! `padded CR LF: `, the codes of the file are right in three places.
@@ -46,13 +46,19 @@ fn told_file(alloc: Global, frame: &str, told: &str) -> Result<String, AllocErro
 /// The status and the text that are wanted.
 fn wanted_text(alloc: Global, told: &str) -> Result<String, AllocError> {
     let text = match told {
-        "unit cube" => "0 whole 1|solid 1 volume 1|box 0,0,0 1,1,1",
-        "three cubes" => {
-            "0 whole 1|solid 1 volume 3|box 0,0,0 1,1,1|box 1,0,0 2,1,1|box 0,1,0 1,2,1"
-        }
+        "unit cube" => "0 whole 1 blocks 1|solid 1 choice 1 volume 1",
+        "three cubes" => "0 whole 1 blocks 1|solid 1 choice 1 volume 3",
         text => text,
     };
     text.replace(alloc, "|", "\n")
+}
+
+/// Whether what was written, without its last line end, is what is wanted.
+fn is_wanted(wrote: &str, wanted: &str) -> bool {
+    match wanted.split_once(" .. ") {
+        Some((first, last)) => wrote.starts_with(first) && wrote.ends_with(last),
+        None => wrote == wanted,
+    }
 }
 
 /// Whether a row is right.
@@ -60,7 +66,10 @@ fn is_right(alloc: Global, frame: &str, row: &str) -> Result<bool, AllocError> {
     let (told, wanted) = row.rsplit_once(" -> ").unwrap_or((row, ""));
     let wrote = solve(alloc, told_file(alloc, frame, told)?)?;
     let wanted = wanted_text(alloc, wanted)?;
-    Ok(wrote.as_str().strip_suffix('\n') == Some(wanted.as_str()))
+    Ok(match wrote.as_str().strip_suffix('\n') {
+        Some(wrote) => is_wanted(wrote, wanted.as_str()),
+        None => false,
+    })
 }
 
 /// The first row of a table that isn't right; nothing where all are.

@@ -2,7 +2,8 @@
 
 use super::files::{file_of, layer_of};
 use super::runs::solve;
-use solid_model::View;
+use crate::problem_of;
+use solid_model::{Axis, Choice, Grid, PerAxis, Problem, View};
 use std::alloc::{AllocError, Global};
 use std::test::Fail;
 
@@ -76,53 +77,65 @@ fn moved(set: u8) -> u8 {
     }
 }
 
-/// The cells from one coordinate to another along an axis: those at 0, those at 1, or both.
-fn cells_between(low: &str, high: &str, at_0: u8, at_1: u8) -> u8 {
-    match (low, high) {
-        ("0", "1") => at_0,
-        ("1", "2") => at_1,
-        ("0", "2") => at_0 | at_1,
-        _ => 0,
-    }
-}
-
 /// The cells of a set along x, y and z: those at 0, and those at 1.
-const HALVES: [(u8, u8); 3] = [
-    (0b0101_0101, 0b1010_1010),
-    (0b0011_0011, 0b1100_1100),
-    (0b0000_1111, 0b1111_0000),
+const HALVES: [(Axis, u8, u8); 3] = [
+    (Axis::X, 0b0101_0101, 0b1010_1010),
+    (Axis::Y, 0b0011_0011, 0b1100_1100),
+    (Axis::Z, 0b0000_1111, 0b1111_0000),
 ];
 
-/// The cells of a box line, each of which has coordinates 0 or 1.
-fn cells_of(line: &str) -> u8 {
-    let (low, high) = line
-        .strip_prefix("box ")
-        .and_then(|corners| corners.split_once(' '))
-        .unwrap_or(("", ""));
-    let mut pairs = low.split(',').zip(high.split(','));
+/// The cells of a set that stand in a grid cell.
+fn cells_in(grid: &Grid, cell: PerAxis) -> u8 {
     let mut cells = 255;
-    for (at_0, at_1) in HALVES {
-        let (low, high) = pairs.next().unwrap_or(("", ""));
-        cells &= cells_between(low, high, at_0, at_1);
+    for (axis, at_0, at_1) in HALVES {
+        let low = grid.coordinates(axis).get(cell.along(axis)).copied();
+        let high = grid.coordinates(axis).get(cell.along(axis).saturating_add(1)).copied();
+        cells &= match (low, high) {
+            (Some(0), Some(1)) => at_0,
+            (Some(1), Some(2)) => at_1,
+            (Some(0), Some(2)) => at_0 | at_1,
+            _ => 0,
+        };
     }
     cells
 }
 
-/// The cells of a solid's box lines.
-fn listed_set(solid: &str) -> u8 {
-    let mut set = 0;
-    for line in solid.lines().skip(1) {
-        set |= cells_of(line);
+/// The set of cells that a choice of a problem's blocks fills.
+fn filled_set(alloc: Global, problem: &Problem, choice: &str) -> Result<u8, Fail> {
+    let mut full = Vec::new(alloc);
+    for block in choice.bytes() {
+        full.push(block == b'1')?;
     }
-    set
+    let choice = Choice::from_bools(alloc, full.as_slice())?;
+    let sizes = problem.grid().sizes();
+    let mut set = 0;
+    for (place, is_full) in problem.cells(alloc, &choice)?.iter().enumerate() {
+        if *is_full && place < sizes.count() {
+            set |= cells_in(problem.grid(), sizes.cell(place));
+        }
+    }
+    Ok(set)
+}
+
+/// Whether a line tells a solid of a set's cells, with its volume.
+fn tells(alloc: Global, problem: &Problem, line: &str, set: u8) -> Result<bool, Fail> {
+    let mut words = line.split(' ').skip(3);
+    let filled = filled_set(alloc, problem, words.next().unwrap_or(""))?;
+    let volume = format!(in alloc; "{}", set.count_ones())?;
+    Ok(filled == set && words.nth(1) == Some(volume.as_str()))
 }
 
 /// Whether a set is listed for its own drawing, with its volume.
-fn is_found(alloc: Global, set: u8) -> Result<bool, AllocError> {
-    let wrote = solve(alloc, drawn_file(alloc, set)?)?;
-    let volume = format!(in alloc; " volume {}\n", set.count_ones())?;
-    let mut solids = wrote.as_str().split("\nsolid ").skip(1);
-    Ok(solids.any(|solid| solid.contains(volume.as_str()) && listed_set(solid) == moved(set)))
+fn is_found(alloc: Global, set: u8) -> Result<bool, Fail> {
+    let file = drawn_file(alloc, set)?;
+    let problem = problem_of(alloc, Vec::from_slice(alloc, file.as_bytes())?)?;
+    let wrote = solve(alloc, file)?;
+    for line in wrote.as_str().lines().skip(1) {
+        if tells(alloc, &problem, line, moved(set))? {
+            return Ok(true);
+        }
+    }
+    Ok(false)
 }
 
 #[test]
