@@ -5,7 +5,7 @@ use dxf_entities::entities;
 use dxf_groups::Groups;
 use grid::grid_of;
 use pseudo_wire::wire_of;
-use solid_model::{Axis, FaceMap, Grid, PerAxis, Wire};
+use solid_model::{Axis, FaceMap, PerAxis, Wire};
 use std::alloc::Global;
 use std::test::Fail;
 use views::drawing;
@@ -30,17 +30,19 @@ lattice 2 2, rect S 6 6 9 9, rect D 7 7 8 8, rect S 10 10 11 11; \
     lattice 2 2, rect S 6 6 9 9, rect D 7 7 8 8, rect S 10 10 11 11; \
     lattice 2 2, rect S 6 6 9 9, rect D 7 7 8 8, rect S 10 10 11 11 -> 112 112 112 88 88 88";
 
-/// How many edges along an axis are pseudo edges, and how many faces across it are virtual.
-fn counted(grid: &Grid, wire: &Wire, faces: &FaceMap, axis: Axis) -> (u32, u32) {
-    let sizes = grid.sizes();
-    let points = PerAxis {
-        x: sizes.x + 1,
-        y: sizes.y + 1,
-        z: sizes.z + 1,
-    };
+/// More bytes than a row's file has.
+const MOST_BYTES: usize = 1_000_000;
+
+/// How many edges along an axis are pseudo edges, and how many faces across it are virtual: of those
+/// whose numbers are below 64, as all of a grid's are.
+fn counted(wire: &Wire, faces: &FaceMap, axis: Axis) -> (u32, u32) {
     let (mut edges, mut virtual_faces) = (0u32, 0u32);
-    for place in 0..points.count() {
-        let cell = points.cell(place);
+    for place in 0..262_144 {
+        let cell = PerAxis {
+            x: place % 64,
+            y: place / 64 % 64,
+            z: place / 4096,
+        };
         edges = edges.saturating_add(u32::from(wire.has(axis, cell)));
         virtual_faces = virtual_faces.saturating_add(u32::from(faces.has(axis, cell)));
     }
@@ -49,16 +51,17 @@ fn counted(grid: &Grid, wire: &Wire, faces: &FaceMap, axis: Axis) -> (u32, u32) 
 
 /// The counts of a file, as a row has them.
 fn counts(alloc: Global, file: String) -> Result<String, Fail> {
-    if file.len() > 1_000_000 {
-        return Err(Fail::from("the file is too long"));
+    let file = file.into_bytes();
+    if file.len() > MOST_BYTES {
+        return Ok(String::new(alloc));
     }
-    let lines = entities(alloc, &mut Groups::new(file.into_bytes()))?;
+    let lines = entities(alloc, &mut Groups::new(file))?;
     let grid = grid_of(alloc, &drawing(alloc, lines.as_slice())?)?;
     let wire = wire_of(alloc, &grid)?;
     let faces = faces_of(alloc, &grid, &wire)?;
-    let (x_edges, x_faces) = counted(&grid, &wire, &faces, Axis::X);
-    let (y_edges, y_faces) = counted(&grid, &wire, &faces, Axis::Y);
-    let (z_edges, z_faces) = counted(&grid, &wire, &faces, Axis::Z);
+    let (x_edges, x_faces) = counted(&wire, &faces, Axis::X);
+    let (y_edges, y_faces) = counted(&wire, &faces, Axis::Y);
+    let (z_edges, z_faces) = counted(&wire, &faces, Axis::Z);
     Ok(format!(in alloc; "{x_edges} {y_edges} {z_edges} {x_faces} {y_faces} {z_faces}")?)
 }
 
@@ -71,7 +74,9 @@ fn edges_and_faces_are_as_many_as_by_hand(rt: HostRuntime) -> Result<(), Fail> {
         let front = views.next().unwrap_or("");
         let top = views.next().unwrap_or("");
         let side = views.next().unwrap_or("");
-        let steps = format!(in alloc; "0 SECTION, 2 ENTITIES, FRONT, {front}, TOP, {top}, SIDE, {side}, 0 ENDSEC, 0 EOF")?;
+        let steps = format!(in alloc;
+            "0 SECTION, 2 ENTITIES, FRONT, {front}, TOP, {top}, SIDE, {side}, 0 ENDSEC, 0 EOF"
+        )?;
         let counts = counts(alloc, file_of(alloc, steps.as_str())?)?;
         assert_eq!(rt; counts.as_str(), wanted, "{row}");
     }

@@ -77,6 +77,9 @@ fn moved(set: u8) -> u8 {
     }
 }
 
+/// More bytes than a set's file has.
+const MOST_BYTES: usize = 1_000_000;
+
 /// The cells of a set along x, y and z: those at 0, and those at 1.
 const HALVES: [(Axis, u8, u8); 3] = [
     (Axis::X, 0b0101_0101, 0b1010_1010),
@@ -127,9 +130,12 @@ fn tells(alloc: Global, problem: &Problem, line: &str, set: u8) -> Result<bool, 
 
 /// Whether a set is listed for its own drawing, with its volume.
 fn is_found(alloc: Global, set: u8) -> Result<bool, Fail> {
-    let file = drawn_file(alloc, set)?;
-    let problem = problem_of(alloc, Vec::from_slice(alloc, file.as_bytes())?)?;
-    let wrote = solve(alloc, file)?;
+    let file = drawn_file(alloc, set)?.into_bytes();
+    if file.len() > MOST_BYTES {
+        return Ok(false);
+    }
+    let problem = problem_of(alloc, file)?;
+    let wrote = solve(alloc, drawn_file(alloc, set)?)?;
     for line in wrote.as_str().lines().skip(1) {
         if tells(alloc, &problem, line, moved(set))? {
             return Ok(true);
