@@ -6,7 +6,7 @@ use Rattle.solid_model.specs.Chains.{Reaches}
 use Rattle.solid_model.specs.Lists.{Member}
 use Rattle.solid_model.proofs.Chains.{reaches-itself, reaches-then_step, reaches-keeps}
 use Rattle.solid_model.proofs.Lists.{member-append_left, member-push_last, member-push}
-use Rattle.flood.specs.Marks.{no_mark, mark_of, IsMarked, AreClosed, Spreads, Floods}
+use Rattle.flood.specs.NodeMarks.{no_mark, mark_of, IsMarked, AreClosed, Spreads, Floods}
 use Rattle.flood.proofs.Spreading.{still_marked, spreads_one}
 
 module _ (step : ℕ → ℕ → Type 0) (start number : ℕ) (small : number < no_mark) (before : List ℕ) where

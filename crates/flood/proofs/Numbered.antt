@@ -5,7 +5,7 @@ use Rattle.std.proofs.lemmas.List.{get_or_default}
 use Rattle.solid_model.specs.Chains.{Reaches}
 use Rattle.solid_model.proofs.Chains.{reaches-onward, reaches-keeps, reaches-back_within}
 use Rattle.flood.specs.Graph.{GoesBack, component, AreComponents}
-use Rattle.flood.specs.Marks.{no_mark, mark_of, IsMarked, Floods, Numbers}
+use Rattle.flood.specs.NodeMarks.{no_mark, mark_of, IsMarked, Floods, Numbers}
 use Rattle.flood.proofs.Spreading.{marked_within, still_marked}
 use Rattle.flood.proofs.Flooding.{floods_closed, floods_there}
 

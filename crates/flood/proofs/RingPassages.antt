@@ -14,7 +14,7 @@ use Rattle.solid_model.proofs.BoxCells.{bounds-below, below-within}
 use Rattle.solid_model.proofs.InGrid.{placed_at}
 use Rattle.flood.specs.Graph.{GoesBack}
 use Rattle.flood.specs.Passages.{PassageParts, has_bar, LeadsBack, StepsAlong}
-use Rattle.flood.specs.Ring.{ringed, inner, outer, IsRinged, IsRingedNumber, ring_count, ring_place, ring_cell, ring_stride, OwnWalls, RingStep, touches_box, is_barred, ArePassages}
+use Rattle.flood.specs.Ring.{ringed, inner, outer, IsRinged, IsRingedNumber, ring_count, ring_place, ring_cell, ring_stride, OwnWalls, RingStep, touches_box, has_bar_before, ArePassages}
 use Rattle.flood.proofs.RingPlaces.{ring_cell-ringed, ring_place-ring_cell, ring_cell-ring_place, ring_place-before}
 
 -- steps go back
@@ -55,7 +55,7 @@ module _ (sizes : Sizes) (stands : Axis → Cell → Bool) (a : Axis) (n : Cell)
     not_first : coordinate a n ≡ negsuc 0 → ⊥
     no_wall : OwnWalls sizes (Standing stands) a n → ⊥
 
-  free-parts : is_barred sizes stands a n ≡ false → IsFree
+  free-parts : has_bar_before sizes stands a n ≡ false → IsFree
   free-parts free = record {
     not_first = λ first. by_first first;
     no_wall = λ wall. by_wall wall;
@@ -64,18 +64,18 @@ module _ (sizes : Sizes) (stands : Axis → Cell → Bool) (a : Axis) (n : Cell)
       by_first : coordinate a n ≡ negsuc 0 → ⊥
       by_first first =
           let same : int_eq (coordinate a n) (negsuc 0) ≡ true = ap (λ z. int_eq z (negsuc 0)) first in
-          both_ways (is_barred sizes stands a n) free (ap (λ (b : Bool). b || (touches_box sizes a n && stands a n)) same)
+          both_ways (has_bar_before sizes stands a n) free (ap (λ (b : Bool). b || (touches_box sizes a n && stands a n)) same)
 
       by_wall : OwnWalls sizes (Standing stands) a n → ⊥
-      by_wall wall = both_ways (is_barred sizes stands a n) free
+      by_wall wall = both_ways (has_bar_before sizes stands a n) free
           (or_right (int_eq (coordinate a n) (negsuc 0)) (touches_box sizes a n && stands a n) (and_from (touches_box sizes a n) (stands a n) wall.0 wall.1))
         where
           or_right : (b c : Bool) → c ≡ true → (b || c) ≡ true
           or_right true c e = refl
           or_right false c e = e
 
-  parts-free : IsFree → is_barred sizes stands a n ≡ false
-  parts-free free = false_from_ne_true (is_barred sizes stands a n) (λ barred. by (int_eq (coordinate a n) (negsuc 0)) (touches_box sizes a n) (stands a n) refl refl refl barred)
+  parts-free : IsFree → has_bar_before sizes stands a n ≡ false
+  parts-free free = false_from_ne_true (has_bar_before sizes stands a n) (λ barred. by (int_eq (coordinate a n) (negsuc 0)) (touches_box sizes a n) (stands a n) refl refl refl barred)
     where
       by : (first touches wall : Bool) → int_eq (coordinate a n) (negsuc 0) ≡ first → touches_box sizes a n ≡ touches → stands a n ≡ wall
           → (first || (touches && wall)) ≡ true → ⊥
@@ -197,16 +197,16 @@ inner-outer n = λ t. record { x = back n.x t; y = back n.y t; z = back n.z t }
 
 -- marks of the right bars are the right bars
 pub bars_marked : (sizes : Sizes) (stands : Axis → Cell → Bool) (bars : AxisMarks)
-    → ((a : Axis) → AreMarksOf (ringed sizes) (λ c. IsTrue (is_barred sizes stands a (inner c))) (marks_along a bars))
-    → (a : Axis) (n : Cell) → IsRinged sizes n → slice_index_or (marks_along a bars).values (ring_place sizes n) false ≡ is_barred sizes stands a n
+    → ((a : Axis) → AreMarksOf (ringed sizes) (λ c. IsTrue (has_bar_before sizes stands a (inner c))) (marks_along a bars))
+    → (a : Axis) (n : Cell) → IsRinged sizes n → slice_index_or (marks_along a bars).values (ring_place sizes n) false ≡ has_bar_before sizes stands a n
 bars_marked sizes stands bars are a n ring =
     let marks = marks_along a bars in
     let exact = (are a).exact (outer n) (outer-within sizes n ring) in
     let place : box_place (numbers_of marks.sizes) (outer n) ≡ ring_place sizes n = λ t. box_place (λ b. (are a).sized b t) (outer n) in
-    let barred : is_barred sizes stands a (inner (outer n)) ≡ is_barred sizes stands a n = ap (is_barred sizes stands a) (inner-outer n) in
+    let barred : has_bar_before sizes stands a (inner (outer n)) ≡ has_bar_before sizes stands a n = ap (has_bar_before sizes stands a) (inner-outer n) in
     let there = box_place (numbers_of marks.sizes) (outer n) in
     let ringed_box : is_within (numbers_of marks.sizes) (outer n) ≡ true = (λ t. is_within (λ b. (are a).sized b t) (outer n)) ∙ outer-within sizes n ring in
-    same_truth (slice_index_or marks.values (ring_place sizes n) false) (is_barred sizes stands a n)
+    same_truth (slice_index_or marks.values (ring_place sizes n) false) (has_bar_before sizes stands a n)
     (λ has. sym barred ∙ exact.0 (and_from (is_within (numbers_of marks.sizes) (outer n)) (slice_index_or marks.values there false) ringed_box
     (ap (λ p. slice_index_or marks.values p false) place ∙ has)))
     (λ is. ap (λ p. slice_index_or marks.values p false) (sym place)

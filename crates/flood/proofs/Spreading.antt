@@ -5,7 +5,7 @@ use Rattle.std.proofs.lemmas.List.{get_or-set_same, get_or-set_other, get_or_pas
 use Rattle.std.proofs.lemmas.Option.{same_Some}
 use Rattle.solid_model.specs.Lists.{Member}
 use Rattle.solid_model.proofs.Lists.{member-append_left, member-push_last, member-push}
-use Rattle.flood.specs.Marks.{no_mark, mark_of, IsMarked, Spreads}
+use Rattle.flood.specs.NodeMarks.{no_mark, mark_of, IsMarked, Spreads}
 
 -- a node that has a mark stands in the list
 pub marked_within : (marks : List ℕ) (a : ℕ) → IsMarked marks a → a < length marks

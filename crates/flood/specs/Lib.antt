@@ -1,4 +1,4 @@
 pub mod Graph
-pub mod Marks
+pub mod NodeMarks
 pub mod Passages
 pub mod Ring

@@ -70,14 +70,14 @@ room_of zero = None
 room_of (suc k) = Some k
 
 -- what bars the way back from a cell along an axis: nothing of the ring comes before it, or a wall of the box does
-abbrev pub is_barred : Sizes → (Axis → Cell → Bool) → Axis → Cell → Bool
-is_barred sizes stands a n = int_eq (coordinate a n) (negsuc 0) || (touches_box sizes a n && stands a n)
+abbrev pub has_bar_before : Sizes → (Axis → Cell → Bool) → Axis → Cell → Bool
+has_bar_before sizes stands a n = int_eq (coordinate a n) (negsuc 0) || (touches_box sizes a n && stands a n)
 
 -- the nodes of the ringed box with such bars before them
 pub record ArePassages (sizes : Sizes) (stands : Axis → Cell → Bool) (g : PassageParts) : Type 0 where
   pub count : g.count ≡ ring_count sizes
   pub strides : g.strides ≡ ring_stride sizes
-  pub bars : (a : Axis) (n : Cell) → IsRinged sizes n → has_bar g a (ring_place sizes n) ≡ is_barred sizes stands a n
+  pub bars : (a : Axis) (n : Cell) → IsRinged sizes n → has_bar g a (ring_place sizes n) ≡ has_bar_before sizes stands a n
 
 -- the numbers of the rooms of a box's cells, where each node of the ringed box is in a component
 pub record AreRoomNumbers (sizes : Sizes) (component : ℕ → ℕ) (rooms : List (Option ℕ)) : Type 0 where

@@ -1,7 +1,7 @@
 //! Which nodes a chain of steps leads to: a flood over a graph.
 
 ghost use Rattle.std.specs.Prelude.{◌≡◌, ◌↔◌, ◌≤◌, ◌++◌, [], ◌∷◌, ℕ, ◌+◌, ◌<◌, Some, false, IsTrue, length, map, slice_set, slice_index_or, vec_len, vec_capacity, IfSome, IfOk};
-ghost use Rattle.flood.specs.Marks.{no_mark, mark_of, is_marked, unmarked, AreClosed, Spreads, Floods};
+ghost use Rattle.flood.specs.NodeMarks.{no_mark, mark_of, is_mark, unmarked, AreClosed, Spreads, Floods};
 ghost use Rattle.solid_model.specs.Chains.{Reaches};
 
 use crate::graph::Graph;
@@ -92,7 +92,7 @@ pub fn flood<G: Graph>(
 fn tell(marks: &[u32], reached: &mut Vec<bool>)
     requires empty { vec_len reached.old ≡ 0 }
     requires room { length marks.now ≤ vec_capacity reached.old }
-    ensures { reached.new.items ≡ map is_marked marks.now }
+    ensures { reached.new.items ≡ map is_mark marks.now }
 {
     for mark in marks {
         reached.push_reserved(*mark < UNMARKED);
@@ -100,7 +100,7 @@ fn tell(marks: &[u32], reached: &mut Vec<bool>)
 }
 
 /// Which nodes a chain of steps leads to from a node, in time that grows with the nodes and their
-/// ways. Memory is taken once, at the beginning; an `Err` is want of it.
+/// ways. Memory is taken once, at the beginning; an `Err` is out of memory.
 pub fn reached<G: Graph>(alloc: Global, graph: &G, start: usize) -> Result<Vec<bool>, Memory>
     requires start { start < G.nodes graph.now }
     ensures { IfOk result (λ reached. (length reached.items ≡ G.nodes graph.now)

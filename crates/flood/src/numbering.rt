@@ -2,7 +2,7 @@
 
 ghost use Rattle.std.specs.Prelude.{◌≡◌, ◌≤◌, ◌-◌, ◌^◌, ◌<◌, length, vec_len, vec_capacity, replicate, IfOk};
 ghost use Rattle.flood.specs.Graph.{GoesBack, AreComponents};
-ghost use Rattle.flood.specs.Marks.{no_mark, Numbers};
+ghost use Rattle.flood.specs.NodeMarks.{no_mark, Numbers};
 
 use crate::flood::{UNMARKED, flood};
 use crate::graph::Graph;
@@ -38,7 +38,8 @@ fn number_nodes<G: Graph>(graph: &G, marks: &mut [u32], stack: &mut Vec<usize>) 
 }
 
 /// The components of a graph whose steps go back, numbered by their first nodes, in time that grows
-/// with the nodes and their ways. Memory is taken once, at the beginning; an `Err` is want of it.
+/// with the nodes and their ways. Memory is taken once, at the beginning; an `Err` is out of
+/// memory.
 pub fn components<G: Graph>(alloc: Global, graph: &G) -> Result<Numbering, Memory>
     requires back { GoesBack (G.nodes graph.now) (G.steps graph.now) }
     requires few { G.nodes graph.now < 2 ^ 32 - 1 }

@@ -2,7 +2,7 @@
 
 ghost use Rattle.std.specs.Prelude.{◌≡◌, ◌≤◌, None, false, IsTrue, IfSome, IfOk};
 ghost use Rattle.flood.specs.Passages.{parts_of};
-ghost use Rattle.flood.specs.Ring.{ringed, inner, outer, touches_box, is_barred, ArePassages};
+ghost use Rattle.flood.specs.Ring.{ringed, inner, outer, touches_box, has_bar_before, ArePassages};
 ghost use Rattle.solid_model.specs.declared.cell.Axis.{Axis};
 ghost use Rattle.solid_model.specs.Marks.{AreMarksOf};
 ghost use Rattle.solid_model.specs.PerAxis.{numbers_of, cell_of, AreFew};
@@ -72,7 +72,8 @@ struct BarsAlong<'a, W: Walls> {
 impl<W: Walls> CellTest for BarsAlong<'_, W> {
     ghost sizes = { λ s. ringed (W.sizes s.walls.now) };
 
-    ghost holds = { λ s c. is_barred (W.sizes s.walls.now) (W.stands s.walls.now) s.axis (inner c) };
+    ghost holds = { λ s c.
+        has_bar_before (W.sizes s.walls.now) (W.stands s.walls.now) s.axis (inner c) };
 
     fn sizes(&self) -> PerAxis {
         ringed(self.walls.sizes())
@@ -95,7 +96,8 @@ impl<W: Walls> CellTest for BarsAlong<'_, W> {
 /// The marks of what bars the way back along an axis.
 fn bars_along<W: Walls>(alloc: Global, walls: &W, axis: Axis) -> Result<Marks, Memory>
     ensures { IfOk result (λ bars. AreMarksOf (ringed (W.sizes walls.now))
-        (λ c. IsTrue (is_barred (W.sizes walls.now) (W.stands walls.now) axis (inner c))) bars) }
+        (λ c. IsTrue (has_bar_before (W.sizes walls.now) (W.stands walls.now) axis (inner c)))
+        bars) }
 {
     Marks::of(alloc, &BarsAlong { walls, axis })
 }

@@ -48,7 +48,8 @@ impl<W: Walls> CellTest for Reached<'_, W> {
     }
 }
 
-/// The cells of a box from which a chain of steps that pass no wall leads out of it.
+/// The cells of a box from which a chain of steps that pass no wall leads out of it, in time that
+/// grows with its cells. An `Err` is out of memory.
 pub fn leading_out<W: Walls>(alloc: Global, walls: &W) -> Result<Marks, Memory>
     ensures { IfOk result (λ marks. AreMarksOf (W.sizes walls.now)
         (LeadsOut (W.sizes walls.now) (λ a n. IsTrue (W.stands walls.now a n))) marks) }

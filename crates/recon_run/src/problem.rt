@@ -17,8 +17,8 @@ use std::alloc::Global;
 use views::drawing;
 use virtual_faces::faces_of;
 
-/// The grid and the blocks of a file's drawing, or the file's first fault. The file has at most
-/// 16,777,216 bytes.
+/// The grid and the blocks of a file's drawing, or the file's first fault; Memory comes when out of
+/// memory. The file has at most 16,777,216 bytes.
 pub fn problem_of(alloc: Global, file: Vec<u8>) -> Result<Problem, Refused>
     requires { length file.items ≤ most_file_bytes }
     ensures problem { IfOk result (λ problem. HasProblem file.items problem.grid

@@ -21,7 +21,7 @@ abbrev pub IsOutside : GridParts → Cell → Type 0
 IsOutside g = LeadsOut (grid_sizes g) (IsVirtual g)
 
 -- The blocks of a grid, so many: each grid cell has the number of its block, or none where it is outside. They are numbered
--- from 0 by their least cell.
+-- from 0 by their first cells.
 abbrev pub AreBlocksOf : GridParts → List (Option ℕ) → ℕ → Type 0
 AreBlocksOf g = AreRooms (grid_sizes g) (IsVirtual g)
 

@@ -22,7 +22,7 @@ is_below n (negsuc k) = false
 abbrev pub is_within : Sizes → Cell → Bool
 is_within sizes n = is_below (sizes X) n.x && (is_below (sizes Y) n.y && is_below (sizes Z) n.z)
 
--- the size, as a number of a list's places, of a number that isn't negative
+-- a number as the place of a list; 0 where it is negative
 abbrev pub place_of_number : ℤ → ℕ
 place_of_number (pos k) = k
 place_of_number (negsuc k) = 0
@@ -42,12 +42,12 @@ same_axis Y Y = true
 same_axis Z Z = true
 same_axis _ _ = false
 
--- The faces across an axis, of the cells of a box: one before each cell, and one behind the last of each row. That before the
--- cell n has the number of n.
+-- The faces across an axis, of the cells of a box: one before each cell, and one behind the last of each row. The face
+-- before the cell n has the number n too.
 abbrev pub face_sizes : Sizes → Axis → Sizes
 face_sizes sizes a b = if same_axis a b then suc (sizes b) else sizes b
 
--- The edges along an axis. That from the point n, the least corner of the cell n, has the number of n.
+-- The edges along an axis. The edge from the point n, the least corner of the cell n, has the number n too.
 abbrev pub edge_sizes : Sizes → Axis → Sizes
 edge_sizes sizes a b = if same_axis a b then sizes b else suc (sizes b)
 

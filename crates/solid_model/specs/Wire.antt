@@ -76,8 +76,8 @@ abbrev pub is_drawn_or_point : GridParts → Axis → Cell → View → Bool
 is_drawn_or_point g a n v = (not (same_axis (axis_along v false) a) || is_drawn_from g v false n)
     && (not (same_axis (axis_along v true) a) || is_drawn_from g v true n)
 
--- A pseudo edge: a grid edge, from the point n along an axis, whose projections aren't blank in both views that show it as a
--- segment, and whose ends are pseudo vertices. Beyond the box nothing is drawn, so there is none.
+-- A pseudo edge: a grid edge, from the point n along an axis, that is drawn in each of the two views that show it as a segment,
+-- and whose ends are pseudo vertices. Beyond the box nothing is drawn, so there is none.
 abbrev pub is_pseudo_edge : GridParts → Axis → Cell → Bool
 is_pseudo_edge g a n = (is_drawn_or_point g a n Front && (is_drawn_or_point g a n Top && is_drawn_or_point g a n Side))
     && (is_pseudo_vertex g n && is_pseudo_vertex g (cell_after a n))

@@ -68,8 +68,10 @@ impl Marks {
     {
         let sizes = test.sizes();
         let mut values = Vec::with_capacity(alloc, sizes.count())?;
+        let mut cell = PerAxis::FIRST;
         for place in 0..sizes.count() {
-            values.push(test.test(sizes.cell(place)))?;
+            cell = sizes.next_cell(cell, place);
+            values.push(test.test(cell))?;
         }
         Ok(Marks { sizes, values })
     }

@@ -1,6 +1,6 @@
 //! Numbers along the three axes.
 
-ghost use Rattle.std.specs.Prelude.{◌≡◌, ◌<◌, ◌≤◌, None, IsTrue, IfSome};
+ghost use Rattle.std.specs.Prelude.{◌≡◌, ◌<◌, ◌≤◌, ◌+◌, None, IsTrue, IfSome};
 ghost use Rattle.solid_model.specs.Cells.{cell_before, cell_after};
 ghost use Rattle.solid_model.specs.PerAxis.{numbers_of, cell_of, numbered, gaps_of, AreFew};
 ghost use Rattle.solid_model.specs.Rooms.{edge_sizes, face_sizes, is_within, box_count, box_place};
@@ -126,6 +126,24 @@ impl PerAxis {
             x: place % self.x,
             y: place / self.x % self.y,
             z: place / self.x / self.y,
+        }
+    }
+
+    /// The same, found from the cell at the place before, if there is one: mostly without a division.
+    pub fn next_cell(self, before: PerAxis, place: usize) -> PerAxis
+        requires place { place < box_count (numbers_of self) }
+        requires before { 0 < place → IsTrue (is_within (numbers_of self) (cell_of before))
+            × (place ≡ box_place (numbers_of self) (cell_of before) + 1) }
+        ensures place { place ≡ box_place (numbers_of self) (cell_of result) }
+        ensures within { IsTrue (is_within (numbers_of self) (cell_of result)) }
+    {
+        if place > 0 && before.x + 1 < self.x {
+            PerAxis {
+                x: before.x + 1,
+                ..before
+            }
+        } else {
+            self.cell(place)
         }
     }
 }

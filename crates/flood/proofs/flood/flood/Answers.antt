@@ -3,7 +3,7 @@ use Rattle.std.proofs.Common.{◌≡◌, ◌<◌, ◌==◌, [], length, ◌∙�
 use Rattle.std.proofs.lemmas.List.{nil_from_length}
 use Rattle.std.proofs.lemmas.List.Sums.{count_by-le-length}
 use Rattle.solid_model.proofs.Lists.{member-push_last}
-use Rattle.flood.specs.Marks.{no_mark}
+use Rattle.flood.specs.NodeMarks.{no_mark}
 use Rattle.flood.proofs.Spreading.{marked_within}
 use Rattle.flood.proofs.Flooding.{floods_begin, floods_more}
 use Rattle.flood.proofs.flood.flood.Goals as goal

@@ -1,6 +1,6 @@
 -- The flood so far. Each turn takes a node off the stack, and marks each that it puts there.
 use Rattle.std.proofs.Common.{◌≡◌, ◌≤◌, ◌+◌, vec_len, vec_capacity}
-use Rattle.flood.specs.Marks.{unmarked, Floods}
+use Rattle.flood.specs.NodeMarks.{unmarked, Floods}
 use Rattle.flood.proofs.flood.flood.Given as goal
 
 abbrev pub invariant-loop-node : goal.invariant-loop-node

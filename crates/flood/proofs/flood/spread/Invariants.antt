@@ -1,7 +1,7 @@
 -- What the ways so far lead to.
 use Rattle.std.proofs.Common.{◌≡◌, ◌+◌, vec_len, vec_capacity}
 use Rattle.flood.specs.Graph.{Leads}
-use Rattle.flood.specs.Marks.{unmarked, Spreads}
+use Rattle.flood.specs.NodeMarks.{unmarked, Spreads}
 use Rattle.flood.proofs.flood.spread.Given as goal
 
 abbrev pub invariant-loop-way : goal.invariant-loop-way

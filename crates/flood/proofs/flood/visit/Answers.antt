@@ -1,7 +1,7 @@
 -- The neighbour gets a mark.
 use Rattle.std.proofs.Common.{length, ◌≡◌, ◌<◌, ◌∙◌, rules}
 use Rattle.std.proofs.lemmas.List.{get_or_default}
-use Rattle.flood.specs.Marks.{no_mark, mark_of}
+use Rattle.flood.specs.NodeMarks.{no_mark, mark_of}
 use Rattle.flood.proofs.Spreading.{spreads_one}
 use Rattle.flood.proofs.flood.visit.Goals as goal
 

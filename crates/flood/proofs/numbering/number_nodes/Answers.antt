@@ -2,7 +2,7 @@
 use Rattle.std.proofs.Common.{◌≡◌, ◌<◌, ◌≤◌, length, vec_len, vec_capacity, ◌∙◌, sym, ap, subst, arith}
 use Rattle.std.proofs.lemmas.Grind.{common_steps}
 use Rattle.std.proofs.lemmas.List.{get_or_default}
-use Rattle.flood.specs.Marks.{no_mark, IsMarked, Numbers}
+use Rattle.flood.specs.NodeMarks.{no_mark, IsMarked, Numbers}
 use Rattle.flood.proofs.Numbered.{numbers_skip, numbers_more}
 use Rattle.flood.proofs.numbering.number_nodes.Goals as goal
 use Rattle.flood.proofs.numbering.number_nodes.Goals.{then-marks-node, else-marks-node}

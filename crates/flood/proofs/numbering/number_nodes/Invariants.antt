@@ -1,6 +1,6 @@
 -- The nodes so far.
 use Rattle.std.proofs.Common.{◌≡◌, ◌≤◌, vec_len, vec_capacity}
-use Rattle.flood.specs.Marks.{Numbers}
+use Rattle.flood.specs.NodeMarks.{Numbers}
 use Rattle.flood.proofs.numbering.number_nodes.Given as goal
 
 abbrev pub invariant-loop-node : goal.invariant-loop-node

@@ -8,7 +8,7 @@ use Rattle.solid_model.specs.Marks.{AreMarksOf}
 use Rattle.solid_model.specs.PerAxis.{numbers_of}
 use Rattle.solid_model.specs.Rooms.{Sizes, box_count}
 use Rattle.solid_model.proofs.MarkedCells.{marks_by_axis}
-use Rattle.flood.specs.Ring.{ringed, inner, ring_stride, is_barred}
+use Rattle.flood.specs.Ring.{ringed, inner, ring_stride, has_bar_before}
 use Rattle.flood.proofs.RingPassages.{bars_marked}
 use Rattle.flood.proofs.ring.passages.Goals as goal
 
@@ -20,7 +20,7 @@ pub returns : goal.returns
 returns g c = record {
   count = c.count.ensures ∙ ap box_count ring;
   strides = λ t a. by a t;
-  bars = bars_marked sizes stands _ (marks_by_axis (λ a marks. AreMarksOf (ringed sizes) (λ n. IsTrue (is_barred sizes stands a (inner n))) marks) _ _ _ _ refl
+  bars = bars_marked sizes stands _ (marks_by_axis (λ a marks. AreMarksOf (ringed sizes) (λ n. IsTrue (has_bar_before sizes stands a (inner n))) marks) _ _ _ _ refl
       c.in_ok-bars_along.ensures c.in_ok-bars_along-2.ensures c.in_ok-bars_along-3.ensures);
 }
   where

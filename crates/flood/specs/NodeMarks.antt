@@ -17,8 +17,8 @@ abbrev pub IsMarked : List ℕ → ℕ → Type 0
 IsMarked marks a = mark_of marks a < no_mark
 
 -- this is a mark
-abbrev pub is_marked : ℕ → Bool
-is_marked mark = nat_lt mark no_mark
+abbrev pub is_mark : ℕ → Bool
+is_mark mark = nat_lt mark no_mark
 
 -- how many nodes have none
 abbrev pub unmarked : List ℕ → ℕ
