@@ -1,7 +1,9 @@
-"""The two files that are measured: one of which nearly all is passed over, and one of which all is kept."""
+"""The files that are measured: one of which nearly all is passed over, one of which all lines are kept, and three drawings
+whose grids are fine."""
 
 MOST_BYTES = 16_777_216
 MOST_LINES = 100_000
+VIEWS = ("FRONT", "TOP", "SIDE")
 
 
 def pairs(*members):
@@ -9,18 +11,18 @@ def pairs(*members):
     return "".join(f"{code:>3}\n{value}\n" for code, value in members)
 
 
-def line(layer, x0, y0, x1, y1, handle="A0"):
+def line(layer, x0, y0, x1, y1, handle="A0", linetype=None):
     """A LINE entity, with the marks that a drafting tool writes."""
     return pairs(
-        (0, "LINE"), (5, handle), (330, "1F"), (100, "AcDbEntity"), (8, layer), (100, "AcDbLine"),
-        (10, f"{x0}.0"), (20, f"{y0}.0"), (30, "0.0"), (11, f"{x1}.0"), (21, f"{y1}.0"), (31, "0.0"),
+        (0, "LINE"), (5, handle), (330, "1F"), (100, "AcDbEntity"), (8, layer), *([(6, linetype)] if linetype else []),
+        (100, "AcDbLine"), (10, f"{x0}.0"), (20, f"{y0}.0"), (30, "0.0"), (11, f"{x1}.0"), (21, f"{y1}.0"), (31, "0.0"),
     )
 
 
-def square(layer):
-    """The four sides of a unit square."""
-    sides = [(0, 0, 1, 0), (0, 1, 1, 1), (0, 0, 0, 1), (1, 0, 1, 1)]
-    return "".join(line(layer, *side) for side in sides)
+def rectangle(layer, x0, y0, x1, y1, linetype=None):
+    """The four sides of a rectangle."""
+    sides = [(x0, y0, x1, y0), (x0, y1, x1, y1), (x0, y0, x0, y1), (x1, y0, x1, y1)]
+    return "".join(line(layer, *side, linetype=linetype) for side in sides)
 
 
 def section(name, text):
@@ -46,7 +48,7 @@ def passed_over():
     """A file of the greatest size: sections, layers and entities that are passed over, and the unit cube."""
     header = section("HEADER", "".join(pairs((9, f"$VARIABLE{n}"), (40, f"{n}.5")) for n in range(100_000)))
     table = section("TABLES", pairs((0, "TABLE"), (2, "LAYER")) + "".join(layer(f"LAYER{n}") for n in range(20_000)) + pairs((0, "ENDTAB")))
-    cube = "".join(square(name) for name in ("FRONT", "TOP", "SIDE"))
+    cube = "".join(rectangle(name, 0, 0, 1, 1) for name in VIEWS)
     ends = pairs((0, "SECTION"), (2, "ENTITIES")) + cube + pairs((0, "ENDSEC"), (0, "EOF"))
     room = MOST_BYTES - len(header) - len(table) - len(ends)
     entities = []
@@ -66,7 +68,7 @@ def kept():
     """As many lines as are kept, spread over the three views, level and upright, in no order; their box is too large."""
     lines = []
     for number in range(MOST_LINES):
-        name = ("FRONT", "TOP", "SIDE")[number % 3]
+        name = VIEWS[number % 3]
         at = number * 7_919 % 99_991
         start = number * 104_729 % 1_000_003
         stop = start + 1 + number % 17
@@ -74,3 +76,45 @@ def kept():
         # A handle isn't 0.
         lines.append(line(name, *ends, f"{number + 1:X}"))
     return section("ENTITIES", "".join(lines)) + pairs((0, "EOF"))
+
+
+def drawing(*views):
+    """A file whose views these are."""
+    return section("ENTITIES", "".join(views)) + pairs((0, "EOF"))
+
+
+def lattice(across, deep, high):
+    """A box with so many voids in a row along each axis, unit cubes 1 off each other and off the box's faces. Those behind one
+    another share a dashed square. Each void is a block, and so is what is left of the box."""
+
+    def view(name, right, up):
+        squares = (
+            rectangle(name, 2 * i + 1, 2 * k + 1, 2 * i + 2, 2 * k + 2, "DASHED") for k in range(up) for i in range(right)
+        )
+        return rectangle(name, 0, 0, 2 * right + 1, 2 * up + 1) + "".join(squares)
+
+    return drawing(view("FRONT", across, high), view("TOP", across, deep), view("SIDE", deep, high))
+
+
+def diagonal(cubes):
+    """So many unit cubes on the diagonal of space, each 1 off the next."""
+
+    def view(name):
+        return "".join(rectangle(name, 2 * i, 2 * i, 2 * i + 1, 2 * i + 1) for i in range(cubes))
+
+    return drawing(*map(view, VIEWS))
+
+
+def one_box(side):
+    """The outline of a cube in each view, two sides of which are solid and dashed by turns, unit by unit: each of them is a
+    grid coordinate, while no edges are drawn but the cube's. No solid has these views, and the cube is the one block."""
+
+    def units(name, i):
+        linetype = "DASHED" if i % 2 else None
+        return line(name, i, 0, i + 1, 0, linetype=linetype) + line(name, 0, i, 0, i + 1, linetype=linetype)
+
+    def view(name):
+        sides = line(name, 0, side, side, side) + line(name, side, 0, side, side)
+        return "".join(units(name, i) for i in range(side)) + sides
+
+    return drawing(*map(view, VIEWS))
