@@ -26,7 +26,7 @@ one_listing t text other first second =
     let drawing = drawing_of second.problem.lines in
     let solids = one_list_of_solids drawing first.solids second.solids (subst (λ ls. AreSolidsOf (drawing_of ls) first.solids) one.lines first.all) second.all in
     let filled : AreSolidsOfChoices (coordinates_of first.grid) first.numbers first.count first.choices first.solids
-        ≡ AreSolidsOfChoices (coordinates_of second.grid) second.numbers second.count first.choices second.solids =
+    ≡ AreSolidsOfChoices (coordinates_of second.grid) second.numbers second.count first.choices second.solids =
     λ t. AreSolidsOfChoices (coordinates_of (one.grid t)) (one.numbers_same t) (one.count_same t) first.choices (solids t) in
     let choices = one_list_of_block_choices second.grid (λ a. (second.problem.grid.coordinates a).ordered) second.numbers second.count second.problem.blocks
     first.choices second.choices second.solids (transport filled first.filled) second.filled in

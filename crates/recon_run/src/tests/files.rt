@@ -91,7 +91,10 @@ fn push_lattice(file: &mut String, view: View, wide: u8, high: u8) -> Result<(),
     let outline = format!(in *file.allocator(); "S 0 0 {width} {height}")?;
     push_rect(file, view, stroke_of(outline.as_str()))?;
     for square in 0..u16::from(wide) * u16::from(high) {
-        let (right, up) = (2 * (square % u16::from(wide)) + 1, 2 * (square / u16::from(wide)) + 1);
+        let (right, up) = (
+            2 * (square % u16::from(wide)) + 1,
+            2 * (square / u16::from(wide)) + 1,
+        );
         let told = format!(in *file.allocator(); "D {right} {up} {} {}", right + 1, up + 1)?;
         push_rect(file, view, stroke_of(told.as_str()))?;
     }

@@ -92,7 +92,10 @@ fn cells_in(grid: &Grid, cell: PerAxis) -> u8 {
     let mut cells = 255;
     for (axis, at_0, at_1) in HALVES {
         let low = grid.coordinates(axis).get(cell.along(axis)).copied();
-        let high = grid.coordinates(axis).get(cell.along(axis).saturating_add(1)).copied();
+        let high = grid
+            .coordinates(axis)
+            .get(cell.along(axis).saturating_add(1))
+            .copied();
         cells &= match (low, high) {
             (Some(0), Some(1)) => at_0,
             (Some(1), Some(2)) => at_1,
