@@ -1,5 +1,5 @@
-"""The files that are measured: one of which nearly all is passed over, one of which all lines are kept, and three drawings
-whose grids are fine."""
+"""The files that are measured: one of which nearly all is passed over, one of which all lines are kept, three drawings whose
+grids are fine, and one of which much is searched."""
 
 MOST_BYTES = 16_777_216
 MOST_LINES = 100_000
@@ -116,5 +116,18 @@ def one_box(side):
     def view(name):
         sides = line(name, 0, side, side, side) + line(name, side, 0, side, side)
         return "".join(units(name, i) for i in range(side)) + sides
+
+    return drawing(*map(view, VIEWS))
+
+
+def twice_eight_voids():
+    """Two cubes of 5 on the diagonal of space, 1 off each other, each with eight voids: the solids of one with those of the
+    other."""
+
+    def view(name):
+        squares = (
+            rectangle(name, at + i, at + k, at + i + 1, at + k + 1, "DASHED") for at in (0, 6) for k in (1, 3) for i in (1, 3)
+        )
+        return "".join(rectangle(name, at, at, at + 5, at + 5) for at in (0, 6)) + "".join(squares)
 
     return drawing(*map(view, VIEWS))

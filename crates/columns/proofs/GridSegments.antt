@@ -101,7 +101,7 @@ module _ (coordinates : Coordinates) (ordered : (a : Axis) → Ascends ◌<ℤ�
       (pos (c - (g + 1)), (omega (arith, at.within), subst (λ m. is_in_gap (coordinates a) m (neg_ℤ k -ℤ pos 1) ≡ true) (sym again) e))
 
 -- an empty column has no full depth
-empty_bits : (k : ℤ) → bits 0 k ≡ false
+pub empty_bits : (k : ℤ) → bits 0 k ≡ false
 empty_bits (pos k) = ap (λ b. b == 1) (bit_at-zero k)
 empty_bits (negsuc k) = refl
 

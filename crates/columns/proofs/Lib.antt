@@ -1,4 +1,6 @@
 pub mod FirstBits
+pub mod KnownColumns
+pub mod KnownBits
 pub mod GridColumns
 pub mod Stretched
 pub mod GridSegments

@@ -1,3 +1,4 @@
 pub mod Bits
 pub mod GridColumns
 pub mod GridPanels
+pub mod Known

@@ -4,9 +4,12 @@
 mod column;
 mod draw;
 mod grid_columns;
+mod known;
 mod segment_styles;
 #[cfg(test)]
 mod tests;
 
 pub use column::{Column, style_of};
 pub use draw::{ColumnSet, columns_of, draw_cells};
+pub use grid_columns::cell_in;
+pub use known::{KnownColumn, can_draw};

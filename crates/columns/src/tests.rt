@@ -1,12 +1,14 @@
-//! Drawings of grid cells that were worked out by hand.
+//! Drawings of grid cells, and what is known of columns, that were worked out by hand.
 
 ghost use Rattle.std.specs.Prelude.{◌≤◌};
 ghost use Rattle.solid_model.specs.declared.cell.Axis.{Axis};
 ghost use Rattle.solid_model.specs.Limits.{most_grid_coordinates};
 ghost use Rattle.solid_model.specs.PerAxis.{numbers_of};
+ghost use Rattle.columns.specs.Known.{LiesWithin};
 
 use crate::column::{Column, style_of};
 use crate::draw::{columns_in, draw_in};
+use crate::known::{KnownColumn, can_draw};
 use solid_model::{PerAxis, Style, View};
 use std::alloc::Global;
 use std::fmt::Write;
@@ -23,6 +25,22 @@ const DRAWINGS: &str = "\
 3 2 2 3 1 0 0 0 2 0 0 3; ### .## ### ..# ..#; ##.. #-.. .### #.##;
 132||;; .;;; ..; 0 0; .. ..; . . .;
 111||;;;;;;;;;";
+
+/// A row a pair of columns: what is known of the two, from the nearest cell on, with `#` for a cell that is full, `.` for an
+/// empty one and `?` for one that is free; and the styles that they can draw, of Blank, Dashed and Solid.
+const KNOWN: &str = "\
+#. #. B--
+#. .. --S
+## #. -D-
+?? ?? BDS
+#? #. BD-
+? ? B-S
+.#? ??. BDS
+#.?? ..?? --S
+#? #? BD-
+?# ?# B-S
+?#. #.. -DS
+.. .. B--";
 
 /// The number of coordinates that a digit stands for.
 fn count(digit: Option<u8>) -> usize
@@ -105,6 +123,67 @@ fn chosen_cells_draw_what_was_found_by_hand(rt: HostRuntime) -> Result<(), Fail>
         let counts = counts(parts.next().ok_or("numbers")?);
         let cells = cells(alloc, parts.next().ok_or("cells")?)?;
         let told = told(alloc, counts, cells.as_slice())?;
+        assert_eq!(rt; Some(told.as_str()), parts.next(), "{row}");
+    }
+    Ok(())
+}
+
+/// The depths at which a text has one of two marks.
+fn depths(text: &str, mark: u8, other: u8) -> u64 {
+    let mut depths: u64 = 0;
+    let mut depth: u64 = 1;
+    for byte in text.bytes() {
+        if byte == mark || byte == other {
+            depths |= depth;
+        }
+        depth <<= 1;
+    }
+    depths
+}
+
+/// What a text says of a column.
+fn known(text: &str) -> KnownColumn
+    ensures { LiesWithin result.full result.may }
+{
+    let may = depths(text, b'#', b'?');
+    KnownColumn {
+        full: depths(text, b'#', b'#') & may,
+        may,
+    }
+}
+
+/// The styles that two columns can draw, as a row has them.
+fn drawable(alloc: Global, after: KnownColumn, before: KnownColumn) -> Result<String, Fail>
+    requires after { LiesWithin after.full after.may }
+    requires before { LiesWithin before.full before.may }
+{
+    let mut told = String::new(alloc);
+    told.push_str(if can_draw(Style::Blank, after, before) {
+        "B"
+    } else {
+        "-"
+    })?;
+    told.push_str(if can_draw(Style::Dashed, after, before) {
+        "D"
+    } else {
+        "-"
+    })?;
+    told.push_str(if can_draw(Style::Solid, after, before) {
+        "S"
+    } else {
+        "-"
+    })?;
+    Ok(told)
+}
+
+#[test]
+fn known_columns_can_draw_what_was_found_by_hand(rt: HostRuntime) -> Result<(), Fail> {
+    let alloc = rt.alloc();
+    for row in KNOWN.lines() {
+        let mut parts = row.split(' ');
+        let after = known(parts.next().ok_or("after")?);
+        let before = known(parts.next().ok_or("before")?);
+        let told = drawable(alloc, after, before)?;
         assert_eq!(rt; Some(told.as_str()), parts.next(), "{row}");
     }
     Ok(())

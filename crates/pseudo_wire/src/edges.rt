@@ -14,7 +14,7 @@ fn is_drawn_from(grid: &Grid, view: View, upright: bool, point: PerAxis) -> bool
     let frame = view.frame();
     let line = point.along(frame.across(upright).axis);
     let cell = point.along(frame.along(upright).axis);
-    grid.style(view, upright, line, cell) != Style::Blank
+    grid.style_at(view, upright, line, cell) != Style::Blank
 }
 
 /// The point's projection is an end of such a segment.

@@ -1,15 +1,14 @@
 -- When an input has a fault, and when it has none.
-use Rattle.std.proofs.Common.{◌≡◌, refl, inl, inr, ℕ, ◌≤◌, List, Option, length, Result, Ok, Err, sym, subst, ap, ◌∙◌, arith}
+use Rattle.std.proofs.Common.{◌≡◌, refl, inl, inr, ℕ, ◌≤◌, List, length, Result, Ok, Err, sym, subst, ap, ◌∙◌, arith}
 use Rattle.dxf_entities.specs.Reading.{read_of}
-use Rattle.recon_run.specs.declared.fault.FirstFault.{FirstFault}
-use Rattle.recon_run.specs.declared.fault.FirstFault.TheVariants.{File, TooLarge}
-use Rattle.recon_run.specs.Answers.{HasFineAxis, IsFaultAfter, IsFileFault, HasProblem, IsFirstFault, HasNoFault, ListsSolidsOf}
+use Rattle.recon_run.specs.Answers.{HasFineAxis, IsFaultAfter, IsFileFault, HasNoFault, HasProblem}
 use Rattle.recon_run.proofs.Grids.{one_too_fine, none_too_fine, one_grid, coordinates_from_grid}
-use Rattle.recon_run.proofs.Problems.{one_blocks, one_problem}
+use Rattle.recon_run.proofs.Problems.{one_block_count}
 use Rattle.solid_model.specs.declared.fault.Fault.{Fault}
 use Rattle.solid_model.specs.declared.fault.Fault.TheVariants.{EmptyView, TooFine, TooManyBlocks}
 use Rattle.solid_model.specs.declared.frame.View.{View}
 use Rattle.solid_model.specs.declared.frame.View.TheVariants.{Front, Top, Side}
+use Rattle.solid_model.specs.Blocks.{ProblemParts}
 use Rattle.solid_model.specs.Drawings.{drawing_of, IsShown, IsFirstEmptyView}
 use Rattle.solid_model.specs.Limits.{most_file_bytes}
 use Rattle.solid_model.specs.Line.{Line}
@@ -56,46 +55,33 @@ one_lines_fault ls f g (inr (inl p)) (inr (inr (shown, grid, is_grid, count, man
 one_lines_fault ls f g (inr (inr (shown, grid, is_grid, count, many, is))) (inr (inl q)) = absurd (not_fine ls grid is_grid g q)
 one_lines_fault ls f g (inr (inr (shown, grid, is_grid, count, (numbers, are, many), is))) (inr (inr (shown_too, other, is_other, count_too, (others, are_too, many_too), is_too))) =
     let same = one_grid (drawing_of ls) grid other is_grid is_other in
-    is ∙ ap TooManyBlocks (one_blocks grid other same numbers others count count_too are are_too).1 ∙ sym is_too
+    is ∙ ap TooManyBlocks (one_block_count grid other same numbers others count count_too are are_too).1 ∙ sym is_too
 
 -- the fault of what a file reads as is one
 one_fault_after : (r : Result (List Line) Fault) (f g : Fault) → IsFaultAfter r f → IsFaultAfter r g → f ≡ g
 one_fault_after (Err found) f g p q = p ∙ sym q
 one_fault_after (Ok ls) f g p q = one_lines_fault ls f g p q
 
--- a file has at most one first fault
-one_file_fault : (t : List ℕ) (f g : Fault) → IsFileFault t f → IsFileFault t g → f ≡ g
-one_file_fault t f g (inl p) (inl q) = p.1 ∙ sym q.1
-one_file_fault t f g (inl p) (inr q) = absurd (omega (arith, p.0, q.0))
-one_file_fault t f g (inr p) (inl q) = absurd (omega (arith, p.0, q.0))
-one_file_fault t f g (inr p) (inr q) = one_fault_after (read_of t) f g p.1 q.1
+-- an input has at most one first fault
+pub one_fault : (t : List ℕ) (f g : Fault) → IsFileFault t f → IsFileFault t g → f ≡ g
+one_fault t f g (inl p) (inl q) = p.1 ∙ sym q.1
+one_fault t f g (inl p) (inr q) = absurd (omega (arith, p.0, q.0))
+one_fault t f g (inr p) (inl q) = absurd (omega (arith, p.0, q.0))
+one_fault t f g (inr p) (inr q) = one_fault_after (read_of t) f g p.1 q.1
 
 -- a file that isn't too long has the fault of what it reads as
 pub file_fault : (t : List ℕ) (r : Result (List Line) Fault) (f : Fault) → length t ≤ most_file_bytes → read_of t ≡ r → IsFaultAfter r f → IsFileFault t f
 file_fault t r f short reads after = inr (short, subst (λ r. IsFaultAfter r f) (sym reads) after)
 
--- a file with a problem has no fault
-pub no_file_fault : {t : List ℕ} {g : GridParts} {numbers : List (Option ℕ)} {count : ℕ} → HasProblem t g numbers count → (f : Fault) → IsFileFault t f → ⊥
-no_file_fault has f (inl long) = let short = has.short in absurd (omega (arith, long.0))
-no_file_fault {t} {g} {numbers} {count} has f (inr read) = by (subst (λ r. IsFaultAfter r f) has.reads read.1)
+-- an input with a problem has no fault
+pub no_fault : {t : List ℕ} {p : ProblemParts} → HasProblem t p → HasNoFault t
+no_fault has f (inl long) = let short = has.short in absurd (omega (arith, long.0))
+no_fault {t} {p} has f (inr read) = by (subst (λ r. IsFaultAfter r f) has.reads read.1)
   where
     by : LinesFault has.lines f → ⊥
     by (inl empty) = shown_not_empty has.lines empty.0 has.shown empty.1
-    by (inr (inl fine)) = not_fine has.lines g has.grid f fine
+    by (inr (inl fine)) = not_fine has.lines p.grid has.grid f fine
     by (inr (inr (shown, other, is_other, many, (others, are, above), is))) =
-        let same = one_grid (drawing_of has.lines) other g is_other has.grid in
-        let counted = (one_blocks other g same others numbers many count are has.blocks).1 in
+        let same = one_grid (drawing_of has.lines) other p.grid is_other has.grid in
+        let counted = (one_block_count other p.grid same others p.blocks.numbers many p.blocks.count are has.blocks.blocks).1 in
         let few = has.few in omega (arith, above)
-
--- an input has at most one first fault
-pub one_fault : (t : List ℕ) (a b : FirstFault) → IsFirstFault t a → IsFirstFault t b → a ≡ b
-one_fault t (File f) (File g) p q = ap File (one_file_fault t f g p q)
-one_fault t (File f) TooLarge p (g, numbers, count, has, large) = absurd (no_file_fault has f p)
-one_fault t TooLarge (File f) (g, numbers, count, has, large) q = absurd (no_file_fault has f q)
-one_fault t TooLarge TooLarge p q = refl
-
--- an input whose solids can be listed has no fault
-pub no_fault : (t text : List ℕ) → ListsSolidsOf t text → HasNoFault t
-no_fault t text listed (File f) is = no_file_fault listed.problem f is
-no_fault t text listed TooLarge (g, numbers, count, has, large) =
-    let same = (one_problem has listed.problem).count_same in let small = listed.small in omega (arith, large)

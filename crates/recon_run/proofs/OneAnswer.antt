@@ -1,53 +1,89 @@
--- Words and an input have at most one right answer.
-use Rattle.std.proofs.Common.{◌≡◌, refl, ℕ, List, length, map, Option, Some, sym, subst, ap, ◌∙◌}
+-- Words and an input have at most one right answer, up to the cuts.
+use Rattle.std.proofs.Common.{◌≡◌, ◌⊎◌, inl, inr, refl, ℕ, List, length, map, Option, Some, sym, subst, ap, ◌∙◌, arith}
 use Rattle.std.proofs.Math.Path.{transport}
 use Rattle.recon_run.specs.declared.status.Answer.{Answer}
 use Rattle.recon_run.specs.declared.status.Answer.TheVariants.{Solve, Usage}
 use Rattle.recon_run.specs.declared.status.Found.{Found}
-use Rattle.recon_run.specs.declared.status.Found.TheVariants.{Whole, Fault}
-use Rattle.recon_run.specs.Answers.{IsSolved, ListsSolidsOf}
-use Rattle.recon_run.specs.Endings.{Answers}
+use Rattle.recon_run.specs.declared.status.Found.TheVariants.{Ended, Faulty}
+use Rattle.recon_run.specs.Answers.{default_limits, node_count, CanEnd, IsSolved, ListsSolidsOf}
+use Rattle.recon_run.specs.Endings.{Answers, IsCut}
 use Rattle.recon_run.specs.FaultText.{fault_text}
-use Rattle.recon_run.specs.BlockText.{block_text}
-use Rattle.recon_run.proofs.Faults.{one_fault}
+use Rattle.recon_run.specs.NodeText.{node_text}
+use Rattle.recon_run.proofs.Faults.{one_fault, no_fault}
 use Rattle.recon_run.proofs.Problems.{one_problem}
 use Rattle.solid_model.specs.declared.cell.Cell.{Cell}
+use Rattle.solid_model.specs.declared.ended.EndKind.{EndKind}
+use Rattle.solid_model.specs.declared.ended.EndKind.TheVariants.{Whole, CutNodes, CutSolids}
 use Rattle.solid_model.specs.Choices.{AreSolidsOfChoices}
 use Rattle.solid_model.specs.Drawings.{drawing_of}
 use Rattle.solid_model.specs.Matching.{AreSolidsOf}
 use Rattle.solid_model.specs.Panels.{coordinates_of}
+use Rattle.solid_model.specs.Search.{SearchLimits}
 use Rattle.solid_model.proofs.BlockChoices.{one_list_of_block_choices}
 use Rattle.solid_model.proofs.SolidOrder.{one_list_of_solids}
 
--- an input has at most one text that lists its solids
-one_listing : (t text other : List ℕ) → ListsSolidsOf t text → ListsSolidsOf t other → text ≡ other
-one_listing t text other first second =
-    let one = one_problem first.problem second.problem in
-    let drawing = drawing_of second.problem.lines in
-    let solids = one_list_of_solids drawing first.solids second.solids (subst (λ ls. AreSolidsOf (drawing_of ls) first.solids) one.lines first.all) second.all in
-    let filled : AreSolidsOfChoices (coordinates_of first.grid) first.numbers first.count first.choices first.solids
-    ≡ AreSolidsOfChoices (coordinates_of second.grid) second.numbers second.count first.choices second.solids =
-    λ t. AreSolidsOfChoices (coordinates_of (one.grid t)) (one.numbers_same t) (one.count_same t) first.choices (solids t) in
-    let choices = one_list_of_block_choices second.grid (λ a. (second.problem.grid.coordinates a).ordered) second.numbers second.count second.problem.blocks
+-- an input has at most one text that lists all its solids
+one_listing : (limits : SearchLimits) (t text other : List ℕ) → ListsSolidsOf limits t Whole text → ListsSolidsOf limits t Whole other → text ≡ other
+one_listing limits t text other first second =
+    let one = one_problem first.has second.has in
+    let p = first.problem in let q = second.problem in
+    let drawing = drawing_of second.has.lines in
+    let solids = one_list_of_solids drawing first.solids second.solids (subst (λ ls. AreSolidsOf (drawing_of ls) first.solids) one.lines first.listed) second.listed in
+    let filled : AreSolidsOfChoices (coordinates_of p.grid) p.blocks.numbers p.blocks.count first.choices first.solids
+    ≡ AreSolidsOfChoices (coordinates_of q.grid) q.blocks.numbers q.blocks.count first.choices second.solids =
+    λ i. AreSolidsOfChoices (coordinates_of (one.problem i).grid) (one.problem i).blocks.numbers (one.problem i).blocks.count first.choices (solids i) in
+    let choices = one_list_of_block_choices q.grid (λ a. (second.has.grid.coordinates a).ordered) q.blocks.numbers q.blocks.count second.has.blocks.blocks
     first.choices second.choices second.solids (transport filled first.filled) second.filled in
-    first.told ∙ (λ t. block_text (one.count_same t) (choices t) (map (λ (s : List Cell). length s) (solids t))) ∙ sym second.told
+    first.told ∙ (λ i. node_text limits (one.problem i).blocks.count (record { kind = Whole; opened = node_count (one.problem i); solids = choices i })
+    (map (λ (s : List Cell). length s) (solids i))) ∙ sym second.told
 
--- an answer, and the text that goes with it
-abbrev Same : {A : Type 0} → A → A → List ℕ → List ℕ → Type 0
-Same a b text other = (a ≡ b) × (text ≡ other)
+-- where both limits are kept, none is passed
+pub kept_or_passed : (limits : SearchLimits) (t : List ℕ) (kind : EndKind) → CanEnd limits t Whole → CanEnd limits t kind → kind ≡ Whole
+kept_or_passed limits t Whole kept passed = refl
+kept_or_passed limits t CutNodes kept passed =
+    let same = ap node_count (one_problem kept.has passed.has).problem in let few = kept.allows.0 in let many = passed.allows in absurd (omega arith)
+kept_or_passed limits t CutSolids kept passed =
+    let one = one_problem kept.has passed.has in
+    let same = ap (λ (ss : List (List Cell)). length ss) (one_list_of_solids (drawing_of passed.has.lines) kept.solids passed.solids
+    (subst (λ ls. AreSolidsOf (drawing_of ls) kept.solids) one.lines kept.all) passed.all) in
+    let few = kept.allows.1 in let many = passed.allows in absurd (omega arith)
+
+-- An answer and another one, with their texts: one answer or both cuts, and one text unless the first is a cut.
+abbrev pub SameOrCuts : Answer → Answer → List ℕ → List ℕ → Type 0
+SameOrCuts a b text other = ((a ≡ b) ⊎ (IsCut a × IsCut b)) × ((IsCut a → ⊥) → text ≡ other)
+
+whole_is_no_cut : (kind : EndKind) → IsCut (Solve (Ended kind)) → kind ≡ Whole → ⊥
+whole_is_no_cut kind cut whole = subst (λ k. IsCut (Solve (Ended k))) whole cut
+
+-- two cuts
+cuts : {a b : Answer} {text other : List ℕ} → IsCut a → IsCut b → SameOrCuts a b text other
+cuts cut cut_too = (inr (cut, cut_too), λ none. absurd (none cut))
+
+-- two ends
+one_end : (t : List ℕ) (kind other : EndKind) (text told : List ℕ) → IsSolved default_limits t (Ended kind) text → IsSolved default_limits t (Ended other) told
+    → SameOrCuts (Solve (Ended kind)) (Solve (Ended other)) text told
+one_end t Whole Whole text told first second = (inl refl, λ none. one_listing default_limits t text told first.1 second.1)
+one_end t Whole CutNodes text told first second = absurd (whole_is_no_cut CutNodes tt (kept_or_passed default_limits t CutNodes first.0 second.0))
+one_end t Whole CutSolids text told first second = absurd (whole_is_no_cut CutSolids tt (kept_or_passed default_limits t CutSolids first.0 second.0))
+one_end t CutNodes Whole text told first second = absurd (whole_is_no_cut CutNodes tt (kept_or_passed default_limits t CutNodes second.0 first.0))
+one_end t CutSolids Whole text told first second = absurd (whole_is_no_cut CutSolids tt (kept_or_passed default_limits t CutSolids second.0 first.0))
+one_end t CutNodes CutNodes text told first second = cuts tt tt
+one_end t CutNodes CutSolids text told first second = cuts tt tt
+one_end t CutSolids CutNodes text told first second = cuts tt tt
+one_end t CutSolids CutSolids text told first second = cuts tt tt
 
 -- `solve` has at most one answer to an input
-one_found : (t : List ℕ) (a b : Found) (text other : List ℕ) → IsSolved t a text → IsSolved t b other → Same a b text other
-one_found t Whole Whole text other first second = (refl, one_listing t text other first.1 second.1)
-one_found t Fault Fault text other (fault, is_first, text_is) (again, is_too, other_is) =
-    (refl, text_is ∙ ap fault_text (one_fault t fault again is_first is_too) ∙ sym other_is)
-one_found t Whole Fault text other first second = absurd (first.0 second.0 second.1)
-one_found t Fault Whole text other first second = absurd (second.0 first.0 first.1)
+one_found : (t : List ℕ) (a b : Found) (text other : List ℕ) → IsSolved default_limits t a text → IsSolved default_limits t b other
+    → SameOrCuts (Solve a) (Solve b) text other
+one_found t (Ended kind) (Ended other) text told first second = one_end t kind other text told first second
+one_found t Faulty Faulty text other (fault, is_first, text_is) (again, is_too, other_is) =
+    (inl refl, λ none. text_is ∙ ap fault_text (one_fault t fault again is_first is_too) ∙ sym other_is)
+one_found t (Ended kind) Faulty text other first second = absurd (no_fault first.1.has second.0 second.1)
+one_found t Faulty (Ended kind) text other first second = absurd (no_fault second.1.has first.0 first.1)
 
 pub same_answer : (words : List (List ℕ)) (t : List ℕ) (rest left : Option (List ℕ)) (a b : Answer) (text other : List ℕ)
-    → Answers words (Some t) rest a text → Answers words (Some t) left b other → Same a b text other
-same_answer words t rest left (Solve a) (Solve b) text other first second =
-    let one = one_found t a b text other first.1.1 second.1.1 in (ap Solve one.0, one.1)
-same_answer words t rest left Usage Usage text other first second = (refl, first.1 ∙ sym second.1)
+    → Answers words (Some t) rest a text → Answers words (Some t) left b other → SameOrCuts a b text other
+same_answer words t rest left (Solve a) (Solve b) text other first second = one_found t a b text other first.1.1 second.1.1
+same_answer words t rest left Usage Usage text other first second = (inl refl, λ none. first.1 ∙ sym second.1)
 same_answer words t rest left (Solve a) Usage text other first second = absurd (second.0 first.0)
 same_answer words t rest left Usage (Solve b) text other first second = absurd (first.0 second.0)

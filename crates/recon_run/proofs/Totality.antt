@@ -1,40 +1,45 @@
 -- Words and an input never lack a right answer.
-use Rattle.std.proofs.Common.{◌≡◌, refl, inl, inr, ⊎_elim, true, false, ℕ, ◌+◌, ◌≤◌, List, [], length, drop, Option, Some, Result, Ok, Err, ℤ}
+use Rattle.std.proofs.Common.{◌≡◌, refl, inl, inr, ⊎_elim, Bool, true, false, ℕ, ◌+◌, ◌≤◌, List, [], ◌++◌, length, take, drop, Option, Some, Result, Ok, Err, ℤ, sym, subst, arith}
 use Rattle.std.proofs.lemmas.Bool.{cases_lt}
+use Rattle.std.proofs.lemmas.List.{take-append-drop, length-take-le}
 use Rattle.dxf_entities.specs.Reading.{read_of}
 use Rattle.dxf_entities.proofs.KeptLines.{read_lines_are_kept}
-use Rattle.plain_search.proofs.ChoicesInOrder.{some_choices}
-use Rattle.recon_run.specs.declared.fault.FirstFault.{FirstFault}
-use Rattle.recon_run.specs.declared.fault.FirstFault.TheVariants.{File, TooLarge}
 use Rattle.recon_run.specs.declared.status.Answer.{Answer}
 use Rattle.recon_run.specs.declared.status.Answer.TheVariants.{Solve, Usage}
-use Rattle.recon_run.specs.declared.status.Found.TheVariants.{Whole, Fault}
-use Rattle.recon_run.specs.Answers.{usage_text, IsFaultAfter, HasProblem, IsFirstFault, ListsSolidsOf}
-use Rattle.recon_run.specs.BlockText.{volumes_of, block_text}
+use Rattle.recon_run.specs.declared.status.Found.TheVariants.{Ended, Faulty}
+use Rattle.recon_run.specs.Answers.{default_limits, usage_text, IsFaultAfter, IsFileFault, HasProblem, IsSolved}
 use Rattle.recon_run.specs.Endings.{Answers, ReadsAllOrPast}
 use Rattle.recon_run.specs.FaultText.{fault_text}
 use Rattle.recon_run.specs.Words.{IsSolve}
-use Rattle.recon_run.proofs.Faults.{file_fault, no_fault}
-use Rattle.recon_run.proofs.Solved.{solids_listed}
+use Rattle.recon_run.proofs.Faults.{file_fault}
+use Rattle.recon_run.proofs.Solved.{matching, text_of, solved}
 use Rattle.solid_model.specs.declared.cell.Axis.{Axis}
 use Rattle.solid_model.specs.declared.cell.Axis.TheVariants.{X, Y, Z}
-use Rattle.solid_model.specs.declared.fault.Fault as of_file
+use Rattle.solid_model.specs.declared.ended.EndKind.{EndKind}
+use Rattle.solid_model.specs.declared.ended.EndKind.TheVariants.{Whole, CutNodes, CutSolids}
+use Rattle.solid_model.specs.declared.fault.Fault.{Fault}
 use Rattle.solid_model.specs.declared.fault.Fault.TheVariants.{EmptyView, TooFine, TooLong, TooManyBlocks}
 use Rattle.solid_model.specs.declared.frame.View.{View}
 use Rattle.solid_model.specs.declared.frame.View.TheVariants.{Front, Top, Side}
 use Rattle.solid_model.specs.declared.segment.Segment.{Segment}
 use Rattle.solid_model.specs.declared.segment.Style.{Style}
-use Rattle.solid_model.specs.Blocks.{AreBlocksOf}
-use Rattle.solid_model.specs.Choices.{IsMatchingChoice}
+use Rattle.solid_model.specs.Blocks.{AreBlocksOf, ProblemParts}
+use Rattle.solid_model.specs.Choices.{ChoicePrecedes}
+use Rattle.solid_model.specs.Demands.{is_live}
 use Rattle.solid_model.specs.Drawings.{drawing_of, IsShown, IsEmptyView, IsFirstEmptyView}
 use Rattle.solid_model.specs.Grid.{Coordinates, AreGridCoordinates, IsFineEnough, IsFirstTooFine}
-use Rattle.solid_model.specs.Limits.{most_blocks, most_tried_blocks, most_file_bytes, most_grid_coordinates}
+use Rattle.solid_model.specs.Limits.{most_blocks, most_file_bytes, most_grid_coordinates}
 use Rattle.solid_model.specs.Line.{Line}
+use Rattle.solid_model.specs.Lists.{Member, Each, Ascends}
 use Rattle.solid_model.specs.Panels.{PanelStyles, GridParts, coordinates_of, grid_styles, AreGridStyles, IsGridOf}
+use Rattle.solid_model.specs.PerAxis.{numbers_of}
 use Rattle.solid_model.specs.Runs.{IsDrawing}
+use Rattle.solid_model.specs.Search.{SearchLimits, EndsAs}
+use Rattle.solid_model.specs.Tree.{Word, live_count, live_below}
 use Rattle.solid_model.specs.VirtualFaces.{IsVirtual}
 use Rattle.solid_model.specs.Wire.{grid_sizes}
 use Rattle.solid_model.proofs.KeptDrawings.{lines_are_drawing}
+use Rattle.solid_model.proofs.Lists.{each-from, each-append_left, ascends-append_left}
 use Rattle.solid_model.proofs.Sheets.{without_lines-empty}
 use Rattle.solid_model.proofs.SomeGrid.{some_coordinates}
 use Rattle.solid_model.proofs.SomeNumbering.{some_numbering}
@@ -67,14 +72,49 @@ grid_with drawing xs ys zs = record { xs = xs; ys = ys; zs = zs; panels = record
     panel : View → PanelStyles
     panel v = record { level = grid_styles drawing (along xs ys zs) v false; upright = grid_styles drawing (along xs ys zs) v true }
 
-module _ (t : List ℕ) (short : length t ≤ most_file_bytes) (faultless : (fault : FirstFault) → IsFirstFault t fault → ⊥)
-    (listless : (text : List ℕ) → ListsSolidsOf t text → ⊥) where
+-- a search of whatever is live ends somehow, where the live prefixes of full length stand in the stated order
+some_end : (live : Word) (n : ℕ) (limits : SearchLimits) → Ascends ChoicePrecedes (live_below live n [])
+    → (kind : EndKind) × (opened : ℕ) × (choices : List (List Bool)) × EndsAs live n limits kind opened choices
+some_end live n limits ordered = ⊎_elim
+    (λ many. (CutNodes, live_count live n [], [], (many, omega arith, record { listed = tt; ordered = tt }, omega arith)))
+    (λ few. ⊎_elim
+    (λ many. (
+      CutSolids,
+      live_count live n [],
+      take limits.solids all,
+      (
+        many,
+        omega arith,
+        record { listed = first_listed; ordered = first_ordered },
+        length-take-le limits.solids all (omega (arith, many)),
+      ),
+    ))
+    (λ few_solids. (Whole, live_count live n [], all, (few, few_solids, refl, refl)))
+    (cases_lt limits.solids (length all)))
+    (cases_lt limits.nodes (live_count live n []))
+  where
+    all : List (List Bool)
+    all = live_below live n []
+
+    parts : take limits.solids all ++ drop limits.solids all ≡ all
+    parts = take-append-drop limits.solids all
+
+    first_listed : Each (Member all) (take limits.solids all)
+    first_listed = each-append_left (Member all) (take limits.solids all) (drop limits.solids all)
+        (subst (λ (xs : List (List Bool)). Each (Member all) xs) (sym parts) (each-from (Member all) all (λ x member. member)))
+
+    first_ordered : Ascends ChoicePrecedes (take limits.solids all)
+    first_ordered = ascends-append_left ChoicePrecedes (take limits.solids all) (drop limits.solids all)
+        (subst (λ (xs : List (List Bool)). Ascends ChoicePrecedes xs) (sym parts) ordered)
+
+module _ (t : List ℕ) (short : length t ≤ most_file_bytes) (faultless : (fault : Fault) → IsFileFault t fault → ⊥)
+    (endless : (kind : EndKind) (text : List ℕ) → IsSolved default_limits t (Ended kind) text → ⊥) where
   module _ (ls : List Line) (reads : read_of t ≡ Ok ls) where
     abbrev drawing : Segment → Style
     drawing = drawing_of ls
 
-    no_fault_after : (f : of_file.Fault) → IsFaultAfter (Ok ls) f → ⊥
-    no_fault_after f after = faultless (File f) (file_fault t (Ok ls) f short reads after)
+    no_fault_after : (f : Fault) → IsFaultAfter (Ok ls) f → ⊥
+    no_fault_after f after = faultless f (file_fault t (Ok ls) f short reads after)
 
     shown : IsShown ls
     shown = shown_by_views ls (λ v empty. no_fault_after (EmptyView v) (inl (v, empty, refl)))
@@ -98,17 +138,25 @@ module _ (t : List ℕ) (short : length t ≤ most_file_bytes) (faultless : (fau
     few : (a : Axis) (zs : List ℤ) → AreGridCoordinates drawing a zs → IsFineEnough drawing a → length zs ≤ most_grid_coordinates
     few a zs are fine = ⊎_elim (λ many. absurd (fine (length zs) (zs, are, refl, many))) (λ l. l) (cases_lt most_grid_coordinates (length zs))
 
-    -- with this grid and few blocks, all choices are listed
+    -- with this grid and few blocks, a search ends somehow
     with_blocks : (g : GridParts) → IsGridOf drawing g → (numbers : List (Option ℕ)) (count : ℕ) → AreBlocksOf g numbers count → count ≤ most_blocks → ⊥
-    with_blocks g grid numbers count are few_blocks = ⊎_elim
-        (λ large. faultless TooLarge (g, numbers, count, has, large))
-        (λ small. some_choices (IsMatchingChoice drawing (coordinates_of g) numbers) count (λ choices matching.
-        listless (block_text count choices (volumes_of (coordinates_of g) numbers choices))
-        (solids_listed t g numbers count has small choices matching (block_text count choices (volumes_of (coordinates_of g) numbers choices)) refl)))
-        (cases_lt most_tried_blocks count)
+    with_blocks g grid numbers count are few_blocks =
+        let (kind, opened, choices, ends) = some_end (is_live problem) count default_limits (matching default_limits t problem has).ordered in
+        endless kind (text_of default_limits t problem has kind opened choices) (solved default_limits t problem has kind opened choices ends)
       where
-        has : HasProblem t g numbers count
-        has = record { short = short; lines = ls; reads = reads; shown = shown; grid = grid; blocks = are; few = few_blocks }
+        problem : ProblemParts
+        problem = record {
+          grid = g;
+          blocks = record { sizes = record { x = grid_sizes g X; y = grid_sizes g Y; z = grid_sizes g Z }; numbers = numbers; count = count };
+        }
+
+        sized : (a : Axis) → numbers_of problem.blocks.sizes a ≡ grid_sizes g a
+        sized X = refl
+        sized Y = refl
+        sized Z = refl
+
+        has : HasProblem t problem
+        has = record { short = short; lines = ls; reads = reads; shown = shown; grid = grid; blocks = record { sized = sized; blocks = are }; few = few_blocks }
 
     -- it has some blocks
     with_grid : (g : GridParts) → IsGridOf drawing g → ⊥
@@ -116,7 +164,7 @@ module _ (t : List ℕ) (short : length t ≤ most_file_bytes) (faultless : (fau
         (λ many. no_fault_after (TooManyBlocks count) (inr (inr (shown, g, grid, count, (numbers, are, many), refl))))
         (λ few_blocks. with_blocks g grid numbers count are few_blocks) (cases_lt most_blocks count))
 
-    -- it can't be that an input with lines has no fault and no list of solids
+    -- it can't be that an input with lines has no fault and no end of a search
     input_with_lines : ⊥
     input_with_lines =
         some_coordinates drawing is_drawing X (λ xs x_are.
@@ -148,9 +196,9 @@ module _ (t : List ℕ) (short : length t ≤ most_file_bytes) (faultless : (fau
         styles xs ys zs Side false = refl
         styles xs ys zs Side true = refl
 
-  -- it can't be that an input that isn't too long has no fault and no list of solids
-  short_input : (r : Result (List Line) of_file.Fault) → read_of t ≡ r → ⊥
-  short_input (Err found) reads = faultless (File found) (file_fault t (Err found) found short reads refl)
+  -- it can't be that an input that isn't too long has no fault and no end of a search
+  short_input : (r : Result (List Line) Fault) → read_of t ≡ r → ⊥
+  short_input (Err found) reads = faultless found (file_fault t (Err found) found short reads refl)
   short_input (Ok ls) reads = input_with_lines ls reads
 
 pub answered_somehow : (words : List (List ℕ)) (t : List ℕ)
@@ -162,10 +210,10 @@ answered_somehow words t never = never (Some []) Usage usage_text (solve_asked, 
 
     solve_asked : IsSolve words → ⊥
     solve_asked solve = ⊎_elim
-        (λ long. never (Some (drop (most_file_bytes + 1) t)) (Solve Fault) (fault_text (File TooLong))
-        (solve, (inr (long, refl), (File TooLong, inl (long, refl), refl))))
+        (λ long. never (Some (drop (most_file_bytes + 1) t)) (Solve Faulty) (fault_text TooLong)
+        (solve, (inr (long, refl), (TooLong, inl (long, refl), refl))))
         (λ short. short_input t short
-        (λ fault is. never (Some []) (Solve Fault) (fault_text fault) (solve, (read_to_end short, (fault, is, refl))))
-        (λ text listed. never (Some []) (Solve Whole) text (solve, (read_to_end short, (no_fault t text listed, listed))))
+        (λ fault is. never (Some []) (Solve Faulty) (fault_text fault) (solve, (read_to_end short, (fault, is, refl))))
+        (λ kind text ends. never (Some []) (Solve (Ended kind)) text (solve, (read_to_end short, ends)))
         (read_of t) refl)
         (cases_lt most_file_bytes (length t))

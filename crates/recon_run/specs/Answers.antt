@@ -1,72 +1,97 @@
 -- What `solve` answers to an input.
-use Rattle.std.specs.Prelude.{◌≡◌, ◌⊎◌, ℕ, ◌<◌, ◌≤◌, List, Bool, Option, length, map, Result, Ok, Err, codes}
+use Rattle.std.specs.Prelude.{◌≡◌, ◌⊎◌, ℕ, ◌<◌, ◌≤◌, List, [], Bool, length, map, Result, Ok, Err, codes}
 use Rattle.dxf_entities.specs.Reading.{read_of}
-use Rattle.recon_run.specs.declared.fault.FirstFault.{FirstFault}
-use Rattle.recon_run.specs.declared.fault.FirstFault.TheVariants.{File, TooLarge}
 use Rattle.recon_run.specs.declared.status.Found.{Found}
-use Rattle.recon_run.specs.declared.status.Found.TheVariants.{Whole, Fault}
-use Rattle.recon_run.specs.BlockText.{block_text}
+use Rattle.recon_run.specs.declared.status.Found.TheVariants.{Ended, Faulty}
 use Rattle.recon_run.specs.FaultText.{fault_text}
+use Rattle.recon_run.specs.NodeText.{node_text}
 use Rattle.solid_model.specs.declared.cell.Axis.{Axis}
 use Rattle.solid_model.specs.declared.cell.Cell.{Cell}
-use Rattle.solid_model.specs.declared.fault.Fault as of_file
+use Rattle.solid_model.specs.declared.ended.EndKind.{EndKind}
+use Rattle.solid_model.specs.declared.ended.EndKind.TheVariants.{Whole, CutNodes, CutSolids}
+use Rattle.solid_model.specs.declared.fault.Fault.{Fault}
 use Rattle.solid_model.specs.declared.fault.Fault.TheVariants.{EmptyView, TooFine, TooLong, TooManyBlocks}
 use Rattle.solid_model.specs.declared.frame.View.{View}
-use Rattle.solid_model.specs.Blocks.{AreBlocksOf, HasTooManyBlocks}
+use Rattle.solid_model.specs.declared.segment.Segment.{Segment}
+use Rattle.solid_model.specs.declared.segment.Style.{Style}
+use Rattle.solid_model.specs.Blocks.{ProblemParts, IsBlocksOf, HasTooManyBlocks}
 use Rattle.solid_model.specs.Choices.{AreSolidsOfChoices}
+use Rattle.solid_model.specs.Demands.{is_live}
 use Rattle.solid_model.specs.Drawings.{drawing_of, IsShown, IsFirstEmptyView}
 use Rattle.solid_model.specs.Grid.{IsFirstTooFine}
-use Rattle.solid_model.specs.Limits.{most_blocks, most_tried_blocks, most_file_bytes}
+use Rattle.solid_model.specs.Limits.{most_blocks, most_file_bytes}
 use Rattle.solid_model.specs.Line.{Line}
-use Rattle.solid_model.specs.Matching.{AreSolidsOf}
+use Rattle.solid_model.specs.Matching.{AreSolidsOf, AreSomeSolidsOf}
 use Rattle.solid_model.specs.Panels.{GridParts, coordinates_of, IsGridOf}
+use Rattle.solid_model.specs.Search.{SearchLimits}
+use Rattle.solid_model.specs.Tree.{live_count}
 
 -- ---- the faults of an input
 
 -- lines have this first empty view
-abbrev pub HasEmptyView : List Line → of_file.Fault → Type 0
+abbrev pub HasEmptyView : List Line → Fault → Type 0
 HasEmptyView ls fault = (v : View) × IsFirstEmptyView ls v × (fault ≡ EmptyView v)
 
 -- lines show something in each view, and this axis of their drawing is the first that is too fine
-abbrev pub HasFineAxis : List Line → of_file.Fault → Type 0
+abbrev pub HasFineAxis : List Line → Fault → Type 0
 HasFineAxis ls fault = IsShown ls × (a : Axis) × (count : ℕ) × IsFirstTooFine (drawing_of ls) a count × (fault ≡ TooFine a count)
 
 -- lines show something in each view, and the grid of their drawing has too many blocks
-abbrev pub HasManyBlocks : List Line → of_file.Fault → Type 0
+abbrev pub HasManyBlocks : List Line → Fault → Type 0
 HasManyBlocks ls fault = IsShown ls × (g : GridParts) × IsGridOf (drawing_of ls) g
     × (count : ℕ) × HasTooManyBlocks g count × (fault ≡ TooManyBlocks count)
 
 -- The first fault of a file that reads so: what the reading found. Where it found lines: the first view of which they cover
 -- nothing; else the first axis that is too fine; else too many blocks.
-abbrev pub IsFaultAfter : Result (List Line) of_file.Fault → of_file.Fault → Type 0
+abbrev pub IsFaultAfter : Result (List Line) Fault → Fault → Type 0
 IsFaultAfter (Err found) fault = fault ≡ found
 IsFaultAfter (Ok ls) fault = HasEmptyView ls fault ⊎ (HasFineAxis ls fault ⊎ HasManyBlocks ls fault)
 
 -- the first fault of a file: it is too long, or else that of what it reads as
-abbrev pub IsFileFault : List ℕ → of_file.Fault → Type 0
+abbrev pub IsFileFault : List ℕ → Fault → Type 0
 IsFileFault t fault = ((most_file_bytes < length t) × (fault ≡ TooLong))
     ⊎ ((length t ≤ most_file_bytes) × IsFaultAfter (read_of t) fault)
 
+-- the input has no fault
+abbrev pub HasNoFault : List ℕ → Type 0
+HasNoFault t = (fault : Fault) → IsFileFault t fault → ⊥
+
 -- ---- the problem of an input
 
--- a file without a fault: its lines, the grid of their drawing, and the grid's blocks
-pub record HasProblem (t : List ℕ) (g : GridParts) (numbers : List (Option ℕ)) (count : ℕ) : Type 0 where
+-- a file without a fault: its lines, and the grid of their drawing with its blocks
+pub record HasProblem (t : List ℕ) (p : ProblemParts) : Type 0 where
   pub short : length t ≤ most_file_bytes
   pub lines : List Line
   pub reads : read_of t ≡ Ok lines
   pub shown : IsShown lines
-  pub grid : IsGridOf (drawing_of lines) g
-  pub blocks : AreBlocksOf g numbers count
-  pub few : count ≤ most_blocks
+  pub grid : IsGridOf (drawing_of lines) p.grid
+  pub blocks : IsBlocksOf p.grid p.blocks
+  pub few : p.blocks.count ≤ most_blocks
 
--- the first fault of an input: that of the file, or that it has more blocks than are tried
-abbrev pub IsFirstFault : List ℕ → FirstFault → Type 0
-IsFirstFault t (File fault) = IsFileFault t fault
-IsFirstFault t TooLarge = (g : GridParts) × (numbers : List (Option ℕ)) × (count : ℕ) × HasProblem t g numbers count × (most_tried_blocks < count)
+-- ---- the limits of the search
 
--- the input has no fault
-abbrev pub HasNoFault : List ℕ → Type 0
-HasNoFault t = (fault : FirstFault) → IsFirstFault t fault → ⊥
+-- those of `solve`
+abbrev pub default_limits : SearchLimits
+default_limits = record { nodes = 1000000; solids = 4096 }
+
+-- the number of live prefixes of a problem
+abbrev pub node_count : ProblemParts → ℕ
+node_count p = live_count (is_live p) p.blocks.count []
+
+-- which limits the problem of an input keeps or passes, where a search of it ends so: whole where it keeps both, and else cut
+-- where it passes one
+abbrev pub AllowsEnd : SearchLimits → ProblemParts → List (List Cell) → EndKind → Type 0
+AllowsEnd limits p solids Whole = (node_count p ≤ limits.nodes) × (length solids ≤ limits.solids)
+AllowsEnd limits p solids CutNodes = limits.nodes < node_count p
+AllowsEnd limits p solids CutSolids = limits.solids < length solids
+
+-- the input has no fault, and its live prefixes and the solids that match its drawing keep or pass the limits so
+pub record CanEnd (limits : SearchLimits) (t : List ℕ) (kind : EndKind) : Type 0 where
+  pub problem : ProblemParts
+  pub has : HasProblem t problem
+  pub solids : List (List Cell)
+  pub all : AreSolidsOf (drawing_of has.lines) solids
+  pub allows : AllowsEnd limits problem solids kind
 
 -- ---- the answers
 
@@ -74,21 +99,25 @@ HasNoFault t = (fault : FirstFault) → IsFirstFault t fault → ⊥
 abbrev pub usage_text : List ℕ
 usage_text = codes "usage: recon solve|redraw|make|trial\n"
 
--- The text lists all solids that the input's drawing shows: the solids are all that match it, and the text tells each of
--- them by the choice of blocks that fills it and by its number of unit cells.
-pub record ListsSolidsOf (t text : List ℕ) : Type 0 where
-  pub grid : GridParts
-  pub numbers : List (Option ℕ)
-  pub count : ℕ
-  pub problem : HasProblem t grid numbers count
-  pub small : count ≤ most_tried_blocks
-  pub solids : List (List Cell)
-  pub all : AreSolidsOf (drawing_of problem.lines) solids
-  pub choices : List (List Bool)
-  pub filled : AreSolidsOfChoices (coordinates_of grid) numbers count choices solids
-  pub told : text ≡ block_text count choices (map (λ (s : List Cell). length s) solids)
+-- what is listed at an end: all matching solids; or, at a cut, some, at a cut at solids as many as the limit
+abbrev pub AreListed : SearchLimits → (Segment → Style) → EndKind → List (List Cell) → Type 0
+AreListed limits drawing Whole solids = AreSolidsOf drawing solids
+AreListed limits drawing CutNodes solids = AreSomeSolidsOf drawing solids × (length solids ≤ limits.solids)
+AreListed limits drawing CutSolids solids = AreSomeSolidsOf drawing solids × (length solids ≡ limits.solids)
 
--- what the word `solve` and the input ask for: what is found, and the text that goes with it
-abbrev pub IsSolved : List ℕ → Found → List ℕ → Type 0
-IsSolved t Whole text = HasNoFault t × ListsSolidsOf t text
-IsSolved t Fault text = (fault : FirstFault) × IsFirstFault t fault × (text ≡ fault_text fault)
+-- The text lists solids that the input's drawing shows, as an end of this kind has it: it tells each of them by the choice of
+-- blocks that fills it and by its number of unit cells, and before them at a whole end the number of live prefixes.
+pub record ListsSolidsOf (limits : SearchLimits) (t : List ℕ) (kind : EndKind) (text : List ℕ) : Type 0 where
+  pub problem : ProblemParts
+  pub has : HasProblem t problem
+  pub solids : List (List Cell)
+  pub listed : AreListed limits (drawing_of has.lines) kind solids
+  pub choices : List (List Bool)
+  pub filled : AreSolidsOfChoices (coordinates_of problem.grid) problem.blocks.numbers problem.blocks.count choices solids
+  pub told : text ≡ node_text limits problem.blocks.count (record { kind = kind; opened = node_count problem; solids = choices })
+      (map (λ (s : List Cell). length s) solids)
+
+-- what the word `solve` and the input ask for within limits: what is found, and the text that goes with it
+abbrev pub IsSolved : SearchLimits → List ℕ → Found → List ℕ → Type 0
+IsSolved limits t (Ended kind) text = CanEnd limits t kind × ListsSolidsOf limits t kind text
+IsSolved limits t Faulty text = (fault : Fault) × IsFileFault t fault × (text ≡ fault_text fault)

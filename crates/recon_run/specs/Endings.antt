@@ -3,13 +3,16 @@ use Rattle.std.specs.Prelude.{◌≡◌, ◌⊎◌, ℕ, ◌≤◌, List, [], le
 use Rattle.std.specs.Io.KnownBytes.{Appends, Keeps}
 use Rattle.recon_run.specs.declared.status.Answer.{Answer}
 use Rattle.recon_run.specs.declared.status.Answer.TheVariants.{Solve, Usage}
+use Rattle.recon_run.specs.declared.status.Found.TheVariants.{Ended}
 use Rattle.recon_run.specs.declared.status.Status.{Status}
 use Rattle.recon_run.specs.declared.status.Status.TheVariants.{Answered, Stopped}
 use Rattle.recon_run.specs.declared.status.Stop.{Stop}
 use Rattle.recon_run.specs.declared.status.Stop.TheVariants.{ReadFault, WriteFault, Memory}
-use Rattle.recon_run.specs.Answers.{IsSolved, usage_text}
+use Rattle.recon_run.specs.Answers.{default_limits, CanEnd, IsSolved, usage_text}
 use Rattle.recon_run.specs.Status.{status_code}
 use Rattle.recon_run.specs.Words.{IsSolve}
+use Rattle.solid_model.specs.declared.ended.EndKind.{EndKind}
+use Rattle.solid_model.specs.declared.ended.EndKind.TheVariants.{CutNodes, CutSolids}
 use Rattle.solid_model.specs.Limits.{most_file_bytes}
 use Rattle.tv_base.specs.Pieces.{AppendsPrefix, ReadsPast}
 
@@ -22,7 +25,7 @@ ReadsAllOrPast t rest = ((length t ≤ most_file_bytes) × (rest ≡ Some []))
 -- the right answer to words and a source that had `left` and has `rest`, where told, and its text
 abbrev pub Answers : List (List ℕ) → Option (List ℕ) → Option (List ℕ) → Answer → List ℕ → Type 0
 Answers words left rest (Solve found) text =
-    IsSolve words × IfSome left (λ t. ReadsAllOrPast t rest × IsSolved t found text)
+    IsSolve words × IfSome left (λ t. ReadsAllOrPast t rest × IsSolved default_limits t found text)
 Answers words left rest Usage text = (IsSolve words → ⊥) × (text ≡ usage_text)
 
 -- A reply's text is written whole; or a prefix of it: the sink failed, and then its count rose, or
@@ -55,3 +58,14 @@ Ends words left rest held now (Stopped Memory) =
 abbrev pub AnswersOrStops : Answer → ℕ → Type 0
 AnswersOrStops answer code = (code ≡ status_code (Answered answer))
     ⊎ ((stop : Stop) × (code ≡ status_code (Stopped stop)))
+
+-- the number is that of an end whose limits the input keeps or passes so, or of a stop
+abbrev pub EndsOrStops : List ℕ → ℕ → Type 0
+EndsOrStops t code = ((kind : EndKind) × CanEnd default_limits t kind × (code ≡ status_code (Answered (Solve (Ended kind)))))
+    ⊎ ((stop : Stop) × (code ≡ status_code (Stopped stop)))
+
+-- an answer is a cut, and tells some of the solids
+abbrev pub IsCut : Answer → Type 0
+IsCut (Solve (Ended CutNodes)) = Unit {0}
+IsCut (Solve (Ended CutSolids)) = Unit {0}
+IsCut _ = ⊥

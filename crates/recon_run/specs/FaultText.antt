@@ -2,8 +2,6 @@
 use Rattle.std.specs.Prelude.{ℕ, List, [], ◌++◌, ℤ, Option, Some, None, codes, decimal}
 use Rattle.std.specs.Fmt.{signed_decimal}
 use Rattle.std.specs.Option.{option_map}
-use Rattle.recon_run.specs.declared.fault.FirstFault.{FirstFault}
-use Rattle.recon_run.specs.declared.fault.FirstFault.TheVariants.{File, TooLarge}
 use Rattle.solid_model.specs.declared.cell.Axis.{Axis}
 use Rattle.solid_model.specs.declared.cell.Axis.TheVariants.{X, Y, Z}
 use Rattle.solid_model.specs.declared.fault.Fault.{Fault}
@@ -101,6 +99,5 @@ parts_text f = part_text (codes " line ") (option_map decimal (line_named f))
     ++ part_text (codes " count ") (option_map decimal (count_named f))
 
 -- each fault on a line of its own: its number and name, and what it names
-abbrev pub fault_text : FirstFault → List ℕ
-fault_text (File f) = codes "fault " ++ name_of f ++ parts_text f ++ codes "\n"
-fault_text TooLarge = codes "fault F92 TooLarge\n"
+abbrev pub fault_text : Fault → List ℕ
+fault_text f = codes "fault " ++ name_of f ++ parts_text f ++ codes "\n"

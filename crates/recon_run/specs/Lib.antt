@@ -1,6 +1,6 @@
 pub mod Words
 pub mod Status
-pub mod BlockText
+pub mod NodeText
 pub mod FaultText
 pub mod Answers
 pub mod Refusals

@@ -1,5 +1,4 @@
 -- What a refusal of the layers below means for a file.
-use Rattle.recon_run.specs.declared.fault.FirstFault.TheVariants.{File}
 use Rattle.recon_run.specs.declared.solve.Unsolved.{Unsolved}
 use Rattle.recon_run.specs.declared.solve.Unsolved.TheVariants.{Fault, Memory}
 use Rattle.solid_model.specs.declared.fault.Refused.{Refused}
@@ -7,5 +6,5 @@ use Rattle.solid_model.specs.declared.fault.Refused.TheVariants as refused
 
 -- a fault that is found below is the file's
 abbrev pub refused_file : Refused → Unsolved
-refused_file (refused.Fault f) = Fault (File f)
+refused_file (refused.Fault f) = Fault f
 refused_file refused.Memory = Memory

@@ -1,24 +1,24 @@
 //! The run of a command.
 
 ghost use Rattle.std.specs.Prelude.{◌≡◌, ◌≤◌, map, string_bytes, IfOk, IfSome, IsErrOf};
-ghost use Rattle.recon_run.specs.declared.fault.FirstFault.{FirstFault};
 ghost use Rattle.recon_run.specs.declared.status.Answer.TheVariants.{Solve, Usage};
 ghost use Rattle.recon_run.specs.declared.status.Found.TheVariants as found;
 ghost use Rattle.recon_run.specs.declared.status.Status.{Status};
 ghost use Rattle.recon_run.specs.declared.status.Status.TheVariants.{Stopped};
 ghost use Rattle.recon_run.specs.declared.status.Stop.TheVariants.{ReadFault, WriteFault};
-ghost use Rattle.recon_run.specs.Answers.{HasNoFault, IsFirstFault};
-ghost use Rattle.recon_run.specs.Endings.{Answers, AnswersOrStops, Ends, IsWritten};
+ghost use Rattle.recon_run.specs.Answers.{default_limits, HasNoFault, IsFileFault, CanEnd};
+ghost use Rattle.recon_run.specs.Endings.{Answers, AnswersOrStops, Ends, EndsOrStops, IsWritten};
 ghost use Rattle.recon_run.specs.Status.{status_code};
 ghost use Rattle.recon_run.specs.Words.{IsSolve, solve_words};
+ghost use Rattle.solid_model.specs.declared.ended.EndKind.TheVariants.{Whole};
+ghost use Rattle.solid_model.specs.declared.fault.Fault.{Fault};
 ghost use Rattle.tv_base.specs.Faults.{Rose};
 
-use crate::fault::FirstFault;
 use crate::reply::{Reply, fault_reply, usage_reply};
 use crate::solve::{Unsolved, solve};
 use crate::status::{Answer, Found, Status, Stop};
 use crate::words::is_solve;
-use solid_model::{Fault, Memory};
+use solid_model::{Fault, Limits, Memory};
 use std::alloc::Global;
 use tv_base::{Gate, ReadEnd, Sink, SinkError, Source, read_all};
 
@@ -53,15 +53,15 @@ fn solve_source<S: Source>(alloc: Global, source: &mut S) -> Result<Reply, NoRep
         → Rose (S.faults source.old) (S.faults source.new) }
 {
     match read_all(alloc, source, MOST_BYTES) {
-        Ok(file) => match solve(alloc, file) {
-            Ok(text) => Ok(Reply {
-                answer: Answer::Solve(Found::Whole),
-                text,
+        Ok(file) => match solve(alloc, file, Limits::DEFAULT) {
+            Ok(listing) => Ok(Reply {
+                answer: Answer::Solve(Found::Ended(listing.kind)),
+                text: listing.text,
             }),
             Err(Unsolved::Fault(fault)) => Ok(fault_reply(alloc, fault)?),
             Err(Unsolved::Memory) => Err(NoReply::Memory),
         },
-        Err(ReadEnd::TooLong) => Ok(fault_reply(alloc, FirstFault::File(Fault::TooLong))?),
+        Err(ReadEnd::TooLong) => Ok(fault_reply(alloc, Fault::TooLong)?),
         Err(ReadEnd::Failed) => Err(NoReply::ReadFault),
         Err(ReadEnd::Memory) => Err(NoReply::Memory),
     }
@@ -98,8 +98,9 @@ fn write<K: Sink>(reply: &Reply, sink: &mut K) -> Status
 
 /// Runs the command that the arguments give, the program's `words`: what `solve` writes for the
 /// source's bytes, or the usage line. The status is 0 where all matching solids are listed, 1 where
-/// the input has a fault, 2 where the arguments aren't taken, 5 or 6 where the source or the sink
-/// failed, and 7 where it ran out of memory. The gate isn't passed.
+/// the input has a fault, 2 where the arguments aren't taken, 3 or 4 where there are more than
+/// 1,000,000 live prefixes, or more than 4,096 solids, and some are listed, 5 or 6 where the source
+/// or the sink failed, and 7 where it ran out of memory. The gate isn't passed.
 pub fn run<S: Source, K: Sink, G: Gate>(
     alloc: Global,
     words: &[String],
@@ -112,10 +113,13 @@ pub fn run<S: Source, K: Sink, G: Gate>(
         (K.held sink.old) (K.held sink.new) status }
 
     ensures whole { IsSolve (map string_bytes words.now) → IfSome (S.left source.old) (λ input.
-        HasNoFault input → AnswersOrStops (Solve found.Whole) result) }
+        CanEnd default_limits input Whole
+        → AnswersOrStops (Solve (found.Ended Whole)) result) }
+    ensures ended { IsSolve (map string_bytes words.now) → IfSome (S.left source.old) (λ input.
+        HasNoFault input → EndsOrStops input result) }
     ensures fault { IsSolve (map string_bytes words.now) → IfSome (S.left source.old) (λ input.
-        (fault : FirstFault) → IsFirstFault input fault
-        → AnswersOrStops (Solve found.Fault) result) }
+        (fault : Fault) → IsFileFault input fault
+        → AnswersOrStops (Solve found.Faulty) result) }
     ensures usage { (IsSolve (map string_bytes words.now) → ⊥)
         → AnswersOrStops Usage result × (source.new ≡ source.old) }
 

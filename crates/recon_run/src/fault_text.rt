@@ -6,7 +6,6 @@ ghost use Rattle.recon_run.specs.FaultText.{name_of, line_named, code_named, vie
 ghost use Rattle.recon_run.specs.FaultText.{count_named, layer_name, letter_of};
 ghost use Rattle.recon_run.specs.FaultText.{part_text, parts_text, fault_text};
 
-use crate::fault::FirstFault;
 use crate::text::push_number;
 use itoa::Integer;
 use solid_model::{Axis, Fault, Memory, View};
@@ -186,25 +185,14 @@ fn push_parts(text: &mut Vec<u8>, fault: Fault) -> Result<(), Memory>
     push_number_part(text, " count ", count_named(fault))
 }
 
-/// The text of a file's fault.
-fn file_fault_text(alloc: Global, fault: Fault) -> Result<Vec<u8>, Memory>
-    ensures { IfOk result (λ text. text.items
-        ≡ codes "fault " ++ name_of fault ++ parts_text fault ++ codes "\n") }
+/// What is written for a fault: `fault`, its number and name, and what it names, as in
+/// `fault F7 NotWhole line 12 code 10`. An `Err` is out of memory.
+pub fn fault_text(alloc: Global, fault: Fault) -> Result<Vec<u8>, Memory>
+    ensures { IfOk result (λ text. text.items ≡ fault_text fault) }
 {
     let mut text = Vec::from_slice(alloc, b"fault ")?;
     text.extend_from_slice(name_of(fault).as_bytes())?;
     push_parts(&mut text, fault)?;
     text.extend_from_slice(b"\n")?;
     Ok(text)
-}
-
-/// What is written for a fault: `fault`, its number and name, and what it names, as in
-/// `fault F7 NotWhole line 12 code 10`. An `Err` is out of memory.
-pub fn fault_text(alloc: Global, fault: FirstFault) -> Result<Vec<u8>, Memory>
-    ensures { IfOk result (λ text. text.items ≡ fault_text fault) }
-{
-    match fault {
-        FirstFault::File(fault) => file_fault_text(alloc, fault),
-        FirstFault::TooLarge => Ok(Vec::from_slice(alloc, b"fault F92 TooLarge\n")?),
-    }
 }

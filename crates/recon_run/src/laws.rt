@@ -1,25 +1,26 @@
 //! Laws of what is answered.
 
-ghost use Rattle.std.specs.Prelude.{◌≡◌, ℕ, List, Option, Some};
-ghost use Rattle.recon_run.specs.declared.fault.FirstFault.{FirstFault};
+ghost use Rattle.std.specs.Prelude.{◌≡◌, ◌⊎◌, ℕ, List, Option, Some};
 ghost use Rattle.recon_run.specs.declared.status.Answer.{Answer};
-ghost use Rattle.recon_run.specs.Answers.{IsFirstFault};
-ghost use Rattle.recon_run.specs.Endings.{Answers};
+ghost use Rattle.recon_run.specs.Answers.{IsFileFault};
+ghost use Rattle.recon_run.specs.Endings.{Answers, IsCut};
+ghost use Rattle.solid_model.specs.declared.fault.Fault.{Fault};
 
 /// An input has at most one first fault.
 pub fn one_first_fault()
-    ensures { (input : List ℕ) (a b : FirstFault)
-        → IsFirstFault input a → IsFirstFault input b → a ≡ b }
+    ensures { (input : List ℕ) (a b : Fault) → IsFileFault input a → IsFileFault input b → a ≡ b }
 {}
 
-/// Arguments and an input have at most one right answer, and one text that goes with it.
+/// Arguments and an input have at most one right answer, and one text that goes with it; but where
+/// both limits of the search are passed either cut is right, and a cut leaves open which of the
+/// solids are listed.
 pub fn one_answer()
     ensures answer { (words : List (List ℕ)) (input : List ℕ) (rest left : Option (List ℕ))
         (a b : Answer) (text other : List ℕ) → Answers words (Some input) rest a text
-        → Answers words (Some input) left b other → a ≡ b }
+        → Answers words (Some input) left b other → (a ≡ b) ⊎ (IsCut a × IsCut b) }
     ensures text { (words : List (List ℕ)) (input : List ℕ) (rest left : Option (List ℕ))
         (a b : Answer) (text other : List ℕ) → Answers words (Some input) rest a text
-        → Answers words (Some input) left b other → text ≡ other }
+        → Answers words (Some input) left b other → (IsCut a → ⊥) → text ≡ other }
 {}
 
 /// Arguments and an input never lack a right answer: it can't be that no answer goes with a text.

@@ -2,7 +2,6 @@
 #![tactic(auto)]
 
 mod command;
-mod fault;
 mod fault_text;
 mod laws;
 mod problem;
@@ -13,7 +12,6 @@ mod text;
 mod words;
 
 pub use command::run;
-pub use fault::FirstFault;
 pub use laws::{one_answer, one_first_fault, some_answer};
 pub use problem::problem_of;
 pub use status::{Answer, Found, Status, Stop};

@@ -21,8 +21,7 @@ use virtual_faces::faces_of;
 /// memory. The file has at most 16,777,216 bytes.
 pub fn problem_of(alloc: Global, file: Vec<u8>) -> Result<Problem, Refused>
     requires { length file.items ≤ most_file_bytes }
-    ensures problem { IfOk result (λ problem. HasProblem file.items problem.grid
-        problem.blocks.numbers problem.blocks.count) }
+    ensures problem { IfOk result (λ problem. HasProblem file.items problem) }
     ensures fault { (fault : Fault) → IsErrOf result (Refused.Fault fault)
         → IsFileFault file.items fault }
 {

@@ -2,14 +2,13 @@
 
 ghost use Rattle.std.specs.Prelude.{◌≡◌, IfOk};
 ghost use Rattle.recon_run.specs.declared.status.Answer.TheVariants.{Solve, Usage};
-ghost use Rattle.recon_run.specs.declared.status.Found.TheVariants.{Fault};
+ghost use Rattle.recon_run.specs.declared.status.Found.TheVariants.{Faulty};
 ghost use Rattle.recon_run.specs.Answers.{usage_text};
 ghost use Rattle.recon_run.specs.FaultText.{fault_text};
 
-use crate::fault::FirstFault;
 use crate::fault_text::fault_text;
 use crate::status::{Answer, Found};
-use solid_model::Memory;
+use solid_model::{Fault, Memory};
 use std::alloc::Global;
 
 /// An answer, and its text.
@@ -34,12 +33,12 @@ pub fn usage_reply(alloc: Global) -> Result<Reply, Memory>
 }
 
 /// The reply to a fault.
-pub fn fault_reply(alloc: Global, fault: FirstFault) -> Result<Reply, Memory>
-    ensures answer { IfOk result (λ reply. reply.answer ≡ Solve Fault) }
+pub fn fault_reply(alloc: Global, fault: Fault) -> Result<Reply, Memory>
+    ensures answer { IfOk result (λ reply. reply.answer ≡ Solve Faulty) }
     ensures text { IfOk result (λ reply. reply.text.items ≡ fault_text fault) }
 {
     Ok(Reply {
-        answer: Answer::Solve(Found::Fault),
+        answer: Answer::Solve(Found::Faulty),
         text: fault_text(alloc, fault)?,
     })
 }

@@ -1,26 +1,24 @@
 //! From a file's bytes to the text that lists its solids.
 
 ghost use Rattle.std.specs.Prelude.{◌≡◌, ◌≤◌, length, IfOk, IsErrOf};
-ghost use Rattle.recon_run.specs.declared.fault.FirstFault.{FirstFault};
-ghost use Rattle.recon_run.specs.declared.status.Found.TheVariants.{Whole};
-ghost use Rattle.recon_run.specs.Answers.{IsFirstFault, IsSolved};
+ghost use Rattle.recon_run.specs.declared.status.Found.TheVariants.{Ended};
+ghost use Rattle.recon_run.specs.Answers.{IsFileFault, IsSolved};
+ghost use Rattle.solid_model.specs.declared.ended.EndKind.{EndKind};
+ghost use Rattle.solid_model.specs.declared.fault.Fault.{Fault};
 ghost use Rattle.solid_model.specs.Limits.{most_file_bytes};
 
-use crate::fault::FirstFault;
 use crate::problem::problem_of;
-use crate::text::block_text;
-use plain_search::matching_choices;
-use solid_model::{Memory, Refused};
-use std::alloc::Global;
-
-/// The most blocks of which all choices are tried.
-const MOST_TRIED_BLOCKS: u16 = 12;
+use crate::text::node_text;
+use search_tree::solve_alone;
+use solid_model::{EndKind, Fault, Limits, Memory, Problem, Refused};
+use std::alloc::{AllocFailed, Global};
+use std::sync::Arc;
 
 /// Why a file's solids aren't listed.
 #[derive(Clone, Copy)]
 pub enum Unsolved {
     /// The file has this first fault.
-    Fault(FirstFault),
+    Fault(Fault),
     /// Out of memory.
     Memory,
 }
@@ -32,7 +30,7 @@ impl From<Refused> for Unsolved {
 
     fn from(refused: Refused) -> Unsolved {
         match refused {
-            Refused::Fault(fault) => Unsolved::Fault(FirstFault::File(fault)),
+            Refused::Fault(fault) => Unsolved::Fault(fault),
             Refused::Memory => Unsolved::Memory,
         }
     }
@@ -48,17 +46,36 @@ impl From<Memory> for Unsolved {
     }
 }
 
-/// The text that lists all solids that a file's drawing shows, or the file's first fault.
-pub fn solve(alloc: Global, file: Vec<u8>) -> Result<Vec<u8>, Unsolved>
-    requires { length file.items ≤ most_file_bytes }
-    ensures whole { IfOk result (λ text. IsSolved file.items Whole text.items) }
-    ensures fault { (fault : FirstFault) → IsErrOf result (Unsolved.Fault fault)
-        → IsFirstFault file.items fault }
-{
-    let problem = problem_of(alloc, file)?;
-    if problem.blocks().count() > MOST_TRIED_BLOCKS {
-        return Err(Unsolved::Fault(FirstFault::TooLarge));
+impl From<AllocFailed<Problem>> for Unsolved {
+    ghost use Rattle.recon_run.specs.declared.solve.Unsolved.TheVariants as unsolved;
+
+    ghost from_gives = { λ _ e. e ≡ unsolved.Memory };
+
+    fn from(_error: AllocFailed<Problem>) -> Unsolved {
+        Unsolved::Memory
     }
-    let choices = matching_choices(alloc, &problem)?;
-    Ok(block_text(alloc, &problem, choices.as_slice())?)
+}
+
+/// What lists solids: how their search ended, and the text.
+#[derive(Drop)]
+pub struct Listing {
+    pub kind: EndKind,
+    pub text: Vec<u8>,
+}
+
+/// The text that lists the solids that a file's drawing shows, within limits, or the file's first
+/// fault.
+pub fn solve(alloc: Global, file: Vec<u8>, limits: Limits) -> Result<Listing, Unsolved>
+    requires { length file.items ≤ most_file_bytes }
+    ensures ended { IfOk result (λ listing. IsSolved limits file.items (Ended listing.kind)
+        listing.text.items) }
+    ensures fault { (fault : Fault) → IsErrOf result (Unsolved.Fault fault)
+        → IsFileFault file.items fault }
+{
+    let problem = Arc::new(alloc, problem_of(alloc, file)?)?;
+    let ended = solve_alone(alloc, &problem, limits)?;
+    Ok(Listing {
+        kind: ended.kind,
+        text: node_text(alloc, &problem, limits, &ended)?,
+    })
 }

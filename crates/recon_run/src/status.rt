@@ -2,13 +2,15 @@
 
 ghost use Rattle.std.specs.Prelude.{◌≡◌};
 
+use solid_model::EndKind;
+
 /// What `solve` found.
 #[derive(Clone, Copy, Debug, PartialEq, Eq)]
 pub enum Found {
-    /// All matching solids, and they are listed.
-    Whole,
+    /// Solids, by a search that ended so.
+    Ended(EndKind),
     /// A fault of the input.
-    Fault,
+    Faulty,
 }
 
 /// What a run answers.
@@ -48,9 +50,11 @@ impl Status {
         ensures { result ≡ status_code self }
     {
         match self {
-            Status::Answered(Answer::Solve(Found::Whole)) => 0,
-            Status::Answered(Answer::Solve(Found::Fault)) => 1,
+            Status::Answered(Answer::Solve(Found::Ended(EndKind::Whole))) => 0,
+            Status::Answered(Answer::Solve(Found::Faulty)) => 1,
             Status::Answered(Answer::Usage) => 2,
+            Status::Answered(Answer::Solve(Found::Ended(EndKind::CutNodes))) => 3,
+            Status::Answered(Answer::Solve(Found::Ended(EndKind::CutSolids))) => 4,
             Status::Stopped(Stop::ReadFault) => 5,
             Status::Stopped(Stop::WriteFault) => 6,
             Status::Stopped(Stop::Memory) => 7,

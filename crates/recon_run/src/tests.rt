@@ -6,6 +6,7 @@ mod entities;
 mod files;
 mod rows;
 mod runs;
+mod searches;
 mod sets;
 mod texts;
 mod values;

@@ -10,8 +10,8 @@ use Rattle.solid_model.specs.Blocks.{IsOutside, AreBlocksOf}
 use Rattle.solid_model.specs.Cells.{is_full}
 use Rattle.solid_model.specs.Choices.{ChoicePrecedes, AreChoicesThat, cells_of_choice, IsMatchingChoice, AreSolidsOfChoices}
 use Rattle.solid_model.specs.Grid.{LiesInGridCell, IsUnionOf}
-use Rattle.solid_model.specs.Lists.{Ascends}
-use Rattle.solid_model.specs.Matching.{Matches, AreSolidsOf}
+use Rattle.solid_model.specs.Lists.{Each, Ascends}
+use Rattle.solid_model.specs.Matching.{Matches, AreSolidsOf, AreSomeSolidsOf}
 use Rattle.solid_model.specs.Orders.{SolidPrecedes}
 use Rattle.solid_model.specs.Panels.{GridParts, coordinates_of, IsGridOf}
 use Rattle.solid_model.specs.Rooms.{is_within, number_at}
@@ -22,7 +22,7 @@ use Rattle.solid_model.proofs.ChosenSolids.{union_precedes, matching_union}
 use Rattle.solid_model.proofs.ConstantOnBlocks.{same_in_joined, empty_in_outside}
 use Rattle.solid_model.proofs.Corners.{corners, corner_of, corner_lies, length-corners, within-is_grid_cell}
 use Rattle.solid_model.proofs.ItemOrder.{AreInOrder, rooms_in_order, length-cells_of_choice, cells_precede, one_choice, IsConstant, choice_of_cells}
-use Rattle.solid_model.proofs.SolidsOfChoices.{all_solids, choices_of_solids}
+use Rattle.solid_model.proofs.SolidsOfChoices.{all_solids, some_solids, choices_of_solids}
 
 -- blocks are numbered by their first cells
 blocks_in_order : (g : GridParts) (blocks : List (Option ℕ)) (count : ℕ) → AreBlocksOf g blocks count → AreInOrder blocks count
@@ -108,6 +108,12 @@ module _ (drawing : Segment → Style) (g : GridParts) (grid : IsGridOf drawing 
   pub all_solids_of_blocks : (choices : List (List Bool)) → AreChoicesThat (IsMatchingChoice drawing (coordinates_of g) blocks) count choices
       → (ss : List (List Cell)) × AreSolidsOf drawing ss × AreSolidsOfChoices (coordinates_of g) blocks count choices ss
   all_solids_of_blocks = all_solids drawing (coordinates_of g) ascends blocks count in_order found
+
+  -- And some of those choices, in order, are some of those solids.
+  pub some_solids_of_blocks : (choices : List (List Bool)) → Each (λ choice. (length choice ≡ count) × IsMatchingChoice drawing (coordinates_of g) blocks choice) choices
+      → Ascends ChoicePrecedes choices
+      → (ss : List (List Cell)) × AreSomeSolidsOf drawing ss × AreSolidsOfChoices (coordinates_of g) blocks count choices ss
+  some_solids_of_blocks = some_solids drawing (coordinates_of g) ascends blocks count in_order
 
 -- The choices of blocks that fill given solids are one list.
 pub one_list_of_block_choices : (g : GridParts) → ((a : Axis) → Ascends ◌<ℤ◌ (coordinates_of g a)) → (blocks : List (Option ℕ)) (count : ℕ)

@@ -51,3 +51,11 @@ pub mod ComparedChoices
 pub mod WithoutRepeats
 pub mod Volumes
 pub mod SmallVolumes
+pub mod PrefixTree
+pub mod AllowedReports
+pub mod ChoicesInOrder
+pub mod CompleteTree
+pub mod AllLines
+pub mod KnownColumns
+pub mod SightLines
+pub mod MetLines

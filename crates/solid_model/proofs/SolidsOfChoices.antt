@@ -11,7 +11,7 @@ use Rattle.solid_model.specs.Choices.{ChoicePrecedes, AreChoicesThat, is_chosen,
 use Rattle.solid_model.specs.Frames.{frame_of}
 use Rattle.solid_model.specs.Grid.{Coordinates, grid_cell_count, IsUnionOf}
 use Rattle.solid_model.specs.Lists.{Member, Each, Ascends}
-use Rattle.solid_model.specs.Matching.{Matches, AreSolidsOf}
+use Rattle.solid_model.specs.Matching.{Matches, AreSolidsOf, AreSomeSolidsOf}
 use Rattle.solid_model.specs.Orders.{IsInStatedForm, SolidPrecedes}
 use Rattle.solid_model.proofs.CellOrder.{stated_form}
 use Rattle.solid_model.proofs.ChosenSolids.{one_union, chosen_at_corners}
@@ -91,7 +91,16 @@ module _ (drawing : Segment → Style) (coordinates : Coordinates) (ascends : (a
         let own = stated_solid choice h.0 in
         (solid-before choice own.0 h.0.0 own.1.filled choices h.1 ordered.0, solids-ordered choices h.1 ordered.1)
 
-    -- so all matching choices are all matching solids
+    -- so some matching choices are some matching solids,
+    pub some_solids : (choices : List (List Bool)) → Each Is choices → Ascends ChoicePrecedes choices
+        → (ss : List (List Cell)) × AreSomeSolidsOf drawing ss × AreSolidsOfChoices coordinates items n choices ss
+    some_solids choices each ordered = (
+      solids choices each,
+      record { matching = solids-matching choices each; ordered = solids-ordered choices each ordered },
+      solids-filled choices each,
+    )
+
+    -- and all of them are all
     pub all_solids : ((s : List Cell) → Matches drawing s → (choice : List Bool) × (length choice ≡ n) × IsUnionOf coordinates (cells_of_choice items choice) (is_full s))
         → (choices : List (List Bool)) → AreChoicesThat (IsMatchingChoice drawing coordinates items) n choices
         → (ss : List (List Cell)) × AreSolidsOf drawing ss × AreSolidsOfChoices coordinates items n choices ss

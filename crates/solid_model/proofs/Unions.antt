@@ -17,7 +17,7 @@ use Rattle.solid_model.proofs.UnionDrawing.{one_gap, in_grid_or_not}
 -- ---- lists over three axes
 
 -- a member of a member is one of all together
-member-joined : {A : Type 0} (xss : List (List A)) (xs : List A) (x : A) → Member xss xs → Member xs x → Member (joined xss) x
+pub member-joined : {A : Type 0} (xss : List (List A)) (xs : List A) (x : A) → Member xss xs → Member xs x → Member (joined xss) x
 member-joined [] xs x k l = absurd k
 member-joined (ys ∷ xss) xs x (inl e) l = member-append_left ys (joined xss) x (subst (λ zs. Member zs x) (sym e) l)
 member-joined (ys ∷ xss) xs x (inr k) l = member-append_right ys (joined xss) x (member-joined xss xs x k l)

@@ -30,3 +30,8 @@ pub mod Wire
 pub mod VirtualFaces
 pub mod Blocks
 pub mod Volumes
+pub mod Demands
+pub mod Tree
+pub mod Reports
+pub mod Search
+pub mod SmallTree

@@ -29,6 +29,10 @@ most_grid_coordinates = 64
 abbrev pub most_blocks : ℕ
 most_blocks = 4096
 
--- the most blocks of which all choices are tried
-abbrev pub most_tried_blocks : ℕ
-most_tried_blocks = 12
+-- the greatest limit of the nodes of a search
+abbrev pub most_node_limit : ℕ
+most_node_limit = 4000000
+
+-- the greatest limit of its solids
+abbrev pub most_solid_limit : ℕ
+most_solid_limit = 65536

@@ -18,3 +18,8 @@ pub record AreSolidsOf (drawing : Segment → Style) (solids : List (List Cell))
   pub matching : Each (λ s. Matches drawing s × IsInStatedForm s) solids
   pub ordered : Ascends SolidPrecedes solids
   pub complete : (s : List Cell) → Matches drawing s → (t : List Cell) × Member solids t × SameCells s t
+
+-- some of them: each in the stated form, in the stated order
+pub record AreSomeSolidsOf (drawing : Segment → Style) (solids : List (List Cell)) : Type 0 where
+  pub matching : Each (λ s. Matches drawing s × IsInStatedForm s) solids
+  pub ordered : Ascends SolidPrecedes solids

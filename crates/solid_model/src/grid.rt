@@ -5,6 +5,7 @@ ghost use Rattle.solid_model.specs.declared.segment.Style.TheVariants.{Blank};
 
 use crate::cell::Axis;
 use crate::frame::View;
+use crate::line_id::LineId;
 use crate::panels::Panels;
 use crate::per_axis::PerAxis;
 use crate::segment::Style;
@@ -61,11 +62,12 @@ fn style_in(styles: &[Style], place: usize) -> Style
 impl Grid {
     ghost use Rattle.std.specs.Prelude.{◌≡◌, ◌↔◌, ◌<◌, ◌≤◌, pos, IsTrue};
     ghost use Rattle.solid_model.specs.declared.cell.Axis.{Axis};
+    ghost use Rattle.solid_model.specs.Demands.{has_line, line_style};
     ghost use Rattle.solid_model.specs.Grid.{gaps_along, grid_cell_count};
     ghost use Rattle.solid_model.specs.Panels.{coordinates_of, IsGrid};
     ghost use Rattle.solid_model.specs.PerAxis.{numbers_of};
     ghost use Rattle.solid_model.specs.Volumes.{gap_width};
-    ghost use Rattle.solid_model.specs.Wire.{grid_sizes, grid_style};
+    ghost use Rattle.solid_model.specs.Wire.{grid_sizes, axis_along, axis_across, grid_style};
 
     /// The grid with these coordinates, whose segments have these styles: those of a drawing.
     pub fn new(xs: Vec<i64>, ys: Vec<i64>, zs: Vec<i64>, panels: Panels) -> Grid
@@ -139,15 +141,51 @@ impl Grid {
 
     /// The style of a view's level, or upright, segment on the line at the `line`-th coordinate
     /// across it, along which it is the `cell`-th: Blank where there is none.
-    pub fn style(&self, view: View, upright: bool, line: usize, cell: usize) -> Style
+    pub fn style_at(&self, view: View, upright: bool, line: usize, cell: usize) -> Style
         ensures { result ≡ grid_style self.now view upright (pos line) (pos cell) }
     {
-        let sizes = self.sizes();
-        let width = sizes.along(view.frame().along(upright).axis);
-        if line > sizes.along(view.frame().across(upright).axis) || cell >= width {
+        let width = self.cells_along(view, upright);
+        if line > self.cells_across(view, upright) || cell >= width {
             return Style::Blank;
         }
         style_in(self.panels.view(view).along(upright), line * width + cell)
+    }
+
+    /// How many grid cells there are along a view's level, or upright, segments.
+    pub fn cells_along(&self, view: View, upright: bool) -> usize
+        ensures same { result ≡ grid_sizes self.now (axis_along view upright) }
+        ensures few { result ≤ 63 }
+    {
+        self.sizes().along(view.frame().along(upright).axis)
+    }
+
+    /// How many there are across them.
+    pub fn cells_across(&self, view: View, upright: bool) -> usize
+        ensures same { result ≡ grid_sizes self.now (axis_across view upright) }
+        ensures few { result ≤ 63 }
+    {
+        self.sizes().along(view.frame().across(upright).axis)
+    }
+
+    /// Whether it has the line.
+    pub fn has(&self, line: LineId) -> bool
+        ensures { result ≡ has_line self.now line }
+    {
+        usize::from(line.at) < self.cells_across(line.view, line.upright) + 1
+            && usize::from(line.cell) < self.cells_along(line.view, line.upright)
+    }
+
+    /// The style of a line that it has.
+    pub fn style(&self, line: LineId) -> Style
+        requires { IsTrue (has_line self.now line) }
+        ensures { result ≡ line_style self.now line }
+    {
+        self.style_at(
+            line.view,
+            line.upright,
+            usize::from(line.at),
+            usize::from(line.cell),
+        )
     }
 
     /// How far it is from the coordinate of this number along an axis, counted from 0, to the next.

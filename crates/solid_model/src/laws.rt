@@ -1,6 +1,7 @@
 //! The laws over the definitions. Each is the contract of a function that does nothing.
 
 mod blocks;
+mod demands;
 mod drawings;
 mod grid;
 mod orders;
@@ -9,11 +10,13 @@ mod rooms;
 mod runs;
 mod sheets;
 mod stretches;
+mod tree;
 mod volumes;
 
 pub use blocks::{
     all_matching_choices_are_all_matching_solids, matching_solids_are_constant_on_blocks,
 };
+pub use demands::demands_are_computed;
 pub use drawings::{
     column_rule, each_segment_has_one_style, fillings_round_an_edge,
     order_and_repeats_do_not_matter, quartered_cube, small_drawings,
@@ -35,4 +38,5 @@ pub use sheets::{
     lines_have_a_drawing, moved_drawings_begin_at_zero, small_sheet, views_begin_at_the_least_lines,
 };
 pub use stretches::maximal_stretches;
+pub use tree::{small_tree, the_tree_is_complete};
 pub use volumes::volumes_count_unit_cells;

@@ -46,8 +46,8 @@ fn told_file(alloc: Global, frame: &str, told: &str) -> Result<String, AllocErro
 /// The status and the text that are wanted.
 fn wanted_text(alloc: Global, told: &str) -> Result<String, AllocError> {
     let text = match told {
-        "unit cube" => "0 whole 1 blocks 1|solid 1 choice 1 volume 1",
-        "three cubes" => "0 whole 1 blocks 1|solid 1 choice 1 volume 3",
+        "unit cube" => "0 whole 1 nodes 2 blocks 1|solid 1 choice 1 volume 1",
+        "three cubes" => "0 whole 1 nodes 2 blocks 1|solid 1 choice 1 volume 3",
         text => text,
     };
     text.replace(alloc, "|", "\n")

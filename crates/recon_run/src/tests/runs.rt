@@ -59,7 +59,7 @@ solve |
 
 const USAGE: &str = "2 usage: recon solve|redraw|make|trial\n";
 
-const UNIT_CUBE: &str = "0 whole 1 blocks 1\nsolid 1 choice 1 volume 1\n";
+const UNIT_CUBE: &str = "0 whole 1 nodes 2 blocks 1\nsolid 1 choice 1 volume 1\n";
 
 /// What `solve` writes where nothing is left.
 const NOTHING_LEFT: &str = "1 fault F4 NoEof line 1\n";

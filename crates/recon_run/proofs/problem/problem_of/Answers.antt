@@ -60,13 +60,13 @@ returns-clause-problem c =
     let blocks = c.in_ok-blocks.blocks in
     let reads = of_file c.new.ensures c.in_ok-lines.ensures.lines c.as_slice.ensures.value in
     let grid = of_lines c.as_slice.result.now {drawing = style_in c.in_ok-drawing.drawing} c.in_ok-drawing.ensures.drawn (λ d. IsGridOf d c.in_ok-grid.grid) c.in_ok-grid.ensures.grid in
-    let has : HasProblem c.args.file.items c.in_ok-grid.grid blocks.numbers blocks.count = record {
+    let has : HasProblem c.args.file.items (record { grid = c.in_ok-grid.grid; blocks = blocks }) = record {
       short = c.requires;
       lines = c.as_slice.result.now;
       reads = reads;
       shown = c.in_ok-drawing.ensures.shown;
       grid = grid;
-      blocks = c.in_ok-blocks.ensures.blocks.blocks;
+      blocks = c.in_ok-blocks.ensures.blocks;
       few = c.in_ok-blocks.ensures.few;
     } in
-    subst (λ p. HasProblem c.args.file.items p.grid p.blocks.numbers p.blocks.count) (sym c.new-2.ensures) has
+    subst (λ p. HasProblem c.args.file.items p) (sym c.new-2.ensures) has

@@ -1,0 +1,14 @@
+pub mod Prefixes
+pub mod OwnColumns
+pub mod ColumnNumbers
+pub mod SomeStyle
+pub mod SomeLines
+pub mod LineStyles
+pub mod LivePrefixes
+pub mod Marking
+pub mod Deciding
+pub mod BoxSight
+pub mod KnownSight
+pub mod KnownCells
+pub mod ListParts
+pub mod FirstBroken

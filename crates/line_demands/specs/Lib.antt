@@ -1,0 +1,4 @@
+pub mod Broken
+pub mod Cells
+pub mod Decisions
+pub mod Sight

@@ -1,2 +1,0 @@
-pub mod ChoicesInOrder
-mod Filled

@@ -1,0 +1,7 @@
+pub mod Walks
+pub mod OpenedPrefixes
+pub mod StatedOrder
+pub mod SearchEnds
+pub mod NextPrefixes
+pub mod ToldTrees
+pub mod ProblemTrees

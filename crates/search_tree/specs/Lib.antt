@@ -1,0 +1,5 @@
+pub mod Walk
+pub mod Opened
+pub mod Rest
+pub mod Words
+pub mod BlockPaths
