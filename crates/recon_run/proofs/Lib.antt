@@ -2,7 +2,9 @@ pub mod Grids
 pub mod Problems
 pub mod Faults
 pub mod Solved
+pub mod Told
 pub mod Sources
-pub mod Endings
-pub mod Totality
 pub mod OneAnswer
+pub mod Endings
+pub mod TextByText
+pub mod Totality

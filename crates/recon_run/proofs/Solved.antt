@@ -1,16 +1,18 @@
--- From the end of a search to what is answered.
-use Rattle.std.proofs.Common.{◌≡◌, ℕ, suc, ◌<◌, ◌≤◌, List, [], ◌∷◌, Bool, length, map, Option, refl, sym, ap, ap₂, subst, ◌∙◌, arith}
+-- From the end of a search, and what is told of it, to what is answered.
+use Rattle.std.proofs.Common.{◌≡◌, ℕ, zero, suc, ◌+◌, ◌<◌, ◌≤◌, List, [], ◌∷◌, ◌++◌, Bool, length, take, Option, refl, sym, ap, subst, ◌∙◌, arith}
 use Rattle.line_demands.proofs.LivePrefixes.{live_keeps_matching}
 use Rattle.recon_run.specs.declared.status.Found.TheVariants.{Ended}
-use Rattle.recon_run.specs.Answers.{node_count, HasProblem, IsSolved}
-use Rattle.recon_run.specs.NodeText.{volumes_of, node_text}
+use Rattle.recon_run.specs.Answers.{node_count, HasProblem, CanEnd, AreListed, ListedSolids, TellsSolids, IsSolved, IsBegun}
+use Rattle.recon_run.specs.Findings.{TellsChoices}
 use Rattle.recon_run.proofs.Problems.{problem_drawing}
+use Rattle.report.specs.Texts.{head_text, solid_text}
 use Rattle.solid_model.specs.declared.cell.Cell.{Cell}
 use Rattle.solid_model.specs.declared.ended.EndKind.{EndKind}
 use Rattle.solid_model.specs.declared.ended.EndKind.TheVariants.{Whole, CutNodes, CutSolids}
 use Rattle.solid_model.specs.declared.segment.Segment.{Segment}
 use Rattle.solid_model.specs.declared.segment.Style.{Style}
 use Rattle.solid_model.specs.Blocks.{ProblemParts}
+use Rattle.solid_model.specs.Cells.{is_full}
 use Rattle.solid_model.specs.Choices.{AreChoicesThat, cells_of_choice, IsMatchingChoice, AreSolidsOfChoices}
 use Rattle.solid_model.specs.Demands.{is_live}
 use Rattle.solid_model.specs.Drawings.{drawing_of}
@@ -18,25 +20,14 @@ use Rattle.solid_model.specs.Grid.{Coordinates}
 use Rattle.solid_model.specs.Lists.{Member, Each}
 use Rattle.solid_model.specs.Matching.{Matches, AreSolidsOf, AreSomeSolidsOf}
 use Rattle.solid_model.specs.Orders.{IsInStatedForm}
-use Rattle.solid_model.specs.Panels.{GridParts, coordinates_of, IsGridOf}
+use Rattle.solid_model.specs.Panels.{coordinates_of}
 use Rattle.solid_model.specs.Search.{SearchLimits, AreSomeOf, EndsAs}
 use Rattle.solid_model.specs.Tree.{live_below}
 use Rattle.solid_model.proofs.BlockChoices.{all_solids_of_blocks, some_solids_of_blocks}
-use Rattle.solid_model.proofs.Lists.{each-at, each-weaker}
 use Rattle.solid_model.proofs.CompleteTree.{complete_tree}
+use Rattle.solid_model.proofs.Lists.{each-at, each-weaker}
+use Rattle.solid_model.proofs.SomeFaces.{some_faces}
 use Rattle.solid_model.proofs.Volumes.{volume_counts}
-
--- the volumes of choices are the numbers of unit cells of the solids that they fill
-volumes_count : (drawing : Segment → Style) (g : GridParts) → IsGridOf drawing g → (numbers : List (Option ℕ)) (count : ℕ)
-    (choices : List (List Bool)) (solids : List (List Cell))
-    → Each (λ s. Matches drawing s × IsInStatedForm s) solids → AreSolidsOfChoices (coordinates_of g) numbers count choices solids
-    → volumes_of (coordinates_of g) numbers choices ≡ map (λ (s : List Cell). length s) solids
-volumes_count drawing g grid numbers count [] [] each filled = refl
-volumes_count drawing g grid numbers count [] (s ∷ solids) each filled = absurd filled
-volumes_count drawing g grid numbers count (choice ∷ choices) [] each filled = absurd filled
-volumes_count drawing g grid numbers count (choice ∷ choices) (s ∷ solids) each filled =
-    ap₂ ◌∷◌ (sym (volume_counts (coordinates_of g) (λ a. (grid.coordinates a).ordered) (cells_of_choice numbers choice) s filled.1 each.0.1))
-    (volumes_count drawing g grid numbers count choices solids each.1 filled.2)
 
 -- choices fill as many solids
 as_many : (coordinates : Coordinates) (numbers : List (Option ℕ)) (count : ℕ) (choices : List (List Bool)) (solids : List (List Cell))
@@ -53,6 +44,41 @@ module _ (limits : SearchLimits) (t : List ℕ) (p : ProblemParts) (has : HasPro
   abbrev Fill : List (List Bool) → List (List Cell) → Type 0
   Fill = AreSolidsOfChoices (coordinates_of p.grid) p.blocks.numbers p.blocks.count
 
+  abbrev IsStated : List Cell → Type 0
+  IsStated s = Matches drawing s × IsInStatedForm s
+
+  -- ---- what is told of solids
+
+  -- the texts that tell choices tell the solids that they fill: a volume is a number of unit cells
+  tells_solids : (number : ℕ) (choices : List (List Bool)) (solids : List (List Cell)) → Each IsStated solids → Fill choices solids
+      → (text : List ℕ) → TellsChoices p number choices text → TellsSolids number choices solids text
+  tells_solids number [] [] each filled text tells = tells
+  tells_solids number [] (s ∷ solids) each filled text tells = absurd filled
+  tells_solids number (choice ∷ choices) [] each filled text tells = absurd filled
+  tells_solids number (choice ∷ choices) (s ∷ solids) each filled text (first, (faces, are, told), rest, tells, is) = (
+    faces,
+    are (is_full s) filled.1,
+    rest,
+    tells_solids (number + 1) choices solids each.1 filled.2 rest tells,
+    is ∙ ap (λ bytes. bytes ++ rest) told ∙ ap (λ volume. solid_text number choice volume faces ++ rest)
+        (sym (volume_counts (coordinates_of p.grid) (λ a. (has.grid.coordinates a).ordered) (cells_of_choice p.blocks.numbers choice) s filled.1 each.0.1)),
+  )
+
+  -- the first of them fill the first of these
+  fill_take : (first : ℕ) (choices : List (List Bool)) (solids : List (List Cell)) → Fill choices solids → Fill (take first choices) (take first solids)
+  fill_take zero choices solids filled = tt
+  fill_take (suc first) [] [] filled = tt
+  fill_take (suc first) [] (s ∷ solids) filled = absurd filled
+  fill_take (suc first) (choice ∷ choices) [] filled = absurd filled
+  fill_take (suc first) (choice ∷ choices) (s ∷ solids) filled = (filled.0, filled.1, fill_take first choices solids filled.2)
+
+  each_take : (first : ℕ) (solids : List (List Cell)) → Each IsStated solids → Each IsStated (take first solids)
+  each_take zero solids each = tt
+  each_take (suc first) [] each = tt
+  each_take (suc first) (s ∷ solids) each = (each.0, each_take first solids each.1)
+
+  -- ---- what is found
+
   -- the live prefixes of full length
   abbrev pub whole : List (List Bool)
   whole = live_below (is_live p) p.blocks.count []
@@ -63,11 +89,11 @@ module _ (limits : SearchLimits) (t : List ℕ) (p : ProblemParts) (has : HasPro
       (live_keeps_matching drawing (problem_drawing t p has) p has.grid has.blocks)
 
   -- and fill all matching solids
-  pub all : (solids : List (List Cell)) × AreSolidsOf drawing solids × Fill whole solids
+  all : (solids : List (List Cell)) × AreSolidsOf drawing solids × Fill whole solids
   all = all_solids_of_blocks drawing p.grid has.grid p.blocks.numbers p.blocks.count has.blocks.blocks whole matching
 
-  pub all_as_many : length whole ≡ length all.0
-  all_as_many = as_many (coordinates_of p.grid) p.blocks.numbers p.blocks.count whole all.0 all.2
+  count_solids : (choices : List (List Bool)) (solids : List (List Cell)) → Fill choices solids → length choices ≡ length solids
+  count_solids = as_many (coordinates_of p.grid) p.blocks.numbers p.blocks.count
 
   -- some of those choices fill some of those solids
   some : (choices : List (List Bool)) → AreSomeOf (is_live p) p.blocks.count choices
@@ -77,59 +103,100 @@ module _ (limits : SearchLimits) (t : List ℕ) (p : ProblemParts) (has : HasPro
       (λ choice member. each-at (λ choice. (length choice ≡ p.blocks.count) × IsMatchingChoice drawing (coordinates_of p.grid) p.blocks.numbers choice) whole choice matching.each member)
       are.listed) are.ordered
 
-  -- the text of a search that ended so
-  abbrev pub text_of : EndKind → ℕ → List (List Bool) → List ℕ
-  text_of kind opened choices = node_text limits p.blocks.count (record { kind = kind; opened = opened; solids = choices })
-      (volumes_of (coordinates_of p.grid) p.blocks.numbers choices)
+  -- what a search that ended so lists
+  record IsListing (kind : EndKind) (opened : ℕ) (choices : List (List Bool)) (solids : List (List Cell)) : Type 0 where
+    can : CanEnd limits t kind
+    listed : AreListed limits drawing kind solids
+    filled : Fill choices solids
+    each : Each IsStated solids
+    head : head_text limits kind (length choices) opened p.blocks.count ≡ head_text limits kind (length solids) (node_count p) p.blocks.count
 
-  -- tells the solids' numbers of cells
-  told : (kind : EndKind) (opened : ℕ) (choices : List (List Bool)) (solids : List (List Cell)) → Each (λ s. Matches drawing s × IsInStatedForm s) solids
-      → Fill choices solids → text_of kind opened choices
-      ≡ node_text limits p.blocks.count (record { kind = kind; opened = opened; solids = choices }) (map (λ (s : List Cell). length s) solids)
-  told kind opened choices solids each filled =
-      ap (node_text limits p.blocks.count (record { kind = kind; opened = opened; solids = choices }))
-      (volumes_count drawing p.grid has.grid p.blocks.numbers p.blocks.count choices solids each filled)
-
-  -- what the search ends as is the answer
-  pub solved : (kind : EndKind) (opened : ℕ) (choices : List (List Bool)) → EndsAs (is_live p) p.blocks.count limits kind opened choices
-      → IsSolved limits t (Ended kind) (text_of kind opened choices)
-  solved Whole opened choices (few_nodes, few_solids, counted, listed) =
-      subst (λ n. IsSolved limits t (Ended Whole) (text_of Whole n choices)) (sym counted)
-      (subst (λ cs. IsSolved limits t (Ended Whole) (text_of Whole (node_count p) cs)) (sym listed) (
-        record { problem = p; has = has; solids = all.0; all = all.1; allows = (few_nodes, omega (arith, few_solids, all_as_many)) },
+  listing : (kind : EndKind) (opened : ℕ) (choices : List (List Bool)) → EndsAs (is_live p) p.blocks.count limits kind opened choices
+      → (solids : List (List Cell)) × IsListing kind opened choices solids
+  listing Whole opened choices (few_nodes, few_solids, counted, is_whole) =
+      let filled : Fill choices all.0 = subst (λ cs. Fill cs all.0) (sym is_whole) all.2 in (
+        all.0,
         record {
-          problem = p;
-          has = has;
-          solids = all.0;
+          can = record { problem = p; has = has; solids = all.0; all = all.1; allows = (few_nodes, omega (arith, few_solids, count_solids whole all.0 all.2)) };
           listed = all.1;
-          choices = whole;
-          filled = all.2;
-          told = told Whole (node_count p) whole all.0 all.1.matching all.2;
-        },
-      ))
-  solved CutNodes opened choices (many, counted, are, few) =
-      let found = some choices are in (
-        record { problem = p; has = has; solids = all.0; all = all.1; allows = omega (arith, many, counted) },
-        record {
-          problem = p;
-          has = has;
-          solids = found.0;
-          listed = (found.1, subst (λ n. n ≤ limits.solids) (as_many (coordinates_of p.grid) p.blocks.numbers p.blocks.count choices found.0 found.2) few);
-          choices = choices;
-          filled = found.2;
-          told = told CutNodes opened choices found.0 found.1.matching found.2;
+          filled = filled;
+          each = all.1.matching;
+          head = λ i. head_text limits Whole (count_solids choices all.0 filled i) (counted i) p.blocks.count;
         },
       )
-  solved CutSolids opened choices (many, counted, are, as_asked) =
+  listing CutNodes opened choices (many, counted, are, few) =
       let found = some choices are in (
-        record { problem = p; has = has; solids = all.0; all = all.1; allows = subst (λ n. limits.solids < n) all_as_many many },
+        found.0,
         record {
-          problem = p;
-          has = has;
-          solids = found.0;
-          listed = (found.1, sym (as_many (coordinates_of p.grid) p.blocks.numbers p.blocks.count choices found.0 found.2) ∙ as_asked);
-          choices = choices;
+          can = record { problem = p; has = has; solids = all.0; all = all.1; allows = omega (arith, many, counted) };
+          listed = (found.1, subst (λ n. n ≤ limits.solids) (count_solids choices found.0 found.2) few);
           filled = found.2;
-          told = told CutSolids opened choices found.0 found.1.matching found.2;
+          each = found.1.matching;
+          head = refl;
         },
       )
+  listing CutSolids opened choices (many, counted, are, as_asked) =
+      let found = some choices are in (
+        found.0,
+        record {
+          can = record { problem = p; has = has; solids = all.0; all = all.1; allows = subst (λ n. limits.solids < n) (count_solids whole all.0 all.2) many };
+          listed = (found.1, sym (count_solids choices found.0 found.2) ∙ as_asked);
+          filled = found.2;
+          each = found.1.matching;
+          head = refl;
+        },
+      )
+
+  -- ---- the answer
+
+  -- the solids that it lists
+  abbrev listed_solids : (kind : EndKind) (opened : ℕ) (choices : List (List Bool)) (solids : List (List Cell)) → IsListing kind opened choices solids
+      → ListedSolids limits t kind
+  listed_solids kind opened choices solids is =
+      record { problem = p; has = has; solids = solids; listed = is.listed; choices = choices; filled = is.filled }
+
+  -- what the search ends as, with the texts of all its choices, is the answer
+  pub solved : (kind : EndKind) (opened : ℕ) (choices : List (List Bool)) → EndsAs (is_live p) p.blocks.count limits kind opened choices
+      → (texts : List ℕ) → TellsChoices p 1 choices texts
+      → IsSolved limits t (Ended kind) (head_text limits kind (length choices) opened p.blocks.count ++ texts)
+  solved kind opened choices ends texts tells =
+      let (solids, is) = listing kind opened choices ends in (
+        is.can,
+        (listed_solids kind opened choices solids is, texts, tells_solids 1 choices solids is.each is.filled texts tells, ap (λ head. head ++ texts) is.head),
+      )
+
+  -- and with the texts of the first of them it begins to be
+  pub begun : (kind : EndKind) (opened : ℕ) (choices : List (List Bool)) → EndsAs (is_live p) p.blocks.count limits kind opened choices
+      → (first : ℕ) (texts : List ℕ) → TellsChoices p 1 (take first choices) texts
+      → IsBegun limits t (Ended kind) (head_text limits kind (length choices) opened p.blocks.count ++ texts)
+  begun kind opened choices ends first texts tells =
+      let (solids, is) = listing kind opened choices ends in (
+        is.can,
+        (
+          listed_solids kind opened choices solids is,
+          first,
+          texts,
+          tells_solids 1 (take first choices) (take first solids) (each_take first solids is.each) (fill_take first choices solids is.filled) texts tells,
+          ap (λ head. head ++ texts) is.head,
+        ),
+      )
+
+  -- ---- some answer
+
+  -- it can't be that no text tells solids, since none lacks its faces
+  some_telling : (number : ℕ) (choices : List (List Bool)) (solids : List (List Cell)) → Fill choices solids
+      → ((text : List ℕ) → TellsSolids number choices solids text → ⊥) → ⊥
+  some_telling number [] [] filled never = never [] refl
+  some_telling number [] (s ∷ solids) filled never = absurd filled
+  some_telling number (choice ∷ choices) [] filled never = absurd filled
+  some_telling number (choice ∷ choices) (s ∷ solids) filled never =
+      some_faces s (λ faces are. some_telling (number + 1) choices solids filled.2 (λ rest tells.
+      never (solid_text number choice (length s) faces ++ rest) (faces, are, rest, tells, refl)))
+
+  -- or that no text is the answer where the search ends so
+  pub some_answer_of : (kind : EndKind) (opened : ℕ) (choices : List (List Bool)) → EndsAs (is_live p) p.blocks.count limits kind opened choices
+      → ((text : List ℕ) → IsSolved limits t (Ended kind) text → ⊥) → ⊥
+  some_answer_of kind opened choices ends never =
+      let (solids, is) = listing kind opened choices ends in
+      some_telling 1 choices solids is.filled (λ texts tells.
+      never (head_text limits kind (length solids) (node_count p) p.blocks.count ++ texts) (is.can, (listed_solids kind opened choices solids is, texts, tells, refl)))

@@ -1,5 +1,5 @@
 -- Words and an input never lack a right answer.
-use Rattle.std.proofs.Common.{◌≡◌, refl, inl, inr, ⊎_elim, Bool, true, false, ℕ, ◌+◌, ◌≤◌, List, [], ◌++◌, length, take, drop, Option, Some, Result, Ok, Err, ℤ, sym, subst, arith}
+use Rattle.std.proofs.Common.{◌≡◌, refl, inl, inr, ⊎_elim, Bool, true, false, ℕ, ◌+◌, ◌≤◌, List, [], ◌++◌, length, take, drop, Option, Some, None, Result, Ok, Err, ℤ, sym, subst, arith}
 use Rattle.std.proofs.lemmas.Bool.{cases_lt}
 use Rattle.std.proofs.lemmas.List.{take-append-drop, length-take-le}
 use Rattle.dxf_entities.specs.Reading.{read_of}
@@ -7,12 +7,11 @@ use Rattle.dxf_entities.proofs.KeptLines.{read_lines_are_kept}
 use Rattle.recon_run.specs.declared.status.Answer.{Answer}
 use Rattle.recon_run.specs.declared.status.Answer.TheVariants.{Solve, Usage}
 use Rattle.recon_run.specs.declared.status.Found.TheVariants.{Ended, Faulty}
-use Rattle.recon_run.specs.Answers.{default_limits, usage_text, IsFaultAfter, IsFileFault, HasProblem, IsSolved}
-use Rattle.recon_run.specs.Endings.{Answers, ReadsAllOrPast}
-use Rattle.recon_run.specs.FaultText.{fault_text}
-use Rattle.recon_run.specs.Words.{IsSolve}
+use Rattle.recon_run.specs.Answers.{usage_text, IsFaultAfter, IsFileFault, HasProblem, IsSolved}
+use Rattle.recon_run.specs.Endings.{AsksToSolve, Answers, ReadsAllOrPast}
 use Rattle.recon_run.proofs.Faults.{file_fault}
-use Rattle.recon_run.proofs.Solved.{matching, text_of, solved}
+use Rattle.recon_run.proofs.Solved.{matching, some_answer_of}
+use Rattle.report.specs.FaultText.{fault_text}
 use Rattle.solid_model.specs.declared.cell.Axis.{Axis}
 use Rattle.solid_model.specs.declared.cell.Axis.TheVariants.{X, Y, Z}
 use Rattle.solid_model.specs.declared.ended.EndKind.{EndKind}
@@ -43,6 +42,9 @@ use Rattle.solid_model.proofs.Lists.{each-from, each-append_left, ascends-append
 use Rattle.solid_model.proofs.Sheets.{without_lines-empty}
 use Rattle.solid_model.proofs.SomeGrid.{some_coordinates}
 use Rattle.solid_model.proofs.SomeNumbering.{some_numbering}
+use Rattle.words.specs.declared.job.Job.{Job}
+use Rattle.words.specs.declared.job.Job.TheVariants as job
+use Rattle.words.specs.Jobs.{job_said}
 
 -- where no view is the first empty one, every view shows something
 shown_by_views : (ls : List Line) → ((v : View) → IsFirstEmptyView ls v → ⊥) → IsShown ls
@@ -107,8 +109,8 @@ some_end live n limits ordered = ⊎_elim
     first_ordered = ascends-append_left ChoicePrecedes (take limits.solids all) (drop limits.solids all)
         (subst (λ (xs : List (List Bool)). Ascends ChoicePrecedes xs) (sym parts) ordered)
 
-module _ (t : List ℕ) (short : length t ≤ most_file_bytes) (faultless : (fault : Fault) → IsFileFault t fault → ⊥)
-    (endless : (kind : EndKind) (text : List ℕ) → IsSolved default_limits t (Ended kind) text → ⊥) where
+module _ (limits : SearchLimits) (t : List ℕ) (short : length t ≤ most_file_bytes) (faultless : (fault : Fault) → IsFileFault t fault → ⊥)
+    (endless : (kind : EndKind) (text : List ℕ) → IsSolved limits t (Ended kind) text → ⊥) where
   module _ (ls : List Line) (reads : read_of t ≡ Ok ls) where
     abbrev drawing : Segment → Style
     drawing = drawing_of ls
@@ -141,8 +143,8 @@ module _ (t : List ℕ) (short : length t ≤ most_file_bytes) (faultless : (fau
     -- with this grid and few blocks, a search ends somehow
     with_blocks : (g : GridParts) → IsGridOf drawing g → (numbers : List (Option ℕ)) (count : ℕ) → AreBlocksOf g numbers count → count ≤ most_blocks → ⊥
     with_blocks g grid numbers count are few_blocks =
-        let (kind, opened, choices, ends) = some_end (is_live problem) count default_limits (matching default_limits t problem has).ordered in
-        endless kind (text_of default_limits t problem has kind opened choices) (solved default_limits t problem has kind opened choices ends)
+        let (kind, opened, choices, ends) = some_end (is_live problem) count limits (matching limits t problem has).ordered in
+        some_answer_of limits t problem has kind opened choices ends (endless kind)
       where
         problem : ProblemParts
         problem = record {
@@ -203,17 +205,21 @@ module _ (t : List ℕ) (short : length t ≤ most_file_bytes) (faultless : (fau
 
 pub answered_somehow : (words : List (List ℕ)) (t : List ℕ)
     → ((rest : Option (List ℕ)) (answer : Answer) (text : List ℕ) → Answers words (Some t) rest answer text → ⊥) → ⊥
-answered_somehow words t never = never (Some []) Usage usage_text (solve_asked, refl)
+answered_somehow words t never = by (job_said words) refl
   where
     read_to_end : length t ≤ most_file_bytes → ReadsAllOrPast t (Some [])
     read_to_end short = inl (short, refl)
 
-    solve_asked : IsSolve words → ⊥
-    solve_asked solve = ⊎_elim
+    solve_asked : (limits : SearchLimits) → AsksToSolve words limits → ⊥
+    solve_asked limits asks = ⊎_elim
         (λ long. never (Some (drop (most_file_bytes + 1) t)) (Solve Faulty) (fault_text TooLong)
-        (solve, (inr (long, refl), (TooLong, inl (long, refl), refl))))
-        (λ short. short_input t short
-        (λ fault is. never (Some []) (Solve Faulty) (fault_text fault) (solve, (read_to_end short, (fault, is, refl))))
-        (λ kind text ends. never (Some []) (Solve (Ended kind)) text (solve, (read_to_end short, ends)))
+        (limits, asks, (inr (long, refl), (TooLong, inl (long, refl), refl))))
+        (λ short. short_input limits t short
+        (λ fault is. never (Some []) (Solve Faulty) (fault_text fault) (limits, asks, (read_to_end short, (fault, is, refl))))
+        (λ kind text ends. never (Some []) (Solve (Ended kind)) text (limits, asks, (read_to_end short, ends)))
         (read_of t) refl)
         (cases_lt most_file_bytes (length t))
+
+    by : (said : Option Job) → job_said words ≡ said → ⊥
+    by None none = never (Some []) Usage usage_text (none, refl)
+    by (Some (job.Solve limits)) asks = solve_asked limits asks

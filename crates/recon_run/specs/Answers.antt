@@ -1,10 +1,10 @@
 -- What `solve` answers to an input.
-use Rattle.std.specs.Prelude.{◌≡◌, ◌⊎◌, ℕ, ◌<◌, ◌≤◌, List, [], Bool, length, map, Result, Ok, Err, codes}
+use Rattle.std.specs.Prelude.{◌≡◌, ◌⊎◌, ℕ, ◌+◌, ◌<◌, ◌≤◌, List, [], ◌∷◌, ◌++◌, Bool, length, take, Result, Ok, Err, codes}
 use Rattle.dxf_entities.specs.Reading.{read_of}
 use Rattle.recon_run.specs.declared.status.Found.{Found}
 use Rattle.recon_run.specs.declared.status.Found.TheVariants.{Ended, Faulty}
-use Rattle.recon_run.specs.FaultText.{fault_text}
-use Rattle.recon_run.specs.NodeText.{node_text}
+use Rattle.report.specs.FaultText.{fault_text}
+use Rattle.report.specs.Texts.{head_text, solid_text}
 use Rattle.solid_model.specs.declared.cell.Axis.{Axis}
 use Rattle.solid_model.specs.declared.cell.Cell.{Cell}
 use Rattle.solid_model.specs.declared.ended.EndKind.{EndKind}
@@ -15,9 +15,11 @@ use Rattle.solid_model.specs.declared.frame.View.{View}
 use Rattle.solid_model.specs.declared.segment.Segment.{Segment}
 use Rattle.solid_model.specs.declared.segment.Style.{Style}
 use Rattle.solid_model.specs.Blocks.{ProblemParts, IsBlocksOf, HasTooManyBlocks}
+use Rattle.solid_model.specs.Cells.{is_full}
 use Rattle.solid_model.specs.Choices.{AreSolidsOfChoices}
 use Rattle.solid_model.specs.Demands.{is_live}
 use Rattle.solid_model.specs.Drawings.{drawing_of, IsShown, IsFirstEmptyView}
+use Rattle.solid_model.specs.Faces.{FaceParts, AreFacesOf}
 use Rattle.solid_model.specs.Grid.{IsFirstTooFine}
 use Rattle.solid_model.specs.Limits.{most_blocks, most_file_bytes}
 use Rattle.solid_model.specs.Line.{Line}
@@ -68,11 +70,7 @@ pub record HasProblem (t : List ℕ) (p : ProblemParts) : Type 0 where
   pub blocks : IsBlocksOf p.grid p.blocks
   pub few : p.blocks.count ≤ most_blocks
 
--- ---- the limits of the search
-
--- those of `solve`
-abbrev pub default_limits : SearchLimits
-default_limits = record { nodes = 1000000; solids = 4096 }
+-- ---- the ends of a search
 
 -- the number of live prefixes of a problem
 abbrev pub node_count : ProblemParts → ℕ
@@ -105,19 +103,43 @@ AreListed limits drawing Whole solids = AreSolidsOf drawing solids
 AreListed limits drawing CutNodes solids = AreSomeSolidsOf drawing solids × (length solids ≤ limits.solids)
 AreListed limits drawing CutSolids solids = AreSomeSolidsOf drawing solids × (length solids ≡ limits.solids)
 
--- The text lists solids that the input's drawing shows, as an end of this kind has it: it tells each of them by the choice of
--- blocks that fills it and by its number of unit cells, and before them at a whole end the number of live prefixes.
-pub record ListsSolidsOf (limits : SearchLimits) (t : List ℕ) (kind : EndKind) (text : List ℕ) : Type 0 where
+-- solids that the input's drawing shows, as an end of this kind lists them, and the choices of blocks that fill them
+pub record ListedSolids (limits : SearchLimits) (t : List ℕ) (kind : EndKind) : Type 0 where
   pub problem : ProblemParts
   pub has : HasProblem t problem
   pub solids : List (List Cell)
   pub listed : AreListed limits (drawing_of has.lines) kind solids
   pub choices : List (List Bool)
   pub filled : AreSolidsOfChoices (coordinates_of problem.grid) problem.blocks.numbers problem.blocks.count choices solids
-  pub told : text ≡ node_text limits problem.blocks.count (record { kind = kind; opened = node_count problem; solids = choices })
-      (map (λ (s : List Cell). length s) solids)
+
+-- The texts of solids, numbered from this number on: each tells the choice that fills the solid, its number of unit cells, and
+-- its faces.
+abbrev pub TellsSolids : ℕ → List (List Bool) → List (List Cell) → List ℕ → Type 0
+TellsSolids number [] [] text = text ≡ []
+TellsSolids number (choice ∷ choices) (s ∷ solids) text = (faces : List FaceParts) × AreFacesOf (is_full s) faces
+    × (rest : List ℕ) × TellsSolids (number + 1) choices solids rest × (text ≡ solid_text number choice (length s) faces ++ rest)
+TellsSolids number _ _ text = ⊥
+
+-- the first line, before solids that are listed so
+abbrev pub head_of : {limits : SearchLimits} {t : List ℕ} {kind : EndKind} → ListedSolids limits t kind → List ℕ
+head_of {limits} {t} {kind} l = head_text limits kind (length l.solids) (node_count l.problem) l.problem.blocks.count
+
+-- the text lists solids, as an end of this kind has it: it tells how the search ended, and then all of them
+abbrev pub ListsSolidsOf : SearchLimits → List ℕ → EndKind → List ℕ → Type 0
+ListsSolidsOf limits t kind text = (l : ListedSolids limits t kind) × (texts : List ℕ) × TellsSolids 1 l.choices l.solids texts
+    × (text ≡ head_of l ++ texts)
+
+-- the text begins to list them: it tells how the search ended, and then the first of them
+abbrev pub BeginsToList : SearchLimits → List ℕ → EndKind → List ℕ → Type 0
+BeginsToList limits t kind text = (l : ListedSolids limits t kind) × (first : ℕ) × (texts : List ℕ)
+    × TellsSolids 1 (take first l.choices) (take first l.solids) texts × (text ≡ head_of l ++ texts)
 
 -- what the word `solve` and the input ask for within limits: what is found, and the text that goes with it
 abbrev pub IsSolved : SearchLimits → List ℕ → Found → List ℕ → Type 0
 IsSolved limits t (Ended kind) text = CanEnd limits t kind × ListsSolidsOf limits t kind text
 IsSolved limits t Faulty text = (fault : Fault) × IsFileFault t fault × (text ≡ fault_text fault)
+
+-- the same, of a text that tells the first of the solids
+abbrev pub IsBegun : SearchLimits → List ℕ → Found → List ℕ → Type 0
+IsBegun limits t (Ended kind) text = CanEnd limits t kind × BeginsToList limits t kind text
+IsBegun limits t Faulty text = IsSolved limits t Faulty text

@@ -1,7 +1,5 @@
-pub mod Words
 pub mod Status
-pub mod NodeText
-pub mod FaultText
 pub mod Answers
-pub mod Refusals
+pub mod Searched
+pub mod Findings
 pub mod Endings

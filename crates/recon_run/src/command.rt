@@ -1,106 +1,100 @@
 //! The run of a command.
 
-ghost use Rattle.std.specs.Prelude.{◌≡◌, ◌≤◌, map, string_bytes, IfOk, IfSome, IsErrOf};
+ghost use Rattle.std.specs.Prelude.{◌≡◌, None, map, string_bytes, IfSome};
 ghost use Rattle.recon_run.specs.declared.status.Answer.TheVariants.{Solve, Usage};
 ghost use Rattle.recon_run.specs.declared.status.Found.TheVariants as found;
 ghost use Rattle.recon_run.specs.declared.status.Status.{Status};
 ghost use Rattle.recon_run.specs.declared.status.Status.TheVariants.{Stopped};
 ghost use Rattle.recon_run.specs.declared.status.Stop.TheVariants.{ReadFault, WriteFault};
-ghost use Rattle.recon_run.specs.Answers.{default_limits, HasNoFault, IsFileFault, CanEnd};
-ghost use Rattle.recon_run.specs.Endings.{Answers, AnswersOrStops, Ends, EndsOrStops, IsWritten};
+ghost use Rattle.recon_run.specs.Answers.{HasNoFault, IsFileFault, CanEnd};
+ghost use Rattle.recon_run.specs.Endings.{AsksToSolve, AnswersOrStops, Ends, EndsJob, EndsOrStops, EndsSolve, EndsUsage};
 ghost use Rattle.recon_run.specs.Status.{status_code};
-ghost use Rattle.recon_run.specs.Words.{IsSolve, solve_words};
 ghost use Rattle.solid_model.specs.declared.ended.EndKind.TheVariants.{Whole};
 ghost use Rattle.solid_model.specs.declared.fault.Fault.{Fault};
+ghost use Rattle.solid_model.specs.Search.{SearchLimits};
 ghost use Rattle.tv_base.specs.Faults.{Rose};
+ghost use Rattle.words.specs.Jobs.{job_said};
 
-use crate::reply::{Reply, fault_reply, usage_reply};
-use crate::solve::{Unsolved, solve};
-use crate::status::{Answer, Found, Status, Stop};
-use crate::words::is_solve;
-use solid_model::{Fault, Limits, Memory};
+use crate::solve::find;
+use crate::status::{Answer, Status, Stop};
+use crate::writing::{write_finding, write_text};
+use solid_model::Limits;
 use std::alloc::Global;
-use tv_base::{Gate, ReadEnd, Sink, SinkError, Source, read_all};
+use tv_base::{Gate, Sink, Source};
+use words::{Job, WordFault, job_of};
 
-/// The most bytes of an input.
-const MOST_BYTES: usize = 16_777_216;
+/// The usage line.
+const USAGE: &str = "usage: recon solve|redraw|make|trial\n";
 
-/// Why there is no reply.
-#[derive(Clone, Copy)]
-enum NoReply {
-    /// The source failed.
-    ReadFault,
-    /// Out of memory.
-    Memory,
-}
-
-impl From<Memory> for NoReply {
-    ghost use Rattle.recon_run.specs.declared.command.NoReply.TheVariants as no_reply;
-
-    ghost from_gives = { λ _ e. e ≡ no_reply.Memory };
-
-    fn from(_error: Memory) -> NoReply {
-        NoReply::Memory
+/// Searches within limits for the solids of the drawing that the source has left, and writes what is
+/// found.
+fn solve<S: Source, K: Sink>(alloc: Global, limits: Limits, source: &mut S, sink: &mut K) -> Status
+    ensures ends { EndsSolve limits (S.left source.old) (S.left source.new) (K.held sink.old)
+        (K.held sink.new) (Rose (S.faults source.old) (S.faults source.new))
+        (Rose (K.faults sink.old) (K.faults sink.new)) result }
+    ensures unwritten { result ≡ Stopped ReadFault → sink.new ≡ sink.old }
+{
+    let finding = match find(alloc, source, limits) {
+        Ok(finding) => finding,
+        Err(stop) => return Status::Stopped(stop),
+    };
+    match write_finding(alloc, &finding, limits, sink) {
+        Ok(()) => Status::Answered(Answer::Solve(finding.found())),
+        Err(stop) => Status::Stopped(stop),
     }
 }
 
-/// The reply of `solve` to what the source has left.
-fn solve_source<S: Source>(alloc: Global, source: &mut S) -> Result<Reply, NoReply>
-    ensures later { S.faults source.old ≤ S.faults source.new }
-    ensures ok { IfOk result (λ reply. Answers solve_words (S.left source.old) (S.left source.new)
-        reply.answer reply.text.items) }
-    ensures read_fault { IsErrOf result NoReply.ReadFault
-        → Rose (S.faults source.old) (S.faults source.new) }
+/// Does a job over what the source has left.
+fn do_job<S: Source, K: Sink>(alloc: Global, job: Job, source: &mut S, sink: &mut K) -> Status
+    ensures ends { EndsJob job (S.left source.old) (S.left source.new) (K.held sink.old)
+        (K.held sink.new) (Rose (S.faults source.old) (S.faults source.new))
+        (Rose (K.faults sink.old) (K.faults sink.new)) result }
+    ensures unwritten { result ≡ Stopped ReadFault → sink.new ≡ sink.old }
 {
-    match read_all(alloc, source, MOST_BYTES) {
-        Ok(file) => match solve(alloc, file, Limits::DEFAULT) {
-            Ok(listing) => Ok(Reply {
-                answer: Answer::Solve(Found::Ended(listing.kind)),
-                text: listing.text,
-            }),
-            Err(Unsolved::Fault(fault)) => Ok(fault_reply(alloc, fault)?),
-            Err(Unsolved::Memory) => Err(NoReply::Memory),
-        },
-        Err(ReadEnd::TooLong) => Ok(fault_reply(alloc, Fault::TooLong)?),
-        Err(ReadEnd::Failed) => Err(NoReply::ReadFault),
-        Err(ReadEnd::Memory) => Err(NoReply::Memory),
+    match job {
+        Job::Solve { limits } => solve(alloc, limits, source, sink),
     }
 }
 
-/// The reply to the arguments and to what the source has left.
-fn reply<S: Source>(alloc: Global, words: &[String], source: &mut S) -> Result<Reply, NoReply>
-    ensures later { S.faults source.old ≤ S.faults source.new }
-    ensures unread { (IsSolve (map string_bytes words.now) → ⊥) → source.new ≡ source.old }
-    ensures ok { IfOk result (λ reply. Answers (map string_bytes words.now)
-        (S.left source.old) (S.left source.new) reply.answer reply.text.items) }
-    ensures read_fault { IsErrOf result NoReply.ReadFault → IsSolve (map string_bytes words.now)
-        × Rose (S.faults source.old) (S.faults source.new) }
+/// Writes the usage line.
+fn write_usage<K: Sink>(sink: &mut K) -> Status
+    ensures { EndsUsage (K.held sink.old) (K.held sink.new)
+        (Rose (K.faults sink.old) (K.faults sink.new)) result }
 {
-    if is_solve(words) {
-        solve_source(alloc, source)
-    } else {
-        Ok(usage_reply(alloc)?)
+    match write_text(sink, USAGE.as_bytes()) {
+        Ok(()) => Status::Answered(Answer::Usage),
+        Err(stop) => Status::Stopped(stop),
     }
 }
 
-/// Writes the reply's text in one piece.
-fn write<K: Sink>(reply: &Reply, sink: &mut K) -> Status
-    ensures later { K.faults sink.old ≤ K.faults sink.new }
-    ensures written { IsWritten reply.now.answer reply.now.text.items (K.held sink.old)
-        (K.held sink.new) (Rose (K.faults sink.old) (K.faults sink.new)) result }
+/// Does what the arguments ask for.
+fn answer<S: Source, K: Sink>(
+    alloc: Global,
+    words: &[String],
+    source: &mut S,
+    sink: &mut K,
+) -> Status
+    ensures ends { Ends (map string_bytes words.now) (S.left source.old) (S.left source.new)
+        (K.held sink.old) (K.held sink.new) result }
+    ensures unread { job_said (map string_bytes words.now) ≡ None → source.new ≡ source.old }
+    ensures read_fault { result ≡ Stopped ReadFault
+        → Rose (S.faults source.old) (S.faults source.new) × (sink.new ≡ sink.old) }
+    ensures write_fault { result ≡ Stopped WriteFault
+        → Rose (K.faults sink.old) (K.faults sink.new) }
 {
-    match sink.write_all(reply.text.as_slice()) {
-        Ok(()) => Status::Answered(reply.answer),
-        Err(SinkError::Failed) => Status::Stopped(Stop::WriteFault),
-        Err(SinkError::Memory) => Status::Stopped(Stop::Memory),
+    match job_of(alloc, words) {
+        Ok(job) => do_job(alloc, job, source, sink),
+        Err(WordFault::Usage) => write_usage(sink),
+        Err(WordFault::Memory) => Status::Stopped(Stop::Memory),
     }
 }
 
 /// Runs the command that the arguments give, the program's `words`: what `solve` writes for the
-/// source's bytes, or the usage line. The status is 0 where all matching solids are listed, 1 where
-/// the input has a fault, 2 where the arguments aren't taken, 3 or 4 where there are more than
-/// 1,000,000 live prefixes, or more than 4,096 solids, and some are listed, 5 or 6 where the source
-/// or the sink failed, and 7 where it ran out of memory. The gate isn't passed.
+/// source's bytes, within the limits that the options `--nodes` and `--solids` give, or the usage
+/// line. The status is 0 where all matching solids are listed, 1 where the input has a fault, 2
+/// where the arguments aren't taken, 3 or 4 where there are more live prefixes, or more solids, than
+/// their limit, and some solids are listed, 5 or 6 where the source or the sink failed, and 7 where
+/// it ran out of memory. The gate isn't passed.
 pub fn run<S: Source, K: Sink, G: Gate>(
     alloc: Global,
     words: &[String],
@@ -112,15 +106,16 @@ pub fn run<S: Source, K: Sink, G: Gate>(
         × Ends (map string_bytes words.now) (S.left source.old) (S.left source.new)
         (K.held sink.old) (K.held sink.new) status }
 
-    ensures whole { IsSolve (map string_bytes words.now) → IfSome (S.left source.old) (λ input.
-        CanEnd default_limits input Whole
+    ensures whole { (limits : SearchLimits) → AsksToSolve (map string_bytes words.now) limits
+        → IfSome (S.left source.old) (λ input. CanEnd limits input Whole
         → AnswersOrStops (Solve (found.Ended Whole)) result) }
-    ensures ended { IsSolve (map string_bytes words.now) → IfSome (S.left source.old) (λ input.
-        HasNoFault input → EndsOrStops input result) }
-    ensures fault { IsSolve (map string_bytes words.now) → IfSome (S.left source.old) (λ input.
-        (fault : Fault) → IsFileFault input fault
+    ensures ended { (limits : SearchLimits) → AsksToSolve (map string_bytes words.now) limits
+        → IfSome (S.left source.old) (λ input. HasNoFault input
+        → EndsOrStops limits input result) }
+    ensures fault { (limits : SearchLimits) → AsksToSolve (map string_bytes words.now) limits
+        → IfSome (S.left source.old) (λ input. (fault : Fault) → IsFileFault input fault
         → AnswersOrStops (Solve found.Faulty) result) }
-    ensures usage { (IsSolve (map string_bytes words.now) → ⊥)
+    ensures usage { job_said (map string_bytes words.now) ≡ None
         → AnswersOrStops Usage result × (source.new ≡ source.old) }
 
     ensures read_fault { result ≡ status_code (Stopped ReadFault)
@@ -128,10 +123,5 @@ pub fn run<S: Source, K: Sink, G: Gate>(
     ensures write_fault { result ≡ status_code (Stopped WriteFault)
         → Rose (K.faults sink.old) (K.faults sink.new) }
 {
-    let status = match reply(alloc, words, source) {
-        Ok(reply) => write(&reply, sink),
-        Err(NoReply::ReadFault) => Status::Stopped(Stop::ReadFault),
-        Err(NoReply::Memory) => Status::Stopped(Stop::Memory),
-    };
-    status.code()
+    answer(alloc, words, source, sink).code()
 }

@@ -2,14 +2,12 @@
 #![tactic(auto)]
 
 mod command;
-mod fault_text;
 mod laws;
 mod problem;
-mod reply;
+mod searched;
 mod solve;
 mod status;
-mod text;
-mod words;
+mod writing;
 
 pub use command::run;
 pub use laws::{one_answer, one_first_fault, some_answer};

@@ -1,81 +1,74 @@
-//! From a file's bytes to the text that lists its solids.
+//! From a source to the solids that its file shows.
 
-ghost use Rattle.std.specs.Prelude.{◌≡◌, ◌≤◌, length, IfOk, IsErrOf};
-ghost use Rattle.recon_run.specs.declared.status.Found.TheVariants.{Ended};
-ghost use Rattle.recon_run.specs.Answers.{IsFileFault, IsSolved};
-ghost use Rattle.solid_model.specs.declared.ended.EndKind.{EndKind};
-ghost use Rattle.solid_model.specs.declared.fault.Fault.{Fault};
+ghost use Rattle.std.specs.Prelude.{◌≤◌, length, IfOk, IfSome, IsErrOf};
+ghost use Rattle.recon_run.specs.declared.status.Stop.TheVariants as stop;
+ghost use Rattle.recon_run.specs.Endings.{ReadsAllOrPast};
+ghost use Rattle.recon_run.specs.Findings.{IsFinding};
 ghost use Rattle.solid_model.specs.Limits.{most_file_bytes};
+ghost use Rattle.tv_base.specs.Faults.{Rose};
 
 use crate::problem::problem_of;
-use crate::text::node_text;
-use search_tree::solve_alone;
-use solid_model::{EndKind, Fault, Limits, Memory, Problem, Refused};
-use std::alloc::{AllocFailed, Global};
-use std::sync::Arc;
+use crate::searched::{Searched, search};
+use crate::status::{Found, Stop};
+use solid_model::{Fault, Limits, Memory, Refused};
+use std::alloc::Global;
+use tv_base::{ReadEnd, Source, read_all};
 
-/// Why a file's solids aren't listed.
-#[derive(Clone, Copy)]
-pub enum Unsolved {
-    /// The file has this first fault.
+/// The most bytes of an input.
+const MOST_BYTES: usize = 16_777_216;
+
+/// What is found in a file.
+#[derive(Drop)]
+pub enum Finding {
+    /// Its problem, searched.
+    Solids(Searched),
+    /// Its first fault.
     Fault(Fault),
-    /// Out of memory.
-    Memory,
 }
 
-impl From<Refused> for Unsolved {
-    ghost use Rattle.recon_run.specs.Refusals.{refused_file};
+impl Finding {
+    ghost use Rattle.std.specs.Prelude.{◌≡◌};
+    ghost use Rattle.recon_run.specs.Findings.{found_of};
 
-    ghost from_gives = { λ r e. e ≡ refused_file r };
-
-    fn from(refused: Refused) -> Unsolved {
-        match refused {
-            Refused::Fault(fault) => Unsolved::Fault(fault),
-            Refused::Memory => Unsolved::Memory,
+    /// The same in an answer's word.
+    pub fn found(&self) -> Found
+        ensures { result ≡ found_of self.now }
+    {
+        match self {
+            Finding::Solids(searched) => Found::Ended(searched.ended().kind),
+            Finding::Fault(_) => Found::Faulty,
         }
     }
 }
 
-impl From<Memory> for Unsolved {
-    ghost use Rattle.recon_run.specs.declared.solve.Unsolved.TheVariants as unsolved;
-
-    ghost from_gives = { λ _ e. e ≡ unsolved.Memory };
-
-    fn from(_error: Memory) -> Unsolved {
-        Unsolved::Memory
-    }
-}
-
-impl From<AllocFailed<Problem>> for Unsolved {
-    ghost use Rattle.recon_run.specs.declared.solve.Unsolved.TheVariants as unsolved;
-
-    ghost from_gives = { λ _ e. e ≡ unsolved.Memory };
-
-    fn from(_error: AllocFailed<Problem>) -> Unsolved {
-        Unsolved::Memory
-    }
-}
-
-/// What lists solids: how their search ended, and the text.
-#[derive(Drop)]
-pub struct Listing {
-    pub kind: EndKind,
-    pub text: Vec<u8>,
-}
-
-/// The text that lists the solids that a file's drawing shows, within limits, or the file's first
-/// fault.
-pub fn solve(alloc: Global, file: Vec<u8>, limits: Limits) -> Result<Listing, Unsolved>
+/// The solids that a file's drawing shows, searched for within limits, or the file's first fault.
+fn find_in(alloc: Global, file: Vec<u8>, limits: Limits) -> Result<Finding, Memory>
     requires { length file.items ≤ most_file_bytes }
-    ensures ended { IfOk result (λ listing. IsSolved limits file.items (Ended listing.kind)
-        listing.text.items) }
-    ensures fault { (fault : Fault) → IsErrOf result (Unsolved.Fault fault)
-        → IsFileFault file.items fault }
+    ensures { IfOk result (IsFinding limits file.items) }
 {
-    let problem = Arc::new(alloc, problem_of(alloc, file)?)?;
-    let ended = solve_alone(alloc, &problem, limits)?;
-    Ok(Listing {
-        kind: ended.kind,
-        text: node_text(alloc, &problem, limits, &ended)?,
-    })
+    match problem_of(alloc, file) {
+        Ok(problem) => Ok(Finding::Solids(search(alloc, problem, limits)?)),
+        Err(Refused::Fault(fault)) => Ok(Finding::Fault(fault)),
+        Err(Refused::Memory) => Err(Memory),
+    }
+}
+
+/// The same for what a source has left.
+pub fn find<S: Source>(alloc: Global, source: &mut S, limits: Limits) -> Result<Finding, Stop>
+    ensures later { S.faults source.old ≤ S.faults source.new }
+    ensures found { IfOk result (λ finding. IfSome (S.left source.old) (λ t.
+        ReadsAllOrPast t (S.left source.new) × IsFinding limits t finding)) }
+    ensures read_fault { IsErrOf result stop.ReadFault
+        → Rose (S.faults source.old) (S.faults source.new) }
+    ensures no_write_fault { IsErrOf result stop.WriteFault → ⊥ }
+{
+    match read_all(alloc, source, MOST_BYTES) {
+        Ok(file) => match find_in(alloc, file, limits) {
+            Ok(finding) => Ok(finding),
+            Err(Memory) => Err(Stop::Memory),
+        },
+        Err(ReadEnd::TooLong) => Ok(Finding::Fault(Fault::TooLong)),
+        Err(ReadEnd::Failed) => Err(Stop::ReadFault),
+        Err(ReadEnd::Memory) => Err(Stop::Memory),
+    }
 }

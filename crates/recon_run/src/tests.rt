@@ -4,6 +4,7 @@ mod counts;
 mod drawings;
 mod entities;
 mod files;
+mod options;
 mod rows;
 mod runs;
 mod searches;

@@ -57,7 +57,7 @@ pub before_onward : (a b c : Cell) → ComesBefore a b → ComesBefore b c → C
 before_onward a b c h k = lies-before a c (lies_onward a b c (before-lies a b h) (before-lies b c k))
 
 -- of two coordinates one is smaller, unless they are one
-one_or_less : (x y : ℤ) → (x ≡ y) ⊎ ((x <ℤ y) ⊎ (y <ℤ x))
+pub one_or_less : (x y : ℤ) → (x ≡ y) ⊎ ((x <ℤ y) ⊎ (y <ℤ x))
 one_or_less x y = by_lt_z x y (λ l. inr (inl l)) (λ l. by_lt_z y x (λ m. inr (inr m)) (λ m. inl (omega (arith, ints))))
 
 -- of two cells one comes before the other, unless they are one

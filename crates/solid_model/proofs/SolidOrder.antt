@@ -51,11 +51,11 @@ precedes_by_cell front rest other c after after_too fresh = (
 )
 
 -- a comes no later than b
-abbrev IsNoLater : Cell → Cell → Type 0
+abbrev pub IsNoLater : Cell → Cell → Type 0
 IsNoLater a b = ComesBefore b a → ⊥
 
 -- of two cells one comes no later than the other
-no_later_some : (a b : Cell) → IsNoLater a b ⊎ IsNoLater b a
+pub no_later_some : (a b : Cell) → IsNoLater a b ⊎ IsNoLater b a
 no_later_some a b = by (one_or_before a b)
   where
     by : (a ≡ b) ⊎ (ComesBefore a b ⊎ ComesBefore b a) → IsNoLater a b ⊎ IsNoLater b a
@@ -64,7 +64,7 @@ no_later_some a b = by (one_or_before a b)
     by (inr (inr l)) = inr (before_one_way b a l)
 
 -- what comes no later than a cell comes no later than whatever that cell comes no later than
-no_later_onward : (a b c : Cell) → IsNoLater a b → IsNoLater b c → IsNoLater a c
+pub no_later_onward : (a b c : Cell) → IsNoLater a b → IsNoLater b c → IsNoLater a c
 no_later_onward a b c h k l = by (one_or_before a b)
   where
     by : (a ≡ b) ⊎ (ComesBefore a b ⊎ ComesBefore b a) → ⊥

@@ -27,14 +27,14 @@ use Rattle.solid_model.proofs.Views.{across_along, views_are_frames, each_axis, 
 abbrev pub LieInSameGaps : List ℤ → ℤ → ℤ → Type 0
 LieInSameGaps zs y z = (n : ℕ) → IsTrue (is_in_gap zs n y) ↔ IsTrue (is_in_gap zs n z)
 
-same_gaps-itself : (zs : List ℤ) (z : ℤ) → LieInSameGaps zs z z
+pub same_gaps-itself : (zs : List ℤ) (z : ℤ) → LieInSameGaps zs z z
 same_gaps-itself zs z n = (λ e. e, λ e. e)
 
 same_gaps-like : (zs : List ℤ) (y z w x : ℤ) → y ≡ w → z ≡ x → LieInSameGaps zs w x → LieInSameGaps zs y z
 same_gaps-like zs y z w x p q same = subst (λ u. LieInSameGaps zs y u) (sym q) (subst (λ u. LieInSameGaps zs u x) (sym p) same)
 
 -- a place that is no member lies in the same gaps as the one before it
-same_gaps_before : (zs : List ℤ) (z : ℤ) → (Member zs z → ⊥) → LieInSameGaps zs (z -ℤ pos 1) z
+pub same_gaps_before : (zs : List ℤ) (z : ℤ) → (Member zs z → ⊥) → LieInSameGaps zs (z -ℤ pos 1) z
 same_gaps_before [] z none n = (λ e. e, λ e. e)
 same_gaps_before (a ∷ []) z none n = (λ e. e, λ e. e)
 same_gaps_before (a ∷ b ∷ zs) z none zero = (
@@ -52,7 +52,7 @@ same_gaps_before (a ∷ b ∷ zs) z none zero = (
 same_gaps_before (a ∷ b ∷ zs) z none (suc n) = same_gaps_before (b ∷ zs) z (λ k. none (inr k)) n
 
 -- what lies before the first member lies in no gap
-none_before_first : (b : ℤ) (zs : List ℤ) → Ascends ◌<ℤ◌ (b ∷ zs) → (n : ℕ) (z : ℤ) → z <ℤ b → IsTrue (is_in_gap (b ∷ zs) n z) → ⊥
+pub none_before_first : (b : ℤ) (zs : List ℤ) → Ascends ◌<ℤ◌ (b ∷ zs) → (n : ℕ) (z : ℤ) → z <ℤ b → IsTrue (is_in_gap (b ∷ zs) n z) → ⊥
 none_before_first b zs ascends n z l e = ⊎_elim {C = ⊥} (λ same. omega (arith, ints, low.2)) (λ later. let m = each-at (λ w. b <ℤ w) zs low.0 ascends.0 later in omega (arith, ints, low.2)) low.1
   where
     low : (w : ℤ) × Member (b ∷ zs) w × (w ≤ℤ z)
@@ -101,7 +101,7 @@ module _ (coordinates : Coordinates) (ascends : (a : Axis) → Ascends ◌<ℤ�
 
   module _ (chosen : List Bool) (full : Cell → Bool) (union : IsUnionOf coordinates chosen full) where
     -- cells in the same gaps along each axis agree
-    agree_in_same_gaps : (c d : Cell) → ((a : Axis) → LieInSameGaps (coordinates a) (coordinate a c) (coordinate a d)) → full c ≡ full d
+    pub agree_in_same_gaps : (c d : Cell) → ((a : Axis) → LieInSameGaps (coordinates a) (coordinate a c) (coordinate a d)) → full c ≡ full d
     agree_in_same_gaps c d same = ⊎_elim
         (λ at. union.inside at.0 c at.1 ∙ sym (union.inside at.0 d (λ a. (same a (at.0 a)).0 (at.1 a))))
         (λ none. union.outside c none ∙ sym (union.outside d (λ lies. none (λ a. let gap = lies a in (gap.0, (same a gap.0).1 gap.1)))))

@@ -30,7 +30,7 @@ without_one (z ∷ ys) x (inr k) =
     }
 
 -- a list without repeats is no longer than one that has all its members
-no_longer : {A : Type 0} (xs ys : List A) → Ascends ◌≢◌ xs → IsWithin xs ys → length xs ≤ length ys
+pub no_longer : {A : Type 0} (xs ys : List A) → Ascends ◌≢◌ xs → IsWithin xs ys → length xs ≤ length ys
 no_longer [] ys once within = omega arith
 no_longer (x ∷ xs) ys once within =
     let less = without_one ys x (within x (inl refl)) in

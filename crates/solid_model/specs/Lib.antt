@@ -35,3 +35,8 @@ pub mod Tree
 pub mod Reports
 pub mod Search
 pub mod SmallTree
+pub mod Rounds
+pub mod Faces
+pub mod SmallFaces
+pub mod GridRounds
+pub mod GridFaces

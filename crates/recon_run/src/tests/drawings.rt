@@ -10,20 +10,30 @@ line D 0 0 1 0, rect S 0 0 1 1, rect S 1 1 0 0, rect S 0 0 1 1, rect D 1 0 0 1, 
 line S 0 0 1 0 -> 0 whole 0 nodes 0 blocks 0
 -- The quartered cube.
 rect S 0 0 2 2, line S 0 1 2 1, line S 1 0 1 2 -> 0 whole 3 nodes 23 blocks 8|\
-    solid 1 choice 10110110 volume 5|solid 2 choice 10010110 volume 4|solid 3 choice 01101001 volume 4
+    solid 1 choice 10110110 volume 5 faces .. |solid 2 choice 10010110 volume 4 faces 24| .. |\
+    solid 3 choice 01101001 volume 4 faces 24| .. |face +z at 2 loop 0,0,2 1,0,2 1,1,2 0,1,2|\
+    face +z at 2 loop 1,1,2 2,1,2 2,2,2 1,2,2
 -- The hollow cube; and a cube of the greatest width.
-rect S 0 0 3 3, rect D 1 1 2 2 -> 0 whole 1 nodes 3 blocks 2|solid 1 choice 10 volume 26
+rect S 0 0 3 3, rect D 1 1 2 2 -> 0 whole 1 nodes 3 blocks 2|\
+    solid 1 choice 10 volume 26 faces 12|face -x at 0 loop 0,0,0 0,0,3 0,3,3 0,3,0|\
+    face -x at 2 loop 2,1,1 2,1,2 2,2,2 2,2,1|face +x at 1 loop 1,1,1 1,2,1 1,2,2 1,1,2|\
+    face +x at 3 loop 3,0,0 3,3,0 3,3,3 3,0,3| .. |face +z at 3 loop 0,0,3 3,0,3 3,3,3 0,3,3
 rect S -1000000000 -1000000000 1000000000 1000000000 -> \
-    0 whole 1 nodes 2 blocks 1|solid 1 choice 1 volume 8000000000000000000000000000
+    0 whole 1 nodes 2 blocks 1|solid 1 choice 1 volume 8000000000000000000000000000 faces 6| .. |\
+    face +z at 2000000000 loop 0,0,2000000000 2000000000,0,2000000000 \
+    2000000000,2000000000,2000000000 0,2000000000,2000000000
 -- A cube with eight voids; and so with two smaller cubes beyond its corner, one of them hollow.
 rect S 0 0 5 5, rect D 1 1 2 2, rect D 3 1 4 2, rect D 1 3 2 4, rect D 3 3 4 4 -> \
-    0 whole 35 nodes 109 blocks 9|solid 1 choice 110010110 volume 121| .. |solid 35 choice 100000000 volume 117
+    0 whole 35 nodes 109 blocks 9|solid 1 choice 110010110 volume 121 faces 30| .. |\
+    solid 35 choice 100000000 volume 117 faces 54| .. |face +z at 5 loop 0,0,5 5,0,5 5,5,5 0,5,5
 rect S 0 0 5 5, rect D 1 1 2 2, rect D 3 1 4 2, rect D 1 3 2 4, rect D 3 3 4 4, \
     rect S 6 6 9 9, rect D 7 7 8 8, rect S 10 10 11 11 -> 0 whole 35 nodes 214 blocks 12|\
-    solid 1 choice 110010110101 volume 148| .. |solid 35 choice 100000000101 volume 144
+    solid 1 choice 110010110101 volume 148 faces 48| .. |solid 35 choice 100000000101 volume 144 faces 72| .. |\
+    face +z at 11 loop 10,10,11 11,10,11 11,11,11 10,11,11
 -- 32 cubes on the diagonal, with 64 grid coordinates along each axis.
 diagonal 32 -> 0 whole 1 nodes 33 blocks 32|\
-    solid 1 choice 11111111111111111111111111111111 volume 32
+    solid 1 choice 11111111111111111111111111111111 volume 32 faces 192| .. |\
+    face +z at 63 loop 62,62,63 63,62,63 63,63,63 62,63,63
 -- The unit cube, moved on the sheet; and so with its first line turned round.
 = 0 SECTION, 2 ENTITIES, FRONT, #1, TOP, #2, SIDE, #3, 0 ENDSEC, 0 EOF
 rect S -7 1000 -6 1001; rect S 999999999 -1000000000 1000000000 -999999999; \
@@ -36,32 +46,44 @@ rect S 0 0 2 2, line S 0 1 2 1, line S 1 0 1 2; \
     rect S 0 0 2 2, line S 0 1 2 1, line S 1 0 1 2 -> 0 whole 0 nodes 15 blocks 8
 -- Two cubes along an edge.
 rect S 0 0 2 1, line S 1 0 1 1; rect S 0 0 1 1, rect S 1 1 2 2; rect S 0 0 2 1, line S 1 0 1 1 -> \
-    0 whole 1 nodes 3 blocks 2|solid 1 choice 11 volume 2
+    0 whole 1 nodes 3 blocks 2|solid 1 choice 11 volume 2 faces 12| .. |\
+    face +z at 1 loop 0,0,1 1,0,1 1,1,1 0,1,1|face +z at 1 loop 1,1,1 2,1,1 2,2,1 1,2,1
 -- A narrow top; and flat strokes of the greatest width.
 rect S 0 0 2 1; rect S 0 0 1 1; rect S 0 0 1 1 -> 0 whole 0 nodes 0 blocks 0
 line S -1000000000 7 1000000000 7; line S -1000000000 7 1000000000 7; line S 0 3 1 3 -> \
     0 whole 0 nodes 0 blocks 0
 -- The pierced plate.
 rect S 0 0 3 1, line D 1 0 1 1, line D 2 0 2 1; rect S 0 0 3 3, rect S 1 1 2 2; \
-    rect S 0 0 3 1, line D 1 0 1 1, line D 2 0 2 1 -> 0 whole 1 nodes 3 blocks 2|solid 1 choice 10 volume 8
+    rect S 0 0 3 1, line D 1 0 1 1, line D 2 0 2 1 -> 0 whole 1 nodes 3 blocks 2|\
+    solid 1 choice 10 volume 8 faces 10| .. |\
+    face +z at 1 loop 0,0,1 3,0,1 3,3,1 0,3,1 loop 1,1,1 1,2,1 2,2,1 2,1,1
+-- A plate with two holes that touch at an edge: from above the loop turns left there, and passes it twice.
+rect S 0 0 4 1, line D 1 0 1 1, line D 2 0 2 1, line D 3 0 3 1; \
+    rect S 0 0 4 4, rect S 1 1 2 2, rect S 2 2 3 3; \
+    rect S 0 0 4 1, line D 1 0 1 1, line D 2 0 2 1, line D 3 0 3 1 -> 0 whole 1 .. |\
+    face +z at 1 loop 0,0,1 4,0,1 4,4,1 0,4,1 \
+    loop 1,1,1 1,2,1 2,2,1 2,3,1 3,3,1 3,2,1 2,2,1 2,1,1
 -- The hollow cube, with the void's square seen in front.
 rect S 0 0 3 3, rect S 1 1 2 2; rect S 0 0 3 3, rect D 1 1 2 2; \
     rect S 0 0 3 3, rect D 1 1 2 2 -> 0 whole 0 nodes 1 blocks 2
 -- A row of 12 cubes is one grid cell. Edges that the top alone shows close off no block.
-rect S 0 0 12 1; rect S 0 0 12 1; rect S 0 0 1 1 -> 0 whole 1 nodes 2 blocks 1|solid 1 choice 1 volume 12
+rect S 0 0 12 1; rect S 0 0 12 1; rect S 0 0 1 1 -> 0 whole 1 nodes 2 blocks 1|\
+    solid 1 choice 1 volume 12 faces 6| .. |face +z at 1 loop 0,0,1 12,0,1 12,1,1 0,1,1
 rect S 0 0 12 1; rect S 0 0 12 1, rect S 1 0 11 1, rect S 2 0 10 1, rect S 3 0 9 1, \
     rect S 4 0 8 1, rect S 5 0 7 1, line S 6 0 6 1; rect S 0 0 1 1 -> \
     0 whole 0 nodes 1 blocks 1
 -- Strokes that overlap: a solid one wins, and where they are cut leaves no trace.
 line S 0 0 6 0, line S 4 0 10 0, line D 2 0 9 0, line S 0 10 10 10, line S 0 0 0 10, \
     line S 10 0 10 10; \
-    rect S 0 0 10 10; rect S 0 0 10 10 -> 0 whole 1 nodes 2 blocks 1|solid 1 choice 1 volume 1000
+    rect S 0 0 10 10; rect S 0 0 10 10 -> 0 whole 1 nodes 2 blocks 1|\
+    solid 1 choice 1 volume 1000 faces 6| .. |face +z at 10 loop 0,0,10 10,0,10 10,10,10 0,10,10
 -- A slab with a block on its corner, in front on the left: unequal along all three axes.
 line S 0 0 5 0, line D 0 3 2 3, line S 2 3 5 3, line S 0 4 2 4, line S 0 0 0 4, line S 2 3 2 4, \
     line S 5 0 5 3; \
     rect S 0 0 5 5, line S 0 1 2 1, line S 2 0 2 1; \
     rect S 0 0 5 3, line S 0 4 1 4, line S 0 3 0 4, line S 1 3 1 4 -> \
-    0 whole 1 nodes 3 blocks 2|solid 1 choice 11 volume 77
+    0 whole 1 nodes 3 blocks 2|solid 1 choice 11 volume 77 faces 9| .. |\
+    face +z at 3 loop 2,0,3 5,0,3 5,5,3 0,5,3 0,1,3 2,1,3|face +z at 4 loop 0,0,4 2,0,4 2,1,4 0,1,4
 -- A lattice of voids with 4,097 blocks.
 lattice 16 16; lattice 16 16; lattice 16 16 -> 1 fault F18 TooManyBlocks count 4097
 -- One line more than 32 cubes on the diagonal; and two axes that are too fine.
@@ -133,4 +155,12 @@ line S 0 0 1 1 -> 1 fault F11 Oblique line 5
     0 TEXT, 5 B0, 330 1F, 100 AcDbEntity, 8 NOTES, 100 AcDbText, \
     10 100.5, 20 80.0, 30 0.0, 40 2.5, 1 BRACKET, 100 AcDbText, 0 ENDSEC, \
     0 SECTION, 2 OBJECTS, 0 DICTIONARY, 5 C, 330 0, 100 AcDbDictionary, 0 ENDSEC, 0 EOF -> \
-    0 whole 1 nodes 2 blocks 1|solid 1 choice 1 volume 48000";
+    0 whole 1 nodes 2 blocks 1|solid 1 choice 1 volume 48000 faces 8|\
+    face -x at 0 loop 0,0,0 0,0,10 0,30,10 0,30,50 0,40,50 0,40,0|\
+    face +x at 60 loop 60,0,0 60,40,0 60,40,50 60,30,50 60,30,10 60,0,10|\
+    face -y at 0 loop 0,0,0 60,0,0 60,0,10 0,0,10|\
+    face -y at 30 loop 0,30,10 60,30,10 60,30,50 0,30,50|\
+    face +y at 40 loop 0,40,0 0,40,50 60,40,50 60,40,0|\
+    face -z at 0 loop 0,0,0 0,40,0 60,40,0 60,0,0|\
+    face +z at 10 loop 0,0,10 60,0,10 60,30,10 0,30,10|\
+    face +z at 50 loop 0,30,50 60,30,50 60,40,50 0,40,50";

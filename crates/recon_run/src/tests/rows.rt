@@ -2,15 +2,16 @@
 //!
 //! A table begins with a remark, which is a line after `-- `. Each other line is a remark too, a
 //! frame after `= `, or a row: what is told of a file, ` -> `, and the status and the text that are
-//! wanted, with `|` for the end of a line; ` .. ` in it stands for whatever is between. The parts of what is told, `; ` between two of them, stand
-//! for `#1`, `#2` and `#3` in the steps of the frame above. In the frame `text` what is told is the
+//! wanted, with `|` for the end of a line; ` .. ` in it stands for whatever is between. The parts of
+//! what is told, `; ` between two of them, stand for `#1`, `#2` and `#3` in the steps of the frame
+//! above. In the frame `text` what is told is the
 //! file itself, with `|` for the end of a line. Where a frame begins with `padded: ` or
 //! `padded CR LF: `, the codes of the file are right in three places.
 
 use super::drawings::DRAWINGS;
 use super::entities::ENTITIES;
 use super::files::{file_of, padded_file};
-use super::runs::solve;
+use super::runs::{UNIT_CUBE, solve};
 use super::texts::{SIZES, TEXTS};
 use super::values::{LINETYPES, NUMERALS};
 use std::alloc::{AllocError, Global};
@@ -43,22 +44,30 @@ fn told_file(alloc: Global, frame: &str, told: &str) -> Result<String, AllocErro
     }
 }
 
-/// The status and the text that are wanted.
+/// The status and the text that are wanted, without the last line end.
 fn wanted_text(alloc: Global, told: &str) -> Result<String, AllocError> {
     let text = match told {
-        "unit cube" => "0 whole 1 nodes 2 blocks 1|solid 1 choice 1 volume 1",
-        "three cubes" => "0 whole 1 nodes 2 blocks 1|solid 1 choice 1 volume 3",
+        "unit cube" => UNIT_CUBE.trim_end(),
+        "three cubes" => "0 whole 1 nodes 2 blocks 1|solid 1 choice 1 volume 3 faces 8| .. ",
         text => text,
     };
     text.replace(alloc, "|", "\n")
 }
 
-/// Whether what was written, without its last line end, is what is wanted.
+/// Whether what was written, without its last line end, is what is wanted: that, or where ` .. ` stands
+/// in it, a text that begins with the first part, ends with the last and has each other one in it.
 fn is_wanted(wrote: &str, wanted: &str) -> bool {
-    match wanted.split_once(" .. ") {
-        Some((first, last)) => wrote.starts_with(first) && wrote.ends_with(last),
-        None => wrote == wanted,
+    let (first, others) = match wanted.split_once(" .. ") {
+        Some(parts) => parts,
+        None => return wrote == wanted,
+    };
+    let (middle, last) = others.rsplit_once(" .. ").unwrap_or(("", others));
+    for part in middle.split(" .. ") {
+        if !wrote.contains(part) {
+            return false;
+        }
     }
+    wrote.starts_with(first) && wrote.ends_with(last)
 }
 
 /// Whether a row is right.

@@ -25,8 +25,13 @@ fn run_over(
 
 /// The status and the text of `solve` over a file.
 pub fn solve(alloc: Global, file: String) -> Result<String, AllocError> {
+    run_words(alloc, "solve|", file)
+}
+
+/// The status and the text of a run with these words over a file.
+pub fn run_words(alloc: Global, words: &str, file: String) -> Result<String, AllocError> {
     let mut source = MemSource::new(file.into_bytes(), Vec::new(alloc));
-    run_over(alloc, "solve|", &mut source, Vec::new(alloc))
+    run_over(alloc, words, &mut source, Vec::new(alloc))
 }
 
 /// The file of the unit cube.
@@ -36,7 +41,7 @@ fn cube_file(alloc: Global) -> Result<String, AllocError> {
 
 /// Whether this is what a run over the unit cube's file writes, and then `solve` for what is left of
 /// the source. The source's call of the number `read` fails, and the sink's call of the number
-/// `write`, after three bytes; the calls count from 1.
+/// `write`, after ten bytes; the calls count from 1.
 fn writes(
     alloc: Global,
     words: &str,
@@ -44,7 +49,7 @@ fn writes(
     [first, second]: [&str; 2],
 ) -> Result<bool, AllocError> {
     let mut source = MemSource::new(cube_file(alloc)?.into_bytes(), vec![in alloc; read]?);
-    let wrote = run_over(alloc, words, &mut source, vec![in alloc; (write, 3usize)]?)?;
+    let wrote = run_over(alloc, words, &mut source, vec![in alloc; (write, 10usize)]?)?;
     let rest = run_over(alloc, "solve|", &mut source, Vec::new(alloc))?;
     Ok(wrote.as_str() == first && rest.as_str() == second)
 }
@@ -53,13 +58,39 @@ fn writes(
 const OTHER_WORDS: &str = "
 sovle|
 solve|solve|
+solve|4|
 Solve|
 solve |
+solve||
+solve|--nodes|
+solve|--nodes|0|
+solve|--nodes|+3|
+solve|--nodes=|
+solve|--nodes||
+solve|--nodes|3|--nodes|3|
+solve|--solids|65537|
+solve|--node|3|
+solve|--pages|
+solve|--help|
+solve|-h|
+solve|--|
+--nodes|3|solve|
+redraw|
+redraw|0|
 |";
 
 const USAGE: &str = "2 usage: recon solve|redraw|make|trial\n";
 
-const UNIT_CUBE: &str = "0 whole 1 nodes 2 blocks 1\nsolid 1 choice 1 volume 1\n";
+/// The status and the text of `solve` over the unit cube's file.
+pub const UNIT_CUBE: &str = "0 whole 1 nodes 2 blocks 1
+solid 1 choice 1 volume 1 faces 6
+face -x at 0 loop 0,0,0 0,0,1 0,1,1 0,1,0
+face +x at 1 loop 1,0,0 1,1,0 1,1,1 1,0,1
+face -y at 0 loop 0,0,0 1,0,0 1,0,1 0,0,1
+face +y at 1 loop 0,1,0 0,1,1 1,1,1 1,1,0
+face -z at 0 loop 0,0,0 0,1,0 1,1,0 1,0,0
+face +z at 1 loop 0,0,1 1,0,1 1,1,1 0,1,1
+";
 
 /// What `solve` writes where nothing is left.
 const NOTHING_LEFT: &str = "1 fault F4 NoEof line 1\n";
@@ -74,6 +105,8 @@ fn runs_end_so(rt: HostRuntime) -> Result<(), Fail> {
         );
     }
     assert!(rt; writes(alloc, "solve|", [2, 0], ["5 ", NOTHING_LEFT])?);
-    assert!(rt; writes(alloc, "solve|", [0, 1], ["6 who", NOTHING_LEFT])?);
+    assert!(rt; writes(alloc, "solve|", [0, 1], ["6 whole 1 no", NOTHING_LEFT])?);
+    let cut = "6 whole 1 nodes 2 blocks 1\nsolid 1 ch";
+    assert!(rt; writes(alloc, "solve|", [0, 2], [cut, NOTHING_LEFT])?);
     Ok(())
 }

@@ -125,6 +125,9 @@ fn filled_set(alloc: Global, problem: &Problem, choice: &str) -> Result<u8, Fail
 
 /// Whether a line tells a solid of a set's cells, with its volume.
 fn tells(alloc: Global, problem: &Problem, line: &str, set: u8) -> Result<bool, Fail> {
+    if !line.starts_with("solid ") {
+        return Ok(false);
+    }
     let mut words = line.split(' ').skip(3);
     let filled = filled_set(alloc, problem, words.next().unwrap_or(""))?;
     let volume = format!(in alloc; "{}", set.count_ones())?;

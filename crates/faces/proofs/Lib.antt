@@ -1,0 +1,17 @@
+pub mod SquarePlaces
+pub mod PlaneBoundary
+pub mod SquareGraph
+pub mod Grouping
+pub mod PlaneOrder
+pub mod FacesInPlane
+pub mod NearCorners
+pub mod Sides
+pub mod SideNumbers
+pub mod BorderNumbers
+pub mod LeastEnds
+pub mod BorderRounds
+pub mod LoopParts
+pub mod MoreFaces
+pub mod MappedSoFar
+pub mod GridNumbers
+pub mod FacesOnGrid

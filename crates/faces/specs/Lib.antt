@@ -1,0 +1,10 @@
+pub mod PlaneSquares
+pub mod PlaneLoops
+pub mod Points
+pub mod SquareSteps
+pub mod Groups
+pub mod PlaneFaces
+pub mod Ways
+pub mod Border
+pub mod FacesSoFar
+pub mod GridPoints

@@ -1,0 +1,31 @@
+//! The faces of a solid that is a union of grid cells.
+#![tactic(auto)]
+
+mod border;
+mod border_side;
+mod counted;
+#[cfg(test)]
+mod counted_tests;
+mod grid_points;
+mod groups;
+mod joined;
+mod loops;
+mod plane;
+mod plane_faces;
+mod plane_loop;
+mod point;
+mod solid;
+mod space;
+mod squares;
+#[cfg(test)]
+mod tests;
+mod way;
+
+pub use counted::counted_faces;
+pub use joined::square_components;
+pub use loops::plane_loops;
+pub use plane::plane_squares;
+pub use plane_loop::PlaneLoop;
+pub use point::Point;
+pub use solid::faces_of_solid;
+pub use squares::Squares;

@@ -1,0 +1,63 @@
+//! Problems that are searched.
+
+ghost use Rattle.std.specs.Prelude.{◌≡◌, IfOk};
+ghost use Rattle.solid_model.specs.Demands.{is_live};
+ghost use Rattle.solid_model.specs.Search.{EndsSearch};
+
+use search_tree::solve_alone;
+use solid_model::{Ended, Limits, Memory, Problem};
+use std::alloc::Global;
+use std::marker::Model;
+use std::sync::Arc;
+
+/// A problem, and how the search of it ended.
+#[derive(Drop)]
+pub struct Searched {
+    problem: Arc<Problem>,
+    ended: Ended,
+}
+
+impl Model for Searched {
+    ghost use Rattle.std.specs.Arc.{arc_value};
+    ghost use Rattle.recon_run.specs.Searched.{SearchedParts, HasFewSolids};
+
+    ghost Value = { SearchedParts };
+
+    ghost view = { λ s. record { problem = arc_value s.problem; ended = s.ended } };
+
+    ghost invariant = { λ s. HasFewSolids record {
+      problem = arc_value s.problem;
+      ended = s.ended;
+    } };
+}
+
+impl Searched {
+    ghost use Rattle.std.specs.Prelude.{◌≡◌};
+    ghost use Rattle.recon_run.specs.Searched.{HasFewSolids};
+
+    /// The problem.
+    pub fn problem(&self) -> &Problem
+        ensures { result.now ≡ self.now.problem }
+    {
+        &self.problem
+    }
+
+    /// How the search of it ended.
+    pub fn ended(&self) -> &Ended
+        ensures same { result.now ≡ self.now.ended }
+        ensures few { HasFewSolids self.now }
+    {
+        &self.ended
+    }
+}
+
+/// Searches a problem within limits.
+pub fn search(alloc: Global, problem: Problem, limits: Limits) -> Result<Searched, Memory>
+    ensures problem { IfOk result (λ searched. searched.problem ≡ problem) }
+    ensures ended { IfOk result (λ searched. EndsSearch (is_live problem) problem.blocks.count
+        limits searched.ended) }
+{
+    let problem = Arc::new(alloc, problem)?;
+    let ended = solve_alone(alloc, &problem, limits)?;
+    Ok(Searched { problem, ended })
+}

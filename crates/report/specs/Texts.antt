@@ -1,0 +1,69 @@
+-- The texts of a search: its end, its solids with their faces, and pages of solids.
+use Rattle.std.specs.Prelude.{Bool, true, false, ℕ, List, [], ◌∷◌, ◌++◌, length, codes, decimal}
+use Rattle.std.specs.Fmt.{signed_decimal}
+use Rattle.std.specs.List.{flat_map}
+use Rattle.solid_model.specs.declared.cell.Cell.{Cell}
+use Rattle.solid_model.specs.declared.ended.EndKind.{EndKind}
+use Rattle.solid_model.specs.declared.ended.EndKind.TheVariants.{Whole, CutNodes, CutSolids}
+use Rattle.solid_model.specs.declared.face.Out.{Out}
+use Rattle.solid_model.specs.declared.face.Out.TheVariants.{MinusX, PlusX, MinusY, PlusY, MinusZ, PlusZ}
+use Rattle.solid_model.specs.Faces.{FaceParts}
+use Rattle.solid_model.specs.Search.{SearchLimits}
+
+-- the first line, by how a search ended: how many solids, opened nodes and blocks there are; or the limit that is passed
+abbrev pub head_text : SearchLimits → EndKind → ℕ → ℕ → ℕ → List ℕ
+head_text limits Whole solids opened blocks = codes "whole " ++ decimal solids ++ codes " nodes " ++ decimal opened
+    ++ codes " blocks " ++ decimal blocks ++ codes "\n"
+head_text limits CutNodes solids opened blocks = codes "cut nodes " ++ decimal limits.nodes ++ codes "\n"
+head_text limits CutSolids solids opened blocks = codes "cut solids " ++ decimal limits.solids ++ codes "\n"
+
+-- a choice of blocks, in their order: 1 for a full one, 0 for an empty one
+abbrev pub choice_text : List Bool → List ℕ
+choice_text [] = []
+choice_text (true ∷ choice) = codes "1" ++ choice_text choice
+choice_text (false ∷ choice) = codes "0" ++ choice_text choice
+
+-- ---- faces
+
+-- an outward side, by the sign and the letter of its direction
+abbrev pub side_name : Out → List ℕ
+side_name MinusX = codes "-x"
+side_name PlusX = codes "+x"
+side_name MinusY = codes "-y"
+side_name PlusY = codes "+y"
+side_name MinusZ = codes "-z"
+side_name PlusZ = codes "+z"
+
+-- a corner of a loop: a blank, and its coordinates with commas between them
+abbrev pub corner_text : Cell → List ℕ
+corner_text c = codes " " ++ signed_decimal c.x ++ codes "," ++ signed_decimal c.y ++ codes "," ++ signed_decimal c.z
+
+-- a loop: a word for it, and its corners
+abbrev pub loop_text : List Cell → List ℕ
+loop_text corners = codes " loop" ++ flat_map corner_text corners
+
+-- the line of a face: its outward side, the coordinate of its plane, and its loops
+abbrev pub face_text : FaceParts → List ℕ
+face_text f = codes "face " ++ side_name f.out ++ codes " at " ++ signed_decimal f.at ++ flat_map loop_text f.loops ++ codes "\n"
+
+-- ---- solids
+
+-- the first line of the solid of this number: the choice that fills it, its volume, and how many faces it has
+abbrev pub solid_line : ℕ → List Bool → ℕ → ℕ → List ℕ
+solid_line number choice volume faces = codes "solid " ++ decimal number ++ codes " choice " ++ choice_text choice
+    ++ codes " volume " ++ decimal volume ++ codes " faces " ++ decimal faces ++ codes "\n"
+
+-- the solid of this number: its first line, and a line for each of its faces
+abbrev pub solid_text : ℕ → List Bool → ℕ → List FaceParts → List ℕ
+solid_text number choice volume faces = solid_line number choice volume (length faces) ++ flat_map face_text faces
+
+-- ---- pages
+
+-- a line that tells a choice
+abbrev pub choice_line : List Bool → List ℕ
+choice_line choice = codes "choice " ++ choice_text choice ++ codes "\n"
+
+-- a page: its number, how many solids this page and all earlier ones tell, and a line for each choice that it tells
+abbrev pub page_text : ℕ → ℕ → List (List Bool) → List ℕ
+page_text number total choices = codes "page " ++ decimal number ++ codes " solids " ++ decimal total ++ codes "\n"
+    ++ flat_map choice_line choices

@@ -1,0 +1,13 @@
+//! The texts that are written: the end of a search, its solids with their faces, pages of solids,
+//! and faults.
+#![tactic(auto)]
+
+mod faults;
+mod solid;
+#[cfg(test)]
+mod tests;
+mod text;
+
+pub use faults::fault_text;
+pub use solid::solid_text;
+pub use text::{head_text, page_text};

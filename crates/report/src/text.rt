@@ -1,0 +1,102 @@
+//! The texts about a search: its end, and pages of what it has found.
+
+ghost use Rattle.std.specs.Prelude.{◌≡◌, ◌++◌, length, IfOk, OnOk};
+ghost use Rattle.std.specs.List.{flat_map};
+ghost use Rattle.report.specs.Texts.{choice_text, head_text, choice_line, page_text};
+
+use itoa::{Buffer, Integer};
+use solid_model::{Choice, EndKind, Ended, Limits, Memory};
+use std::alloc::Global;
+
+/// Adds a number in plain decimals; an `Err` is out of memory.
+pub fn push_number<I: Integer>(text: &mut Vec<u8>, number: I) -> Result<(), Memory>
+    ensures { OnOk result (text.new.items ≡ text.old.items ++ I.text number) }
+{
+    let mut buffer = Buffer::new();
+    text.extend_from_slice(buffer.format(number).as_bytes())?;
+    Ok(())
+}
+
+/// Adds a choice of blocks, in their order: 1 for a full one, 0 for an empty one.
+pub fn push_choice(text: &mut Vec<u8>, choice: &Choice) -> Result<(), Memory>
+    ensures { OnOk result (text.new.items ≡ text.old.items ++ choice_text choice.now) }
+{
+    for block in 0..choice.len() {
+        text.push(if choice.get(block) { b'1' } else { b'0' })?;
+    }
+    Ok(())
+}
+
+/// The first line of what is told of a search: `whole S nodes N blocks B`, or `cut nodes L` or
+/// `cut solids L`, where L is the limit that is passed. An `Err` is out of memory.
+pub fn head_text(
+    alloc: Global,
+    ended: &Ended,
+    limits: Limits,
+    blocks: u16,
+) -> Result<Vec<u8>, Memory>
+    ensures { IfOk result (λ text. text.items ≡ head_text limits ended.now.kind
+        (length ended.now.solids) ended.now.opened blocks) }
+{
+    let mut text = Vec::new(alloc);
+    match ended.kind {
+        EndKind::Whole => {
+            text.extend_from_slice(b"whole ")?;
+            push_number(&mut text, ended.solids.len())?;
+            text.extend_from_slice(b" nodes ")?;
+            push_number(&mut text, ended.opened)?;
+            text.extend_from_slice(b" blocks ")?;
+            push_number(&mut text, blocks)?;
+        }
+        EndKind::CutNodes => {
+            text.extend_from_slice(b"cut nodes ")?;
+            push_number(&mut text, limits.nodes)?;
+        }
+        EndKind::CutSolids => {
+            text.extend_from_slice(b"cut solids ")?;
+            push_number(&mut text, limits.solids)?;
+        }
+    }
+    text.extend_from_slice(b"\n")?;
+    Ok(text)
+}
+
+/// Adds a line that tells a choice.
+fn push_choice_line(text: &mut Vec<u8>, choice: &Choice) -> Result<(), Memory>
+    ensures { OnOk result (text.new.items ≡ text.old.items ++ choice_line choice.now) }
+{
+    text.extend_from_slice(b"choice ")?;
+    push_choice(text, choice)?;
+    text.extend_from_slice(b"\n")?;
+    Ok(())
+}
+
+/// Adds a line for each choice.
+fn push_choice_lines(text: &mut Vec<u8>, choices: &[Choice]) -> Result<(), Memory>
+    ensures { OnOk result (text.new.items ≡ text.old.items ++ flat_map choice_line choices.now) }
+{
+    for choice in choices {
+        push_choice_line(text, choice)?;
+    }
+    Ok(())
+}
+
+/// The text of a page, by its number, counted from 1, and how many solids this page and all earlier
+/// ones tell: `page P solids N`, and then for each new choice a line `choice C`. An `Err` is out of
+/// memory.
+pub fn page_text(
+    alloc: Global,
+    number: u32,
+    total: usize,
+    more: &[Choice],
+) -> Result<Vec<u8>, Memory>
+    ensures { IfOk result (λ text. text.items ≡ page_text number total more.now) }
+{
+    let mut text = Vec::from_slice(alloc, b"page ")?;
+    push_number(&mut text, number)?;
+    text.extend_from_slice(b" solids ")?;
+    push_number(&mut text, total)?;
+    text.extend_from_slice(b"\n")?;
+    push_choice_lines(&mut text, more)?;
+    Ok(text)
+}

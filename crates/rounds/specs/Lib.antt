@@ -1,0 +1,4 @@
+pub mod Succession
+pub mod NodeMarks
+pub mod SmallRounds
+pub mod Tables

@@ -1,0 +1,11 @@
+pub mod Built
+pub mod Fits
+pub mod Never
+pub mod OneUse
+pub mod Parsed
+pub mod Stands
+pub mod Steps
+pub mod Taken
+pub mod Texts
+pub mod Values
+pub mod Walk

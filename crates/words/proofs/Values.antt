@@ -1,0 +1,204 @@
+-- The values that are read: those of uses that fit lie in their ranges, and are read as their numbers.
+use Rattle.std.proofs.Common.{◌≡◌, ◌∙◌, refl, sym, ap, ap₂, subst, ℕ, ◌<◌, ◌≤◌, ◌^◌, Bool, true, false, cond, ◌&&◌, ◌==◌, eqb-true, List, [], ◌∷◌, ◌++◌, length, Option, Some, None, IfSome, Result, Ok, Err, nat_le, arith, true≢false, ltb-true, leb-true}
+use Rattle.std.specs.Prelude.{⊤, if◌then◌else◌, option_map, unwrap_or}
+use Rattle.std.specs.List.{find, list_all}
+use Rattle.std.specs.Char.{digit_value, is_ascii_digit}
+use Rattle.std.specs.Option.{option_map_or}
+use Rattle.std.specs.Str.{bytes_eq}
+use Rattle.std.specs.Str.Parse.{AllDigits, IsNumeral, ParsesUnsigned, digits_value, without_leading_plus}
+use Rattle.std.proofs.lemmas.Slice.Eq.{bytes_eq-Decides}
+use Rattle.clap.specs.Lexer.{long_of}
+use Rattle.clap.specs.Matches.{ReadsOne}
+use Rattle.clap.proofs.WalkLemmas.{both}
+use Rattle.words.specs.declared.table.Range.{Range}
+use Rattle.words.specs.Barred.{begins_with_plus}
+use Rattle.words.specs.Rows.{is_sound}
+use Rattle.words.specs.Words.{Field, Table, Text, Use, Word, after_word, field_word, fits_after, flag_text, has_number, is_digits, is_within, number_field, number_name, number_word, opens, option_of, option_word, put, says, stray, suits, taken, text_in, uses, where_fit, word_as, word_of}
+use Rattle.words.proofs.Built.{no_number_option}
+use Rattle.words.proofs.Fits.{found_named}
+use Rattle.words.proofs.Texts.{digit_same, plus_kept}
+
+-- ---- each use is one of the table
+
+-- the option of this name, or the number
+abbrev pub or_number : Option Field → Bool → Option Range → Option Field
+or_number (Some f) called range = Some f
+or_number None called range = if called then option_map number_field range else None
+
+abbrev pub called : Table → Text → Option Field
+called t name = or_number (option_of t name) (bytes_eq name number_name) t.number
+
+module _ (t : Table) (sound : is_sound t ≡ true) where
+  -- the use is one of the table, and one of a flag says so
+  abbrev IsOf : Use → Type 0
+  IsOf u = (called t u.0.name ≡ Some u.0) × (u.0.range ≡ None → u.1 ≡ flag_text)
+
+  abbrev AllOf : List Use → Type 0
+  AllOf [] = ⊤
+  AllOf (u ∷ us) = IsOf u × AllOf us
+
+  abbrev WordOf : Word → Type 0
+  WordOf (says u) = IsOf u
+  WordOf (opens f) = (called t f.name ≡ Some f) × (f.range ≡ None → ⊥)
+  WordOf stray = ⊤
+
+  put_of : (u : Use) (o : Option (List Use)) → IsOf u → IfSome o AllOf → IfSome (put u o) AllOf
+  put_of u None is h = tt
+  put_of u (Some us) is h = (is, h)
+
+  field_of_table : (name : Text) (range : Option Range) (v : Option Text) → called t name
+      ≡ Some (record { name = name; range = range })
+      → WordOf (field_word (record { name = name; range = range }) range v)
+  field_of_table name None None found = (found, λ _. refl)
+  field_of_table name None (Some v) found = tt
+  field_of_table name (Some r) None found = (found, λ e. cc)
+  field_of_table name (Some r) (Some v) found = (found, λ e. cc)
+
+  called_option : (name : Text) (f : Field) → option_of t name ≡ Some f → called t f.name ≡ Some f
+  called_option name f found = ap (λ o. or_number o (bytes_eq f.name number_name) t.number)
+      (ap (option_of t) (found_named t.options name f found) ∙ found)
+
+  word_is_of : (x : Text) → WordOf (word_of t x)
+  word_is_of x = go (long_of x)
+    where
+      by_option : (name : Text) (v : Option Text) (o : Option Field) → option_of t name ≡ o → WordOf (option_word o v)
+      by_option name v None found = tt
+      by_option name v (Some f) found = field_of_table f.name f.range v (called_option name f found)
+
+      by_number : (n : Option Range) → t.number ≡ n → WordOf (number_word n x)
+      by_number None is = tt
+      by_number (Some r) is = (ap₂ (λ o m. or_number o true m) (no_number_option t sound) is, λ e. cc)
+
+      go : (l : Option (Text × Option Text)) → WordOf (word_as t l x)
+      go None = by_number t.number refl
+      go (Some p) = by_option p.0 p.1 (option_of t p.0) refl
+
+  uses_of_table : (words : List Text) → IfSome (uses t None words) AllOf
+      × ((f : Field) → called t f.name ≡ Some f → (f.range ≡ None → ⊥) → IfSome (uses t (Some f) words) AllOf)
+  uses_of_table [] = (tt, λ f found ranged. tt)
+  uses_of_table (x ∷ xs) =
+      let later = uses_of_table xs in (
+        first later.0 later.1 (word_of t x) (word_is_of x),
+        λ f found ranged. put_of (f, x) (uses t None xs)
+            (found, λ e. absurd (ranged e)) later.0,
+      )
+    where
+      first : IfSome (uses t None xs) AllOf → ((f : Field) → called t f.name ≡ Some f → (f.range ≡ None → ⊥)
+          → IfSome (uses t (Some f) xs) AllOf)
+          → (w : Word) → WordOf w → IfSome (after_word w (uses t None xs) (λ f. uses t (Some f) xs)) AllOf
+      first now waits (says u) is = put_of u (uses t None xs) is now
+      first now waits (opens f) is = waits f is.0 is.1
+      first now waits stray is = tt
+
+  -- ---- and its value suits it
+
+  abbrev IsUseOf : Field → Use → Type 0
+  IsUseOf f u = (u.0 ≡ f) × (suits u ≡ true) × (u.0.range ≡ None → u.1 ≡ flag_text)
+
+  found_use : (seen us : List Use) (name : Text) (f : Field) → called t name ≡ Some f → fits_after seen us ≡ true → AllOf us
+      → IfSome (find (λ u. bytes_eq u.0.name name) us) (IsUseOf f)
+  found_use seen [] name f found fits of = tt
+  found_use seen (u ∷ us) name f found fits of =
+      let parts = both _ _ fits in
+      go (bytes_eq u.0.name name) refl (both _ _ parts.0).1 (found_use (seen ++ u ∷ []) us name f found parts.1 of.1)
+    where
+      same : bytes_eq u.0.name name ≡ true → u.0 ≡ f
+      same is =
+          let named : u.0.name ≡ name = (bytes_eq-Decides u.0.name name).0 is in
+          let e : Some u.0 ≡ Some f = sym of.0.0 ∙ ap (called t) named ∙ found in cc
+
+      go : (b : Bool) → bytes_eq u.0.name name ≡ b → suits u ≡ true → IfSome (find (λ v. bytes_eq v.0.name name) us) (IsUseOf f)
+          → IfSome (cond b (Some u) (find (λ v. bytes_eq v.0.name name) us)) (IsUseOf f)
+      go true is suit later = (same is, suit, of.0.1)
+      go false is suit later = later
+
+  taken_uses : (words : List Text) (us : List Use) → taken t words ≡ Some us → AllOf us × (fits_after [] us ≡ true)
+  taken_uses words us e = go (uses t None words) (uses_of_table words).0 e
+    where
+      inner : (vs : List Use) (a b : Bool) → fits_after [] vs ≡ a → AllOf vs → cond (a && b) (Some vs) None ≡ Some us → AllOf us
+          × (fits_after [] us ≡ true)
+      inner vs true true fits of h = let same : vs ≡ us = cc in (subst AllOf same of, ap (fits_after []) (sym same) ∙ fits)
+      inner vs true false fits of h = cc
+      inner vs false b fits of h = cc
+
+      go : (o : Option (List Use)) → IfSome o AllOf → where_fit t o ≡ Some us → AllOf us × (fits_after [] us ≡ true)
+      go None of h = cc
+      go (Some vs) of h = inner vs (fits_after [] vs) (has_number t vs) refl of h
+
+  -- the value of an option or of the number, where the words are taken
+  pub value_within : (words : List Text) (us : List Use) (name : Text) (r : Range) → taken t words ≡ Some us
+      → called t name ≡ Some (record { name = name; range = Some r }) → IfSome (text_in name us) (λ x. is_within r x ≡ true)
+  value_within words us name r e found =
+      let parts = taken_uses words us e in
+      go (find (λ u. bytes_eq u.0.name name) us) (found_use [] us name (record { name = name; range = Some r }) found parts.1
+      parts.0)
+    where
+      go : (o : Option Use) → IfSome o (IsUseOf (record { name = name; range = Some r }))
+          → IfSome (option_map (λ (u : Use). u.1) o) (λ x. is_within r x ≡ true)
+      go None h = tt
+      go (Some u) h = subst (λ (f : Field). option_map_or (λ q. is_within q u.1) f.range true ≡ true) h.0 h.1
+
+  -- the value of a flag
+  pub flag_within : (words : List Text) (us : List Use) (name : Text) → taken t words ≡ Some us
+      → called t name ≡ Some (record { name = name; range = None }) → IfSome (text_in name us) (λ x. x ≡ flag_text)
+  flag_within words us name e found =
+      let parts = taken_uses words us e in
+      go (find (λ u. bytes_eq u.0.name name) us) (found_use [] us name (record { name = name; range = None }) found parts.1
+      parts.0)
+    where
+      go : (o : Option Use) → IfSome o (IsUseOf (record { name = name; range = None }))
+          → IfSome (option_map (λ (u : Use). u.1) o) (λ x. x ≡ flag_text)
+      go None h = tt
+      go (Some u) h = h.2 (ap (λ (f : Field). f.range) h.0)
+
+-- ---- how a value is read
+
+numeral : (cs : Text) → list_all is_ascii_digit cs ≡ true → AllDigits 10 cs
+numeral [] e = tt
+numeral (c ∷ cs) e = let parts = both _ _ e in (ltb-true (digit_value c) 10 (sym (digit_same c) ∙ parts.0), numeral cs parts.1)
+
+no_plus : (x : Text) → is_digits x ≡ true → begins_with_plus x ≡ false
+no_plus [] e = refl
+no_plus (c ∷ cs) e = go (c == 43) refl
+  where
+    go : (b : Bool) → c == 43 ≡ b → b ≡ false
+    go false is = refl
+    go true is = absurd (true≢false (sym (both _ _ (both _ _ e).1).0 ∙ ap is_ascii_digit (eqb-true c 43 is)))
+
+-- a number of the range is read as what its digits say
+pub number_read : {E : Type 0} (gives : List ℕ → Result ℕ E → Type 0)
+    → ((u : List ℕ) (x : Result ℕ E) → gives u x → ParsesUnsigned 64 10 u x)
+    → (least most : ℕ) (text : Option Text) (got : Option ℕ) → most < 2 ^ 64
+    → IfSome text (λ x. is_within (record { least = least; most = most }) x ≡ true)
+    → (text ≡ None → got ≡ None) → ((t : List ℕ) → text ≡ Some t → ReadsOne gives t got) → got ≡ option_map (digits_value 10) text
+number_read gives parses least most None got small within none some = none refl
+number_read gives parses least most (Some x) got small within none some = go got (some x refl)
+  where
+    digits : is_digits x ≡ true
+    digits = (both _ _ within).0
+
+    kept : without_leading_plus x ≡ x
+    kept = plus_kept x (no_plus x digits)
+
+    below : digits_value 10 x < 2 ^ 64
+    below = let le : digits_value 10 x ≤ most = leb-true (digits_value 10 x) most
+        (both (nat_le least (digits_value 10 x)) (nat_le (digits_value 10 x) most)
+        (both (is_digits x) (nat_le least (digits_value 10 x) && nat_le (digits_value 10 x) most) within).1).1 in omega arith
+
+    is_numeral : IsNumeral 10 x × (digits_value 10 x < 2 ^ 64)
+    is_numeral = let parts = both _ _ digits in ((ltb-true 0 (length x) parts.0, numeral x parts.1), below)
+
+    go : (o : Option ℕ) → ReadsOne gives x o → o ≡ Some (digits_value 10 x)
+    go (Some v) h = ap Some ((parses x (Ok v) h).1 ∙ ap (digits_value 10) kept)
+    go None h = absurd (parses x (Err h.0) h.1 (subst (λ (y : Text). IsNumeral 10 y × (digits_value 10 y < 2 ^ 64)) (sym kept)
+        is_numeral))
+
+-- what is read lies in the range, where what stands for nothing does
+pub read_within : (least most otherwise : ℕ) (text : Option Text)
+    → IfSome text (λ x. is_within (record { least = least; most = most }) x ≡ true)
+    → least ≤ otherwise → otherwise ≤ most
+    → (least ≤ unwrap_or (option_map (digits_value 10) text) otherwise)
+    × (unwrap_or (option_map (digits_value 10) text) otherwise ≤ most)
+read_within least most otherwise None within low high = (low, high)
+read_within least most otherwise (Some x) within low high = let parts = both _ _ (both _ _ within).1 in
+    (leb-true _ _ parts.0, leb-true _ _ parts.1)

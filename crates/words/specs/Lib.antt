@@ -1,0 +1,6 @@
+pub mod Barred
+pub mod Jobs
+pub mod Rows
+pub mod Rules
+pub mod SmallWords
+pub mod Words

@@ -1,0 +1,62 @@
+//! The laws over the definitions. Each is the contract of a function that does nothing.
+
+ghost use Rattle.std.specs.Prelude.{◌≡◌, ◌∷◌, [], Some, None, false, codes};
+ghost use Rattle.words.specs.Jobs.{job_said};
+ghost use Rattle.words.specs.SmallWords.{any_given, any_said, given_in, job_in, search_within};
+
+/// Words of `solve` that are taken, with the limits that they ask for, worked out by hand: both
+/// forms of an option, in either order, and leading zeros.
+pub fn small_jobs()
+    ensures bare { job_in (codes "solve") ≡ search_within 1000000 4096 }
+    ensures value { job_in (codes "solve --nodes 2") ≡ search_within 2 4096 }
+    ensures equals { job_in (codes "solve --solids=2") ≡ search_within 1000000 2 }
+    ensures zeros { job_in (codes "solve --nodes 0003 --solids=0000000000000000000000000000004")
+        ≡ search_within 3 4 }
+    ensures order { job_in (codes "solve --solids 65536 --nodes=4000000")
+        ≡ search_within 4000000 65536 }
+    ensures least { job_in (codes "solve --nodes=1 --solids 1") ≡ search_within 1 1 }
+{}
+
+/// Words that no job is said by, worked out by hand.
+pub fn refused_words()
+    ensures none { job_said [] ≡ None }
+    ensures commands { any_said (codes "" ∷ codes "sovle" ∷ codes "Solve" ∷ codes " solve"
+        ∷ codes "--nodes 3 solve" ∷ codes "--nodes=3" ∷ codes "solve=" ∷ []) ≡ false }
+    ensures more { any_said (codes "solve 4" ∷ codes "solve solve" ∷ codes "solve "
+        ∷ codes "solve --nodes 3 4" ∷ codes "solve --nodes=3 4" ∷ codes "solve -" ∷ []) ≡ false }
+    ensures values { any_said (codes "solve --nodes" ∷ codes "solve --nodes="
+        ∷ codes "solve --nodes " ∷ codes "solve --nodes --solids" ∷ codes "solve --nodes --solids 3"
+        ∷ codes "solve --nodes -3" ∷ codes "solve --nodes 3e2" ∷ codes "solve --nodes==3"
+        ∷ codes "solve --nodes 0x3" ∷ codes "solve --nodes  3" ∷ []) ≡ false }
+    ensures ranges { any_said (codes "solve --nodes 0" ∷ codes "solve --nodes=4000001"
+        ∷ codes "solve --solids=0" ∷ codes "solve --solids 65537"
+        ∷ codes "solve --nodes 18446744073709551617" ∷ []) ≡ false }
+    ensures repeats { any_said (codes "solve --nodes 2 --nodes 2"
+        ∷ codes "solve --solids=3 --nodes 2 --solids 3" ∷ []) ≡ false }
+    ensures names { any_said (codes "solve --node 3" ∷ codes "solve --nodess 3"
+        ∷ codes "solve --Nodes 3" ∷ codes "solve -nodes 3" ∷ codes "solve -n 3"
+        ∷ codes "solve --=3" ∷ codes "solve --number 3" ∷ codes "solve -h" ∷ codes "solve --help"
+        ∷ codes "solve help" ∷ codes "solve --version" ∷ codes "solve -V" ∷ []) ≡ false }
+    ensures barred { any_said (codes "solve --nodes +3" ∷ codes "solve --nodes=+3"
+        ∷ codes "solve +3" ∷ codes "solve --" ∷ codes "solve -- --nodes 3"
+        ∷ codes "solve --nodes 3 --" ∷ codes "solve --nodes --" ∷ []) ≡ false }
+{}
+
+/// Words of a small table, with an option, a flag and a number, worked out by hand.
+pub fn small_words()
+    ensures number { given_in (codes "007") ≡ Some ((codes "number", codes "007") ∷ []) }
+    ensures flag { given_in (codes "--pages 7")
+        ≡ Some ((codes "pages", codes "true") ∷ (codes "number", codes "7") ∷ []) }
+    ensures option { given_in (codes "7 --size=3 --pages") ≡ Some ((codes "number", codes "7")
+        ∷ (codes "size", codes "3") ∷ (codes "pages", codes "true") ∷ []) }
+    ensures between { given_in (codes "--size 9 65536")
+        ≡ Some ((codes "size", codes "9") ∷ (codes "number", codes "65536") ∷ []) }
+    ensures required { any_given (codes "--pages" ∷ codes "--size 3"
+        ∷ codes "--pages --size=3" ∷ codes "" ∷ []) ≡ false }
+    ensures repeated { any_given (codes "7 7" ∷ codes "7 --size 3 7" ∷ codes "--pages 7 --pages"
+        ∷ codes "--size 3 7 --size=3" ∷ []) ≡ false }
+    ensures flags { any_given (codes "--pages=true 7" ∷ codes "--pages= 7"
+        ∷ codes "7 --pages true" ∷ []) ≡ false }
+    ensures ranges { any_given (codes "0" ∷ codes "65537" ∷ codes "7 --size 1"
+        ∷ codes "7 --size 10" ∷ codes "-7" ∷ codes "+7" ∷ codes "7.0" ∷ []) ≡ false }
+{}
