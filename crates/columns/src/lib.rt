@@ -10,6 +10,6 @@ mod segment_styles;
 mod tests;
 
 pub use column::{Column, style_of};
-pub use draw::{ColumnSet, columns_of, draw_cells};
+pub use draw::{ColumnSet, columns_of, draw_cells, draw_in};
 pub use grid_columns::cell_in;
 pub use known::{KnownColumn, can_draw};

@@ -7,7 +7,7 @@ use Rattle.solid_model.specs.declared.cell.Axis.TheVariants.{X, Y, Z}
 use Rattle.solid_model.specs.declared.fault.Fault.{Fault}
 use Rattle.solid_model.specs.declared.fault.Fault.TheVariants as fault
 use Rattle.solid_model.specs.declared.frame.View.{View}
-use Rattle.solid_model.specs.declared.frame.View.TheVariants.{Front, Top, Side}
+use Rattle.solid_model.specs.Frames.{layer_name}
 
 -- a fault's number and name
 abbrev pub name_of : Fault → List ℕ
@@ -72,12 +72,6 @@ abbrev pub count_named : Fault → Option ℕ
 count_named (fault.TooFine _ count) = Some count
 count_named (fault.TooManyBlocks count) = Some count
 count_named _ = None
-
--- the name of a view's layer
-abbrev pub layer_name : View → List ℕ
-layer_name Front = codes "FRONT"
-layer_name Top = codes "TOP"
-layer_name Side = codes "SIDE"
 
 -- the letter of an axis
 abbrev pub letter_of : Axis → List ℕ

@@ -3,8 +3,9 @@
 ghost use Rattle.std.specs.Prelude.{◌≡◌, ◌++◌, codes, IfOk, OnOk};
 ghost use Rattle.std.specs.Option.{option_map};
 ghost use Rattle.report.specs.FaultText.{name_of, line_named, code_named, view_named, axis_named};
-ghost use Rattle.report.specs.FaultText.{count_named, layer_name, letter_of};
+ghost use Rattle.report.specs.FaultText.{count_named, letter_of};
 ghost use Rattle.report.specs.FaultText.{part_text, parts_text, fault_text};
+ghost use Rattle.solid_model.specs.Frames.{layer_name};
 
 use crate::text::push_number;
 use itoa::Integer;
@@ -104,17 +105,6 @@ fn count_named(fault: Fault) -> Option<u32>
     }
 }
 
-/// The name of a view's layer.
-fn layer_name(view: View) -> &'static str
-    ensures { result.now ≡ layer_name view }
-{
-    match view {
-        View::Front => "FRONT",
-        View::Top => "TOP",
-        View::Side => "SIDE",
-    }
-}
-
 /// The letter of an axis.
 fn letter_of(axis: Axis) -> &'static str
     ensures { result.now ≡ letter_of axis }
@@ -152,7 +142,7 @@ fn push_view(text: &mut Vec<u8>, view: Option<View>) -> Result<(), Memory>
     match view {
         Some(view) => {
             text.extend_from_slice(b" view ")?;
-            text.extend_from_slice(layer_name(view).as_bytes())?;
+            text.extend_from_slice(view.layer().as_bytes())?;
             Ok(())
         }
         None => Ok(()),

@@ -1,5 +1,5 @@
 -- How the views stand in space. Left, rear and bottom views are further frames, with directions that run backward.
-use Rattle.std.specs.Prelude.{Bool, true, false, ℤ, pos, neg_ℤ, ◌-ℤ◌, if◌then◌else◌}
+use Rattle.std.specs.Prelude.{Bool, true, false, ℕ, List, ℤ, pos, neg_ℤ, ◌-ℤ◌, codes, if◌then◌else◌}
 use Rattle.solid_model.specs.declared.cell.Axis.{Axis}
 use Rattle.solid_model.specs.declared.cell.Axis.TheVariants.{X, Y, Z}
 use Rattle.solid_model.specs.declared.cell.Cell.{Cell}
@@ -27,6 +27,12 @@ abbrev pub frame_of : View → Frame
 frame_of Front = record { right = forward X; up = forward Z; away = forward Y }
 frame_of Top = record { right = forward X; up = forward Y; away = backward Z }
 frame_of Side = record { right = forward Y; up = forward Z; away = backward X }
+
+-- the layer on which a view is drawn
+abbrev pub layer_name : View → List ℕ
+layer_name Front = codes "FRONT"
+layer_name Top = codes "TOP"
+layer_name Side = codes "SIDE"
 
 -- the axis' coordinate of the whole point that stands at k along a direction
 abbrev pub point_on : Direction → ℤ → ℤ

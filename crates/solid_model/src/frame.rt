@@ -32,7 +32,7 @@ pub struct Frame {
 }
 
 impl View {
-    ghost use Rattle.solid_model.specs.Frames.{frame_of};
+    ghost use Rattle.solid_model.specs.Frames.{frame_of, layer_name};
 
     /// How the view stands in space: a third-angle view.
     pub fn frame(self) -> Frame
@@ -47,6 +47,17 @@ impl View {
             right: Direction::forward(right),
             up: Direction::forward(up),
             away,
+        }
+    }
+
+    /// The name of the layer on which the view is drawn.
+    pub fn layer(self) -> &'static str
+        ensures { result.now ≡ layer_name self }
+    {
+        match self {
+            View::Front => "FRONT",
+            View::Top => "TOP",
+            View::Side => "SIDE",
         }
     }
 }

@@ -1,0 +1,60 @@
+-- Made solids: a row of 14 pieces for each number, by the words of a generator (Pcg32, stream 54).
+use Rattle.std.specs.Prelude.{◌≡◌, ◌+◌, ◌%◌, ◌&&◌, ◌==◌, nat_le, Bool, true, false, ℕ, zero, suc, List, [], ◌∷◌, length, if◌then◌else◌}
+use Rattle.rand_pcg.specs.Lcg.{Lcg, started, increment_of}
+use Rattle.rand_pcg.specs.Pcg.{pcg32, multiplier_64}
+use Rattle.solid_model.specs.declared.cell.Cell.{Cell}
+use Rattle.solid_model.specs.Cells.{is_full}
+use Rattle.solid_model.specs.DrawnStyle.{solid_drawing}
+use Rattle.solid_model.specs.Grid.{IsUnionOf, grid_cell_count}
+use Rattle.solid_model.specs.Panels.{GridParts, coordinates_of, IsGridOf}
+use Rattle.drawing_maker.specs.declared.piece.Kind.{Kind}
+use Rattle.drawing_maker.specs.declared.piece.Kind.TheVariants.{UnitCube, HollowCube, EightVoids}
+use Rattle.drawing_maker.specs.Pieces.{PieceParts, next_origin, row_cells}
+
+-- the generator of a number
+abbrev pub generator_of : ℕ → Lcg
+generator_of n = started 64 multiplier_64 n (increment_of 64 54)
+
+-- how many pieces a made solid has
+abbrev pub piece_count : ℕ
+piece_count = 14
+
+-- The kind that a word gives, where only one cube with eight voids stands so far, or more than one: by the word's remainder
+-- by 8, 0 gives another cube with eight voids, if only one stands, and else a hollow cube; so do 1 to 4; 5 to 7 give a unit cube.
+abbrev pub kind_by : Bool → ℕ → Kind
+kind_by alone 0 = if alone then EightVoids else HollowCube
+kind_by alone k = if nat_le k 4 then HollowCube else UnitCube
+
+-- the scale that a word gives
+abbrev pub scale_by : ℕ → ℕ
+scale_by word = 1 + word % 9
+
+-- it is a cube with eight voids
+abbrev pub has_eight_voids : Kind → Bool
+has_eight_voids EightVoids = true
+has_eight_voids _ = false
+
+-- so many pieces more, from an origin on: for each two words are drawn, the first for its kind and the second for its scale
+abbrev pub later_pieces : ℕ → Lcg → Bool → ℕ → List PieceParts
+later_pieces zero g alone origin = []
+later_pieces (suc more) g alone origin =
+    let a = pcg32 g in let b = pcg32 a.1 in
+    let p : PieceParts = record { kind = kind_by alone (a.0 % 8); scale = scale_by b.0; origin = origin } in
+    p ∷ later_pieces more b.1 (alone && not (has_eight_voids p.kind)) (next_origin p)
+
+-- the pieces of a number: the first is a cube with eight voids, whatever its first word is
+abbrev pub made_pieces : ℕ → List PieceParts
+made_pieces n =
+    let a = pcg32 (generator_of n) in let b = pcg32 a.1 in
+    let p : PieceParts = record { kind = EightVoids; scale = scale_by b.0; origin = 0 } in
+    p ∷ later_pieces 13 b.1 true (next_origin p)
+
+-- the made solid of a number
+abbrev pub made_solid : ℕ → List Cell
+made_solid n = row_cells (made_pieces n)
+
+-- the grid of its drawing, and which of the grid's cells it fills, z slowest and x fastest
+pub record IsMade (n : ℕ) (g : GridParts) (cells : List Bool) : Type 0 where
+  pub grid : IsGridOf (solid_drawing (made_solid n)) g
+  pub cells : IsUnionOf (coordinates_of g) cells (is_full (made_solid n))
+  pub count : length cells ≡ grid_cell_count (coordinates_of g)

@@ -1,0 +1,2 @@
+//! Drawings of any size to try things on, each made from a number.
+#![tactic(auto)]
