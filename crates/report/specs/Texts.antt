@@ -67,3 +67,17 @@ choice_line choice = codes "choice " ++ choice_text choice ++ codes "\n"
 abbrev pub page_text : ℕ → ℕ → List (List Bool) → List ℕ
 page_text number total choices = codes "page " ++ decimal number ++ codes " solids " ++ decimal total ++ codes "\n"
     ++ flat_map choice_line choices
+
+-- ---- trials
+
+-- what is told of the search of a made drawing: the number that it is made from, its pieces, how many blocks and solids there
+-- are, how many prefixes were opened, and the volume of the first solid
+abbrev pub trial_text : ℕ → ℕ → ℕ → ℕ → ℕ → List ℕ
+trial_text n blocks solids opened volume = codes "trial " ++ decimal n ++ codes " pieces 14 blocks " ++ decimal blocks ++ codes " solids "
+    ++ decimal solids ++ codes " nodes " ++ decimal opened ++ codes " volume " ++ decimal volume ++ codes "\n"
+
+-- ---- numbers of solids
+
+-- that there is no solid of this number, but only so many
+abbrev pub no_solid_text : ℕ → ℕ → List ℕ
+no_solid_text which solids = codes "none " ++ decimal which ++ codes " of " ++ decimal solids ++ codes "\n"

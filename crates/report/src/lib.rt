@@ -1,5 +1,5 @@
 //! The texts that are written: the end of a search, its solids with their faces, pages of solids,
-//! and faults.
+//! trials, and faults.
 #![tactic(auto)]
 
 mod faults;
@@ -10,4 +10,4 @@ mod text;
 
 pub use faults::fault_text;
 pub use solid::solid_text;
-pub use text::{head_text, page_text};
+pub use text::{head_text, no_solid_text, page_text, trial_text};

@@ -1,7 +1,7 @@
 //! Texts, byte for byte.
 
 use crate::solid::{push_faces, push_solid_line};
-use crate::{fault_text, head_text, page_text};
+use crate::{fault_text, head_text, no_solid_text, page_text, trial_text};
 use solid_model::{Axis, Cell, Choice, EndKind, Ended, Face, Fault, Limits, Loop, Out, View};
 use std::alloc::Global;
 use std::test::Fail;
@@ -137,6 +137,24 @@ fn a_page_tells_its_number_the_total_and_choices(rt: HostRuntime) -> Result<(), 
         page.as_slice(),
         b"page 3 solids 35\nchoice 101\nchoice 001\n".as_slice()
     );
+    Ok(())
+}
+
+#[test]
+fn a_trial_and_a_lack_are_told(rt: HostRuntime) -> Result<(), Fail> {
+    let alloc = rt.alloc();
+    let ended = Ended {
+        kind: EndKind::Whole,
+        opened: 214,
+        solids: choices(alloc)?,
+    };
+    let trial = trial_text(alloc, 7, 12, &ended, 148)?;
+    assert_eq!(rt;
+        trial.as_slice(),
+        b"trial 7 pieces 14 blocks 12 solids 2 nodes 214 volume 148\n".as_slice()
+    );
+    let none = no_solid_text(alloc, 3, 2)?;
+    assert_eq!(rt; none.as_slice(), b"none 3 of 2\n".as_slice());
     Ok(())
 }
 

@@ -3,6 +3,7 @@
 ghost use Rattle.std.specs.Prelude.{◌≡◌, ◌++◌, length, IfOk, OnOk};
 ghost use Rattle.std.specs.List.{flat_map};
 ghost use Rattle.report.specs.Texts.{choice_text, head_text, choice_line, page_text};
+ghost use Rattle.report.specs.Texts.{trial_text, no_solid_text};
 
 use itoa::{Buffer, Integer};
 use solid_model::{Choice, EndKind, Ended, Limits, Memory};
@@ -98,5 +99,45 @@ pub fn page_text(
     push_number(&mut text, total)?;
     text.extend_from_slice(b"\n")?;
     push_choice_lines(&mut text, more)?;
+    Ok(text)
+}
+
+/// The line that is told of the search of the drawing that is made from a number, which was whole,
+/// by the volume of its first solid: `trial N pieces 14 blocks B solids S nodes O volume V`. An `Err`
+/// is out of memory.
+pub fn trial_text(
+    alloc: Global,
+    n: u64,
+    blocks: u16,
+    ended: &Ended,
+    volume: u128,
+) -> Result<Vec<u8>, Memory>
+    ensures { IfOk result (λ text. text.items
+        ≡ trial_text n blocks (length ended.now.solids) ended.now.opened volume) }
+{
+    let mut text = Vec::from_slice(alloc, b"trial ")?;
+    push_number(&mut text, n)?;
+    text.extend_from_slice(b" pieces 14 blocks ")?;
+    push_number(&mut text, blocks)?;
+    text.extend_from_slice(b" solids ")?;
+    push_number(&mut text, ended.solids.len())?;
+    text.extend_from_slice(b" nodes ")?;
+    push_number(&mut text, ended.opened)?;
+    text.extend_from_slice(b" volume ")?;
+    push_number(&mut text, volume)?;
+    text.extend_from_slice(b"\n")?;
+    Ok(text)
+}
+
+/// The line that tells that there is no solid of a number, but only so many: `none K of S`. An `Err`
+/// is out of memory.
+pub fn no_solid_text(alloc: Global, which: u32, solids: usize) -> Result<Vec<u8>, Memory>
+    ensures { IfOk result (λ text. text.items ≡ no_solid_text which solids) }
+{
+    let mut text = Vec::from_slice(alloc, b"none ")?;
+    push_number(&mut text, which)?;
+    text.extend_from_slice(b" of ")?;
+    push_number(&mut text, solids)?;
+    text.extend_from_slice(b"\n")?;
     Ok(text)
 }

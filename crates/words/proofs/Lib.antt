@@ -1,4 +1,5 @@
 pub mod Built
+pub mod Commands
 pub mod Fits
 pub mod Never
 pub mod OneUse

@@ -1,15 +1,16 @@
 -- Barred words are never taken, whatever the table.
-use Rattle.std.proofs.Common.{◌≡◌, ◌∙◌, refl, sym, ap, Bool, true, false, cond, map, ◌&&◌, ◌||◌, List, [], ◌∷◌, ◌++◌, Option, Some, None, is_some, codes, true≢false}
+use Rattle.std.proofs.Common.{◌≡◌, ◌∙◌, refl, sym, ap, Bool, true, false, cond, map, not, ◌&&◌, ◌||◌, List, [], ◌∷◌, ◌++◌, Option, Some, None, is_some, codes, true≢false}
 use Rattle.std.specs.Prelude.{⊤, option_map}
-use Rattle.std.specs.List.{list_any}
+use Rattle.std.specs.List.{list_all, list_any}
 use Rattle.std.specs.Option.{option_map_or}
 use Rattle.std.specs.Str.{bytes_eq}
 use Rattle.std.proofs.lemmas.Slice.Eq.{bytes_eq-Decides}
 use Rattle.clap.specs.Lexer.{long_of}
 use Rattle.words.specs.declared.table.Range.{Range}
 use Rattle.words.specs.Barred.{is_barred}
-use Rattle.words.specs.Jobs.{job_said, solve_job, solve_table}
+use Rattle.words.specs.Jobs.{Command, command_said, commands, job_said, said_among}
 use Rattle.words.specs.Words.{Field, Table, Text, Use, Word, after_word, field_word, fits_after, has_number, is_within, number_word, opens, option_of, option_word, put, says, stray, suits, taken, uses, where_fit, word_as, word_of}
+use Rattle.clap.proofs.WalkLemmas.{both}
 use Rattle.words.proofs.Fits.{joined, joined_put, joined_unfit, unsuited}
 use Rattle.words.proofs.OneUse.{use_row}
 use Rattle.words.proofs.Texts.{barred_no_number, barred_value, clear_flag, either, not_within}
@@ -103,13 +104,29 @@ module _ (t : Table) where
   pub never_taken : (words : List Text) → list_any is_barred words ≡ true → taken t words ≡ None
   never_taken words e = unjoined (uses t None words) ((never_joined words e).0 [])
 
+-- a command whose name isn't barred says no job by barred words, nor does any of such commands
+command_unsaid : (c : Command) (words : List Text) → list_any is_barred words ≡ true → command_said c words ≡ None
+command_unsaid c words e = ap (option_map c.job) (never_taken c.table words e)
+
+unsaid_among : (cs : List Command) → list_all (λ c. not (is_barred c.name)) cs ≡ true → (name : Text) (words : List Text)
+    → list_any is_barred (name ∷ words) ≡ true → said_among cs name words ≡ None
+unsaid_among [] clear name words e = refl
+unsaid_among (c ∷ cs) clear name words e =
+    go (bytes_eq name c.name) refl (unsaid_among cs (both _ _ clear).1 name words e)
+  where
+    unbarred : (b : Bool) → not b ≡ true → b ≡ false
+    unbarred false h = refl
+    unbarred true h = cc
+
+    go : (b : Bool) → bytes_eq name c.name ≡ b → said_among cs name words ≡ None
+        → cond b (command_said c words) (said_among cs name words) ≡ None
+    go false is later = later
+    go true is later =
+        let same : is_barred name ≡ false = ap is_barred ((bytes_eq-Decides name c.name).0 is)
+        ∙ unbarred (is_barred c.name) (both _ _ clear).0 in
+        command_unsaid c words (sym (ap (λ b. b || list_any is_barred words) same) ∙ e)
+
 -- no job is said by barred words
 pub barred_unsaid : (words : List Text) → list_any is_barred words ≡ true → job_said words ≡ None
 barred_unsaid [] e = refl
-barred_unsaid (command ∷ words) e = go (bytes_eq command (codes "solve")) refl
-  where
-    go : (b : Bool) → bytes_eq command (codes "solve") ≡ b → cond b (option_map solve_job (taken solve_table words)) None ≡ None
-    go false is = refl
-    go true is =
-        let clear : is_barred command ≡ false = ap is_barred ((bytes_eq-Decides command (codes "solve")).0 is) in
-        ap (option_map solve_job) (never_taken solve_table words (sym (ap (λ b. b || list_any is_barred words) clear) ∙ e))
+barred_unsaid (name ∷ words) e = unsaid_among commands refl name words e

@@ -1,5 +1,5 @@
 -- The values that are read: those of uses that fit lie in their ranges, and are read as their numbers.
-use Rattle.std.proofs.Common.{◌≡◌, ◌∙◌, refl, sym, ap, ap₂, subst, ℕ, ◌<◌, ◌≤◌, ◌^◌, Bool, true, false, cond, ◌&&◌, ◌==◌, eqb-true, List, [], ◌∷◌, ◌++◌, length, Option, Some, None, IfSome, Result, Ok, Err, nat_le, arith, true≢false, ltb-true, leb-true}
+use Rattle.std.proofs.Common.{◌≡◌, ◌∙◌, refl, sym, ap, ap₂, subst, ℕ, ◌<◌, ◌≤◌, ◌^◌, Bool, true, false, cond, ◌&&◌, ◌==◌, eqb-true, List, [], ◌∷◌, ◌++◌, length, Option, Some, None, IfSome, Result, Ok, Err, nat_le, arith, true≢false, ltb-true, leb-true, codes}
 use Rattle.std.specs.Prelude.{⊤, if◌then◌else◌, option_map, unwrap_or}
 use Rattle.std.specs.List.{find, list_all}
 use Rattle.std.specs.Char.{digit_value, is_ascii_digit}
@@ -12,7 +12,9 @@ use Rattle.clap.specs.Matches.{ReadsOne}
 use Rattle.clap.proofs.WalkLemmas.{both}
 use Rattle.words.specs.declared.table.Range.{Range}
 use Rattle.words.specs.Barred.{begins_with_plus}
-use Rattle.words.specs.Rows.{is_sound}
+use Rattle.clap.specs.Words.{found_of, one_text}
+use Rattle.clap.specs.declared.parser.matches.ArgMatches.{ArgMatches}
+use Rattle.words.specs.Rows.{IsRead, has_flag, is_sound}
 use Rattle.words.specs.Words.{Field, Table, Text, Use, Word, after_word, field_word, fits_after, flag_text, has_number, is_digits, is_within, number_field, number_name, number_word, opens, option_of, option_word, put, says, stray, suits, taken, text_in, uses, where_fit, word_as, word_of}
 use Rattle.words.proofs.Built.{no_number_option}
 use Rattle.words.proofs.Fits.{found_named}
@@ -150,6 +152,16 @@ module _ (t : Table) (sound : is_sound t ≡ true) where
           → IfSome (option_map (λ (u : Use). u.1) o) (λ x. x ≡ flag_text)
       go None h = tt
       go (Some u) h = h.2 (ap (λ (f : Field). f.range) h.0)
+
+-- what is read of an option of a table, or of its number, lies in the range, where the words are taken
+pub given_within : (t u : Table) (words : List Text) (m : ArgMatches) (name : Text) (r : Range) → u ≡ t → is_sound t ≡ true
+    → IsRead u words m → called t name ≡ Some (record { name = name; range = Some r }) → has_flag t.options name ≡ false
+    → IfSome (one_text (found_of m) name) (λ text. is_within r text ≡ true)
+given_within t u words m name r is sound read found plain =
+    let got = subst (λ (s : Table). IsRead s words m) is read in
+    subst (λ (o : Option Text). IfSome o (λ text. is_within r text ≡ true))
+    (sym (got.2 name ∙ ap (λ b. cond b (Some (unwrap_or (text_in name got.0) (codes "false"))) (text_in name got.0)) plain))
+    (value_within t sound words got.0 name r got.1 found)
 
 -- ---- how a value is read
 

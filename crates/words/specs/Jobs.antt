@@ -1,10 +1,13 @@
 -- The commands, and what each is asked to do.
-use Rattle.std.specs.Prelude.{List, [], ◌∷◌, Option, Some, None, if◌then◌else◌, codes, option_map}
+use Rattle.std.specs.Prelude.{ℕ, List, [], ◌∷◌, Option, Some, None, if◌then◌else◌, codes, option_map}
 use Rattle.std.specs.Str.{bytes_eq}
 use Rattle.solid_model.specs.Limits.{most_node_limit, most_solid_limit}
+use Rattle.solid_model.specs.Search.{SearchLimits}
 use Rattle.words.specs.declared.job.Job.{Job}
 use Rattle.words.specs.declared.job.Job.TheVariants as job
-use Rattle.words.specs.Words.{Field, Table, Text, Use, number_or, taken}
+use Rattle.words.specs.Words.{Field, Table, Text, Use, number_name, number_or, taken}
+
+-- ---- what commands take
 
 -- `--nodes`, the limit of live prefixes
 abbrev pub nodes_field : Field
@@ -14,20 +17,55 @@ nodes_field = record { name = codes "nodes"; range = Some (record { least = 1; m
 abbrev pub solids_field : Field
 solids_field = record { name = codes "solids"; range = Some (record { least = 1; most = most_solid_limit }) }
 
--- what `solve` takes: two options, and no number
+-- the options of a search
+abbrev pub limit_fields : List Field
+limit_fields = nodes_field ∷ solids_field ∷ []
+
+-- what `solve` takes: the options of a search, and no number
 abbrev pub solve_table : Table
-solve_table = record { options = nodes_field ∷ solids_field ∷ []; number = None }
+solve_table = record { options = limit_fields; number = None }
+
+-- what `redraw` takes: these, and the number of a solid, counted from 1
+abbrev pub redraw_table : Table
+redraw_table = record { options = limit_fields; number = Some (record { least = 1; most = most_solid_limit }) }
+
+-- what `make` and `trial` take: no option, and any number of 64 bits
+abbrev pub seed_table : Table
+seed_table = record { options = []; number = Some (record { least = 0; most = 18446744073709551615 }) }
+
+-- ---- what they are asked
 
 -- a search within 1,000,000 live prefixes and 4,096 solids, where the words say nothing else
-abbrev pub solve_job : List Use → Job
-solve_job us = job.Solve (record { nodes = number_or us (codes "nodes") 1000000; solids = number_or us (codes "solids") 4096 })
+abbrev pub limits_in : List Use → SearchLimits
+limits_in us = record { nodes = number_or us (codes "nodes") 1000000; solids = number_or us (codes "solids") 4096 }
 
--- the job that the words after `solve` say, where they are taken
-abbrev pub solve_said : List Text → Option Job
-solve_said words = option_map solve_job (taken solve_table words)
+-- the number that stands there
+abbrev pub number_in : List Use → ℕ
+number_in us = number_or us number_name 1
 
--- the job that the words say, where they are taken: the first is the command
+-- a command: its name, what it takes, and the job that its words say
+pub record Command : Type 0 where
+  pub name : Text
+  pub table : Table
+  pub job : List Use → Job
+
+-- all of them
+abbrev pub commands : List Command
+commands = record { name = codes "solve"; table = solve_table; job = λ us. job.Solve (limits_in us) }
+    ∷ record { name = codes "redraw"; table = redraw_table; job = λ us. job.Redraw (number_in us) (limits_in us) }
+    ∷ record { name = codes "make"; table = seed_table; job = λ us. job.Make (number_in us) }
+    ∷ record { name = codes "trial"; table = seed_table; job = λ us. job.Trial (number_in us) } ∷ []
+
+-- the job that the words after a command's name say, where the command takes them
+abbrev pub command_said : Command → List Text → Option Job
+command_said c words = option_map c.job (taken c.table words)
+
+-- the same of the command that is called so among these
+abbrev pub said_among : List Command → Text → List Text → Option Job
+said_among [] name words = None
+said_among (c ∷ cs) name words = if bytes_eq name c.name then command_said c words else said_among cs name words
+
+-- the job that the words say, where they are taken: the first is the command's name
 abbrev pub job_said : List Text → Option Job
 job_said [] = None
-job_said (command ∷ words) =
-    if bytes_eq command (codes "solve") then solve_said words else None
+job_said (name ∷ words) = said_among commands name words

@@ -16,6 +16,9 @@ job_in line = job_said (words_in line)
 abbrev pub search_within : ℕ → ℕ → Option Job
 search_within nodes solids = Some (job.Solve (record { nodes = nodes; solids = solids }))
 
+abbrev pub redrawn : ℕ → ℕ → ℕ → Option Job
+redrawn which nodes solids = Some (job.Redraw which (record { nodes = nodes; solids = solids }))
+
 -- whether any of the lines is taken
 abbrev pub any_said : List Text → Bool
 any_said lines = list_any (λ line. is_some (job_in line)) lines

@@ -1,15 +1,20 @@
 //! Jobs, and the words that ask for them.
 
-ghost use Rattle.std.specs.Prelude.{◌≡◌, false, None, Some, map, drop, string_bytes, MatchResult};
+ghost use Rattle.std.specs.Prelude.{◌≡◌, true, false, None, Some, map, drop, string_bytes, IfSome, MatchResult, codes, option_map, unwrap_or};
 ghost use Rattle.std.specs.List.{list_any};
+ghost use Rattle.std.specs.Str.Parse.{digits_value};
+ghost use Rattle.clap.specs.Words.{found_of, one_text};
+ghost use Rattle.words.specs.declared.job.Job.TheVariants as job;
 ghost use Rattle.words.specs.declared.job.WordFault.TheVariants as word_fault;
 ghost use Rattle.words.specs.Barred.{is_barred};
-ghost use Rattle.words.specs.Jobs.{job_said, solve_said, solve_table};
+ghost use Rattle.words.specs.Jobs.{job_said, limits_in, number_in, redraw_table, seed_table, solve_table};
 ghost use Rattle.words.specs.Rows.{table_of};
+ghost use Rattle.words.specs.Words.{is_within, number_name, taken};
 
 use crate::barred::some_barred;
 use crate::parse::{number_or, parse};
 use crate::table::{Range, Row, Rows};
+use clap::ArgMatches;
 use solid_model::Limits;
 use std::alloc::Global;
 
@@ -18,6 +23,12 @@ use std::alloc::Global;
 pub enum Job {
     /// A search for the solids of a drawing.
     Solve { limits: Limits },
+    /// The drawing of one of these solids, by its number, counted from 1.
+    Redraw { which: u32, limits: Limits },
+    /// The drawing that is made from a number.
+    Make { n: u64 },
+    /// A search for the solids of that drawing.
+    Trial { n: u64 },
 }
 
 /// Why there is no job.
@@ -39,7 +50,12 @@ const SOLIDS: Range = Range {
     most: 65_536,
 };
 
-static SOLVE_OPTIONS: [Row<'static>; 2] = [
+const SEEDS: Range = Range {
+    least: 0,
+    most: u64::MAX,
+};
+
+static LIMIT_OPTIONS: [Row<'static>; 2] = [
     Row {
         name: "nodes",
         range: Some(NODES),
@@ -55,8 +71,51 @@ fn solve_rows() -> Rows<'static>
     ensures { table_of result ≡ solve_table }
 {
     Rows {
-        options: SOLVE_OPTIONS.as_slice(),
+        options: LIMIT_OPTIONS.as_slice(),
         number: None,
+    }
+}
+
+/// What `redraw` takes.
+fn redraw_rows() -> Rows<'static>
+    ensures { table_of result ≡ redraw_table }
+{
+    Rows {
+        options: LIMIT_OPTIONS.as_slice(),
+        number: Some(SOLIDS),
+    }
+}
+
+/// What `make` and `trial` take.
+fn seed_rows() -> Rows<'static>
+    ensures { table_of result ≡ seed_table }
+{
+    Rows {
+        options: &[],
+        number: Some(SEEDS),
+    }
+}
+
+/// The limits of a search, by its options.
+fn limits_of(matches: &ArgMatches<'_>) -> Limits
+    requires nodes { IfSome (one_text (found_of matches.now) (codes "nodes"))
+        (λ text. is_within (record { least = 1; most = 4000000 }) text ≡ true) }
+    requires solids { IfSome (one_text (found_of matches.now) (codes "solids"))
+        (λ text. is_within (record { least = 1; most = 65536 }) text ≡ true) }
+    ensures { result ≡ record {
+      nodes = unwrap_or (option_map (digits_value 10)
+          (one_text (found_of matches.now) (codes "nodes"))) 1000000;
+      solids = unwrap_or (option_map (digits_value 10)
+          (one_text (found_of matches.now) (codes "solids"))) 4096;
+    } }
+{
+    let nodes = Limits::DEFAULT.nodes;
+    let nodes = number_or(matches, "nodes", NODES.least, NODES.most, nodes);
+    let solids = u64::from(Limits::DEFAULT.solids);
+    let solids = number_or(matches, "solids", SOLIDS.least, SOLIDS.most, solids);
+    Limits {
+        nodes,
+        solids: solids as u32,
     }
 }
 
@@ -64,37 +123,56 @@ fn solve_rows() -> Rows<'static>
 fn solve_of(alloc: Global, words: &[String]) -> Result<Job, WordFault>
     requires { list_any is_barred (map string_bytes words.now) ≡ false }
     ensures { MatchResult result
-        (λ job. solve_said (drop 1 (map string_bytes words.now)) ≡ Some job)
-        (λ e. e ≡ word_fault.Usage → solve_said (drop 1 (map string_bytes words.now)) ≡ None) }
+        (λ asked. option_map (λ us. job.Solve (limits_in us))
+        (taken solve_table (drop 1 (map string_bytes words.now))) ≡ Some asked)
+        (λ e. e ≡ word_fault.Usage
+        → taken solve_table (drop 1 (map string_bytes words.now)) ≡ None) }
 {
     let table = solve_rows();
     let matches = parse(alloc, &table, words)?;
-    let nodes = number_or(
-        &matches,
-        "nodes",
-        NODES.least,
-        NODES.most,
-        Limits::DEFAULT.nodes,
-    );
-    let solids = number_or(
-        &matches,
-        "solids",
-        SOLIDS.least,
-        SOLIDS.most,
-        u64::from(Limits::DEFAULT.solids),
-    );
     Ok(Job::Solve {
-        limits: Limits {
-            nodes,
-            solids: solids as u32,
-        },
+        limits: limits_of(&matches),
     })
+}
+
+/// The job of `redraw`.
+fn redraw_of(alloc: Global, words: &[String]) -> Result<Job, WordFault>
+    requires { list_any is_barred (map string_bytes words.now) ≡ false }
+    ensures { MatchResult result
+        (λ asked. option_map (λ us. job.Redraw (number_in us) (limits_in us))
+        (taken redraw_table (drop 1 (map string_bytes words.now))) ≡ Some asked)
+        (λ e. e ≡ word_fault.Usage
+        → taken redraw_table (drop 1 (map string_bytes words.now)) ≡ None) }
+{
+    let table = redraw_rows();
+    let matches = parse(alloc, &table, words)?;
+    let which = number_or(&matches, "number", SOLIDS.least, SOLIDS.most, 1);
+    Ok(Job::Redraw {
+        which: which as u32,
+        limits: limits_of(&matches),
+    })
+}
+
+/// The number of `make` and `trial`.
+fn seed_of(alloc: Global, words: &[String]) -> Result<u64, WordFault>
+    requires { list_any is_barred (map string_bytes words.now) ≡ false }
+    ensures { MatchResult result
+        (λ n. option_map number_in (taken seed_table (drop 1 (map string_bytes words.now)))
+        ≡ Some n)
+        (λ e. e ≡ word_fault.Usage
+        → taken seed_table (drop 1 (map string_bytes words.now)) ≡ None) }
+{
+    let table = seed_rows();
+    let matches = parse(alloc, &table, words)?;
+    Ok(number_or(&matches, "number", SEEDS.least, SEEDS.most, 1))
 }
 
 /// The job that the words ask for: the program's arguments, the first of which is the command.
 ///
 /// `solve` takes `--nodes` from 1 to 4,000,000, by default 1,000,000, and `--solids` from 1 to
-/// 65,536, by default 4,096, in any order, each at most once, and each as `--name value` or as
+/// 65,536, by default 4,096. `redraw` takes these, and a number from 1 to 65,536, which must be
+/// there; `make` and `trial` take a number below 2 to the power 64, which must be there. Options and
+/// the number stand in any order, each at most once; an option is written as `--name value` or as
 /// `--name=value`. A value is one or more digits; leading zeros count for nothing. `Usage` comes
 /// exactly where the words aren't taken.
 pub fn job_of(alloc: Global, words: &[String]) -> Result<Job, WordFault>
@@ -110,6 +188,13 @@ pub fn job_of(alloc: Global, words: &[String]) -> Result<Job, WordFault>
     };
     match command.as_str() {
         "solve" => solve_of(alloc, words),
+        "redraw" => redraw_of(alloc, words),
+        "make" => Ok(Job::Make {
+            n: seed_of(alloc, words)?,
+        }),
+        "trial" => Ok(Job::Trial {
+            n: seed_of(alloc, words)?,
+        }),
         _ => Err(WordFault::Usage),
     }
 }

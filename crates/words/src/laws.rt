@@ -1,11 +1,12 @@
 //! The laws over the definitions. Each is the contract of a function that does nothing.
 
 ghost use Rattle.std.specs.Prelude.{◌≡◌, ◌∷◌, [], Some, None, false, codes};
+ghost use Rattle.words.specs.declared.job.Job.TheVariants as job;
 ghost use Rattle.words.specs.Jobs.{job_said};
-ghost use Rattle.words.specs.SmallWords.{any_given, any_said, given_in, job_in, search_within};
+ghost use Rattle.words.specs.SmallWords.{any_given, any_said, given_in, job_in, redrawn, search_within};
 
-/// Words of `solve` that are taken, with the limits that they ask for, worked out by hand: both
-/// forms of an option, in either order, and leading zeros.
+/// Words that are taken, with what they ask for, worked out by hand: both forms of an option, in
+/// either order and on either side of a number, and leading zeros.
 pub fn small_jobs()
     ensures bare { job_in (codes "solve") ≡ search_within 1000000 4096 }
     ensures value { job_in (codes "solve --nodes 2") ≡ search_within 2 4096 }
@@ -15,6 +16,11 @@ pub fn small_jobs()
     ensures order { job_in (codes "solve --solids 65536 --nodes=4000000")
         ≡ search_within 4000000 65536 }
     ensures least { job_in (codes "solve --nodes=1 --solids 1") ≡ search_within 1 1 }
+    ensures redraw { job_in (codes "redraw 02") ≡ redrawn 2 1000000 4096 }
+    ensures between { job_in (codes "redraw --nodes 5 1 --solids=6") ≡ redrawn 1 5 6 }
+    ensures make { job_in (codes "make 18446744073709551615")
+        ≡ Some (job.Make 18446744073709551615) }
+    ensures trial { job_in (codes "trial 0") ≡ Some (job.Trial 0) }
 {}
 
 /// Words that no job is said by, worked out by hand.
@@ -22,6 +28,10 @@ pub fn refused_words()
     ensures none { job_said [] ≡ None }
     ensures commands { any_said (codes "" ∷ codes "sovle" ∷ codes "Solve" ∷ codes " solve"
         ∷ codes "--nodes 3 solve" ∷ codes "--nodes=3" ∷ codes "solve=" ∷ []) ≡ false }
+    ensures numbers { any_said (codes "redraw" ∷ codes "redraw 0" ∷ codes "redraw 65537"
+        ∷ codes "redraw 1 2" ∷ codes "redraw --number 1" ∷ codes "make" ∷ codes "make -1"
+        ∷ codes "make 7 --nodes 3" ∷ codes "make 18446744073709551616" ∷ codes "trial"
+        ∷ codes "trial 7 7" ∷ codes "trial --solids=3 7" ∷ []) ≡ false }
     ensures more { any_said (codes "solve 4" ∷ codes "solve solve" ∷ codes "solve "
         ∷ codes "solve --nodes 3 4" ∷ codes "solve --nodes=3 4" ∷ codes "solve -" ∷ []) ≡ false }
     ensures values { any_said (codes "solve --nodes" ∷ codes "solve --nodes="

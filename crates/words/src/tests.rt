@@ -4,17 +4,17 @@ use crate::{Job, WordFault, job_of};
 use std::alloc::Global;
 use std::test::Fail;
 
-/// Words, divided by commas, and the limits of nodes and of solids that they ask for.
+/// Words, divided by commas, and what they ask for: of a search the limits of nodes and of solids.
 const WORDS: &str = "\
-solve -> 1000000 4096
+solve -> solve 1000000 4096
  -> usage
-solve, --nodes, 3 -> 3 4096
-solve, --nodes=2 -> 2 4096
-solve, --solids, 65536 -> 1000000 65536
-solve, --solids=1 -> 1000000 1
-solve, --nodes, 0003, --solids=0000000000000000000000000000000000000000000007 -> 3 7
-solve, --solids=5, --nodes=4000000 -> 4000000 5
-solve, --solids, 6, --nodes, 1 -> 1 6
+solve, --nodes, 3 -> solve 3 4096
+solve, --nodes=2 -> solve 2 4096
+solve, --solids, 65536 -> solve 1000000 65536
+solve, --solids=1 -> solve 1000000 1
+solve, --nodes, 0003, --solids=0000000000000000000000000000000000000000000007 -> solve 3 7
+solve, --solids=5, --nodes=4000000 -> solve 4000000 5
+solve, --solids, 6, --nodes, 1 -> solve 1 6
 solve, --nodes, 0 -> usage
 solve, --nodes=4000001 -> usage
 solve, --solids=0 -> usage
@@ -71,7 +71,41 @@ solv -> usage
 Solve -> usage
 solve  -> usage
 --nodes, 3, solve -> usage
-redraw, 3 -> usage
+redraw, 3 -> redraw 3 1000000 4096
+redraw, 0065536 -> redraw 65536 1000000 4096
+redraw, --nodes, 5, 1 -> redraw 1 5 4096
+redraw, 2, --solids=7, --nodes=5 -> redraw 2 5 7
+redraw -> usage
+redraw, 0 -> usage
+redraw, 65537 -> usage
+redraw, -1 -> usage
+redraw, +1 -> usage
+redraw, 1, 2 -> usage
+redraw, 1, 1 -> usage
+redraw, --nodes, 1 -> usage
+redraw, --number, 1 -> usage
+redraw, 1, --workers, 2 -> usage
+redraw, 1, --pages -> usage
+redraw, -- , 1 -> usage
+redraw, 1, --nodes -> usage
+redraw, 1.0 -> usage
+redraw,  -> usage
+make, 0 -> make 0
+make, 7 -> make 7
+make, 18446744073709551615 -> make 18446744073709551615
+make, 000000000000000000000000000018446744073709551615 -> make 18446744073709551615
+make, 18446744073709551616 -> usage
+make -> usage
+make, -7 -> usage
+make, 7, 7 -> usage
+make, 7, --nodes, 3 -> usage
+make, --n=7 -> usage
+trial, 7 -> trial 7
+trial, 007 -> trial 7
+trial -> usage
+trial, 7, --solids=3 -> usage
+trial, 7, --workers, 2 -> usage
+trail, 7 -> usage
 +3 -> usage
 -- -> usage
 ,  -> usage";
@@ -89,8 +123,14 @@ fn words_of(alloc: Global, told: &str) -> Result<Vec<String>, Fail> {
 
 /// What a job is, as in the table.
 fn job_text(alloc: Global, job: Job) -> Result<String, Fail> {
-    let Job::Solve { limits } = job;
-    Ok(format!(in alloc; "{} {}", limits.nodes, limits.solids)?)
+    Ok(match job {
+        Job::Solve { limits } => { format!(in alloc; "solve {} {}", limits.nodes, limits.solids)? }
+        Job::Redraw { which, limits } => {
+            format!(in alloc; "redraw {which} {} {}", limits.nodes, limits.solids)?
+        }
+        Job::Make { n } => format!(in alloc; "make {n}")?,
+        Job::Trial { n } => format!(in alloc; "trial {n}")?,
+    })
 }
 
 /// What words ask for, as in the table.
