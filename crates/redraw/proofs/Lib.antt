@@ -1,0 +1,3 @@
+pub mod SheetLines
+pub mod SolidBegins
+pub mod SheetDrawing
