@@ -26,12 +26,13 @@ pub style_at : (d : DrawingRuns) (v : View) (upright : Bool) (start line : ℤ)
 style_at d v true start line = refl
 style_at d v false start line = refl
 
--- the ends of a line that begins at a place, moved from it
-ends_from : (upright : Bool) (at from to right up x y : ℤ) → from <ℤ to → x ≤ℤ across_of upright at from → y ≤ℤ along_of upright at from
-    → ((x +ℤ right) ≤ℤ int_min (across_of upright at from +ℤ right) (across_of upright at to +ℤ right))
-    × ((y +ℤ up) ≤ℤ int_min (along_of upright at from +ℤ up) (along_of upright at to +ℤ up))
-ends_from true at from to right up x y long h k = (omega (arith, ints, clamps), omega (arith, ints, clamps))
-ends_from false at from to right up x y long h k = (omega (arith, ints, clamps), omega (arith, ints, clamps))
+-- the ends of a line that begins at a place or beyond, moved from it
+ends_from : (upright : Bool) (at from to right up far high x y : ℤ) → from <ℤ to → right ≡ far → up ≡ high
+    → x ≤ℤ across_of upright at from → y ≤ℤ along_of upright at from
+    → ((x +ℤ far) ≤ℤ int_min (across_of upright at from +ℤ right) (across_of upright at to +ℤ right))
+    × ((y +ℤ high) ≤ℤ int_min (along_of upright at from +ℤ up) (along_of upright at to +ℤ up))
+ends_from true at from to right up far high x y long e f h k = (omega (arith, ints, clamps), omega (arith, ints, clamps))
+ends_from false at from to right up far high x y long e f h k = (omega (arith, ints, clamps), omega (arith, ints, clamps))
 
 module _ (far_x far_z : ℤ) (d : DrawingRuns) (drawing : Segment → Style) (are : AreRunsOf drawing d) where
   abbrev lines : List Line
@@ -54,7 +55,7 @@ module _ (far_x far_z : ℤ) (d : DrawingRuns) (drawing : Segment → Style) (ar
   run_drawn v upright r k =
       let is_run = each-at _ _ r (are.runs v upright).0 k in
       sym (are.show (segment_at v upright r.from r.at)) ∙ style_at d v upright r.from r.at
-      ∙ sym (style_of_run far_x far_z d are.runs (runs_along upright (view_runs v d)) (are.runs v upright) r k r.at r.from refl
+      ∙ sym (style_of_run (runs_along upright (view_runs v d)) (are.runs v upright) r k r.at r.from refl
       (covers_from r r.from (omega (arith, ints)) is_run.0))
 
   module _ (v : View) (right up : ℤ) (begins : BeginsAt drawing v right up) where
@@ -69,9 +70,8 @@ module _ (far_x far_z : ℤ) (d : DrawingRuns) (drawing : Segment → Style) (ar
         let same : w ≡ v = ap (λ (n : Line). n.of) m.is ∙ sym of in
         let first = begins.stands_from (segment_at w upright r.from r.at) same (λ blank. is_run.1 (sym (run_drawn w upright r m.listed) ∙ blank)) in
         subst (λ (n : Line). ((right +ℤ right_on_sheet far_x v) ≤ℤ int_min n.x0 n.x1) × ((up +ℤ up_on_sheet far_z v) ≤ℤ int_min n.y0 n.y1)) m.is
-        (subst (λ u. ((right +ℤ right_on_sheet far_x u) ≤ℤ int_min (across_of upright r.at r.from +ℤ right_on_sheet far_x w) (across_of upright r.at r.to +ℤ right_on_sheet far_x w))
-        × ((up +ℤ up_on_sheet far_z u) ≤ℤ int_min (along_of upright r.at r.from +ℤ up_on_sheet far_z w) (along_of upright r.at r.to +ℤ up_on_sheet far_z w))) same
-        (ends_from upright r.at r.from r.to (right_on_sheet far_x w) (up_on_sheet far_z w) right up is_run.0 first.0 first.1))
+        (ends_from upright r.at r.from r.to (right_on_sheet far_x w) (up_on_sheet far_z w) (right_on_sheet far_x v) (up_on_sheet far_z v) right up is_run.0
+        (ap (right_on_sheet far_x) same) (ap (up_on_sheet far_z) same) first.0 first.1)
 
     -- so the least of its lines' coordinates is no less
     least_from : (of_line : Line → ℤ) (bound : ℤ) → ((l : Line) → Member lines l → v ≡ l.of → bound ≤ℤ of_line l)
@@ -82,7 +82,7 @@ module _ (far_x far_z : ℤ) (d : DrawingRuns) (drawing : Segment → Style) (ar
         let own = member-from_filter (λ (n : Line). same_view v n.of && has_length n) lines m.0 m.1 in
         subst (λ z. bound ≤ℤ z) m.2 (from m.0 own.0 (same_view-true v m.0.of (and_parts (same_view v m.0.of) (has_length m.0) own.1).0))
 
-    -- what is drawn in the view comes from a line, and stands no farther to the left or down than the least coordinates
+    -- what is drawn in the view stands nowhere to the left of its lines' least right coordinate, or below their least up coordinate
     drawn_from : (g : Segment) → g.view ≡ v → drawing g ≢ Blank
         → (least_right v lines ≤ℤ (g.right +ℤ right_on_sheet far_x v)) × (least_up v lines ≤ℤ (g.up +ℤ up_on_sheet far_z v))
     drawn_from g of drawn =

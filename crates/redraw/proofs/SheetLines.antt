@@ -19,6 +19,14 @@ use Rattle.solid_model.proofs.RunStyles.{covers_parts, covers_from, covering_run
 use Rattle.solid_model.proofs.Sheets.{same_view-true, same_view-itself, same_style-itself, same_style-one}
 use Rattle.redraw.specs.Files.{right_on_sheet, up_on_sheet, run_line, placed_lines, sheet_lines}
 
+-- ---- what a run covers
+
+-- what a run covers has its style
+pub style_of_run : (rs : List Run) → AreRuns rs → (r : Run) → Member rs r → (j z : ℤ) → r.at ≡ j → run_covers r.at z r ≡ true → r.style ≡ run_style rs j z
+style_of_run rs are r k j z on e =
+    let at = covers_parts r.at z r e in
+    same_style-one r.style _ ((run_stretch rs are r k).inside z at.1 at.2) ∙ ap (λ i. run_style rs i z) on
+
 -- ---- what a run's line covers
 
 -- what lies between two ends in order
@@ -166,12 +174,6 @@ module _ (far_x far_z : ℤ) (d : DrawingRuns) where
   -- ---- what they show
 
   module _ (runs : (v : View) (upright : Bool) → AreRuns (runs_along upright (view_runs v d))) where
-    -- what a run covers has its style
-    pub style_of_run : (rs : List Run) → AreRuns rs → (r : Run) → Member rs r → (j z : ℤ) → r.at ≡ j → run_covers r.at z r ≡ true → r.style ≡ run_style rs j z
-    style_of_run rs are r k j z on e =
-        let at = covers_parts r.at z r e in
-        same_style-one r.style _ ((run_stretch rs are r k).inside z at.1 at.2) ∙ ap (λ i. run_style rs i z) on
-
     -- a line that covers a segment at its view's place has its style
     style_of_covering : (style : Style) (g : Segment)
         → is_covered style lines (farther (right_on_sheet far_x g.view) (up_on_sheet far_z g.view) g) ≡ true → style_in d g ≡ style

@@ -2,4 +2,4 @@
 
 mod lines;
 
-pub use lines::sheet_lines_draw_the_solid;
+pub use lines::{sheet_lines_are_few, sheet_lines_draw_the_solid};
