@@ -1,0 +1,5 @@
+pub mod SheetLines
+pub mod SolidBegins
+pub mod SheetDrawing
+pub mod RunsOnGrid
+pub mod FewLines

@@ -1,0 +1,5 @@
+//! The laws over the definitions. Each is the contract of a function that does nothing.
+
+mod lines;
+
+pub use lines::{sheet_lines_are_few, sheet_lines_draw_the_solid};
