@@ -1,2 +1,6 @@
 //! The laws that join the writer of files to the reader: what is written reads back.
 #![tactic(auto)]
+
+mod laws;
+
+pub use laws::{plain_files_are_read, plain_files_are_short, spelled_numbers_are_read};

@@ -1,0 +1,82 @@
+-- The lengths of the plain form of lines, and of its parts.
+use Rattle.std.proofs.Common.{◌≡◌, ℕ, ◌+◌, ◌*◌, ◌≤◌, List, [], ◌∷◌, ◌++◌, length, flat_map, codes, length-append, arith}
+use Rattle.std.specs.Fmt.{signed_decimal}
+use Rattle.solid_model.specs.declared.frame.View.{View}
+use Rattle.solid_model.specs.declared.frame.View.TheVariants.{Front, Top, Side}
+use Rattle.solid_model.specs.declared.segment.Style.{Style}
+use Rattle.solid_model.specs.declared.segment.Style.TheVariants.{Blank, Dashed, Solid}
+use Rattle.solid_model.specs.Frames.{layer_name}
+use Rattle.solid_model.specs.Line.{Line, IsKept}
+use Rattle.solid_model.specs.Lists.{Each}
+use Rattle.redraw.specs.Plain.{pair_text, linetype_name, line_text, file_head, file_end, plain_file}
+use Rattle.read_back.proofs.Spellings.{spelled_length}
+
+-- a layer's name is short
+layer_length : (v : View) → length (layer_name v) ≤ 5
+layer_length Front = omega arith
+layer_length Top = omega arith
+layer_length Side = omega arith
+
+-- and so is a linetype's
+linetype_length : (s : Style) → length (linetype_name s) ≤ 10
+linetype_length Blank = omega arith
+linetype_length Dashed = omega arith
+linetype_length Solid = omega arith
+
+-- the length of a code and its value
+pair_length : (code value : List ℕ)
+    → length (pair_text code value) ≡ length code + length value + 2
+pair_length code value = simp length-append (omega arith)
+
+-- the length of nine texts
+nine_lengths : (a b c d e f g h i : List ℕ)
+    → length (a ++ b ++ c ++ d ++ e ++ f ++ g ++ h ++ i)
+    ≡ length a + length b + length c + length d + length e + length f + length g + length h
+    + length i
+nine_lengths a b c d e f g h i = simp length-append
+
+-- a line takes at most 98 bytes
+line_length : (l : Line) → IsKept l → length (line_text l) ≤ 98
+line_length l is =
+    let layer = pair_length (codes "8") (layer_name l.of) in
+    let linetype = pair_length (codes "6") (linetype_name l.style) in
+    let x0 = pair_length (codes "10") (signed_decimal l.x0) in
+    let y0 = pair_length (codes "20") (signed_decimal l.y0) in
+    let x1 = pair_length (codes "11") (signed_decimal l.x1) in
+    let y1 = pair_length (codes "21") (signed_decimal l.y1) in
+    let all =
+    nine_lengths (pair_text (codes "0") (codes "LINE")) (pair_text (codes "8") (layer_name l.of))
+    (pair_text (codes "6") (linetype_name l.style))
+    (pair_text (codes "10") (signed_decimal l.x0)) (pair_text (codes "20") (signed_decimal l.y0))
+    (pair_text (codes "30") (codes "0")) (pair_text (codes "11") (signed_decimal l.x1))
+    (pair_text (codes "21") (signed_decimal l.y1)) (pair_text (codes "31") (codes "0")) in
+    omega (
+      arith,
+      layer_length l.of,
+      linetype_length l.style,
+      spelled_length l.x0 is.near_x0,
+      spelled_length l.y0 is.near_y0,
+      spelled_length l.x1 is.near_x1,
+      spelled_length l.y1 is.near_y1,
+    )
+
+-- and lines so many bytes each
+lines_length : (lines : List Line) → Each IsKept lines
+    → length (flat_map line_text lines) ≤ 98 * length lines
+lines_length [] kept = omega arith
+lines_length (l ∷ ls) kept =
+    omega (
+      arith,
+      length-append (line_text l) (flat_map line_text ls),
+      line_length l kept.0,
+      lines_length ls kept.1,
+    )
+
+-- the plain form of lines is short
+pub plain_is_short : (lines : List Line) → Each IsKept lines
+    → length (plain_file lines) ≤ 40 + 100 * length lines
+plain_is_short lines kept =
+    let lengths : length (plain_file lines)
+    ≡ length file_head + length (flat_map line_text lines) + length file_end =
+    simp length-append in
+    omega (arith, lines_length lines kept)

@@ -1,0 +1,6 @@
+pub mod Spellings
+pub mod TextPieces
+pub mod Fields
+pub mod PlainFields
+pub mod LinesRead
+pub mod Lengths

@@ -1,0 +1,189 @@
+-- The entities of the plain form of lines, and the lines that are read of them.
+use Rattle.std.proofs.Common.{◌≡◌, ◌≢◌, ◌⊎◌, inl, inr, ℕ, ◌+◌, ◌<◌, ◌≤◌, true, ◌||◌, List, [], ◌∷◌, ◌++◌, length, ℤ, Some, None, Ok, int_eq, codes, refl, sym, ap, ◌∙◌, append_assoc, append-nil, length-append, lt-ltb, arith}
+use Rattle.std.proofs.lemmas.Bool.{or_left, or_right}
+use Rattle.std.proofs.lemmas.Bool.Decides.{Decides-int_eq}
+use Rattle.solid_model.specs.declared.frame.View.{View}
+use Rattle.solid_model.specs.declared.frame.View.TheVariants.{Front, Top, Side}
+use Rattle.solid_model.specs.declared.segment.Style.{Style}
+use Rattle.solid_model.specs.declared.segment.Style.TheVariants.{Blank, Dashed, Solid}
+use Rattle.solid_model.specs.Frames.{layer_name}
+use Rattle.solid_model.specs.Limits.{most_lines}
+use Rattle.solid_model.specs.Line.{Line, IsKept}
+use Rattle.solid_model.specs.Lists.{Each}
+use Rattle.dxf_entities.specs.declared.facts.Facts.{Facts}
+use Rattle.dxf_entities.specs.declared.kind.Kind.TheVariants as kind
+use Rattle.dxf_entities.specs.declared.linetype.Linetype.{Linetype}
+use Rattle.dxf_entities.specs.declared.linetype.Linetype.TheVariants as linetype
+use Rattle.dxf_entities.specs.declared.place.Place.TheVariants.{Inside}
+use Rattle.dxf_entities.specs.declared.section.Section.TheVariants.{Entities}
+use Rattle.dxf_entities.specs.Entries.{Entry, before_entries, entries_of}
+use Rattle.dxf_entities.specs.Judging.{by_layer, facts_of, judged, line_in, line_with, style_of, styled_line}
+use Rattle.dxf_entities.specs.Known.{Known}
+use Rattle.dxf_entities.specs.Names.{kind_of, linetype_of, section_of, view_on}
+use Rattle.dxf_entities.specs.Reading.{Progress, entity_read, entries_read, is_ended, pairs_read, read_of}
+use Rattle.redraw.specs.Plain.{linetype_name, plain_file}
+use Rattle.read_back.specs.ReadBack.{numbered_from}
+use Rattle.read_back.proofs.Fields.{pairs_on, past}
+use Rattle.read_back.proofs.PlainFields.{inner_fields, section_fields, file_fields, plain_pairs}
+use Rattle.read_back.proofs.Spellings.{spelled_is_whole}
+
+-- ---- what counts of a line's entity
+
+-- a line with its number in the file
+abbrev numbered : ℕ → Line → Line
+numbered n l = record l { number = n }
+
+-- the linetype of a style
+abbrev linetype_for : Style → Linetype
+linetype_for Blank = linetype.Unlisted
+linetype_for Dashed = linetype.Hidden
+linetype_for Solid = linetype.Continuous
+
+-- the coordinates of a line
+abbrev known_of : Line → Known
+known_of l = record { x0 = Some l.x0; y0 = Some l.y0; x1 = Some l.x1; y1 = Some l.y1 }
+
+-- the facts of a line
+abbrev facts_for : ℕ → Line → Facts
+facts_for n l = record {
+  line = n;
+  kind = kind.Line;
+  layer = Some (Some l.of);
+  paper = None;
+  linetype = Some (linetype_for l.style);
+  coordinates = Ok (known_of l);
+}
+
+-- the entity of a line that begins on line n
+abbrev entry_for : ℕ → Line → Entry
+entry_for n l =
+    record { name = codes "LINE"; line = n; pairs = pairs_on (n + 2) (inner_fields l) }
+
+-- a view's layer is the view's
+layer_read : (v : View) → view_on (layer_name v) ≡ Some v
+layer_read Front = refl
+layer_read Top = refl
+layer_read Side = refl
+
+-- the name of a style's linetype means it
+linetype_read : (s : Style) → s ≢ Blank → linetype_of (linetype_name s) ≡ linetype_for s
+unfolding linetype_of
+linetype_read Blank drawn = absurd (drawn refl)
+linetype_read Dashed drawn = refl
+linetype_read Solid drawn = refl
+
+-- the facts that are read of a line's entity
+facts_read : (n : ℕ) (l : Line) → IsKept l → facts_of (entry_for n l) ≡ facts_for n l
+unfolding kind_of
+facts_read n l is =
+    rw (
+      layer_read l.of,
+      linetype_read l.style is.drawn,
+      spelled_is_whole l.x0 is.near_x0,
+      spelled_is_whole l.y0 is.near_y0,
+      spelled_is_whole l.x1 is.near_x1,
+      spelled_is_whole l.y1 is.near_y1,
+    ) refl
+
+-- ---- how it is judged
+
+-- the style of a style's linetype is the style
+style_read : (n : ℕ) (s : Style) → s ≢ Blank
+    → style_of n (by_layer (linetype_for s) None) ≡ Ok (Some s)
+style_read n Blank drawn = absurd (drawn refl)
+style_read n Dashed drawn = refl
+style_read n Solid drawn = refl
+
+-- a level or an upright line passes the test
+straight_test : (x0 y0 x1 y1 : ℤ) → (x0 ≡ x1) ⊎ (y0 ≡ y1)
+    → (int_eq x0 x1 || int_eq y0 y1) ≡ true
+straight_test x0 y0 x1 y1 (inl level) =
+    or_left (int_eq x0 x1) (int_eq y0 y1) ((Decides-int_eq x0 x1).1 level)
+straight_test x0 y0 x1 y1 (inr upright) =
+    or_right (int_eq x0 x1) (int_eq y0 y1) ((Decides-int_eq y0 y1).1 upright)
+
+-- the line that it gives, where there is room for one more
+line_judged : (n count : ℕ) (l : Line) → IsKept l → count < most_lines
+    → judged (λ v. None) count (facts_for n l) ≡ Ok (Some (numbered n l))
+unfolding judged line_in styled_line line_with
+line_judged n count l is room =
+    rw (
+      style_read n l.style is.drawn,
+      straight_test l.x0 l.y0 l.x1 l.y1 is.straight,
+      lt-ltb count most_lines room,
+    ) refl
+
+-- ---- how the file goes on
+
+-- among the entities, with these lines kept
+abbrev among : List Line → Progress
+among lines = record { place = Inside Entities; layers = λ v. None; lines = lines }
+
+-- one more line is kept
+line_kept : (n : ℕ) (l : Line) (lines : List Line) → IsKept l → length lines < most_lines
+    → entity_read (facts_of (entry_for n l)) (among lines) ≡ Ok (among (lines ++ numbered n l ∷ []))
+line_kept n l lines is room =
+    rw (facts_read n l is, line_judged n (length lines) l is room) refl
+
+-- lines and the end of their section begin with an entry
+nothing_before : (n : ℕ) (lines : List Line)
+    → before_entries (pairs_on n (section_fields lines)) ≡ []
+nothing_before n [] = refl
+nothing_before n (l ∷ ls) = refl
+
+-- a file that ends by its end pair has ended each entry
+all_ended : (es : List Entry) (line : ℕ) → is_ended es (Ok line) ≡ true
+all_ended [] line = refl
+all_ended (e ∷ es) line = refl
+
+-- the line behind a line's entity
+abbrev line_past : ℕ → ℕ
+line_past n = n + 2 + 2 + 2 + 2 + 2 + 2 + 2 + 2 + 2
+
+-- the entries of lines and the end of their section
+first_entry : (n : ℕ) (l : Line) (ls : List Line)
+    → entries_of (pairs_on n (section_fields (l ∷ ls)))
+    ≡ entry_for n l ∷ entries_of (pairs_on (n + 18) (section_fields ls))
+first_entry n l ls =
+    let after : line_past n ≡ n + 18 = omega arith in
+    rw (nothing_before (line_past n) ls, after) refl
+
+-- a line's entity is read, and what follows it
+entry_kept : (n line : ℕ) (l : Line) (es : List Entry) (lines : List Line) → IsKept l
+    → length lines < most_lines
+    → entries_read (entry_for n l ∷ es) (Ok line) (among lines)
+    ≡ entries_read es (Ok line) (among (lines ++ numbered n l ∷ []))
+entry_kept n line l es lines is room =
+    rw (all_ended es line, line_kept n l lines is room) refl
+
+-- entry after entry gives its line
+entries_kept : (n line : ℕ) (ls lines : List Line) → Each IsKept ls
+    → length lines + length ls ≤ most_lines
+    → entries_read (entries_of (pairs_on n (section_fields ls))) (Ok line) (among lines)
+    ≡ Ok (lines ++ numbered_from n ls)
+entries_kept n line [] lines kept few = ap (λ ls. Ok ls) (sym (append-nil lines))
+entries_kept n line (l ∷ ls) lines kept few =
+    let rest = entries_of (pairs_on (n + 18) (section_fields ls)) in
+    let longer : length (lines ++ numbered n l ∷ []) + length ls ≤ most_lines =
+    omega (arith, length-append lines (numbered n l ∷ [])) in
+    ap (λ es. entries_read es (Ok line) (among lines)) (first_entry n l ls)
+    ∙ entry_kept n line l rest lines kept.0 (omega arith)
+    ∙ entries_kept (n + 18) line ls (lines ++ numbered n l ∷ []) kept.1 longer
+    ∙ ap (λ ls. Ok ls) (append_assoc lines (numbered n l ∷ []) (numbered_from (n + 18) ls))
+
+-- the file begins with its section
+begins_with_section : (lines : List Line) (line : ℕ)
+    → pairs_read (record { pairs = pairs_on 1 (file_fields lines); ending = Ok line })
+    ≡ entries_read (entries_of (pairs_on 5 (section_fields lines))) (Ok line) (among [])
+unfolding section_of
+begins_with_section lines line = refl
+
+-- the plain form of lines is read as these lines
+pub plain_is_read : (lines : List Line) → Each IsKept lines → length lines ≤ most_lines
+    → read_of (plain_file lines) ≡ Ok (numbered_from 5 lines)
+unfolding read_of
+plain_is_read lines kept few =
+    let line = past 1 (file_fields lines) in
+    ap pairs_read (plain_pairs lines kept)
+    ∙ begins_with_section lines line
+    ∙ entries_kept 5 line lines [] kept (omega arith)

@@ -1,0 +1,6 @@
+-- A spelled coordinate has at most eleven bytes, so a line has at most 98.
+use Rattle.read_back.proofs.Lengths.{plain_is_short}
+use Rattle.read_back.proofs.laws.plain_files_are_short.Goals as goal
+
+pub returns : goal.returns
+returns c = plain_is_short
