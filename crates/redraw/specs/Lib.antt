@@ -1,3 +1,4 @@
 pub mod Plain
 pub mod Files
 pub mod Sheets
+pub mod SmallFile

@@ -3,4 +3,4 @@
 
 mod laws;
 
-pub use laws::{sheet_lines_are_few, sheet_lines_draw_the_solid};
+pub use laws::{sheet_lines_are_few, sheet_lines_draw_the_solid, small_file};
