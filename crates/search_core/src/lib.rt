@@ -4,4 +4,4 @@
 
 mod laws;
 
-pub use laws::the_core_conserves;
+pub use laws::{small_core, the_core_conserves};

@@ -1,0 +1,4 @@
+pub mod Lists
+pub mod TakenOut
+pub mod OnceBelow
+pub mod CoreEvents
