@@ -16,7 +16,8 @@ covered_still : (style : Style) (n : ℕ) (ls : List Line) (g : Segment)
     → is_covered style (numbered_from n ls) g ≡ is_covered style ls g
 covered_still style n [] g = refl
 covered_still style n (l ∷ ls) g =
-    ap (λ rest. (same_style style l.style && covers l g) || rest) (covered_still style (n + 18) ls g)
+    ap (λ rest. (same_style style l.style && covers l g) || rest)
+    (covered_still style (n + 18) ls g)
 
 -- what is told of a view's lines without looking at their numbers is told of them still
 told_still : (of_line : Line → ℤ) → ((n : ℕ) (l : Line) → of_line (numbered n l) ≡ of_line l)
@@ -27,7 +28,8 @@ told_still of_line same v n (l ∷ ls) =
     by (same_view v l.of && has_length l) (told_still of_line same v (n + 18) ls)
   where
     by : (counts : Bool)
-        → map of_line (covering_lines v (numbered_from (n + 18) ls)) ≡ map of_line (covering_lines v ls)
+        → map of_line (covering_lines v (numbered_from (n + 18) ls))
+        ≡ map of_line (covering_lines v ls)
         → map of_line (cond counts (numbered n l ∷ covering_lines v (numbered_from (n + 18) ls))
         (covering_lines v (numbered_from (n + 18) ls)))
         ≡ map of_line (cond counts (l ∷ covering_lines v ls) (covering_lines v ls))

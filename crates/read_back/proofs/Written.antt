@@ -57,8 +57,8 @@ plain_reads_back s lines kept few shown drawing = record {
 }
 
 -- the written file of a union of grid cells reads back, where its lines are within reach
-pub written_reads_back : (g : GridParts) → IsGrid g → (chosen : List Bool) (s : List Cell) → IsSolid s
-    → IsUnionOf (coordinates_of g) chosen (is_full s)
+pub written_reads_back : (g : GridParts) → IsGrid g → (chosen : List Bool) (s : List Cell)
+    → IsSolid s → IsUnionOf (coordinates_of g) chosen (is_full s)
     → (far_x far_z : ℤ) (d : DrawingRuns) → IsSheetOf s far_x far_z d
     → Each IsInReach (sheet_lines far_x far_z d)
     → ReadsBack s (plain_file (sheet_lines far_x far_z d))
@@ -78,5 +78,5 @@ written_reads_back g is chosen s solid union far_x far_z d sheet reach =
 pub drawing_as_it_is : (s : List Cell) (text : List ℕ) → IsDrawing (solid_drawing s)
     → (back : ReadsBack s text) (g : Segment) → drawing_of back.lines g ≡ solid_drawing s g
 drawing_as_it_is s text is back g =
-    one_moved (solid_drawing s) (drawing_of back.lines) (solid_drawing s) g.view (back.drawing g.view)
-    (moved_already (solid_drawing s) g.view (is.begins g.view)) g refl
+    one_moved (solid_drawing s) (drawing_of back.lines) (solid_drawing s) g.view
+    (back.drawing g.view) (moved_already (solid_drawing s) g.view (is.begins g.view)) g refl
