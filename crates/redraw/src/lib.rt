@@ -1,2 +1,11 @@
 //! The drawing of a solid as a DXF file: its three views, redrawn line by line.
 #![tactic(auto)]
+
+mod dxf;
+mod laws;
+mod runs;
+mod sheet;
+mod text;
+
+pub use dxf::dxf_of;
+pub use laws::{matching_solids_have_one_file, one_written_file};

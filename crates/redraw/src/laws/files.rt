@@ -1,0 +1,23 @@
+//! Laws of the written files of solids. Each is the contract of a function that does nothing.
+
+ghost use Rattle.std.specs.Prelude.{◌≡◌, List, ℕ};
+ghost use Rattle.solid_model.specs.declared.cell.Cell.{Cell};
+ghost use Rattle.solid_model.specs.declared.segment.Segment.{Segment};
+ghost use Rattle.solid_model.specs.declared.segment.Style.{Style};
+ghost use Rattle.solid_model.specs.Cells.{SameCells};
+ghost use Rattle.solid_model.specs.Matching.{Matches};
+ghost use Rattle.redraw.specs.Files.{IsFileOf};
+
+/// A solid has one written file: it doesn't matter in what order its cells are listed, nor how
+/// often.
+pub fn one_written_file()
+    ensures { (s t : List Cell) → SameCells s t → (a b : List ℕ) → IsFileOf s a → IsFileOf t b
+        → a ≡ b }
+{}
+
+/// Solids that match one drawing have one written file: the drawing has one list of runs, and shows
+/// in front how far the solids reach.
+pub fn matching_solids_have_one_file()
+    ensures { (drawing : Segment → Style) (s t : List Cell) → Matches drawing s → Matches drawing t
+        → (a b : List ℕ) → IsFileOf s a → IsFileOf t b → a ≡ b }
+{}
