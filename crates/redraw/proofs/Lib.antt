@@ -1,0 +1,7 @@
+mod LastRuns
+mod LineRuns
+mod AllLines
+mod FarEnds
+mod OneFile
+mod DrawnRuns
+mod Texts

@@ -1,5 +1,5 @@
 -- The runs of a grid's segments: maximal stretches of cells of one style, line by line.
-use Rattle.std.specs.Prelude.{◌≡◌, ◌≢◌, ◌⊎◌, ◌×◌, Bool, ℕ, ◌+◌, ◌-◌, ◌*◌, ◌<◌, ◌≤◌, List, [], ◌∷◌, length, map, slice_index_or, ℤ, pos, ◌≤ℤ◌, IsTrue}
+use Rattle.std.specs.Prelude.{◌≡◌, ◌≢◌, ◌⊎◌, Bool, ℕ, ◌+◌, ◌-◌, ◌*◌, ◌<◌, ◌≤◌, List, [], ◌∷◌, length, map, slice_index_or, ℤ, pos, ◌+ℤ◌, ◌≤ℤ◌, IsTrue}
 use Rattle.std.specs.List.{flat_map}
 use Rattle.solid_model.specs.declared.frame.View.{View}
 use Rattle.solid_model.specs.declared.runs.Run.{Run}
@@ -7,10 +7,11 @@ use Rattle.solid_model.specs.declared.segment.Segment.{Segment}
 use Rattle.solid_model.specs.declared.segment.Style.{Style}
 use Rattle.solid_model.specs.declared.segment.Style.TheVariants.{Blank}
 use Rattle.solid_model.specs.Frames.{frame_of, along, across}
-use Rattle.solid_model.specs.Grid.{Coordinates, is_in_gap, IsInSomeGap}
-use Rattle.solid_model.specs.Lists.{Member}
-use Rattle.solid_model.specs.Panels.{PanelsStyles, panel_of, styles_along, AreGridStyles}
-use Rattle.solid_model.specs.Runs.{run_style, AreRuns, DrawingRuns}
+use Rattle.solid_model.specs.Grid.{is_in_gap, IsInSomeGap}
+use Rattle.solid_model.specs.Limits.{farthest_in_view}
+use Rattle.solid_model.specs.Lists.{Member, Each}
+use Rattle.solid_model.specs.Panels.{PanelsStyles, panel_of, styles_along, AreGridStyles, GridParts, coordinates_of, IsGrid}
+use Rattle.solid_model.specs.Runs.{run_style, AreRuns, DrawingRuns, view_runs, runs_along}
 use Rattle.redraw.specs.declared.text.Place.{Place}
 use Rattle.redraw.specs.Files.{run_line, sheet_lines}
 use Rattle.redraw.specs.Plain.{line_text, plain_file}
@@ -46,37 +47,45 @@ pub record AreRunsOn (lines ends : List ℤ) (styles : List Style) (rs : List Ru
   pub off_lines : (j z : ℤ) → (Member lines j → ⊥) → run_style rs j z ≡ Blank
   pub off_ends : (j z : ℤ) → (IsInSomeGap ends z → ⊥) → run_style rs j z ≡ Blank
 
--- these are the runs of the level, or the upright, segments of a view on a grid, whose styles are these
-abbrev pub AreRunsAlong : Coordinates → PanelsStyles → View → Bool → List Run → Type 0
-AreRunsAlong coordinates panels v upright rs = AreRunsOn (coordinates (across (frame_of v) upright).axis) (coordinates (along (frame_of v) upright).axis)
-    (styles_along upright (panel_of v panels)) rs
+-- ---- what can be counted
 
--- some drawing has these styles on the grid
-abbrev pub IsDrawnOn : Coordinates → PanelsStyles → Type 0
-IsDrawnOn coordinates panels = (drawing : Segment → Style) × AreGridStyles drawing coordinates panels
+-- a number from 0 to another
+abbrev pub IsUpTo : ℤ → ℤ → Type 0
+IsUpTo far z = (pos 0 ≤ℤ z) × (z ≤ℤ far)
+
+-- the coordinates of a run are those of a grid
+pub record IsNearRun (r : Run) : Type 0 where
+  pub at : IsUpTo farthest_in_view r.at
+  pub from : IsUpTo farthest_in_view r.from
+  pub to : IsUpTo farthest_in_view r.to
+
+-- a view stands no farther than 10 beyond what a grid can reach
+pub record IsNearPlace (p : Place) : Type 0 where
+  pub right : IsUpTo (farthest_in_view +ℤ pos 10) p.right
+  pub up : IsUpTo (farthest_in_view +ℤ pos 10) p.up
+
+-- ---- the runs of a view
+
+-- where it is a grid, some drawing has these styles on it
+abbrev pub HasDrawing : GridParts → PanelsStyles → Type 0
+HasDrawing g panels = IsGrid g → (drawing : Segment → Style) × AreGridStyles drawing (coordinates_of g) panels
+
+-- these are the runs of the level, or the upright, segments of a view on a grid, whose styles are these
+pub record AreRunsAlong (g : GridParts) (panels : PanelsStyles) (v : View) (upright : Bool) (rs : List Run) : Type 0 where
+  pub grid : IsGrid g
+  pub on : AreRunsOn (coordinates_of g (across (frame_of v) upright).axis) (coordinates_of g (along (frame_of v) upright).axis)
+      (styles_along upright (panel_of v panels)) rs
+  pub near : Each IsNearRun rs
+
+-- all runs of three views are near
+abbrev pub AreNearRuns : DrawingRuns → Type 0
+AreNearRuns d = (v : View) (upright : Bool) → Each IsNearRun (runs_along upright (view_runs v d))
 
 -- the line of the last run; 0 where there is no run
 abbrev pub last_line : List Run → ℤ
 last_line [] = pos 0
 last_line (r ∷ []) = r.at
 last_line (r ∷ s ∷ rs) = last_line (s ∷ rs)
-
--- ---- what can be counted
-
--- a coordinate of a grid, or a place beyond all of them by 10
-abbrev pub IsNearNumber : ℤ → Type 0
-IsNearNumber z = (pos 0 ≤ℤ z) × (z ≤ℤ pos 2000000010)
-
--- the coordinates of a run are near
-pub record IsNearRun (r : Run) : Type 0 where
-  pub at : IsNearNumber r.at
-  pub from : IsNearNumber r.from
-  pub to : IsNearNumber r.to
-
--- a view stands near
-pub record IsNearPlace (p : Place) : Type 0 where
-  pub right : IsNearNumber p.right
-  pub up : IsNearNumber p.up
 
 -- ---- the text
 

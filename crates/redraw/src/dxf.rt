@@ -1,38 +1,74 @@
 //! The written file of a solid that is made of grid cells.
 
-ghost use Rattle.std.specs.Prelude.{◌≡◌, Bool, List, IfOk};
+ghost use Rattle.std.specs.Prelude.{◌≡◌, ◌++◌, ◌+ℤ◌, List, pos, IfOk, OnOk};
+ghost use Rattle.std.specs.List.{flat_map};
 ghost use Rattle.solid_model.specs.declared.cell.Cell.{Cell};
-ghost use Rattle.solid_model.specs.declared.frame.View.{View};
 ghost use Rattle.solid_model.specs.Cells.{IsSolid, is_full};
 ghost use Rattle.solid_model.specs.Grid.{IsUnionOf};
+ghost use Rattle.solid_model.specs.Limits.{farthest_in_view};
 ghost use Rattle.solid_model.specs.Lists.{Each};
 ghost use Rattle.solid_model.specs.Panels.{coordinates_of};
-ghost use Rattle.solid_model.specs.Runs.{runs_along, view_runs};
-ghost use Rattle.redraw.specs.Files.{IsFileOf};
-ghost use Rattle.redraw.specs.GridRuns.{IsNearRun, sheet_text};
+ghost use Rattle.redraw.specs.Files.{right_on_sheet, up_on_sheet, placed_lines, IsFileOf};
+ghost use Rattle.redraw.specs.GridRuns.{last_line, IsUpTo, IsNearRun, IsNearPlace, AreNearRuns, sheet_text};
+ghost use Rattle.redraw.specs.Plain.{line_text};
 
 use crate::sheet::{Sheet, last_line, sheet_of};
 use crate::text::{Place, push_pair, push_view};
 use columns::draw_cells;
-use solid_model::{Grid, Memory, View};
+use solid_model::{Grid, Memory, Runs, View};
 use std::alloc::Global;
 
 /// How far the top view stands above the front view, and the side view to the right of it.
 const GAP: i64 = 10;
 
-/// The text of a sheet: the front view, the top view above it, and the side view to its right.
+/// A place beyond all of these runs.
+fn beyond(runs: &Runs) -> i64
+    requires { Each IsNearRun runs.now }
+    ensures value { result ≡ last_line runs.now +ℤ pos 10 }
+    ensures near { IsUpTo (farthest_in_view +ℤ pos 10) result }
+{
+    last_line(runs) + GAP
+}
+
+/// Where a view stands on the sheet: the top view above the front view, the side view to its right.
+fn place_of(sheet: &Sheet, view: View) -> Place
+    requires { AreNearRuns sheet.now }
+    ensures view { result.view ≡ view }
+    ensures right { result.right ≡ right_on_sheet (last_line sheet.now.front.upright) view }
+    ensures up { result.up ≡ up_on_sheet (last_line sheet.now.front.level) view }
+    ensures near { IsNearPlace result }
+{
+    let front = sheet.view(View::Front);
+    let (right, up) = match view {
+        View::Front => (0, 0),
+        View::Top => (0, beyond(front.along(false))),
+        View::Side => (beyond(front.along(true)), 0),
+    };
+    Place { view, right, up }
+}
+
+/// Adds the lines of a view where it stands on the sheet.
+fn push_placed(text: &mut Vec<u8>, sheet: &Sheet, view: View) -> Result<(), Memory>
+    requires { AreNearRuns sheet.now }
+    ensures { OnOk result (text.new.items ≡ text.old.items ++ flat_map line_text
+        (placed_lines (last_line sheet.now.front.upright) (last_line sheet.now.front.level)
+        sheet.now view)) }
+{
+    push_view(text, place_of(sheet, view), sheet.view(view))?;
+    Ok(())
+}
+
+/// The text of a sheet.
 fn sheet_text(alloc: Global, sheet: &Sheet) -> Result<Vec<u8>, Memory>
-    requires { (v : View) (upright : Bool) → Each IsNearRun (runs_along upright (view_runs v sheet.now)) }
+    requires { AreNearRuns sheet.now }
     ensures { IfOk result (λ text. text.items ≡ sheet_text sheet.now) }
 {
-    let right = last_line(&sheet.front.upright) + GAP;
-    let up = last_line(&sheet.front.level) + GAP;
     let mut text = Vec::new(alloc);
     push_pair(&mut text, "0", "SECTION")?;
     push_pair(&mut text, "2", "ENTITIES")?;
-    for (view, right, up) in [(View::Front, 0, 0), (View::Top, 0, up), (View::Side, right, 0)] {
-        push_view(&mut text, Place { view, right, up }, sheet.view(view))?;
-    }
+    push_placed(&mut text, sheet, View::Front)?;
+    push_placed(&mut text, sheet, View::Top)?;
+    push_placed(&mut text, sheet, View::Side)?;
     push_pair(&mut text, "0", "ENDSEC")?;
     push_pair(&mut text, "0", "EOF")?;
     Ok(text)

@@ -34,7 +34,7 @@ fn with_line(
     requires count { length styles.now ≡ length ends.now - 1 }
     requires runs { AreRuns runs.items }
     requires earlier { Each (λ r. r.at <ℤ at) runs.items }
-    ensures { IfOk result (IsWithLine at ends.now styles.now runs.items) }
+    ensures { IfOk result (λ more. IsWithLine at ends.now styles.now runs.items more.items) }
 {
     let mut cell = 0;
     while cell < styles.len() {

@@ -1,11 +1,9 @@
 //! The runs of three views, and how far they reach.
 
-ghost use Rattle.std.specs.Prelude.{◌≡◌, ◌≤ℤ◌, Bool, pos, IfOk};
+ghost use Rattle.std.specs.Prelude.{◌≡◌, Bool, IfOk};
 ghost use Rattle.solid_model.specs.declared.frame.View.{View};
-ghost use Rattle.solid_model.specs.Lists.{Each};
-ghost use Rattle.solid_model.specs.Panels.{coordinates_of};
 ghost use Rattle.solid_model.specs.Runs.{runs_along, view_runs};
-ghost use Rattle.redraw.specs.GridRuns.{IsDrawnOn, IsNearRun, AreRunsAlong, last_line};
+ghost use Rattle.redraw.specs.GridRuns.{HasDrawing, AreRunsAlong, last_line};
 
 use crate::runs::runs_on;
 use solid_model::{Grid, Panels, Runs, View, ViewLines};
@@ -62,9 +60,8 @@ fn runs_along(
     view: View,
     upright: bool,
 ) -> Result<Runs, AllocError>
-    requires { IsDrawnOn (coordinates_of grid.now) panels.now }
-    ensures runs { IfOk result (AreRunsAlong (coordinates_of grid.now) panels.now view upright) }
-    ensures near { IfOk result (Each IsNearRun) }
+    requires { HasDrawing grid.now panels.now }
+    ensures { IfOk result (AreRunsAlong grid.now panels.now view upright) }
 {
     let frame = view.frame();
     let lines = grid.coordinates(frame.across(upright).axis);
@@ -80,12 +77,9 @@ fn view_lines(
     panels: &Panels,
     view: View,
 ) -> Result<ViewLines, AllocError>
-    requires { IsDrawnOn (coordinates_of grid.now) panels.now }
-    ensures runs { IfOk result (λ lines. (upright : Bool)
-        → AreRunsAlong (coordinates_of grid.now) panels.now view upright
-        (runs_along upright lines)) }
-    ensures near { IfOk result (λ lines. (upright : Bool)
-        → Each IsNearRun (runs_along upright lines)) }
+    requires { HasDrawing grid.now panels.now }
+    ensures { IfOk result (λ lines. (upright : Bool)
+        → AreRunsAlong grid.now panels.now view upright (runs_along upright lines)) }
 {
     Ok(ViewLines {
         level: runs_along(alloc, grid, panels, view, false)?,
@@ -95,12 +89,9 @@ fn view_lines(
 
 /// The runs of three views, whose segments have the styles of the panels.
 pub fn sheet_of(alloc: Global, grid: &Grid, panels: &Panels) -> Result<Sheet, AllocError>
-    requires { IsDrawnOn (coordinates_of grid.now) panels.now }
-    ensures runs { IfOk result (λ sheet. (v : View) (upright : Bool)
-        → AreRunsAlong (coordinates_of grid.now) panels.now v upright
-        (runs_along upright (view_runs v sheet))) }
-    ensures near { IfOk result (λ sheet. (v : View) (upright : Bool)
-        → Each IsNearRun (runs_along upright (view_runs v sheet))) }
+    requires { HasDrawing grid.now panels.now }
+    ensures { IfOk result (λ sheet. (v : View) (upright : Bool)
+        → AreRunsAlong grid.now panels.now v upright (runs_along upright (view_runs v sheet))) }
 {
     Ok(Sheet {
         front: view_lines(alloc, grid, panels, View::Front)?,

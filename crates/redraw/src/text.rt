@@ -1,13 +1,14 @@
 //! Lines as the text of a DXF file (the ASCII form of the Autodesk DXF Reference).
 
-ghost use Rattle.std.specs.Prelude.{◌≡◌, ◌++◌, ◌+ℤ◌, codes, map, OnOk};
+ghost use Rattle.std.specs.Prelude.{◌≡◌, ◌++◌, ◌+ℤ◌, codes, OnOk};
 ghost use Rattle.std.specs.Fmt.{signed_decimal};
 ghost use Rattle.std.specs.List.{flat_map};
+ghost use Rattle.solid_model.specs.Limits.{farthest_in_view};
 ghost use Rattle.solid_model.specs.Lists.{Each};
 ghost use Rattle.solid_model.specs.Runs.{ViewRuns, runs_along};
 ghost use Rattle.solid_model.specs.Segments.{along_of, across_of};
 ghost use Rattle.redraw.specs.Files.{run_line, view_lines};
-ghost use Rattle.redraw.specs.GridRuns.{IsNearRun, IsNearNumber, IsNearPlace, runs_text};
+ghost use Rattle.redraw.specs.GridRuns.{IsNearRun, IsUpTo, IsNearPlace, runs_text};
 ghost use Rattle.redraw.specs.Plain.{pair_text, linetype_name, line_text};
 
 use itoa::Buffer;
@@ -52,6 +53,41 @@ fn linetype(style: Style) -> &'static str
     }
 }
 
+/// The point of the sheet that stands on a line of a view's level, or upright, segments at a place
+/// along it.
+fn point(place: Place, upright: bool, at: i64, along: i64) -> (i64, i64)
+    requires at { IsUpTo farthest_in_view at }
+    requires along { IsUpTo farthest_in_view along }
+    requires place { IsNearPlace place }
+    ensures x { result.0 ≡ across_of upright at along +ℤ place.right }
+    ensures y { result.1 ≡ along_of upright at along +ℤ place.up }
+{
+    if upright {
+        (at + place.right, along + place.up)
+    } else {
+        (along + place.right, at + place.up)
+    }
+}
+
+/// Adds a point of the sheet, at height 0: a group code and the value of each coordinate.
+fn push_point(
+    text: &mut Vec<u8>,
+    x_code: &str,
+    y_code: &str,
+    z_code: &str,
+    point: (i64, i64),
+) -> Result<(), Memory>
+    ensures { OnOk result (text.new.items ≡ text.old.items
+        ++ (pair_text x_code.now (signed_decimal point.0)
+        ++ pair_text y_code.now (signed_decimal point.1)
+        ++ pair_text z_code.now (codes "0"))) }
+{
+    push_coordinate(text, x_code, point.0)?;
+    push_coordinate(text, y_code, point.1)?;
+    push_pair(text, z_code, "0")?;
+    Ok(())
+}
+
 /// Adds a run of a view's level, or upright, segments as a line, from its lesser end to its greater
 /// one.
 fn push_run(text: &mut Vec<u8>, place: Place, upright: bool, run: &Run) -> Result<(), Memory>
@@ -60,25 +96,14 @@ fn push_run(text: &mut Vec<u8>, place: Place, upright: bool, run: &Run) -> Resul
     ensures { OnOk result (text.new.items ≡ text.old.items
         ++ line_text (run_line place.view upright place.right place.up run.now)) }
 {
-    let (x0, y0) = if upright {
-        (run.at, run.from)
-    } else {
-        (run.from, run.at)
-    };
-    let (x1, y1) = if upright {
-        (run.at, run.to)
-    } else {
-        (run.to, run.at)
-    };
+    let from = point(place, upright, run.at, run.from);
+    let to = point(place, upright, run.at, run.to);
     push_pair(text, "0", "LINE")?;
     push_pair(text, "8", place.view.layer())?;
     push_pair(text, "6", linetype(run.style))?;
-    push_coordinate(text, "10", x0 + place.right)?;
-    push_coordinate(text, "20", y0 + place.up)?;
-    push_pair(text, "30", "0")?;
-    push_coordinate(text, "11", x1 + place.right)?;
-    push_coordinate(text, "21", y1 + place.up)?;
-    push_pair(text, "31", "0")
+    push_point(text, "10", "20", "30", from)?;
+    push_point(text, "11", "21", "31", to)?;
+    Ok(())
 }
 
 /// Adds a line for each run.
