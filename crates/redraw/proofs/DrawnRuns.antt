@@ -170,26 +170,35 @@ module _ (coordinates : Coordinates) (ascends : (a : Axis) → Ascends ◌<ℤ�
             (λ none. on.off_ends j z none ∙ sym (stays.off_ends v upright z j none))
             (gap_or_none ends (ascends (along (frame_of v) upright).axis) z)
 
+module _ (coordinates : Coordinates) (ascends : (a : Axis) → Ascends ◌<ℤ◌ (coordinates a)) (panels : PanelsStyles) (drawing : Segment → Style)
+    (stays : StaysOnGrid coordinates drawing) (styles : AreGridStyles drawing coordinates panels) (d : DrawingRuns)
+    (on : (v : View) (upright : Bool) → AreRunsOn (coordinates (across (frame_of v) upright).axis) (coordinates (along (frame_of v) upright).axis)
+    (styles_along upright (panel_of v panels)) (runs_along upright (view_runs v d))) where
+  -- in all views
+  pub show_in_views : (v : View) (upright : Bool) (j z : ℤ) → run_style (runs_along upright (view_runs v d)) j z ≡ drawing (segment_at v upright z j)
+  show_in_views v upright = show_drawing coordinates ascends panels drawing stays styles v upright _ (on v upright)
+
+  pub runs_shown : AreRunsOf drawing d
+  runs_shown = record {
+    runs = λ v upright. (on v upright).are_runs;
+    show = λ h. by h.view h.upright h.right h.up;
+  }
+    where
+      by : (v : View) (upright : Bool) (right up : ℤ) → style_in d (record { view = v; upright = upright; right = right; up = up })
+          ≡ drawing (record { view = v; upright = upright; right = right; up = up })
+      by v true right up = show_in_views v true right up
+      by v false right up = show_in_views v false up right
+
 -- ---- the sheet of a union of grid cells
 
 module _ (g : GridParts) (panels : PanelsStyles) (chosen : List Bool) (s : List Cell) (union : IsUnionOf (coordinates_of g) chosen (is_full s))
     (styles : AreGridStyles (solid_drawing s) (coordinates_of g) panels) (d : DrawingRuns)
     (along_all : (v : View) (upright : Bool) → AreRunsAlong g panels v upright (runs_along upright (view_runs v d))) where
-  show_solid : (v : View) (upright : Bool) (j z : ℤ) → run_style (runs_along upright (view_runs v d)) j z ≡ solid_drawing s (segment_at v upright z j)
-  show_solid v upright =
-      let ascends = grid_ascends g (along_all v upright).grid in
-      show_drawing (coordinates_of g) ascends panels (solid_drawing s) (union_on_grid (coordinates_of g) ascends chosen s union) styles v upright _ (along_all v upright).on
+  ascends : (a : Axis) → Ascends ◌<ℤ◌ (coordinates_of g a)
+  ascends = grid_ascends g (along_all Front true).grid
 
-  runs_of_solid : AreRunsOf (solid_drawing s) d
-  runs_of_solid = record {
-    runs = λ v upright. (along_all v upright).on.are_runs;
-    show = λ h. by h.view h.upright h.right h.up;
-  }
-    where
-      by : (v : View) (upright : Bool) (right up : ℤ) → style_in d (record { view = v; upright = upright; right = right; up = up })
-          ≡ solid_drawing s (record { view = v; upright = upright; right = right; up = up })
-      by v true right up = show_solid v true right up
-      by v false right up = show_solid v false up right
+  stays : StaysOnGrid (coordinates_of g) (solid_drawing s)
+  stays = union_on_grid (coordinates_of g) ascends chosen s union
 
   -- how far it reaches across the segments of a kind
   far_end_of_solid : IsSolid s → (v : View) (upright : Bool) → IsFarEnd (is_full s) (across (frame_of v) upright).axis (last_line (runs_along upright (view_runs v d)))
@@ -197,7 +206,8 @@ module _ (g : GridParts) (panels : PanelsStyles) (chosen : List Bool) (s : List 
       let full = full_cell_of s solid in
       let drawn = some_drawn v upright s full.0 full.1 in
       farthest_line-is_far_end v upright s full.0 full.1 _
-      (last_line-is_farthest (solid_drawing s) v upright _ (along_all v upright).on.are_runs (show_solid v upright) drawn.0 drawn.1 drawn.2)
+      (last_line-is_farthest (solid_drawing s) v upright _ (along_all v upright).on.are_runs
+      (show_in_views (coordinates_of g) ascends panels (solid_drawing s) stays styles d (λ w kind. (along_all w kind).on) v upright) drawn.0 drawn.1 drawn.2)
 
   -- its file
   pub file_of_solid : IsSolid s → IsFileOf s (sheet_text d)
@@ -205,7 +215,7 @@ module _ (g : GridParts) (panels : PanelsStyles) (chosen : List Bool) (s : List 
     last_line d.front.upright,
     last_line d.front.level,
     d,
-    record { runs = runs_of_solid; right = far_end_of_solid solid Front true; up = far_end_of_solid solid Front false },
+    record { runs = runs_shown (coordinates_of g) ascends panels (solid_drawing s) stays styles d (λ w kind. (along_all w kind).on); right = far_end_of_solid solid Front true; up = far_end_of_solid solid Front false },
     refl,
   )
 

@@ -5,3 +5,4 @@ mod FarEnds
 mod OneFile
 mod DrawnRuns
 mod Texts
+mod CubeFile

@@ -1,3 +1,4 @@
 pub mod Plain
 pub mod Files
 pub mod GridRuns
+pub mod SmallFiles

@@ -39,10 +39,12 @@ fn place_of(sheet: &Sheet, view: View) -> Place
     ensures near { IsNearPlace result }
 {
     let front = sheet.view(View::Front);
+    let beside = beyond(front.along(true));
+    let above = beyond(front.along(false));
     let (right, up) = match view {
         View::Front => (0, 0),
-        View::Top => (0, beyond(front.along(false))),
-        View::Side => (beyond(front.along(true)), 0),
+        View::Top => (0, above),
+        View::Side => (beside, 0),
     };
     Place { view, right, up }
 }

@@ -2,4 +2,4 @@
 
 mod files;
 
-pub use files::{matching_solids_have_one_file, one_written_file};
+pub use files::{matching_solids_have_one_file, one_written_file, small_file};

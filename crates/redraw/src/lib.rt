@@ -8,4 +8,4 @@ mod sheet;
 mod text;
 
 pub use dxf::dxf_of;
-pub use laws::{matching_solids_have_one_file, one_written_file};
+pub use laws::{matching_solids_have_one_file, one_written_file, small_file};

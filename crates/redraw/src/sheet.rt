@@ -11,7 +11,7 @@ use std::alloc::{AllocError, Global};
 use std::marker::Model;
 
 /// The runs of the three views of a solid, wherever it begins.
-#[derive(Debug, Drop)]
+#[derive(Drop)]
 pub struct Sheet {
     pub front: ViewLines,
     pub top: ViewLines,

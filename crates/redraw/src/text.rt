@@ -15,7 +15,7 @@ use itoa::Buffer;
 use solid_model::{Memory, Run, Style, View, ViewLines};
 
 /// Where a view stands on the sheet: how far to the right, and how far upwards.
-#[derive(Clone, Copy, Debug)]
+#[derive(Clone, Copy)]
 pub struct Place {
     pub view: View,
     pub right: i64,
