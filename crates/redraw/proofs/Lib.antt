@@ -1,5 +1,13 @@
+pub mod AllLines
+pub mod CubeFile
+pub mod DrawnRuns
+pub mod FarEnds
+pub mod FewLines
+pub mod LastRuns
+pub mod LineRuns
+pub mod OneFile
+pub mod RunsOnGrid
+pub mod SheetDrawing
 pub mod SheetLines
 pub mod SolidBegins
-pub mod SheetDrawing
-pub mod RunsOnGrid
-pub mod FewLines
+pub mod Texts

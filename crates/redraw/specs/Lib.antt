@@ -1,4 +1,5 @@
 pub mod Plain
 pub mod Files
 pub mod Sheets
-pub mod SmallFile
+pub mod GridRuns
+pub mod SmallFiles

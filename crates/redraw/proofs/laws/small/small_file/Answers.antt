@@ -1,8 +1,0 @@
--- Both sides compute.
-use Rattle.std.proofs.Common.{refl}
-use Rattle.std.specs.Fmt.{digits}
-use Rattle.redraw.proofs.laws.small.small_file.Goals as goal
-
-pub returns-clause-text : goal.returns-clause-text
-unfolding digits
-returns-clause-text c = refl
