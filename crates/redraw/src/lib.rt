@@ -3,4 +3,6 @@
 
 mod laws;
 
-pub use laws::{sheet_lines_are_few, sheet_lines_draw_the_solid, small_file};
+pub use laws::{
+    no_solid_lacks_a_file, sheet_lines_are_few, sheet_lines_draw_the_solid, small_file,
+};
