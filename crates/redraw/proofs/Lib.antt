@@ -3,6 +3,6 @@ pub mod SolidBegins
 pub mod SheetDrawing
 pub mod RunsOnGrid
 pub mod FewLines
-pub mod LineRuns
+pub mod PlacesRuns
 pub mod SomeRuns
 pub mod SomeFile

@@ -11,7 +11,7 @@ use Rattle.solid_model.proofs.Integers.{natural}
 use Rattle.solid_model.proofs.Lists.{each-at, each-weaker, each-pieces, member-pieces, member-from_pieces, ascends-pieces}
 use Rattle.solid_model.proofs.RunStyles.{covers_parts, covers_from, covering_run}
 use Rattle.redraw.proofs.SheetLines.{style_of_run}
-use Rattle.redraw.proofs.LineRuns.{IsLineRun, AreFrom, some_line_runs, each_line_run, line_runs_apart, on_line_run}
+use Rattle.redraw.proofs.PlacesRuns.{IsLineRun, AreFrom, some_line_runs, each_line_run, line_runs_apart, on_line_run}
 
 -- the place y of the line j lies among so many lines and places, counted from the first ones
 pub record IsAmong (first : ℤ) (lines : ℕ) (low : ℤ) (places : ℕ) (j y : ℤ) : Type 0 where
