@@ -6,8 +6,11 @@ pub mod FewLines
 pub mod LastRuns
 pub mod LineRuns
 pub mod OneFile
+pub mod PlacesRuns
 pub mod RunsOnGrid
 pub mod SheetDrawing
 pub mod SheetLines
 pub mod SolidBegins
+pub mod SomeFile
+pub mod SomeRuns
 pub mod Texts
