@@ -1,6 +1,6 @@
 //! The pieces of a made solid, by the words of a generator (PCG32, O'Neill 2014).
 
-ghost use Rattle.std.specs.Prelude.{◌≡◌, ◌≤◌, ◌+◌, ◌*◌, ◌%◌, ◌<◌, true, IfOk};
+ghost use Rattle.std.specs.Prelude.{◌≡◌, ◌≤◌, ◌+◌, ◌*◌, ◌%◌, ◌&&◌, not, IfOk};
 ghost use Rattle.rand_pcg.specs.Pcg.{pcg32};
 ghost use Rattle.drawing_maker.specs.Pieces.{next_origin};
 ghost use Rattle.drawing_maker.specs.Made.{kind_by, scale_by, has_eight_voids, made_pieces};
@@ -78,11 +78,11 @@ fn next_origin(piece: Piece) -> u32
     piece.origin + piece.scale * piece.kind.side() + 1
 }
 
-/// The piece is a cube with eight voids.
-fn has_eight_voids(piece: Piece) -> bool
-    ensures { result ≡ has_eight_voids piece.kind }
+/// Only one cube with eight voids still stands behind the piece, if only one stood before it.
+fn is_still_alone(alone: bool, piece: Piece) -> bool
+    ensures { result ≡ (alone && not (has_eight_voids piece.kind)) }
 {
-    matches!(piece.kind, Kind::EightVoids)
+    alone && !matches!(piece.kind, Kind::EightVoids)
 }
 
 /// The pieces of a number, in a row; an Err is out of memory.
@@ -99,7 +99,7 @@ pub fn made_pieces(alloc: Global, n: u64) -> Result<Vec<Piece>, Memory>
         let piece = draw_piece(&mut generator, alone, origin);
         pieces.push(piece)?;
         origin = next_origin(piece);
-        alone = alone && !has_eight_voids(piece);
+        alone = is_still_alone(alone, piece);
     }
     Ok(pieces)
 }

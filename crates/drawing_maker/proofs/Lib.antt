@@ -1,0 +1,5 @@
+pub mod Members
+pub mod Rows
+pub mod Spots
+pub mod RowStops
+pub mod Drawn
