@@ -117,7 +117,4 @@ told_in_gap [] row n z e = absurd (false≢true e)
 told_in_gap (p ∷ ps) row n z e =
     told_from p ps row (told_in_gap ps (row_behind p ps row)) (side_of p.kind) 0 (first_stop p) (omega arith) (omega arith) n z e
 
--- what lies in a piece lies in some gap: between the first and the last stop of the piece
 
-bad : (n : ℕ) → n ≡ 3
-bad n = omega arith
