@@ -8,3 +8,4 @@ pub mod RowCoordinates
 pub mod RowDrawing
 pub mod Drawn
 pub mod MadeRows
+pub mod MadeGrid

@@ -29,7 +29,7 @@ scale_is_small : (word : ℕ) → (0 < scale_by word) × (scale_by word ≤ 9)
 scale_is_small word = let l = mod_below word 9 (omega arith) in (omega arith, omega (arith, l))
 
 -- so a piece is at most 45 long
-next_is_near : (p : Piece) → p.scale ≤ 9 → next_origin p ≤ p.origin + 46
+pub next_is_near : (p : Piece) → p.scale ≤ 9 → next_origin p ≤ p.origin + 46
 next_is_near p l = let e = mul-le-mul {n₁ = p.scale} {m₁ = side_of p.kind} {n₂ = 9} {m₂ = 5} l (few_sides p.kind) in omega (arith, e)
 
 length-piece_stops : (p : Piece) → length (piece_stops p) ≡ suc (side_of p.kind)

@@ -1,6 +1,6 @@
 //! Which of the cells between the stops of a row are full.
 
-ghost use Rattle.std.specs.Prelude.{◌≡◌, ◌++◌, map, IfOk, OnOk};
+ghost use Rattle.std.specs.Prelude.{◌≡◌, ◌≤◌, ◌++◌, length, map, drop, IfOk, OnOk};
 ghost use Rattle.std.specs.List.{flat_map};
 ghost use Rattle.drawing_maker.specs.Rows.{is_full_part, is_full_before, cells_in_line, cells_in_layer, cells_before};
 
@@ -47,9 +47,8 @@ fn push_layer(cells: &mut Vec<bool>, stops: &[Stop], z: Stop) -> Result<(), Memo
     Ok(())
 }
 
-/// The cells before each of the stops along x, y and z, z slowest and x fastest; an Err is out of
-/// memory.
-pub fn cells_before(alloc: Global, stops: &[Stop]) -> Result<Vec<bool>, Memory>
+/// The cells before each of the stops along x, y and z, z slowest and x fastest.
+fn cells_before(alloc: Global, stops: &[Stop]) -> Result<Vec<bool>, Memory>
     ensures { IfOk result (λ cells. cells.items ≡ cells_before stops.now) }
 {
     let mut cells = Vec::new(alloc);
@@ -57,4 +56,13 @@ pub fn cells_before(alloc: Global, stops: &[Stop]) -> Result<Vec<bool>, Memory>
         push_layer(&mut cells, stops, *z)?;
     }
     Ok(cells)
+}
+
+/// The cells between the stops along x, y and z, z slowest and x fastest: those before all stops but
+/// the first one; an Err is out of memory.
+pub fn cells_between(alloc: Global, stops: &[Stop]) -> Result<Vec<bool>, Memory>
+    requires { 1 ≤ length stops.now }
+    ensures { IfOk result (λ cells. cells.items ≡ cells_before (drop 1 stops.now)) }
+{
+    cells_before(alloc, &stops[1..])
 }

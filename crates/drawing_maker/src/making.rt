@@ -3,7 +3,7 @@
 ghost use Rattle.std.specs.Prelude.{◌≡◌, IfOk};
 ghost use Rattle.drawing_maker.specs.Made.{IsMade};
 
-use crate::cells::cells_before;
+use crate::cells::cells_between;
 use crate::pieces::made_pieces;
 use crate::stops::{coordinates_of, stops_of};
 use columns::draw_in;
@@ -20,7 +20,7 @@ pub fn make(alloc: Global, n: u64) -> Result<(Grid, Vec<bool>), Memory>
 {
     let pieces = made_pieces(alloc, n)?;
     let stops = stops_of(alloc, &pieces)?;
-    let cells = cells_before(alloc, &stops[1..])?;
+    let cells = cells_between(alloc, &stops)?;
     let count = stops.len();
     let counts = PerAxis {
         x: count,
