@@ -22,7 +22,7 @@ use Rattle.drawing_maker.specs.declared.piece.Piece.{Piece}
 use Rattle.drawing_maker.specs.declared.stops.Stop.{Stop}
 use Rattle.drawing_maker.specs.Pieces.{row_cells}
 use Rattle.drawing_maker.specs.Made.{generator_of, made_pieces, made_solid, IsMade}
-use Rattle.drawing_maker.specs.Rows.{row_stops, coordinates_of_stops, cells_before, IsSmall, AreSmall}
+use Rattle.drawing_maker.specs.Rows.{row_stops, coordinates_of_stops, grid_over, cells_before, IsSmall, AreSmall}
 use Rattle.drawing_maker.proofs.Drawn.{first_by}
 use Rattle.drawing_maker.proofs.DrawnAcross.{drawn_across, coordinate_on_grid}
 use Rattle.drawing_maker.proofs.MadeRows.{StandFrom, made_stand, made_row, next_is_near, few_stops}
@@ -89,42 +89,36 @@ module _ (n : ℕ) (coordinates : Coordinates) (same : (a : Axis) → coordinate
 
 -- ---- what is made
 
--- the stops of a number's pieces, the cells between them, and a grid that has their coordinates and what the cells draw
-pub record ComesFrom (n : ℕ) (g : GridParts) (stops : List Stop) (chosen : List Bool) (count : ℕ) : Type 0 where
-  pub stops_are : stops ≡ row_stops (made_pieces n)
-  pub chosen_are : chosen ≡ cells_before (drop 1 stops)
-  pub xs_are : g.xs ≡ coordinates_of_stops stops
-  pub ys_are : g.ys ≡ coordinates_of_stops stops
-  pub zs_are : g.zs ≡ coordinates_of_stops stops
-  pub count_is : count ≡ length stops
-  pub panels_are : ArePanels (by_axis count count count) chosen g.panels
+module _ (n : ℕ) (stops : List Stop) (chosen : List Bool) (panels : PanelsStyles) (count : ℕ) (stops_are : stops ≡ row_stops (made_pieces n))
+    (chosen_are : chosen ≡ cells_before (drop 1 stops)) (count_is : count ≡ length stops) (panels_are : ArePanels (by_axis count count count) chosen panels) where
+  abbrev g : GridParts
+  g = grid_over stops panels
 
-module _ (n : ℕ) (g : GridParts) (stops : List Stop) (chosen : List Bool) (count : ℕ) (from : ComesFrom n g stops chosen count) where
   coordinates_are : (a : Axis) → coordinates_of g a ≡ coordinates_of_stops stops
-  coordinates_are X = from.xs_are
-  coordinates_are Y = from.ys_are
-  coordinates_are Z = from.zs_are
+  coordinates_are X = refl
+  coordinates_are Y = refl
+  coordinates_are Z = refl
 
   counts_are : (a : Axis) → by_axis count count count a ≡ length stops
-  counts_are X = from.count_is
-  counts_are Y = from.count_is
-  counts_are Z = from.count_is
+  counts_are X = count_is
+  counts_are Y = count_is
+  counts_are Z = count_is
 
   same_coordinates : (a : Axis) → coordinates_of g a ≡ coordinates_of_stops (row_stops (made_pieces n))
-  same_coordinates a = coordinates_are a ∙ ap coordinates_of_stops from.stops_are
+  same_coordinates a = coordinates_are a ∙ ap coordinates_of_stops stops_are
 
   how_many : (a : Axis) → length (coordinates_of g a) ≡ length stops
   how_many a = ap length (coordinates_are a) ∙ length-map stops (λ (s : Stop). pos s.at)
 
   union_of_chosen : IsUnionOf (coordinates_of g) chosen (is_full (made_solid n))
   union_of_chosen = subst (λ cells. IsUnionOf (coordinates_of g) cells (is_full (made_solid n)))
-      (sym (from.chosen_are ∙ ap (λ ss. cells_before (drop 1 ss)) from.stops_are)) (made_union n (coordinates_of g) same_coordinates)
+      (sym (chosen_are ∙ ap (λ ss. cells_before (drop 1 ss)) stops_are)) (made_union n (coordinates_of g) same_coordinates)
 
   grid_of_made : IsGridOf (solid_drawing (made_solid n)) g
   grid_of_made = record {
     coordinates = made_coordinates n (coordinates_of g) same_coordinates;
-    few = λ a. (let l = few_stops n in omega (arith, how_many a, ap length from.stops_are, l));
-    styles = from.panels_are (coordinates_of g)
+    few = λ a. (let l = few_stops n in omega (arith, how_many a, ap length stops_are, l));
+    styles = panels_are (coordinates_of g)
         (record { ordered = λ a. (made_coordinates n (coordinates_of g) same_coordinates a).ordered; count = λ a. how_many a ∙ sym (counts_are a) })
         (made_solid n) union_of_chosen;
   }
@@ -136,10 +130,10 @@ module _ (n : ℕ) (g : GridParts) (stops : List Stop) (chosen : List Bool) (cou
   is_made = record { grid = grid_of_made; cells = union_of_chosen; count = counted }
     where
       gap_count : (a : Axis) → gaps_along (coordinates_of g) a ≡ length (drop 1 stops)
-      gap_count a = gaps_are (made_pieces n) (made_row n) (coordinates_of g) same_coordinates a ∙ ap (λ ss. length (drop 1 ss)) (sym from.stops_are)
+      gap_count a = gaps_are (made_pieces n) (made_row n) (coordinates_of g) same_coordinates a ∙ ap (λ ss. length (drop 1 ss)) (sym stops_are)
 
       counted : length chosen ≡ grid_cell_count (coordinates_of g)
-      counted = ap length from.chosen_are ∙ length-cells_before (drop 1 stops) ∙ omega arith
+      counted = ap length chosen_are ∙ length-cells_before (drop 1 stops) ∙ omega arith
           ∙ sym (λ t. gap_count Z t * gap_count Y t * gap_count X t)
 
 -- few coordinates along each axis

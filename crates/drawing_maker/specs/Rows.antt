@@ -3,6 +3,7 @@
 use Rattle.std.specs.Prelude.{◌+◌, ◌*◌, ◌≤◌, ◌&&◌, ◌==◌, Bool, false, not, ℕ, List, [], ◌∷◌, map, Option, Some, None, ℤ, pos}
 use Rattle.std.specs.List.{flat_map, range_with_len}
 use Rattle.solid_model.specs.Lists.{Each}
+use Rattle.solid_model.specs.Panels.{PanelsStyles, GridParts}
 use Rattle.drawing_maker.specs.declared.piece.Piece.{Piece}
 use Rattle.drawing_maker.specs.declared.stops.Part.{Part}
 use Rattle.drawing_maker.specs.declared.stops.Stop.{Stop}
@@ -36,6 +37,15 @@ row_stops ps = flat_map piece_stops ps
 -- the coordinates of stops
 abbrev pub coordinates_of_stops : List Stop → List ℤ
 coordinates_of_stops stops = map (λ s. pos s.at) stops
+
+-- the grid with these coordinates along each axis, whose segments have these styles
+abbrev pub grid_over : List Stop → PanelsStyles → GridParts
+grid_over stops panels = record {
+  xs = coordinates_of_stops stops;
+  ys = coordinates_of_stops stops;
+  zs = coordinates_of_stops stops;
+  panels = panels;
+}
 
 -- ---- cells
 

@@ -1,14 +1,27 @@
 //! A made solid, with the grid of its drawing.
 
 ghost use Rattle.std.specs.Prelude.{◌≡◌, IfOk};
+ghost use Rattle.solid_model.specs.Panels.{IsGrid};
 ghost use Rattle.drawing_maker.specs.Made.{IsMade};
+ghost use Rattle.drawing_maker.specs.Rows.{grid_over};
 
 use crate::cells::cells_between;
 use crate::pieces::made_pieces;
-use crate::stops::{coordinates_of, stops_of};
+use crate::stops::{Stop, coordinates_of, stops_of};
 use columns::draw_in;
-use solid_model::{Grid, Memory, PerAxis};
+use solid_model::{Grid, Memory, Panels, PerAxis};
 use std::alloc::Global;
+
+/// The grid with the coordinates of these stops along each axis, whose segments have these styles.
+fn grid_over(alloc: Global, stops: &[Stop], panels: Panels) -> Result<Grid, Memory>
+    requires { IsGrid (grid_over stops.now panels) }
+    ensures { IfOk result (λ grid. grid ≡ grid_over stops.now panels) }
+{
+    let xs = coordinates_of(alloc, stops)?;
+    let ys = coordinates_of(alloc, stops)?;
+    let zs = coordinates_of(alloc, stops)?;
+    Ok(Grid::new(xs, ys, zs, panels))
+}
 
 /// A solid that is made from a number, by the words of PCG32 with stream 54: which cells of the grid
 /// of its drawing it fills, z slowest and x fastest, beside that grid. It is a row of 14 cubes along
@@ -28,8 +41,6 @@ pub fn make(alloc: Global, n: u64) -> Result<(Grid, Vec<bool>), Memory>
         z: count,
     };
     let panels = draw_in(alloc, counts, &cells)?;
-    let xs = coordinates_of(alloc, &stops)?;
-    let ys = coordinates_of(alloc, &stops)?;
-    let zs = coordinates_of(alloc, &stops)?;
-    Ok((Grid::new(xs, ys, zs, panels), cells))
+    let grid = grid_over(alloc, &stops, panels)?;
+    Ok((grid, cells))
 }

@@ -1,4 +1,4 @@
--- The stops of the number's pieces give the grid.
+-- The stops of the number's pieces, the cells between them and what those draw make the grid.
 use Rattle.std.proofs.Common.{drop, length, ap, sym, subst, ◌∙◌}
 use Rattle.std.proofs.lemmas.Result.{IfOk-from_err}
 use Rattle.solid_model.specs.PerAxis.{by_axis}
@@ -25,25 +25,16 @@ draw_in-requires c = few_counts c.args.n c.deref-2.result.now c.len-count.result
     (c.deref-2.ensures.value ∙ c.in_ok-stops.ensures ∙ ap row_stops (c.deref.ensures.value ∙ c.in_ok-pieces.ensures))
     (c.len-count.ensures ∙ sym c.deref-2.ensures.len)
 
-pub new-requires : goal.new-requires
-new-requires c = is_grid c.args.n _ c.in_ok-stops.stops.items c.in_ok-cells.cells.items c.len-count.result (record {
-  stops_are = c.in_ok-stops.ensures ∙ ap row_stops (c.deref.ensures.value ∙ c.in_ok-pieces.ensures);
-  chosen_are = c.in_ok-cells.ensures ∙ ap (λ s. cells_before (drop 1 s)) c.deref-2.ensures.value;
-  xs_are = c.in_ok-xs.ensures ∙ ap coordinates_of_stops c.deref-4.ensures.value;
-  ys_are = c.in_ok-ys.ensures ∙ ap coordinates_of_stops c.deref-5.ensures.value;
-  zs_are = c.in_ok-zs.ensures ∙ ap coordinates_of_stops c.deref-6.ensures.value;
-  count_is = c.len-count.ensures ∙ sym c.deref-2.ensures.len ∙ ap length c.deref-2.ensures.value;
-  panels_are = subst (λ cells. ArePanels (by_axis c.len-count.result c.len-count.result c.len-count.result) cells c.in_ok-panels.panels) c.deref-3.ensures.value c.in_ok-panels.ensures;
-})
+pub grid_over-requires : goal.grid_over-requires
+grid_over-requires c = is_grid c.args.n c.deref-4.result.now c.deref-3.result.now c.in_ok-panels.panels c.len-count.result
+    (c.deref-4.ensures.value ∙ c.in_ok-stops.ensures ∙ ap row_stops (c.deref.ensures.value ∙ c.in_ok-pieces.ensures))
+    (c.deref-3.ensures.value ∙ c.in_ok-cells.ensures ∙ ap (λ s. cells_before (drop 1 s)) (c.deref-2.ensures.value ∙ sym c.deref-4.ensures.value))
+    (c.len-count.ensures ∙ sym c.deref-4.ensures.len) c.in_ok-panels.ensures
 
 pub returns : goal.returns
-returns c = subst (λ g. IsMade c.args.n g c.in_ok-cells.cells.items) (sym c.new.ensures)
-    (is_made c.args.n _ c.in_ok-stops.stops.items c.in_ok-cells.cells.items c.len-count.result (record {
-      stops_are = c.in_ok-stops.ensures ∙ ap row_stops (c.deref.ensures.value ∙ c.in_ok-pieces.ensures);
-      chosen_are = c.in_ok-cells.ensures ∙ ap (λ s. cells_before (drop 1 s)) c.deref-2.ensures.value;
-      xs_are = c.in_ok-xs.ensures ∙ ap coordinates_of_stops c.deref-4.ensures.value;
-      ys_are = c.in_ok-ys.ensures ∙ ap coordinates_of_stops c.deref-5.ensures.value;
-      zs_are = c.in_ok-zs.ensures ∙ ap coordinates_of_stops c.deref-6.ensures.value;
-      count_is = c.len-count.ensures ∙ sym c.deref-2.ensures.len ∙ ap length c.deref-2.ensures.value;
-      panels_are = subst (λ cells. ArePanels (by_axis c.len-count.result c.len-count.result c.len-count.result) cells c.in_ok-panels.panels) c.deref-3.ensures.value c.in_ok-panels.ensures;
-    }))
+returns c = subst (λ g. IsMade c.args.n g c.in_ok-cells.cells.items) (sym c.in_ok-grid.ensures)
+    (subst (IsMade c.args.n _) c.deref-3.ensures.value
+    (is_made c.args.n c.deref-4.result.now c.deref-3.result.now c.in_ok-panels.panels c.len-count.result
+    (c.deref-4.ensures.value ∙ c.in_ok-stops.ensures ∙ ap row_stops (c.deref.ensures.value ∙ c.in_ok-pieces.ensures))
+    (c.deref-3.ensures.value ∙ c.in_ok-cells.ensures ∙ ap (λ s. cells_before (drop 1 s)) (c.deref-2.ensures.value ∙ sym c.deref-4.ensures.value))
+    (c.len-count.ensures ∙ sym c.deref-4.ensures.len) c.in_ok-panels.ensures))
