@@ -1,5 +1,5 @@
 -- Pieces that are drawn one after another are those of a number.
-use Rattle.std.proofs.Common.{◌≡◌, ◌+◌, ◌%◌, ◌&&◌, not, Bool, true, ℕ, suc, List, [], ◌∷◌, ◌++◌, ap, ◌∙◌, append_assoc}
+use Rattle.std.proofs.Common.{◌≡◌, ◌%◌, ◌&&◌, not, Bool, true, ℕ, suc, List, [], ◌∷◌, ◌++◌, ap, ◌∙◌, append_assoc}
 use Rattle.rand_pcg.specs.Lcg.{Lcg}
 use Rattle.rand_pcg.specs.Pcg.{pcg32}
 use Rattle.drawing_maker.specs.declared.piece.Kind.TheVariants.{EightVoids}

@@ -1,6 +1,6 @@
 -- Where a cell differs from the one before it along an axis, each view that shows the axis has something drawn on the line
 -- between them. Where a drawing stays on a grid, its grid coordinates are some of the grid's.
-use Rattle.std.proofs.Common.{◌≡◌, ◌≢◌, ◌⊎◌, ⊎_elim, inl, inr, Bool, true, false, not, List, ℤ, pos, ◌-ℤ◌, ◌<ℤ◌, IsTrue, refl, ap, sym, subst, ◌∙◌}
+use Rattle.std.proofs.Common.{◌≡◌, ◌≢◌, ◌⊎◌, ⊎_elim, inl, inr, Bool, true, false, List, ℤ, pos, ◌-ℤ◌, ◌<ℤ◌, refl, ap, sym, subst, ◌∙◌}
 use Rattle.solid_model.specs.declared.cell.Axis.{Axis}
 use Rattle.solid_model.specs.declared.cell.Axis.TheVariants.{X, Y, Z}
 use Rattle.solid_model.specs.declared.cell.Cell.{Cell}

@@ -1,13 +1,11 @@
 -- The grid of a made solid's drawing.
-use Rattle.std.proofs.Common.{◌≡◌, inl, Bool, true, false, ℕ, ◌+◌, ◌*◌, ◌-◌, ◌<◌, ◌≤◌, List, [], ◌∷◌, drop, length, ℤ, pos, ◌≤ℤ◌, ◌<ℤ◌, refl, ap, sym, subst, ◌∙◌, arith}
+use Rattle.std.proofs.Common.{◌≡◌, inl, Bool, ℕ, ◌+◌, ◌*◌, ◌<◌, ◌≤◌, List, [], ◌∷◌, drop, length, ℤ, pos, ◌≤ℤ◌, ◌<ℤ◌, refl, ap, sym, subst, ◌∙◌, arith}
 use Rattle.std.proofs.lemmas.Int.{ints}
-use Rattle.std.proofs.lemmas.List.{length-map, length-drop}
+use Rattle.std.proofs.lemmas.List.{length-map}
 use Rattle.solid_model.specs.declared.cell.Axis.{Axis}
 use Rattle.solid_model.specs.declared.cell.Axis.TheVariants.{X, Y, Z}
-use Rattle.solid_model.specs.declared.cell.Cell.{Cell}
 use Rattle.solid_model.specs.declared.frame.View.{View}
-use Rattle.solid_model.specs.declared.frame.View.TheVariants.{Front, Top, Side}
-use Rattle.solid_model.specs.Cells.{coordinate, cell_before, is_full}
+use Rattle.solid_model.specs.Cells.{is_full}
 use Rattle.solid_model.specs.DrawnStyle.{solid_drawing}
 use Rattle.solid_model.specs.Frames.{frame_of, along}
 use Rattle.solid_model.specs.Grid.{Coordinates, IsDrawnAcross, AreGridCoordinates, IsUnionOf, grid_cell_count, gaps_along}
@@ -15,22 +13,21 @@ use Rattle.solid_model.specs.Lists.{Member, Each, Ascends}
 use Rattle.solid_model.specs.Panels.{StaysOnGrid, PanelsStyles, GridParts, coordinates_of, IsGridOf, IsGrid}
 use Rattle.solid_model.specs.PerAxis.{by_axis}
 use Rattle.solid_model.specs.Runs.{IsDrawing}
-use Rattle.solid_model.proofs.Lists.{member-from_map, each-at, each-weaker}
+use Rattle.solid_model.proofs.Lists.{member-from_map, each-at}
 use Rattle.solid_model.proofs.UnionDrawing.{union_on_grid}
-use Rattle.columns.specs.GridPanels.{HasCounts, ArePanels}
+use Rattle.columns.specs.GridPanels.{ArePanels}
 use Rattle.drawing_maker.specs.declared.piece.Piece.{Piece}
 use Rattle.drawing_maker.specs.declared.stops.Stop.{Stop}
-use Rattle.drawing_maker.specs.Pieces.{row_cells}
 use Rattle.drawing_maker.specs.Made.{generator_of, made_pieces, made_solid, IsMade}
-use Rattle.drawing_maker.specs.Rows.{row_stops, coordinates_of_stops, grid_over, cells_before, IsSmall, AreSmall}
+use Rattle.drawing_maker.specs.Rows.{row_stops, coordinates_of_stops, grid_over, cells_before, AreSmall}
 use Rattle.drawing_maker.proofs.Drawn.{first_by}
 use Rattle.drawing_maker.proofs.DrawnAcross.{drawn_across, coordinate_on_grid}
-use Rattle.drawing_maker.proofs.MadeRows.{StandFrom, made_stand, made_row, next_is_near, few_stops}
+use Rattle.drawing_maker.proofs.MadeRows.{made_stand, made_row, next_is_near, few_stops}
 use Rattle.drawing_maker.proofs.RowCoordinates.{differs_at_stop, row_coordinate}
 use Rattle.drawing_maker.proofs.RowDrawing.{drawing_on_grid}
 use Rattle.drawing_maker.proofs.RowStops.{ascends_row, stop_in_row, stop_in_piece}
 use Rattle.drawing_maker.proofs.RowUnion.{gaps_are, union_of_row, length-cells_before}
-use Rattle.drawing_maker.proofs.Rows.{end_of, IsRow, scaled}
+use Rattle.drawing_maker.proofs.Rows.{scaled}
 
 -- the pieces are small
 pub made_are_small : (n : ℕ) → AreSmall (made_pieces n)

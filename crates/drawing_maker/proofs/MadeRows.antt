@@ -1,6 +1,5 @@
 -- The pieces of a number stand in a row from 0 on, near to it, and have few stops.
-use Rattle.std.proofs.Common.{◌≡◌, inl, inr, Bool, true, false, ◌&&◌, not, nat_le, ℕ, zero, suc, ◌+◌, ◌*◌, ◌%◌, ◌<◌, ◌≤◌, List, [], ◌∷◌, length, length-append, if◌then◌else◌, refl, ap, sym, ◌∙◌, arith}
-use Rattle.std.specs.List.{range_with_len}
+use Rattle.std.proofs.Common.{◌≡◌, Bool, true, false, ◌&&◌, not, nat_le, ℕ, zero, suc, ◌+◌, ◌*◌, ◌%◌, ◌<◌, ◌≤◌, List, [], ◌∷◌, length, length-append, if◌then◌else◌, ap, arith}
 use Rattle.std.proofs.Math.Nat.{mul-le-mul}
 use Rattle.std.proofs.lemmas.List.FromFn.{length-map-range_with_len}
 use Rattle.std.proofs.lemmas.Nat.{mod_below}
@@ -13,9 +12,9 @@ use Rattle.drawing_maker.specs.declared.piece.Kind.TheVariants.{UnitCube, Hollow
 use Rattle.drawing_maker.specs.declared.piece.Piece.{Piece}
 use Rattle.drawing_maker.specs.Pieces.{side_of, next_origin}
 use Rattle.drawing_maker.specs.Made.{generator_of, kind_by, scale_by, has_eight_voids, later_pieces, made_pieces}
-use Rattle.drawing_maker.specs.Rows.{stop_after, piece_stops, row_stops, IsSmall, AreSmall}
+use Rattle.drawing_maker.specs.Rows.{stop_after, piece_stops, row_stops}
 use Rattle.drawing_maker.proofs.Drawn.{after_two, first_by, later_by}
-use Rattle.drawing_maker.proofs.Rows.{end_of, EndsBefore, IsRow}
+use Rattle.drawing_maker.proofs.Rows.{EndsBefore, IsRow}
 
 -- ---- one piece
 

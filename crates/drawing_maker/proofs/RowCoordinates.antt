@@ -1,7 +1,7 @@
 -- Each coordinate of a row of pieces is a grid coordinate of its drawing: some cell there differs from the one before it.
-use Rattle.std.proofs.Common.{◌≡◌, ◌≢◌, ⊎_elim, inl, inr, Bool, true, false, ◌&&◌, ◌||◌, ◌==◌, not, nat_lt, ℕ, zero, suc, ◌+◌, ◌*◌, ◌<◌, ◌≤◌, List, [], ◌∷◌, map, ℤ, pos, ◌-ℤ◌, ◌≤ℤ◌, ◌<ℤ◌, IsTrue, if◌then◌else◌, refl, ap, sym, subst, ◌∙◌, arith}
+use Rattle.std.proofs.Common.{◌≡◌, ◌≢◌, inl, inr, Bool, true, false, ◌&&◌, ◌||◌, ◌==◌, not, nat_lt, ℕ, zero, suc, ◌+◌, ◌*◌, ◌<◌, ◌≤◌, List, ℤ, pos, ◌-ℤ◌, ◌<ℤ◌, IsTrue, if◌then◌else◌, refl, ap, sym, subst, ◌∙◌, arith}
 use Rattle.std.specs.List.{range_with_len}
-use Rattle.std.proofs.lemmas.Bool.{false≢true, both_ways, and_parts, cases_lt, ltb-true}
+use Rattle.std.proofs.lemmas.Bool.{false≢true, and_parts, cases_lt, ltb-true}
 use Rattle.std.proofs.lemmas.Int.{ints}
 use Rattle.solid_model.specs.declared.cell.Axis.{Axis}
 use Rattle.solid_model.specs.declared.cell.Axis.TheVariants.{X, Y, Z}
@@ -20,9 +20,9 @@ use Rattle.drawing_maker.specs.Pieces.{Spot, side_of, is_void, row_cells}
 use Rattle.drawing_maker.specs.Rows.{row_stops, coordinates_of_stops}
 use Rattle.drawing_maker.proofs.DrawnAcross.{coordinate_between}
 use Rattle.drawing_maker.proofs.Members.{member-range}
-use Rattle.drawing_maker.proofs.Rows.{end_of, IsRow, Spans, LiesInPart, scaled, part_spans}
+use Rattle.drawing_maker.proofs.Rows.{IsRow, Spans, LiesInPart, scaled, part_spans}
 use Rattle.drawing_maker.proofs.RowStops.{stop_in_piece, stop_in_row}
-use Rattle.drawing_maker.proofs.Spots.{place_along, IsInside, LiesInSpot, empty_beside, full_in_spot}
+use Rattle.drawing_maker.proofs.Spots.{place_along, empty_beside, full_in_spot}
 
 -- ---- one place along an axis, another across it
 

@@ -1,21 +1,19 @@
 -- The drawing of a row of pieces that begins at 0 is a drawing, and the row's coordinates make its grid.
-use Rattle.std.proofs.Common.{◌≡◌, ◌≢◌, ⊎_elim, inl, inr, Bool, true, false, ℕ, ◌+◌, ◌*◌, ◌<◌, ◌≤◌, List, [], ◌∷◌, length, ℤ, pos, ◌+ℤ◌, ◌-ℤ◌, ◌≤ℤ◌, ◌<ℤ◌, refl, ap, sym, subst, ◌∙◌, arith}
+use Rattle.std.proofs.Common.{◌≢◌, ⊎_elim, Bool, true, false, List, ℤ, pos, ◌≤ℤ◌, ◌<ℤ◌, refl, arith}
 use Rattle.std.proofs.lemmas.Int.{ints}
 use Rattle.solid_model.specs.declared.cell.Axis.{Axis}
-use Rattle.solid_model.specs.declared.cell.Cell.{Cell}
 use Rattle.solid_model.specs.declared.frame.View.{View}
 use Rattle.solid_model.specs.declared.segment.Segment.{Segment}
 use Rattle.solid_model.specs.declared.segment.Style.{Style}
 use Rattle.solid_model.specs.declared.segment.Style.TheVariants.{Blank}
 use Rattle.solid_model.specs.Frames.{frame_of, along, across}
-use Rattle.solid_model.specs.Grid.{Coordinates, IsInSomeGap, IsDrawnAcross, AreGridCoordinates}
+use Rattle.solid_model.specs.Grid.{Coordinates, IsInSomeGap, IsDrawnAcross}
 use Rattle.solid_model.specs.Limits.{farthest_in_view}
 use Rattle.solid_model.specs.Lists.{Member, Ascends}
-use Rattle.solid_model.specs.Moved.{BeginsAt}
 use Rattle.solid_model.specs.Panels.{StaysOnGrid}
 use Rattle.solid_model.specs.Runs.{IsDrawing}
 use Rattle.solid_model.specs.Segments.{segment_at, far_right, far_up}
-use Rattle.solid_model.proofs.InGrid.{blank_or_drawn, gap_or_none, between_members}
+use Rattle.solid_model.proofs.InGrid.{gap_or_none, between_members}
 use Rattle.solid_model.proofs.SameOnGrid.{member_or_not}
 
 -- ---- drawings that stay on a grid

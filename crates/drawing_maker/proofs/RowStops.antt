@@ -1,5 +1,5 @@
 -- The stops of a row of pieces: they ascend, and what is kept before each lies in the gap that ends there.
-use Rattle.std.proofs.Common.{◌≡◌, ⊎_elim, inl, inr, Bool, true, ℕ, zero, suc, ◌+◌, ◌*◌, ◌-◌, ◌<◌, ◌≤◌, List, [], ◌∷◌, ◌++◌, map, drop, get_or, Option, Some, None, ℤ, pos, ◌≤ℤ◌, ◌<ℤ◌, int_lt, int_le, IsTrue, refl, ap, sym, ◌∙◌, arith}
+use Rattle.std.proofs.Common.{◌≡◌, ⊎_elim, inl, inr, ℕ, zero, suc, ◌+◌, ◌*◌, ◌<◌, ◌≤◌, List, [], ◌∷◌, ◌++◌, map, drop, get_or, Option, Some, None, ℤ, pos, ◌≤ℤ◌, ◌<ℤ◌, int_lt, int_le, IsTrue, refl, ap, sym, ◌∙◌, arith}
 use Rattle.std.specs.List.{range_with_len}
 use Rattle.std.proofs.lemmas.Bool.{false≢true, and_parts}
 use Rattle.std.proofs.lemmas.Int.{ints, by_lt_z}
@@ -116,5 +116,3 @@ pub told_in_gap : (ps : List Piece) → IsRow ps → (n : ℕ) (z : ℤ) → IsT
 told_in_gap [] row n z e = absurd (false≢true e)
 told_in_gap (p ∷ ps) row n z e =
     told_from p ps row (told_in_gap ps (row_behind p ps row)) (side_of p.kind) 0 (first_stop p) (omega arith) (omega arith) n z e
-
-

@@ -1,6 +1,5 @@
 -- The solid of a row of pieces is the union of the cells before its stops.
-use Rattle.std.proofs.Common.{◌≡◌, ◌≢◌, ◌⊎◌, ⊎_elim, inl, inr, Bool, true, false, ◌&&◌, ◌==◌, not, ℕ, ◌+◌, ◌*◌, ◌-◌, ◌<◌, List, ◌∷◌, map, drop, length, get_or, slice_index_or, Option, Some, None, ℤ, pos, IsTrue, refl, ap, sym, subst, ◌∙◌, arith}
-use Rattle.std.specs.List.{flat_map}
+use Rattle.std.proofs.Common.{◌≡◌, ◌≢◌, ◌⊎◌, ⊎_elim, inl, inr, Bool, true, false, ◌&&◌, ◌==◌, not, ℕ, ◌+◌, ◌*◌, ◌-◌, ◌<◌, List, drop, length, get_or, slice_index_or, Option, Some, None, ℤ, pos, IsTrue, refl, ap, sym, subst, ◌∙◌, arith}
 use Rattle.std.proofs.lemmas.Bool.{false_from_ne_true}
 use Rattle.std.proofs.lemmas.Bool.Decides.{eqb_tells}
 use Rattle.std.proofs.lemmas.Int.{ints}
@@ -20,12 +19,12 @@ use Rattle.drawing_maker.specs.declared.piece.Kind.TheVariants.{UnitCube, Hollow
 use Rattle.drawing_maker.specs.declared.piece.Piece.{Piece}
 use Rattle.drawing_maker.specs.declared.stops.Part.{Part}
 use Rattle.drawing_maker.specs.declared.stops.Stop.{Stop}
-use Rattle.drawing_maker.specs.Pieces.{Spot, side_of, is_void, row_cells}
+use Rattle.drawing_maker.specs.Pieces.{side_of, is_void, row_cells}
 use Rattle.drawing_maker.specs.Rows.{first_stop, stop_after, piece_stops, row_stops, coordinates_of_stops, is_full_where, is_full_before, cells_in_line, cells_in_layer, cells_before}
 use Rattle.drawing_maker.proofs.Members.{member-flat_map, member-range, length-equal_parts, get_or-equal_parts}
 use Rattle.drawing_maker.proofs.Rows.{end_of, IsRow, Spans, LiesInPart, part_spans, one_origin}
 use Rattle.drawing_maker.proofs.RowStops.{IsTold, before_at, ascends_row, told_in_gap}
-use Rattle.drawing_maker.proofs.Spots.{IsInside, LiesInSpot, Fills, filled_from_full, filled_spans, filled_by, full_in_spot}
+use Rattle.drawing_maker.proofs.Spots.{IsInside, LiesInSpot, filled_from_full, filled_spans, filled_by, full_in_spot}
 
 -- ---- the cells by their places in the list
 

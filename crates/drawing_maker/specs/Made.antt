@@ -1,5 +1,5 @@
 -- Made solids: a row of 14 pieces for each number, by the words of a generator (Pcg32, stream 54).
-use Rattle.std.specs.Prelude.{◌≡◌, ◌+◌, ◌%◌, ◌&&◌, ◌==◌, nat_le, Bool, true, false, not, ℕ, zero, suc, List, [], ◌∷◌, length, if◌then◌else◌}
+use Rattle.std.specs.Prelude.{◌≡◌, ◌+◌, ◌%◌, ◌&&◌, nat_le, Bool, true, false, not, ℕ, zero, suc, List, [], ◌∷◌, length, if◌then◌else◌}
 use Rattle.rand_pcg.specs.Lcg.{Lcg, started, increment_of}
 use Rattle.rand_pcg.specs.Pcg.{pcg32, multiplier_64}
 use Rattle.solid_model.specs.declared.cell.Cell.{Cell}

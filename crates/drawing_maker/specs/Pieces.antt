@@ -1,5 +1,5 @@
 -- Pieces of made solids: cubes that stand along the diagonal, some with voids, each enlarged.
-use Rattle.std.specs.Prelude.{◌+◌, ◌*◌, ◌%◌, ◌&&◌, ◌||◌, ◌==◌, Bool, true, false, not, ℕ, zero, suc, List, [], ◌∷◌, map, if◌then◌else◌}
+use Rattle.std.specs.Prelude.{◌+◌, ◌*◌, ◌&&◌, ◌||◌, ◌==◌, Bool, false, not, ℕ, List, map}
 use Rattle.std.specs.List.{filter, flat_map, range_with_len}
 use Rattle.solid_model.specs.declared.cell.Cell.{Cell}
 use Rattle.solid_model.specs.Cells.{cell_at}

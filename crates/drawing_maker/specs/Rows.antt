@@ -1,6 +1,6 @@
 -- The stops of a row of pieces, which are the same along each axis: the coordinates at which a part of a piece begins, or the
 -- piece ends.
-use Rattle.std.specs.Prelude.{◌+◌, ◌*◌, ◌≤◌, ◌&&◌, ◌==◌, Bool, false, not, ℕ, List, [], ◌∷◌, map, Option, Some, None, ℤ, pos}
+use Rattle.std.specs.Prelude.{◌+◌, ◌*◌, ◌≤◌, ◌&&◌, ◌==◌, Bool, false, not, ℕ, List, ◌∷◌, map, Option, Some, None, ℤ, pos}
 use Rattle.std.specs.List.{flat_map, range_with_len}
 use Rattle.solid_model.specs.Lists.{Each}
 use Rattle.solid_model.specs.Panels.{PanelsStyles, GridParts}

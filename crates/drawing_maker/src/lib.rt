@@ -6,7 +6,7 @@ mod making;
 mod piece;
 mod pieces;
 mod stops;
-// #[cfg(test)]
-// mod tests;
+#[cfg(test)]
+mod tests;
 
 pub use making::make;

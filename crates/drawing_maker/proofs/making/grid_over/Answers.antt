@@ -1,6 +1,6 @@
 -- The same coordinates along each axis.
 use Rattle.std.proofs.Common.{sym, subst, ◌∙◌}
-use Rattle.solid_model.specs.Panels.{GridParts, IsGrid}
+use Rattle.solid_model.specs.Panels.{IsGrid}
 use Rattle.drawing_maker.proofs.making.grid_over.Goals as goal
 
 pub new-requires : goal.new-requires

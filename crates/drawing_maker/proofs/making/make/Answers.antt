@@ -1,10 +1,8 @@
 -- The stops of the number's pieces, the cells between them and what those draw make the grid.
-use Rattle.std.proofs.Common.{drop, length, ap, sym, subst, ◌∙◌}
+use Rattle.std.proofs.Common.{drop, ap, sym, subst, ◌∙◌}
 use Rattle.std.proofs.lemmas.Result.{IfOk-from_err}
-use Rattle.solid_model.specs.PerAxis.{by_axis}
-use Rattle.columns.specs.GridPanels.{ArePanels}
 use Rattle.drawing_maker.specs.Made.{IsMade}
-use Rattle.drawing_maker.specs.Rows.{AreSmall, row_stops, cells_before, coordinates_of_stops}
+use Rattle.drawing_maker.specs.Rows.{AreSmall, row_stops, cells_before}
 use Rattle.drawing_maker.proofs.MadeGrid.{made_are_small, few_counts, some_stops, is_grid, is_made}
 use Rattle.drawing_maker.proofs.making.make.Goals as goal
 

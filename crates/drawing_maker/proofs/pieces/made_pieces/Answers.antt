@@ -1,5 +1,5 @@
 -- The first piece; one more; and all 14.
-use Rattle.std.proofs.Common.{◌≡◌, ◌+◌, ◌++◌, [], ◌∷◌, suc, sym, ap, ◌∙◌, arith, append-nil}
+use Rattle.std.proofs.Common.{◌++◌, [], ◌∷◌, suc, sym, ap, ◌∙◌, arith, append-nil}
 use Rattle.drawing_maker.proofs.Drawn.{first_drawn, one_more_drawn}
 use Rattle.drawing_maker.proofs.pieces.made_pieces.Goals as goal
 
@@ -17,7 +17,7 @@ loop-made-preserved c = (
       (c.loop-made.invariant.0 (suc more) (omega (arith, e))) c.draw_piece-piece.ensures.piece c.draw_piece-piece.ensures.next
       c.in_ok-push-2.ensures.items c.next_origin-origin-in-loop-made.ensures.origin c.is_still_alone-alone.ensures,
   (let same = ap (λ p. p.origin) c.draw_piece-piece.ensures.piece in
-   omega (arith, c.next_origin-origin-in-loop-made.ensures.near, same, c.loop-made.invariant.1)),
+      omega (arith, c.next_origin-origin-in-loop-made.ensures.near, same, c.loop-made.invariant.1)),
 )
 
 pub returns : goal.returns

@@ -1,5 +1,5 @@
 -- The stops so far.
-use Rattle.std.proofs.Common.{◌≡◌, ◌++◌, ◌∷◌, [], map}
+use Rattle.std.proofs.Common.{◌≡◌, ◌++◌, map}
 use Rattle.std.specs.List.{range_with_len}
 use Rattle.drawing_maker.specs.Rows.{stop_after}
 use Rattle.drawing_maker.proofs.stops.push_stops.Given as goal
