@@ -9,3 +9,4 @@ pub mod RowDrawing
 pub mod Drawn
 pub mod MadeRows
 pub mod MadeGrid
+pub mod MadeSolid
