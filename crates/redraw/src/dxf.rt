@@ -79,12 +79,12 @@ fn sheet_text(alloc: Global, sheet: &Sheet) -> Result<Vec<u8>, Memory>
 /// The drawing of the solid that consists of the chosen cells of a grid, as the text of a DXF file:
 /// a section of entities that has a line for each maximal run of visible, or of hidden, edges.
 ///
-/// A line lies on the layer of its view, which is FRONT, TOP or SIDE, and its linetype is CONTINUOUS
-/// where the run is visible and HIDDEN where it is hidden. Lines stand in order by view, FRONT, TOP,
-/// SIDE; in each view the level ones come first, by height and then start, and then the upright
-/// ones, by right coordinate and then start. Each goes from its lesser end to its greater one. The
-/// front view has the solid's own coordinates, x to the right and z upwards; the top view stands 10
-/// above all of the solid, the side view 10 to the right of it.
+/// A line lies on the layer of its view, which is FRONT, TOP or SIDE, and its linetype is
+/// CONTINUOUS where the run is visible and HIDDEN where it is hidden. Lines stand in order by view,
+/// FRONT, TOP, SIDE; in each view the level ones come first, by height and then start, and then the
+/// upright ones, by right coordinate and then start. Each goes from its lesser end to its greater
+/// one. The front view has the solid's own coordinates, x to the right and z upwards; the top view
+/// stands 10 above all of the solid, the side view 10 to the right of it.
 ///
 /// Cells are listed with z slowest and x fastest; one that isn't in the list counts as not chosen.
 /// An `Err` is out of memory.

@@ -5,7 +5,6 @@ ghost use Rattle.std.specs.Fmt.{signed_decimal};
 ghost use Rattle.std.specs.List.{flat_map};
 ghost use Rattle.solid_model.specs.Limits.{farthest_in_view};
 ghost use Rattle.solid_model.specs.Lists.{Each};
-ghost use Rattle.solid_model.specs.Runs.{ViewRuns, runs_along};
 ghost use Rattle.solid_model.specs.Segments.{along_of, across_of};
 ghost use Rattle.redraw.specs.Files.{run_line, view_lines};
 ghost use Rattle.redraw.specs.GridRuns.{IsNearRun, IsUpTo, IsNearPlace, runs_text};
