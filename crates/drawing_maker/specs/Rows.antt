@@ -49,7 +49,8 @@ grid_over stops panels = record {
 
 -- ---- cells
 
--- the cell that lies in these parts along x, y and z is full: all three are of one piece, and it isn't a void of that piece
+-- the cell that lies in these parts along x, y and z is full: all three are of one piece, which the origins tell, and it
+-- isn't a void of that piece
 abbrev pub is_full_part : Part → Part → Part → Bool
 is_full_part x y z = x.piece.origin == y.piece.origin
     && (y.piece.origin == z.piece.origin && not (is_void x.piece.kind (record { x = x.place; y = y.place; z = z.place })))

@@ -8,8 +8,8 @@ use crate::stops::{Part, Stop};
 use solid_model::Memory;
 use std::alloc::Global;
 
-/// The cell that lies in these parts along x, y and z is full: all three are of one piece, and it
-/// isn't a void of that piece.
+/// The cell that lies in these parts along x, y and z is full: all three are of one piece, which
+/// the origins tell, since no two begin at one coordinate, and it isn't a void of that piece.
 fn is_full_part(x: Part, y: Part, z: Part) -> bool
     ensures { result ≡ is_full_part x y z }
 {
@@ -58,8 +58,8 @@ fn cells_before(alloc: Global, stops: &[Stop]) -> Result<Vec<bool>, Memory>
     Ok(cells)
 }
 
-/// The cells between the stops along x, y and z, z slowest and x fastest: those before all stops but
-/// the first one; an Err is out of memory.
+/// The cells between the stops along x, y and z, z slowest and x fastest: those before all stops
+/// but the first one; an Err is out of memory.
 pub fn cells_between(alloc: Global, stops: &[Stop]) -> Result<Vec<bool>, Memory>
     requires { 1 ≤ length stops.now }
     ensures { IfOk result (λ cells. cells.items ≡ cells_before (drop 1 stops.now)) }

@@ -23,11 +23,12 @@ fn grid_over(alloc: Global, stops: &[Stop], panels: Panels) -> Result<Grid, Memo
     Ok(Grid::new(xs, ys, zs, panels))
 }
 
-/// A solid that is made from a number, by the words of PCG32 with stream 54: which cells of the grid
-/// of its drawing it fills, z slowest and x fastest, beside that grid. It is a row of 14 cubes along
-/// the diagonal, from (0, 0, 0) on, each behind a gap of 1: full cubes, cubes with a void in the
-/// middle, and one or two with eight voids, the first piece among them, each enlarged 1 to 9 times.
-/// An Err is out of memory.
+/// The grid of the drawing of a solid that is made from a number, by the words of PCG32 with stream
+/// 54, and which of the grid's cells it fills, z slowest and x fastest. The solid is a row of 14
+/// pieces along the diagonal, the first from (0, 0, 0) on and each other one behind a gap of 1:
+/// unit cubes, hollow cubes of side 3 with a void in the middle, and one or two cubes of side 5
+/// with eight voids, the first piece among them; each is enlarged by a scale from 1 to 9. An Err is
+/// out of memory.
 pub fn make(alloc: Global, n: u64) -> Result<(Grid, Vec<bool>), Memory>
     ensures { IfOk result (λ made. IsMade n made.0 made.1.items) }
 {

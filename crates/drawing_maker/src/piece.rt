@@ -3,7 +3,8 @@
 ghost use Rattle.std.specs.Prelude.{◌≡◌, ◌≤◌};
 ghost use Rattle.drawing_maker.specs.Pieces.{side_of, is_odd_place, is_void};
 
-/// The kind of a piece: a full cube, one with a single void in its middle, or one with eight voids.
+/// The kind of a piece: a full cube of side 1, one of side 3 with a void in its middle, or one of
+/// side 5 with eight voids.
 #[derive(Clone, Copy, Debug, PartialEq, Eq)]
 pub enum Kind {
     UnitCube,

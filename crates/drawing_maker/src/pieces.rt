@@ -39,7 +39,11 @@ fn scale_by(word: u32) -> u32
 /// The next piece behind the first one, by two words: its kind, then its scale.
 fn draw_piece(generator: &mut Lcg64Xsh32, alone: bool, origin: u32) -> Piece
     ensures piece { let kind = pcg32 generator.old in let scale = pcg32 kind.1 in
-        result ≡ record { kind = kind_by alone (kind.0 % 8); scale = scale_by scale.0; origin = origin } }
+        result ≡ record {
+          kind = kind_by alone (kind.0 % 8);
+          scale = scale_by scale.0;
+          origin = origin;
+        } }
     ensures next { generator.new ≡ (pcg32 (pcg32 generator.old).1).1 }
     ensures few { result.scale ≤ 9 }
 {

@@ -1,5 +1,5 @@
-//! The stops of a row of pieces: the coordinates along an axis at which a part of a piece begins, or
-//! the piece ends. A row is diagonal, so that they are the same along each axis.
+//! The stops of a row of pieces: the coordinates along an axis at which a part of a piece begins,
+//! or the piece ends. A row is diagonal, so that they are the same along each axis.
 
 ghost use Rattle.std.specs.Prelude.{◌≡◌, ◌≤◌, ◌+◌, ◌++◌, List, map, pos, IfOk, OnOk};
 ghost use Rattle.std.specs.List.{flat_map};

@@ -38,7 +38,8 @@ fn full_cells(cells: &[bool]) -> usize {
     cells.iter().filter(|cell| **cell).count()
 }
 
-/// How far its solid reaches, and how many cells its grid has and the solid fills, as a row has them.
+/// How far its solid reaches, and how many cells its grid has and the solid fills, as a row has
+/// them.
 fn told_cells(alloc: Global, n: u64) -> Result<String, Fail> {
     let (grid, cells) = make(alloc, n)?;
     let mut told = String::new(alloc);
