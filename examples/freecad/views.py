@@ -21,7 +21,8 @@ from typing import NamedTuple
 
 from cad import FreeCAD, Part, Refused, TechDraw, is_shape_file, load, run
 
-# The direction from the part to the viewer, and what the two coordinates that TechDraw answers are to the right and upwards.
+# The direction from the part to the viewer; and, as a box with three different sides shows, what is to the right and upwards
+# in the two coordinates that TechDraw answers.
 VIEWS: dict[str, tuple[tuple[int, int, int], Callable[[float, float], tuple[float, float]]]] = {
     "FRONT": ((0, -1, 0), lambda u, v: (v, -u)),
     "TOP": ((0, 0, 1), lambda u, v: (u, v)),
