@@ -12,3 +12,4 @@ pub mod MadeGrid
 pub mod MadeSolid
 pub mod Parts
 pub mod DemandedPieces
+pub mod CountsOfRows
