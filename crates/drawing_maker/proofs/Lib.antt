@@ -13,3 +13,4 @@ pub mod MadeSolid
 pub mod Parts
 pub mod DemandedPieces
 pub mod CountsOfRows
+pub mod DemandedLines
