@@ -14,3 +14,4 @@ pub mod Parts
 pub mod DemandedPieces
 pub mod CountsOfRows
 pub mod DemandedLines
+pub mod DemandedPlaces
