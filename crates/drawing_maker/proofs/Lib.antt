@@ -15,3 +15,4 @@ pub mod DemandedPieces
 pub mod CountsOfRows
 pub mod DemandedLines
 pub mod DemandedPlaces
+pub mod DemandedBlocks
