@@ -16,3 +16,4 @@ pub mod CountsOfRows
 pub mod DemandedLines
 pub mod DemandedPlaces
 pub mod DemandedBlocks
+pub mod DemandedColumns
