@@ -18,7 +18,6 @@ use Rattle.solid_model.specs.Lists.{Member}
 use Rattle.solid_model.specs.Panels.{coordinates_of, IsGridOf}
 use Rattle.solid_model.specs.PerAxis.{numbers_of}
 use Rattle.solid_model.specs.Wire.{grid_sizes}
-use Rattle.solid_model.proofs.Lists.{member-append_right}
 use Rattle.solid_model.proofs.Views.{across_along, views_are_frames, HasCoordinates, coordinates_at, runs_forward, stands_forward, forward_cell}
 use Rattle.drawing_maker.specs.declared.piece.Piece.{Piece}
 use Rattle.drawing_maker.specs.declared.stops.Part.{Part}
@@ -29,7 +28,7 @@ use Rattle.drawing_maker.specs.Rows.{row_stops, coordinates_of_stops}
 use Rattle.drawing_maker.proofs.DemandedBlocks.{block_is_told, block_of_spot, no_block_between, blocks_before_are}
 use Rattle.drawing_maker.proofs.DemandedLines.{AreKnownEqual}
 use Rattle.drawing_maker.proofs.DemandedPieces.{spot_in}
-use Rattle.drawing_maker.proofs.DemandedPlaces.{around, stops_before, part_on, part_here, IsOff, HoldsPart, part_or_off}
+use Rattle.drawing_maker.proofs.DemandedPlaces.{around, is_member, stops_before, part_on, part_here, IsOff, HoldsPart, part_or_off}
 use Rattle.drawing_maker.proofs.Rows.{IsRow, Spans, LiesInPart}
 use Rattle.drawing_maker.proofs.Spots.{place_along, IsInside, LiesInSpot, full_in_spot}
 
@@ -85,11 +84,8 @@ by_view P Side right up k first second third Z = second
 
 module _ (before : List Piece) (p : Piece) (behind : List Piece) (q : ProblemParts) (is : IsProblemOf (around before p behind) q)
     (v : View) (right : ℕ) (in_piece : right < side_of p.kind) where
-  abbrev pub row_around : List Piece
+  abbrev row_around : List Piece
   row_around = around before p behind
-
-  pub is_member : Member row_around p
-  is_member = member-append_right before (p ∷ behind) p (inl refl)
 
   -- the place of the column's cells to the right
   abbrev pub right_place : ℕ
@@ -175,4 +171,4 @@ module _ (before : List Piece) (p : Piece) (behind : List Piece) (q : ProblemPar
     known_equal j i value says also k = ⊎_elim {C = (value : Bool) × (known_there j k ≡ Some value) × (known_there i k ≡ Some value)}
         (λ h. (value, says k h.place h.few h.is, also k h.place h.few h.is))
         (λ off. (false, ap (known_in known) (no_block_away j k off), ap (known_in known) (no_block_away i k off)))
-        (part_or_off row_around is.row p is_member (depth k))
+        (part_or_off row_around is.row p (is_member before p behind) (depth k))

@@ -36,6 +36,9 @@ module _ (before : List Piece) (p : Piece) (behind : List Piece) where
   abbrev pub around : List Piece
   around = before ++ p ∷ behind
 
+  pub is_member : Member around p
+  is_member = member-append_right before (p ∷ behind) p (inl refl)
+
   -- how many stops stand before the piece
   abbrev pub stops_before : ℕ
   stops_before = length (row_stops before)

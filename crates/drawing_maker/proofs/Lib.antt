@@ -17,3 +17,4 @@ pub mod DemandedLines
 pub mod DemandedPlaces
 pub mod DemandedBlocks
 pub mod DemandedColumns
+pub mod DemandedCells
