@@ -1,7 +1,8 @@
 -- The cells of a row's solid beside a line over one of its pieces, and so which blocks of the piece a live prefix can't decide:
 -- that of its full cells as empty, or all voids of a column as full.
-use Rattle.std.proofs.Common.{◌≡◌, ◌≢◌, inl, Bool, true, false, not, ◌==◌, ℕ, suc, ◌+◌, ◌*◌, ◌-◌, ◌<◌, ◌≤◌, List, ◌∷◌, ◌++◌, length, Option, Some, ℤ, pos, ◌-ℤ◌, ◌≤ℤ◌, ◌<ℤ◌, refl, ap, sym, subst, ◌∙◌, arith}
+use Rattle.std.proofs.Common.{◌≡◌, ◌≢◌, inl, Bool, true, false, not, ◌==◌, ℕ, suc, ◌+◌, ◌*◌, ◌-◌, ◌<◌, ◌≤◌, List, ◌∷◌, ◌++◌, length, Option, Some, None, if◌then◌else◌, ℤ, pos, ◌-ℤ◌, ◌≤ℤ◌, ◌<ℤ◌, refl, ap, sym, subst, ◌∙◌, arith}
 use Rattle.std.specs.List.{list_all, range_with_len}
+use Rattle.std.proofs.lemmas.Bool.{both_ways}
 use Rattle.std.proofs.lemmas.Int.{ints}
 use Rattle.std.proofs.lemmas.List.{length-map, length-drop}
 use Rattle.solid_model.specs.declared.cell.Axis.{Axis}
@@ -17,10 +18,11 @@ use Rattle.solid_model.specs.Wire.{grid_sizes}
 use Rattle.solid_model.proofs.Gaps.{member}
 use Rattle.solid_model.proofs.Lists.{each-at}
 use Rattle.solid_model.proofs.Views.{across_along, views_are_frames, HasCoordinates, coordinates_at, runs_forward, stands_forward, forward_cell, cell_on_twice}
+use Rattle.drawing_maker.specs.declared.piece.Kind.{Kind}
 use Rattle.drawing_maker.specs.declared.piece.Piece.{Piece}
 use Rattle.drawing_maker.specs.declared.stops.Stop.{Stop}
-use Rattle.drawing_maker.specs.Pieces.{side_of, is_void, row_cells}
-use Rattle.drawing_maker.specs.RowBlocks.{spot_block}
+use Rattle.drawing_maker.specs.Pieces.{Spot, side_of, is_void, row_cells}
+use Rattle.drawing_maker.specs.RowBlocks.{void_spots, spot_place, spot_block, row_block_count}
 use Rattle.drawing_maker.specs.Rows.{row_stops, coordinates_of_stops}
 use Rattle.drawing_maker.proofs.DemandedColumns.{IsProblemOf, right_axis, up_axis, away_axis, by_view, right_place, offset, Says, says_by_spots, says_off, known_equal, sizes_are}
 use Rattle.drawing_maker.proofs.DemandedLines.{not_known_equal, first_segment}
@@ -28,6 +30,10 @@ use Rattle.drawing_maker.proofs.DemandedPieces.{spot_in}
 use Rattle.drawing_maker.proofs.DemandedPlaces.{around, is_member, stops_before, part_on, IsOff, coordinate_here, long_enough, none_behind}
 use Rattle.drawing_maker.proofs.Rows.{end_of, IsRow, Spans, LiesInPart, part_spans}
 use Rattle.drawing_maker.proofs.Spots.{IsInside, LiesInSpot, full_in_spot, empty_beside}
+
+-- a spot that is no void is of the first block
+first_block : (kind : Kind) (c : Spot) → is_void kind c ≡ false → spot_block kind c ≡ 0
+first_block kind c e = ap (λ b. if b then 1 + spot_place (void_spots kind) c else 0) e
 
 module _ (before : List Piece) (p : Piece) (behind : List Piece) (q : ProblemParts) (is : IsProblemOf (around before p behind) q)
     (v : View) (right up : ℕ) (in_right : right < side_of p.kind) (in_up : up < side_of p.kind) where
@@ -131,3 +137,32 @@ module _ (before : List Piece) (p : Piece) (behind : List Piece) (q : ProblemPar
         not_known_equal solid q is.grid v line_place cell_place on_line in_row (depth_of m) differ prefix live
         (known_equal before p behind q is v right in_right (said_by prefix) (pos line_place) (pos line_place -ℤ pos 1) value after
         (subst (λ j. HasValue j value) e prior))
+
+    -- what it says of the first block of the piece
+    says_first : (place m : ℕ) (value : Bool) → said_by prefix (row_block_count before + 0) ≡ Some value → is_void p.kind (spot_in v right place m) ≡ false
+        → said_by prefix (row_block_count before + spot_block p.kind (spot_in v right place m)) ≡ Some value
+    says_first place m value said e = ap (λ n. said_by prefix (row_block_count before + n)) (first_block p.kind (spot_in v right place m) e) ∙ said
+
+    -- the last column of the piece, in which no void lies: the first block isn't empty
+    pub first_not_empty : suc up ≡ side_of p.kind → ((m : ℕ) → m < side_of p.kind → is_void p.kind (spot_in v right up m) ≡ false)
+        → said_by prefix (row_block_count before + 0) ≡ Some false → ⊥
+    first_not_empty last none said =
+        let few : 0 < side_of p.kind = omega arith in
+        let full = unit_full (line -ℤ pos 1) up 0 in_up few before_line ∙ ap not (none 0 few) in
+        let off : part_on row_around (pos line_place) ≡ None = ap (λ n. part_on row_around (pos (stops_before before p behind + n))) last ∙ none_behind before p behind in
+        apart 0 (λ e. both_ways (is_full solid (unit_cell line 0)) (empty_beyond last 0) (e ∙ full)) false
+        (says_off before p behind q is v right in_right (said_by prefix) (pos line_place) (subst (IsOff p) (sym off) tt))
+        (says_by_spots before p behind q is v right in_right (said_by prefix) up false in_up (λ m l. says_first up m false said (none m l)))
+
+    -- a column with a void, beside one without: the blocks of the first one aren't all full
+    pub voids_not_full : suc up < side_of p.kind → is_void p.kind (spot_in v right up 1) ≡ true
+        → ((m : ℕ) → m < side_of p.kind → is_void p.kind (spot_in v right (suc up) m) ≡ false)
+        → said_by prefix (row_block_count before + 0) ≡ Some true
+        → ((m : ℕ) → m < side_of p.kind → said_by prefix (row_block_count before + spot_block p.kind (spot_in v right up m)) ≡ Some true) → ⊥
+    voids_not_full within void none said each =
+        let few : 1 < side_of p.kind = omega arith in
+        let empty = unit_full (line -ℤ pos 1) up 1 in_up few before_line ∙ ap not void in
+        let full = unit_full line (suc up) 1 within few at_line ∙ ap not (none 1 few) in
+        apart 1 (λ e. both_ways (is_full solid (unit_cell (line -ℤ pos 1) 1)) empty (sym e ∙ full)) true
+        (says_by_spots before p behind q is v right in_right (said_by prefix) (suc up) true within (λ m l. says_first (suc up) m true said (none m l)))
+        (says_by_spots before p behind q is v right in_right (said_by prefix) up true in_up each)
