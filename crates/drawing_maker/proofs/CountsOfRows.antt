@@ -1,6 +1,6 @@
 -- How many live prefixes the rules of a row of pieces allow: of the pieces that are made few, since at most two of them are cubes
 -- with eight voids.
-use Rattle.std.proofs.Common.{◌≡◌, Bool, true, false, ◌&&◌, not, nat_le, ℕ, zero, suc, ◌+◌, ◌*◌, ◌%◌, ◌≤◌, List, [], ◌∷◌, map, if◌then◌else◌, true≢false, refl, ap, sym, subst, ◌∙◌, arith}
+use Rattle.std.proofs.Common.{◌≡◌, Bool, true, false, ◌&&◌, not, nat_le, ℕ, zero, suc, ◌+◌, ◌*◌, ◌%◌, ◌≤◌, List, ◌∷◌, map, if◌then◌else◌, true≢false, refl, ap, sym, subst, ◌∙◌, arith}
 use Rattle.rand_pcg.specs.Lcg.{Lcg}
 use Rattle.rand_pcg.specs.Pcg.{pcg32}
 use Rattle.drawing_maker.specs.declared.piece.Kind.{Kind}

@@ -1,5 +1,5 @@
 -- The block of a cell of a row's grid, by what the row holds in its three gaps.
-use Rattle.std.proofs.Common.{◌≡◌, ◌≢◌, ◌⊎◌, ⊎_elim, inl, inr, Bool, true, false, ◌&&◌, ◌==◌, nat_lt, ℕ, zero, suc, ◌+◌, ◌*◌, ◌-◌, ◌<◌, ◌≤◌, List, [], ◌∷◌, ◌++◌, length, length-append, map, drop, get_or, slice_index_or, Option, Some, None, ℤ, pos, negsuc, if◌then◌else◌, refl, ap, sym, subst, ◌∙◌, arith}
+use Rattle.std.proofs.Common.{◌≡◌, ◌≢◌, ◌⊎◌, ⊎_elim, inl, inr, Bool, true, false, ◌&&◌, ◌==◌, ℕ, zero, suc, ◌+◌, ◌*◌, ◌<◌, ◌≤◌, List, [], ◌∷◌, ◌++◌, length, map, drop, get_or, Option, Some, None, ℤ, pos, negsuc, if◌then◌else◌, refl, ap, sym, subst, ◌∙◌, arith}
 use Rattle.std.specs.List.{flat_map}
 use Rattle.std.proofs.lemmas.Bool.{ltb-true, ltb-false, lt-ltb, le-ltb, false≢true}
 use Rattle.std.proofs.lemmas.Bool.Decides.{eqb_tells}
@@ -9,10 +9,9 @@ use Rattle.solid_model.specs.declared.cell.Axis.{Axis}
 use Rattle.solid_model.specs.declared.cell.Axis.TheVariants.{X, Y, Z}
 use Rattle.solid_model.specs.declared.cell.Cell.{Cell}
 use Rattle.solid_model.specs.Blocks.{BlockNumbers, block_at}
-use Rattle.solid_model.specs.Cells.{coordinate}
-use Rattle.solid_model.specs.Lists.{Member, Each}
+use Rattle.solid_model.specs.Lists.{Each}
 use Rattle.solid_model.specs.PerAxis.{numbers_of}
-use Rattle.solid_model.specs.Rooms.{Sizes, is_below, place_of_number, is_below}
+use Rattle.solid_model.specs.Rooms.{is_below, place_of_number, is_below}
 use Rattle.solid_model.proofs.Lists.{each-at, each-weaker, member-append_right}
 use Rattle.solid_model.proofs.Unions.{within_product}
 use Rattle.drawing_maker.specs.declared.piece.Piece.{Piece}
@@ -24,7 +23,6 @@ use Rattle.drawing_maker.specs.Rows.{row_stops}
 use Rattle.drawing_maker.proofs.DemandedPlaces.{no_stop, part_on, IsOff}
 use Rattle.drawing_maker.proofs.Members.{length-equal_parts, get_or-equal_parts}
 use Rattle.drawing_maker.proofs.Rows.{IsRow, row_behind, EndsBefore}
-use Rattle.drawing_maker.proofs.Spots.{place_along}
 
 -- ---- the list of all cells' blocks
 

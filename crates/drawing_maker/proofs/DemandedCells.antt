@@ -1,16 +1,14 @@
 -- The cells of a row's solid beside a line over one of its pieces, and so which blocks of the piece a live prefix can't decide:
 -- that of its full cells as empty, or all voids of a column as full.
-use Rattle.std.proofs.Common.{◌≡◌, ◌≢◌, inl, Bool, true, false, not, ◌==◌, ℕ, suc, ◌+◌, ◌*◌, ◌-◌, ◌<◌, ◌≤◌, List, ◌∷◌, ◌++◌, length, Option, Some, None, if◌then◌else◌, ℤ, pos, ◌-ℤ◌, ◌≤ℤ◌, ◌<ℤ◌, refl, ap, sym, subst, ◌∙◌, arith}
-use Rattle.std.specs.List.{list_all, range_with_len}
+use Rattle.std.proofs.Common.{◌≡◌, ◌≢◌, Bool, true, false, not, ℕ, suc, ◌+◌, ◌*◌, ◌<◌, List, length, Some, None, if◌then◌else◌, ℤ, pos, ◌-ℤ◌, ap, sym, subst, ◌∙◌, arith}
 use Rattle.std.proofs.lemmas.Bool.{both_ways}
 use Rattle.std.proofs.lemmas.Int.{ints}
 use Rattle.std.proofs.lemmas.List.{length-map, length-drop}
-use Rattle.solid_model.specs.declared.cell.Axis.{Axis}
 use Rattle.solid_model.specs.declared.cell.Cell.{Cell}
 use Rattle.solid_model.specs.declared.frame.View.{View}
 use Rattle.solid_model.specs.Blocks.{ProblemParts}
 use Rattle.solid_model.specs.Cells.{coordinate, is_full}
-use Rattle.solid_model.specs.Columns.{cell_in, column_after, column_before}
+use Rattle.solid_model.specs.Columns.{cell_in}
 use Rattle.solid_model.specs.Demands.{said_by, IsLive}
 use Rattle.solid_model.specs.Frames.{frame_of, along, across, cell_on}
 use Rattle.solid_model.specs.Panels.{coordinates_of}
@@ -23,13 +21,13 @@ use Rattle.drawing_maker.specs.declared.piece.Piece.{Piece}
 use Rattle.drawing_maker.specs.declared.stops.Stop.{Stop}
 use Rattle.drawing_maker.specs.Pieces.{Spot, side_of, is_void, row_cells}
 use Rattle.drawing_maker.specs.RowBlocks.{void_spots, spot_place, spot_block, row_block_count}
-use Rattle.drawing_maker.specs.Rows.{row_stops, coordinates_of_stops}
-use Rattle.drawing_maker.proofs.DemandedColumns.{IsProblemOf, right_axis, up_axis, away_axis, by_view, right_place, offset, Says, says_by_spots, says_off, known_equal, sizes_are}
-use Rattle.drawing_maker.proofs.DemandedLines.{not_known_equal, first_segment}
+use Rattle.drawing_maker.specs.Rows.{row_stops}
+use Rattle.drawing_maker.proofs.DemandedColumns.{IsProblemOf, right_axis, up_axis, away_axis, by_view, Says, says_by_spots, says_off, known_equal, sizes_are}
+use Rattle.drawing_maker.proofs.DemandedLines.{not_known_equal}
 use Rattle.drawing_maker.proofs.DemandedPieces.{spot_in}
 use Rattle.drawing_maker.proofs.DemandedPlaces.{around, is_member, stops_before, part_on, IsOff, coordinate_here, long_enough, none_behind}
-use Rattle.drawing_maker.proofs.Rows.{end_of, IsRow, Spans, LiesInPart, part_spans}
-use Rattle.drawing_maker.proofs.Spots.{IsInside, LiesInSpot, full_in_spot, empty_beside}
+use Rattle.drawing_maker.proofs.Rows.{Spans, LiesInPart, part_spans}
+use Rattle.drawing_maker.proofs.Spots.{full_in_spot, empty_beside}
 
 -- a spot that is no void is of the first block
 first_block : (kind : Kind) (c : Spot) → is_void kind c ≡ false → spot_block kind c ≡ 0

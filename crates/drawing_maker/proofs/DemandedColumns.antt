@@ -1,6 +1,5 @@
 -- The columns beside a line over a piece of a row: the blocks that they go through, and the cells of the solid itself.
-use Rattle.std.proofs.Common.{◌≡◌, ◌≢◌, ⊎_elim, inl, inr, Bool, true, false, not, ℕ, suc, ◌+◌, ◌*◌, ◌-◌, ◌<◌, ◌≤◌, List, ◌∷◌, ◌++◌, length, drop, Option, Some, None, if◌then◌else◌, ℤ, pos, ◌-ℤ◌, ◌≤ℤ◌, ◌<ℤ◌, IsTrue, refl, ap, sym, subst, ◌∙◌, arith}
-use Rattle.std.proofs.lemmas.Int.{ints}
+use Rattle.std.proofs.Common.{◌≡◌, ⊎_elim, Bool, true, false, ℕ, ◌+◌, ◌-◌, ◌<◌, List, length, drop, Option, Some, None, if◌then◌else◌, ℤ, pos, ◌-ℤ◌, ap, sym, subst, ◌∙◌}
 use Rattle.std.proofs.lemmas.List.{length-map, length-drop}
 use Rattle.solid_model.specs.declared.cell.Axis.{Axis}
 use Rattle.solid_model.specs.declared.cell.Axis.TheVariants.{X, Y, Z}
@@ -9,28 +8,25 @@ use Rattle.solid_model.specs.declared.frame.Direction.{Direction}
 use Rattle.solid_model.specs.declared.frame.View.{View}
 use Rattle.solid_model.specs.declared.frame.View.TheVariants.{Front, Top, Side}
 use Rattle.solid_model.specs.Blocks.{ProblemParts, IsBlocksOf, block_at}
-use Rattle.solid_model.specs.Cells.{coordinate, is_full}
-use Rattle.solid_model.specs.Columns.{cell_in}
+use Rattle.solid_model.specs.Cells.{coordinate}
 use Rattle.solid_model.specs.Demands.{known_cell, known_in, coordinate_on, box_cell_in}
 use Rattle.solid_model.specs.DrawnStyle.{solid_drawing}
-use Rattle.solid_model.specs.Frames.{frame_of, along, across, cell_on}
-use Rattle.solid_model.specs.Lists.{Member}
+use Rattle.solid_model.specs.Frames.{frame_of, along, across}
 use Rattle.solid_model.specs.Panels.{coordinates_of, IsGridOf}
-use Rattle.solid_model.specs.PerAxis.{numbers_of}
 use Rattle.solid_model.specs.Wire.{grid_sizes}
-use Rattle.solid_model.proofs.Views.{across_along, views_are_frames, HasCoordinates, coordinates_at, runs_forward, stands_forward, forward_cell}
+use Rattle.solid_model.proofs.Views.{across_along, views_are_frames, HasCoordinates, coordinates_at, runs_forward, stands_forward}
 use Rattle.drawing_maker.specs.declared.piece.Piece.{Piece}
 use Rattle.drawing_maker.specs.declared.stops.Part.{Part}
 use Rattle.drawing_maker.specs.declared.stops.Stop.{Stop}
-use Rattle.drawing_maker.specs.Pieces.{Spot, side_of, is_void, row_cells}
-use Rattle.drawing_maker.specs.RowBlocks.{spot_block, blocks_before, row_block_count, block_where, blocks_in_row}
+use Rattle.drawing_maker.specs.Pieces.{side_of, row_cells}
+use Rattle.drawing_maker.specs.RowBlocks.{spot_block, row_block_count, block_where, blocks_in_row}
 use Rattle.drawing_maker.specs.Rows.{row_stops, coordinates_of_stops}
 use Rattle.drawing_maker.proofs.DemandedBlocks.{block_is_told, block_of_spot, no_block_between, blocks_before_are}
 use Rattle.drawing_maker.proofs.DemandedLines.{AreKnownEqual}
 use Rattle.drawing_maker.proofs.DemandedPieces.{spot_in}
-use Rattle.drawing_maker.proofs.DemandedPlaces.{around, is_member, stops_before, part_on, part_here, IsOff, HoldsPart, part_or_off}
-use Rattle.drawing_maker.proofs.Rows.{IsRow, Spans, LiesInPart}
-use Rattle.drawing_maker.proofs.Spots.{place_along, IsInside, LiesInSpot, full_in_spot}
+use Rattle.drawing_maker.proofs.DemandedPlaces.{around, is_member, stops_before, part_on, part_here, IsOff, part_or_off}
+use Rattle.drawing_maker.proofs.Rows.{IsRow}
+use Rattle.drawing_maker.proofs.Spots.{place_along}
 
 -- ---- the problem of a row
 

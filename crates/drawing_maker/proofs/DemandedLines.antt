@@ -1,6 +1,6 @@
 -- A line of a solid's own grid can't be met where the solid's columns beside it differ, and what is known of the two columns makes
 -- them equal.
-use Rattle.std.proofs.Common.{◌≡◌, ◌≢◌, ◌↔◌, Bool, true, false, nat_lt, ℕ, suc, ◌<◌, List, length, ℤ, pos, ◌-ℤ◌, ◌<ℤ◌, Option, Some, IsTrue, sym, subst, ◌∙◌, arith}
+use Rattle.std.proofs.Common.{◌≡◌, ◌≢◌, Bool, false, nat_lt, ℕ, suc, ◌<◌, List, length, ℤ, Option, Some, sym, subst, ◌∙◌, arith}
 use Rattle.std.proofs.lemmas.Bool.{and_from, lt-ltb}
 use Rattle.solid_model.specs.declared.cell.Cell.{Cell}
 use Rattle.solid_model.specs.declared.frame.View.{View}
@@ -11,7 +11,7 @@ use Rattle.solid_model.specs.declared.segment.Style.TheVariants.{Blank, Dashed, 
 use Rattle.solid_model.specs.Blocks.{ProblemParts}
 use Rattle.solid_model.specs.Cells.{is_full}
 use Rattle.solid_model.specs.Columns.{column_after, column_before, IsFirstFull, HaveSameFirstFull, ColumnsDraw}
-use Rattle.solid_model.specs.Demands.{line_style, said_by, known_cell, known_after, known_before, AgreesWith, CanDraw, IsLive}
+use Rattle.solid_model.specs.Demands.{line_style, said_by, known_cell, known_after, known_before, CanDraw, IsLive}
 use Rattle.solid_model.specs.Draws.{Draws}
 use Rattle.solid_model.specs.DrawnStyle.{solid_drawing, drawn_style}
 use Rattle.solid_model.specs.Frames.{frame_of}

@@ -1,6 +1,6 @@
 -- Which values the blocks of a piece may have in a live prefix that decides all of them: the block of its full cells is full, and
 -- of the voids that lie behind one another in a view not all are full.
-use Rattle.std.proofs.Common.{◌≡◌, Bool, true, false, ◌&&◌, ◌||◌, ◌==◌, not, nat_lt, inl, inr, ℕ, suc, ◌+◌, ◌-◌, ◌<◌, List, [], ◌∷◌, map, get_or, IsTrue, refl, ap, subst, ◌∙◌, arith}
+use Rattle.std.proofs.Common.{◌≡◌, Bool, true, false, ◌&&◌, not, nat_lt, inl, inr, ℕ, suc, ◌-◌, ◌<◌, List, [], ◌∷◌, map, get_or, IsTrue, refl, ap, subst, ◌∙◌, arith}
 use Rattle.std.proofs.lemmas.Bool.{and_parts, and_from, not-true, ltb-true}
 use Rattle.std.specs.List.{list_all, flat_map, range_with_len}
 use Rattle.solid_model.specs.Lists.{Member}

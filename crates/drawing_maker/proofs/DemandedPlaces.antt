@@ -1,13 +1,13 @@
 -- The gaps of a row of pieces along an axis: where those of one piece stand, and which part each one holds.
-use Rattle.std.proofs.Common.{◌≡◌, ◌≢◌, ◌⊎◌, ⊎_elim, inl, inr, Bool, true, false, ◌==◌, ℕ, zero, suc, ◌+◌, ◌*◌, ◌<◌, ◌≤◌, List, [], ◌∷◌, ◌++◌, length, length-append, map, drop, get_or, Option, Some, None, ℤ, pos, negsuc, refl, ap, sym, subst, ◌∙◌, arith}
-use Rattle.std.specs.List.{flat_map, range_with_len}
+use Rattle.std.proofs.Common.{◌≡◌, ◌≢◌, ◌⊎◌, ⊎_elim, inl, inr, ℕ, zero, suc, ◌+◌, ◌*◌, ◌<◌, ◌≤◌, List, [], ◌∷◌, ◌++◌, length, length-append, map, get_or, Option, Some, None, ℤ, pos, negsuc, refl, ap, sym, subst, ◌∙◌, arith}
+use Rattle.std.specs.List.{range_with_len}
 use Rattle.std.proofs.lemmas.Bool.Decides.{eqb_tells}
 use Rattle.std.proofs.lemmas.Grind.{flat_map-append, get_or_after_one}
 use Rattle.std.proofs.lemmas.List.{length-map, get_or-map, get_or_append_left, get_or-append-add}
 use Rattle.std.proofs.lemmas.List.FromFn.{length-map-range_with_len}
 use Rattle.solid_model.specs.Lists.{Member, Each}
 use Rattle.solid_model.proofs.Gaps.{member}
-use Rattle.solid_model.proofs.Lists.{member-append_right, member-from_map, each-from, each-at}
+use Rattle.solid_model.proofs.Lists.{member-append_right, member-from_map, each-from}
 use Rattle.drawing_maker.specs.declared.piece.Piece.{Piece}
 use Rattle.drawing_maker.specs.declared.stops.Part.{Part}
 use Rattle.drawing_maker.specs.declared.stops.Stop.{Stop}
@@ -54,8 +54,13 @@ module _ (before : List Piece) (p : Piece) (behind : List Piece) where
 
   -- how many there are from the piece on
   pub long_enough : stops_before + side_of p.kind < length (row_stops around)
-  long_enough = omega (arith, ap length stops_split, length-append (row_stops before) (first_stop p ∷ later_stops),
-      length-append (map (stop_after p) (range_with_len 0 (side_of p.kind))) (row_stops behind), length-map-range_with_len (stop_after p) 0 (side_of p.kind))
+  long_enough = omega (
+    arith,
+    ap length stops_split,
+    length-append (row_stops before) (first_stop p ∷ later_stops),
+    length-append (map (stop_after p) (range_with_len 0 (side_of p.kind))) (row_stops behind),
+    length-map-range_with_len (stop_after p) 0 (side_of p.kind),
+  )
 
   get_or-range : (n a k : ℕ) → k < n → get_or (range_with_len a n) k 0 ≡ a + k
   get_or-range zero a k l = absurd (omega arith)

@@ -18,4 +18,4 @@ pub mod DemandedPlaces
 pub mod DemandedBlocks
 pub mod DemandedColumns
 pub mod DemandedCells
-pub mod FewLive
+pub mod CountsOfLive

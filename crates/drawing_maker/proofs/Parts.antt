@@ -1,10 +1,10 @@
 -- Counting in the tree of prefixes, where the blocks stand in parts, one after another, and only some values of a wholly decided
 -- part are live.
-use Rattle.std.proofs.Common.{◌≡◌, Bool, true, false, ◌&&◌, ℕ, zero, suc, ◌+◌, ◌*◌, ◌-◌, ◌<◌, ◌≤◌, List, [], ◌∷◌, ◌++◌, length, take, drop, filter, map, sum, if◌then◌else◌, IsTrue, refl, ap, sym, subst, ◌∙◌, append-nil, append_assoc, length-append, arith}
+use Rattle.std.proofs.Common.{◌≡◌, Bool, true, false, ◌&&◌, ℕ, zero, suc, ◌+◌, ◌*◌, ◌-◌, ◌<◌, ◌≤◌, List, [], ◌∷◌, ◌++◌, length, take, drop, filter, if◌then◌else◌, IsTrue, refl, ap, sym, subst, ◌∙◌, append-nil, append_assoc, length-append, arith}
 use Rattle.std.proofs.Math.Seq.{take-append_seam, drop-append_seam}
 use Rattle.std.proofs.lemmas.Bool.{both_ways, and_parts, eqb-true}
 use Rattle.std.proofs.lemmas.List.Elements.{filter-append}
-use Rattle.solid_model.specs.Tree.{Word, extensions, live_from, live_count, is_whole, live_below}
+use Rattle.solid_model.specs.Tree.{Word, extensions, live_count, is_whole, live_below}
 
 -- ---- parts
 

@@ -1,7 +1,7 @@
 -- A row of made pieces has few live prefixes, and few of full length.
-use Rattle.std.proofs.Common.{◌≡◌, ◌+◌, ◌<◌, ◌≤◌, Bool, true, false, ◌&&◌, not, nat_lt, ℕ, zero, suc, ◌-◌, List, [], ◌∷◌, ◌++◌, length, take, drop, map, get_or, Option, Some, IsTrue, inl, inr, refl, ap, sym, subst, ◌∙◌, append_assoc, arith}
-use Rattle.std.specs.List.{list_all, range_with_len, slice_get}
-use Rattle.std.proofs.lemmas.Bool.{false≢true, both_ways, and_parts, and_from, false_from_ne_true, not_from_false, not-true, ltb-true}
+use Rattle.std.proofs.Common.{◌≡◌, ◌+◌, ◌<◌, ◌≤◌, Bool, true, false, not, ℕ, zero, suc, ◌-◌, List, [], ◌∷◌, ◌++◌, length, take, drop, map, Some, IsTrue, refl, ap, sym, subst, ◌∙◌, append_assoc, arith}
+use Rattle.std.specs.List.{list_all}
+use Rattle.std.proofs.lemmas.Bool.{false≢true, and_from, false_from_ne_true, not_from_false}
 use Rattle.std.proofs.lemmas.List.{get_or-drop, get_or-take, drop-drop, length-drop, length-take-le}
 use Rattle.std.proofs.lemmas.Option.{slice_get-get_or}
 use Rattle.solid_model.specs.declared.frame.View.TheVariants.{Front}
@@ -11,11 +11,9 @@ use Rattle.solid_model.specs.Lists.{Member}
 use Rattle.solid_model.specs.Tree.{live_count, live_below}
 use Rattle.solid_model.proofs.Lists.{member-map}
 use Rattle.solid_model.proofs.MetLines.{live_computed}
-use Rattle.drawing_maker.specs.declared.piece.Kind.{Kind}
-use Rattle.drawing_maker.specs.declared.piece.Kind.TheVariants.{UnitCube, HollowCube, EightVoids}
 use Rattle.drawing_maker.specs.declared.piece.Piece.{Piece}
 use Rattle.drawing_maker.specs.Made.{made_pieces}
-use Rattle.drawing_maker.specs.Pieces.{side_of, is_void}
+use Rattle.drawing_maker.specs.Pieces.{side_of}
 use Rattle.drawing_maker.specs.RowBlocks.{block_count, spot_block, row_block_count}
 use Rattle.drawing_maker.proofs.CountsOfRows.{most_in_row, few_prefixes_of_made, few_solids_of_made}
 use Rattle.drawing_maker.proofs.DemandedBlocks.{sum_with}
@@ -24,6 +22,7 @@ use Rattle.drawing_maker.proofs.DemandedColumns.{IsProblemOf}
 use Rattle.drawing_maker.proofs.DemandedPieces.{SpotColumn, spot_in, column_blocks, void_columns, says_full, allowed_values, rule_of, passes, all_images_pass, places_in, no_void_in, last_is_solid, each_void_column}
 use Rattle.drawing_maker.proofs.DemandedPlaces.{around}
 use Rattle.drawing_maker.proofs.Members.{member-range}
+use Rattle.drawing_maker.proofs.RowUnion.{has_side}
 use Rattle.drawing_maker.proofs.Parts.{Fits, all_sizes, live_in_parts, whole_in_parts}
 
 -- ---- what a prefix says of a part of it
@@ -33,6 +32,7 @@ module _ (prefix : List Bool) (from size : ℕ) (decided : from + size ≤ lengt
   abbrev values : List Bool
   values = take size (drop from prefix)
 
+  -- each of them is what the prefix says
   said_at : (k : ℕ) → k < size → said_by prefix (from + k) ≡ Some (says_full values k)
   said_at k l =
       slice_get-get_or prefix (from + k) false (omega arith)
@@ -43,17 +43,13 @@ module _ (prefix : List Bool) (from size : ℕ) (decided : from + size ≤ lengt
   full_within (x ∷ xs) zero e = omega arith
   full_within (x ∷ xs) (suc k) e = omega (arith, full_within xs k e)
 
+  -- one that is full is within it
   said_full : (k : ℕ) → says_full values k ≡ true → said_by prefix (from + k) ≡ Some true
   said_full k e =
       said_at k (omega (arith, full_within values k e, length-take-le size (drop from prefix) (omega (arith, length-drop from prefix))))
       ∙ ap Some e
 
 -- ---- one piece
-
-has_side : (kind : Kind) → 0 < side_of kind
-has_side UnitCube = omega arith
-has_side HollowCube = omega arith
-has_side EightVoids = omega arith
 
 module _ (before : List Piece) (p : Piece) (behind : List Piece) (q : ProblemParts) (is : IsProblemOf (around before p behind) q)
     (prefix : List Bool) (live : IsLive q prefix) (decided : row_block_count before + block_count p.kind ≤ length prefix) where
@@ -109,9 +105,10 @@ module _ (ps : List Piece) (q : ProblemParts) (is : IsProblemOf ps q) (prefix : 
   fits_from before (p ∷ behind) e = λ long.
       let decided : row_block_count before + block_count p.kind ≤ length prefix = omega (arith, long, length-drop (row_block_count before) prefix) in
       let moved : (before ++ p ∷ []) ++ behind ≡ ps = append_assoc before (p ∷ []) behind ∙ e in
-      let counted : row_block_count (before ++ p ∷ []) ≡ row_block_count before + block_count p.kind = omega (arith, blocks_of_both before (p ∷ []), sum_with p []) in
-      (values_allowed before p behind q (subst (λ qs. IsProblemOf qs q) (sym e) is) prefix live decided,
-      subst (Fits (map rule_of behind)) (ap (λ n. drop n prefix) counted ∙ sym (drop-drop (block_count p.kind) (row_block_count before) prefix)) (fits_from (before ++ p ∷ []) behind moved))
+      let counted : row_block_count (before ++ p ∷ []) ≡ row_block_count before + block_count p.kind = omega (arith, blocks_of_both before (p ∷ []), sum_with p []) in (
+        values_allowed before p behind q (subst (λ qs. IsProblemOf qs q) (sym e) is) prefix live decided,
+        subst (Fits (map rule_of behind)) (ap (λ n. drop n prefix) counted ∙ sym (drop-drop (block_count p.kind) (row_block_count before) prefix)) (fits_from (before ++ p ∷ []) behind moved),
+      )
 
 module _ (ps : List Piece) (q : ProblemParts) (is : IsProblemOf ps q) where
   all_fit : (prefix : List Bool) → IsTrue (is_live q prefix) → Fits (map rule_of ps) prefix
