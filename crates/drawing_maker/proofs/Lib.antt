@@ -12,3 +12,12 @@ pub mod MadeGrid
 pub mod MadeSolid
 pub mod SomeMadeGrid
 pub mod MadeFiles
+pub mod Parts
+pub mod DemandedPieces
+pub mod CountsOfRows
+pub mod DemandedLines
+pub mod DemandedPlaces
+pub mod DemandedBlocks
+pub mod DemandedColumns
+pub mod DemandedCells
+pub mod CountsOfLive
