@@ -10,3 +10,5 @@ pub mod Drawn
 pub mod MadeRows
 pub mod MadeGrid
 pub mod MadeSolid
+pub mod RowPlaces
+pub mod RowSpots
