@@ -12,3 +12,4 @@ pub mod MadeGrid
 pub mod MadeSolid
 pub mod RowPlaces
 pub mod RowSpots
+pub mod RowGrid

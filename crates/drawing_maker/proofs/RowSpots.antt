@@ -177,6 +177,14 @@ module _ (ps : List Piece) (row : IsRow ps) where
   pub block_of : Cell → Option ℕ
   block_of u = block_where ps (part_at ps u.x) (part_at ps u.y) (part_at ps u.z)
 
+  pub full_at_is : (u : Cell) → full_at u ≡ is_full_where (part_at ps u.x) (part_at ps u.y) (part_at ps u.z)
+  unfolding full_at
+  full_at_is u = refl
+
+  pub block_of_is : (u : Cell) → block_of u ≡ block_where ps (part_at ps u.x) (part_at ps u.y) (part_at ps u.z)
+  unfolding block_of
+  block_of_is u = refl
+
   one_origin_twice : (o : ℕ) → (o == o) ≡ true
   one_origin_twice o = grind arith
 
