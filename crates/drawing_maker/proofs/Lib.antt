@@ -13,3 +13,5 @@ pub mod MadeSolid
 pub mod RowPlaces
 pub mod RowSpots
 pub mod RowGrid
+pub mod BoxLines
+pub mod RowOutside
