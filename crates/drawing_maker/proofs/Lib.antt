@@ -15,3 +15,4 @@ pub mod RowSpots
 pub mod RowGrid
 pub mod BoxLines
 pub mod RowOutside
+pub mod RowJoined
