@@ -16,3 +16,4 @@ pub mod RowGrid
 pub mod BoxLines
 pub mod RowOutside
 pub mod RowJoined
+pub mod SpotNumbers
