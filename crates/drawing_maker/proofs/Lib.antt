@@ -17,3 +17,4 @@ pub mod BoxLines
 pub mod RowOutside
 pub mod RowJoined
 pub mod SpotNumbers
+pub mod RowSteps

@@ -34,12 +34,12 @@ use Rattle.drawing_maker.proofs.RowPlaces.{first_place}
 use Rattle.drawing_maker.proofs.RowSpots.{hole, void_is, no_hole_first, Covers, place_in, place_is, one_covers, IsIn, spot_in, IsOff, in_or_off, not_both, full_at, full_in, full_off}
 use Rattle.drawing_maker.proofs.RowUnion.{has_side}
 
-placed_own : (a : Axis) (n : Cell) → placed a (coordinate a n) n ≡ n
+pub placed_own : (a : Axis) (n : Cell) → placed a (coordinate a n) n ≡ n
 placed_own X n = refl
 placed_own Y n = refl
 placed_own Z n = refl
 
-placed_twice : (a : Axis) (k j : ℤ) (n : Cell) → placed a k (placed a j n) ≡ placed a k n
+pub placed_twice : (a : Axis) (k j : ℤ) (n : Cell) → placed a k (placed a j n) ≡ placed a k n
 placed_twice X k j n = refl
 placed_twice Y k j n = refl
 placed_twice Z k j n = refl
