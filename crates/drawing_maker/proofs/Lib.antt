@@ -18,3 +18,4 @@ pub mod RowOutside
 pub mod RowJoined
 pub mod SpotNumbers
 pub mod RowSteps
+pub mod RowBlocks
