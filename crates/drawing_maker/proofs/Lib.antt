@@ -21,3 +21,12 @@ pub mod DemandedBlocks
 pub mod DemandedColumns
 pub mod DemandedCells
 pub mod CountsOfLive
+pub mod RowPlaces
+pub mod RowSpots
+pub mod RowGrid
+pub mod BoxLines
+pub mod RowOutside
+pub mod RowJoined
+pub mod SpotNumbers
+pub mod RowSteps
+pub mod RowBlocks
