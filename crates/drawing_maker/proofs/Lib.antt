@@ -30,3 +30,4 @@ pub mod RowJoined
 pub mod SpotNumbers
 pub mod RowSteps
 pub mod RowBlocks
+pub mod MadeLimits

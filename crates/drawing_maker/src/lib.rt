@@ -10,5 +10,5 @@ mod stops;
 #[cfg(test)]
 mod tests;
 
-pub use laws::made_files_read_back;
+pub use laws::{made_drawings_stay_within_the_limits, made_files_read_back};
 pub use making::make;
