@@ -7,10 +7,10 @@ use Rattle.recon_run.specs.declared.status.Found.TheVariants.{Ended, Faulty}
 use Rattle.recon_run.specs.declared.status.Status.{Status}
 use Rattle.recon_run.specs.declared.status.Status.TheVariants.{Answered, Stopped}
 use Rattle.recon_run.specs.Answers.{HasNoFault, IsFileFault, CanEnd}
-use Rattle.recon_run.specs.Endings.{ReadsAllOrPast, AnswersJob, AnswersOrStops, EndsOrStops, EndsSaid, Redraws, Searches, Solves, TriesFile, answer_at, answer_at_fault, limits_of}
+use Rattle.recon_run.specs.Endings.{ReadsAllOrPast, AnswersJob, AnswersOrStops, EndsOrStops, EndsSaid, Redraws, Searches, Solves, answer_at, answer_at_fault, limits_of}
 use Rattle.recon_run.specs.Status.{status_code}
 use Rattle.recon_run.proofs.Faults.{no_fault}
-use Rattle.recon_run.proofs.OneAnswer.{kept_or_passed, one_count, one_made_file}
+use Rattle.recon_run.proofs.OneAnswer.{kept_or_passed, one_count}
 use Rattle.solid_model.specs.declared.ended.EndKind.{EndKind}
 use Rattle.solid_model.specs.declared.ended.EndKind.TheVariants.{Whole, CutNodes, CutSolids}
 use Rattle.solid_model.specs.declared.fault.Fault.{Fault}
@@ -29,7 +29,7 @@ solve_due limits t (Solve Faulty) text is = inr (is.0, is.1, refl)
 solve_due limits t (Redraw found) text is = absurd is
 solve_due limits t NoSolid text is = absurd is
 solve_due limits t Make text is = absurd is
-solve_due limits t (Trial found) text is = absurd is
+solve_due limits t Trial text is = absurd is
 solve_due limits t Usage text is = absurd is
 
 -- fewer solids than the number, or not
@@ -51,19 +51,8 @@ redraw_due which limits t NoSolid text (c, few, told) =
     inl (Whole, c, sym (ap (λ b. cond b NoSolid (Redraw (Ended Whole))) (fewer (length c.solids) which few)))
 redraw_due which limits t (Solve found) text is = absurd is
 redraw_due which limits t Make text is = absurd is
-redraw_due which limits t (Trial found) text is = absurd is
+redraw_due which limits t Trial text is = absurd is
 redraw_due which limits t Usage text is = absurd is
-
-trial_due : (n : ℕ) (t : List ℕ) (answer : Answer) (text : List ℕ) → TriesFile n t answer text → IsDue (job.Trial n) t answer
-trial_due n t (Trial (Ended Whole)) text is = inl (Whole, is.0, refl)
-trial_due n t (Trial (Ended CutNodes)) text is = inl (CutNodes, is.0, refl)
-trial_due n t (Trial (Ended CutSolids)) text is = inl (CutSolids, is.0, refl)
-trial_due n t (Trial Faulty) text is = inr (is.0, is.1, refl)
-trial_due n t (Solve found) text is = absurd is
-trial_due n t (Redraw found) text is = absurd is
-trial_due n t NoSolid text is = absurd is
-trial_due n t Make text is = absurd is
-trial_due n t Usage text is = absurd is
 
 -- what holds of what a source had, holds where it is told
 known : (P : List ℕ → Type 0) (left : Option (List ℕ)) (t : List ℕ) → left ≡ Some t → IfSome left P → P t
@@ -76,8 +65,7 @@ job_due (job.Solve limits) left rest t is answer text answers =
 job_due (job.Redraw which limits) left rest t is answer text answers =
     redraw_due which limits t answer text (known (λ u. ReadsAllOrPast u rest × Redraws which limits u answer text) left t is answers).1
 job_due (job.Make n) left rest t is answer text answers = absurd is
-job_due (job.Trial n) left rest t is answer text (unread, (u, file, tries)) =
-    trial_due n t answer text (subst (λ v. TriesFile n v answer text) (one_made_file n u t file is) tries)
+job_due (job.Trial n) left rest t is answer text answers = absurd is
 
 module _ (said : Option Job) (j : Job) (asks : said ≡ Some j) (left rest held now : Option (List ℕ)) (t : List ℕ) (searches : Searches j left t) where
   due : (answer : Answer) (text : List ℕ) → (AnswersJob j left rest answer text) → IsDue j t answer
@@ -129,7 +117,21 @@ made_ends said n asks left rest held now status ends = by status (subst (λ o. E
     by (Answered (Solve found)) ends = absurd ends.1.1
     by (Answered (Redraw found)) ends = absurd ends.1.1
     by (Answered NoSolid) ends = absurd ends.1.1
-    by (Answered (Trial found)) ends = absurd ends.1.1
+    by (Answered Trial) ends = absurd ends.1.1
+    by (Answered Usage) ends = absurd ends.1.1
+    by (Stopped stop) ends = inr (stop, refl)
+
+-- and tried
+pub tried_ends : (said : Option Job) (n : ℕ) → said ≡ Some (job.Trial n) → (left rest held now : Option (List ℕ)) (status : Status)
+    → EndsSaid said left rest held now status → AnswersOrStops Trial (status_code status)
+tried_ends said n asks left rest held now status ends = by status (subst (λ o. EndsSaid o left rest held now status) asks ends)
+  where
+    by : (status : Status) → EndsSaid (Some (job.Trial n)) left rest held now status → AnswersOrStops Trial (status_code status)
+    by (Answered Trial) ends = inl refl
+    by (Answered (Solve found)) ends = absurd ends.1.1
+    by (Answered (Redraw found)) ends = absurd ends.1.1
+    by (Answered NoSolid) ends = absurd ends.1.1
+    by (Answered Make) ends = absurd ends.1.1
     by (Answered Usage) ends = absurd ends.1.1
     by (Stopped stop) ends = inr (stop, refl)
 
@@ -144,5 +146,5 @@ usage_ends said none left rest held now status ends = by status (subst (λ o. En
     by (Answered (Redraw found)) ends = absurd ends.1
     by (Answered NoSolid) ends = absurd ends.1
     by (Answered Make) ends = absurd ends.1
-    by (Answered (Trial found)) ends = absurd ends.1
+    by (Answered Trial) ends = absurd ends.1
     by (Stopped stop) ends = inr (stop, refl)

@@ -1,6 +1,7 @@
 pub mod Grids
 pub mod Problems
 pub mod Redrawn
+pub mod Trials
 pub mod Faults
 pub mod Solved
 pub mod Told

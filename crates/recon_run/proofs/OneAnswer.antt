@@ -8,10 +8,11 @@ use Rattle.recon_run.specs.declared.status.Answer.{Answer}
 use Rattle.recon_run.specs.declared.status.Answer.TheVariants.{Solve, Redraw, NoSolid, Make, Trial, Usage}
 use Rattle.recon_run.specs.declared.status.Found.{Found}
 use Rattle.recon_run.specs.declared.status.Found.TheVariants.{Ended, Faulty}
-use Rattle.recon_run.specs.Answers.{node_count, CanEnd, TellsSolids, ListsSolidsOf, IsSolved, IsFileFault, IsRedrawn, LacksSolid, IsTried, default_limits, first_volume}
-use Rattle.recon_run.specs.Endings.{Answers, AnswersSaid, IsCut, IsCutFound, Makes, Redraws, Solves, Tries, TriesFile}
+use Rattle.recon_run.specs.Answers.{node_count, CanEnd, TellsSolids, ListsSolidsOf, IsSolved, IsFileFault, IsRedrawn, LacksSolid, IsTried, first_volume, made_drawing}
+use Rattle.recon_run.specs.Endings.{Answers, AnswersSaid, IsCut, IsCutFound, Makes, Redraws, Solves, Tries}
 use Rattle.recon_run.proofs.Faults.{one_fault, no_fault}
-use Rattle.recon_run.proofs.Problems.{one_problem}
+use Rattle.recon_run.proofs.Grids.{one_grid}
+use Rattle.recon_run.proofs.Problems.{one_blocks, one_problem}
 use Rattle.report.specs.FaultText.{fault_text}
 use Rattle.report.specs.Texts.{head_text, no_solid_text, solid_text, trial_text}
 use Rattle.redraw.specs.Files.{IsFileOf}
@@ -159,12 +160,12 @@ one_solved limits t (Solve a) (Solve b) text other first second =
 one_solved limits t (Solve a) (Redraw b) text other first second = absurd second
 one_solved limits t (Solve a) NoSolid text other first second = absurd second
 one_solved limits t (Solve a) Make text other first second = absurd second
-one_solved limits t (Solve a) (Trial b) text other first second = absurd second
+one_solved limits t (Solve a) Trial text other first second = absurd second
 one_solved limits t (Solve a) Usage text other first second = absurd second
 one_solved limits t (Redraw a) b text other first second = absurd first
 one_solved limits t NoSolid b text other first second = absurd first
 one_solved limits t Make b text other first second = absurd first
-one_solved limits t (Trial a) b text other first second = absurd first
+one_solved limits t Trial b text other first second = absurd first
 one_solved limits t Usage b text other first second = absurd first
 
 -- ---- `redraw`
@@ -212,15 +213,15 @@ one_redrawn limits which t NoSolid NoSolid text other (c, fewer, told) (d, fewer
     (inl refl, λ none. told ∙ ap (no_solid_text which) (one_count limits t Whole Whole c d) ∙ sym told_too)
 one_redrawn limits which t (Redraw a) (Solve b) text other first second = absurd second
 one_redrawn limits which t (Redraw a) Make text other first second = absurd second
-one_redrawn limits which t (Redraw a) (Trial b) text other first second = absurd second
+one_redrawn limits which t (Redraw a) Trial text other first second = absurd second
 one_redrawn limits which t (Redraw a) Usage text other first second = absurd second
 one_redrawn limits which t NoSolid (Solve b) text other first second = absurd second
 one_redrawn limits which t NoSolid Make text other first second = absurd second
-one_redrawn limits which t NoSolid (Trial b) text other first second = absurd second
+one_redrawn limits which t NoSolid Trial text other first second = absurd second
 one_redrawn limits which t NoSolid Usage text other first second = absurd second
 one_redrawn limits which t (Solve a) b text other first second = absurd first
 one_redrawn limits which t Make b text other first second = absurd first
-one_redrawn limits which t (Trial a) b text other first second = absurd first
+one_redrawn limits which t Trial b text other first second = absurd first
 one_redrawn limits which t Usage b text other first second = absurd first
 
 -- ---- `make` and `trial`
@@ -234,49 +235,35 @@ one_made n Make Make text other first second = (inl refl, λ none. one_made_file
 one_made n Make (Solve b) text other first second = absurd second
 one_made n Make (Redraw b) text other first second = absurd second
 one_made n Make NoSolid text other first second = absurd second
-one_made n Make (Trial b) text other first second = absurd second
+one_made n Make Trial text other first second = absurd second
 one_made n Make Usage text other first second = absurd second
 one_made n (Solve a) b text other first second = absurd first
 one_made n (Redraw a) b text other first second = absurd first
 one_made n NoSolid b text other first second = absurd first
-one_made n (Trial a) b text other first second = absurd first
+one_made n Trial b text other first second = absurd first
 one_made n Usage b text other first second = absurd first
 
-trial_end : (n : ℕ) (t : List ℕ) (kind : EndKind) (text : List ℕ) → IsTried n t (Ended kind) text → CanEnd default_limits t kind
-trial_end n t Whole text is = is.0
-trial_end n t CutNodes text is = is.0
-trial_end n t CutSolids text is = is.0
-
-trial_tells : (n : ℕ) (t : List ℕ) → TellsOne default_limits t (IsTried n t)
-trial_tells n t = record {
-  end = trial_end n t;
-  fault = λ text is. is;
-  whole = one_line;
-}
-  where
-    one_line : (text other : List ℕ) → IsTried n t (Ended Whole) text → IsTried n t (Ended Whole) other → text ≡ other
-    one_line text other (c, told) (d, told_too) =
-        let one = one_problem c.has d.has in let solids = one_solids default_limits t Whole Whole c d in
-        told ∙ (λ i. trial_text n (one.problem i).blocks.count (length (solids i)) (node_count (one.problem i)) (first_volume (solids i)))
-        ∙ sym told_too
-
-one_tried_file : (n : ℕ) (t : List ℕ) (a b : Answer) (text other : List ℕ) → TriesFile n t a text → TriesFile n t b other → SameOrCuts a b text other
-one_tried_file n t (Trial a) (Trial b) text other first second =
-    in_word Trial (λ f. refl) a b text other (one_found default_limits t (IsTried n t) (trial_tells n t) a b text other first second)
-one_tried_file n t (Trial a) (Solve b) text other first second = absurd second
-one_tried_file n t (Trial a) (Redraw b) text other first second = absurd second
-one_tried_file n t (Trial a) NoSolid text other first second = absurd second
-one_tried_file n t (Trial a) Make text other first second = absurd second
-one_tried_file n t (Trial a) Usage text other first second = absurd second
-one_tried_file n t (Solve a) b text other first second = absurd first
-one_tried_file n t (Redraw a) b text other first second = absurd first
-one_tried_file n t NoSolid b text other first second = absurd first
-one_tried_file n t Make b text other first second = absurd first
-one_tried_file n t Usage b text other first second = absurd first
+-- and its drawing one line of figures
+one_figures : (n : ℕ) (text other : List ℕ) → IsTried n text → IsTried n other → text ≡ other
+one_figures n text other a b =
+    let grid = one_grid (made_drawing n) a.problem.grid b.problem.grid a.grid b.grid in
+    let blocks = one_blocks a.problem.grid b.problem.grid grid a.problem.blocks b.problem.blocks a.blocks b.blocks in
+    let solids = one_list_of_solids (made_drawing n) a.solids b.solids a.all b.all in
+    a.told ∙ (λ i. trial_text n (blocks i).count (length (solids i)) (node_count (record { grid = grid i; blocks = blocks i })) (first_volume (solids i)))
+    ∙ sym b.told
 
 one_tried : (n : ℕ) (a b : Answer) (text other : List ℕ) → Tries n a text → Tries n b other → SameOrCuts a b text other
-one_tried n a b text other (t, file, first) (u, file_too, second) =
-    one_tried_file n u a b text other (subst (λ v. TriesFile n v a text) (one_made_file n t u file file_too) first) second
+one_tried n Trial Trial text other first second = (inl refl, λ none. one_figures n text other first second)
+one_tried n Trial (Solve b) text other first second = absurd second
+one_tried n Trial (Redraw b) text other first second = absurd second
+one_tried n Trial NoSolid text other first second = absurd second
+one_tried n Trial Make text other first second = absurd second
+one_tried n Trial Usage text other first second = absurd second
+one_tried n (Solve a) b text other first second = absurd first
+one_tried n (Redraw a) b text other first second = absurd first
+one_tried n NoSolid b text other first second = absurd first
+one_tried n Make b text other first second = absurd first
+one_tried n Usage b text other first second = absurd first
 
 -- ---- one answer
 
@@ -291,12 +278,12 @@ one_said None t rest left Usage (Solve b) text other first second = absurd secon
 one_said None t rest left Usage (Redraw b) text other first second = absurd second
 one_said None t rest left Usage NoSolid text other first second = absurd second
 one_said None t rest left Usage Make text other first second = absurd second
-one_said None t rest left Usage (Trial b) text other first second = absurd second
+one_said None t rest left Usage Trial text other first second = absurd second
 one_said None t rest left (Solve a) b text other first second = absurd first
 one_said None t rest left (Redraw a) b text other first second = absurd first
 one_said None t rest left NoSolid b text other first second = absurd first
 one_said None t rest left Make b text other first second = absurd first
-one_said None t rest left (Trial a) b text other first second = absurd first
+one_said None t rest left Trial b text other first second = absurd first
 
 pub same_answer : (words : List (List ℕ)) (t : List ℕ) (rest left : Option (List ℕ)) (a b : Answer) (text other : List ℕ)
     → Answers words (Some t) rest a text → Answers words (Some t) left b other → SameOrCuts a b text other

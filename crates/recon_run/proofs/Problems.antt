@@ -27,7 +27,7 @@ pub one_block_count : (g h : GridParts) → g ≡ h → (numbers others : List (
 one_block_count g h same numbers others count many are are_too =
     one_numbering (grid_sizes h) (IsVirtual h) numbers others count many (subst (λ k. AreBlocksOf k numbers count) same are) are_too
 
-one_blocks : (g h : GridParts) → g ≡ h → (b c : BlockNumbers) → IsBlocksOf g b → IsBlocksOf h c → b ≡ c
+pub one_blocks : (g h : GridParts) → g ≡ h → (b c : BlockNumbers) → IsBlocksOf g b → IsBlocksOf h c → b ≡ c
 one_blocks g h same b c are are_too = λ t. record {
   sizes = record { x = sized X t; y = sized Y t; z = sized Z t };
   numbers = numbered.0 t;

@@ -6,11 +6,11 @@ use Rattle.recon_run.specs.declared.solve.Finding.TheVariants.{Solids, Fault}
 use Rattle.recon_run.specs.declared.status.Answer.{Answer}
 use Rattle.recon_run.specs.declared.status.Answer.TheVariants.{Solve, Redraw, NoSolid, Make, Trial, Usage}
 use Rattle.recon_run.specs.declared.status.Found.TheVariants.{Ended, Faulty}
-use Rattle.recon_run.specs.Answers.{HasProblem, IsTried, default_limits, first_volume, node_count}
-use Rattle.recon_run.specs.Endings.{Redraws, TriesFile}
-use Rattle.recon_run.specs.Findings.{IsFinding, TellsSolid, TellsRedrawn, TellsRedrawing, TellsTrial, figures_text, first_choice_volume}
+use Rattle.recon_run.specs.Answers.{HasProblem, first_volume}
+use Rattle.recon_run.specs.Endings.{Redraws}
+use Rattle.recon_run.specs.Findings.{IsFinding, TellsSolid, TellsRedrawn, TellsRedrawing, first_choice_volume}
 use Rattle.recon_run.proofs.Solved.{Fill, IsStated, IsWholeListing, as_many, listed_solids, listing, whole_listing}
-use Rattle.report.specs.Texts.{no_solid_text, trial_text}
+use Rattle.report.specs.Texts.{no_solid_text}
 use Rattle.solid_model.specs.declared.cell.Cell.{Cell}
 use Rattle.solid_model.specs.declared.ended.EndKind.{EndKind}
 use Rattle.solid_model.specs.declared.ended.EndKind.TheVariants.{Whole, CutNodes, CutSolids}
@@ -62,7 +62,7 @@ module _ (limits : SearchLimits) (t : List ℕ) (p : ProblemParts) (has : HasPro
   solid_told which some opened choices is (Redraw Faulty) text tells = absurd tells
   solid_told which some opened choices is (Solve found) text tells = absurd tells
   solid_told which some opened choices is Make text tells = absurd tells
-  solid_told which some opened choices is (Trial found) text tells = absurd tells
+  solid_told which some opened choices is Trial text tells = absurd tells
   solid_told which some opened choices is Usage text tells = absurd tells
 
   -- of one that ended so
@@ -84,32 +84,13 @@ module _ (limits : SearchLimits) (t : List ℕ) (p : ProblemParts) (has : HasPro
   -- ---- `trial`
 
   -- the first choice fills the first solid
-  first_counts : (choices : List (List Bool)) (solids : List (List Cell)) → Each (IsStated limits t p has) solids → Fill limits t p has choices solids
+  pub first_counts : (choices : List (List Bool)) (solids : List (List Cell)) → Each (IsStated limits t p has) solids → Fill limits t p has choices solids
       → first_choice_volume p choices ≡ first_volume solids
   first_counts [] [] each filled = refl
   first_counts [] (s ∷ solids) each filled = absurd filled
   first_counts (choice ∷ choices) [] each filled = absurd filled
   first_counts (choice ∷ choices) (s ∷ solids) each filled =
       sym (volume_counts (coordinates_of p.grid) (λ a. (has.grid.coordinates a).ordered) (cells_of_choice p.blocks.numbers choice) s filled.1 each.0.1)
-
-module _ (t : List ℕ) (p : ProblemParts) (has : HasProblem t p) where
-  figures_told : (n : ℕ) (kind : EndKind) (opened : ℕ) (choices : List (List Bool))
-      → EndsAs (is_live p) p.blocks.count default_limits kind opened choices → (text : List ℕ)
-      → text ≡ figures_text default_limits n (record { problem = p; ended = record { kind = kind; opened = opened; solids = choices } }) kind
-      → IsTried n t (Ended kind) text
-  figures_told n Whole opened choices ends text told =
-      let is = whole_listing default_limits t p has opened choices ends in
-      let many = as_many (coordinates_of p.grid) p.blocks.numbers p.blocks.count choices is.can.solids is.filled in
-      let volume = first_counts default_limits t p has choices is.can.solids is.each is.filled in
-      let nodes = is.counted ∙ sym (ap node_count is.problem) in
-      let same = sym is.problem in
-      (is.can, told ∙ (λ i. trial_text n (same i).blocks.count (many i) (nodes i) (volume i)))
-  figures_told n CutNodes opened choices ends text told =
-      let (solids, listed) = listing default_limits t p has CutNodes opened choices ends in
-      (listed.can, listed_solids default_limits t p has CutNodes opened choices solids listed, told ∙ listed.head)
-  figures_told n CutSolids opened choices ends text told =
-      let (solids, listed) = listing default_limits t p has CutSolids opened choices ends in
-      (listed.can, listed_solids default_limits t p has CutSolids opened choices solids listed, told ∙ listed.head)
 
 -- what `redraw` tells of what was found is its answer
 pub redrawing_answers : (limits : SearchLimits) (t : List ℕ) (which : ℕ) → 1 ≤ which → (finding : Finding) → IsFinding limits t finding
@@ -118,11 +99,3 @@ redrawing_answers limits t which some (Solids s) (has, ends) answer text tells =
     redrawn_told limits t s.problem has which some s.ended.kind s.ended.opened s.ended.solids ends answer text tells
 redrawing_answers limits t which some (Fault fault) found answer text (is, told) =
     subst (λ a. Redraws which limits t a text) (sym is) (fault, found, told)
-
--- and what `trial` tells of it is its own
-pub trial_answers : (t : List ℕ) (n : ℕ) (finding : Finding) → IsFinding default_limits t finding
-    → (answer : Answer) (text : List ℕ) → TellsTrial default_limits n finding answer text → TriesFile n t answer text
-trial_answers t n (Solids s) (has, ends) answer text (is, told) =
-    subst (λ a. TriesFile n t a text) (sym is) (figures_told t s.problem has n s.ended.kind s.ended.opened s.ended.solids ends text told)
-trial_answers t n (Fault fault) found answer text (is, told) =
-    subst (λ a. TriesFile n t a text) (sym is) (fault, found, told)

@@ -7,7 +7,7 @@ use Rattle.dxf_entities.proofs.KeptLines.{read_lines_are_kept}
 use Rattle.recon_run.specs.declared.status.Answer.{Answer}
 use Rattle.recon_run.specs.declared.status.Answer.TheVariants.{Solve, Redraw, NoSolid, Make, Trial, Usage}
 use Rattle.recon_run.specs.declared.status.Found.TheVariants.{Ended, Faulty}
-use Rattle.recon_run.specs.Answers.{usage_text, IsFaultAfter, IsFileFault, HasProblem, IsSolved, IsTried, default_limits, first_volume, head_of, node_count}
+use Rattle.recon_run.specs.Answers.{usage_text, IsFaultAfter, IsFileFault, HasProblem, IsSolved, IsTried, default_limits, head_of}
 use Rattle.recon_run.specs.Endings.{Answers, AnswersJob, AnswersSaid, ReadsAllOrPast, Redraws}
 use Rattle.recon_run.proofs.Redrawn.{each_get}
 use Rattle.recon_run.proofs.Faults.{file_fault}
@@ -50,7 +50,9 @@ use Rattle.words.proofs.Commands.{said_is_counted}
 use Rattle.drawing_maker.specs.Made.{made_solid}
 use Rattle.drawing_maker.proofs.MadeSolid.{made_is_solid}
 use Rattle.redraw.proofs.SomeFile.{some_file}
-use Rattle.report.specs.Texts.{no_solid_text, trial_text}
+use Rattle.report.specs.Texts.{no_solid_text}
+use Rattle.drawing_maker.proofs.MadeLimits.{made_problem}
+use Rattle.recon_run.proofs.Trials.{figures_are, made_has_problem}
 use Rattle.std.specs.List.{slice_get}
 use Rattle.std.proofs.lemmas.Option.{none-some, slice_get-get_or}
 use Rattle.solid_model.specs.declared.cell.Cell.{Cell}
@@ -241,13 +243,13 @@ redrawn_somehow limits which some t Whole text (c, lists) never = ⊎_elim
 redrawn_somehow limits which some t CutNodes text (can, lists) never = never (Redraw (Ended CutNodes)) (head_of lists.0) (can, lists.0, refl)
 redrawn_somehow limits which some t CutSolids text (can, lists) never = never (Redraw (Ended CutSolids)) (head_of lists.0) (can, lists.0, refl)
 
--- what `trial` tells of the end of a search
-tried_somehow : (n : ℕ) (t : List ℕ) (kind : EndKind) (text : List ℕ) → IsSolved default_limits t (Ended kind) text
-    → ((told : List ℕ) → IsTried n t (Ended kind) told → ⊥) → ⊥
-tried_somehow n t Whole text (c, lists) never =
-    never (trial_text n c.problem.blocks.count (length c.solids) (node_count c.problem) (first_volume c.solids)) (c, refl)
-tried_somehow n t CutNodes text (can, lists) never = never (head_of lists.0) (can, lists.0, refl)
-tried_somehow n t CutSolids text (can, lists) never = never (head_of lists.0) (can, lists.0, refl)
+-- the search of a made file ends, and has figures
+tried_somehow : (n : ℕ) → ((text : List ℕ) → IsTried n text → ⊥) → ⊥
+tried_somehow n never =
+    let (t, file) = some_file (made_solid n) (made_is_solid n) in
+    let p = made_problem n in let has = made_has_problem n t file in
+    let (kind, opened, choices, ends) = some_end (is_live p) p.blocks.count default_limits (matching default_limits t p has).ordered in
+    never _ (figures_are n t file p has kind opened choices ends _ refl)
 
 -- no job lacks an answer
 job_answered : (j : Job) → IsCounted j → (t : List ℕ)
@@ -259,9 +261,7 @@ job_answered (job.Redraw which limits) counted t never = can_be_read t (λ rest 
     (λ fault is. never rest (Redraw Faulty) (fault_text fault) (reads, (fault, is, refl)))
     (λ kind text is. redrawn_somehow limits which counted t kind text is (λ answer told redraws. never rest answer told (reads, redraws))))
 job_answered (job.Make n) counted t never = let (file, is) = some_file (made_solid n) (made_is_solid n) in never (Some t) Make file (refl, is)
-job_answered (job.Trial n) counted t never = let (file, is) = some_file (made_solid n) (made_is_solid n) in searched_somehow default_limits file
-    (λ fault faulty. never (Some t) (Trial Faulty) (fault_text fault) (refl, (file, is, (fault, faulty, refl))))
-    (λ kind text ends. tried_somehow n file kind text ends (λ told tried. never (Some t) (Trial (Ended kind)) told (refl, (file, is, tried))))
+job_answered (job.Trial n) counted t never = tried_somehow n (λ text is. never (Some t) Trial text (refl, is))
 
 pub answered_somehow : (words : List (List ℕ)) (t : List ℕ)
     → ((rest : Option (List ℕ)) (answer : Answer) (text : List ℕ) → Answers words (Some t) rest answer text → ⊥) → ⊥

@@ -1,5 +1,6 @@
 -- What commands answer to an input.
 use Rattle.std.specs.Prelude.{◌≡◌, ◌⊎◌, ℕ, ◌+◌, ◌-◌, ◌<◌, ◌≤◌, List, [], ◌∷◌, ◌++◌, Bool, length, take, slice_get, Some, Result, Ok, Err, codes}
+use Rattle.drawing_maker.specs.Made.{made_solid}
 use Rattle.dxf_entities.specs.Reading.{read_of}
 use Rattle.recon_run.specs.declared.status.Found.{Found}
 use Rattle.recon_run.specs.declared.status.Found.TheVariants.{Ended, Faulty}
@@ -20,6 +21,7 @@ use Rattle.solid_model.specs.Cells.{is_full}
 use Rattle.solid_model.specs.Choices.{AreSolidsOfChoices}
 use Rattle.solid_model.specs.Demands.{is_live}
 use Rattle.solid_model.specs.Drawings.{drawing_of, IsShown, IsFirstEmptyView}
+use Rattle.solid_model.specs.DrawnStyle.{solid_drawing}
 use Rattle.solid_model.specs.Faces.{FaceParts, AreFacesOf}
 use Rattle.solid_model.specs.Grid.{IsFirstTooFine}
 use Rattle.solid_model.specs.Limits.{most_blocks, most_file_bytes}
@@ -169,15 +171,22 @@ LacksSolid limits which t text = (c : CanEnd limits t Whole) × (length c.solids
 abbrev pub default_limits : SearchLimits
 default_limits = record { nodes = 1000000; solids = 4096 }
 
+-- the drawing that is made from a number
+abbrev pub made_drawing : ℕ → Segment → Style
+made_drawing n = solid_drawing (made_solid n)
+
 -- the volume of the first solid of a list
 abbrev pub first_volume : List (List Cell) → ℕ
 first_volume [] = 0
 first_volume (s ∷ solids) = length s
 
--- What `trial` asks for, of the file that it makes: of a whole search one line of figures; at a cut how the search ended; or
--- the text of the file's first fault.
-abbrev pub IsTried : ℕ → List ℕ → Found → List ℕ → Type 0
-IsTried n t (Ended Whole) text = (c : CanEnd default_limits t Whole)
-    × (text ≡ trial_text n c.problem.blocks.count (length c.solids) (node_count c.problem) (first_volume c.solids))
-IsTried n t (Ended kind) text = CanEnd default_limits t kind × (l : ListedSolids default_limits t kind) × (text ≡ head_of l)
-IsTried n t Faulty text = (fault : Fault) × IsFileFault t fault × (text ≡ fault_text fault)
+-- The figures of the search for the solids of the drawing that is made from a number, within these limits, which it keeps: its
+-- blocks, its solids, its live prefixes, and the volume of its first solid.
+pub record IsTried (n : ℕ) (text : List ℕ) : Type 0 where
+  pub problem : ProblemParts
+  pub grid : IsGridOf (made_drawing n) problem.grid
+  pub blocks : IsBlocksOf problem.grid problem.blocks
+  pub solids : List (List Cell)
+  pub all : AreSolidsOf (made_drawing n) solids
+  pub allows : AllowsEnd default_limits problem solids Whole
+  pub told : text ≡ trial_text n problem.blocks.count (length solids) (node_count problem) (first_volume solids)

@@ -46,14 +46,10 @@ abbrev pub Makes : ℕ → Answer → List ℕ → Type 0
 Makes n Make text = IsFileOf (made_solid n) text
 Makes n _ text = ⊥
 
--- what `trial` answers to a file
-abbrev pub TriesFile : ℕ → List ℕ → Answer → List ℕ → Type 0
-TriesFile n t (Trial found) text = IsTried n t found text
-TriesFile n t _ text = ⊥
-
--- and over the file that is made from its number
+-- what `trial` answers: the figures of the search of that file
 abbrev pub Tries : ℕ → Answer → List ℕ → Type 0
-Tries n answer text = (t : List ℕ) × IsFileOf (made_solid n) t × TriesFile n t answer text
+Tries n Trial text = IsTried n text
+Tries n _ text = ⊥
 
 -- the right answer of a job over a source that had `left` and has `rest`, where told, and its text
 abbrev pub AnswersJob : Job → Option (List ℕ) → Option (List ℕ) → Answer → List ℕ → Type 0
@@ -117,12 +113,12 @@ Ends words left rest held now status = EndsSaid (job_said words) left rest held 
 abbrev pub AsksFor : List (List ℕ) → Job → Type 0
 AsksFor words j = job_said words ≡ Some j
 
--- the text whose solids a job searches for, over a source that had `left`: what the source had, or the file that is made
+-- the text whose solids a job lists or redraws: what the source had left
 abbrev pub Searches : Job → Option (List ℕ) → List ℕ → Type 0
 Searches (job.Solve limits) left t = left ≡ Some t
 Searches (job.Redraw which limits) left t = left ≡ Some t
 Searches (job.Make n) left t = ⊥
-Searches (job.Trial n) left t = IsFileOf (made_solid n) t
+Searches (job.Trial n) left t = ⊥
 
 -- the limits of its search
 abbrev pub limits_of : Job → SearchLimits
@@ -136,14 +132,14 @@ answer_at (job.Solve limits) kind solids = Solve (Ended kind)
 answer_at (job.Redraw which limits) Whole solids = if nat_lt solids which then NoSolid else Redraw (Ended Whole)
 answer_at (job.Redraw which limits) kind solids = Redraw (Ended kind)
 answer_at (job.Make n) kind solids = Make
-answer_at (job.Trial n) kind solids = Trial (Ended kind)
+answer_at (job.Trial n) kind solids = Trial
 
--- and where what it searches has a fault
+-- and where that text has a fault
 abbrev pub answer_at_fault : Job → Answer
 answer_at_fault (job.Solve limits) = Solve Faulty
 answer_at_fault (job.Redraw which limits) = Redraw Faulty
 answer_at_fault (job.Make n) = Make
-answer_at_fault (job.Trial n) = Trial Faulty
+answer_at_fault (job.Trial n) = Trial
 
 -- the number is that of this answer, or of a stop, to which every answer yields
 abbrev pub AnswersOrStops : Answer → ℕ → Type 0
@@ -166,7 +162,6 @@ IsCutFound _ = ⊥
 abbrev pub IsCut : Answer → Type 0
 IsCut (Solve found) = IsCutFound found
 IsCut (Redraw found) = IsCutFound found
-IsCut (Trial found) = IsCutFound found
 IsCut _ = ⊥
 
 -- ---- inside a run: how a job ends before the words are looked at

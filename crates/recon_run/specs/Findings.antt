@@ -4,7 +4,7 @@ use Rattle.std.specs.Io.KnownBytes.{Appends, Keeps}
 use Rattle.recon_run.specs.declared.solve.Finding.{Finding}
 use Rattle.recon_run.specs.declared.solve.Finding.TheVariants.{Solids, Fault}
 use Rattle.recon_run.specs.declared.status.Answer.{Answer}
-use Rattle.recon_run.specs.declared.status.Answer.TheVariants.{Redraw, NoSolid, Trial}
+use Rattle.recon_run.specs.declared.status.Answer.TheVariants.{Redraw, NoSolid}
 use Rattle.recon_run.specs.declared.status.Found.{Found}
 use Rattle.recon_run.specs.declared.status.Found.TheVariants.{Ended, Faulty}
 use Rattle.recon_run.specs.declared.status.Stop.{Stop}
@@ -116,15 +116,9 @@ abbrev pub first_choice_volume : ProblemParts → List (List Bool) → ℕ
 first_choice_volume p [] = 0
 first_choice_volume p (choice ∷ choices) = choice_volume p choice
 
--- one line of figures of a whole search; of a cut how it ended
-abbrev pub figures_text : SearchLimits → ℕ → SearchedParts → EndKind → List ℕ
-figures_text limits n s Whole =
-    trial_text n s.problem.blocks.count (length s.ended.solids) s.ended.opened (first_choice_volume s.problem s.ended.solids)
-figures_text limits n s kind = search_head limits s
-
-abbrev pub TellsTrial : SearchLimits → ℕ → Finding → Answer → List ℕ → Type 0
-TellsTrial limits n (Solids s) answer text = (answer ≡ Trial (Ended s.ended.kind)) × (text ≡ figures_text limits n s s.ended.kind)
-TellsTrial limits n (Fault fault) answer text = (answer ≡ Trial Faulty) × (text ≡ fault_text fault)
+-- the line of figures of a search
+abbrev pub figures_text : ℕ → SearchedParts → List ℕ
+figures_text n s = trial_text n s.problem.blocks.count (length s.ended.solids) s.ended.opened (first_choice_volume s.problem s.ended.solids)
 
 -- ---- how writing ends
 

@@ -22,7 +22,7 @@ answer_code (Solve found) = found_code found
 answer_code (Redraw found) = found_code found
 answer_code NoSolid = 8
 answer_code Make = 0
-answer_code (Trial found) = found_code found
+answer_code Trial = 0
 answer_code Usage = 2
 
 -- the number of a status

@@ -16,7 +16,7 @@ ghost use Rattle.words.specs.declared.job.Job.{Job};
 ghost use Rattle.words.specs.declared.job.Job.TheVariants as job;
 ghost use Rattle.words.specs.Jobs.{IsCounted, job_said};
 
-use crate::reply::{Reply, redrawn, write_reply};
+use crate::reply::{redrawn, write_reply};
 use crate::solve::find;
 use crate::status::{Answer, Status, Stop};
 use crate::trial::{made_file, trial};
@@ -89,7 +89,7 @@ fn try_out<K: Sink>(alloc: Global, n: u64, sink: &mut K) -> Status
         (Rose (K.faults sink.old) (K.faults sink.new)) result }
 {
     match trial(alloc, n) {
-        Ok(reply) => write_reply(reply.answer, reply.text.as_slice(), sink),
+        Ok(text) => write_reply(Answer::Trial, text.as_slice(), sink),
         Err(Memory) => Status::Stopped(Stop::Memory),
     }
 }
@@ -168,6 +168,8 @@ pub fn run<S: Source, K: Sink, G: Gate>(
         → AnswersOrStops (answer_at_fault job) result }
     ensures made { (n : ℕ) → AsksFor (map string_bytes words.now) (job.Make n)
         → AnswersOrStops answers.Make result }
+    ensures tried { (n : ℕ) → AsksFor (map string_bytes words.now) (job.Trial n)
+        → AnswersOrStops answers.Trial result }
     ensures usage { job_said (map string_bytes words.now) ≡ None
         → AnswersOrStops answers.Usage result }
 

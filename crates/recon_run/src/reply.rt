@@ -2,8 +2,8 @@
 
 ghost use Rattle.std.specs.Prelude.{◌≡◌, ◌≤◌, IfOk};
 ghost use Rattle.recon_run.specs.Endings.{EndsReply, IsReply};
-ghost use Rattle.recon_run.specs.Findings.{IsDrawingOf, TellsRedrawing, TellsRedrawn, TellsSolid, TellsTrial};
-ghost use Rattle.recon_run.specs.Findings.{figures_text, first_choice_volume, search_head};
+ghost use Rattle.recon_run.specs.Findings.{IsDrawingOf, TellsRedrawing, TellsRedrawn, TellsSolid};
+ghost use Rattle.recon_run.specs.Findings.{search_head};
 ghost use Rattle.report.specs.FaultText.{fault_text};
 ghost use Rattle.tv_base.specs.Faults.{Rose};
 
@@ -12,7 +12,7 @@ use crate::solve::Finding;
 use crate::status::{Answer, Found, Status};
 use crate::writing::write_text;
 use redraw::dxf_of;
-use report::{fault_text, head_text, no_solid_text, trial_text};
+use report::{fault_text, head_text, no_solid_text};
 use solid_model::{Choice, EndKind, Limits, Memory, Problem};
 use std::alloc::Global;
 use tv_base::Sink;
@@ -42,8 +42,6 @@ fn head(alloc: Global, searched: &Searched, limits: Limits) -> Result<Vec<u8>, M
     let blocks = searched.problem().blocks().count();
     head_text(alloc, searched.ended(), limits, blocks)
 }
-
-// ---- `redraw`
 
 /// The drawing of the solid that a choice of a problem's blocks fills.
 fn drawing_of(alloc: Global, problem: &Problem, choice: &Choice) -> Result<Vec<u8>, Memory>
@@ -110,50 +108,6 @@ pub fn redrawn(
         Finding::Solids(searched) => redrawn_search(alloc, searched, which, limits),
         Finding::Fault(fault) => Ok(Reply {
             answer: Answer::Redraw(Found::Faulty),
-            text: fault_text(alloc, fault)?,
-        }),
-    }
-}
-
-// ---- `trial`
-
-/// The volume of the first solid that was found.
-fn first_volume(searched: &Searched) -> u128
-    ensures { result
-        ≡ first_choice_volume searched.now.problem searched.now.ended.solids }
-{
-    match searched.ended().solids.as_slice() {
-        [choice, ..] => searched.problem().volume(choice),
-        [] => 0,
-    }
-}
-
-/// The line of figures of a search that was whole; of one that was cut, how it ended.
-fn figures(alloc: Global, n: u64, searched: &Searched, limits: Limits) -> Result<Vec<u8>, Memory>
-    ensures { IfOk result (λ text. text.items
-        ≡ figures_text limits n searched.now searched.now.ended.kind) }
-{
-    match searched.ended().kind {
-        EndKind::Whole => {
-            let blocks = searched.problem().blocks().count();
-            trial_text(alloc, n, blocks, searched.ended(), first_volume(searched))
-        }
-        _ => head(alloc, searched, limits),
-    }
-}
-
-/// What `trial` of a number replies to what was found within limits.
-pub fn tried(alloc: Global, n: u64, finding: &Finding, limits: Limits) -> Result<Reply, Memory>
-    ensures { IfOk result (λ reply. TellsTrial limits n finding.now
-        reply.answer reply.text.items) }
-{
-    match finding {
-        Finding::Solids(searched) => Ok(Reply {
-            answer: Answer::Trial(finding.found()),
-            text: figures(alloc, n, searched, limits)?,
-        }),
-        Finding::Fault(fault) => Ok(Reply {
-            answer: Answer::Trial(Found::Faulty),
             text: fault_text(alloc, fault)?,
         }),
     }

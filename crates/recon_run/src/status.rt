@@ -24,8 +24,8 @@ pub enum Answer {
     NoSolid,
     /// The drawing that `make` was asked for.
     Make,
-    /// What `trial` found.
-    Trial(Found),
+    /// The figures that `trial` was asked for.
+    Trial,
     /// That the arguments aren't taken.
     Usage,
 }
@@ -74,8 +74,8 @@ impl Answer {
         ensures { result ≡ answer_code self }
     {
         match self {
-            Answer::Solve(found) | Answer::Redraw(found) | Answer::Trial(found) => found.code(),
-            Answer::Make => 0,
+            Answer::Solve(found) | Answer::Redraw(found) => found.code(),
+            Answer::Make | Answer::Trial => 0,
             Answer::Usage => 2,
             Answer::NoSolid => 8,
         }

@@ -1,15 +1,17 @@
 //! Files that are made from a number, and trials of the program on them.
 
-ghost use Rattle.std.specs.Prelude.{IfOk};
+ghost use Rattle.std.specs.Prelude.{◌≡◌, IfOk};
 ghost use Rattle.drawing_maker.specs.Made.{made_solid};
-ghost use Rattle.recon_run.specs.Endings.{Tries};
+ghost use Rattle.recon_run.specs.Answers.{IsTried};
+ghost use Rattle.recon_run.specs.Findings.{figures_text, first_choice_volume};
 ghost use Rattle.redraw.specs.Files.{IsFileOf};
 
-use crate::reply::{Reply, tried};
-use crate::solve::find_file;
+use crate::problem::problem_of;
+use crate::searched::{Searched, search};
 use drawing_maker::make;
 use redraw::dxf_of;
-use solid_model::{Limits, Memory};
+use report::trial_text;
+use solid_model::{Limits, Memory, Refused};
 use std::alloc::Global;
 
 /// The written file of the solid that is made from a number.
@@ -21,12 +23,36 @@ pub fn made_file(alloc: Global, n: u64) -> Result<Vec<u8>, Memory>
     Ok(text)
 }
 
-/// What `trial` replies: that file is read, and its solids are searched for.
-pub fn trial(alloc: Global, n: u64) -> Result<Reply, Memory>
-    ensures { IfOk result (λ reply. Tries n reply.answer reply.text.items) }
+/// The volume of the first solid that was found.
+fn first_volume(searched: &Searched) -> u128
+    ensures { result ≡ first_choice_volume searched.now.problem searched.now.ended.solids }
+{
+    match searched.ended().solids.as_slice() {
+        [choice, ..] => searched.problem().volume(choice),
+        [] => 0,
+    }
+}
+
+/// The line of figures of a search.
+fn figures(alloc: Global, n: u64, searched: &Searched) -> Result<Vec<u8>, Memory>
+    ensures { IfOk result (λ text. text.items ≡ figures_text n searched.now) }
+{
+    let blocks = searched.problem().blocks().count();
+    trial_text(alloc, n, blocks, searched.ended(), first_volume(searched))
+}
+
+/// What `trial` writes: that file is read, and its solids are searched for. It has no fault, and
+/// passes no limit.
+pub fn trial(alloc: Global, n: u64) -> Result<Vec<u8>, Memory>
+    ensures { IfOk result (λ text. IsTried n text.items) }
 {
     let file = made_file(alloc, n)?;
-    let finding = find_file(alloc, file, Limits::DEFAULT)?;
-    let reply = tried(alloc, n, &finding, Limits::DEFAULT)?;
-    Ok(reply)
+    let problem = match problem_of(alloc, file) {
+        Ok(problem) => problem,
+        Err(Refused::Fault(_)) => unreachable!(),
+        Err(Refused::Memory) => return Err(Memory),
+    };
+    let searched = search(alloc, problem, Limits::DEFAULT)?;
+    let text = figures(alloc, n, &searched)?;
+    Ok(text)
 }

@@ -1,8 +1,8 @@
 use Rattle.std.proofs.Common.{sym, subst, map, length}
 use Rattle.std.specs.Prelude.{string_bytes}
-use Rattle.recon_run.specs.declared.status.Answer.TheVariants.{Make}
+use Rattle.recon_run.specs.declared.status.Answer.TheVariants.{Make, Trial}
 use Rattle.recon_run.specs.Endings.{AnswersOrStops, EndsOrStops, answer_at, answer_at_fault}
-use Rattle.recon_run.proofs.DueAnswers.{faultless_ends, faulty_ends, made_ends, whole_ends}
+use Rattle.recon_run.proofs.DueAnswers.{faultless_ends, faulty_ends, made_ends, tried_ends, whole_ends}
 use Rattle.solid_model.specs.declared.ended.EndKind.TheVariants.{Whole}
 use Rattle.words.specs.Jobs.{job_said}
 use Rattle.recon_run.proofs.command.run.Goals as goal
@@ -29,4 +29,10 @@ pub returns-clause-made : goal.returns-clause-made
 returns-clause-made g c n asks =
     subst (AnswersOrStops Make) (sym c.code.ensures)
     (made_ends (job_said (map string_bytes c.args.words.now)) n asks (g.S.Source.left c.args.source.now) (g.S.Source.left c.answer.new.source)
+    (g.K.Sink.held c.args.sink.now) (g.K.Sink.held c.answer.new.sink) c.answer.result c.answer.ensures.ends)
+
+pub returns-clause-tried : goal.returns-clause-tried
+returns-clause-tried g c n asks =
+    subst (AnswersOrStops Trial) (sym c.code.ensures)
+    (tried_ends (job_said (map string_bytes c.args.words.now)) n asks (g.S.Source.left c.args.source.now) (g.S.Source.left c.answer.new.source)
     (g.K.Sink.held c.args.sink.now) (g.K.Sink.held c.answer.new.sink) c.answer.result c.answer.ensures.ends)

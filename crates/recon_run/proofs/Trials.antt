@@ -1,0 +1,83 @@
+-- The file that is made from a number has no fault, and its search passes no limit.
+use Rattle.std.proofs.Common.{◌≡◌, ℕ, ◌≤◌, List, Bool, length, Ok, ap, sym, subst, ◌∙◌, arith}
+use Rattle.dxf_entities.specs.Reading.{read_of}
+use Rattle.dxf_entities.proofs.KeptLines.{ok_value}
+use Rattle.drawing_maker.specs.Made.{made_solid}
+use Rattle.drawing_maker.proofs.MadeFiles.{made_file_reads_back}
+use Rattle.drawing_maker.proofs.MadeLimits.{few_made_blocks, few_made_choices, few_made_nodes, made_blocks_are, made_problem}
+use Rattle.drawing_maker.proofs.SomeMadeGrid.{made_grid_is}
+use Rattle.redraw.specs.Files.{IsFileOf}
+use Rattle.recon_run.specs.Answers.{HasNoFault, HasProblem, IsTried, default_limits, made_drawing, node_count}
+use Rattle.recon_run.specs.Findings.{figures_text}
+use Rattle.recon_run.proofs.Faults.{no_fault}
+use Rattle.recon_run.proofs.Redrawn.{first_counts}
+use Rattle.recon_run.proofs.Solved.{as_many, whole_listing}
+use Rattle.report.specs.Texts.{trial_text}
+use Rattle.solid_model.specs.declared.ended.EndKind.{EndKind}
+use Rattle.solid_model.specs.declared.ended.EndKind.TheVariants.{Whole, CutNodes, CutSolids}
+use Rattle.solid_model.specs.declared.segment.Segment.{Segment}
+use Rattle.solid_model.specs.declared.segment.Style.{Style}
+use Rattle.solid_model.specs.Blocks.{ProblemParts}
+use Rattle.solid_model.specs.Demands.{is_live}
+use Rattle.solid_model.specs.Drawings.{drawing_of}
+use Rattle.solid_model.specs.Limits.{most_file_bytes}
+use Rattle.solid_model.specs.Line.{Line}
+use Rattle.solid_model.specs.Matching.{AreSolidsOf}
+use Rattle.solid_model.specs.Panels.{coordinates_of, IsGridOf}
+use Rattle.solid_model.specs.Search.{EndsAs}
+
+module _ (n : ℕ) (t : List ℕ) (file : IsFileOf (made_solid n) t) where
+  -- the lines that are read draw the made drawing
+  drawn : (lines : List Line) → read_of t ≡ Ok lines → drawing_of lines ≡ made_drawing n
+  drawn lines reads =
+      let (back, same) = made_file_reads_back n t file in
+      ap drawing_of (ok_value lines back.lines (sym reads ∙ back.reads)) ∙ (λ i segment. same segment i)
+
+  -- it isn't too long,
+  pub made_is_short : length t ≤ most_file_bytes
+  made_is_short = (made_file_reads_back n t file).0.short
+
+  -- it has a problem, that of the made drawing,
+  pub made_has_problem : HasProblem t (made_problem n)
+  made_has_problem =
+      let (back, same) = made_file_reads_back n t file in
+      record {
+        short = back.short;
+        lines = back.lines;
+        reads = back.reads;
+        shown = back.shown;
+        grid = subst (λ (d : Segment → Style). IsGridOf d (made_problem n).grid) (sym (drawn back.lines back.reads)) (made_grid_is n);
+        blocks = made_blocks_are n;
+        few = few_made_blocks n (made_problem n).grid (made_grid_is n) (made_problem n).blocks.numbers (made_problem n).blocks.count (made_blocks_are n).blocks;
+      }
+
+  -- and no fault
+  pub made_is_faultless : HasNoFault t
+  made_is_faultless = no_fault made_has_problem
+
+  -- the figures of its search are those of the made drawing's
+  pub figures_are : (p : ProblemParts) → HasProblem t p → (kind : EndKind) (opened : ℕ) (choices : List (List Bool))
+      → EndsAs (is_live p) p.blocks.count default_limits kind opened choices → (text : List ℕ)
+      → text ≡ figures_text n (record { problem = p; ended = record { kind = kind; opened = opened; solids = choices } }) → IsTried n text
+  figures_are p has Whole opened choices ends text told =
+      let is = whole_listing default_limits t p has opened choices ends in
+      let c = is.can in
+      let same = sym is.problem in
+      let many = as_many (coordinates_of p.grid) p.blocks.numbers p.blocks.count choices c.solids is.filled in
+      let volume = first_counts default_limits t p has choices c.solids is.each is.filled in
+      let nodes = is.counted ∙ ap node_count same in
+      record {
+        problem = c.problem;
+        grid = subst (λ (d : Segment → Style). IsGridOf d c.problem.grid) (drawn c.has.lines c.has.reads) c.has.grid;
+        blocks = c.has.blocks;
+        solids = c.solids;
+        all = subst (λ (d : Segment → Style). AreSolidsOf d c.solids) (drawn c.has.lines c.has.reads) c.all;
+        allows = c.allows;
+        told = told ∙ (λ i. trial_text n (same i).blocks.count (many i) (nodes i) (volume i));
+      }
+  figures_are p has CutNodes opened choices (many, counted, are, few) text told =
+      let grid = subst (λ (d : Segment → Style). IsGridOf d p.grid) (drawn has.lines has.reads) has.grid in
+      let within = few_made_nodes n p grid has.blocks in absurd (omega (arith, many, counted))
+  figures_are p has CutSolids opened choices (many, counted, are, as_asked) text told =
+      let grid = subst (λ (d : Segment → Style). IsGridOf d p.grid) (drawn has.lines has.reads) has.grid in
+      let within = few_made_choices n p grid has.blocks in absurd (omega (arith, many))
