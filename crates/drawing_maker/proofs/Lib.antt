@@ -18,4 +18,5 @@ pub mod RowOutside
 pub mod RowJoined
 pub mod SpotNumbers
 pub mod RowSteps
+pub mod Triples
 pub mod RowBlocks
