@@ -20,3 +20,4 @@ pub mod SpotNumbers
 pub mod RowSteps
 pub mod Triples
 pub mod RowBlocks
+pub mod MadeBlocks
