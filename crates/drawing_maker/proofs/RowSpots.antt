@@ -148,7 +148,7 @@ module _ (ps : List Piece) (row : IsRow ps) where
       by (inl (p, at)) (inl (q, too)) = ⊎_elim {C = ((r : Piece) × Covers r z × Covers r w) ⊎ Apart z w}
           (λ e. inl (p, at, subst (λ r. Covers r w) (sym e) too))
           (λ apart. inr (λ r k l.
-          let e = ap (λ (s : Piece). s.origin) (sym (one_covers p r z at k) ∙ refl) in
+          let e = ap (λ (s : Piece). s.origin) (sym (one_covers p r z at k)) in
           let f = ap (λ (s : Piece). s.origin) (one_covers q r w too l) in
           ⊎_elim {C = ⊥} (λ h. omega (arith, e, f, h.0)) (λ h. omega (arith, e, f, h.0)) apart))
           (one_or_apart p q at.member too.member)
