@@ -18,8 +18,12 @@ some_greater (negsuc k) = (0, omega (arith, ints))
 module _ (sizes : Sizes) (wall : Walls) (b : Axis) (P : Cell → Type 0) where
   pub out_down : ((n : Cell) → P n → wall b n → ⊥) → ((n : Cell) → P n → P (cell_before b n))
       → (k : ℕ) (n : Cell) → coordinate b n <ℤ pos k → P n → LeadsOut sizes wall n
-  out_down none kept zero n l h = (n, reaches-itself (Passes wall) n, false_from_ne_true _ (λ within.
-      let r = below-bounds (sizes b) (coordinate b n) (within-below sizes n within b) in omega (arith, ints, r.0)))
+  out_down none kept zero n l h = (
+    n,
+    reaches-itself (Passes wall) n,
+    false_from_ne_true _ (λ within.
+        let r = below-bounds (sizes b) (coordinate b n) (within-below sizes n within b) in omega (arith, ints, r.0)),
+  )
   out_down none kept (suc k) n l h =
       let at = placed_at b (coordinate b n -ℤ pos 1) n in
       let rest = out_down none kept k (cell_before b n) (omega (arith, ints, at)) (kept n h) in
@@ -27,8 +31,12 @@ module _ (sizes : Sizes) (wall : Walls) (b : Axis) (P : Cell → Type 0) where
 
   pub out_up : ((n : Cell) → P n → wall b (cell_after b n) → ⊥) → ((n : Cell) → P n → P (cell_after b n))
       → (k : ℕ) (n : Cell) → pos (sizes b) ≤ℤ (coordinate b n +ℤ pos k) → P n → LeadsOut sizes wall n
-  out_up none kept zero n l h = (n, reaches-itself (Passes wall) n, false_from_ne_true _ (λ within.
-      let r = below-bounds (sizes b) (coordinate b n) (within-below sizes n within b) in omega (arith, ints, r.1)))
+  out_up none kept zero n l h = (
+    n,
+    reaches-itself (Passes wall) n,
+    false_from_ne_true _ (λ within.
+        let r = below-bounds (sizes b) (coordinate b n) (within-below sizes n within b) in omega (arith, ints, r.1)),
+  )
   out_up none kept (suc k) n l h =
       let at = placed_at b (coordinate b n +ℤ pos 1) n in
       let rest = out_up none kept k (cell_after b n) (omega (arith, ints, at)) (kept n h) in

@@ -1,22 +1,20 @@
 -- Made drawings stay within the limits of a search: the blocks of their grids are those of their rows, which are few, and so are
 -- their live prefixes and the solids that match them.
-use Rattle.std.proofs.Common.{◌≡◌, ℕ, zero, suc, ◌+◌, ◌*◌, ◌≤◌, List, [], ◌∷◌, Bool, true, not, ◌&&◌, length, sum, map, Option, refl, sym, ap, subst, drop, arith}
+use Rattle.std.proofs.Common.{◌≡◌, ℕ, zero, suc, ◌*◌, ◌≤◌, List, [], ◌∷◌, Bool, true, not, ◌&&◌, length, Option, refl, ap, subst, drop, arith}
 use Rattle.drawing_maker.specs.declared.piece.Kind.{Kind}
 use Rattle.drawing_maker.specs.declared.piece.Kind.TheVariants.{UnitCube, HollowCube, EightVoids}
-use Rattle.drawing_maker.specs.declared.piece.Piece.{Piece}
 use Rattle.drawing_maker.specs.Made.{generator_of, has_eight_voids, later_pieces, made_pieces, made_solid}
 use Rattle.drawing_maker.specs.Pieces.{next_origin}
 use Rattle.drawing_maker.proofs.Drawn.{after_two, first_by, later_by}
 use Rattle.drawing_maker.proofs.DemandedBlocks.{sum_with}
 use Rattle.drawing_maker.specs.RowBlocks.{block_count, blocks_in_row, row_block_count}
-use Rattle.drawing_maker.specs.Rows.{coordinates_of_stops, row_stops}
+use Rattle.drawing_maker.specs.Rows.{row_stops}
 use Rattle.drawing_maker.proofs.CountsOfLive.{few_live, few_solids}
 use Rattle.drawing_maker.proofs.DemandedColumns.{IsProblemOf}
-use Rattle.drawing_maker.proofs.MadeGrid.{made_coordinates}
+use Rattle.drawing_maker.proofs.MadeBlocks.{made_blocks, made_numbers, row_grid_coordinates}
 use Rattle.drawing_maker.proofs.MadeRows.{made_row}
 use Rattle.drawing_maker.proofs.MadeSolid.{made_is_drawing}
-use Rattle.drawing_maker.proofs.RowBlocks.{row_blocks, row_numbers}
-use Rattle.drawing_maker.proofs.SomeMadeGrid.{made_grid, made_grid_along, made_grid_is}
+use Rattle.drawing_maker.proofs.SomeMadeGrid.{made_grid, made_grid_is}
 use Rattle.rand_pcg.specs.Lcg.{Lcg}
 use Rattle.line_demands.proofs.LivePrefixes.{live_keeps_matching}
 use Rattle.solid_model.specs.declared.cell.Axis.{Axis}
@@ -35,7 +33,6 @@ use Rattle.solid_model.specs.Tree.{live_below, live_count}
 use Rattle.solid_model.specs.Wire.{grid_sizes}
 use Rattle.solid_model.proofs.BlockChoices.{all_solids_of_blocks}
 use Rattle.solid_model.proofs.CompleteTree.{complete_tree}
-use Rattle.solid_model.proofs.InGrid.{one_coordinates}
 use Rattle.solid_model.proofs.SolidOrder.{one_list_of_solids}
 
 -- ---- blocks
@@ -61,26 +58,17 @@ few_blocks_of_row n =
     omega (arith, few_of_kind p.kind, behind, sum_with p (later_pieces 13 (after_two g) true (next_origin p)))
 
 module _ (n : ℕ) (g : GridParts) (grid : IsGridOf (solid_drawing (made_solid n)) g) where
-  -- a grid of a made drawing has the coordinates of the row
-  along_row : (a : Axis) → coordinates_of g a ≡ coordinates_of_stops (row_stops (made_pieces n))
-  along_row a = one_coordinates (solid_drawing (made_solid n)) a (coordinates_of g a) (coordinates_of_stops (row_stops (made_pieces n))) (grid.coordinates a)
-      (made_coordinates n (λ a. coordinates_of_stops (row_stops (made_pieces n))) (λ a. refl) a)
-
-  numbered : (numbers : List (Option ℕ)) (count : ℕ) → AreBlocksOf g numbers count → (numbers ≡ blocks_in_row (made_pieces n) (drop 1 (row_stops (made_pieces n))))
-      × (count ≡ row_block_count (made_pieces n))
-  numbered = row_numbers (made_pieces n) (made_row n) g along_row grid (made_is_drawing n)
-
-  -- and few blocks
+  -- a grid of a made drawing has few blocks
   pub few_made_blocks : (numbers : List (Option ℕ)) (count : ℕ) → AreBlocksOf g numbers count → count ≤ most_blocks
-  few_made_blocks numbers count are = let few = few_blocks_of_row n in omega (arith, (numbered numbers count are).1)
+  few_made_blocks numbers count are = let few = few_blocks_of_row n in omega (arith, (made_numbers n g grid numbers count are).1)
 
 -- ---- live prefixes
 
 module _ (n : ℕ) (p : ProblemParts) (grid : IsGridOf (solid_drawing (made_solid n)) p.grid) (blocks : IsBlocksOf p.grid p.blocks) where
   is_problem : IsProblemOf (made_pieces n) p
   is_problem =
-      let are = numbered n p.grid grid p.blocks.numbers p.blocks.count blocks.blocks in
-      record { row = made_row n; grid = grid; coordinates = along_row n p.grid grid; blocks = blocks; numbers = are.0; count = are.1 }
+      let are = made_numbers n p.grid grid p.blocks.numbers p.blocks.count blocks.blocks in
+      record { row = made_row n; grid = grid; coordinates = row_grid_coordinates (made_pieces n) (made_row n) p.grid grid; blocks = blocks; numbers = are.0; count = are.1 }
 
   pub few_made_nodes : live_count (is_live p) p.blocks.count [] ≤ 1000000
   few_made_nodes = few_live n p is_problem
@@ -110,7 +98,7 @@ made_problem n = record {
 }
 
 pub made_blocks_are : (n : ℕ) → IsBlocksOf (made_problem n).grid (made_problem n).blocks
-made_blocks_are n = record { sized = sized; blocks = row_blocks (made_pieces n) (made_row n) (made_grid n) (made_grid_along n) (made_grid_is n) (made_is_drawing n) }
+made_blocks_are n = record { sized = sized; blocks = made_blocks n (made_grid n) (made_grid_is n) }
   where
     sized : (a : Axis) → numbers_of (made_problem n).blocks.sizes a ≡ grid_sizes (made_grid n) a
     sized X = refl
@@ -122,7 +110,7 @@ few_made_solids n solids all =
     let drawing = solid_drawing (made_solid n) in let p = made_problem n in
     let whole = live_below (is_live p) p.blocks.count [] in
     let matching = complete_tree (IsMatchingChoice drawing (coordinates_of p.grid) p.blocks.numbers) (is_live p) p.blocks.count
-        (live_keeps_matching drawing (made_is_drawing n) p (made_grid_is n) (made_blocks_are n)) in
+    (live_keeps_matching drawing (made_is_drawing n) p (made_grid_is n) (made_blocks_are n)) in
     let (listed, are, filled) = all_solids_of_blocks drawing p.grid (made_grid_is n) p.blocks.numbers p.blocks.count (made_blocks_are n).blocks whole matching in
     let many = as_many (coordinates_of p.grid) p.blocks.numbers p.blocks.count whole listed filled in
     let few = few_made_choices n p (made_grid_is n) (made_blocks_are n) in

@@ -1,19 +1,17 @@
 -- The blocks of the drawing of a row of pieces: of each piece its full cells together, and each of its voids.
-use Rattle.std.proofs.Common.{◌≡◌, ◌⊎◌, ⊎_elim, inl, inr, ◌↔◌, true, false, ◌&&◌, ℕ, zero, suc, ◌+◌, ◌-◌, ◌*◌, ◌<◌, ◌≤◌, List, length, drop, map, get_or, slice_index_or, Option, Some, None, ℤ, pos, ◌≤ℤ◌, ◌<ℤ◌, IsTrue, refl, ap, sym, subst, ◌∙◌, arith}
-use Rattle.std.specs.List.{flat_map}
+use Rattle.std.proofs.Common.{◌≡◌, ◌⊎◌, ⊎_elim, inl, inr, ◌↔◌, true, ℕ, zero, ◌+◌, ◌-◌, ◌*◌, ◌<◌, ◌≤◌, List, length, drop, get_or, Option, Some, None, ℤ, pos, ◌≤ℤ◌, IsTrue, ap, sym, subst, ◌∙◌, arith}
 use Rattle.std.proofs.lemmas.Int.{ints}
-use Rattle.std.proofs.lemmas.List.{length-map, get_or-map}
 use Rattle.std.proofs.lemmas.Option.{none-some, same_Some}
 use Rattle.solid_model.specs.declared.cell.Axis.{Axis}
 use Rattle.solid_model.specs.declared.cell.Axis.TheVariants.{X, Y, Z}
 use Rattle.solid_model.specs.declared.cell.Cell.{Cell}
 use Rattle.solid_model.specs.Blocks.{Joined, IsOutside, AreBlocksOf}
-use Rattle.solid_model.specs.Cells.{coordinate, cell_at}
+use Rattle.solid_model.specs.Cells.{cell_at}
 use Rattle.solid_model.specs.DrawnStyle.{solid_drawing}
 use Rattle.solid_model.specs.Lists.{Member}
 use Rattle.solid_model.specs.Orders.{ComesBefore}
 use Rattle.solid_model.specs.Panels.{GridParts, coordinates_of, IsGridOf}
-use Rattle.solid_model.specs.Rooms.{is_within, box_place, box_count, number_at, IsEarlier}
+use Rattle.solid_model.specs.Rooms.{is_within, number_at, IsEarlier}
 use Rattle.solid_model.specs.Runs.{IsDrawing}
 use Rattle.solid_model.specs.VirtualFaces.{IsVirtual}
 use Rattle.solid_model.specs.Wire.{grid_sizes}
@@ -21,13 +19,11 @@ use Rattle.solid_model.proofs.BoxPlaces.{IsCellOfBox, cell_of_box}
 use Rattle.solid_model.proofs.CellOrder.{LiesBefore, before-lies, lies-before}
 use Rattle.solid_model.proofs.Fullness.{same_coordinates}
 use Rattle.solid_model.proofs.OneNumbering.{one_numbering}
-use Rattle.solid_model.proofs.Unions.{within_product}
 use Rattle.drawing_maker.specs.declared.piece.Piece.{Piece}
 use Rattle.drawing_maker.specs.declared.stops.Stop.{Stop}
-use Rattle.drawing_maker.specs.Pieces.{Spot, side_of, is_void, row_cells}
+use Rattle.drawing_maker.specs.Pieces.{Spot, side_of, row_cells}
 use Rattle.drawing_maker.specs.RowBlocks.{block_count, spot_block, blocks_before, row_block_count, block_where, blocks_in_row}
 use Rattle.drawing_maker.specs.Rows.{row_stops, coordinates_of_stops}
-use Rattle.drawing_maker.proofs.Members.{length-equal_parts, get_or-equal_parts}
 use Rattle.drawing_maker.proofs.Rows.{IsRow}
 use Rattle.drawing_maker.proofs.RowGrid.{piece_within, off_outside}
 use Rattle.drawing_maker.proofs.RowJoined.{full_joined}
@@ -37,29 +33,8 @@ use Rattle.drawing_maker.proofs.RowSpots.{Covers, place_in, place_is, place_less
 use Rattle.drawing_maker.proofs.RowSteps.{chain_keeps}
 use Rattle.drawing_maker.proofs.RowUnion.{gaps_are}
 use Rattle.drawing_maker.proofs.Spots.{IsInside}
+use Rattle.drawing_maker.proofs.Triples.{length-over_triples, get_or-over_triples}
 use Rattle.drawing_maker.proofs.SpotNumbers.{SpotBefore, block_below, one_or_full, IsFirstOf, first_of_block}
-
--- ---- the blocks by their places in the list
-
-length-blocks_in_row : (ps : List Piece) (stops : List Stop) → length (blocks_in_row ps stops) ≡ length stops * (length stops * length stops)
-length-blocks_in_row ps stops = length-equal_parts (λ (z : Stop). flat_map (λ (y : Stop). map (λ (x : Stop). block_where ps x.before y.before z.before) stops) stops)
-    (length stops * length stops) (λ z. length-equal_parts (λ (y : Stop). map (λ (x : Stop). block_where ps x.before y.before z.before) stops) (length stops)
-    (λ y. length-map stops (λ (x : Stop). block_where ps x.before y.before z.before)) stops) stops
-
-block_before_stops : (ps : List Piece) (stops : List Stop) (i j k : ℕ) (d : Stop) → i < length stops → j < length stops → k < length stops
-    → get_or (blocks_in_row ps stops) ((k * length stops + j) * length stops + i) None
-    ≡ block_where ps (get_or stops i d).before (get_or stops j d).before (get_or stops k d).before
-block_before_stops ps stops i j k d in_x in_y in_z =
-    let m = length stops in
-    let z = get_or stops k d in let y = get_or stops j d in
-    let line : Stop → Stop → List (Option ℕ) = λ w v. map (λ (x : Stop). block_where ps x.before v.before w.before) stops in
-    let there : (k * m + j) * m + i ≡ k * (m * m) + (j * m + i) = omega arith in
-    ap (λ n. get_or (blocks_in_row ps stops) n None) there
-    ∙ get_or-equal_parts (λ w. flat_map (line w) stops) (m * m)
-    (λ w. length-equal_parts (line w) m (λ v. length-map stops (λ (x : Stop). block_where ps x.before v.before w.before)) stops)
-    stops k (j * m + i) None d in_z (within_product j m i m in_y in_x)
-    ∙ get_or-equal_parts (line z) m (λ v. length-map stops (λ (x : Stop). block_where ps x.before v.before z.before)) stops j i None d in_y in_x
-    ∙ get_or-map (λ (x : Stop). block_where ps x.before y.before z.before) stops i d None in_x
 
 module _ (ps : List Piece) (row : IsRow ps) (g : GridParts) (same : (a : Axis) → coordinates_of g a ≡ coordinates_of_stops (row_stops ps))
     (grid : IsGridOf (solid_drawing (row_cells ps)) g) (is : IsDrawing (solid_drawing (row_cells ps))) where
@@ -68,6 +43,9 @@ module _ (ps : List Piece) (row : IsRow ps) (g : GridParts) (same : (a : Axis) �
 
   abbrev blocks : List (Option ℕ)
   blocks = blocks_in_row ps stops_behind
+
+  abbrev before_three : Stop → Stop → Stop → Option ℕ
+  before_three x y z = block_where ps x.before y.before z.before
 
   sizes_are : (a : Axis) → grid_sizes g a ≡ length stops_behind
   sizes_are = gaps_are ps row (coordinates_of g) same
@@ -81,7 +59,7 @@ module _ (ps : List Piece) (row : IsRow ps) (g : GridParts) (same : (a : Axis) �
           let i = at.x.number in let j = at.y.number in let k = at.z.number in
           (λ t. number_at (grid_sizes g) blocks (record { x = at.x.is t; y = at.y.is t; z = at.z.is t }))
           ∙ (λ t. get_or blocks ((k * sizes_are Y t + j) * sizes_are X t + i) None)
-          ∙ block_before_stops ps stops_behind i j k (record { at = 0; before = None })
+          ∙ get_or-over_triples before_three stops_behind i j k (record { at = 0; before = None }) None
           (let l = at.x.less in omega (arith, l, sizes_are X)) (let l = at.y.less in omega (arith, l, sizes_are Y)) (let l = at.z.less in omega (arith, l, sizes_are Z))
           ∙ sym (λ t. block_where ps (part_at ps (at.x.is t)) (part_at ps (at.y.is t)) (part_at ps (at.z.is t)))
           ∙ sym (block_of_is ps row n)
@@ -127,10 +105,13 @@ module _ (ps : List Piece) (row : IsRow ps) (g : GridParts) (same : (a : Axis) �
       along z w at too f = place_is ps row p z at ∙ ap (λ k. pos (first_place ps p + k)) f ∙ sym (place_is ps row p w too)
 
       one : spot_in ps row p n ≡ spot_in ps row p m → Joined g n m
-      one f = (zero, same_coordinates n m
-          (along n.x m.x (inside X) (inside_too X) (ap (λ (s : Spot). s.x) f))
-          (along n.y m.y (inside Y) (inside_too Y) (ap (λ (s : Spot). s.y) f))
-          (along n.z m.z (inside Z) (inside_too Z) (ap (λ (s : Spot). s.z) f)))
+      one f = (
+        zero,
+        same_coordinates n m
+            (along n.x m.x (inside X) (inside_too X) (ap (λ (s : Spot). s.x) f))
+            (along n.y m.y (inside Y) (inside_too Y) (ap (λ (s : Spot). s.y) f))
+            (along n.z m.z (inside Z) (inside_too Z) (ap (λ (s : Spot). s.z) f)),
+      )
 
   joined_from_number : (p q : Piece) (n m : Cell) → IsIn ps row p n → IsIn ps row q m → number_in p n ≡ number_in q m → Joined g n m
   joined_from_number p q n m inside inside_too e =
@@ -138,7 +119,7 @@ module _ (ps : List Piece) (row : IsRow ps) (g : GridParts) (same : (a : Axis) �
       let k = block_below q.kind (spot_in ps row q m) (spot_inside q m inside_too) in
       ⊎_elim {C = Joined g n m}
       (λ one. joined_in_one p n m inside (subst (λ r. IsIn ps row r m) (sym one) inside_too)
-          (let f : number_in p n ≡ number_in p m = e ∙ ap (λ r. number_in r m) (sym one) in omega (arith, f)))
+      (let f : number_in p n ≡ number_in p m = e ∙ ap (λ r. number_in r m) (sym one) in omega (arith, f)))
       (λ apart. absurd (⊎_elim {C = ⊥} (λ h. omega (arith, e, l, k, h.1)) (λ h. omega (arith, e, l, k, h.1)) apart))
       (one_or_before p q (inside X).member (inside_too X).member)
 
@@ -194,13 +175,13 @@ module _ (ps : List Piece) (row : IsRow ps) (g : GridParts) (same : (a : Axis) �
             subst (IsEarlier (blocks_before ps p.origin + l)) (sym (block_in ps row q m inside))
             (⊎_elim {C = number_in q m < blocks_before ps p.origin + l}
             (λ one.
-                let here : IsIn ps row p m = subst (λ r. IsIn ps row r m) (sym one) inside in
-                let less = first.earlier (spot_in ps row p m) (spot_inside p m here) (spot_before m here before) in
-                let e : number_in q m ≡ number_in p m = ap (λ r. number_in r m) (sym one) in
-                omega (arith, less, e))
+            let here : IsIn ps row p m = subst (λ r. IsIn ps row r m) (sym one) inside in
+            let less = first.earlier (spot_in ps row p m) (spot_inside p m here) (spot_before m here before) in
+            let e : number_in q m ≡ number_in p m = ap (λ r. number_in r m) (sym one) in
+            omega (arith, less, e))
             (λ apart. ⊎_elim {C = number_in q m < blocks_before ps p.origin + l}
-                (λ h. absurd (let from = z.from in omega (arith, ints, from, late, in_s, h.0)))
-                (λ h. omega (arith, own, h.1)) apart)
+            (λ h. absurd (let from = z.from in omega (arith, ints, from, late, in_s, h.0)))
+            (λ h. omega (arith, own, h.1)) apart)
             (one_or_before p q k z.member))
 
   -- ---- all of them
@@ -228,11 +209,11 @@ module _ (ps : List Piece) (row : IsRow ps) (g : GridParts) (same : (a : Axis) �
   below_count : (n : Cell) (k : ℕ) → IsTrue (is_within (grid_sizes g) n) → number_at (grid_sizes g) blocks n ≡ Some k → k < row_block_count ps
   below_count n k n_in e = ⊎_elim {C = k < row_block_count ps}
       (λ at.
-          let p = at.0 in
-          let own = block_below p.kind (spot_in ps row p n) (spot_inside p n at.1) in
-          let f = same_Some _ _ (sym (block_in ps row p n at.1) ∙ sym (number_is n n_in) ∙ e) in
-          let all = ends_within block_count ps row p (at.1 X).member in
-          omega (arith, own, f, all, blocks-sum_before ps p.origin, blocks-sum_all ps))
+      let p = at.0 in
+      let own = block_below p.kind (spot_in ps row p n) (spot_inside p n at.1) in
+      let f = same_Some _ _ (sym (block_in ps row p n at.1) ∙ sym (number_is n n_in) ∙ e) in
+      let all = ends_within block_count ps row p (at.1 X).member in
+      omega (arith, own, f, all, blocks-sum_before ps p.origin, blocks-sum_all ps))
       (λ off. absurd (none-some k (sym (block_off ps row n off) ∙ sym (number_is n n_in) ∙ e))) (in_or_off ps row n)
 
   first_cell : (k : ℕ) → k < row_block_count ps → (n : Cell) × IsTrue (is_within (grid_sizes g) n) × (number_at (grid_sizes g) blocks n ≡ Some k)
@@ -260,7 +241,7 @@ module _ (ps : List Piece) (row : IsRow ps) (g : GridParts) (same : (a : Axis) �
   -- The blocks of the grid are those of the row.
   pub row_blocks : AreBlocksOf g (blocks_in_row ps (drop 1 (row_stops ps))) (row_block_count ps)
   row_blocks = record {
-    listed = length-blocks_in_row ps stops_behind ∙ omega arith ∙ sym (λ t. sizes_are Z t * sizes_are Y t * sizes_are X t);
+    listed = length-over_triples before_three stops_behind ∙ omega arith ∙ sym (λ t. sizes_are Z t * sizes_are Y t * sizes_are X t);
     outside = outside_both;
     joined = joined_both;
     below = below_count;

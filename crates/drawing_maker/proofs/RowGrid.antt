@@ -1,6 +1,6 @@
 -- A row of pieces on its grid: which grid cells are full, that it matches its drawing, and which grid segments are blank.
-use Rattle.std.proofs.Common.{◌≡◌, ◌≢◌, ◌⊎◌, ⊎_elim, inl, inr, Bool, true, false, not, ◌&&◌, ◌||◌, ℕ, zero, suc, ◌+◌, ◌-◌, ◌<◌, ◌≤◌, List, length, drop, get_or, Option, Some, None, ℤ, pos, negsuc, ◌-ℤ◌, ◌≤ℤ◌, ◌<ℤ◌, IsTrue, refl, ap, sym, subst, ◌∙◌, arith}
-use Rattle.std.proofs.lemmas.Bool.{false≢true, both_ways, cases_lt, false_from_ne_true, true_from_ne_false, ltb-true, ltb-false, lt-ltb}
+use Rattle.std.proofs.Common.{◌≡◌, ⊎_elim, inl, inr, Bool, true, false, not, ℕ, zero, suc, ◌+◌, ◌-◌, ◌<◌, ◌≤◌, List, length, drop, None, ℤ, pos, negsuc, ◌-ℤ◌, refl, ap, sym, subst, ◌∙◌, arith}
+use Rattle.std.proofs.lemmas.Bool.{false≢true, both_ways, cases_lt, ltb-true, lt-ltb}
 use Rattle.std.proofs.lemmas.Int.{ints}
 use Rattle.std.proofs.lemmas.List.{length-map, length-drop, get_or_past}
 use Rattle.std.proofs.lemmas.Option.{none-some}
@@ -10,15 +10,12 @@ use Rattle.solid_model.specs.declared.cell.Cell.{Cell}
 use Rattle.solid_model.specs.declared.frame.View.{View}
 use Rattle.solid_model.specs.declared.frame.View.TheVariants.{Front, Top, Side}
 use Rattle.solid_model.specs.declared.segment.Segment.{Segment}
-use Rattle.solid_model.specs.declared.segment.Style.{Style}
-use Rattle.solid_model.specs.declared.segment.Style.TheVariants.{Blank, Dashed, Solid}
+use Rattle.solid_model.specs.declared.segment.Style.TheVariants.{Blank}
 use Rattle.solid_model.specs.Cells.{coordinate, placed, cell_before, is_full}
-use Rattle.solid_model.specs.Columns.{cell_in, column_after, column_before}
-use Rattle.solid_model.specs.Draws.{Draws}
+use Rattle.solid_model.specs.Columns.{cell_in}
 use Rattle.solid_model.specs.DrawnStyle.{solid_drawing}
 use Rattle.solid_model.specs.Frames.{frame_of, along, across, cell_on, at_places}
-use Rattle.solid_model.specs.Grid.{is_in_gap, IsInSomeGap, LiesInGridCell}
-use Rattle.solid_model.specs.Lists.{Member, Ascends}
+use Rattle.solid_model.specs.Grid.{is_in_gap, IsInSomeGap}
 use Rattle.solid_model.specs.Matching.{Matches}
 use Rattle.solid_model.specs.Panels.{GridParts, coordinates_of, IsGridOf}
 use Rattle.solid_model.specs.Rooms.{is_below, is_within, place_of_number}
@@ -34,14 +31,13 @@ use Rattle.solid_model.proofs.InGrid.{gap_or_none, placed_at}
 use Rattle.solid_model.proofs.Styles.{one_style}
 use Rattle.solid_model.proofs.Views.{views_are_frames, runs_forward, stands_forward, forward_cell}
 use Rattle.drawing_maker.specs.declared.piece.Piece.{Piece}
-use Rattle.drawing_maker.specs.declared.stops.Part.{Part}
 use Rattle.drawing_maker.specs.declared.stops.Stop.{Stop}
 use Rattle.drawing_maker.specs.Pieces.{row_cells}
 use Rattle.drawing_maker.specs.Rows.{row_stops, coordinates_of_stops}
 use Rattle.drawing_maker.proofs.Rows.{IsRow}
 use Rattle.drawing_maker.proofs.RowPlaces.{part_at}
 use Rattle.drawing_maker.proofs.RowSpots.{Covers, IsIn, IsOff, in_or_off, full_at, full_at_is, full_off, part_of_covered}
-use Rattle.drawing_maker.proofs.RowStops.{IsTold, before_at, ascends_row, told_in_gap}
+use Rattle.drawing_maker.proofs.RowStops.{IsTold, ascends_row, told_in_gap}
 use Rattle.drawing_maker.proofs.RowUnion.{full_where_told, in_gap_of_row}
 
 module _ (ps : List Piece) (row : IsRow ps) where

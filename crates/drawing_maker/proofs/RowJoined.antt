@@ -1,7 +1,8 @@
 -- The full cells of a piece are joined: between two neighbours one of their two common places has no voids along its axis, so
 -- that in a view across the other one the columns beside the segment between them are equal, nothing is drawn, and the face
 -- between them leads out along the sight.
-use Rattle.std.proofs.Common.{◌≡◌, ◌⊎◌, ⊎_elim, inl, inr, Bool, true, false, not, ◌&&◌, ℕ, zero, suc, ◌+◌, ◌-◌, ◌<◌, List, ℤ, pos, ◌-ℤ◌, ◌≤ℤ◌, ◌<ℤ◌, refl, ap, sym, subst, ◌∙◌, arith}
+use Rattle.std.proofs.Common.{◌≡◌, ◌⊎◌, ⊎_elim, inl, inr, Bool, true, false, not, ◌&&◌, ℕ, zero, suc, ◌+◌, ◌-◌, List, ℤ, pos, ◌-ℤ◌, refl, ap, sym, subst, ◌∙◌, arith}
+use Rattle.std.proofs.Math.Bool.{and-false}
 use Rattle.std.proofs.lemmas.Bool.{and_cases}
 use Rattle.std.proofs.lemmas.Int.{ints}
 use Rattle.solid_model.specs.declared.cell.Axis.{Axis}
@@ -24,7 +25,7 @@ use Rattle.solid_model.proofs.InGrid.{placed_at}
 use Rattle.solid_model.proofs.Passages.{passages-back}
 use Rattle.solid_model.proofs.Views.{each_axis, across_along, views_are_frames}
 use Rattle.drawing_maker.specs.declared.piece.Piece.{Piece}
-use Rattle.drawing_maker.specs.Pieces.{side_of, is_void, row_cells}
+use Rattle.drawing_maker.specs.Pieces.{is_void, row_cells}
 use Rattle.drawing_maker.specs.Rows.{row_stops, coordinates_of_stops}
 use Rattle.drawing_maker.proofs.BoxLines.{some_greater, out_down}
 use Rattle.drawing_maker.proofs.Rows.{IsRow}
@@ -44,20 +45,21 @@ placed_twice X k j n = refl
 placed_twice Y k j n = refl
 placed_twice Z k j n = refl
 
-false_behind : (b : Bool) → (b && false) ≡ false
-false_behind true = refl
-false_behind false = refl
-
 module _ (ps : List Piece) (row : IsRow ps) where
   -- at a place without voids along one axis a cell is no void
-  pub solid_at : (p : Piece) (u : Cell) (a : Axis) → hole p.kind (place_in ps row p (coordinate a u)) ≡ false → is_void p.kind (spot_in ps row p u) ≡ false
+  solid_at : (p : Piece) (u : Cell) (a : Axis) → hole p.kind (place_in ps row p (coordinate a u)) ≡ false → is_void p.kind (spot_in ps row p u) ≡ false
   solid_at p u X e = void_is p.kind (spot_in ps row p u)
       ∙ ap (λ b. b && (hole p.kind (place_in ps row p u.y) && hole p.kind (place_in ps row p u.z))) e
   solid_at p u Y e = void_is p.kind (spot_in ps row p u)
-      ∙ ap (λ b. hole p.kind (place_in ps row p u.x) && (b && hole p.kind (place_in ps row p u.z))) e ∙ false_behind _
+      ∙ ap (λ b. hole p.kind (place_in ps row p u.x) && (b && hole p.kind (place_in ps row p u.z))) e ∙ and-false _
   solid_at p u Z e = void_is p.kind (spot_in ps row p u)
       ∙ ap (λ b. hole p.kind (place_in ps row p u.x) && (hole p.kind (place_in ps row p u.y) && b)) e
-      ∙ ap (λ b. hole p.kind (place_in ps row p u.x) && b) (false_behind _) ∙ false_behind _
+      ∙ ap (λ b. hole p.kind (place_in ps row p u.x) && b) (and-false _) ∙ and-false _
+
+  -- so it is full
+  pub full_at_solid : (p : Piece) (u : Cell) → IsIn ps row p u → (a : Axis) → hole p.kind (place_in ps row p (coordinate a u)) ≡ false
+      → full_at ps row u ≡ true
+  full_at_solid p u inside a e = full_in ps row p u inside ∙ ap not (solid_at p u a e)
 
   -- the square lies in the piece, at a place along the first axis that has no voids
   abbrev IsSolidSquare : Piece → ℤ → ℤ → Type 0
@@ -78,7 +80,7 @@ module _ (ps : List Piece) (row : IsRow ps) where
   same_over_squares v upright p u w at too depth = by (in_or_off ps row u) (in_or_off ps row w)
     where
       full_there : (x : Cell) → OfSquare (IsSolidSquare p) v upright x → IsIn ps row p x → full_at ps row x ≡ true
-      full_there x square inside = full_in ps row p x inside ∙ ap not (solid_at p x (axis_along v upright) square.1)
+      full_there x square inside = full_at_solid p x inside (axis_along v upright) square.1
 
       -- the one is in the piece where the other is
       in_too : (x y : Cell) → OfSquare (IsSolidSquare p) v upright x → OfSquare (IsSolidSquare p) v upright y

@@ -1,6 +1,6 @@
 -- What lies in no piece along all axes is outside: in a view that shows two axes along which it isn't in one piece, nothing is
 -- drawn beside its square but towards the diagonal, so each face of the column over the square leads out the other way.
-use Rattle.std.proofs.Common.{◌≡◌, ◌⊎◌, ⊎_elim, inl, inr, Bool, true, false, not, ◌&&◌, ◌||◌, ℕ, zero, suc, ◌+◌, ◌≤◌, List, None, ℤ, pos, ◌+ℤ◌, ◌-ℤ◌, ◌≤ℤ◌, ◌<ℤ◌, IsTrue, refl, ap, sym, subst, ◌∙◌, arith}
+use Rattle.std.proofs.Common.{◌≡◌, ◌⊎◌, ⊎_elim, inl, inr, Bool, true, false, not, ◌&&◌, ◌||◌, ℕ, ◌+◌, List, None, ℤ, pos, ◌+ℤ◌, ◌-ℤ◌, ◌≤ℤ◌, ◌<ℤ◌, refl, ap, sym, subst, ◌∙◌, arith}
 use Rattle.std.proofs.lemmas.Bool.{both_ways, and_parts}
 use Rattle.std.proofs.lemmas.Int.{ints, by_lt_z}
 use Rattle.solid_model.specs.declared.cell.Axis.{Axis}
@@ -17,15 +17,15 @@ use Rattle.solid_model.specs.Rooms.{same_axis, face_sizes, LeadsOut}
 use Rattle.solid_model.specs.Runs.{IsDrawing}
 use Rattle.solid_model.specs.VirtualFaces.{Bars, IsVirtual}
 use Rattle.solid_model.specs.Wire.{grid_sizes, axis_along, axis_across, is_drawn_from, is_pseudo_vertex, is_drawn_or_point, is_pseudo_edge}
-use Rattle.solid_model.proofs.InGrid.{before_after, placed_at}
+use Rattle.solid_model.proofs.InGrid.{before_after}
 use Rattle.drawing_maker.specs.declared.piece.Piece.{Piece}
 use Rattle.drawing_maker.specs.Pieces.{side_of, row_cells}
 use Rattle.drawing_maker.specs.Rows.{row_stops, coordinates_of_stops}
 use Rattle.drawing_maker.proofs.BoxLines.{some_greater, out_down, out_up}
 use Rattle.drawing_maker.proofs.Rows.{IsRow}
-use Rattle.drawing_maker.proofs.RowGrid.{HasEqualColumns, undrawn}
+use Rattle.drawing_maker.proofs.RowGrid.{undrawn}
 use Rattle.drawing_maker.proofs.RowPlaces.{first_place, part_at}
-use Rattle.drawing_maker.proofs.RowSpots.{Covers, covered_or_none, one_covers, IsIn, IsOff, Apart, in_or_off, full_at, full_off}
+use Rattle.drawing_maker.proofs.RowSpots.{Covers, covered_or_none, one_covers, IsOff, Apart, in_or_off, full_at, full_off}
 
 -- ---- edges that aren't drawn
 
@@ -146,7 +146,7 @@ module _ (ps : List Piece) (row : IsRow ps) where
         λ m at. moved_across Q v upright _ m (up _ _ at) in
         out_up sizes (Bars g (frame_of v).away.axis) (axis_across v upright) (OfSquare Q v upright)
         (λ m at. unbarred_apart v upright (cell_after (axis_across v upright) m) (apart _ _ (kept m at))
-            (subst (OfSquare (Apart ps row) v upright) (sym (before_after (axis_across v upright) m)) (apart _ _ at)))
+        (subst (OfSquare (Apart ps row) v upright) (sym (before_after (axis_across v upright) m)) (apart _ _ at)))
         kept (sizes (axis_across v upright)) n (omega (arith, ints, from)) h
       where
         sizes : Axis → ℕ
@@ -168,11 +168,11 @@ module _ (ps : List Piece) (row : IsRow ps) where
         by (inr none) = face_out_down v upright (λ x y. (p : Piece) → Covers ps row p x → ⊥) (λ x y h p at too. h p at) (λ x y h. h) n none.1
         by (inl (p, at)) = by_lt_z w (pos (first_place ps p))
             (λ before. face_out_down v upright (λ x y. Covers ps row p x × (y <ℤ pos (first_place ps p)))
-                (λ x y h. apart_before p x y h.0 h.1) (λ x y h. (h.0, omega (arith, ints, h.1))) n (at, before))
+            (λ x y h. apart_before p x y h.0 h.1) (λ x y h. (h.0, omega (arith, ints, h.1))) n (at, before))
             (λ from. by_lt_z w (pos (first_place ps p + side_of p.kind))
-                (λ to. absurd (apart p at (record { member = at.member; from = from; to = to })))
-                (λ behind. face_out_up v upright (λ x y. Covers ps row p x × (pos (first_place ps p + side_of p.kind) ≤ℤ y))
-                (λ x y h. apart_behind p x y h.0 h.1) (λ x y h. (h.0, omega (arith, ints, h.1))) n (omega (arith, ints)) (at, behind)))
+            (λ to. absurd (apart p at (record { member = at.member; from = from; to = to })))
+            (λ behind. face_out_up v upright (λ x y. Covers ps row p x × (pos (first_place ps p + side_of p.kind) ≤ℤ y))
+            (λ x y h. apart_behind p x y h.0 h.1) (λ x y h. (h.0, omega (arith, ints, h.1))) n (omega (arith, ints)) (at, behind)))
 
     -- so down the column over the square no face is virtual
     column_out : (v : View) (upright : Bool) (n : Cell) → OfSquare (Apart ps row) v upright n → IsOutside g n

@@ -1,22 +1,21 @@
 -- Where the pieces of a row stand among its parts, counted by number along an axis, and where their blocks begin: each where
 -- those before it end, so that what two pieces have doesn't overlap.
-use Rattle.std.proofs.Common.{◌≡◌, ◌⊎◌, ⊎_elim, inl, inr, true, false, nat_lt, ℕ, zero, suc, ◌+◌, ◌-◌, ◌<◌, ◌≤◌, List, [], ◌∷◌, ◌++◌, map, sum, drop, get_or, Option, Some, None, ℤ, pos, negsuc, ◌-ℤ◌, ◌≤ℤ◌, ◌<ℤ◌, if◌then◌else◌, refl, ap, sym, subst, ◌∙◌, arith}
+use Rattle.std.proofs.Common.{◌≡◌, inl, inr, true, false, nat_lt, ℕ, suc, ◌+◌, ◌-◌, ◌<◌, ◌≤◌, List, [], ◌∷◌, ◌++◌, map, drop, get_or, Option, Some, None, ℤ, pos, negsuc, if◌then◌else◌, refl, ap, sym, subst, ◌∙◌, arith}
 use Rattle.std.specs.List.{range_with_len}
 use Rattle.std.proofs.lemmas.Bool.{cases_lt}
-use Rattle.std.proofs.lemmas.Int.{ints}
 use Rattle.std.proofs.lemmas.List.{get_or_append_left, get_or-append-add}
 use Rattle.std.proofs.lemmas.List.FromFn.{get_or-map-range_with_len, length-map-range_with_len}
 use Rattle.std.proofs.lemmas.List.Sums.{sum-map, sum_by-cons}
 use Rattle.std.proofs.lemmas.Option.{none-some, same_Some}
 use Rattle.solid_model.specs.Lists.{Member, Each}
-use Rattle.solid_model.proofs.Lists.{each-at, each-weaker, ascends-members}
+use Rattle.solid_model.proofs.Lists.{each-at, each-weaker}
 use Rattle.drawing_maker.specs.declared.piece.Kind.{Kind}
 use Rattle.drawing_maker.specs.declared.piece.Piece.{Piece}
 use Rattle.drawing_maker.specs.declared.stops.Part.{Part}
 use Rattle.drawing_maker.specs.declared.stops.Stop.{Stop}
 use Rattle.drawing_maker.specs.Pieces.{side_of}
 use Rattle.drawing_maker.specs.RowBlocks.{block_count, blocks_before, row_block_count}
-use Rattle.drawing_maker.specs.Rows.{first_stop, stop_after, row_stops}
+use Rattle.drawing_maker.specs.Rows.{stop_after, row_stops}
 use Rattle.drawing_maker.proofs.Rows.{EndsBefore, IsRow, row_behind}
 use Rattle.drawing_maker.proofs.RowStops.{before_at}
 
@@ -94,12 +93,12 @@ module _ (w : Kind → ℕ) where
   belongs_to (r ∷ ps) row k l = elim (cases_lt k (w r.kind)) as (λ _. BelongsTo (r ∷ ps) k) [
     | inl less ↦ record { piece = r; member = inl refl; local = k; less = less; is = (let none = first_at_zero r ps row in omega (arith, none)) }
     | inr most ↦ (let rest = belongs_to ps (row_behind r ps row) (k - w r.kind) (omega arith) in record {
-        piece = rest.piece;
-        member = inr rest.member;
-        local = rest.local;
-        less = rest.less;
-        is = (let one = later_counts_first r ps row rest.piece rest.member in let f = rest.is in omega (arith, one, f, most));
-      })
+      piece = rest.piece;
+      member = inr rest.member;
+      local = rest.local;
+      less = rest.less;
+      is = (let one = later_counts_first r ps row rest.piece rest.member in let f = rest.is in omega (arith, one, f, most));
+    })
   ]
 
 -- the blocks of a row are such sums

@@ -1,9 +1,10 @@
 -- The cells of a row of pieces, counted by the numbers of the gaps between its stops: whether one is full, and its block, by the
 -- piece in which it lies along all three axes, if there is one.
-use Rattle.std.proofs.Common.{◌≡◌, ◌⊎◌, ⊎_elim, inl, inr, Bool, true, false, not, ◌&&◌, ◌==◌, ℕ, zero, suc, ◌+◌, ◌-◌, ◌<◌, ◌≤◌, List, Option, Some, None, ℤ, pos, negsuc, ◌-ℤ◌, ◌≤ℤ◌, ◌<ℤ◌, if◌then◌else◌, refl, ap, sym, subst, ◌∙◌, arith}
-use Rattle.std.proofs.lemmas.Bool.{false≢true, both_ways, and_parts, or_cases}
+use Rattle.std.proofs.Common.{◌≡◌, ◌⊎◌, ⊎_elim, inl, inr, Bool, true, false, not, ◌&&◌, ◌==◌, ℕ, suc, ◌+◌, ◌-◌, ◌<◌, ◌≤◌, List, Option, Some, None, ℤ, pos, negsuc, ◌-ℤ◌, ◌≤ℤ◌, ◌<ℤ◌, if◌then◌else◌, refl, ap, sym, subst, ◌∙◌, arith}
+use Rattle.std.proofs.Math.Bool.{and-false}
+use Rattle.std.proofs.lemmas.Bool.{false≢true, or_cases}
 use Rattle.std.proofs.lemmas.Bool.Decides.{eqb_tells}
-use Rattle.std.proofs.lemmas.Int.{ints, by_lt_z}
+use Rattle.std.proofs.lemmas.Int.{ints}
 use Rattle.std.proofs.lemmas.Option.{none-some, same_Some}
 use Rattle.solid_model.specs.declared.cell.Axis.{Axis}
 use Rattle.solid_model.specs.declared.cell.Axis.TheVariants.{X, Y, Z}
@@ -17,8 +18,8 @@ use Rattle.drawing_maker.specs.declared.piece.Kind.TheVariants.{UnitCube, Hollow
 use Rattle.drawing_maker.specs.declared.piece.Piece.{Piece}
 use Rattle.drawing_maker.specs.declared.stops.Part.{Part}
 use Rattle.drawing_maker.specs.Pieces.{Spot, side_of, is_odd_place, is_void}
-use Rattle.drawing_maker.specs.RowBlocks.{spot_block, blocks_before, part_block, block_where}
-use Rattle.drawing_maker.specs.Rows.{row_stops, is_full_part, is_full_where}
+use Rattle.drawing_maker.specs.RowBlocks.{spot_block, blocks_before, block_where}
+use Rattle.drawing_maker.specs.Rows.{is_full_where}
 use Rattle.drawing_maker.proofs.Rows.{EndsBefore, IsRow, one_origin}
 use Rattle.drawing_maker.proofs.RowPlaces.{stop_count, first_place, part_at, part_there, which_part, ends_before}
 
@@ -49,12 +50,12 @@ hole_is_inner HollowCube k e =
     subst (IsInner HollowCube) (sym one) (record { behind_first = omega arith; before_last = omega arith; next = refl })
 hole_is_inner EightVoids k e = ⊎_elim {C = IsInner EightVoids k}
     (λ f. let one : k ≡ 1 = grind (arith, f) in
-        subst (IsInner EightVoids) (sym one) (record { behind_first = omega arith; before_last = omega arith; next = refl }))
+    subst (IsInner EightVoids) (sym one) (record { behind_first = omega arith; before_last = omega arith; next = refl }))
     (λ f. let three : k ≡ 3 = grind (arith, f) in
-        subst (IsInner EightVoids) (sym three) (record { behind_first = omega arith; before_last = omega arith; next = refl }))
+    subst (IsInner EightVoids) (sym three) (record { behind_first = omega arith; before_last = omega arith; next = refl }))
     (or_cases (k == 1) (k == 3) e)
 
--- of two neighbouring places one has none, and the first and the last one have none
+-- so the first place has none
 pub no_hole_first : (kind : Kind) → hole kind 0 ≡ false
 no_hole_first UnitCube = refl
 no_hole_first HollowCube = refl
@@ -147,9 +148,9 @@ module _ (ps : List Piece) (row : IsRow ps) where
       by (inl (p, at)) (inl (q, too)) = ⊎_elim {C = ((r : Piece) × Covers r z × Covers r w) ⊎ Apart z w}
           (λ e. inl (p, at, subst (λ r. Covers r w) (sym e) too))
           (λ apart. inr (λ r k l.
-              let e = ap (λ (s : Piece). s.origin) (sym (one_covers p r z at k) ∙ refl) in
-              let f = ap (λ (s : Piece). s.origin) (one_covers q r w too l) in
-              ⊎_elim {C = ⊥} (λ h. omega (arith, e, f, h.0)) (λ h. omega (arith, e, f, h.0)) apart))
+          let e = ap (λ (s : Piece). s.origin) (sym (one_covers p r z at k)) in
+          let f = ap (λ (s : Piece). s.origin) (one_covers q r w too l) in
+          ⊎_elim {C = ⊥} (λ h. omega (arith, e, f, h.0)) (λ h. omega (arith, e, f, h.0)) apart))
           (one_or_apart p q at.member too.member)
 
   pub in_or_off : (u : Cell) → ((p : Piece) × IsIn p u) ⊎ IsOff u
@@ -213,7 +214,7 @@ module _ (ps : List Piece) (row : IsRow ps) where
           let first : p ≡ u.piece = ap (λ (x : Part). x.piece) (same_Some _ _ (sym (part_of_covered p z at) ∙ e)) in
           let second : q ≡ v.piece = ap (λ (x : Part). x.piece) (same_Some _ _ (sym (part_of_covered q w too) ∙ f)) in
           ⊎_elim (λ same. absurd (apart p at (subst (λ r. Covers r w)
-              (sym (one_origin ps row p q at.member too.member (ap (λ (r : Piece). r.origin) first ∙ same.1 ∙ ap (λ (r : Piece). r.origin) (sym second)))) too)))
+          (sym (one_origin ps row p q at.member too.member (ap (λ (r : Piece). r.origin) first ∙ same.1 ∙ ap (λ (r : Piece). r.origin) (sym second)))) too)))
           (λ other. other.0) (eqb_tells u.piece.origin v.piece.origin)
 
   nothing_off : (u : Cell) → IsOff u → (x y z : Option Part) → part_at ps u.x ≡ x → part_at ps u.y ≡ y → part_at ps u.z ≡ z
@@ -222,22 +223,20 @@ module _ (ps : List Piece) (row : IsRow ps) where
   nothing_off u off (Some a) None z e f h = (refl, refl)
   nothing_off u off (Some a) (Some b) None e f h = (refl, refl)
   nothing_off u (inl apart) (Some a) (Some b) (Some c) e f h =
-      let no = differ_where_apart u.x u.y a b apart e f in
-      (ap (λ t. t && ((b.piece.origin == c.piece.origin) && not (is_void a.piece.kind (record { x = a.place; y = b.place; z = c.place })))) no,
-      ap (λ t. if t && (b.piece.origin == c.piece.origin) then Some (blocks_before ps a.piece.origin
-      + spot_block a.piece.kind (record { x = a.place; y = b.place; z = c.place })) else None) no)
+      let no = differ_where_apart u.x u.y a b apart e f in (
+        ap (λ t. t && ((b.piece.origin == c.piece.origin) && not (is_void a.piece.kind (record { x = a.place; y = b.place; z = c.place })))) no,
+        ap (λ t. if t && (b.piece.origin == c.piece.origin) then Some (blocks_before ps a.piece.origin
+            + spot_block a.piece.kind (record { x = a.place; y = b.place; z = c.place })) else None) no,
+      )
   nothing_off u (inr apart) (Some a) (Some b) (Some c) e f h =
-      let no = differ_where_apart u.y u.z b c apart f h in
-      (ap (λ t. (a.piece.origin == b.piece.origin) && (t && not (is_void a.piece.kind (record { x = a.place; y = b.place; z = c.place })))) no
-      ∙ never (a.piece.origin == b.piece.origin),
-      ap (λ t. if (a.piece.origin == b.piece.origin) && t then Some (blocks_before ps a.piece.origin
-      + spot_block a.piece.kind (record { x = a.place; y = b.place; z = c.place })) else None) no
-      ∙ ap (λ t. if t then Some (blocks_before ps a.piece.origin
-      + spot_block a.piece.kind (record { x = a.place; y = b.place; z = c.place })) else None) (never (a.piece.origin == b.piece.origin)))
-    where
-      never : (t : Bool) → (t && false) ≡ false
-      never true = refl
-      never false = refl
+      let no = differ_where_apart u.y u.z b c apart f h in (
+        ap (λ t. (a.piece.origin == b.piece.origin) && (t && not (is_void a.piece.kind (record { x = a.place; y = b.place; z = c.place })))) no
+            ∙ and-false (a.piece.origin == b.piece.origin),
+        ap (λ t. if (a.piece.origin == b.piece.origin) && t then Some (blocks_before ps a.piece.origin
+            + spot_block a.piece.kind (record { x = a.place; y = b.place; z = c.place })) else None) no
+            ∙ ap (λ t. if t then Some (blocks_before ps a.piece.origin
+            + spot_block a.piece.kind (record { x = a.place; y = b.place; z = c.place })) else None) (and-false (a.piece.origin == b.piece.origin)),
+      )
 
   pub full_off : (u : Cell) → IsOff u → full_at u ≡ false
   unfolding full_at

@@ -1,6 +1,6 @@
 -- Each step that crosses no virtual face stays in its block: of two neighbouring cells that are of different blocks one is full
 -- and the other empty.
-use Rattle.std.proofs.Common.{◌≡◌, ◌⊎◌, ⊎_elim, inl, inr, Bool, true, false, not, ◌&&◌, ℕ, suc, ◌+◌, ◌<◌, List, Option, Some, ℤ, pos, ◌-ℤ◌, ◌≤ℤ◌, ◌<ℤ◌, refl, ap, sym, subst, ◌∙◌, arith}
+use Rattle.std.proofs.Common.{◌≡◌, ◌⊎◌, inl, inr, Bool, true, false, not, ◌&&◌, suc, ◌+◌, List, Some, ℤ, pos, ◌-ℤ◌, refl, ap, sym, subst, ◌∙◌, arith}
 use Rattle.std.proofs.lemmas.Bool.{false≢true, both_ways, and_parts, false_from_ne_true}
 use Rattle.std.proofs.lemmas.Int.{ints, by_lt_z}
 use Rattle.solid_model.specs.declared.cell.Axis.{Axis}
@@ -18,11 +18,11 @@ use Rattle.solid_model.proofs.ConstantOnBlocks.{flat_unless_virtual}
 use Rattle.solid_model.proofs.InGrid.{placed_at}
 use Rattle.drawing_maker.specs.declared.piece.Piece.{Piece}
 use Rattle.drawing_maker.specs.Pieces.{side_of, is_void, row_cells}
-use Rattle.drawing_maker.specs.RowBlocks.{spot_block, blocks_before}
+use Rattle.drawing_maker.specs.RowBlocks.{blocks_before}
 use Rattle.drawing_maker.specs.Rows.{row_stops, coordinates_of_stops}
 use Rattle.drawing_maker.proofs.Rows.{IsRow}
 use Rattle.drawing_maker.proofs.RowGrid.{full_on_grid, row_matches}
-use Rattle.drawing_maker.proofs.RowJoined.{placed_own, placed_twice, solid_at}
+use Rattle.drawing_maker.proofs.RowJoined.{placed_own, placed_twice, full_at_solid}
 use Rattle.drawing_maker.proofs.RowPlaces.{first_place}
 use Rattle.drawing_maker.proofs.RowSpots.{hole, void_is, hole_is_inner, no_hole_first, Covers, place_in, place_is, one_covers_next, IsIn, spot_in, IsOff, in_or_off, not_both, full_at, full_in, full_off, block_of, block_in, block_off}
 use Rattle.drawing_maker.proofs.SpotNumbers.{full_block}
@@ -55,30 +55,27 @@ module _ (ps : List Piece) (row : IsRow ps) where
       by Y = (and_parts (h u.y) (h u.z) parts.1).0
       by Z = (and_parts (h u.y) (h u.z) parts.1).1
 
-  full_there : (p : Piece) (u : Cell) → IsIn ps row p u → (a : Axis) → hole p.kind (place_in ps row p (coordinate a u)) ≡ false → full_at ps row u ≡ true
-  full_there p u inside a e = full_in ps row p u inside ∙ ap not (solid_at ps row p u a e)
-
   -- at its first place a piece is full,
   enters : (p : Piece) (u : Cell) (a : Axis) → IsIn ps row p u → IsOff ps row (cell_before a u) → full_at ps row u ≡ full_at ps row (cell_before a u) → ⊥
   enters p u a inside off same = by_lt_z (coordinate a u -ℤ pos 1) (pos (first_place ps p))
       (λ before.
-          let e = place_is ps row p (coordinate a u) (inside a) in
-          let first : place_in ps row p (coordinate a u) ≡ 0 = omega (arith, ints, before, e) in
-          false≢true (sym (full_off ps row (cell_before a u) off) ∙ sym same
-          ∙ full_there p u inside a (ap (hole p.kind) first ∙ no_hole_first p.kind)))
+      let e = place_is ps row p (coordinate a u) (inside a) in
+      let first : place_in ps row p (coordinate a u) ≡ 0 = omega (arith, ints, before, e) in
+      false≢true (sym (full_off ps row (cell_before a u) off) ∙ sym same
+      ∙ full_at_solid ps row p u inside a (ap (hole p.kind) first ∙ no_hole_first p.kind)))
       (λ from. not_both ps row p (cell_before a u) (stays_in p a (coordinate a u -ℤ pos 1) u inside
-          (record { member = (inside a).member; from = from; to = (let l = (inside a).to in omega (arith, ints, l)) })) off)
+      (record { member = (inside a).member; from = from; to = (let l = (inside a).to in omega (arith, ints, l)) })) off)
 
   -- and at its last one
   leaves : (p : Piece) (u : Cell) (a : Axis) → IsOff ps row u → IsIn ps row p (cell_before a u) → full_at ps row u ≡ full_at ps row (cell_before a u) → ⊥
   leaves p u a off inside same = by_lt_z (coordinate a u) (pos (first_place ps p + side_of p.kind))
       (λ to. not_both ps row p u (subst (IsIn ps row p) (placed_twice a (coordinate a u) (coordinate a u -ℤ pos 1) u ∙ placed_own a u)
-          (stays_in p a (coordinate a u) (cell_before a u) inside
-          (record { member = (inside a).member; from = (let l = (inside a).from in omega (arith, ints, l, at)); to = to }))) off)
+      (stays_in p a (coordinate a u) (cell_before a u) inside
+      (record { member = (inside a).member; from = (let l = (inside a).from in omega (arith, ints, l, at)); to = to }))) off)
       (λ behind.
-          let e = place_is ps row p (coordinate a (cell_before a u)) (inside a) in
-          false≢true (sym (full_off ps row u off) ∙ same ∙ full_there p (cell_before a u) inside a
-          (false_from_ne_true _ (λ h. let l = (hole_is_inner p.kind _ h).before_last in omega (arith, ints, behind, e, at, l)))))
+      let e = place_is ps row p (coordinate a (cell_before a u)) (inside a) in
+      false≢true (sym (full_off ps row u off) ∙ same ∙ full_at_solid ps row p (cell_before a u) inside a
+      (false_from_ne_true _ (λ h. let l = (hole_is_inner p.kind _ h).before_last in omega (arith, ints, behind, e, at, l)))))
     where
       at : coordinate a (cell_before a u) ≡ coordinate a u -ℤ pos 1
       at = placed_at a (coordinate a u -ℤ pos 1) u

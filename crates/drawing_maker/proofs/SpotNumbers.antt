@@ -1,10 +1,10 @@
 -- The blocks of a piece, counted by its spots: each number is had, first by a spot before which only smaller numbers stand.
-use Rattle.std.proofs.Common.{◌≡◌, ◌⊎◌, ⊎_elim, inl, inr, Bool, true, false, ◌&&◌, ◌==◌, ℕ, zero, suc, ◌+◌, ◌<◌, List, [], ◌∷◌, length, if◌then◌else◌, refl, ap, sym, subst, ◌∙◌, arith}
-use Rattle.std.proofs.lemmas.Bool.{false≢true, both_ways, and_parts, and_from}
+use Rattle.std.proofs.Common.{◌≡◌, ◌⊎◌, inl, inr, Bool, true, false, ◌&&◌, ◌==◌, ℕ, zero, suc, ◌+◌, ◌<◌, List, [], ◌∷◌, length, if◌then◌else◌, refl, ap, sym, subst, ◌∙◌, arith}
+use Rattle.std.proofs.lemmas.Bool.{both_ways, and_parts, and_from}
 use Rattle.std.proofs.lemmas.Int.{ints}
 use Rattle.solid_model.specs.declared.cell.Axis.TheVariants.{X, Y, Z}
 use Rattle.solid_model.specs.Cells.{cell_at}
-use Rattle.solid_model.specs.Lists.{Member, Each, Ascends}
+use Rattle.solid_model.specs.Lists.{Member, Ascends}
 use Rattle.solid_model.specs.Orders.{ComesBefore}
 use Rattle.solid_model.proofs.CellOrder.{LiesBefore, before-lies, before_one_way, not_before_itself}
 use Rattle.solid_model.proofs.Lists.{each-at, member-filter, member-from_filter}
@@ -111,9 +111,13 @@ voids_ascend UnitCube = tt
 voids_ascend HollowCube = (tt, tt)
 voids_ascend EightVoids = (
   (refl, (refl, (refl, (refl, (refl, (refl, (refl, tt))))))),
-  ((refl, (refl, (refl, (refl, (refl, (refl, tt)))))),
-      ((refl, (refl, (refl, (refl, (refl, tt))))),
-      ((refl, (refl, (refl, (refl, tt)))), ((refl, (refl, (refl, tt))), ((refl, (refl, tt)), ((refl, tt), (tt, tt))))))),
+  (
+    (refl, (refl, (refl, (refl, (refl, (refl, tt)))))),
+    (
+      (refl, (refl, (refl, (refl, (refl, tt))))),
+      ((refl, (refl, (refl, (refl, tt)))), ((refl, (refl, (refl, tt))), ((refl, (refl, tt)), ((refl, tt), (tt, tt))))),
+    ),
+  ),
 )
 
 pub member-voids : (kind : Kind) (s : Spot) → IsInside (side_of kind) s → is_void kind s ≡ true → Member (void_spots kind) s
@@ -153,11 +157,14 @@ pub record IsFirstOf (kind : Kind) (l : ℕ) (s : Spot) : Type 0 where
   pub earlier : (t : Spot) → IsInside (side_of kind) t → SpotBefore t s → spot_block kind t < l
 
 pub first_of_block : (kind : Kind) (l : ℕ) → l < block_count kind → (s : Spot) × IsFirstOf kind l s
-first_of_block kind zero less = (first, record {
-  inside = inside;
-  is = full_block kind first (void_is kind first ∙ ap (λ b. b && (hole kind 0 && hole kind 0)) (no_hole_first kind));
-  earlier = λ t at before. absurd (none t (before-lies _ _ before));
-})
+first_of_block kind zero less = (
+  first,
+  record {
+    inside = inside;
+    is = full_block kind first (void_is kind first ∙ ap (λ b. b && (hole kind 0 && hole kind 0)) (no_hole_first kind));
+    earlier = λ t at before. absurd (none t (before-lies _ _ before));
+  },
+)
   where
     first : Spot
     first = record { x = 0; y = 0; z = 0 }

@@ -1,5 +1,5 @@
 -- The blocks of a row of pieces: of each piece its full cells together, and each of its voids.
-use Rattle.std.specs.Prelude.{◌≡◌, ◌+◌, ◌<◌, ◌&&◌, ◌==◌, Bool, true, false, nat_lt, ℕ, zero, suc, List, [], ◌∷◌, length, map, sum, Option, Some, None, if◌then◌else◌}
+use Rattle.std.specs.Prelude.{◌+◌, ◌&&◌, ◌==◌, Bool, nat_lt, ℕ, List, [], ◌∷◌, length, map, sum, Option, Some, None, if◌then◌else◌}
 use Rattle.std.specs.List.{filter, flat_map}
 use Rattle.drawing_maker.specs.declared.piece.Kind.{Kind}
 use Rattle.drawing_maker.specs.declared.piece.Piece.{Piece}
