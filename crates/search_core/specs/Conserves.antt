@@ -1,5 +1,5 @@
 -- What a search conserves: no live prefix and no choice is lost, and none counts twice.
-use Rattle.std.specs.Prelude.{◌≡◌, ◌≢◌, ◌≤◌, ◌<◌, ◌+◌, ℕ, List, [], ◌++◌, length, map, sum, Option, Some, None, IsPermutation}
+use Rattle.std.specs.Prelude.{◌≡◌, ◌≢◌, ◌≤◌, ◌<◌, ◌+◌, Bool, ℕ, List, [], ◌++◌, length, map, sum, Option, Some, None, IsPermutation, IsTrue}
 use Rattle.solid_model.specs.declared.ended.EndKind.{EndKind}
 use Rattle.solid_model.specs.declared.ended.EndKind.TheVariants.{Whole, CutNodes, CutSolids}
 use Rattle.solid_model.specs.Lists.{Member, Each, Ascends}
@@ -7,6 +7,10 @@ use Rattle.solid_model.specs.Panels.{joined}
 use Rattle.solid_model.specs.Search.{SearchLimits}
 use Rattle.solid_model.specs.Tree.{Word, live_count, live_below}
 use Rattle.search_core.specs.Core.{Core}
+
+-- what a live prefix begins with is live
+abbrev pub IsClosed : Word → Type 0
+IsClosed live = (prefix rest : List Bool) → IsTrue (live (prefix ++ rest)) → IsTrue (live prefix)
 
 -- all live prefixes are those that were opened and those that begin with one of the frontier; all choices are those that were
 -- found and those below the frontier
