@@ -26,18 +26,18 @@ abbrev pub with_place : Node → ℕ → Node
 with_place node place = record { full = node.full; empty = node.empty; place = Some place }
 
 -- what comes of a number, if there is one
-abbrev pub then : Option ℕ → (ℕ → Option ℕ) → Option ℕ
-then None f = None
-then (Some k) f = f k
+abbrev pub lead : Option ℕ → (ℕ → Option ℕ) → Option ℕ
+lead None f = None
+lead (Some k) f = f k
 
 -- the node to which a list of values leads from a node
 abbrev pub walk : List Node → ℕ → List Bool → Option ℕ
 walk nodes at [] = Some at
-walk nodes at (b ∷ p) = then (child (node_at nodes at) b) (λ next. walk nodes next p)
+walk nodes at (b ∷ p) = lead (child (node_at nodes at) b) (λ next. walk nodes next p)
 
 -- the place of the node to which it leads from the first one
 abbrev pub place_of : List Node → List Bool → Option ℕ
-place_of nodes p = then (walk nodes 0 p) (λ at. (node_at nodes at).place)
+place_of nodes p = lead (walk nodes 0 p) (λ at. (node_at nodes at).place)
 
 -- the nodes are a tree: none leads beyond them, and no two lists lead to one
 pub record IsTree (nodes : List Node) : Type 0 where
