@@ -1,2 +1,4 @@
 pub mod TakenOut
 pub mod Tries
+pub mod Stored
+pub mod Waits

@@ -34,7 +34,6 @@ pub struct Entry {
 /// The places of prefixes, each of which is stored if it isn't yet. An `Err` is out of memory.
 fn keep_all(alloc: Global, prefixes: &mut Prefixes, rest: &[Prefix]) -> Result<Vec<u32>, Memory>
     ensures grown { (more : List (List Bool)) × (prefixes.new ≡ prefixes.old ++ more) }
-    ensures distinct { AreDistinct prefixes.new }
     ensures below { IfOk result (λ places. Each (λ k. k < length prefixes.new) places.items) }
     ensures places { IfOk result (λ places. map (prefix_at prefixes.new) places.items ≡ rest.now) }
 {

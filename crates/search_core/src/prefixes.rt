@@ -25,8 +25,7 @@ impl Model for Prefixes {
 }
 
 impl Prefixes {
-    ghost use Rattle.std.specs.Prelude.{◌≡◌, ◌<◌, ◌++◌, ◌∷◌, [], Bool, List, length, IfOk, MatchOption};
-    ghost use Rattle.solid_model.specs.Lists.{Member};
+    ghost use Rattle.std.specs.Prelude.{◌≡◌, ◌<◌, ◌++◌, ◌∷◌, [], ℕ, Bool, List, length, IfOk, MatchOption};
     ghost use Rattle.search_core.specs.Notes.{prefix_at, AreDistinct, StandsAt};
 
     /// None. An `Err` is out of memory.
@@ -41,7 +40,8 @@ impl Prefixes {
 
     /// How many there are.
     pub fn len(&self) -> usize
-        ensures { result ≡ length self.now }
+        ensures count { result ≡ length self.now }
+        ensures distinct { AreDistinct self.now }
     {
         self.stored.len()
     }
@@ -56,9 +56,8 @@ impl Prefixes {
 
     /// The place of a prefix, if it is stored.
     pub fn place(&self, prefix: &Prefix) -> Option<u32>
-        ensures place { MatchOption result (Member self.now prefix.now → ⊥)
+        ensures { MatchOption result ((k : ℕ) → ¬ StandsAt self.now prefix.now k)
             (StandsAt self.now prefix.now) }
-        ensures distinct { AreDistinct self.now }
     {
         self.trie.place(prefix)
     }
@@ -68,7 +67,6 @@ impl Prefixes {
     pub fn keep(&mut self, prefix: &Prefix) -> Result<u32, Memory>
         ensures grown { (more : List (List Bool)) × (self.new ≡ self.old ++ more) }
         ensures place { IfOk result (StandsAt self.new prefix.now) }
-        ensures distinct { AreDistinct self.new }
     {
         if let Some(place) = self.trie.place(prefix) {
             return Ok(place);

@@ -17,20 +17,19 @@ fn count_at(counts: &[usize], place: u32) -> usize
 /// The first place from here on that is counted, of those that were put.
 fn first_counted(put: &[u32], counts: &[usize], from: usize) -> usize
     requires { from ≤ length put.now }
-    ensures within { (from ≤ result) × (result ≤ length put.now) }
+    ensures from { from ≤ result }
+    ensures within { result ≤ length put.now }
     ensures passed { (k : ℕ) → from ≤ k → k < result
         → count_of counts.now (slice_index put.now k) ≡ 0 }
     ensures counted { result < length put.now
         → 0 < count_of counts.now (slice_index put.now result) }
 {
-    let mut first = from;
-    while first < put.len() {
-        if count_at(counts, put[first]) > 0 {
-            return first;
+    for at in from..put.len() {
+        if count_at(counts, put[at]) > 0 {
+            return at;
         }
-        first += 1;
     }
-    first
+    put.len()
 }
 
 /// Which places wait, and how often each: the frontier of a search, by the places of its prefixes.
@@ -104,7 +103,11 @@ impl Waiting {
         ensures { MatchOption result ((k : ℕ) → count_of self.now.counts k ≡ 0)
             (λ place. Member self.now.put place × (0 < count_of self.now.counts place)) }
     {
-        self.put.get(self.first).copied()
+        if self.first < self.put.len() {
+            Some(self.put[self.first])
+        } else {
+            None
+        }
     }
 
     /// A place waits once more.
