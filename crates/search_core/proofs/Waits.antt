@@ -101,3 +101,10 @@ queue-take put counts after first next place n q l less is low high none waits =
     subst (λ m. count_of after k ≤ times_in k (drop m put)) to
     (pass-over put after k first (next - first) (omega arith) (λ j a b. none j a (omega arith)) (let h = q.behind k in omega arith));
 }
+
+-- a count that rises where a place is put
+pub counted_once_more : (k place n : ℕ) → (if k == place then n + 1 else n) ≡ n + times_in k (place ∷ [])
+counted_once_more k place n = elim (cases_eq k place) as (λ _. (if k == place then n + 1 else n) ≡ n + times_in k (place ∷ [])) [
+  | inl e ↦ rw (eq-eqb k place e, eq-eqb place k (sym e)) (omega arith)
+  | inr ne ↦ rw (ne_eqb k place ne, ne_eqb place k (λ e. ne (sym e))) (omega arith)
+]

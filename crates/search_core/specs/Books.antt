@@ -9,8 +9,8 @@ use Rattle.search_core.specs.declared.books.Books.{Books}
 use Rattle.search_core.specs.declared.note.Note.{Note}
 use Rattle.search_core.specs.Core.{Event, IsRun, same_prefix, start_of}
 use Rattle.search_core.specs.Desk.{DeskParts, state_of}
-use Rattle.search_core.specs.Notes.{prefix_at, told, AreDistinct, AreShared}
-use Rattle.search_core.specs.Queue.{count_of}
+use Rattle.search_core.specs.Notes.{prefix_at, told, StandsAt, AreDistinct, AreShared}
+use Rattle.search_core.specs.Queue.{count_of, times_in}
 
 -- stored prefixes; the places that were put into the frontier, and how often each waits; notes; and the choices found
 pub record BooksParts : Type 0 where
@@ -43,6 +43,16 @@ pub record AreBooks (b : BooksParts) : Type 0 where
   pub pieces : Each (λ (x : Note). x.piece < length b.stored) b.notes
   pub shared : AreShared b.notes b.found (drop 1 b.put)
   pub unstored : (k : ℕ) → length b.stored ≤ k → count_of b.counts k ≡ 0
+
+-- Books in which nothing is noted: the empty prefix was put first. It waits where it is live.
+pub record IsBegun (b : BooksParts) (live : Bool) : Type 0 where
+  pub root : ℕ
+  pub stands : StandsAt b.stored [] root
+  pub distinct : AreDistinct b.stored
+  pub put : b.put ≡ root ∷ []
+  pub counts : (k : ℕ) → count_of b.counts k ≡ (if live then times_in k (root ∷ []) else 0)
+  pub notes : b.notes ≡ []
+  pub found : b.found ≡ []
 
 -- how often a prefix stands in a list
 abbrev pub times_among : List Bool → List (List Bool) → ℕ

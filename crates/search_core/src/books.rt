@@ -2,6 +2,7 @@
 
 ghost use Rattle.std.specs.Prelude.{◌≡◌, ◌==◌, ◌<◌, ◌≤◌, ◌+◌, ◌-◌, ◌++◌, ◌∷◌, [], ℕ, Bool, List, length, map, vec_len, vec_capacity, IfOk, MatchOption, if◌then◌else◌};
 ghost use Rattle.solid_model.specs.Lists.{Member, Each};
+ghost use Rattle.search_core.specs.Books.{books_of, IsBegun};
 ghost use Rattle.search_core.specs.Entries.{HasRoom, IsEntry};
 ghost use Rattle.search_core.specs.Notes.{prefix_at, AreDistinct, StandsAt};
 ghost use Rattle.search_core.specs.Queue.{count_of, times_in};
@@ -72,17 +73,12 @@ impl Books {
     /// Books in which nothing is noted; the empty prefix waits if it is live. An `Err` is out of
     /// memory.
     pub fn new(alloc: Global, live: bool) -> Result<Books, Memory>
-        ensures stored { IfOk result (λ books. books.prefixes ≡ [] ∷ []) }
-        ensures put { IfOk result (λ books. books.waiting.put ≡ 0 ∷ []) }
-        ensures counts { IfOk result (λ books. (k : ℕ) → count_of books.waiting.counts k
-            ≡ (if live then times_in k (0 ∷ []) else 0)) }
-        ensures notes { IfOk result (λ books. books.notes.items ≡ []) }
-        ensures found { IfOk result (λ books. books.found.items ≡ []) }
+        ensures { IfOk result (λ books. IsBegun (books_of books) live) }
     {
         let mut prefixes = Prefixes::new(alloc)?;
         let mut waiting = Waiting::new(alloc);
         let root = prefixes.keep(&Prefix::from_bools(alloc, &[])?)?;
-        waiting.reserve(1, 1)?;
+        waiting.reserve(prefixes.len(), 1)?;
         waiting.put(root);
         if !live {
             waiting.take(root);
@@ -97,12 +93,13 @@ impl Books {
 
     /// The place of a piece that waits.
     pub fn waiting_place(&self, piece: &Prefix) -> Option<u32>
-        ensures place { MatchOption result
+        ensures { MatchOption result
             ((k : ℕ) → StandsAt self.now.prefixes piece.now k
             → count_of self.now.waiting.counts k ≡ 0)
             (λ k. StandsAt self.now.prefixes piece.now k
             × (0 < count_of self.now.waiting.counts k)) }
     {
+        let _count = self.prefixes.len();
         let place = self.prefixes.place(piece)?;
         if self.waiting.waits(place) {
             Some(place)
@@ -124,9 +121,11 @@ impl Books {
         ensures entry { IfOk result (IsEntry self.new found.now rest.now) }
     {
         let alloc = *self.notes.allocator();
-        let rest = keep_all(alloc, &mut self.prefixes, rest)?;
+        let rest = keep_all(alloc, &mut self.prefixes, rest);
+        let places = self.prefixes.len();
+        let rest = rest?;
         let found = copy_all(alloc, found)?;
-        self.waiting.reserve(self.prefixes.len(), rest.len())?;
+        self.waiting.reserve(places, rest.len())?;
         self.notes.reserve(1)?;
         self.found.reserve(found.len())?;
         Ok(Entry { found, rest })
@@ -161,8 +160,6 @@ impl Books {
         });
         self.waiting.take(piece);
         put_all(&mut self.waiting, rest.as_slice());
-        for choice in choices {
-            self.found.push_reserved(choice);
-        }
+        let _moved = self.found.append(&mut choices);
     }
 }
