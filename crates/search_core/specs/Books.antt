@@ -42,7 +42,6 @@ pub record AreBooks (b : BooksParts) : Type 0 where
   pub put : Each (λ k. k < length b.stored) b.put
   pub pieces : Each (λ (x : Note). x.piece < length b.stored) b.notes
   pub shared : AreShared b.notes b.found (drop 1 b.put)
-  pub unstored : (k : ℕ) → length b.stored ≤ k → count_of b.counts k ≡ 0
 
 -- Books in which nothing is noted: the empty prefix was put first. It waits where it is live.
 pub record IsBegun (b : BooksParts) (live : Bool) : Type 0 where
@@ -59,10 +58,11 @@ abbrev pub times_among : List Bool → List (List Bool) → ℕ
 times_among p [] = 0
 times_among p (q ∷ qs) = (if same_prefix p q then 1 else 0) + times_among p qs
 
--- counts keep a frontier: its prefixes are stored, and each waits as often as it stands there
+-- counts keep a frontier: its prefixes are stored, and each stored prefix waits as often as it stands there
 pub record KeepsFrontier (stored : List (List Bool)) (counts : List ℕ) (frontier : List (List Bool)) : Type 0 where
   pub kept : Each (Member stored) frontier
   pub counted : (k : ℕ) → k < length stored → count_of counts k ≡ times_among (prefix_at stored k) frontier
+  pub unstored : (k : ℕ) → length stored ≤ k → count_of counts k ≡ 0
 
 -- the desk that books tell of
 abbrev pub desk_of : ProblemParts → SearchLimits → List Event → DeskParts

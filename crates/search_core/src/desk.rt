@@ -45,10 +45,11 @@ fn end_after(limits: Limits, books: &Books, opened: u64) -> Option<EndKind>
         Some(EndKind::CutSolids)
     } else if opened > limits.nodes {
         Some(EndKind::CutNodes)
-    } else if books.waiting.first().is_none() {
-        Some(EndKind::Whole)
     } else {
-        None
+        match books.waiting.first() {
+            Some(_) => None,
+            None => Some(EndKind::Whole),
+        }
     }
 }
 
@@ -152,8 +153,10 @@ impl Desk {
         ensures { MatchOption result (self.now.frontier ≡ [])
             (λ piece. Member self.now.frontier piece.now) }
     {
-        let place = self.books.waiting.first()?;
-        Some(self.books.prefixes.get(place))
+        match self.books.waiting.first() {
+            Some(place) => Some(self.books.prefixes.get(place)),
+            None => None,
+        }
     }
 
     /// The choices found, as many as the limit of solids has room for, in the order of the reports.
