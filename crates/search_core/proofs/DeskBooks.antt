@@ -1,38 +1,30 @@
 -- The books of a desk: at the beginning, before a report and after it.
-use Rattle.std.proofs.Common.{◌≡◌, ◌⊎◌, inl, inr, ℕ, zero, suc, ◌+◌, ◌-◌, ◌<◌, ◌≤◌, ◌==◌, Bool, true, false, IsTrue, List, [], ◌∷◌, ◌++◌, Some, None, map, length, take, drop, refl, sym, ◌∙◌, ap, ap₂, subst, arith}
-use Rattle.std.proofs.lemmas.Bool.{cases_eq, cases_lt, ltb-false, both_ways}
-use Rattle.std.proofs.lemmas.List.{append-nil, length-append, take-append-le, take_all, length-take-le, drop-append-le}
+use Rattle.std.proofs.Common.{◌≡◌, inl, inr, ℕ, ◌+◌, ◌<◌, ◌≤◌, Bool, true, false, List, [], ◌∷◌, ◌++◌, Some, None, map, length, take, drop, refl, sym, ◌∙◌, ap, ap₂, subst, arith}
+use Rattle.std.proofs.lemmas.Bool.{cases_lt, ltb-false}
+use Rattle.std.proofs.lemmas.List.{length-append, take-append-le, take_all, length-take-le, drop-append-le}
+use Rattle.std.proofs.lemmas.List.Sorted.{IsPermutation-refl}
+use Rattle.std.specs.Option.{is_some}
 use Rattle.std.specs.Prelude.{Option, if◌then◌else◌, nat_lt}
 use Rattle.solid_model.specs.declared.ended.EndKind.{EndKind}
 use Rattle.solid_model.specs.declared.ended.EndKind.TheVariants.{Whole, CutNodes, CutSolids}
 use Rattle.solid_model.specs.Blocks.{ProblemParts}
 use Rattle.solid_model.specs.Demands.{is_live}
 use Rattle.solid_model.specs.Lists.{Member, Each}
+use Rattle.solid_model.specs.Reports.{Report, IsReport}
 use Rattle.solid_model.specs.Search.{SearchLimits}
 use Rattle.solid_model.specs.Tree.{IsAllowed}
-use Rattle.solid_model.proofs.ListPlaces.{member-at, member-place}
-use Rattle.solid_model.proofs.Lists.{each-at, each-append, each-from, each-push, each-weaker}
+use Rattle.solid_model.proofs.Lists.{each-append, each-push, each-weaker}
 use Rattle.search_core.specs.declared.note.Note.{Note}
-use Rattle.search_core.specs.Books.{BooksParts, history_of, times_among, IsBegun, AreBooks, KeepsFrontier, AreBooksOf}
-use Rattle.search_core.specs.Core.{Core, Event, IsEvent, IsRun, same_prefix, without, start_of, end_at, end_after, after_event, after_events}
-use Rattle.search_core.specs.Desk.{state_of}
+use Rattle.search_core.specs.Books.{BooksParts, history_of, desk_of, IsBegun, AreGrown, AreEntered, AreBooks, KeepsFrontier, AreBooksOf}
+use Rattle.search_core.specs.Core.{Core, Event, IsRun, without, start_of, end_at, end_after, after_event}
+use Rattle.search_core.specs.Desk.{state_of, event_of, IsDesk}
 use Rattle.search_core.specs.Notes.{prefix_at, told, StandsAt, AreDistinct, AreShared}
 use Rattle.search_core.specs.Queue.{count_of, times_in}
-use Rattle.search_core.proofs.Frontiers.{frontier-entered, frontier-grown, frontier-begun}
-use Rattle.search_core.proofs.Stored.{below-grown}
-use Rattle.search_core.proofs.TakenOut.{Decides-same_prefix}
-use Rattle.search_core.proofs.Told.{after-push, run-push, each-drop, told-grown, event_told, told-push, shared-push}
+use Rattle.search_core.proofs.Frontiers.{frontier-entered, frontier-grown, frontier-begun, waits-member, member-waits}
+use Rattle.search_core.proofs.Stored.{stands-grown}
+use Rattle.search_core.proofs.Told.{after-push, run-push, each-drop, told-grown, told-push, shared-push}
 
 -- ---- before a report
-
--- the same books, with more prefixes stored
-pub record AreGrown (b after : BooksParts) : Type 0 where
-  pub grown : (more : List (List Bool)) × (after.stored ≡ b.stored ++ more)
-  pub distinct : AreDistinct after.stored
-  pub put : after.put ≡ b.put
-  pub counts : (k : ℕ) → count_of after.counts k ≡ count_of b.counts k
-  pub notes : after.notes ≡ b.notes
-  pub found : after.found ≡ b.found
 
 module _ (b after : BooksParts) (g : AreGrown b after) (h : AreBooks b) where
   -- they tell the same
@@ -76,14 +68,6 @@ desk-grown p limits b after opened end g h =
     }
 
 -- ---- a report
-
--- books after a note of a report
-pub record AreEntered (b after : BooksParts) (piece opened : ℕ) (choices : List (List Bool)) (places : List ℕ) : Type 0 where
-  pub stored : after.stored ≡ b.stored
-  pub put : after.put ≡ b.put ++ places
-  pub counts : (k : ℕ) → count_of after.counts k ≡ (if k == piece then count_of b.counts k - 1 else count_of b.counts k) + times_in k places
-  pub notes : after.notes ≡ b.notes ++ record { piece = piece; opened = opened; found = length choices; rest = length places } ∷ []
-  pub found : after.found ≡ b.found ++ choices
 
 -- the first ones of the first ones and others, where all of the first are first
 take-first : {A : Type 0} (n : ℕ) (xs ys : List A) → take n (take n xs ++ ys) ≡ take n (xs ++ ys)
@@ -233,3 +217,67 @@ module _ (p : ProblemParts) (limits : SearchLimits) (b : BooksParts) (live : Boo
       at : (t : Bool) → live ≡ t → AreBooksOf p limits b 0 end
       at true f = begins_so end (record { frontier = [] ∷ []; found = []; opened = 0; end = None }) (start_at true f) (frontier_at true f) refl refl (end_at_live true f)
       at false f = begins_so end (record { frontier = []; found = []; opened = 0; end = Some Whole }) (start_at false f) (frontier_at false f) refl refl (end_at_live false f)
+
+-- ---- the desk
+
+-- the desk that the books tell of stands as its history leaves it
+pub desk-is : (p : ProblemParts) (limits : SearchLimits) (b : BooksParts) (opened : ℕ) (end : Option EndKind) → AreBooksOf p limits b opened end → IsDesk (desk_of p limits (history_of b))
+desk-is p limits b opened end h = record {
+  run = h.run;
+  frontier = IsPermutation-refl (state_of p limits (history_of b)).frontier;
+  found = refl;
+  opened = refl;
+  end = refl;
+}
+
+-- a piece that has no place which waits is not in the frontier
+pub desk-gone : (p : ProblemParts) (limits : SearchLimits) (b : BooksParts) (opened : ℕ) (end : Option EndKind) → AreBooksOf p limits b opened end → (piece : List Bool)
+    → ((k : ℕ) → StandsAt b.stored piece k → count_of b.counts k ≡ 0) → Member (state_of p limits (history_of b)).frontier piece → ⊥
+desk-gone p limits b opened end h piece none m =
+    let w = member-waits b.stored b.counts (state_of p limits (history_of b)).frontier h.frontier piece m in
+    let e : count_of b.counts w.0 ≡ 0 = none w.0 w.1 in
+    let l : 0 < count_of b.counts w.0 = w.2 in
+    omega arith
+
+-- a piece that has such a place is in the frontier
+pub desk-waits : (p : ProblemParts) (limits : SearchLimits) (b : BooksParts) (opened : ℕ) (end : Option EndKind) → AreBooksOf p limits b opened end → (piece : List Bool) (k : ℕ)
+    → StandsAt b.stored piece k → 0 < count_of b.counts k → Member (state_of p limits (history_of b)).frontier piece
+desk-waits p limits b opened end h piece k stands waits =
+    subst (Member (state_of p limits (history_of b)).frontier) stands.there (waits-member b.stored b.counts (state_of p limits (history_of b)).frontier h.frontier k waits)
+
+-- what is no value is none
+pub none-from : {A : Type 0} (o : Option A) → is_some o ≡ false → o ≡ None
+none-from None e = refl
+none-from (Some x) e = absurd (let other : ⊥ = cc in other)
+
+-- what becomes of a desk's books by a report
+pub record AreReported (p : ProblemParts) (limits : SearchLimits) (b after : BooksParts) (r : Report) (total : ℕ) (kind : Option EndKind) : Type 0 where
+  pub books : AreBooksOf p limits after total kind
+  pub history : history_of after ≡ history_of b ++ event_of r ∷ []
+
+-- The books are prepared for a report and it is entered, and the end is what the search comes to: then they are those of the desk.
+pub desk-reported : (p : ProblemParts) (limits : SearchLimits) (b ready after : BooksParts) (opened total more place : ℕ) (end kind : Option EndKind) (r : Report) (choices : List (List Bool)) (places : List ℕ)
+    → AreBooksOf p limits b opened end → r.problem ≡ p → end ≡ None → IsReport r → StandsAt b.stored r.piece place → 0 < count_of b.counts place
+    → AreGrown b ready → choices ≡ r.found → map (prefix_at ready.stored) places ≡ r.rest → Each (λ k. k < length ready.stored) places
+    → AreEntered ready after place more choices places → more ≡ r.opened → total ≡ opened + more
+    → ((frontier : List (List Bool)) → KeepsFrontier after.stored after.counts frontier → kind ≡ end_after limits (length after.found) total frontier)
+    → AreReported p limits b after r total kind
+desk-reported p limits b ready after opened total more place end kind r choices places h same going allowed stands waits grown found rest below entered count sum_is ends =
+    let h1 = desk-grown p limits b ready opened end grown h in
+    let s1 : StandsAt ready.stored r.piece place = subst (λ (stored : List (List Bool)). StandsAt stored r.piece place) (sym grown.grown.1) (stands-grown b.stored grown.grown.0 r.piece place stands) in
+    let w1 : 0 < count_of ready.counts place = subst (λ (n : ℕ). 0 < n) (sym (grown.counts place)) waits in
+    let member : Member (state_of p limits (history_of ready)).frontier (prefix_at ready.stored place) = waits-member ready.stored ready.counts (state_of p limits (history_of ready)).frontier h1.frontier place w1 in
+    let of_desk : IsAllowed (is_live p) p.blocks.count r.piece r.opened r.found r.rest = subst (λ (q : ProblemParts). IsAllowed (is_live q) q.blocks.count r.piece r.opened r.found r.rest) same allowed in
+    let of_event : IsAllowed (is_live p) p.blocks.count (prefix_at ready.stored place) more choices r.rest =
+    subst (λ (q : List Bool). IsAllowed (is_live p) p.blocks.count q more choices r.rest) (sym s1.there)
+    (subst (λ (n : ℕ). IsAllowed (is_live p) p.blocks.count r.piece n choices r.rest) (sym count) (subst (λ (f : List (List Bool)). IsAllowed (is_live p) p.blocks.count r.piece r.opened f r.rest) (sym found) of_desk)) in
+    let frontier : List (List Bool) = without (prefix_at ready.stored place) (state_of p limits (history_of ready)).frontier ++ r.rest in
+    record {
+      books = subst (λ (n : ℕ). AreBooksOf p limits after n kind) (sym sum_is)
+          (desk-entered p limits ready after opened end h1 place more choices r.rest places entered going w1 s1.below below rest kind member of_event
+          (λ keeps. subst (λ (n : ℕ). kind ≡ end_after limits (length after.found) n frontier) sum_is (ends frontier keeps)));
+      history = history-entered p limits ready after opened end h1 place more choices r.rest places entered going w1 s1.below below rest
+          ∙ ap₂ (λ (es : List Event) (e : Event). es ++ e ∷ []) (history-grown b ready grown h.books)
+          (ap₂ (λ (q : List Bool) (n : ℕ). record { piece = q; opened = n; found = choices; rest = r.rest }) s1.there count
+          ∙ ap (λ (f : List (List Bool)). record { piece = r.piece; opened = r.opened; found = f; rest = r.rest }) found);
+    }

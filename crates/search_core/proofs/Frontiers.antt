@@ -1,5 +1,5 @@
 -- A frontier that is kept by counts of places.
-use Rattle.std.proofs.Common.{◌≡◌, ◌⊎◌, inl, inr, ℕ, zero, suc, ◌+◌, ◌-◌, ◌<◌, ◌≤◌, ◌==◌, Bool, true, false, cond, List, [], ◌∷◌, ◌++◌, None, map, length, get_or, refl, sym, ◌∙◌, ap, ap₂, subst, arith}
+use Rattle.std.proofs.Common.{◌≡◌, inl, inr, ℕ, ◌+◌, ◌-◌, ◌<◌, ◌≤◌, ◌==◌, Bool, true, false, cond, List, [], ◌∷◌, ◌++◌, None, map, length, refl, sym, ◌∙◌, ap, ap₂, subst, arith}
 use Rattle.std.proofs.lemmas.Bool.{cases_eq, cases_lt, eq-eqb, ne_eqb, le-ltb, false_from_ne_true}
 use Rattle.std.proofs.lemmas.List.{get_or_append_left, length-append}
 use Rattle.std.specs.Prelude.{if◌then◌else◌}
@@ -11,7 +11,7 @@ use Rattle.search_core.specs.Books.{times_among, KeepsFrontier}
 use Rattle.search_core.specs.Core.{same_prefix, without, end_at, end_after}
 use Rattle.search_core.specs.Notes.{prefix_at, StandsAt, AreDistinct}
 use Rattle.search_core.specs.Queue.{count_of, times_in}
-use Rattle.search_core.proofs.TakenOut.{Decides-same_prefix, StandsBetween, stands_between}
+use Rattle.search_core.proofs.TakenOut.{Decides-same_prefix, stands_between}
 
 -- ---- how often a prefix stands in a list
 
@@ -85,18 +85,18 @@ module _ (stored : List (List Bool)) (distinct : AreDistinct stored) where
   frontier-entered counts after frontier piece js l waits below is member keeps = record {
     kept = each-append (Member stored) (without p frontier) (map (prefix_at stored) js) (each-without (Member stored) p frontier member keeps.kept) (each-stored js below);
     counted = λ k lk.
-      let was : count_of counts k ≡ times_among (prefix_at stored k) frontier = keeps.counted k lk in
-      let left : times_among (prefix_at stored k) frontier ≡ times_among (prefix_at stored k) (without p frontier) + times_among (prefix_at stored k) (p ∷ [])
-          = times-without p (prefix_at stored k) frontier member in
-      let own : times_among (prefix_at stored k) (p ∷ []) ≡ times_in k (piece ∷ []) = times-places k (piece ∷ []) lk (l, tt) in
-      let all : times_among (prefix_at stored k) (without p frontier ++ map (prefix_at stored) js) ≡ times_among (prefix_at stored k) (without p frontier) + times_in k js
-          = times_among-append (prefix_at stored k) (without p frontier) (map (prefix_at stored) js) ∙ ap (λ n. times_among (prefix_at stored k) (without p frontier) + n) (times-places k js lk below) in
-      let less : (if k == piece then count_of counts k - 1 else count_of counts k) ≡ times_among (prefix_at stored k) (without p frontier) = taken k (count_of counts k) (times_among (prefix_at stored k) (without p frontier)) (was ∙ left ∙ ap (λ n. times_among (prefix_at stored k) (without p frontier) + n) own) in
-      omega (arith, is k);
+        let was : count_of counts k ≡ times_among (prefix_at stored k) frontier = keeps.counted k lk in
+        let left : times_among (prefix_at stored k) frontier ≡ times_among (prefix_at stored k) (without p frontier) + times_among (prefix_at stored k) (p ∷ [])
+        = times-without p (prefix_at stored k) frontier member in
+        let own : times_among (prefix_at stored k) (p ∷ []) ≡ times_in k (piece ∷ []) = times-places k (piece ∷ []) lk (l, tt) in
+        let all : times_among (prefix_at stored k) (without p frontier ++ map (prefix_at stored) js) ≡ times_among (prefix_at stored k) (without p frontier) + times_in k js
+        = times_among-append (prefix_at stored k) (without p frontier) (map (prefix_at stored) js) ∙ ap (λ n. times_among (prefix_at stored k) (without p frontier) + n) (times-places k js lk below) in
+        let less : (if k == piece then count_of counts k - 1 else count_of counts k) ≡ times_among (prefix_at stored k) (without p frontier) = taken k (count_of counts k) (times_among (prefix_at stored k) (without p frontier)) (was ∙ left ∙ ap (λ n. times_among (prefix_at stored k) (without p frontier) + n) own) in
+        omega (arith, is k);
     unstored = λ k m.
-      let other : piece ≡ k → ⊥ = (λ e. omega arith) in
-      let was : (if k == piece then count_of counts k - 1 else count_of counts k) ≡ 0 = rw (ne_eqb k piece (λ e. other (sym e))) (keeps.unstored k m) in
-      omega (arith, is k, times-past k js below m);
+        let other : piece ≡ k → ⊥ = (λ e. omega arith) in
+        let was : (if k == piece then count_of counts k - 1 else count_of counts k) ≡ 0 = rw (ne_eqb k piece (λ e. other (sym e))) (keeps.unstored k m) in
+        omega (arith, is k, times-past k js below m);
   }
     where
       p : List Bool

@@ -1,9 +1,9 @@
 -- Stored prefixes and their places.
-use Rattle.std.proofs.Common.{◌≡◌, ◌↔◌, ◌⊎◌, inl, inr, ℕ, zero, suc, ◌+◌, ◌<◌, ◌≤◌, Bool, true, false, List, [], ◌∷◌, ◌++◌, map, Some, None, length, get_or, refl, sym, ◌∙◌, ap, ap₂, subst, arith}
-use Rattle.std.proofs.lemmas.Bool.{cases_Bool, cases_lt, both_ways}
+use Rattle.std.proofs.Common.{◌≡◌, ◌⊎◌, inl, inr, ℕ, ◌<◌, Bool, true, false, List, [], ◌∷◌, ◌++◌, map, Some, None, length, refl, sym, ◌∙◌, ap, ap₂, subst, arith}
+use Rattle.std.proofs.lemmas.Bool.{cases_lt, both_ways}
 use Rattle.std.proofs.lemmas.List.{get_or_append_left, get_or_push, length_push, length-append}
 use Rattle.std.proofs.lemmas.Option.{none-some, same_Some}
-use Rattle.std.specs.Prelude.{Option, if◌then◌else◌}
+use Rattle.std.specs.Prelude.{if◌then◌else◌}
 use Rattle.solid_model.specs.Lists.{Each}
 use Rattle.search_core.specs.declared.trie.Node.{Node}
 use Rattle.search_core.specs.Core.{same_prefix}
@@ -38,8 +38,8 @@ stands-push : (stored : List (List Bool)) (p q : List Bool) (k : ℕ) → Stands
 stands-push stored p q k s = elim (cases_lt k (length stored)) as (λ _. StandsAt stored q k ⊎ ((p ≡ q) × (k ≡ length stored))) [
   | inl earlier ↦ inl (record { below = earlier; there = sym (get_or_append_left stored (p ∷ []) [] k earlier) ∙ s.there })
   | inr later ↦ (
-    let last : k ≡ length stored = (let h = s.below in omega (arith, length_push stored p)) in
-    inr (sym (get_or_push stored p [] k (sym last)) ∙ s.there, last))
+      let last : k ≡ length stored = (let h = s.below in omega (arith, length_push stored p)) in
+      inr (sym (get_or_push stored p [] k (sym last)) ∙ s.there, last))
 ]
 
 -- one more is stored, and has the next place

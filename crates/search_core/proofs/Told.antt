@@ -1,6 +1,6 @@
 -- What notes tell, and runs that go on with an event.
-use Rattle.std.proofs.Common.{◌≡◌, ℕ, zero, suc, ◌+◌, ◌<◌, ◌≤◌, Bool, List, [], ◌∷◌, ◌++◌, map, length, take, drop, refl, sym, ◌∙◌, ap, ap₂, subst, arith}
-use Rattle.std.proofs.lemmas.List.{append-nil, length-append, take-append-drop, take-append-le, drop-append-le, get_or_append_left, take_all, drop_all}
+use Rattle.std.proofs.Common.{◌≡◌, ℕ, ◌<◌, Bool, List, [], ◌∷◌, ◌++◌, map, length, take, drop, refl, sym, ◌∙◌, ap₂, subst, arith}
+use Rattle.std.proofs.lemmas.List.{length-append, take-append-drop, take-append-le, drop-append-le, get_or_append_left, take_all, drop_all}
 use Rattle.solid_model.specs.Lists.{Each}
 use Rattle.solid_model.specs.Search.{SearchLimits}
 use Rattle.solid_model.specs.Tree.{Word}
@@ -65,11 +65,10 @@ module _ (stored : List (List Bool)) (x : Note) (f : List (List Bool)) (r : List
   shared-push [] found rests h =
       let both : AreShared (x ∷ []) f r = (omega arith, omega arith, (drop_all x.found f (omega arith), drop_all x.rest r (omega arith))) in
       subst (λ (fs : List (List Bool)). AreShared (x ∷ []) (fs ++ f) (rests ++ r)) (sym h.0) (subst (λ (rs : List ℕ). AreShared (x ∷ []) f (rs ++ r)) (sym h.1) both)
-  shared-push (y ∷ notes) found rests h =
-      (
-        omega (arith, h.0, length-append found f),
-        omega (arith, h.1, length-append rests r),
-        subst (λ (fs : List (List Bool)). AreShared (notes ++ x ∷ []) fs (drop y.rest (rests ++ r))) (sym (drop-append-le y.found found f h.0))
+  shared-push (y ∷ notes) found rests h = (
+    omega (arith, h.0, length-append found f),
+    omega (arith, h.1, length-append rests r),
+    subst (λ (fs : List (List Bool)). AreShared (notes ++ x ∷ []) fs (drop y.rest (rests ++ r))) (sym (drop-append-le y.found found f h.0))
         (subst (λ (rs : List ℕ). AreShared (notes ++ x ∷ []) (drop y.found found ++ f) rs) (sym (drop-append-le y.rest rests r h.1))
         (shared-push notes (drop y.found found) (drop y.rest rests) h.2)),
-      )
+  )

@@ -1,7 +1,7 @@
 -- Places that wait in a queue.
-use Rattle.std.proofs.Common.{◌≡◌, ◌⊎◌, inl, inr, ℕ, zero, suc, ◌+◌, ◌-◌, ◌<◌, ◌≤◌, ◌==◌, Bool, true, false, cond, List, [], ◌∷◌, ◌++◌, length, get_or, set, drop, refl, sym, ◌∙◌, ap, subst, arith}
+use Rattle.std.proofs.Common.{◌≡◌, inl, inr, ℕ, zero, suc, ◌+◌, ◌-◌, ◌<◌, ◌≤◌, ◌==◌, Bool, cond, List, [], ◌∷◌, ◌++◌, length, get_or, set, drop, sym, ◌∙◌, ap, subst, arith}
 use Rattle.std.proofs.lemmas.Bool.{cases_eq, cases_lt, eq-eqb, ne_eqb, cond_both, eqb-true, eqb-false}
-use Rattle.std.proofs.lemmas.List.{get_or-set_same, get_or-set_other, drop_more, drop-append-le, length-drop, length-append, length-set, get_or_append_left, get_or_push, get_or_past}
+use Rattle.std.proofs.lemmas.List.{get_or-set_same, get_or-set_other, drop_more, drop-append-le, length-drop, length-append, get_or_append_left, get_or_push, get_or_past}
 use Rattle.std.specs.Prelude.{if◌then◌else◌}
 use Rattle.search_core.specs.Queue.{times_in, count_of, IsQueue}
 
@@ -47,11 +47,11 @@ module _ (put counts : List ℕ) (first : ℕ) (q : IsQueue put counts first) wh
   queue-put place n l e = record {
     within = omega (arith, q.within, length-append put (place ∷ []));
     behind = λ k.
-      let tail : times_in k (drop first (put ++ place ∷ [])) ≡ times_in k (drop first put) + times_in k (place ∷ [])
-          = ap (times_in k) (drop-append-le first put (place ∷ []) q.within) ∙ times_in-append k (drop first put) (place ∷ []) in
-      rw (count-set counts place n k l) (cond_both (k == place) n (count_of counts k) (λ m. m ≤ times_in k (drop first (put ++ place ∷ [])))
-      (λ e. one k (eqb-true k place e) tail)
-      (λ e. omega (arith, tail, q.behind k)));
+        let tail : times_in k (drop first (put ++ place ∷ [])) ≡ times_in k (drop first put) + times_in k (place ∷ [])
+        = ap (times_in k) (drop-append-le first put (place ∷ []) q.within) ∙ times_in-append k (drop first put) (place ∷ []) in
+        rw (count-set counts place n k l) (cond_both (k == place) n (count_of counts k) (λ m. m ≤ times_in k (drop first (put ++ place ∷ [])))
+        (λ e. one k (eqb-true k place e) tail)
+        (λ e. omega (arith, tail, q.behind k)));
     waits = λ h. elim (cases_lt first (length put)) as (λ _. 0 < count_of (set counts place n) (get_or (put ++ place ∷ []) first 0)) [
       | inl m ↦ rw (get_or_append_left put (place ∷ []) 0 first m) (more (get_or put first 0) (q.waits m))
       | inr m ↦ (let is : length put ≡ first = (let w = q.within in omega arith) in rw (get_or_push put place 0 first is) (rw (get_or-set_same counts place n 0 l) (omega arith)))
@@ -72,9 +72,9 @@ pass-one : (put counts : List ℕ) (k at : ℕ) → at < length put → count_of
 pass-one put counts k at l none h = elim (cases_eq (get_or put at 0) k) as (λ _. count_of counts k ≤ times_in k (drop (at + 1) put)) [
   | inl same ↦ (let zero_there : count_of counts k ≡ 0 = ap (count_of counts) (sym same) ∙ none in omega arith)
   | inr other ↦ (
-    let tail : times_in k (drop at put) ≡ 0 + times_in k (drop (at + 1) put) =
-        ap (times_in k) (drop_more put at 0 l) ∙ ap (λ (b : Bool). cond b 1 0 + times_in k (drop (at + 1) put)) (ne_eqb (get_or put at 0) k other) in
-    omega (arith, tail))
+      let tail : times_in k (drop at put) ≡ 0 + times_in k (drop (at + 1) put) =
+      ap (times_in k) (drop_more put at 0 l) ∙ ap (λ (b : Bool). cond b 1 0 + times_in k (drop (at + 1) put)) (ne_eqb (get_or put at 0) k other) in
+      omega (arith, tail))
 ]
 
 -- and so does passing over some
@@ -94,12 +94,12 @@ queue-take put counts after first next place n q l less is low high none waits =
   within = high;
   waits = waits;
   behind = λ k.
-    let fewer : count_of after k ≤ count_of counts k = subst (λ cs. count_of cs k ≤ count_of counts k) (sym is)
-        (rw (count-set counts place n k l) (cond_both (k == place) n (count_of counts k) (λ m. m ≤ count_of counts k)
-        (λ e. subst (λ j. n ≤ count_of counts j) (sym (eqb-true k place e)) less) (λ e. omega arith))) in
-    let to : first + (next - first) ≡ next = omega arith in
-    subst (λ m. count_of after k ≤ times_in k (drop m put)) to
-    (pass-over put after k first (next - first) (omega arith) (λ j a b. none j a (omega arith)) (let h = q.behind k in omega arith));
+      let fewer : count_of after k ≤ count_of counts k = subst (λ cs. count_of cs k ≤ count_of counts k) (sym is)
+      (rw (count-set counts place n k l) (cond_both (k == place) n (count_of counts k) (λ m. m ≤ count_of counts k)
+      (λ e. subst (λ j. n ≤ count_of counts j) (sym (eqb-true k place e)) less) (λ e. omega arith))) in
+      let to : first + (next - first) ≡ next = omega arith in
+      subst (λ m. count_of after k ≤ times_in k (drop m put)) to
+      (pass-over put after k first (next - first) (omega arith) (λ j a b. none j a (omega arith)) (let h = q.behind k in omega arith));
 }
 
 -- a count that rises where a place is put

@@ -1,5 +1,5 @@
 -- The books of a desk.
-use Rattle.std.specs.Prelude.{◌≡◌, ◌<◌, ◌≤◌, ◌+◌, Bool, ℕ, List, [], ◌∷◌, length, take, drop, Option, None, if◌then◌else◌}
+use Rattle.std.specs.Prelude.{◌≡◌, ◌==◌, ◌<◌, ◌≤◌, ◌+◌, ◌-◌, Bool, ℕ, List, [], ◌∷◌, ◌++◌, length, take, drop, Option, None, if◌then◌else◌}
 use Rattle.solid_model.specs.declared.ended.EndKind.{EndKind}
 use Rattle.solid_model.specs.Blocks.{ProblemParts}
 use Rattle.solid_model.specs.Demands.{is_live}
@@ -52,6 +52,23 @@ pub record IsBegun (b : BooksParts) (live : Bool) : Type 0 where
   pub counts : (k : ℕ) → count_of b.counts k ≡ (if live then times_in k (root ∷ []) else 0)
   pub notes : b.notes ≡ []
   pub found : b.found ≡ []
+
+-- before a report: the same books, with more prefixes stored
+pub record AreGrown (b after : BooksParts) : Type 0 where
+  pub grown : (more : List (List Bool)) × (after.stored ≡ b.stored ++ more)
+  pub distinct : AreDistinct after.stored
+  pub put : after.put ≡ b.put
+  pub counts : (k : ℕ) → count_of after.counts k ≡ count_of b.counts k
+  pub notes : after.notes ≡ b.notes
+  pub found : after.found ≡ b.found
+
+-- after a report: its piece is taken out, its rest is put, its choices are found, and it is noted
+pub record AreEntered (b after : BooksParts) (piece opened : ℕ) (choices : List (List Bool)) (places : List ℕ) : Type 0 where
+  pub stored : after.stored ≡ b.stored
+  pub put : after.put ≡ b.put ++ places
+  pub counts : (k : ℕ) → count_of after.counts k ≡ (if k == piece then count_of b.counts k - 1 else count_of b.counts k) + times_in k places
+  pub notes : after.notes ≡ b.notes ++ record { piece = piece; opened = opened; found = length choices; rest = length places } ∷ []
+  pub found : after.found ≡ b.found ++ choices
 
 -- how often a prefix stands in a list
 abbrev pub times_among : List Bool → List (List Bool) → ℕ

@@ -1,5 +1,5 @@
 -- Places that wait in a queue.
-use Rattle.std.specs.Prelude.{◌≡◌, ◌==◌, ◌<◌, ◌≤◌, ◌+◌, ℕ, List, [], ◌∷◌, length, drop, slice_index, slice_index_or, if◌then◌else◌}
+use Rattle.std.specs.Prelude.{◌==◌, ◌<◌, ◌≤◌, ◌+◌, ℕ, List, [], ◌∷◌, length, drop, slice_index, slice_index_or, if◌then◌else◌}
 
 -- how often a number stands in a list
 abbrev pub times_in : ℕ → List ℕ → ℕ

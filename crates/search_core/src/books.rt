@@ -2,7 +2,7 @@
 
 ghost use Rattle.std.specs.Prelude.{◌≡◌, ◌==◌, ◌<◌, ◌≤◌, ◌+◌, ◌-◌, ◌++◌, ◌∷◌, [], ℕ, Bool, List, length, map, vec_len, vec_capacity, IfOk, MatchOption, if◌then◌else◌};
 ghost use Rattle.solid_model.specs.Lists.{Member, Each};
-ghost use Rattle.search_core.specs.Books.{books_of, IsBegun};
+ghost use Rattle.search_core.specs.Books.{books_of, IsBegun, AreGrown, AreEntered};
 ghost use Rattle.search_core.specs.Entries.{HasRoom, IsEntry};
 ghost use Rattle.search_core.specs.Notes.{prefix_at, AreDistinct, StandsAt};
 ghost use Rattle.search_core.specs.Queue.{count_of, times_in};
@@ -111,13 +111,7 @@ impl Books {
     /// Takes all the memory that a report needs. An `Err` is out of memory. What the books tell
     /// stays the same.
     pub fn prepare(&mut self, found: &[Choice], rest: &[Prefix]) -> Result<Entry, Memory>
-        ensures grown { (more : List (List Bool)) × (self.new.prefixes ≡ self.old.prefixes ++ more) }
-        ensures distinct { AreDistinct self.new.prefixes }
-        ensures put { self.new.waiting.put ≡ self.old.waiting.put }
-        ensures counts { (k : ℕ) → count_of self.new.waiting.counts k
-            ≡ count_of self.old.waiting.counts k }
-        ensures notes { self.new.notes.items ≡ self.old.notes.items }
-        ensures found { self.new.found.items ≡ self.old.found.items }
+        ensures grown { AreGrown (books_of self.old) (books_of self.new) }
         ensures entry { IfOk result (IsEntry self.new found.now rest.now) }
     {
         let alloc = *self.notes.allocator();
@@ -135,18 +129,8 @@ impl Books {
     pub fn enter(&mut self, piece: u32, opened: u32, entry: Entry)
         requires piece { 0 < count_of self.old.waiting.counts piece }
         requires room { HasRoom self.old entry }
-        ensures prefixes { self.new.prefixes ≡ self.old.prefixes }
-        ensures put { self.new.waiting.put ≡ self.old.waiting.put ++ entry.rest.items }
-        ensures counts { (k : ℕ) → count_of self.new.waiting.counts k
-            ≡ (if k == piece then count_of self.old.waiting.counts k - 1
-            else count_of self.old.waiting.counts k) + times_in k entry.rest.items }
-        ensures notes { self.new.notes.items ≡ self.old.notes.items ++ record {
-          piece = piece;
-          opened = opened;
-          found = length entry.found.items;
-          rest = length entry.rest.items;
-        } ∷ [] }
-        ensures found { self.new.found.items ≡ self.old.found.items ++ entry.found.items }
+        ensures { AreEntered (books_of self.old) (books_of self.new) piece opened
+            entry.found.items entry.rest.items }
     {
         let Entry {
             found: mut choices,

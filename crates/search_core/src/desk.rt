@@ -171,8 +171,9 @@ impl Desk {
     pub fn into_found(self) -> Vec<Choice>
         ensures { result.items ≡ self.found }
     {
-        let Books { mut found, .. } = self.books;
-        found.truncate(self.limits.solids as usize);
+        let Desk { limits, books, .. } = self;
+        let Books { mut found, .. } = books;
+        found.truncate(limits.solids as usize);
         found
     }
 

@@ -1,5 +1,5 @@
 -- One more is stored, if it wasn't, and its place comes behind the others.
-use Rattle.std.proofs.Common.{◌≡◌, ◌<◌, ◌+◌, ◌++◌, ◌∷◌, [], ℕ, List, Bool, map, take, length, get_or, sym, ◌∙◌, ap, ap₂, subst, arith}
+use Rattle.std.proofs.Common.{◌≡◌, ◌<◌, ◌++◌, ◌∷◌, [], ℕ, List, Bool, map, length, sym, ◌∙◌, ap, ap₂, subst, arith}
 use Rattle.std.proofs.lemmas.List.{append_assoc, map_push, take_more, get_or_read}
 use Rattle.solid_model.specs.Lists.{Each}
 use Rattle.solid_model.proofs.Lists.{each-push}

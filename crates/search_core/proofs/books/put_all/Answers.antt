@@ -1,5 +1,5 @@
 -- One more is put.
-use Rattle.std.proofs.Common.{◌≡◌, ◌<◌, ◌+◌, ◌++◌, ◌∷◌, ◌==◌, [], ℕ, List, Bool, take, length, get_or, refl, sym, ◌∙◌, ap, ap₂, subst, arith}
+use Rattle.std.proofs.Common.{◌≡◌, ◌<◌, ◌+◌, ◌++◌, ◌∷◌, [], ℕ, List, take, length, get_or, sym, ◌∙◌, ap, arith}
 use Rattle.std.proofs.lemmas.List.{append_assoc, take_more}
 use Rattle.search_core.specs.Queue.{count_of, times_in}
 use Rattle.search_core.proofs.Waits.{times_in-append, counted_once_more}
@@ -15,9 +15,9 @@ loop-place-preserved c =
     record {
       put = c.put.ensures.put ∙ ap (λ (v : List ℕ). v ++ get_or rest at 0 ∷ []) i.put ∙ append_assoc c.args.waiting.now.put (take at rest) (get_or rest at 0 ∷ []) ∙ ap (λ (v : List ℕ). c.args.waiting.now.put ++ v) (sym more);
       counts = λ k. (
-        let tail : times_in k (take (at + 1) rest) ≡ times_in k (take at rest) + times_in k (get_or rest at 0 ∷ []) = ap (times_in k) more ∙ times_in-append k (take at rest) (get_or rest at 0 ∷ []) in
-        let once : count_of c.put.new.self.counts k ≡ count_of c.loop-place.waiting.counts k + times_in k (get_or rest at 0 ∷ []) = c.put.ensures.counts k ∙ counted_once_more k (get_or rest at 0) (count_of c.loop-place.waiting.counts k) in
-        omega (arith, i.counts k));
+          let tail : times_in k (take (at + 1) rest) ≡ times_in k (take at rest) + times_in k (get_or rest at 0 ∷ []) = ap (times_in k) more ∙ times_in-append k (take at rest) (get_or rest at 0 ∷ []) in
+          let once : count_of c.put.new.self.counts k ≡ count_of c.loop-place.waiting.counts k + times_in k (get_or rest at 0 ∷ []) = c.put.ensures.counts k ∙ counted_once_more k (get_or rest at 0) (count_of c.loop-place.waiting.counts k) in
+          omega (arith, i.counts k));
       places = c.put.ensures.places ∙ i.places;
       room = c.put.ensures.room ∙ i.room;
     }

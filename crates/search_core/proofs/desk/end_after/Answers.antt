@@ -1,5 +1,5 @@
 -- The frontier is empty where no place waits.
-use Rattle.std.proofs.Common.{◌≡◌, ◌≤◌, ℕ, List, Bool, Some, None, [], length, sym, ◌∙◌, ap, subst, arith}
+use Rattle.std.proofs.Common.{◌≤◌, length, sym, ◌∙◌, ap, subst, arith}
 use Rattle.solid_model.specs.Search.{SearchLimits}
 use Rattle.search_core.specs.Core.{end_at}
 use Rattle.search_core.specs.Notes.{prefix_at}

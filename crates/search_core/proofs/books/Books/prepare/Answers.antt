@@ -1,6 +1,5 @@
 -- What the report puts in, and the room for it.
-use Rattle.std.proofs.Common.{◌≡◌, ◌<◌, ◌+◌, ◌≤◌, ℕ, List, length, sym, ap, subst, arith}
-use Rattle.solid_model.specs.Lists.{Each}
+use Rattle.std.proofs.Common.{◌<◌, ℕ, length, arith}
 use Rattle.solid_model.proofs.Lists.{each-weaker}
 use Rattle.search_core.proofs.books.Books.prepare.Goals as goal
 

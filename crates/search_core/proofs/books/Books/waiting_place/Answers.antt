@@ -1,7 +1,6 @@
 -- The prefix has one place, and it doesn't wait.
-use Rattle.std.proofs.Common.{◌≡◌, ◌⊎◌, inl, inr, ◌<◌, ◌≤◌, ℕ, IsTrue, refl, sym, ◌∙◌, ap, arith}
+use Rattle.std.proofs.Common.{◌≡◌, inl, inr, ◌<◌, sym, ◌∙◌, ap, arith}
 use Rattle.std.proofs.lemmas.Bool.{iff_false, cases_lt}
-use Rattle.search_core.specs.Notes.{StandsAt}
 use Rattle.search_core.specs.Queue.{count_of}
 use Rattle.search_core.proofs.books.Books.waiting_place.Goals as goal
 

@@ -1,5 +1,5 @@
 -- The frontier has what waits first, or is empty.
-use Rattle.std.proofs.Common.{◌≡◌, List, Bool, [], sym, ◌∙◌, ap, subst}
+use Rattle.std.proofs.Common.{◌≡◌, [], subst}
 use Rattle.solid_model.specs.Lists.{Member}
 use Rattle.search_core.specs.Desk.{DeskParts}
 use Rattle.search_core.proofs.Frontiers.{none-left, waits-member}

@@ -30,6 +30,6 @@ invariant_of-self-2 c =
     let place : c.len-place.result ≡ length stored = omega arith in
     let none : place_of c.reach.new.self p ≡ None = c.reach.ensures.places p ∙ sym c.place.ensures ∙ c.in_default.is in
     let given : (q : List Bool) → place_of c.put.new.self q ≡ (if same_prefix p q then Some (length stored) else place_of c.reach.new.self q) =
-        λ q. c.put.ensures p c.in_ok-at.ensures.there q ∙ ap (λ k. if same_prefix p q then Some k else place_of c.reach.new.self q) place in
+    λ q. c.put.ensures p c.in_ok-at.ensures.there q ∙ ap (λ k. if same_prefix p q then Some k else place_of c.reach.new.self q) place in
     subst (ArePlaces c.put.new.self) (sym items)
     (places_push c.reach.new.self c.put.new.self stored p none given (places_same c.self.inside.trie c.reach.new.self stored c.reach.ensures.places c.self.invariant))

@@ -1,5 +1,5 @@
 -- A step goes on with the next value, or the way stops there.
-use Rattle.std.proofs.Common.{◌≡◌, ◌<◌, ◌≤◌, Some, None, ℕ, List, Bool, false, length, get_or, take, sym, ◌∙◌, ap, subst, arith}
+use Rattle.std.proofs.Common.{◌≡◌, ◌<◌, Some, ℕ, List, Bool, false, length, get_or, take, sym, ◌∙◌, ap, arith}
 use Rattle.std.proofs.lemmas.List.{get_or_read, take_all}
 use Rattle.std.specs.Prelude.{Option}
 use Rattle.search_core.specs.declared.trie.Node.{Node}

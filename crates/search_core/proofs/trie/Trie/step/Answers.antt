@@ -1,5 +1,5 @@
 -- The node's child is there, or a new node becomes it.
-use Rattle.std.proofs.Common.{◌≡◌, ◌<◌, ◌+◌, Some, None, ℕ, List, [], ◌++◌, ◌∷◌, Bool, length, get_or, set, sym, ◌∙◌, ap, ap₂, subst, arith}
+use Rattle.std.proofs.Common.{◌≡◌, ◌<◌, ◌+◌, Some, ℕ, List, [], ◌++◌, ◌∷◌, Bool, length, get_or, set, sym, ◌∙◌, ap, ap₂, subst, arith}
 use Rattle.std.proofs.lemmas.List.{get_or_read, get_or_read_under, get_or_append_left, length_push}
 use Rattle.std.specs.Prelude.{Option}
 use Rattle.search_core.specs.declared.trie.Node.{Node}

@@ -1,5 +1,5 @@
 -- A place doesn't wait more often than it was put.
-use Rattle.std.proofs.Common.{◌≡◌, ◌<◌, ◌+◌, ℕ, List, [], ◌∷◌, ◌++◌, length, set, sym, subst, ap, arith}
+use Rattle.std.proofs.Common.{◌≡◌, ◌<◌, ◌+◌, ℕ, List, length, set, sym, subst, ap, arith}
 use Rattle.std.proofs.lemmas.List.{get_or_read}
 use Rattle.search_core.specs.Queue.{count_of, IsQueue, QueueParts}
 use Rattle.search_core.proofs.Waits.{waits_at_most, queue-put}
