@@ -12,3 +12,6 @@ mod waiting;
 
 pub use desk::{Desk, Reported};
 pub use laws::the_core_conserves;
+
+#[cfg(test)]
+mod tests;
