@@ -144,6 +144,7 @@ impl Books {
         });
         self.waiting.take(piece);
         put_all(&mut self.waiting, rest.as_slice());
+        // There is room, so this doesn't fail.
         let _moved = self.found.append(&mut choices);
     }
 }

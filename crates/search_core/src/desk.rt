@@ -150,8 +150,9 @@ impl Desk {
 
     /// The first piece of the frontier, if there is one: the one that was added first.
     pub fn first_piece(&self) -> Option<&Prefix>
-        ensures { MatchOption result (self.now.frontier ≡ [])
+        ensures piece { MatchOption result (self.now.frontier ≡ [])
             (λ piece. Member self.now.frontier piece.now) }
+        ensures kept { IsDesk self.now }
     {
         match self.books.waiting.first() {
             Some(place) => Some(self.books.prefixes.get(place)),
@@ -169,7 +170,8 @@ impl Desk {
 
     /// The same, handed over.
     pub fn into_found(self) -> Vec<Choice>
-        ensures { result.items ≡ self.found }
+        ensures found { result.items ≡ self.found }
+        ensures kept { IsDesk self }
     {
         let Desk { limits, books, .. } = self;
         let Books { mut found, .. } = books;

@@ -1,6 +1,7 @@
 //! Frontiers by hand.
 
 use crate::books::Books;
+use crate::desk::Desk;
 use solid_model::Prefix;
 use std::alloc::Global;
 use std::test::Fail;
@@ -13,6 +14,16 @@ const FRONTIERS: &str = "\
 +01 +01 -01 +1 -01 -01| 01 01 01 01 1 ?
 -1 +11 -1 +1 -11 -111 -1| ? 11 ? 11 1 ? .
 +0 +00 +000 +0001 -000 -0 -00 - -0001| 0 0 0 0 0 00 0001 ? .";
+
+/// What may be handed to another thread.
+fn sent<T: Send>(value: T) -> T {
+    value
+}
+
+/// A desk may.
+fn sent_desk(desk: Desk) -> Desk {
+    sent(desk)
+}
 
 /// The prefix that digits tell.
 fn prefix_of(alloc: Global, digits: &[u8]) -> Result<Prefix, Fail> {
