@@ -2,3 +2,9 @@ pub mod Lists
 pub mod TakenOut
 pub mod OnceBelow
 pub mod CoreEvents
+pub mod Tries
+pub mod Stored
+pub mod Waits
+pub mod Told
+pub mod Frontiers
+pub mod DeskBooks

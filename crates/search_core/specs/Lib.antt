@@ -1,3 +1,10 @@
 pub mod Core
 pub mod Conserves
 pub mod SmallCore
+pub mod Trie
+pub mod Notes
+pub mod Queue
+pub mod Desk
+pub mod Reported
+pub mod Books
+pub mod Entries

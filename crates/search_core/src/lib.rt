@@ -2,6 +2,16 @@
 //! may happen to it.
 #![tactic(auto)]
 
+mod books;
+mod desk;
 mod laws;
+mod note;
+mod prefixes;
+mod trie;
+mod waiting;
 
+pub use desk::{Desk, Reported};
 pub use laws::{small_core, the_core_conserves};
+
+#[cfg(test)]
+mod tests;

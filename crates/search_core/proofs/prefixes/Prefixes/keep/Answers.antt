@@ -1,0 +1,35 @@
+-- The prefix stands at the place that it has; or no place changes until it is stored, and it has the next place then.
+use Rattle.std.proofs.Common.{◌≡◌, List, [], Bool, Some, None, ◌++◌, ◌∷◌, length, sym, ◌∙◌, ap, subst, arith}
+use Rattle.std.specs.Prelude.{if◌then◌else◌}
+use Rattle.search_core.specs.Core.{same_prefix}
+use Rattle.search_core.specs.Notes.{StandsAt}
+use Rattle.search_core.specs.Trie.{place_of, ArePlaces}
+use Rattle.search_core.proofs.Stored.{places_same, places_push}
+use Rattle.search_core.proofs.prefixes.Prefixes.keep.Goals as goal
+
+pub returns-in-Some-clause-place : goal.returns-in-Some-clause-place
+returns-in-Some-clause-place c =
+    subst (λ (v : List (List Bool)). StandsAt v c.args.prefix.now c.in-Some.place) c.self.view_is
+    ((c.self.invariant c.args.prefix.now c.in-Some.place).0 (sym c.place.ensures ∙ c.in-Some.is))
+
+pub invariant_of-self : goal.invariant_of-self
+invariant_of-self c = places_same c.self.inside.trie c.reach.new.self c.self.inside.stored.items c.reach.ensures.places c.self.invariant
+
+pub invariant_of-self-in_err-try_clone : goal.invariant_of-self-in_err-try_clone
+invariant_of-self-in_err-try_clone c = places_same c.self.inside.trie c.reach.new.self c.self.inside.stored.items c.reach.ensures.places c.self.invariant
+
+pub invariant_of-self-in_err-push : goal.invariant_of-self-in_err-push
+invariant_of-self-in_err-push c =
+    subst (ArePlaces c.reach.new.self) (sym c.in_err-push.ensures.items) (places_same c.self.inside.trie c.reach.new.self c.self.inside.stored.items c.reach.ensures.places c.self.invariant)
+
+pub invariant_of-self-2 : goal.invariant_of-self-2
+invariant_of-self-2 c =
+    let stored = c.self.inside.stored.items in
+    let p = c.args.prefix.now in
+    let items : c.push.new.self.items ≡ stored ++ p ∷ [] = c.in_ok-push.ensures.items ∙ ap (λ (q : List Bool). stored ++ q ∷ []) c.in_ok-try_clone.ensures in
+    let place : c.len-place.result ≡ length stored = omega arith in
+    let none : place_of c.reach.new.self p ≡ None = c.reach.ensures.places p ∙ sym c.place.ensures ∙ c.in_default.is in
+    let given : (q : List Bool) → place_of c.put.new.self q ≡ (if same_prefix p q then Some (length stored) else place_of c.reach.new.self q) =
+    λ q. c.put.ensures p c.in_ok-at.ensures.there q ∙ ap (λ k. if same_prefix p q then Some k else place_of c.reach.new.self q) place in
+    subst (ArePlaces c.put.new.self) (sym items)
+    (places_push c.reach.new.self c.put.new.self stored p none given (places_same c.self.inside.trie c.reach.new.self stored c.reach.ensures.places c.self.invariant))

@@ -1,0 +1,50 @@
+-- The desk of a search: the core as a value that keeps its history.
+use Rattle.std.specs.Prelude.{◌≡◌, Bool, ℕ, List, [], ◌∷◌, ◌++◌, Option, None, IsPermutation}
+use Rattle.solid_model.specs.declared.ended.EndKind.{EndKind}
+use Rattle.solid_model.specs.Blocks.{ProblemParts}
+use Rattle.solid_model.specs.Demands.{is_live}
+use Rattle.solid_model.specs.Lists.{Member}
+use Rattle.solid_model.specs.Reports.{Report}
+use Rattle.solid_model.specs.Search.{SearchLimits}
+use Rattle.search_core.specs.Core.{Core, Event, IsRun, start_of, after_events}
+
+-- a desk: for which problem and limits, what has happened, and how the search stands
+pub record DeskParts : Type 0 where
+  pub problem : ProblemParts
+  pub limits : SearchLimits
+  pub history : List Event
+  pub frontier : List (List Bool)
+  pub found : List (List Bool)
+  pub opened : ℕ
+  pub end : Option EndKind
+
+-- the state that a history leads to
+abbrev pub state_of : ProblemParts → SearchLimits → List Event → Core
+state_of p limits history = after_events limits (start_of (is_live p)) history
+
+-- Every event of the history came in a state that took it, and the search stands as the history leaves it. The order of the
+-- frontier is free.
+pub record IsDesk (d : DeskParts) : Type 0 where
+  pub run : IsRun (is_live d.problem) d.problem.blocks.count d.limits (start_of (is_live d.problem)) d.history
+  pub frontier : IsPermutation d.frontier (state_of d.problem d.limits d.history).frontier
+  pub found : d.found ≡ (state_of d.problem d.limits d.history).found
+  pub opened : d.opened ≡ (state_of d.problem d.limits d.history).opened
+  pub end : d.end ≡ (state_of d.problem d.limits d.history).end
+
+-- ---- reports
+
+-- the event of a report
+abbrev pub event_of : Report → Event
+event_of r = record { piece = r.piece; opened = r.opened; found = r.found; rest = r.rest }
+
+-- a desk takes a report of its problem, before its end, of a piece of its frontier
+pub record Takes (d : DeskParts) (r : Report) : Type 0 where
+  pub same : r.problem ≡ d.problem
+  pub going : d.end ≡ None
+  pub waiting : Member d.frontier r.piece
+
+-- after a report its event stands behind the history
+pub record IsTaken (before : DeskParts) (r : Report) (after : DeskParts) : Type 0 where
+  pub problem : after.problem ≡ before.problem
+  pub limits : after.limits ≡ before.limits
+  pub history : after.history ≡ before.history ++ event_of r ∷ []

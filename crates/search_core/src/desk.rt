@@ -1,0 +1,205 @@
+//! The desk of a search.
+
+ghost use Rattle.std.specs.Prelude.{◌≡◌, ℕ, Bool, List, length, take};
+ghost use Rattle.search_core.specs.Core.{end_after};
+ghost use Rattle.search_core.specs.Books.{books_of, KeepsFrontier};
+
+use crate::books::Books;
+use solid_model::{Choice, EndKind, Expansion, Limits, Memory, Prefix, Problem};
+use std::alloc::Global;
+use std::marker::Model;
+use std::sync::Arc;
+
+/// What a desk answers to a report that it has memory for.
+#[derive(Drop)]
+pub enum Reported {
+    /// The report is taken; its rest is handed over.
+    Taken { rest: Vec<Prefix> },
+    /// It is of another problem.
+    Stranger,
+    /// The search has ended.
+    Stop,
+    /// The piece isn't in the frontier.
+    Gone,
+}
+
+/// The desk of a search of a problem within limits: what was reported so far, which prefixes are
+/// still to be expanded, and what was found. Contracts see it as the history of its reports and as
+/// the state of the core that the history leads to.
+#[derive(Drop)]
+pub struct Desk {
+    problem: Arc<Problem>,
+    limits: Limits,
+    books: Books,
+    opened: u64,
+    end: Option<EndKind>,
+}
+
+/// How a search stands by its books, where so many prefixes were opened.
+fn end_after(limits: Limits, books: &Books, opened: u64) -> Option<EndKind>
+    ensures { (frontier : List (List Bool))
+        → KeepsFrontier (books_of books.now).stored (books_of books.now).counts frontier
+        → result ≡ end_after limits (length (books_of books.now).found) opened frontier }
+{
+    if books.found.len() > limits.solids as usize {
+        Some(EndKind::CutSolids)
+    } else if opened > limits.nodes {
+        Some(EndKind::CutNodes)
+    } else {
+        match books.waiting.first() {
+            Some(_) => None,
+            None => Some(EndKind::Whole),
+        }
+    }
+}
+
+/// The choices that the limit of solids has room for.
+fn shown(found: &[Choice], limits: Limits) -> &[Choice]
+    ensures { result.now ≡ take limits.solids found.now }
+{
+    let most = limits.solids as usize;
+    if found.len() > most {
+        &found[..most]
+    } else {
+        found
+    }
+}
+
+impl Model for Desk {
+    ghost use Rattle.search_core.specs.Desk.{DeskParts};
+
+    ghost Value = { DeskParts };
+
+    ghost use Rattle.std.specs.Arc.{arc_value};
+    ghost use Rattle.search_core.specs.Books.{books_of, history_of, desk_of, AreBooksOf};
+
+    ghost view = { λ s. desk_of (arc_value s.problem) s.limits (history_of (books_of s.books)) };
+
+    ghost invariant = { λ s. AreBooksOf (arc_value s.problem) s.limits (books_of s.books) s.opened
+        s.end };
+}
+
+impl Desk {
+    ghost use Rattle.std.specs.Prelude.{◌≡◌, ◌↔◌, [], None, MatchOption, MatchResult, IfOk};
+    ghost use Rattle.std.specs.Arc.{arc_value};
+    ghost use Rattle.solid_model.specs.Demands.{is_live};
+    ghost use Rattle.solid_model.specs.Lists.{Member};
+    ghost use Rattle.search_core.specs.Desk.{IsDesk, Takes};
+    ghost use Rattle.search_core.specs.Reported.{IsReported};
+
+    /// The desk of a search that begins. It is told whether the empty prefix is live, which is then
+    /// the first to be expanded. An `Err` is out of memory.
+    pub fn new(
+        alloc: Global,
+        problem: Arc<Problem>,
+        limits: Limits,
+        live: bool,
+    ) -> Result<Desk, Memory>
+        requires { live ≡ is_live (arc_value problem) [] }
+        ensures problem { IfOk result (λ desk. desk.problem ≡ arc_value problem) }
+        ensures limits { IfOk result (λ desk. desk.limits ≡ limits) }
+        ensures begun { IfOk result (λ desk. desk.history ≡ []) }
+        ensures kept { IfOk result IsDesk }
+    {
+        let books = Books::new(alloc, live)?;
+        let end = if live { None } else { Some(EndKind::Whole) };
+        Ok(Desk {
+            problem,
+            limits,
+            books,
+            opened: 0,
+            end,
+        })
+    }
+
+    /// Takes a report: its piece is taken out of the frontier, its rest is added, its choices are
+    /// found as far as the limit of solids has room, and it stands behind the history. An `Err` is
+    /// out of memory, and hands the report back; nothing has changed then.
+    pub fn report(&mut self, expansion: Expansion) -> Result<Reported, Expansion>
+        ensures answer { MatchResult result (IsReported self.old expansion self.new)
+            (λ back. Takes self.old expansion × (back ≡ expansion) × (self.new ≡ self.old)) }
+        ensures kept { IsDesk self.new }
+    {
+        if !self.problem.same(expansion.problem()) {
+            return Ok(Reported::Stranger);
+        }
+        if self.end.is_some() {
+            return Ok(Reported::Stop);
+        }
+        let Some(piece) = self.books.waiting_place(expansion.piece()) else {
+            return Ok(Reported::Gone);
+        };
+        let Ok(entry) = self.books.prepare(expansion.found(), expansion.rest()) else {
+            return Err(expansion);
+        };
+        self.books.enter(piece, expansion.opened(), entry);
+        self.opened += u64::from(expansion.opened());
+        self.end = end_after(self.limits, &self.books, self.opened);
+        Ok(Reported::Taken {
+            rest: expansion.take_rest(),
+        })
+    }
+
+    /// How the search has ended, if it has.
+    pub fn end(&self) -> Option<EndKind>
+        ensures end { result ≡ self.now.end }
+        ensures kept { IsDesk self.now }
+    {
+        self.end
+    }
+
+    /// The first piece of the frontier, if there is one: the one that was added first.
+    pub fn first_piece(&self) -> Option<&Prefix>
+        ensures piece { MatchOption result (self.now.frontier ≡ [])
+            (λ piece. Member self.now.frontier piece.now) }
+        ensures kept { IsDesk self.now }
+    {
+        match self.books.waiting.first() {
+            Some(place) => Some(self.books.prefixes.get(place)),
+            None => None,
+        }
+    }
+
+    /// The choices found, as many as the limit of solids has room for, in the order of the reports.
+    pub fn found(&self) -> &[Choice]
+        ensures found { result.now ≡ self.now.found }
+        ensures kept { IsDesk self.now }
+    {
+        shown(&self.books.found, self.limits)
+    }
+
+    /// The same, handed over.
+    pub fn into_found(self) -> Vec<Choice>
+        ensures found { result.items ≡ self.found }
+        ensures kept { IsDesk self }
+    {
+        let Desk { limits, books, .. } = self;
+        let Books { mut found, .. } = books;
+        found.truncate(limits.solids as usize);
+        found
+    }
+
+    /// How many prefixes were opened.
+    pub fn opened(&self) -> u64
+        ensures opened { result ≡ self.now.opened }
+        ensures kept { IsDesk self.now }
+    {
+        self.opened
+    }
+
+    /// The problem.
+    pub fn problem(&self) -> &Arc<Problem>
+        ensures problem { arc_value result.now ≡ self.now.problem }
+        ensures kept { IsDesk self.now }
+    {
+        &self.problem
+    }
+
+    /// The limits.
+    pub fn limits(&self) -> Limits
+        ensures limits { result ≡ self.now.limits }
+        ensures kept { IsDesk self.now }
+    {
+        self.limits
+    }
+}
