@@ -1,5 +1,5 @@
 -- Made solids: a row of 14 pieces for each number, by the words of a generator (Pcg32, stream 54).
-use Rattle.std.specs.Prelude.{◌≡◌, ◌+◌, ◌%◌, ◌&&◌, ◌==◌, nat_le, Bool, true, false, ℕ, zero, suc, List, [], ◌∷◌, length, if◌then◌else◌}
+use Rattle.std.specs.Prelude.{◌≡◌, ◌+◌, ◌%◌, ◌&&◌, nat_le, Bool, true, false, not, ℕ, zero, suc, List, [], ◌∷◌, length, if◌then◌else◌}
 use Rattle.rand_pcg.specs.Lcg.{Lcg, started, increment_of}
 use Rattle.rand_pcg.specs.Pcg.{pcg32, multiplier_64}
 use Rattle.solid_model.specs.declared.cell.Cell.{Cell}
@@ -22,7 +22,7 @@ piece_count = 14
 -- The kind that a word gives, where only one cube with eight voids stands so far, or more than one: by the word's remainder
 -- by 8, 0 gives another cube with eight voids, if only one stands, and else a hollow cube; so do 1 to 4; 5 to 7 give a unit cube.
 abbrev pub kind_by : Bool → ℕ → Kind
-kind_by alone 0 = if alone then EightVoids else HollowCube
+kind_by alone zero = if alone then EightVoids else HollowCube
 kind_by alone k = if nat_le k 4 then HollowCube else UnitCube
 
 -- the scale that a word gives
@@ -54,7 +54,7 @@ abbrev pub made_solid : ℕ → List Cell
 made_solid n = row_cells (made_pieces n)
 
 -- the grid of its drawing, and which of the grid's cells it fills, z slowest and x fastest
-pub record IsMade (n : ℕ) (g : GridParts) (cells : List Bool) : Type 0 where
+pub record IsMade (n : ℕ) (g : GridParts) (chosen : List Bool) : Type 0 where
   pub grid : IsGridOf (solid_drawing (made_solid n)) g
-  pub cells : IsUnionOf (coordinates_of g) cells (is_full (made_solid n))
-  pub count : length cells ≡ grid_cell_count (coordinates_of g)
+  pub cells : IsUnionOf (coordinates_of g) chosen (is_full (made_solid n))
+  pub count : length chosen ≡ grid_cell_count (coordinates_of g)

@@ -1,10 +1,11 @@
 -- Pieces of made solids: cubes that stand along the diagonal, some with voids, each enlarged.
-use Rattle.std.specs.Prelude.{◌+◌, ◌*◌, ◌%◌, ◌&&◌, ◌==◌, Bool, true, false, not, ℕ, zero, suc, List, [], ◌∷◌, map, if◌then◌else◌}
+use Rattle.std.specs.Prelude.{◌+◌, ◌*◌, ◌&&◌, ◌||◌, ◌==◌, Bool, false, not, ℕ, List, map}
 use Rattle.std.specs.List.{filter, flat_map, range_with_len}
 use Rattle.solid_model.specs.declared.cell.Cell.{Cell}
 use Rattle.solid_model.specs.Cells.{cell_at}
 use Rattle.drawing_maker.specs.declared.piece.Kind.{Kind}
 use Rattle.drawing_maker.specs.declared.piece.Kind.TheVariants.{UnitCube, HollowCube, EightVoids}
+use Rattle.drawing_maker.specs.declared.piece.Piece.{Piece}
 
 -- a cell of a small cube, by its place along each axis
 pub record Spot : Type 0 where
@@ -38,10 +39,8 @@ abbrev pub full_spots : Kind → List Spot
 full_spots kind = filter (λ c. not (is_void kind c)) (spots_in (side_of kind))
 
 -- a piece: its kind, by how much it is enlarged, and the coordinate along each axis at which it begins
-pub record PieceParts : Type 0 where
-  pub kind : Kind
-  pub scale : ℕ
-  pub origin : ℕ
+abbrev pub PieceParts : Type 0
+PieceParts = Piece
 
 -- where the next piece begins: behind a gap of 1
 abbrev pub next_origin : PieceParts → ℕ

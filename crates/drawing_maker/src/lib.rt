@@ -1,2 +1,14 @@
 //! Drawings of any size to try things on, each made from a number.
 #![tactic(auto)]
+
+mod cells;
+mod laws;
+mod making;
+mod piece;
+mod pieces;
+mod stops;
+#[cfg(test)]
+mod tests;
+
+pub use laws::made_files_read_back;
+pub use making::make;

@@ -4,3 +4,5 @@ pub mod Fields
 pub mod PlainFields
 pub mod LinesRead
 pub mod Lengths
+pub mod Renumbered
+pub mod Written

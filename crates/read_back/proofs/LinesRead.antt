@@ -30,7 +30,7 @@ use Rattle.read_back.proofs.Spellings.{spelled_is_whole}
 -- ---- what counts of a line's entity
 
 -- a line with its number in the file
-abbrev numbered : ℕ → Line → Line
+abbrev pub numbered : ℕ → Line → Line
 numbered n l = record l { number = n }
 
 -- the linetype of a style

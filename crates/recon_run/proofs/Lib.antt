@@ -1,10 +1,12 @@
 pub mod Grids
 pub mod Problems
+pub mod Redrawn
 pub mod Faults
 pub mod Solved
 pub mod Told
 pub mod Sources
 pub mod OneAnswer
 pub mod Endings
+pub mod DueAnswers
 pub mod TextByText
 pub mod Totality

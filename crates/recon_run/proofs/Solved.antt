@@ -30,7 +30,7 @@ use Rattle.solid_model.proofs.SomeFaces.{some_faces}
 use Rattle.solid_model.proofs.Volumes.{volume_counts}
 
 -- choices fill as many solids
-as_many : (coordinates : Coordinates) (numbers : List (Option ℕ)) (count : ℕ) (choices : List (List Bool)) (solids : List (List Cell))
+pub as_many : (coordinates : Coordinates) (numbers : List (Option ℕ)) (count : ℕ) (choices : List (List Bool)) (solids : List (List Cell))
     → AreSolidsOfChoices coordinates numbers count choices solids → length choices ≡ length solids
 as_many coordinates numbers count [] [] filled = refl
 as_many coordinates numbers count [] (s ∷ solids) filled = absurd filled
@@ -38,13 +38,13 @@ as_many coordinates numbers count (choice ∷ choices) [] filled = absurd filled
 as_many coordinates numbers count (choice ∷ choices) (s ∷ solids) filled = ap suc (as_many coordinates numbers count choices solids filled.2)
 
 module _ (limits : SearchLimits) (t : List ℕ) (p : ProblemParts) (has : HasProblem t p) where
-  abbrev drawing : Segment → Style
+  abbrev pub drawing : Segment → Style
   drawing = drawing_of has.lines
 
-  abbrev Fill : List (List Bool) → List (List Cell) → Type 0
+  abbrev pub Fill : List (List Bool) → List (List Cell) → Type 0
   Fill = AreSolidsOfChoices (coordinates_of p.grid) p.blocks.numbers p.blocks.count
 
-  abbrev IsStated : List Cell → Type 0
+  abbrev pub IsStated : List Cell → Type 0
   IsStated s = Matches drawing s × IsInStatedForm s
 
   -- ---- what is told of solids
@@ -104,14 +104,14 @@ module _ (limits : SearchLimits) (t : List ℕ) (p : ProblemParts) (has : HasPro
       are.listed) are.ordered
 
   -- what a search that ended so lists
-  record IsListing (kind : EndKind) (opened : ℕ) (choices : List (List Bool)) (solids : List (List Cell)) : Type 0 where
-    can : CanEnd limits t kind
-    listed : AreListed limits drawing kind solids
-    filled : Fill choices solids
-    each : Each IsStated solids
-    head : head_text limits kind (length choices) opened p.blocks.count ≡ head_text limits kind (length solids) (node_count p) p.blocks.count
+  pub record IsListing (kind : EndKind) (opened : ℕ) (choices : List (List Bool)) (solids : List (List Cell)) : Type 0 where
+    pub can : CanEnd limits t kind
+    pub listed : AreListed limits drawing kind solids
+    pub filled : Fill choices solids
+    pub each : Each IsStated solids
+    pub head : head_text limits kind (length choices) opened p.blocks.count ≡ head_text limits kind (length solids) (node_count p) p.blocks.count
 
-  listing : (kind : EndKind) (opened : ℕ) (choices : List (List Bool)) → EndsAs (is_live p) p.blocks.count limits kind opened choices
+  pub listing : (kind : EndKind) (opened : ℕ) (choices : List (List Bool)) → EndsAs (is_live p) p.blocks.count limits kind opened choices
       → (solids : List (List Cell)) × IsListing kind opened choices solids
   listing Whole opened choices (few_nodes, few_solids, counted, is_whole) =
       let filled : Fill choices all.0 = subst (λ cs. Fill cs all.0) (sym is_whole) all.2 in (
@@ -147,10 +147,28 @@ module _ (limits : SearchLimits) (t : List ℕ) (p : ProblemParts) (has : HasPro
         },
       )
 
+  -- what a whole search opens and lists
+  pub record IsWholeListing (opened : ℕ) (choices : List (List Bool)) : Type 0 where
+    pub can : CanEnd limits t Whole
+    pub problem : can.problem ≡ p
+    pub filled : Fill choices can.solids
+    pub each : Each IsStated can.solids
+    pub counted : opened ≡ node_count p
+
+  pub whole_listing : (opened : ℕ) (choices : List (List Bool)) → EndsAs (is_live p) p.blocks.count limits Whole opened choices
+      → IsWholeListing opened choices
+  whole_listing opened choices (few_nodes, few_solids, counted, is_whole) = record {
+    can = record { problem = p; has = has; solids = all.0; all = all.1; allows = (few_nodes, omega (arith, few_solids, count_solids whole all.0 all.2)) };
+    problem = refl;
+    filled = subst (λ cs. Fill cs all.0) (sym is_whole) all.2;
+    each = all.1.matching;
+    counted = counted;
+  }
+
   -- ---- the answer
 
   -- the solids that it lists
-  abbrev listed_solids : (kind : EndKind) (opened : ℕ) (choices : List (List Bool)) (solids : List (List Cell)) → IsListing kind opened choices solids
+  abbrev pub listed_solids : (kind : EndKind) (opened : ℕ) (choices : List (List Bool)) (solids : List (List Cell)) → IsListing kind opened choices solids
       → ListedSolids limits t kind
   listed_solids kind opened choices solids is =
       record { problem = p; has = has; solids = solids; listed = is.listed; choices = choices; filled = is.filled }

@@ -1,14 +1,15 @@
 -- Words and an input never lack a right answer.
-use Rattle.std.proofs.Common.{◌≡◌, refl, inl, inr, ⊎_elim, Bool, true, false, ℕ, ◌+◌, ◌≤◌, List, [], ◌++◌, length, take, drop, Option, Some, None, Result, Ok, Err, ℤ, sym, subst, arith}
+use Rattle.std.proofs.Common.{◌≡◌, refl, inl, inr, ⊎_elim, Bool, true, false, ℕ, ◌+◌, ◌-◌, ◌<◌, ◌≤◌, List, [], ◌++◌, length, take, drop, Option, Some, None, Result, Ok, Err, ℤ, sym, subst, ◌∙◌, arith}
 use Rattle.std.proofs.lemmas.Bool.{cases_lt}
 use Rattle.std.proofs.lemmas.List.{take-append-drop, length-take-le}
 use Rattle.dxf_entities.specs.Reading.{read_of}
 use Rattle.dxf_entities.proofs.KeptLines.{read_lines_are_kept}
 use Rattle.recon_run.specs.declared.status.Answer.{Answer}
-use Rattle.recon_run.specs.declared.status.Answer.TheVariants.{Solve, Usage}
+use Rattle.recon_run.specs.declared.status.Answer.TheVariants.{Solve, Redraw, NoSolid, Make, Trial, Usage}
 use Rattle.recon_run.specs.declared.status.Found.TheVariants.{Ended, Faulty}
-use Rattle.recon_run.specs.Answers.{usage_text, IsFaultAfter, IsFileFault, HasProblem, IsSolved}
-use Rattle.recon_run.specs.Endings.{AsksToSolve, Answers, ReadsAllOrPast}
+use Rattle.recon_run.specs.Answers.{usage_text, IsFaultAfter, IsFileFault, HasProblem, IsSolved, IsTried, default_limits, first_volume, head_of, node_count}
+use Rattle.recon_run.specs.Endings.{Answers, AnswersJob, AnswersSaid, ReadsAllOrPast, Redraws}
+use Rattle.recon_run.proofs.Redrawn.{each_get}
 use Rattle.recon_run.proofs.Faults.{file_fault}
 use Rattle.recon_run.proofs.Solved.{matching, some_answer_of}
 use Rattle.report.specs.FaultText.{fault_text}
@@ -44,7 +45,17 @@ use Rattle.solid_model.proofs.SomeGrid.{some_coordinates}
 use Rattle.solid_model.proofs.SomeNumbering.{some_numbering}
 use Rattle.words.specs.declared.job.Job.{Job}
 use Rattle.words.specs.declared.job.Job.TheVariants as job
-use Rattle.words.specs.Jobs.{job_said}
+use Rattle.words.specs.Jobs.{IsCounted, job_said}
+use Rattle.words.proofs.Commands.{said_is_counted}
+use Rattle.drawing_maker.specs.Made.{made_solid}
+use Rattle.drawing_maker.proofs.MadeSolid.{made_is_solid}
+use Rattle.redraw.proofs.SomeFile.{some_file}
+use Rattle.report.specs.Texts.{no_solid_text, trial_text}
+use Rattle.std.specs.List.{slice_get}
+use Rattle.std.proofs.lemmas.Option.{none-some, slice_get-get_or}
+use Rattle.solid_model.specs.declared.cell.Cell.{Cell}
+use Rattle.solid_model.specs.Matching.{Matches}
+use Rattle.solid_model.specs.Orders.{IsInStatedForm}
 
 -- where no view is the first empty one, every view shows something
 shown_by_views : (ls : List Line) → ((v : View) → IsFirstEmptyView ls v → ⊥) → IsShown ls
@@ -203,23 +214,60 @@ module _ (limits : SearchLimits) (t : List ℕ) (short : length t ≤ most_file_
   short_input (Err found) reads = faultless found (file_fault t (Err found) found short reads refl)
   short_input (Ok ls) reads = input_with_lines ls reads
 
+-- it can't be that a text of any length has neither a fault nor an end of a search
+searched_somehow : (limits : SearchLimits) (t : List ℕ) → ((fault : Fault) → IsFileFault t fault → ⊥)
+    → ((kind : EndKind) (text : List ℕ) → IsSolved limits t (Ended kind) text → ⊥) → ⊥
+searched_somehow limits t faultless endless = ⊎_elim (λ long. faultless TooLong (inl (long, refl)))
+    (λ short. short_input limits t short faultless endless (read_of t) refl) (cases_lt most_file_bytes (length t))
+
+-- a source that had t left can have been read to its end, or past the most
+can_be_read : (t : List ℕ) → ((rest : Option (List ℕ)) → ReadsAllOrPast t rest → ⊥) → ⊥
+can_be_read t never = ⊎_elim (λ long. never (Some (drop (most_file_bytes + 1) t)) (inr (long, refl)))
+    (λ short. never (Some []) (inl (short, refl))) (cases_lt most_file_bytes (length t))
+
+-- a whole search has a solid of a number, and that has a file; or there are fewer
+redrawn_somehow : (limits : SearchLimits) (which : ℕ) → 1 ≤ which → (t : List ℕ) (kind : EndKind) (text : List ℕ) → IsSolved limits t (Ended kind) text
+    → ((answer : Answer) (told : List ℕ) → Redraws which limits t answer told → ⊥) → ⊥
+redrawn_somehow limits which some t Whole text (c, lists) never = ⊎_elim
+    (λ few. never NoSolid (no_solid_text which (length c.solids)) (c, few, refl))
+    (λ enough. by (slice_get c.solids (which - 1)) refl (let within : which - 1 < length c.solids = omega arith in within))
+    (cases_lt (length c.solids) which)
+  where
+    by : (o : Option (List Cell)) → slice_get c.solids (which - 1) ≡ o → which - 1 < length c.solids → ⊥
+    by None none within = none-some _ (sym none ∙ slice_get-get_or c.solids (which - 1) [] within)
+    by (Some s) at within =
+        let matches = each_get (λ u. Matches (drawing_of c.has.lines) u × IsInStatedForm u) c.solids (which - 1) s c.all.matching at in
+        let (file, is) = some_file s matches.0.0 in never (Redraw (Ended Whole)) file (c, s, (some, at), is)
+redrawn_somehow limits which some t CutNodes text (can, lists) never = never (Redraw (Ended CutNodes)) (head_of lists.0) (can, lists.0, refl)
+redrawn_somehow limits which some t CutSolids text (can, lists) never = never (Redraw (Ended CutSolids)) (head_of lists.0) (can, lists.0, refl)
+
+-- what `trial` tells of the end of a search
+tried_somehow : (n : ℕ) (t : List ℕ) (kind : EndKind) (text : List ℕ) → IsSolved default_limits t (Ended kind) text
+    → ((told : List ℕ) → IsTried n t (Ended kind) told → ⊥) → ⊥
+tried_somehow n t Whole text (c, lists) never =
+    never (trial_text n c.problem.blocks.count (length c.solids) (node_count c.problem) (first_volume c.solids)) (c, refl)
+tried_somehow n t CutNodes text (can, lists) never = never (head_of lists.0) (can, lists.0, refl)
+tried_somehow n t CutSolids text (can, lists) never = never (head_of lists.0) (can, lists.0, refl)
+
+-- no job lacks an answer
+job_answered : (j : Job) → IsCounted j → (t : List ℕ)
+    → ((rest : Option (List ℕ)) (answer : Answer) (text : List ℕ) → AnswersJob j (Some t) rest answer text → ⊥) → ⊥
+job_answered (job.Solve limits) counted t never = can_be_read t (λ rest reads. searched_somehow limits t
+    (λ fault is. never rest (Solve Faulty) (fault_text fault) (reads, (fault, is, refl)))
+    (λ kind text is. never rest (Solve (Ended kind)) text (reads, is)))
+job_answered (job.Redraw which limits) counted t never = can_be_read t (λ rest reads. searched_somehow limits t
+    (λ fault is. never rest (Redraw Faulty) (fault_text fault) (reads, (fault, is, refl)))
+    (λ kind text is. redrawn_somehow limits which counted t kind text is (λ answer told redraws. never rest answer told (reads, redraws))))
+job_answered (job.Make n) counted t never = let (file, is) = some_file (made_solid n) (made_is_solid n) in never (Some t) Make file (refl, is)
+job_answered (job.Trial n) counted t never = let (file, is) = some_file (made_solid n) (made_is_solid n) in searched_somehow default_limits file
+    (λ fault faulty. never (Some t) (Trial Faulty) (fault_text fault) (refl, (file, is, (fault, faulty, refl))))
+    (λ kind text ends. tried_somehow n file kind text ends (λ told tried. never (Some t) (Trial (Ended kind)) told (refl, (file, is, tried))))
+
 pub answered_somehow : (words : List (List ℕ)) (t : List ℕ)
     → ((rest : Option (List ℕ)) (answer : Answer) (text : List ℕ) → Answers words (Some t) rest answer text → ⊥) → ⊥
 answered_somehow words t never = by (job_said words) refl
   where
-    read_to_end : length t ≤ most_file_bytes → ReadsAllOrPast t (Some [])
-    read_to_end short = inl (short, refl)
-
-    solve_asked : (limits : SearchLimits) → AsksToSolve words limits → ⊥
-    solve_asked limits asks = ⊎_elim
-        (λ long. never (Some (drop (most_file_bytes + 1) t)) (Solve Faulty) (fault_text TooLong)
-        (limits, asks, (inr (long, refl), (TooLong, inl (long, refl), refl))))
-        (λ short. short_input limits t short
-        (λ fault is. never (Some []) (Solve Faulty) (fault_text fault) (limits, asks, (read_to_end short, (fault, is, refl))))
-        (λ kind text ends. never (Some []) (Solve (Ended kind)) text (limits, asks, (read_to_end short, ends)))
-        (read_of t) refl)
-        (cases_lt most_file_bytes (length t))
-
     by : (said : Option Job) → job_said words ≡ said → ⊥
-    by None none = never (Some []) Usage usage_text (none, refl)
-    by (Some (job.Solve limits)) asks = solve_asked limits asks
+    by None none = never (Some t) Usage usage_text (subst (λ o. AnswersSaid o (Some t) (Some t) Usage usage_text) (sym none) (refl, refl))
+    by (Some j) asks = job_answered j (said_is_counted words j asks) t
+        (λ rest answer text answers. never rest answer text (subst (λ o. AnswersSaid o (Some t) rest answer text) (sym asks) answers))

@@ -1,10 +1,11 @@
--- What `solve` answers to an input.
-use Rattle.std.specs.Prelude.{◌≡◌, ◌⊎◌, ℕ, ◌+◌, ◌<◌, ◌≤◌, List, [], ◌∷◌, ◌++◌, Bool, length, take, Result, Ok, Err, codes}
+-- What commands answer to an input.
+use Rattle.std.specs.Prelude.{◌≡◌, ◌⊎◌, ℕ, ◌+◌, ◌-◌, ◌<◌, ◌≤◌, List, [], ◌∷◌, ◌++◌, Bool, length, take, slice_get, Some, Result, Ok, Err, codes}
 use Rattle.dxf_entities.specs.Reading.{read_of}
 use Rattle.recon_run.specs.declared.status.Found.{Found}
 use Rattle.recon_run.specs.declared.status.Found.TheVariants.{Ended, Faulty}
 use Rattle.report.specs.FaultText.{fault_text}
-use Rattle.report.specs.Texts.{head_text, solid_text}
+use Rattle.redraw.specs.Files.{IsFileOf}
+use Rattle.report.specs.Texts.{head_text, no_solid_text, solid_text, trial_text}
 use Rattle.solid_model.specs.declared.cell.Axis.{Axis}
 use Rattle.solid_model.specs.declared.cell.Cell.{Cell}
 use Rattle.solid_model.specs.declared.ended.EndKind.{EndKind}
@@ -143,3 +144,40 @@ IsSolved limits t Faulty text = (fault : Fault) × IsFileFault t fault × (text 
 abbrev pub IsBegun : SearchLimits → List ℕ → Found → List ℕ → Type 0
 IsBegun limits t (Ended kind) text = CanEnd limits t kind × BeginsToList limits t kind text
 IsBegun limits t Faulty text = IsSolved limits t Faulty text
+
+-- ---- `redraw`
+
+-- the solid of a number, counted from 1
+abbrev pub IsNumbered : List (List Cell) → ℕ → List Cell → Type 0
+IsNumbered solids which s = (1 ≤ which) × (slice_get solids (which - 1) ≡ Some s)
+
+-- What `redraw` asks for and the input within limits: of a whole search the written file of the solid of this number; at a cut
+-- how the search ended, alone; or the text of the first fault.
+abbrev pub IsRedrawn : SearchLimits → ℕ → List ℕ → Found → List ℕ → Type 0
+IsRedrawn limits which t (Ended Whole) text =
+    (c : CanEnd limits t Whole) × (s : List Cell) × IsNumbered c.solids which s × IsFileOf s text
+IsRedrawn limits which t (Ended kind) text = CanEnd limits t kind × (l : ListedSolids limits t kind) × (text ≡ head_of l)
+IsRedrawn limits which t Faulty text = (fault : Fault) × IsFileFault t fault × (text ≡ fault_text fault)
+
+-- a whole search lists fewer solids than that
+abbrev pub LacksSolid : SearchLimits → ℕ → List ℕ → List ℕ → Type 0
+LacksSolid limits which t text = (c : CanEnd limits t Whole) × (length c.solids < which) × (text ≡ no_solid_text which (length c.solids))
+
+-- ---- `trial`
+
+-- the limits of a search where none are asked for
+abbrev pub default_limits : SearchLimits
+default_limits = record { nodes = 1000000; solids = 4096 }
+
+-- the volume of the first solid of a list
+abbrev pub first_volume : List (List Cell) → ℕ
+first_volume [] = 0
+first_volume (s ∷ solids) = length s
+
+-- What `trial` asks for, of the file that it makes: of a whole search one line of figures; at a cut how the search ended; or
+-- the text of the file's first fault.
+abbrev pub IsTried : ℕ → List ℕ → Found → List ℕ → Type 0
+IsTried n t (Ended Whole) text = (c : CanEnd default_limits t Whole)
+    × (text ≡ trial_text n c.problem.blocks.count (length c.solids) (node_count c.problem) (first_volume c.solids))
+IsTried n t (Ended kind) text = CanEnd default_limits t kind × (l : ListedSolids default_limits t kind) × (text ≡ head_of l)
+IsTried n t Faulty text = (fault : Fault) × IsFileFault t fault × (text ≡ fault_text fault)

@@ -1,8 +1,10 @@
 -- What is found in a file, and what is written of it.
-use Rattle.std.specs.Prelude.{◌≡◌, ◌⊎◌, Bool, ℕ, ◌+◌, List, [], ◌∷◌, ◌++◌, length, take, Option, Result, Ok, Err}
+use Rattle.std.specs.Prelude.{◌≡◌, ◌⊎◌, Bool, ℕ, ◌+◌, ◌-◌, ◌<◌, List, [], ◌∷◌, ◌++◌, length, take, slice_get, Option, Some, Result, Ok, Err}
 use Rattle.std.specs.Io.KnownBytes.{Appends, Keeps}
 use Rattle.recon_run.specs.declared.solve.Finding.{Finding}
 use Rattle.recon_run.specs.declared.solve.Finding.TheVariants.{Solids, Fault}
+use Rattle.recon_run.specs.declared.status.Answer.{Answer}
+use Rattle.recon_run.specs.declared.status.Answer.TheVariants.{Redraw, NoSolid, Trial}
 use Rattle.recon_run.specs.declared.status.Found.{Found}
 use Rattle.recon_run.specs.declared.status.Found.TheVariants.{Ended, Faulty}
 use Rattle.recon_run.specs.declared.status.Stop.{Stop}
@@ -10,9 +12,13 @@ use Rattle.recon_run.specs.declared.status.Stop.TheVariants.{ReadFault, WriteFau
 use Rattle.recon_run.specs.Answers.{IsFileFault, HasProblem}
 use Rattle.recon_run.specs.Searched.{SearchedParts}
 use Rattle.report.specs.FaultText.{fault_text}
-use Rattle.report.specs.Texts.{head_text, solid_text}
+use Rattle.redraw.specs.Files.{IsFileOf}
+use Rattle.report.specs.Texts.{head_text, no_solid_text, solid_text, trial_text}
 use Rattle.solid_model.specs.declared.cell.Cell.{Cell}
+use Rattle.solid_model.specs.declared.ended.EndKind.{EndKind}
+use Rattle.solid_model.specs.declared.ended.EndKind.TheVariants.{Whole}
 use Rattle.solid_model.specs.Blocks.{ProblemParts}
+use Rattle.solid_model.specs.Cells.{IsSolid, is_full}
 use Rattle.solid_model.specs.Choices.{cells_of_choice}
 use Rattle.solid_model.specs.Demands.{is_live}
 use Rattle.solid_model.specs.Faces.{FaceParts, AreFacesOf}
@@ -77,6 +83,48 @@ TellsFinding limits (Fault fault) text = text ≡ fault_text fault
 abbrev pub BeginsFinding : SearchLimits → Finding → List ℕ → Type 0
 BeginsFinding limits (Solids s) text = (texts : List ℕ) × BeginsChoices s.problem 1 s.ended.solids texts × (text ≡ search_head limits s ++ texts)
 BeginsFinding limits (Fault fault) text = text ≡ fault_text fault
+
+-- ---- what `redraw` tells of it
+
+-- the text is the written file of the solid that a choice fills
+abbrev pub IsDrawingOf : ProblemParts → List Bool → List ℕ → Type 0
+IsDrawingOf p choice text = (s : List Cell) → IsSolid s
+    → IsUnionOf (coordinates_of p.grid) (cells_of_choice p.blocks.numbers choice) (is_full s) → IsFileOf s text
+
+-- The text is the written file of the solid that the choice of this number fills, counted from 1; or it tells that there are
+-- fewer choices.
+abbrev pub TellsSolid : ProblemParts → List (List Bool) → ℕ → Answer → List ℕ → Type 0
+TellsSolid p choices which (Redraw (Ended Whole)) text = (choice : List Bool) × (slice_get choices (which - 1) ≡ Some choice)
+    × IsDrawingOf p choice text
+TellsSolid p choices which NoSolid text = (length choices < which) × (text ≡ no_solid_text which (length choices))
+TellsSolid p choices which _ text = ⊥
+
+-- the same of a search that ended so; of a cut how it ended
+abbrev pub TellsRedrawn : SearchLimits → ℕ → SearchedParts → EndKind → Answer → List ℕ → Type 0
+TellsRedrawn limits which s Whole answer text = TellsSolid s.problem s.ended.solids which answer text
+TellsRedrawn limits which s kind answer text = (answer ≡ Redraw (Ended kind)) × (text ≡ search_head limits s)
+
+-- and of what was found
+abbrev pub TellsRedrawing : SearchLimits → ℕ → Finding → Answer → List ℕ → Type 0
+TellsRedrawing limits which (Solids s) answer text = TellsRedrawn limits which s s.ended.kind answer text
+TellsRedrawing limits which (Fault fault) answer text = (answer ≡ Redraw Faulty) × (text ≡ fault_text fault)
+
+-- ---- what `trial` tells of it
+
+-- the volume of the first of the solids that choices fill
+abbrev pub first_choice_volume : ProblemParts → List (List Bool) → ℕ
+first_choice_volume p [] = 0
+first_choice_volume p (choice ∷ choices) = choice_volume p choice
+
+-- one line of figures of a whole search; of a cut how it ended
+abbrev pub figures_text : SearchLimits → ℕ → SearchedParts → EndKind → List ℕ
+figures_text limits n s Whole =
+    trial_text n s.problem.blocks.count (length s.ended.solids) s.ended.opened (first_choice_volume s.problem s.ended.solids)
+figures_text limits n s kind = search_head limits s
+
+abbrev pub TellsTrial : SearchLimits → ℕ → Finding → Answer → List ℕ → Type 0
+TellsTrial limits n (Solids s) answer text = (answer ≡ Trial (Ended s.ended.kind)) × (text ≡ figures_text limits n s s.ended.kind)
+TellsTrial limits n (Fault fault) answer text = (answer ≡ Trial Faulty) × (text ≡ fault_text fault)
 
 -- ---- how writing ends
 

@@ -4,9 +4,11 @@
 mod command;
 mod laws;
 mod problem;
+mod reply;
 mod searched;
 mod solve;
 mod status;
+mod trial;
 mod writing;
 
 pub use command::run;

@@ -53,6 +53,16 @@ fn find_in(alloc: Global, file: Vec<u8>, limits: Limits) -> Result<Finding, Memo
     }
 }
 
+/// The same of a file of any length.
+pub fn find_file(alloc: Global, file: Vec<u8>, limits: Limits) -> Result<Finding, Memory>
+    ensures { IfOk result (IsFinding limits file.items) }
+{
+    if file.len() > MOST_BYTES {
+        return Ok(Finding::Fault(Fault::TooLong));
+    }
+    find_in(alloc, file, limits)
+}
+
 /// The same for what a source has left.
 pub fn find<S: Source>(alloc: Global, source: &mut S, limits: Limits) -> Result<Finding, Stop>
     ensures later { S.faults source.old ≤ S.faults source.new }

@@ -4,12 +4,12 @@ ghost use Rattle.std.specs.Prelude.{◌≡◌};
 
 use solid_model::EndKind;
 
-/// What `solve` found.
+/// What was found in a file.
 #[derive(Clone, Copy, Debug, PartialEq, Eq)]
 pub enum Found {
     /// Solids, by a search that ended so.
     Ended(EndKind),
-    /// A fault of the input.
+    /// A fault of the file.
     Faulty,
 }
 
@@ -18,6 +18,14 @@ pub enum Found {
 pub enum Answer {
     /// What `solve` found.
     Solve(Found),
+    /// What `redraw` found: at a whole search, the drawing of the solid that it was asked for.
+    Redraw(Found),
+    /// That there is no solid of the number that `redraw` was asked for.
+    NoSolid,
+    /// The drawing that `make` was asked for.
+    Make,
+    /// What `trial` found.
+    Trial(Found),
     /// That the arguments aren't taken.
     Usage,
 }
@@ -42,6 +50,38 @@ pub enum Status {
     Stopped(Stop),
 }
 
+impl Found {
+    ghost use Rattle.recon_run.specs.Status.{found_code};
+
+    /// Its number.
+    fn code(self) -> u8
+        ensures { result ≡ found_code self }
+    {
+        match self {
+            Found::Ended(EndKind::Whole) => 0,
+            Found::Faulty => 1,
+            Found::Ended(EndKind::CutNodes) => 3,
+            Found::Ended(EndKind::CutSolids) => 4,
+        }
+    }
+}
+
+impl Answer {
+    ghost use Rattle.recon_run.specs.Status.{answer_code};
+
+    /// Its number.
+    fn code(self) -> u8
+        ensures { result ≡ answer_code self }
+    {
+        match self {
+            Answer::Solve(found) | Answer::Redraw(found) | Answer::Trial(found) => found.code(),
+            Answer::Make => 0,
+            Answer::Usage => 2,
+            Answer::NoSolid => 8,
+        }
+    }
+}
+
 impl Status {
     ghost use Rattle.recon_run.specs.Status.{status_code};
 
@@ -50,11 +90,7 @@ impl Status {
         ensures { result ≡ status_code self }
     {
         match self {
-            Status::Answered(Answer::Solve(Found::Ended(EndKind::Whole))) => 0,
-            Status::Answered(Answer::Solve(Found::Faulty)) => 1,
-            Status::Answered(Answer::Usage) => 2,
-            Status::Answered(Answer::Solve(Found::Ended(EndKind::CutNodes))) => 3,
-            Status::Answered(Answer::Solve(Found::Ended(EndKind::CutSolids))) => 4,
+            Status::Answered(answer) => answer.code(),
             Status::Stopped(Stop::ReadFault) => 5,
             Status::Stopped(Stop::WriteFault) => 6,
             Status::Stopped(Stop::Memory) => 7,

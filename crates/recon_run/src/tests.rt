@@ -5,6 +5,7 @@ mod drawings;
 mod entities;
 mod files;
 mod options;
+mod redraws;
 mod rows;
 mod runs;
 mod searches;

@@ -1,3 +1,5 @@
 pub mod Plain
 pub mod Files
 pub mod Sheets
+pub mod GridRuns
+pub mod SmallFiles

@@ -5,3 +5,6 @@ pub mod Waits
 pub mod Told
 pub mod Frontiers
 pub mod DeskBooks
+pub mod Lists
+pub mod OnceBelow
+pub mod CoreEvents

@@ -7,3 +7,4 @@ pub mod Desk
 pub mod Reported
 pub mod Books
 pub mod Entries
+pub mod SmallCore

@@ -11,7 +11,7 @@ mod trie;
 mod waiting;
 
 pub use desk::{Desk, Reported};
-pub use laws::the_core_conserves;
+pub use laws::{small_core, the_core_conserves};
 
 #[cfg(test)]
 mod tests;

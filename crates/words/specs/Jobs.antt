@@ -1,5 +1,5 @@
 -- The commands, and what each is asked to do.
-use Rattle.std.specs.Prelude.{ℕ, List, [], ◌∷◌, Option, Some, None, if◌then◌else◌, codes, option_map}
+use Rattle.std.specs.Prelude.{ℕ, ◌≤◌, List, [], ◌∷◌, Option, Some, None, if◌then◌else◌, codes, option_map}
 use Rattle.std.specs.Str.{bytes_eq}
 use Rattle.solid_model.specs.Limits.{most_node_limit, most_solid_limit}
 use Rattle.solid_model.specs.Search.{SearchLimits}
@@ -69,3 +69,8 @@ said_among (c ∷ cs) name words = if bytes_eq name c.name then command_said c w
 abbrev pub job_said : List Text → Option Job
 job_said [] = None
 job_said (name ∷ words) = said_among commands name words
+
+-- a job that asks for a solid counts it from 1
+abbrev pub IsCounted : Job → Type 0
+IsCounted (job.Redraw which limits) = 1 ≤ which
+IsCounted _ = Unit {0}

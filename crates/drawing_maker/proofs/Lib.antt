@@ -1,0 +1,14 @@
+pub mod Members
+pub mod Rows
+pub mod Spots
+pub mod RowStops
+pub mod RowUnion
+pub mod DrawnAcross
+pub mod RowCoordinates
+pub mod RowDrawing
+pub mod Drawn
+pub mod MadeRows
+pub mod MadeGrid
+pub mod MadeSolid
+pub mod SomeMadeGrid
+pub mod MadeFiles

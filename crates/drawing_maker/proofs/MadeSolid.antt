@@ -1,0 +1,21 @@
+-- A made solid has a cell, and its drawing keeps what a drawing of three views keeps.
+use Rattle.std.proofs.Common.{ℕ, List, [], ◌∷◌, refl}
+use Rattle.drawing_maker.specs.Made.{made_pieces, made_solid}
+use Rattle.drawing_maker.specs.Rows.{coordinates_of_stops, row_stops}
+use Rattle.drawing_maker.proofs.MadeGrid.{made_drawing}
+use Rattle.solid_model.specs.declared.cell.Cell.{Cell}
+use Rattle.solid_model.specs.declared.frame.View.TheVariants.{Front}
+use Rattle.solid_model.specs.Cells.{IsSolid}
+use Rattle.solid_model.specs.DrawnStyle.{solid_drawing}
+use Rattle.solid_model.specs.Runs.{IsDrawing}
+
+pub made_is_drawing : (n : ℕ) → IsDrawing (solid_drawing (made_solid n))
+made_is_drawing n = made_drawing n (λ a. coordinates_of_stops (row_stops (made_pieces n))) (λ a. refl)
+
+-- what draws something has a cell
+drawn_is_solid : (s : List Cell) → IsDrawing (solid_drawing s) → IsSolid s
+drawn_is_solid [] is = absurd ((is.begins Front).at_left.2 refl)
+drawn_is_solid (c ∷ cs) is = tt
+
+pub made_is_solid : (n : ℕ) → IsSolid (made_solid n)
+made_is_solid n = drawn_is_solid (made_solid n) (made_is_drawing n)

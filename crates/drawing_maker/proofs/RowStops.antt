@@ -1,0 +1,118 @@
+-- The stops of a row of pieces: they ascend, and what is kept before each lies in the gap that ends there.
+use Rattle.std.proofs.Common.{◌≡◌, ⊎_elim, inl, inr, ℕ, zero, suc, ◌+◌, ◌*◌, ◌<◌, ◌≤◌, List, [], ◌∷◌, ◌++◌, map, drop, get_or, Option, Some, None, ℤ, pos, ◌≤ℤ◌, ◌<ℤ◌, int_lt, int_le, IsTrue, refl, ap, sym, ◌∙◌, arith}
+use Rattle.std.specs.List.{range_with_len}
+use Rattle.std.proofs.lemmas.Bool.{false≢true, and_parts}
+use Rattle.std.proofs.lemmas.Int.{ints, by_lt_z}
+use Rattle.solid_model.specs.Grid.{is_in_gap}
+use Rattle.solid_model.specs.Lists.{Member, Each, Ascends}
+use Rattle.solid_model.proofs.Lists.{member-from_map, each-at, each-from, each-map, ascends-append, ascends-map}
+use Rattle.solid_model.proofs.UnionDrawing.{none_before_first}
+use Rattle.drawing_maker.specs.declared.piece.Piece.{Piece}
+use Rattle.drawing_maker.specs.declared.stops.Part.{Part}
+use Rattle.drawing_maker.specs.declared.stops.Stop.{Stop}
+use Rattle.drawing_maker.specs.Pieces.{side_of}
+use Rattle.drawing_maker.specs.Rows.{first_stop, stop_after, piece_stops, row_stops, coordinates_of_stops}
+use Rattle.drawing_maker.proofs.Members.{member-from_flat_map, member-from_range, ascends-range}
+use Rattle.drawing_maker.proofs.Rows.{end_of, EndsBefore, IsRow, row_behind, Spans, LiesInPart, scaled}
+
+-- ---- ascending stops
+
+abbrev pub Earlier : Stop → Stop → Type 0
+Earlier s t = s.at < t.at
+
+-- where a stop of a piece stands
+pub stop_in_piece : (p : Piece) (s : Stop) → Member (piece_stops p) s → (k : ℕ) × (k ≤ side_of p.kind) × (s.at ≡ p.origin + p.scale * k)
+stop_in_piece p s (inl e) = (0, omega arith, sym (ap (λ (t : Stop). t.at) e) ∙ omega arith)
+stop_in_piece p s (inr k) =
+    let m = member-from_map (stop_after p) (range_with_len 0 (side_of p.kind)) s k in
+    let r = member-from_range (side_of p.kind) 0 m.0 m.1 in
+    (m.0 + 1, omega (arith, r.1), sym (ap (λ (t : Stop). t.at) m.2))
+
+-- and a stop of a row
+pub stop_in_row : (ps : List Piece) (s : Stop) → Member (row_stops ps) s → (p : Piece) × Member ps p × Member (piece_stops p) s
+stop_in_row ps s k = member-from_flat_map piece_stops ps s k
+
+ascends_in_piece : (p : Piece) → 0 < p.scale → Ascends Earlier (piece_stops p)
+ascends_in_piece p sized = (
+  each-map (stop_after p) (Earlier (first_stop p)) range (each-from (λ k. Earlier (first_stop p) (stop_after p k)) range (λ k m.
+      let e = scaled p 1 (k + 1) (omega arith) in omega arith)),
+  ascends-map (stop_after p) ◌<◌ Earlier range (λ j k l. let e = scaled p (j + 2) (k + 1) (omega arith) in omega arith) (ascends-range (side_of p.kind) 0),
+)
+  where
+    range : List ℕ
+    range = range_with_len 0 (side_of p.kind)
+
+pub ascends_stops : (ps : List Piece) → IsRow ps → Ascends Earlier (row_stops ps)
+ascends_stops [] row = tt
+ascends_stops (p ∷ ps) row =
+    ascends-append Earlier (piece_stops p) (row_stops ps) (ascends_in_piece p row.sized.0) (ascends_stops ps (row_behind p ps row))
+    (each-from (λ s. Each (Earlier s) (row_stops ps)) (piece_stops p) (λ s k. each-from (Earlier s) (row_stops ps) (λ t l. across s t k (stop_in_row ps t l))))
+  where
+    across : (s t : Stop) → Member (piece_stops p) s → (q : Piece) × Member ps q × Member (piece_stops q) t → Earlier s t
+    across s t k (q, m, l) =
+        let first = stop_in_piece p s k in
+        let second = stop_in_piece q t l in
+        let behind = each-at (EndsBefore p) ps q row.ordered.0 m in
+        let e = scaled p first.0 (side_of p.kind) first.1 in
+        omega (arith, first.2, second.2)
+
+-- so do their coordinates
+pub ascends_row : (ps : List Piece) → IsRow ps → Ascends ◌<ℤ◌ (coordinates_of_stops (row_stops ps))
+ascends_row ps row = ascends-map (λ (s : Stop). pos s.at) Earlier ◌<ℤ◌ (row_stops ps) (λ s t l. omega (arith, ints)) (ascends_stops ps row)
+
+-- ---- what lies in a gap
+
+-- what is told of a coordinate: a part of one of the pieces that it lies in, or that it lies in none
+abbrev pub IsTold : List Piece → Option Part → ℤ → Type 0
+IsTold ps None z = (p : Piece) → Member ps p → Spans p z → ⊥
+IsTold ps (Some w) z = Member ps w.piece × (w.place < side_of w.piece.kind) × LiesInPart w.piece w.place z
+
+-- what is kept before the stop that ends a gap
+abbrev pub before_at : List Stop → ℕ → Option Part
+before_at stops n = (get_or (drop 1 stops) n (record { at = 0; before = None })).before
+
+-- what is told by the pieces behind one holds with it too, where the coordinate doesn't lie in it
+told_behind : (p : Piece) (ps : List Piece) (part : Option Part) (z : ℤ) → (Spans p z → ⊥) → IsTold ps part z → IsTold (p ∷ ps) part z
+told_behind p ps None z off told = λ r k at. ⊎_elim {C = ⊥} (λ e. off (moved r e at)) (λ l. told r l at) k
+  where
+    moved : (r : Piece) → p ≡ r → Spans r z → Spans p z
+    moved r e at = let o = ap (λ (q : Piece). q.origin) e in let f = ap end_of e in (omega (arith, ints, at.0, o), omega (arith, ints, at.1, f))
+told_behind p ps (Some w) z off told = (inr told.0, told.1, told.2)
+
+-- what lies in some gap isn't before the first coordinate
+from_first : (b : ℤ) (zs : List ℤ) → Ascends ◌<ℤ◌ (b ∷ zs) → (n : ℕ) (z : ℤ) → IsTrue (is_in_gap (b ∷ zs) n z) → b ≤ℤ z
+from_first b zs ascends n z e = by_lt_z z b (λ l. absurd (none_before_first b zs ascends n z l e)) (λ l. l)
+
+-- between the end of a piece and the next one nothing lies
+nothing_between : (p q : Piece) (qs : List Piece) (z : ℤ) → IsRow (p ∷ q ∷ qs) → pos (end_of p) ≤ℤ z → z <ℤ pos q.origin → IsTold (p ∷ q ∷ qs) None z
+nothing_between p q qs z row from to r (inl e) at = let f = ap end_of e in omega (arith, ints, at.1)
+nothing_between p q qs z row from to r (inr (inl e)) at = let o = ap (λ (s : Piece). s.origin) e in omega (arith, ints, at.0)
+nothing_between p q qs z row from to r (inr (inr k)) at = let l = each-at (EndsBefore q) qs r row.ordered.1.0 k in omega (arith, ints, at.0)
+
+-- from one of its stops on, with m more of them, the stops of a piece and of those behind it tell what lies in each gap
+told_from : (p : Piece) (ps : List Piece) → IsRow (p ∷ ps)
+    → ((n : ℕ) (z : ℤ) → IsTrue (is_in_gap (coordinates_of_stops (row_stops ps)) n z) → IsTold ps (before_at (row_stops ps) n) z)
+    → (m k : ℕ) (s : Stop) → k + m ≡ side_of p.kind → s.at ≡ p.origin + p.scale * k → (n : ℕ) (z : ℤ)
+    → IsTrue (is_in_gap (coordinates_of_stops (s ∷ (map (stop_after p) (range_with_len k m) ++ row_stops ps))) n z)
+    → IsTold (p ∷ ps) (before_at (s ∷ (map (stop_after p) (range_with_len k m) ++ row_stops ps)) n) z
+told_from p [] row later zero k s last at n z e = absurd (false≢true e)
+told_from p (q ∷ qs) row later zero k s last at zero z e =
+    let parts = and_parts (int_le (pos s.at) z) (int_lt z (pos q.origin)) e in
+    let same : k ≡ side_of p.kind = omega arith in
+    let ends : s.at ≡ end_of p = at ∙ ap (λ j. p.origin + p.scale * j) same in
+    nothing_between p q qs z row (omega (arith, ints, parts.0, ends)) (omega (arith, ints, parts.1))
+told_from p (q ∷ qs) row later zero k s last at (suc n) z e =
+    told_behind p (q ∷ qs) (before_at (row_stops (q ∷ qs)) n) z
+    (λ spans. let l = from_first (pos q.origin) _ (ascends_row (q ∷ qs) (row_behind p (q ∷ qs) row)) n z e in
+    let b = row.ordered.0.0 in omega (arith, ints, spans.1))
+    (later n z e)
+told_from p ps row later (suc m) k s last at zero z e =
+    let parts = and_parts (int_le (pos s.at) z) (int_lt z (pos (p.origin + p.scale * (k + 1)))) e in
+    (inl refl, omega arith, (omega (arith, ints, parts.0), omega (arith, ints, parts.1)))
+told_from p ps row later (suc m) k s last at (suc n) z e =
+    told_from p ps row later m (k + 1) (stop_after p k) (omega arith) refl n z e
+
+pub told_in_gap : (ps : List Piece) → IsRow ps → (n : ℕ) (z : ℤ) → IsTrue (is_in_gap (coordinates_of_stops (row_stops ps)) n z) → IsTold ps (before_at (row_stops ps) n) z
+told_in_gap [] row n z e = absurd (false≢true e)
+told_in_gap (p ∷ ps) row n z e =
+    told_from p ps row (told_in_gap ps (row_behind p ps row)) (side_of p.kind) 0 (first_stop p) (omega arith) (omega arith) n z e

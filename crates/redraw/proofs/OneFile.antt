@@ -1,0 +1,57 @@
+-- A drawing has one written file.
+use Rattle.std.proofs.Common.{◌≡◌, Bool, true, false, ℕ, List, ℤ, refl, sym, ◌∙◌}
+use Rattle.solid_model.specs.declared.cell.Cell.{Cell}
+use Rattle.solid_model.specs.declared.frame.View.{View}
+use Rattle.solid_model.specs.declared.frame.View.TheVariants.{Front, Top, Side}
+use Rattle.solid_model.specs.declared.segment.Segment.{Segment}
+use Rattle.solid_model.specs.declared.segment.Style.{Style}
+use Rattle.solid_model.specs.Cells.{is_full, SameCells}
+use Rattle.solid_model.specs.DrawnStyle.{solid_drawing}
+use Rattle.solid_model.specs.Frames.{frame_of}
+use Rattle.solid_model.specs.Matching.{Matches}
+use Rattle.solid_model.specs.Runs.{run_style, DrawingRuns, view_runs, runs_along, style_in}
+use Rattle.solid_model.specs.Segments.{segment_at}
+use Rattle.solid_model.proofs.GridMatching.{matching_draws_it}
+use Rattle.solid_model.proofs.RunStyles.{same_styles_one_list}
+use Rattle.solid_model.proofs.Styles.{one_style, same_drawing, drawn_style_drawn}
+use Rattle.solid_model.proofs.Views.{views_are_frames}
+use Rattle.redraw.specs.Files.{AreRunsOf, IsFileOf, sheet_lines}
+use Rattle.redraw.specs.Plain.{plain_file}
+use Rattle.redraw.proofs.FarEnds.{one_farthest, far_end-is_farthest_line}
+
+-- a drawing gives a segment the style of the unit length of a run's line
+pub in_runs : (d : DrawingRuns) (v : View) (upright : Bool) (start line : ℤ)
+    → style_in d (segment_at v upright start line) ≡ run_style (runs_along upright (view_runs v d)) line start
+in_runs d v true start line = refl
+in_runs d v false start line = refl
+
+-- two drawings that are the same everywhere have the same runs
+one_drawing_runs : (drawing other : Segment → Style) → ((g : Segment) → drawing g ≡ other g) → (d e : DrawingRuns) → AreRunsOf drawing d → AreRunsOf other e → d ≡ e
+one_drawing_runs drawing other same d e h k = λ t. record {
+  front = record { level = one Front false t; upright = one Front true t };
+  top = record { level = one Top false t; upright = one Top true t };
+  side = record { level = one Side false t; upright = one Side true t };
+}
+  where
+    one : (v : View) (upright : Bool) → runs_along upright (view_runs v d) ≡ runs_along upright (view_runs v e)
+    one v upright = same_styles_one_list _ _ (h.runs v upright) (k.runs v upright) (λ j z.
+        sym (in_runs d v upright z j) ∙ h.show _ ∙ same _ ∙ sym (k.show _) ∙ in_runs e v upright z j)
+
+-- solids that draw the same have one file
+pub one_file : (s t : List Cell) → ((g : Segment) → solid_drawing s g ≡ solid_drawing t g) → (a b : List ℕ) → IsFileOf s a → IsFileOf t b → a ≡ b
+one_file s t same a b (far_x, far_z, d, sheet, text) (too_x, too_z, e, other, text_too) =
+    let right = one_farthest (solid_drawing s) (solid_drawing t) same Front true far_x too_x (far_end-is_farthest_line Front true s far_x sheet.right) (far_end-is_farthest_line Front true t too_x other.right) in
+    let up = one_farthest (solid_drawing s) (solid_drawing t) same Front false far_z too_z (far_end-is_farthest_line Front false s far_z sheet.up) (far_end-is_farthest_line Front false t too_z other.up) in
+    let runs = one_drawing_runs (solid_drawing s) (solid_drawing t) same d e sheet.runs other.runs in
+    text ∙ (λ i. plain_file (sheet_lines (right i) (up i) (runs i))) ∙ sym text_too
+
+-- lists of the same cells draw the same
+pub same_cells-draw : (s t : List Cell) → SameCells s t → (g : Segment) → solid_drawing s g ≡ solid_drawing t g
+same_cells-draw s t same g =
+    let f = frame_of g.view in
+    let is = views_are_frames g.view in
+    one_style f (is_full t) g _ _ (same_drawing f (is_full s) (is_full t) same g _ (drawn_style_drawn f is s g)) (drawn_style_drawn f is t g)
+
+-- so do solids that match one drawing
+pub matching-draw : (drawing : Segment → Style) (s t : List Cell) → Matches drawing s → Matches drawing t → (g : Segment) → solid_drawing s g ≡ solid_drawing t g
+matching-draw drawing s t h k g = matching_draws_it drawing s h g ∙ sym (matching_draws_it drawing t k g)

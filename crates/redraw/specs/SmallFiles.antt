@@ -1,0 +1,26 @@
+-- A small file, and a line, written out by hand.
+use Rattle.std.specs.Prelude.{ℕ, List, ◌++◌, pos, negsuc, codes}
+use Rattle.solid_model.specs.declared.frame.View.TheVariants.{Top}
+use Rattle.solid_model.specs.declared.segment.Style.TheVariants.{Dashed}
+use Rattle.solid_model.specs.Line.{Line}
+
+-- The file of the unit cube. Each view is a square: its lower and its upper side, then its left and its right one.
+abbrev pub cube_file : List ℕ
+cube_file = codes "0\nSECTION\n2\nENTITIES\n"
+    ++ codes "0\nLINE\n8\nFRONT\n6\nCONTINUOUS\n10\n0\n20\n0\n30\n0\n11\n1\n21\n0\n31\n0\n"
+    ++ codes "0\nLINE\n8\nFRONT\n6\nCONTINUOUS\n10\n0\n20\n1\n30\n0\n11\n1\n21\n1\n31\n0\n"
+    ++ codes "0\nLINE\n8\nFRONT\n6\nCONTINUOUS\n10\n0\n20\n0\n30\n0\n11\n0\n21\n1\n31\n0\n"
+    ++ codes "0\nLINE\n8\nFRONT\n6\nCONTINUOUS\n10\n1\n20\n0\n30\n0\n11\n1\n21\n1\n31\n0\n"
+    ++ codes "0\nLINE\n8\nTOP\n6\nCONTINUOUS\n10\n0\n20\n11\n30\n0\n11\n1\n21\n11\n31\n0\n"
+    ++ codes "0\nLINE\n8\nTOP\n6\nCONTINUOUS\n10\n0\n20\n12\n30\n0\n11\n1\n21\n12\n31\n0\n"
+    ++ codes "0\nLINE\n8\nTOP\n6\nCONTINUOUS\n10\n0\n20\n11\n30\n0\n11\n0\n21\n12\n31\n0\n"
+    ++ codes "0\nLINE\n8\nTOP\n6\nCONTINUOUS\n10\n1\n20\n11\n30\n0\n11\n1\n21\n12\n31\n0\n"
+    ++ codes "0\nLINE\n8\nSIDE\n6\nCONTINUOUS\n10\n11\n20\n0\n30\n0\n11\n12\n21\n0\n31\n0\n"
+    ++ codes "0\nLINE\n8\nSIDE\n6\nCONTINUOUS\n10\n11\n20\n1\n30\n0\n11\n12\n21\n1\n31\n0\n"
+    ++ codes "0\nLINE\n8\nSIDE\n6\nCONTINUOUS\n10\n11\n20\n0\n30\n0\n11\n11\n21\n1\n31\n0\n"
+    ++ codes "0\nLINE\n8\nSIDE\n6\nCONTINUOUS\n10\n12\n20\n0\n30\n0\n11\n12\n21\n1\n31\n0\n"
+    ++ codes "0\nENDSEC\n0\nEOF\n"
+
+-- a hidden line of the top view, from (-3, 12) to (25, 12)
+abbrev pub hidden_line : Line
+hidden_line = record { of = Top; style = Dashed; x0 = negsuc 2; y0 = pos 12; x1 = pos 25; y1 = pos 12; number = 0 }

@@ -1,0 +1,196 @@
+#!/usr/bin/python3
+"""examples/freecad/views.py SHAPE [DRAWING.dxf]
+
+Draws the three views of a shape as a file for `recon solve`, to standard output or into DRAWING.dxf. The shape is a STEP
+file (.step, .stp), a BREP file (.brep, .brp), or else a text of boxes, each line of which adds a box or cuts one off, by its
+least and its greatest corner; what follows a # is a comment:
+
+    add 0 0 0 60 40 10
+    cut 20 10 0 30 20 10
+
+FreeCAD's TechDraw projects the shape by OpenCASCADE's hidden line removal. Solids of one file are united, and faces of one
+plane that touch are joined. A shape is refused, with status 1 and no drawing, where it has no solid, a face that isn't
+parallel to a view plane, or a corner that isn't whole. docs/FORMAT.md says what is read of the drawing.
+"""
+import itertools
+import pathlib
+import sys
+from collections import defaultdict
+from collections.abc import Callable, Iterable, Iterator
+from typing import NamedTuple
+
+from cad import FreeCAD, Part, Refused, TechDraw, is_shape_file, load, run
+
+# The direction from the part to the viewer; and, as a box with three different sides shows, what is to the right and upwards
+# in the two coordinates that TechDraw answers.
+VIEWS: dict[str, tuple[tuple[int, int, int], Callable[[float, float], tuple[float, float]]]] = {
+    "FRONT": ((0, -1, 0), lambda u, v: (v, -u)),
+    "TOP": ((0, 0, 1), lambda u, v: (u, v)),
+    "SIDE": ((1, 0, 0), lambda u, v: (-v, u)),
+}
+
+# Of the ten groups of edges that TechDraw answers the first five are visible.
+VISIBLE = 5
+MARGIN = 10
+
+
+class Edge(NamedTuple):
+    """An edge of a view, level or upright, at a coordinate across its way, from one along it to a greater one."""
+
+    hidden: bool
+    upright: bool
+    at: int
+    low: int
+    high: int
+
+    def ends(self) -> tuple[tuple[int, int], tuple[int, int]]:
+        if self.upright:
+            return (self.at, self.low), (self.at, self.high)
+        return (self.low, self.at), (self.high, self.at)
+
+    def moved(self, right: int, up: int) -> "Edge":
+        across, along = (right, up) if self.upright else (up, right)
+        return self._replace(at=self.at + across, low=self.low + along, high=self.high + along)
+
+
+# ---- the part
+
+def box_of(line: str) -> tuple[str, Part.Shape]:
+    """What a line of a text of boxes does, and its box."""
+    word, *numbers = line.split()
+    try:
+        coordinates = [int(number) for number in numbers]
+    except ValueError:
+        coordinates = []
+    if word not in ("add", "cut") or len(coordinates) != 6:
+        raise Refused("not `add` or `cut` with six whole numbers")
+    sides = [high - low for low, high in zip(coordinates[:3], coordinates[3:])]
+    if min(sides) <= 0:
+        raise Refused("the second corner isn't greater than the first one")
+    return word, Part.makeBox(*sides, FreeCAD.Vector(*coordinates[:3]))
+
+
+def shape_of_boxes(path: str) -> Part.Shape:
+    shape = None
+    for number, line in enumerate(pathlib.Path(path).read_text(errors="replace").splitlines(), 1):
+        line = line.partition("#")[0].strip()
+        if not line:
+            continue
+        try:
+            word, box = box_of(line)
+        except Refused as refusal:
+            raise Refused(f"{path}: line {number}: {refusal}") from None
+        if shape is not None:
+            shape = shape.fuse(box) if word == "add" else shape.cut(box)
+        elif word == "add":
+            shape = box
+    if shape is None:
+        raise Refused(f"{path}: no box is added")
+    return shape
+
+
+def are_whole(coordinates: Iterable[float]) -> bool:
+    return all(abs(coordinate - round(coordinate)) < 1e-6 for coordinate in coordinates)
+
+
+def part_of(shape: Part.Shape) -> Part.Shape:
+    """The shape's solids as one part, without edges between faces of one plane; refused where it can't be drawn."""
+    solids = shape.Solids
+    if not solids:
+        raise Refused("there is no solid in it")
+    joining = Part.ShapeUpgrade.UnifySameDomain(solids[0].multiFuse(solids[1:]) if len(solids) > 1 else solids[0])
+    joining.build()
+    part = joining.shape()
+    for face in part.Faces:
+        if face.Surface.TypeId != "Part::GeomPlane":
+            raise Refused("a face isn't plane")
+        if sorted(abs(share) for share in face.Surface.Axis)[1] > 1e-9:
+            raise Refused("a face isn't parallel to a view plane")
+    for vertex in part.Vertexes:
+        if not are_whole(vertex.Point):
+            raise Refused("the corner {:.9g}, {:.9g}, {:.9g} isn't whole".format(*vertex.Point))
+    if not part.isValid() or part.Volume < 0.5:
+        raise Refused("what FreeCAD makes of it is no closed solid")
+    return part
+
+
+# ---- the views
+
+def projected(part: Part.Shape, view: str) -> Iterator[Edge]:
+    """The edges of a view as they come, in pieces and some of them repeated."""
+    direction, place = VIEWS[view]
+    for number, group in enumerate(TechDraw.projectEx(part, FreeCAD.Vector(*direction))):
+        for edge in [] if group.isNull() else group.Edges:
+            places = [place(vertex.X, vertex.Y) for vertex in edge.Vertexes]
+            (x0, y0), (x1, y1) = sorted((round(x), round(y)) for x, y in places)
+            if (x0 != x1 and y0 != y1) or not are_whole(itertools.chain(*places)):
+                raise Refused(f"FreeCAD draws an edge of {view} that isn't level or upright, or whose ends aren't whole")
+            yield Edge(number >= VISIBLE, True, x0, y0, y1) if x0 == x1 else Edge(number >= VISIBLE, False, y0, x0, x1)
+
+
+def joined(edges: Iterable[Edge]) -> Iterator[Edge]:
+    """The same edges, each stretch of one style once; a visible one wins."""
+    rows = defaultdict(list)
+    for edge in edges:
+        rows[edge.upright, edge.at].append(edge)
+    for (upright, at), row in sorted(rows.items()):
+        cuts = sorted({end for edge in row for end in (edge.low, edge.high)})
+        pieces: list[Edge] = []
+        for low, high in itertools.pairwise(cuts):
+            styles = [edge.hidden for edge in row if edge.low <= low and high <= edge.high]
+            if styles and pieces and pieces[-1].high == low and pieces[-1].hidden == all(styles):
+                low = pieces.pop().low
+            if styles:
+                pieces.append(Edge(all(styles), upright, at, low, high))
+        yield from pieces
+
+
+def views_of(part: Part.Shape) -> dict[str, list[Edge]]:
+    """The three views in third-angle places, FRONT at the part's own coordinates, TOP above it and SIDE to its right."""
+    box = part.BoundBox
+    above, aside = round(box.ZMax - box.YMin) + MARGIN, round(box.XMax - box.YMin) + MARGIN
+    places = {"FRONT": (0, 0), "TOP": (0, above), "SIDE": (aside, 0)}
+    return {view: [edge.moved(*place) for edge in joined(projected(part, view))] for view, place in places.items()}
+
+
+# ---- the file
+
+def pairs(*members: tuple[int, object]) -> str:
+    """The text of pairs: a code and a value each, on lines of their own."""
+    return "".join(f"{code}\n{value}\n" for code, value in members)
+
+
+def line(view: str, edge: Edge) -> str:
+    (x0, y0), (x1, y1) = edge.ends()
+    style = "HIDDEN" if edge.hidden else "CONTINUOUS"
+    return pairs((0, "LINE"), (8, view), (6, style), (10, x0), (20, y0), (30, 0), (11, x1), (21, y1), (31, 0))
+
+
+def drawing(views: dict[str, list[Edge]]) -> str:
+    """The file. It has a table of what HIDDEN looks like, which a CAD program asks for and recon passes over."""
+    hidden = [(3, "Hidden"), (72, 65), (73, 2), (40, 0.375), (49, 0.25), (49, -0.125)]
+    tables = pairs(
+        (0, "SECTION"), (2, "TABLES"), (0, "TABLE"), (2, "LTYPE"), (70, 1), (0, "LTYPE"), (2, "HIDDEN"), (70, 0), *hidden,
+        (0, "ENDTAB"), (0, "ENDSEC"),
+    )
+    lines = "".join(line(view, edge) for view, edges in views.items() for edge in edges)
+    return tables + pairs((0, "SECTION"), (2, "ENTITIES")) + lines + pairs((0, "ENDSEC"), (0, "EOF"))
+
+
+def main(arguments: list[str]) -> None:
+    if len(arguments) not in (1, 2):
+        raise Refused("called as " + str(__doc__).partition("\n")[0])
+    path = arguments[0]
+    shape = load(path) if is_shape_file(path) else shape_of_boxes(path)
+    try:
+        text = drawing(views_of(part_of(shape)))
+    except Refused as refusal:
+        raise Refused(f"{path}: {refusal}") from None
+    if len(arguments) == 2:
+        pathlib.Path(arguments[1]).write_text(text)
+    else:
+        sys.stdout.write(text)
+
+
+if __name__ == "__main__":
+    run(main)
