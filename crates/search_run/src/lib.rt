@@ -1,0 +1,2 @@
+//! The search of a problem by a desk.
+#![tactic(auto)]
