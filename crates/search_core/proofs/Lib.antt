@@ -8,3 +8,4 @@ pub mod DeskBooks
 pub mod Lists
 pub mod OnceBelow
 pub mod CoreEvents
+pub mod Desks
