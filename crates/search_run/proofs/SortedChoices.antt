@@ -1,6 +1,6 @@
 -- What a sort of choices gives: different choices of one length ascend in the stated order.
 use Rattle.std.proofs.Common.{◌≡◌, ◌≢◌, ◌↔◌, inl, inr, Bool, true, false, true≢false, ℕ, suc, ◌≤◌, ◌<◌, List, [], ◌∷◌, length, get_or, Ordering, Less, Equal, Greater, IsPermutation, refl, sym, ◌∙◌, ap, subst, arith}
-use Rattle.std.specs.Cmp.{IsTotalOrder, IsStrictWeakOrder, bool_cmp_total}
+use Rattle.std.specs.Cmp.{IsStrictWeakOrder, bool_cmp_total}
 use Rattle.std.specs.Ordering.{is_lt, nat_cmp, ordering_then, MatchOrdering}
 use Rattle.std.specs.List.Sorted.{IsSortedBy}
 use Rattle.std.proofs.lemmas.Cmp.{nat_cmp_total, lists_total, back_total, on_total, then_total, tied_itself}

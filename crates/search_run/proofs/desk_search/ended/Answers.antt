@@ -1,10 +1,8 @@
 -- What a desk has found is sorted.
-use Rattle.std.proofs.Common.{◌≡◌, ◌≢◌, ℕ, List, Bool, length, IsPermutation, sym, ◌∙◌, ap, subst}
-use Rattle.std.specs.Vec.{with_items}
+use Rattle.std.proofs.Common.{◌≡◌, ◌≢◌, ℕ, List, Bool, length, IsPermutation, vec_len, sym, ◌∙◌, subst}
 use Rattle.std.proofs.lemmas.List.{with_items_is}
-use Rattle.solid_model.specs.Demands.{is_live}
+use Rattle.std.proofs.lemmas.List.Sorted.{length_permutation}
 use Rattle.solid_model.specs.Lists.{Each, Ascends}
-use Rattle.solid_model.specs.Search.{EndsAs}
 use Rattle.search_run.proofs.DeskEnds.{desk_found_long, desk_found_once, desk_ends}
 use Rattle.search_run.proofs.desk_search.ended.Goals as goal
 
@@ -19,4 +17,12 @@ sort_choices-requires-clause-once c =
     (desk_found_once c.args.desk c.opened-opened.ensures.kept c.requires.closed)
 
 pub returns : goal.returns
-returns c = ?
+returns c =
+    let d = c.args.desk in
+    let sorted = c.sort_choices.new.choices in
+    let found : c.deref_mut.result.now ≡ d.found = c.deref_mut.ensures.value ∙ c.into_found-solids.ensures in
+    let whole : length sorted ≡ vec_len c.into_found-solids.result =
+    length_permutation c.deref_mut.result.now sorted c.sort_choices.ensures.permutation ∙ c.deref_mut.ensures.len in
+    rw (with_items_is c.into_found-solids.result sorted whole, c.opened-opened.ensures.opened)
+    (desk_ends d c.opened-opened.ensures.kept c.requires.closed c.args.kind sorted c.requires.end
+    (subst (λ xs. IsPermutation xs sorted) found c.sort_choices.ensures.permutation) c.sort_choices.ensures.ordered)

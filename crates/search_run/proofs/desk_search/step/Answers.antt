@@ -1,8 +1,9 @@
 -- A desk without an end has a live piece, of which a report is taken.
-use Rattle.std.proofs.Common.{◌≡◌, false, sym, ◌∙◌, ap}
+use Rattle.std.proofs.Common.{sym, ◌∙◌, ap, subst}
 use Rattle.std.proofs.lemmas.Bool.{both_ways}
 use Rattle.std.proofs.lemmas.Option.{MatchOption-at_none}
 use Rattle.solid_model.specs.Demands.{is_live}
+use Rattle.search_core.specs.Reported.{IsReported}
 use Rattle.search_core.proofs.Desks.{piece_waits, piece_lives, report_opens}
 use Rattle.search_run.proofs.desk_search.step.Goals as goal
 
@@ -19,4 +20,7 @@ unreachable-requires-in_default-2 c =
 
 pub returns-in-Ok-Taken-clause-opened : goal.returns-in-Ok-Taken-clause-opened
 returns-in-Ok-Taken-clause-opened c =
-    report_opens c.args.desk.now c.report.new.self c.in-Some-2.expansion c.end-end.ensures.kept c.report.ensures.kept c.in-Ok-Taken.ensures.answer.1
+    let before = c.args.desk.now in
+    let after = c.report.new.self in
+    let answer = subst (IsReported before c.in-Some-2.expansion after) c.in-Ok-Taken.field-0-is c.in-Ok-Taken.ensures.answer in
+    report_opens before after c.in-Some-2.expansion c.end-end.ensures.kept c.report.ensures.kept answer.1
