@@ -47,7 +47,7 @@ times-without p q xs k =
     omega arith
 
 -- what holds of each prefix holds of each that is left
-each-without : (P : List Bool → Type 0) (p : List Bool) (xs : List (List Bool)) → Member xs p → Each P xs → Each P (without p xs)
+pub each-without : (P : List Bool → Type 0) (p : List Bool) (xs : List (List Bool)) → Member xs p → Each P xs → Each P (without p xs)
 each-without P p xs k h =
     let s = stands_between p xs k in
     let all : Each P (s.front ++ p ∷ s.back) = subst (Each P) s.is h in

@@ -8,3 +8,4 @@ pub mod Waits
 pub mod Told
 pub mod Frontiers
 pub mod DeskBooks
+pub mod Desks

@@ -1,0 +1,2 @@
+mod SortedChoices
+mod DeskEnds

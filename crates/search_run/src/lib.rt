@@ -1,0 +1,7 @@
+//! The search of a problem by a desk, on the calling thread.
+#![tactic(auto)]
+
+mod desk_search;
+mod sorted;
+
+pub use desk_search::search_by_desk;
