@@ -4,7 +4,7 @@ ghost use Rattle.std.specs.Prelude.{◌≡◌, IfOk};
 ghost use Rattle.solid_model.specs.Demands.{is_live};
 ghost use Rattle.solid_model.specs.Search.{EndsSearch};
 
-use search_tree::solve_alone;
+use search_run::search_by_desk;
 use solid_model::{Ended, Limits, Memory, Problem};
 use std::alloc::Global;
 use std::marker::Model;
@@ -58,6 +58,6 @@ pub fn search(alloc: Global, problem: Problem, limits: Limits) -> Result<Searche
         limits searched.ended) }
 {
     let problem = Arc::new(alloc, problem)?;
-    let ended = solve_alone(alloc, &problem, limits)?;
+    let ended = search_by_desk(alloc, &problem, limits)?;
     Ok(Searched { problem, ended })
 }

@@ -26,6 +26,17 @@ fn is_any_live(alloc: Global, problem: &Arc<Problem>) -> Result<bool, Memory>
     Ok(report.is_some())
 }
 
+/// The desk of a search of a problem within limits that begins. An `Err` is out of memory.
+pub fn begin(alloc: Global, problem: &Arc<Problem>, limits: Limits) -> Result<Desk, Memory>
+    ensures problem { IfOk result (λ desk. desk.problem ≡ arc_value problem.now) }
+    ensures limits { IfOk result (λ desk. desk.limits ≡ limits) }
+    ensures begun { IfOk result (λ desk. desk.history ≡ []) }
+    ensures kept { IfOk result IsDesk }
+{
+    let live = is_any_live(alloc, problem)?;
+    Desk::new(alloc, Arc::try_clone(problem)?, limits, live)
+}
+
 /// Expands the first piece of the frontier, and reports it. An `Err` is out of memory.
 fn step(alloc: Global, desk: &mut Desk) -> Result<(), Memory>
     requires going { desk.old.end ≡ None }
@@ -75,8 +86,7 @@ pub fn search_by_desk(
         (arc_value problem.now).blocks.count limits) }
 {
     let _grid = problem.grid();
-    let live = is_any_live(alloc, problem)?;
-    let mut desk = Desk::new(alloc, Arc::try_clone(problem)?, limits, live)?;
+    let mut desk = begin(alloc, problem, limits)?;
     loop {
         if let Some(kind) = desk.end() {
             return Ok(ended(desk, kind));

@@ -4,4 +4,4 @@
 mod desk_search;
 mod sorted;
 
-pub use desk_search::search_by_desk;
+pub use desk_search::{begin, search_by_desk};

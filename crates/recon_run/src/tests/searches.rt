@@ -2,8 +2,10 @@
 
 use super::files::file_of;
 use crate::problem_of;
+use search_core::{Desk, Reported};
+use search_run::{begin, search_by_desk};
 use search_tree::{expand, solve_alone};
-use solid_model::{Choice, EndKind, Limits, Prefix, Problem};
+use solid_model::{Choice, EndKind, Ended, Limits, Prefix, Problem};
 use std::alloc::{AllocError, Global};
 use std::sync::Arc;
 use std::test::Fail;
@@ -48,14 +50,22 @@ lattice 2 2; lattice 2 2; lattice 2 2; 109; 34 -> solids 109 34
 lattice 15 21; lattice 15 13; lattice 13 21; 1; 4096 -> nodes 2 0";
 
 /// How a search ended, as a row has it.
-fn ended(alloc: Global, problem: &Arc<Problem>, limits: Limits) -> Result<String, Fail> {
-    let ended = solve_alone(alloc, problem, limits)?;
+fn told_end(alloc: Global, ended: &Ended) -> Result<String, Fail> {
     let kind = match ended.kind {
         EndKind::Whole => "whole",
         EndKind::CutNodes => "nodes",
         EndKind::CutSolids => "solids",
     };
     Ok(format!(in alloc; "{kind} {} {}", ended.opened, ended.solids.len())?)
+}
+
+/// The kind of an end, and of a whole search all that is told: how many prefixes a cut search opens,
+/// and which solids it finds, depends on how it goes.
+fn wanted_kind(wanted: &str) -> &str {
+    match wanted.split_once(' ') {
+        Some((kind, _)) if kind != "whole" => kind,
+        _ => wanted,
+    }
 }
 
 #[test]
@@ -70,8 +80,11 @@ fn searches_end_so(rt: HostRuntime) -> Result<(), Fail> {
         let nodes = parts.next().unwrap_or("").parse().unwrap_or(0);
         let solids = parts.next().unwrap_or("").parse().unwrap_or(0);
         let limits = limits(nodes, solids).ok_or("limits")?;
-        let ended = ended(alloc, &problem(alloc, front, top, side)?, limits)?;
-        assert_eq!(rt; ended.as_str(), wanted, "{row}");
+        let problem = problem(alloc, front, top, side)?;
+        let alone = told_end(alloc, &solve_alone(alloc, &problem, limits)?)?;
+        assert_eq!(rt; alone.as_str(), wanted, "{row}");
+        let by_desk = told_end(alloc, &search_by_desk(alloc, &problem, limits)?)?;
+        assert!(rt; by_desk.starts_with(wanted_kind(wanted)), "{row}");
     }
     Ok(())
 }
@@ -136,6 +149,70 @@ fn pieces_expand_so(rt: HostRuntime) -> Result<(), Fail> {
     assert_eq!(rt; expanded(alloc, &cube, "1", 1)?.as_str(), "1 found rest 10");
     assert_eq!(rt; expanded(alloc, &cube, "0", 64)?.as_str(), "none");
     assert_eq!(rt; expanded(alloc, &cube, "100", 64)?.as_str(), "none");
+    Ok(())
+}
+
+/// What a desk says to the report of a piece; and how it stands then: how many prefixes are opened, how
+/// many choices are found, the piece that is next, and the end.
+fn reported(
+    alloc: Global,
+    desk: &mut Desk,
+    problem: &Arc<Problem>,
+    piece: &str,
+    quantum: u32,
+) -> Result<String, Fail> {
+    if quantum < 1 {
+        return Err(Fail::from("a quantum"));
+    }
+    let expansion = expand(alloc, problem, &prefix_of(alloc, piece)?, quantum)?.ok_or("dead")?;
+    let mut text = String::new(alloc);
+    match desk.report(expansion) {
+        Ok(Reported::Taken { rest }) => {
+            text.push_str("taken")?;
+            for prefix in &rest {
+                push_prefix(&mut text, prefix)?;
+            }
+        }
+        Ok(Reported::Stranger) => text.push_str("stranger")?,
+        Ok(Reported::Stop) => text.push_str("stop")?,
+        Ok(Reported::Gone) => text.push_str("gone")?,
+        Err(_) => return Err(Fail::from("out of memory")),
+    }
+    write!(
+        text,
+        ", {} opened, {} found",
+        desk.opened(),
+        desk.found().len()
+    )?;
+    match desk.first_piece() {
+        Some(piece) => push_prefix(&mut text, piece)?,
+        None => text.push_str(" nothing")?,
+    }
+    write!(text, ", {:?}", desk.end())?;
+    Ok(text)
+}
+
+#[test]
+fn a_desk_takes_reports_so(rt: HostRuntime) -> Result<(), Fail> {
+    let alloc = rt.alloc();
+    let hollow = problem(alloc, HOLLOW_CUBE, HOLLOW_CUBE, HOLLOW_CUBE)?;
+    let strokes = "rect S 0 0 1 1";
+    let cube = problem(alloc, strokes, strokes, strokes)?;
+    let limits = limits(10, 10).ok_or("limits")?;
+    let mut desk = begin(alloc, &hollow, limits)?;
+    let whole = "3 opened, 1 found nothing, Some(Whole)";
+    let told = reported(alloc, &mut desk, &hollow, "", 64)?;
+    assert_eq!(rt; told.as_str().split_once(", "), Some(("taken", whole)));
+    let told = reported(alloc, &mut desk, &hollow, "", 64)?;
+    assert_eq!(rt; told.as_str().split_once(", "), Some(("stop", whole)));
+    let mut desk = begin(alloc, &hollow, limits)?;
+    let going = "1 opened, 0 found 1, None";
+    let told = reported(alloc, &mut desk, &hollow, "", 1)?;
+    assert_eq!(rt; told.as_str().split_once(", "), Some(("taken 1", going)));
+    let told = reported(alloc, &mut desk, &hollow, "", 1)?;
+    assert_eq!(rt; told.as_str().split_once(", "), Some(("gone", going)));
+    let told = reported(alloc, &mut desk, &cube, "", 64)?;
+    assert_eq!(rt; told.as_str().split_once(", "), Some(("stranger", going)));
     Ok(())
 }
 

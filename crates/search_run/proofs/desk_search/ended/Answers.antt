@@ -8,19 +8,19 @@ use Rattle.search_run.proofs.desk_search.ended.Goals as goal
 
 pub sort_choices-requires-clause-lengths : goal.sort_choices-requires-clause-lengths
 sort_choices-requires-clause-lengths c =
-    subst (λ (xs : List (List Bool)). (m : ℕ) × Each (λ choice. length choice ≡ m) xs) (sym (c.deref_mut.ensures.value ∙ c.into_found-solids.ensures))
+    subst (λ (xs : List (List Bool)). (m : ℕ) × Each (λ choice. length choice ≡ m) xs) (sym (c.deref_mut.ensures.value ∙ c.into_found-solids.ensures.found))
     (desk_found_long c.args.desk c.opened-opened.ensures.kept c.requires.closed)
 
 pub sort_choices-requires-clause-once : goal.sort_choices-requires-clause-once
 sort_choices-requires-clause-once c =
-    subst (Ascends ◌≢◌) (sym (c.deref_mut.ensures.value ∙ c.into_found-solids.ensures))
+    subst (Ascends ◌≢◌) (sym (c.deref_mut.ensures.value ∙ c.into_found-solids.ensures.found))
     (desk_found_once c.args.desk c.opened-opened.ensures.kept c.requires.closed)
 
 pub returns : goal.returns
 returns c =
     let d = c.args.desk in
     let sorted = c.sort_choices.new.choices in
-    let found : c.deref_mut.result.now ≡ d.found = c.deref_mut.ensures.value ∙ c.into_found-solids.ensures in
+    let found : c.deref_mut.result.now ≡ d.found = c.deref_mut.ensures.value ∙ c.into_found-solids.ensures.found in
     let whole : length sorted ≡ vec_len c.into_found-solids.result =
     length_permutation c.deref_mut.result.now sorted c.sort_choices.ensures.permutation ∙ c.deref_mut.ensures.len in
     rw (with_items_is c.into_found-solids.result sorted whole, c.opened-opened.ensures.opened)

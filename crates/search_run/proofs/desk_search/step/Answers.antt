@@ -8,7 +8,7 @@ use Rattle.search_core.proofs.Desks.{piece_waits, piece_lives, report_opens}
 use Rattle.search_run.proofs.desk_search.step.Goals as goal
 
 pub unreachable-requires : goal.unreachable-requires
-unreachable-requires c = piece_waits c.args.desk.now c.end-end.ensures.kept c.requires.going c.in_default.ensures
+unreachable-requires c = piece_waits c.args.desk.now c.end-end.ensures.kept c.requires.going c.in_default.ensures.piece
 
 pub unreachable-requires-in_default-2 : goal.unreachable-requires-in_default-2
 unreachable-requires-in_default-2 c =
@@ -16,7 +16,7 @@ unreachable-requires-in_default-2 c =
     let piece = c.in-Some.piece.now in
     let dead = MatchOption-at_none _ _ c.in_default-2.is c.in_ok-expansion.ensures.live in
     both_ways (is_live p piece) (ap (λ q. is_live q piece) (sym c.problem.ensures.problem) ∙ dead)
-    (piece_lives c.args.desk.now c.end-end.ensures.kept piece c.in-Some.ensures)
+    (piece_lives c.args.desk.now c.end-end.ensures.kept piece c.in-Some.ensures.piece)
 
 pub returns-in-Ok-Taken-clause-opened : goal.returns-in-Ok-Taken-clause-opened
 returns-in-Ok-Taken-clause-opened c =
