@@ -40,7 +40,7 @@ made_are_small n =
     both (p ∷ ps) h k = ((h.0.1, omega (arith, k.0.1)), both ps h.1 k.1)
 
 -- a coordinate of a made row is near
-made_coordinate : (n : ℕ) (z : ℤ) → Member (coordinates_of_stops (row_stops (made_pieces n))) z → (pos 0 ≤ℤ z) × (z ≤ℤ pos 1000)
+pub made_coordinate : (n : ℕ) (z : ℤ) → Member (coordinates_of_stops (row_stops (made_pieces n))) z → (pos 0 ≤ℤ z) × (z ≤ℤ pos 1000)
 made_coordinate n z k =
     let s = member-from_map (λ (t : Stop). pos t.at) (row_stops (made_pieces n)) z k in
     let p = stop_in_row (made_pieces n) s.0 s.1 in

@@ -2,6 +2,7 @@
 #![tactic(auto)]
 
 mod cells;
+mod laws;
 mod making;
 mod piece;
 mod pieces;
@@ -9,4 +10,5 @@ mod stops;
 #[cfg(test)]
 mod tests;
 
+pub use laws::{made_drawings_stay_within_the_limits, made_files_read_back};
 pub use making::make;

@@ -1,18 +1,16 @@
 -- Which answer is due: a job that searches a text answers as the search of that text ends, or tells its fault.
-use Rattle.std.proofs.Common.{◌≡◌, ◌⊎◌, refl, inl, inr, ⊎_elim, Bool, true, false, cond, ℕ, ◌-◌, ◌<◌, ◌≤◌, List, length, Option, Some, None, IfSome, subst, sym, ap, ◌∙◌, nat_lt, lt-ltb, le-ltb, arith}
+use Rattle.std.proofs.Common.{◌≡◌, ◌⊎◌, refl, inl, inr, true, false, cond, ℕ, ◌-◌, ◌<◌, ◌≤◌, List, length, Option, Some, None, IfSome, subst, sym, ap, ◌∙◌, nat_lt, lt-ltb, le-ltb, arith}
 use Rattle.std.proofs.lemmas.Option.{slice_get_within}
-use Rattle.drawing_maker.specs.Made.{made_solid}
 use Rattle.recon_run.specs.declared.status.Answer.{Answer}
 use Rattle.recon_run.specs.declared.status.Answer.TheVariants.{Solve, Redraw, NoSolid, Make, Trial, Usage}
 use Rattle.recon_run.specs.declared.status.Found.TheVariants.{Ended, Faulty}
 use Rattle.recon_run.specs.declared.status.Status.{Status}
 use Rattle.recon_run.specs.declared.status.Status.TheVariants.{Answered, Stopped}
 use Rattle.recon_run.specs.Answers.{HasNoFault, IsFileFault, CanEnd}
-use Rattle.recon_run.specs.Endings.{ReadsAllOrPast, AnswersJob, AnswersOrStops, EndsOrStops, EndsSaid, Redraws, Searches, Solves, Tries, TriesFile, answer_at, answer_at_fault, limits_of}
+use Rattle.recon_run.specs.Endings.{ReadsAllOrPast, AnswersJob, AnswersOrStops, EndsOrStops, EndsSaid, Redraws, Searches, Solves, TriesFile, answer_at, answer_at_fault, limits_of}
 use Rattle.recon_run.specs.Status.{status_code}
 use Rattle.recon_run.proofs.Faults.{no_fault}
 use Rattle.recon_run.proofs.OneAnswer.{kept_or_passed, one_count, one_made_file}
-use Rattle.redraw.specs.Files.{IsFileOf}
 use Rattle.solid_model.specs.declared.ended.EndKind.{EndKind}
 use Rattle.solid_model.specs.declared.ended.EndKind.TheVariants.{Whole, CutNodes, CutSolids}
 use Rattle.solid_model.specs.declared.fault.Fault.{Fault}

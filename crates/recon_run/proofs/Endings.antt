@@ -1,33 +1,20 @@
 -- How a run ends, by what was found, what was written and what the sink says.
-use Rattle.std.proofs.Common.{◌≡◌, ◌⊎◌, refl, inl, inr, Bool, true, false, cond, ℕ, ◌-◌, ◌<◌, ◌≤◌, List, length, Option, Some, None, IfSome, Ok, Err, IsTrue, subst, sym, ap, ◌∙◌, nat_lt, arith}
+use Rattle.std.proofs.Common.{◌≡◌, refl, inl, inr, ℕ, ◌≤◌, List, Option, Some, None, IfSome, Ok, Err, IsTrue, subst, sym}
 use Rattle.std.specs.Io.KnownBytes.{Keeps}
-use Rattle.std.proofs.lemmas.Option.{slice_get_within}
-use Rattle.drawing_maker.specs.Made.{made_solid}
 use Rattle.recon_run.specs.declared.solve.Finding.{Finding}
 use Rattle.recon_run.specs.declared.status.Answer.{Answer}
-use Rattle.recon_run.specs.declared.status.Answer.TheVariants.{Solve, Redraw, NoSolid, Make, Trial, Usage}
-use Rattle.recon_run.specs.declared.status.Found.{Found}
-use Rattle.recon_run.specs.declared.status.Found.TheVariants.{Ended, Faulty}
+use Rattle.recon_run.specs.declared.status.Answer.TheVariants.{Solve, Usage}
 use Rattle.recon_run.specs.declared.status.Status.{Status}
 use Rattle.recon_run.specs.declared.status.Status.TheVariants.{Answered, Stopped}
 use Rattle.recon_run.specs.declared.status.Stop.{Stop}
 use Rattle.recon_run.specs.declared.status.Stop.TheVariants.{ReadFault, WriteFault, Memory}
-use Rattle.recon_run.specs.Answers.{usage_text, HasNoFault, IsFileFault, CanEnd, IsSolved, IsBegun}
-use Rattle.recon_run.specs.Endings.{ReadsAllOrPast, AnswersJob, AnswersSaid, AnswersOrStops, BeginsJob, EndsJob, EndsOrStops, EndsReply, EndsSaid, IsReply, Makes, Redraws, Searches, Tries, TriesFile, answer_at, answer_at_fault, limits_of, reads_source}
+use Rattle.recon_run.specs.Answers.{usage_text, IsSolved, IsBegun}
+use Rattle.recon_run.specs.Endings.{ReadsAllOrPast, AnswersJob, AnswersSaid, BeginsJob, EndsJob, EndsReply, EndsSaid, IsReply, Makes, Redraws, Tries, reads_source}
 use Rattle.recon_run.specs.Findings.{IsFinding, found_of, TellsFinding, BeginsFinding, EndsWriting, TellsRedrawing}
-use Rattle.recon_run.specs.Status.{status_code}
 use Rattle.recon_run.proofs.Told.{tells_answer, begins_answer}
 use Rattle.recon_run.proofs.Redrawn.{redrawing_answers}
-use Rattle.redraw.specs.Files.{IsFileOf}
-use Rattle.redraw.proofs.OneFile.{one_file}
-use Rattle.tv_base.specs.Pieces.{AppendsPrefix}
 use Rattle.words.specs.declared.job.Job.{Job}
 use Rattle.words.specs.declared.job.Job.TheVariants as job
-use Rattle.recon_run.proofs.Faults.{no_fault}
-use Rattle.recon_run.proofs.OneAnswer.{kept_or_passed, one_count}
-use Rattle.solid_model.specs.declared.ended.EndKind.{EndKind}
-use Rattle.solid_model.specs.declared.ended.EndKind.TheVariants.{Whole, CutNodes, CutSolids}
-use Rattle.solid_model.specs.declared.fault.Fault.{Fault}
 use Rattle.solid_model.specs.Search.{SearchLimits}
 
 -- known bytes stay as they are where nothing is done

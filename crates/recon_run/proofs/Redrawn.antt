@@ -1,24 +1,21 @@
 -- What `redraw` and `trial` tell of what was found in a file is their answer to it.
-use Rattle.std.proofs.Common.{◌≡◌, ℕ, zero, suc, ◌+◌, ◌-◌, ◌<◌, ◌≤◌, List, [], ◌∷◌, Bool, length, Option, Some, None, refl, sym, ap, subst, ◌∙◌, arith}
+use Rattle.std.proofs.Common.{◌≡◌, ℕ, zero, suc, ◌-◌, ◌<◌, ◌≤◌, List, [], ◌∷◌, Bool, Option, Some, refl, sym, ap, subst, ◌∙◌}
 use Rattle.std.specs.List.{slice_get}
 use Rattle.recon_run.specs.declared.solve.Finding.{Finding}
 use Rattle.recon_run.specs.declared.solve.Finding.TheVariants.{Solids, Fault}
 use Rattle.recon_run.specs.declared.status.Answer.{Answer}
 use Rattle.recon_run.specs.declared.status.Answer.TheVariants.{Solve, Redraw, NoSolid, Make, Trial, Usage}
-use Rattle.recon_run.specs.declared.status.Found.{Found}
 use Rattle.recon_run.specs.declared.status.Found.TheVariants.{Ended, Faulty}
-use Rattle.recon_run.specs.Answers.{HasProblem, IsNumbered, IsRedrawn, IsTried, default_limits, first_volume, node_count}
+use Rattle.recon_run.specs.Answers.{HasProblem, IsTried, default_limits, first_volume, node_count}
 use Rattle.recon_run.specs.Endings.{Redraws, TriesFile}
-use Rattle.recon_run.specs.Findings.{IsFinding, IsDrawingOf, TellsSolid, TellsRedrawn, TellsRedrawing, TellsTrial, choice_volume, figures_text, first_choice_volume}
-use Rattle.recon_run.specs.Searched.{SearchedParts}
-use Rattle.recon_run.proofs.Solved.{Fill, IsStated, IsListing, IsWholeListing, as_many, drawing, listed_solids, listing, whole_listing}
-use Rattle.report.specs.FaultText.{fault_text}
-use Rattle.report.specs.Texts.{head_text, no_solid_text, trial_text}
+use Rattle.recon_run.specs.Findings.{IsFinding, TellsSolid, TellsRedrawn, TellsRedrawing, TellsTrial, figures_text, first_choice_volume}
+use Rattle.recon_run.proofs.Solved.{Fill, IsStated, IsWholeListing, as_many, listed_solids, listing, whole_listing}
+use Rattle.report.specs.Texts.{no_solid_text, trial_text}
 use Rattle.solid_model.specs.declared.cell.Cell.{Cell}
 use Rattle.solid_model.specs.declared.ended.EndKind.{EndKind}
 use Rattle.solid_model.specs.declared.ended.EndKind.TheVariants.{Whole, CutNodes, CutSolids}
 use Rattle.solid_model.specs.Blocks.{ProblemParts}
-use Rattle.solid_model.specs.Cells.{is_full, IsSolid}
+use Rattle.solid_model.specs.Cells.{is_full}
 use Rattle.solid_model.specs.Choices.{AreSolidsOfChoices, cells_of_choice}
 use Rattle.solid_model.specs.Demands.{is_live}
 use Rattle.solid_model.specs.Grid.{Coordinates, IsUnionOf}

@@ -1,8 +1,7 @@
 use Rattle.std.proofs.Common.{sym, subst}
 use Rattle.tv_base.specs.Faults.{Rose}
 use Rattle.recon_run.specs.Endings.{EndsJob}
-use Rattle.recon_run.proofs.Endings.{make_ends, trial_ends}
-use Rattle.words.specs.declared.job.Job.TheVariants as job
+use Rattle.recon_run.proofs.Endings.{trial_ends}
 use Rattle.recon_run.proofs.command.do_job.Goals as goal
 
 pub returns-in-Trial-clause-ends : goal.returns-in-Trial-clause-ends

@@ -1,6 +1,6 @@
 use Rattle.std.proofs.Common.{sym, subst}
 use Rattle.tv_base.specs.Faults.{Rose}
-use Rattle.recon_run.proofs.Endings.{answered, stopped, unfound}
+use Rattle.recon_run.proofs.Endings.{answered, stopped}
 use Rattle.recon_run.specs.declared.status.Answer.TheVariants.{Solve}
 use Rattle.recon_run.specs.declared.status.Status.TheVariants.{Answered}
 use Rattle.recon_run.specs.Endings.{EndsJob}

@@ -1,4 +1,4 @@
-use Rattle.std.proofs.Common.{◌≡◌, ◌∙◌, List, Bool, IfOk, subst₂}
+use Rattle.std.proofs.Common.{◌∙◌, List, Bool, IfOk, subst₂}
 use Rattle.redraw.specs.Files.{IsFileOf}
 use Rattle.solid_model.specs.declared.cell.Cell.{Cell}
 use Rattle.solid_model.specs.Cells.{IsSolid, is_full}

@@ -1,4 +1,4 @@
-use Rattle.std.proofs.Common.{◌≡◌, ◌∙◌, ap, sym, subst, subst₂, List, Bool, length, refl, Some, ◌-◌}
+use Rattle.std.proofs.Common.{◌≡◌, ◌∙◌, ap, subst, List, Bool, length, refl, Some, ◌-◌}
 use Rattle.std.specs.List.{slice_get}
 use Rattle.std.proofs.lemmas.Option.{slice_get_read}
 use Rattle.recon_run.specs.Findings.{IsDrawingOf}

@@ -1,0 +1,129 @@
+-- Made drawings stay within the limits of a search: the blocks of their grids are those of their rows, which are few, and so are
+-- their live prefixes and the solids that match them.
+use Rattle.std.proofs.Common.{◌≡◌, ℕ, zero, suc, ◌+◌, ◌*◌, ◌≤◌, List, [], ◌∷◌, Bool, true, not, ◌&&◌, length, sum, map, Option, refl, sym, ap, subst, drop, arith}
+use Rattle.drawing_maker.specs.declared.piece.Kind.{Kind}
+use Rattle.drawing_maker.specs.declared.piece.Kind.TheVariants.{UnitCube, HollowCube, EightVoids}
+use Rattle.drawing_maker.specs.declared.piece.Piece.{Piece}
+use Rattle.drawing_maker.specs.Made.{generator_of, has_eight_voids, later_pieces, made_pieces, made_solid}
+use Rattle.drawing_maker.specs.Pieces.{next_origin}
+use Rattle.drawing_maker.proofs.Drawn.{after_two, first_by, later_by}
+use Rattle.drawing_maker.proofs.DemandedBlocks.{sum_with}
+use Rattle.drawing_maker.specs.RowBlocks.{block_count, blocks_in_row, row_block_count}
+use Rattle.drawing_maker.specs.Rows.{coordinates_of_stops, row_stops}
+use Rattle.drawing_maker.proofs.CountsOfLive.{few_live, few_solids}
+use Rattle.drawing_maker.proofs.DemandedColumns.{IsProblemOf}
+use Rattle.drawing_maker.proofs.MadeGrid.{made_coordinates}
+use Rattle.drawing_maker.proofs.MadeRows.{made_row}
+use Rattle.drawing_maker.proofs.MadeSolid.{made_is_drawing}
+use Rattle.drawing_maker.proofs.RowBlocks.{row_blocks, row_numbers}
+use Rattle.drawing_maker.proofs.SomeMadeGrid.{made_grid, made_grid_along, made_grid_is}
+use Rattle.rand_pcg.specs.Lcg.{Lcg}
+use Rattle.line_demands.proofs.LivePrefixes.{live_keeps_matching}
+use Rattle.solid_model.specs.declared.cell.Axis.{Axis}
+use Rattle.solid_model.specs.declared.cell.Axis.TheVariants.{X, Y, Z}
+use Rattle.solid_model.specs.declared.cell.Cell.{Cell}
+use Rattle.solid_model.specs.Blocks.{AreBlocksOf, IsBlocksOf, ProblemParts}
+use Rattle.solid_model.specs.Choices.{AreSolidsOfChoices, IsMatchingChoice}
+use Rattle.solid_model.specs.Demands.{is_live}
+use Rattle.solid_model.specs.DrawnStyle.{solid_drawing}
+use Rattle.solid_model.specs.Grid.{Coordinates}
+use Rattle.solid_model.specs.Limits.{most_blocks}
+use Rattle.solid_model.specs.Matching.{AreSolidsOf}
+use Rattle.solid_model.specs.Panels.{GridParts, coordinates_of, IsGridOf}
+use Rattle.solid_model.specs.PerAxis.{numbers_of}
+use Rattle.solid_model.specs.Tree.{live_below, live_count}
+use Rattle.solid_model.specs.Wire.{grid_sizes}
+use Rattle.solid_model.proofs.BlockChoices.{all_solids_of_blocks}
+use Rattle.solid_model.proofs.CompleteTree.{complete_tree}
+use Rattle.solid_model.proofs.InGrid.{one_coordinates}
+use Rattle.solid_model.proofs.SolidOrder.{one_list_of_solids}
+
+-- ---- blocks
+
+few_of_kind : (kind : Kind) → block_count kind ≤ 9
+few_of_kind UnitCube = omega arith
+few_of_kind HollowCube = omega arith
+few_of_kind EightVoids = omega arith
+
+few_of_later : (more : ℕ) (g : Lcg) (alone : Bool) (origin : ℕ) → row_block_count (later_pieces more g alone origin) ≤ 9 * more
+few_of_later zero g alone origin = omega arith
+few_of_later (suc more) g alone origin =
+    let p = later_by g alone origin in
+    let still = alone && not (has_eight_voids p.kind) in
+    let behind = few_of_later more (after_two g) still (next_origin p) in
+    omega (arith, few_of_kind p.kind, behind, sum_with p (later_pieces more (after_two g) still (next_origin p)))
+
+few_blocks_of_row : (n : ℕ) → row_block_count (made_pieces n) ≤ 126
+few_blocks_of_row n =
+    let g = generator_of n in
+    let p = first_by g in
+    let behind = few_of_later 13 (after_two g) true (next_origin p) in
+    omega (arith, few_of_kind p.kind, behind, sum_with p (later_pieces 13 (after_two g) true (next_origin p)))
+
+module _ (n : ℕ) (g : GridParts) (grid : IsGridOf (solid_drawing (made_solid n)) g) where
+  -- a grid of a made drawing has the coordinates of the row
+  along_row : (a : Axis) → coordinates_of g a ≡ coordinates_of_stops (row_stops (made_pieces n))
+  along_row a = one_coordinates (solid_drawing (made_solid n)) a (coordinates_of g a) (coordinates_of_stops (row_stops (made_pieces n))) (grid.coordinates a)
+      (made_coordinates n (λ a. coordinates_of_stops (row_stops (made_pieces n))) (λ a. refl) a)
+
+  numbered : (numbers : List (Option ℕ)) (count : ℕ) → AreBlocksOf g numbers count → (numbers ≡ blocks_in_row (made_pieces n) (drop 1 (row_stops (made_pieces n))))
+      × (count ≡ row_block_count (made_pieces n))
+  numbered = row_numbers (made_pieces n) (made_row n) g along_row grid (made_is_drawing n)
+
+  -- and few blocks
+  pub few_made_blocks : (numbers : List (Option ℕ)) (count : ℕ) → AreBlocksOf g numbers count → count ≤ most_blocks
+  few_made_blocks numbers count are = let few = few_blocks_of_row n in omega (arith, (numbered numbers count are).1)
+
+-- ---- live prefixes
+
+module _ (n : ℕ) (p : ProblemParts) (grid : IsGridOf (solid_drawing (made_solid n)) p.grid) (blocks : IsBlocksOf p.grid p.blocks) where
+  is_problem : IsProblemOf (made_pieces n) p
+  is_problem =
+      let are = numbered n p.grid grid p.blocks.numbers p.blocks.count blocks.blocks in
+      record { row = made_row n; grid = grid; coordinates = along_row n p.grid grid; blocks = blocks; numbers = are.0; count = are.1 }
+
+  pub few_made_nodes : live_count (is_live p) p.blocks.count [] ≤ 1000000
+  few_made_nodes = few_live n p is_problem
+
+  pub few_made_choices : length (live_below (is_live p) p.blocks.count []) ≤ 4096
+  few_made_choices = few_solids n p is_problem
+
+-- ---- solids
+
+-- choices fill as many solids
+as_many : (coordinates : Coordinates) (numbers : List (Option ℕ)) (count : ℕ) (choices : List (List Bool)) (solids : List (List Cell))
+    → AreSolidsOfChoices coordinates numbers count choices solids → length choices ≡ length solids
+as_many coordinates numbers count [] [] filled = refl
+as_many coordinates numbers count [] (s ∷ solids) filled = absurd filled
+as_many coordinates numbers count (choice ∷ choices) [] filled = absurd filled
+as_many coordinates numbers count (choice ∷ choices) (s ∷ solids) filled = ap suc (as_many coordinates numbers count choices solids filled.2)
+
+-- the problem of a made drawing
+abbrev pub made_problem : ℕ → ProblemParts
+made_problem n = record {
+  grid = made_grid n;
+  blocks = record {
+    sizes = record { x = grid_sizes (made_grid n) X; y = grid_sizes (made_grid n) Y; z = grid_sizes (made_grid n) Z };
+    numbers = blocks_in_row (made_pieces n) (drop 1 (row_stops (made_pieces n)));
+    count = row_block_count (made_pieces n);
+  };
+}
+
+pub made_blocks_are : (n : ℕ) → IsBlocksOf (made_problem n).grid (made_problem n).blocks
+made_blocks_are n = record { sized = sized; blocks = row_blocks (made_pieces n) (made_row n) (made_grid n) (made_grid_along n) (made_grid_is n) (made_is_drawing n) }
+  where
+    sized : (a : Axis) → numbers_of (made_problem n).blocks.sizes a ≡ grid_sizes (made_grid n) a
+    sized X = refl
+    sized Y = refl
+    sized Z = refl
+
+pub few_made_solids : (n : ℕ) (solids : List (List Cell)) → AreSolidsOf (solid_drawing (made_solid n)) solids → length solids ≤ 4096
+few_made_solids n solids all =
+    let drawing = solid_drawing (made_solid n) in let p = made_problem n in
+    let whole = live_below (is_live p) p.blocks.count [] in
+    let matching = complete_tree (IsMatchingChoice drawing (coordinates_of p.grid) p.blocks.numbers) (is_live p) p.blocks.count
+        (live_keeps_matching drawing (made_is_drawing n) p (made_grid_is n) (made_blocks_are n)) in
+    let (listed, are, filled) = all_solids_of_blocks drawing p.grid (made_grid_is n) p.blocks.numbers p.blocks.count (made_blocks_are n).blocks whole matching in
+    let many = as_many (coordinates_of p.grid) p.blocks.numbers p.blocks.count whole listed filled in
+    let few = few_made_choices n p (made_grid_is n) (made_blocks_are n) in
+    subst (λ (ss : List (List Cell)). length ss ≤ 4096) (one_list_of_solids drawing listed solids are all) (omega (arith, many, few))

@@ -1,0 +1,273 @@
+-- The blocks of the drawing of a row of pieces: of each piece its full cells together, and each of its voids.
+use Rattle.std.proofs.Common.{◌≡◌, ◌⊎◌, ⊎_elim, inl, inr, ◌↔◌, true, false, ◌&&◌, ℕ, zero, suc, ◌+◌, ◌-◌, ◌*◌, ◌<◌, ◌≤◌, List, length, drop, map, get_or, slice_index_or, Option, Some, None, ℤ, pos, ◌≤ℤ◌, ◌<ℤ◌, IsTrue, refl, ap, sym, subst, ◌∙◌, arith}
+use Rattle.std.specs.List.{flat_map}
+use Rattle.std.proofs.lemmas.Int.{ints}
+use Rattle.std.proofs.lemmas.List.{length-map, get_or-map}
+use Rattle.std.proofs.lemmas.Option.{none-some, same_Some}
+use Rattle.solid_model.specs.declared.cell.Axis.{Axis}
+use Rattle.solid_model.specs.declared.cell.Axis.TheVariants.{X, Y, Z}
+use Rattle.solid_model.specs.declared.cell.Cell.{Cell}
+use Rattle.solid_model.specs.Blocks.{Joined, IsOutside, AreBlocksOf}
+use Rattle.solid_model.specs.Cells.{coordinate, cell_at}
+use Rattle.solid_model.specs.DrawnStyle.{solid_drawing}
+use Rattle.solid_model.specs.Lists.{Member}
+use Rattle.solid_model.specs.Orders.{ComesBefore}
+use Rattle.solid_model.specs.Panels.{GridParts, coordinates_of, IsGridOf}
+use Rattle.solid_model.specs.Rooms.{is_within, box_place, box_count, number_at, IsEarlier}
+use Rattle.solid_model.specs.Runs.{IsDrawing}
+use Rattle.solid_model.specs.VirtualFaces.{IsVirtual}
+use Rattle.solid_model.specs.Wire.{grid_sizes}
+use Rattle.solid_model.proofs.BoxPlaces.{IsCellOfBox, cell_of_box}
+use Rattle.solid_model.proofs.CellOrder.{LiesBefore, before-lies, lies-before}
+use Rattle.solid_model.proofs.Fullness.{same_coordinates}
+use Rattle.solid_model.proofs.OneNumbering.{one_numbering}
+use Rattle.solid_model.proofs.Unions.{within_product}
+use Rattle.drawing_maker.specs.declared.piece.Piece.{Piece}
+use Rattle.drawing_maker.specs.declared.stops.Stop.{Stop}
+use Rattle.drawing_maker.specs.Pieces.{Spot, side_of, is_void, row_cells}
+use Rattle.drawing_maker.specs.RowBlocks.{block_count, spot_block, blocks_before, row_block_count, block_where, blocks_in_row}
+use Rattle.drawing_maker.specs.Rows.{row_stops, coordinates_of_stops}
+use Rattle.drawing_maker.proofs.Members.{length-equal_parts, get_or-equal_parts}
+use Rattle.drawing_maker.proofs.Rows.{IsRow}
+use Rattle.drawing_maker.proofs.RowGrid.{piece_within, off_outside}
+use Rattle.drawing_maker.proofs.RowJoined.{full_joined}
+use Rattle.drawing_maker.proofs.RowOutside.{off_is_outside}
+use Rattle.drawing_maker.proofs.RowPlaces.{first_place, stop_count, part_at, ends_before, ends_within, BelongsTo, belongs_to, blocks-sum_before, blocks-sum_all}
+use Rattle.drawing_maker.proofs.RowSpots.{Covers, place_in, place_is, place_less, one_or_apart, IsIn, spot_in, IsOff, in_or_off, block_of, block_of_is, block_in, block_off}
+use Rattle.drawing_maker.proofs.RowSteps.{chain_keeps}
+use Rattle.drawing_maker.proofs.RowUnion.{gaps_are}
+use Rattle.drawing_maker.proofs.Spots.{IsInside}
+use Rattle.drawing_maker.proofs.SpotNumbers.{SpotBefore, block_below, one_or_full, IsFirstOf, first_of_block}
+
+-- ---- the blocks by their places in the list
+
+length-blocks_in_row : (ps : List Piece) (stops : List Stop) → length (blocks_in_row ps stops) ≡ length stops * (length stops * length stops)
+length-blocks_in_row ps stops = length-equal_parts (λ (z : Stop). flat_map (λ (y : Stop). map (λ (x : Stop). block_where ps x.before y.before z.before) stops) stops)
+    (length stops * length stops) (λ z. length-equal_parts (λ (y : Stop). map (λ (x : Stop). block_where ps x.before y.before z.before) stops) (length stops)
+    (λ y. length-map stops (λ (x : Stop). block_where ps x.before y.before z.before)) stops) stops
+
+block_before_stops : (ps : List Piece) (stops : List Stop) (i j k : ℕ) (d : Stop) → i < length stops → j < length stops → k < length stops
+    → get_or (blocks_in_row ps stops) ((k * length stops + j) * length stops + i) None
+    ≡ block_where ps (get_or stops i d).before (get_or stops j d).before (get_or stops k d).before
+block_before_stops ps stops i j k d in_x in_y in_z =
+    let m = length stops in
+    let z = get_or stops k d in let y = get_or stops j d in
+    let line : Stop → Stop → List (Option ℕ) = λ w v. map (λ (x : Stop). block_where ps x.before v.before w.before) stops in
+    let there : (k * m + j) * m + i ≡ k * (m * m) + (j * m + i) = omega arith in
+    ap (λ n. get_or (blocks_in_row ps stops) n None) there
+    ∙ get_or-equal_parts (λ w. flat_map (line w) stops) (m * m)
+    (λ w. length-equal_parts (line w) m (λ v. length-map stops (λ (x : Stop). block_where ps x.before v.before w.before)) stops)
+    stops k (j * m + i) None d in_z (within_product j m i m in_y in_x)
+    ∙ get_or-equal_parts (line z) m (λ v. length-map stops (λ (x : Stop). block_where ps x.before v.before z.before)) stops j i None d in_y in_x
+    ∙ get_or-map (λ (x : Stop). block_where ps x.before y.before z.before) stops i d None in_x
+
+module _ (ps : List Piece) (row : IsRow ps) (g : GridParts) (same : (a : Axis) → coordinates_of g a ≡ coordinates_of_stops (row_stops ps))
+    (grid : IsGridOf (solid_drawing (row_cells ps)) g) (is : IsDrawing (solid_drawing (row_cells ps))) where
+  abbrev stops_behind : List Stop
+  stops_behind = drop 1 (row_stops ps)
+
+  abbrev blocks : List (Option ℕ)
+  blocks = blocks_in_row ps stops_behind
+
+  sizes_are : (a : Axis) → grid_sizes g a ≡ length stops_behind
+  sizes_are = gaps_are ps row (coordinates_of g) same
+
+  -- the list has for each cell its block
+  number_is : (n : Cell) → is_within (grid_sizes g) n ≡ true → number_at (grid_sizes g) blocks n ≡ block_of ps row n
+  number_is n n_in = by (cell_of_box (grid_sizes g) n n_in)
+    where
+      by : IsCellOfBox (grid_sizes g) n → number_at (grid_sizes g) blocks n ≡ block_of ps row n
+      by at =
+          let i = at.x.number in let j = at.y.number in let k = at.z.number in
+          (λ t. number_at (grid_sizes g) blocks (record { x = at.x.is t; y = at.y.is t; z = at.z.is t }))
+          ∙ (λ t. get_or blocks ((k * sizes_are Y t + j) * sizes_are X t + i) None)
+          ∙ block_before_stops ps stops_behind i j k (record { at = 0; before = None })
+          (let l = at.x.less in omega (arith, l, sizes_are X)) (let l = at.y.less in omega (arith, l, sizes_are Y)) (let l = at.z.less in omega (arith, l, sizes_are Z))
+          ∙ sym (λ t. block_where ps (part_at ps (at.x.is t)) (part_at ps (at.y.is t)) (part_at ps (at.z.is t)))
+          ∙ sym (block_of_is ps row n)
+
+  -- ---- one block
+
+  spot_inside : (p : Piece) (u : Cell) → IsIn ps row p u → IsInside (side_of p.kind) (spot_in ps row p u)
+  spot_inside p u inside X = place_less ps row p u.x (inside X)
+  spot_inside p u inside Y = place_less ps row p u.y (inside Y)
+  spot_inside p u inside Z = place_less ps row p u.z (inside Z)
+
+  -- of two pieces one has its blocks before the other
+  one_or_before : (p q : Piece) → Member ps p → Member ps q
+      → (p ≡ q) ⊎ (((first_place ps p + stop_count p.kind ≤ first_place ps q) × (blocks_before ps p.origin + block_count p.kind ≤ blocks_before ps q.origin))
+      ⊎ ((first_place ps q + stop_count q.kind ≤ first_place ps p) × (blocks_before ps q.origin + block_count q.kind ≤ blocks_before ps p.origin)))
+  one_or_before p q k m = by (one_or_apart ps row p q k m)
+    where
+      ends : (r s : Piece) → Member ps r → Member ps s → r.origin < s.origin → blocks_before ps r.origin + block_count r.kind ≤ blocks_before ps s.origin
+      ends r s in_r in_s l =
+          let e = ends_before block_count ps row r s in_r in_s l in
+          omega (arith, e, blocks-sum_before ps r.origin, blocks-sum_before ps s.origin)
+
+      by : (p ≡ q) ⊎ (((p.origin < q.origin) × (first_place ps p + stop_count p.kind ≤ first_place ps q))
+          ⊎ ((q.origin < p.origin) × (first_place ps q + stop_count q.kind ≤ first_place ps p)))
+          → (p ≡ q) ⊎ (((first_place ps p + stop_count p.kind ≤ first_place ps q) × (blocks_before ps p.origin + block_count p.kind ≤ blocks_before ps q.origin))
+          ⊎ ((first_place ps q + stop_count q.kind ≤ first_place ps p) × (blocks_before ps q.origin + block_count q.kind ≤ blocks_before ps p.origin)))
+      by (inl e) = inl e
+      by (inr (inl h)) = inr (inl (h.1, ends p q k m h.0))
+      by (inr (inr h)) = inr (inr (h.1, ends q p m k h.0))
+
+  -- the number of a cell's block, in its piece
+  abbrev number_in : Piece → Cell → ℕ
+  number_in p u = blocks_before ps p.origin + spot_block p.kind (spot_in ps row p u)
+
+  -- cells of pieces that have one number are joined
+  joined_in_one : (p : Piece) (n m : Cell) → IsIn ps row p n → IsIn ps row p m
+      → spot_block p.kind (spot_in ps row p n) ≡ spot_block p.kind (spot_in ps row p m) → Joined g n m
+  joined_in_one p n m inside inside_too e = ⊎_elim {C = Joined g n m} one
+      (λ solid. full_joined ps row g same grid is p n m inside inside_too solid.0 solid.1)
+      (one_or_full p.kind (spot_in ps row p n) (spot_in ps row p m) (spot_inside p n inside) (spot_inside p m inside_too) e)
+    where
+      along : (z w : ℤ) → Covers ps row p z → Covers ps row p w → place_in ps row p z ≡ place_in ps row p w → z ≡ w
+      along z w at too f = place_is ps row p z at ∙ ap (λ k. pos (first_place ps p + k)) f ∙ sym (place_is ps row p w too)
+
+      one : spot_in ps row p n ≡ spot_in ps row p m → Joined g n m
+      one f = (zero, same_coordinates n m
+          (along n.x m.x (inside X) (inside_too X) (ap (λ (s : Spot). s.x) f))
+          (along n.y m.y (inside Y) (inside_too Y) (ap (λ (s : Spot). s.y) f))
+          (along n.z m.z (inside Z) (inside_too Z) (ap (λ (s : Spot). s.z) f)))
+
+  joined_from_number : (p q : Piece) (n m : Cell) → IsIn ps row p n → IsIn ps row q m → number_in p n ≡ number_in q m → Joined g n m
+  joined_from_number p q n m inside inside_too e =
+      let l = block_below p.kind (spot_in ps row p n) (spot_inside p n inside) in
+      let k = block_below q.kind (spot_in ps row q m) (spot_inside q m inside_too) in
+      ⊎_elim {C = Joined g n m}
+      (λ one. joined_in_one p n m inside (subst (λ r. IsIn ps row r m) (sym one) inside_too)
+          (let f : number_in p n ≡ number_in p m = e ∙ ap (λ r. number_in r m) (sym one) in omega (arith, f)))
+      (λ apart. absurd (⊎_elim {C = ⊥} (λ h. omega (arith, e, l, k, h.1)) (λ h. omega (arith, e, l, k, h.1)) apart))
+      (one_or_before p q (inside X).member (inside_too X).member)
+
+  -- ---- the first cell of a block
+
+  abbrev cell_of_spot : Piece → Spot → Cell
+  cell_of_spot p s = cell_at (first_place ps p + s.x) (first_place ps p + s.y) (first_place ps p + s.z)
+
+  spot_cell_in : (p : Piece) (s : Spot) → Member ps p → IsInside (side_of p.kind) s → IsIn ps row p (cell_of_spot p s)
+  spot_cell_in p s k inside X = let l = inside X in record { member = k; from = omega (arith, ints); to = omega (arith, ints, l) }
+  spot_cell_in p s k inside Y = let l = inside Y in record { member = k; from = omega (arith, ints); to = omega (arith, ints, l) }
+  spot_cell_in p s k inside Z = let l = inside Z in record { member = k; from = omega (arith, ints); to = omega (arith, ints, l) }
+
+  spot_of_cell : (p : Piece) (s : Spot) → spot_in ps row p (cell_of_spot p s) ≡ s
+  spot_of_cell p s =
+      let back : (k : ℕ) → first_place ps p + k - first_place ps p ≡ k = λ k. omega arith in
+      λ t. record { x = back s.x t; y = back s.y t; z = back s.z t }
+
+  module _ (p : Piece) (k : Member ps p) (l : ℕ) (s : Spot) (first : IsFirstOf p.kind l s) where
+    -- within the piece spots keep the order of cells
+    spot_before : (m : Cell) → IsIn ps row p m → LiesBefore m (cell_of_spot p s) → SpotBefore (spot_in ps row p m) s
+    spot_before m inside before = lies-before _ _ (by before)
+      where
+        x : m.x ≡ pos (first_place ps p + place_in ps row p m.x)
+        x = place_is ps row p m.x (inside X)
+
+        y : m.y ≡ pos (first_place ps p + place_in ps row p m.y)
+        y = place_is ps row p m.y (inside Y)
+
+        z : m.z ≡ pos (first_place ps p + place_in ps row p m.z)
+        z = place_is ps row p m.z (inside Z)
+
+        by : LiesBefore m (cell_of_spot p s) → LiesBefore (cell_at (place_in ps row p m.x) (place_in ps row p m.y) (place_in ps row p m.z)) (cell_at s.x s.y s.z)
+        by (inl less) = inl (omega (arith, ints, less, z))
+        by (inr (e, inl less)) = inr (omega (arith, ints, e, z), inl (omega (arith, ints, less, y)))
+        by (inr (e, inr (f, less))) = inr (omega (arith, ints, e, z), inr (omega (arith, ints, f, y), omega (arith, ints, less, x)))
+
+    not_later : (m : Cell) → LiesBefore m (cell_of_spot p s) → m.z ≤ℤ pos (first_place ps p + s.z)
+    not_later m (inl less) = omega (arith, ints, less)
+    not_later m (inr (e, rest)) = omega (arith, ints, e)
+
+    -- what comes before the first cell has a smaller number, or none
+    earlier_number : (m : Cell) → LiesBefore m (cell_of_spot p s) → IsEarlier (blocks_before ps p.origin + l) (block_of ps row m)
+    earlier_number m before = ⊎_elim {C = IsEarlier (blocks_before ps p.origin + l) (block_of ps row m)} in_piece
+        (λ off. subst (IsEarlier (blocks_before ps p.origin + l)) (sym (block_off ps row m off)) tt) (in_or_off ps row m)
+      where
+        in_piece : (q : Piece) × IsIn ps row q m → IsEarlier (blocks_before ps p.origin + l) (block_of ps row m)
+        in_piece (q, inside) =
+            let late = not_later m before in
+            let z = inside Z in
+            let own = block_below q.kind (spot_in ps row q m) (spot_inside q m inside) in
+            let in_s = first.inside Z in
+            subst (IsEarlier (blocks_before ps p.origin + l)) (sym (block_in ps row q m inside))
+            (⊎_elim {C = number_in q m < blocks_before ps p.origin + l}
+            (λ one.
+                let here : IsIn ps row p m = subst (λ r. IsIn ps row r m) (sym one) inside in
+                let less = first.earlier (spot_in ps row p m) (spot_inside p m here) (spot_before m here before) in
+                let e : number_in q m ≡ number_in p m = ap (λ r. number_in r m) (sym one) in
+                omega (arith, less, e))
+            (λ apart. ⊎_elim {C = number_in q m < blocks_before ps p.origin + l}
+                (λ h. absurd (let from = z.from in omega (arith, ints, from, late, in_s, h.0)))
+                (λ h. omega (arith, own, h.1)) apart)
+            (one_or_before p q k z.member))
+
+  -- ---- all of them
+
+  outside_both : (n : Cell) → IsTrue (is_within (grid_sizes g) n) → (number_at (grid_sizes g) blocks n ≡ None) ↔ IsOutside g n
+  outside_both n n_in = (
+    (λ none. ⊎_elim {C = IsOutside g n} (λ at. absurd (none-some _ (sym none ∙ number_is n n_in ∙ block_in ps row at.0 n at.1)))
+        (off_is_outside ps row g same grid is n) (in_or_off ps row n)),
+    (λ leads. number_is n n_in ∙ chain_keeps ps row g same grid is n leads.0 leads.1 ∙ block_off ps row leads.0 (off_outside ps row g same leads.0 leads.2)),
+  )
+
+  joined_both : (n m : Cell) → IsTrue (is_within (grid_sizes g) n) → IsTrue (is_within (grid_sizes g) m) → (IsOutside g n → ⊥)
+      → (number_at (grid_sizes g) blocks n ≡ number_at (grid_sizes g) blocks m) ↔ Joined g n m
+  joined_both n m n_in m_in stays = (
+    (λ e. by (sym (number_is n n_in) ∙ e ∙ number_is m m_in) (in_or_off ps row n) (in_or_off ps row m)),
+    (λ chain. number_is n n_in ∙ chain_keeps ps row g same grid is n m chain ∙ sym (number_is m m_in)),
+  )
+    where
+      by : block_of ps row n ≡ block_of ps row m → ((p : Piece) × IsIn ps row p n) ⊎ IsOff ps row n → ((p : Piece) × IsIn ps row p m) ⊎ IsOff ps row m → Joined g n m
+      by e (inr off) h = absurd (stays (off_is_outside ps row g same grid is n off))
+      by e (inl (p, inside)) (inr off) = absurd (none-some _ (sym (block_off ps row m off) ∙ sym e ∙ block_in ps row p n inside))
+      by e (inl (p, inside)) (inl (q, inside_too)) =
+          joined_from_number p q n m inside inside_too (same_Some _ _ (sym (block_in ps row p n inside) ∙ e ∙ block_in ps row q m inside_too))
+
+  below_count : (n : Cell) (k : ℕ) → IsTrue (is_within (grid_sizes g) n) → number_at (grid_sizes g) blocks n ≡ Some k → k < row_block_count ps
+  below_count n k n_in e = ⊎_elim {C = k < row_block_count ps}
+      (λ at.
+          let p = at.0 in
+          let own = block_below p.kind (spot_in ps row p n) (spot_inside p n at.1) in
+          let f = same_Some _ _ (sym (block_in ps row p n at.1) ∙ sym (number_is n n_in) ∙ e) in
+          let all = ends_within block_count ps row p (at.1 X).member in
+          omega (arith, own, f, all, blocks-sum_before ps p.origin, blocks-sum_all ps))
+      (λ off. absurd (none-some k (sym (block_off ps row n off) ∙ sym (number_is n n_in) ∙ e))) (in_or_off ps row n)
+
+  first_cell : (k : ℕ) → k < row_block_count ps → (n : Cell) × IsTrue (is_within (grid_sizes g) n) × (number_at (grid_sizes g) blocks n ≡ Some k)
+      × ((m : Cell) → IsTrue (is_within (grid_sizes g) m) → ComesBefore m n → IsEarlier k (number_at (grid_sizes g) blocks m))
+  first_cell k less = by (belongs_to block_count ps row k (omega (arith, less, blocks-sum_all ps)))
+    where
+      by : BelongsTo block_count ps k → (n : Cell) × IsTrue (is_within (grid_sizes g) n) × (number_at (grid_sizes g) blocks n ≡ Some k)
+          × ((m : Cell) → IsTrue (is_within (grid_sizes g) m) → ComesBefore m n → IsEarlier k (number_at (grid_sizes g) blocks m))
+      by of =
+          let p = of.piece in
+          let (s, first) = first_of_block p.kind of.local of.less in
+          let inside = spot_cell_in p s of.member first.inside in
+          let n_in = piece_within ps row g same p (cell_of_spot p s) inside in
+          let number : blocks_before ps p.origin + of.local ≡ k = (let e = of.is in omega (arith, e, blocks-sum_before ps p.origin)) in (
+            cell_of_spot p s,
+            n_in,
+            number_is (cell_of_spot p s) n_in ∙ block_in ps row p (cell_of_spot p s) inside
+                ∙ ap (λ t. Some (blocks_before ps p.origin + spot_block p.kind t)) (spot_of_cell p s)
+                ∙ ap (λ i. Some (blocks_before ps p.origin + i)) first.is ∙ ap Some number,
+            λ m m_in before. subst (λ i. IsEarlier i (number_at (grid_sizes g) blocks m)) number
+                (subst (IsEarlier (blocks_before ps p.origin + of.local)) (sym (number_is m m_in))
+                (earlier_number p of.member of.local s first m (before-lies m (cell_of_spot p s) before))),
+          )
+
+  -- The blocks of the grid are those of the row.
+  pub row_blocks : AreBlocksOf g (blocks_in_row ps (drop 1 (row_stops ps))) (row_block_count ps)
+  row_blocks = record {
+    listed = length-blocks_in_row ps stops_behind ∙ omega arith ∙ sym (λ t. sizes_are Z t * sizes_are Y t * sizes_are X t);
+    outside = outside_both;
+    joined = joined_both;
+    below = below_count;
+    first = first_cell;
+  }
+
+  -- they are numbered in one way
+  pub row_numbers : (numbers : List (Option ℕ)) (count : ℕ) → AreBlocksOf g numbers count
+      → (numbers ≡ blocks_in_row ps (drop 1 (row_stops ps))) × (count ≡ row_block_count ps)
+  row_numbers numbers count are = one_numbering (grid_sizes g) (IsVirtual g) numbers blocks count (row_block_count ps) are row_blocks
