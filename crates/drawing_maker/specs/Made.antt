@@ -15,10 +15,6 @@ use Rattle.drawing_maker.specs.Pieces.{PieceParts, next_origin, row_cells}
 abbrev pub generator_of : ℕ → Lcg
 generator_of n = started 64 multiplier_64 n (increment_of 64 54)
 
--- how many pieces a made solid has
-abbrev pub piece_count : ℕ
-piece_count = 14
-
 -- The kind that a word gives, where only one cube with eight voids stands so far, or more than one: by the word's remainder
 -- by 8, 0 gives another cube with eight voids, if only one stands, and else a hollow cube; so do 1 to 4; 5 to 7 give a unit cube.
 abbrev pub kind_by : Bool → ℕ → Kind

@@ -60,12 +60,25 @@ fn push_placed(text: &mut Vec<u8>, sheet: &Sheet, view: View) -> Result<(), Memo
     Ok(())
 }
 
+/// Room for the text of a sheet: 100 bytes for each line, which is more than it can take, and 40 for
+/// what stands around them.
+fn room_for(sheet: &Sheet) -> usize {
+    let mut lines: usize = 0;
+    for view in [View::Front, View::Top, View::Side] {
+        for upright in [false, true] {
+            let runs = sheet.view(view).along(upright);
+            lines = lines.saturating_add(runs.as_slice().len());
+        }
+    }
+    lines.saturating_mul(100).saturating_add(40)
+}
+
 /// The text of a sheet.
 fn sheet_text(alloc: Global, sheet: &Sheet) -> Result<Vec<u8>, Memory>
     requires { AreNearRuns sheet.now }
     ensures { IfOk result (λ text. text.items ≡ sheet_text sheet.now) }
 {
-    let mut text = Vec::new(alloc);
+    let mut text = Vec::with_capacity(alloc, room_for(sheet))?;
     push_pair(&mut text, "0", "SECTION")?;
     push_pair(&mut text, "2", "ENTITIES")?;
     push_placed(&mut text, sheet, View::Front)?;
