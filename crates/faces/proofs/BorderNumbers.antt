@@ -12,7 +12,7 @@ use Rattle.rounds.proofs.Runs.{further-next}
 use Rattle.solid_model.specs.Orders.{ComesBefore}
 use Rattle.solid_model.specs.Rounds.{Side, end_of, is_border, following, sides_from}
 use Rattle.solid_model.specs.Rounds.{further as further_side}
-use Rattle.solid_model.proofs.Turns.{following_border, following_one}
+use Rattle.face_laws.proofs.Turns.{following_border, following_one}
 
 -- the number of a side that is told by its end
 pub told_number : (t : SquareTable) (up_first : Bool) (s : BorderSide) (f : Side) → side_of s ≡ f

@@ -14,11 +14,11 @@ use Rattle.solid_model.specs.Orders.{ComesBefore}
 use Rattle.solid_model.specs.Rounds.{Spot, Side, end_of, left_square, following, sides_from, round_sides, corners, round_corners}
 use Rattle.solid_model.specs.Rounds.{further as further_side, IsRound as IsSideRound}
 use Rattle.solid_model.proofs.CellOrder.{one_or_before}
-use Rattle.solid_model.proofs.FacePlaces.{place_keeps}
-use Rattle.solid_model.proofs.LeastSides.{KeepsOrder, corners_from, least_begins}
+use Rattle.face_laws.proofs.FacePlaces.{place_keeps}
+use Rattle.face_laws.proofs.LeastSides.{KeepsOrder, corners_from, least_begins}
 use Rattle.solid_model.proofs.Lists.{each-at, each-from, each-weaker, each-map, each-from_map, member-map}
-use Rattle.solid_model.proofs.RoundStarts.{one_start}
-use Rattle.solid_model.proofs.SidesInOrder.{member-earlier}
+use Rattle.face_laws.proofs.RoundStarts.{one_start}
+use Rattle.face_laws.proofs.SidesInOrder.{member-earlier}
 
 -- ---- the least corner
 

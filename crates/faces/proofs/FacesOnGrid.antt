@@ -12,11 +12,11 @@ use Rattle.solid_model.specs.Lists.{Each}
 use Rattle.solid_model.specs.Marks.{BoxMarks, is_marked}
 use Rattle.solid_model.specs.PerAxis.{numbers_of}
 use Rattle.solid_model.specs.Rounds.{Spot, Side, end_of, left_square, is_border, round_sides, round_corners}
-use Rattle.solid_model.proofs.BoundarySquares.{border_left}
+use Rattle.face_laws.proofs.BoundarySquares.{border_left}
 use Rattle.solid_model.proofs.BoxCells.{below-bounds}
-use Rattle.solid_model.proofs.LeastSides.{corners_each}
+use Rattle.face_laws.proofs.LeastSides.{corners_each}
 use Rattle.solid_model.proofs.Lists.{each-map, each-weaker}
-use Rattle.solid_model.proofs.SidesInOrder.{member-border}
+use Rattle.face_laws.proofs.SidesInOrder.{member-border}
 use Rattle.faces.specs.GridPoints.{HasPoint, HasFace}
 use Rattle.faces.proofs.NearCorners.{ends_beside}
 use Rattle.faces.proofs.PlaneBoundary.{boundary_over}

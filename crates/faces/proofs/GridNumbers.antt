@@ -1,7 +1,7 @@
 -- Coordinates of a grid by their numbers.
 use Rattle.std.proofs.Common.{◌≡◌, ℕ, zero, suc, ◌<◌, List, [], ◌∷◌, length, get_or, ℤ, pos, negsuc, ◌≤ℤ◌, ◌<ℤ◌, nat_abs, refl, sym, arith}
 use Rattle.std.proofs.lemmas.Int.{ints}
-use Rattle.solid_model.specs.GridFaces.{coordinate_from, planes_at}
+use Rattle.face_laws.specs.GridFaces.{coordinate_from, planes_at}
 
 coordinate_from-at : (z : ℤ) (zs : List ℤ) (n : ℕ) (d : ℤ) → n < length (z ∷ zs) → coordinate_from z zs n ≡ get_or (z ∷ zs) n d
 coordinate_from-at z zs zero d l = refl

@@ -4,7 +4,7 @@ use Rattle.solid_model.specs.declared.cell.Cell.{Cell}
 use Rattle.solid_model.specs.Lists.{Member}
 use Rattle.solid_model.specs.Orders.{ComesBefore}
 use Rattle.solid_model.specs.Rounds.{Spot, Side, end_of, is_border, following, further, round_sides}
-use Rattle.solid_model.proofs.LeastSides.{KeepsOrder, GoesDown, one_down, comes_down}
+use Rattle.face_laws.proofs.LeastSides.{KeepsOrder, GoesDown, one_down, comes_down}
 
 module _ (squares : Spot → Bool) (there : Spot → Cell) (keeps : KeepsOrder there) where
   -- a round from this side ends, with it, at its least point

@@ -14,7 +14,7 @@ use Rattle.solid_model.specs.PerAxis.{numbers_of}
 use Rattle.solid_model.specs.Rooms.{is_below, is_within, box_place}
 use Rattle.solid_model.specs.Rounds.{Spot}
 use Rattle.solid_model.proofs.BoxCells.{below-bounds, within-below}
-use Rattle.solid_model.proofs.BoundarySquares.{inner_full}
+use Rattle.face_laws.proofs.BoundarySquares.{inner_full}
 use Rattle.solid_model.proofs.Pushed.{HoldsSoFar}
 use Rattle.faces.specs.PlaneSquares.{SquareTable, is_in_table, square_place, is_there}
 use Rattle.faces.specs.SquareSteps.{square_count, square_at_place}

@@ -5,7 +5,7 @@ use Rattle.std.proofs.lemmas.Option.{same_Some, none-some}
 use Rattle.solid_model.specs.Chains.{Reaches}
 use Rattle.solid_model.specs.Rounds.{Spot, Heading, East, North, West, South, spot_after, AreNeighbours, AreJoined}
 use Rattle.solid_model.proofs.Chains.{reaches-map, reaches-step}
-use Rattle.solid_model.proofs.JoinedSides.{neighbours-back}
+use Rattle.face_laws.proofs.JoinedSides.{neighbours-back}
 use Rattle.flood.specs.Graph.{Leads, GoesBack, AreComponents}
 use Rattle.faces.specs.PlaneSquares.{SquareTable, square_place, is_there}
 use Rattle.faces.specs.SquareSteps.{square_count, square_at_place, IsSquareStep, heading_of, next_square, AreSquareComponents}

@@ -2,7 +2,7 @@
 
 ghost use Rattle.std.specs.Prelude.{◌≡◌, length, map, pos, ◌≤ℤ◌, ◌<ℤ◌};
 ghost use Rattle.faces.specs.GridPoints.{HasPoint, HasFace};
-ghost use Rattle.solid_model.specs.GridFaces.{point_of_numbers, face_in_space, planes_at, grid_planes};
+ghost use Rattle.face_laws.specs.GridFaces.{point_of_numbers, face_in_space, planes_at, grid_planes};
 ghost use Rattle.solid_model.specs.Lists.{Each};
 ghost use Rattle.solid_model.specs.Panels.{coordinates_of};
 

@@ -29,7 +29,7 @@ use Rattle.solid_model.specs.Matching.{AreSolidsOf}
 use Rattle.solid_model.specs.Panels.{coordinates_of}
 use Rattle.solid_model.specs.Search.{SearchLimits}
 use Rattle.solid_model.proofs.BlockChoices.{one_list_of_block_choices}
-use Rattle.solid_model.proofs.FaceLists.{one_list_of_faces}
+use Rattle.face_laws.proofs.FaceLists.{one_list_of_faces}
 use Rattle.solid_model.proofs.SolidOrder.{one_list_of_solids}
 use Rattle.words.specs.declared.job.Job.{Job}
 use Rattle.words.specs.declared.job.Job.TheVariants as job

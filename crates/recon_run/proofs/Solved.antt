@@ -26,7 +26,7 @@ use Rattle.solid_model.specs.Tree.{live_below}
 use Rattle.solid_model.proofs.BlockChoices.{all_solids_of_blocks, some_solids_of_blocks}
 use Rattle.solid_model.proofs.CompleteTree.{complete_tree}
 use Rattle.solid_model.proofs.Lists.{each-at, each-weaker}
-use Rattle.solid_model.proofs.SomeFaces.{some_faces}
+use Rattle.face_laws.proofs.SomeFaces.{some_faces}
 use Rattle.solid_model.proofs.Volumes.{volume_counts}
 
 -- choices fill as many solids

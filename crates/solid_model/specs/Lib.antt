@@ -37,6 +37,3 @@ pub mod Search
 pub mod SmallTree
 pub mod Rounds
 pub mod Faces
-pub mod SmallFaces
-pub mod GridRounds
-pub mod GridFaces

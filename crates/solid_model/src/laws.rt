@@ -3,7 +3,6 @@
 mod blocks;
 mod demands;
 mod drawings;
-mod faces;
 mod grid;
 mod orders;
 mod places;
@@ -22,11 +21,6 @@ pub use drawings::{
     column_rule, each_segment_has_one_style, fillings_round_an_edge,
     order_and_repeats_do_not_matter, quartered_cube, small_drawings,
     views_are_seen_from_their_sides,
-};
-pub use faces::{
-    corners_are_grid_points, each_side_is_on_one_loop, faces_end_at_edges, faces_of_grid_cells,
-    following_is_one_to_one, grid_rounds_are_unit_rounds, least_sides_end_at_corners,
-    no_solid_lacks_faces, one_list_of_faces, small_faces,
 };
 pub use grid::{
     matching_is_seen_on_the_grid, matching_solids_lie_in_the_grid, one_drawing_of_a_grid,

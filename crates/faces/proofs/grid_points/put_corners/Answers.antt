@@ -1,6 +1,6 @@
 -- One corner more.
 use Rattle.std.proofs.Common.{arith}
-use Rattle.solid_model.specs.GridFaces.{point_of_numbers, grid_planes}
+use Rattle.face_laws.specs.GridFaces.{point_of_numbers, grid_planes}
 use Rattle.solid_model.specs.Panels.{coordinates_of}
 use Rattle.faces.specs.GridPoints.{HasPoint}
 use Rattle.faces.proofs.MappedSoFar.{mapped-next_holds, mapped-next, mapped-end}

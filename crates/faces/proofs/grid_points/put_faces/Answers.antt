@@ -1,6 +1,6 @@
 -- One face more.
 use Rattle.std.proofs.Common.{arith}
-use Rattle.solid_model.specs.GridFaces.{face_in_space, grid_planes}
+use Rattle.face_laws.specs.GridFaces.{face_in_space, grid_planes}
 use Rattle.solid_model.specs.Panels.{coordinates_of}
 use Rattle.faces.specs.GridPoints.{HasFace}
 use Rattle.faces.proofs.MappedSoFar.{mapped-next_holds, mapped-next, mapped-end}

@@ -1,6 +1,6 @@
 -- Those that are changed so far.
 use Rattle.std.proofs.Common.{◌≡◌}
-use Rattle.solid_model.specs.GridFaces.{face_in_space, grid_planes}
+use Rattle.face_laws.specs.GridFaces.{face_in_space, grid_planes}
 use Rattle.solid_model.specs.Panels.{coordinates_of}
 use Rattle.faces.proofs.MappedSoFar.{mapped}
 use Rattle.faces.proofs.grid_points.put_faces.Given as goal

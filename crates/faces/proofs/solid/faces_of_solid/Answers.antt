@@ -3,14 +3,14 @@ use Rattle.std.proofs.Common.{◌≡◌, ◌&&◌, ◌++◌, false, Bool, List, 
 use Rattle.std.proofs.lemmas.List.{take_at}
 use Rattle.solid_model.specs.declared.cell.Cell.{Cell}
 use Rattle.solid_model.specs.Faces.{FaceParts, AreFacesOf}
-use Rattle.solid_model.specs.GridFaces.{numbered_fullness, face_in_space, grid_planes}
+use Rattle.face_laws.specs.GridFaces.{numbered_fullness, face_in_space, grid_planes}
 use Rattle.solid_model.specs.Lists.{Each}
 use Rattle.solid_model.specs.Marks.{BoxMarks, is_marked}
 use Rattle.solid_model.specs.Panels.{coordinates_of}
 use Rattle.solid_model.specs.PerAxis.{numbers_of}
 use Rattle.solid_model.specs.Rooms.{is_within, box_place, box_count}
 use Rattle.solid_model.specs.Wire.{grid_sizes}
-use Rattle.solid_model.proofs.GridPlanes.{union_faces}
+use Rattle.face_laws.proofs.GridPlanes.{union_faces}
 use Rattle.faces.specs.GridPoints.{HasFace}
 use Rattle.faces.proofs.FacesOnGrid.{faces_on_grid}
 use Rattle.faces.proofs.solid.faces_of_solid.Goals as goal

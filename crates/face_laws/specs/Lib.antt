@@ -1,0 +1,3 @@
+pub mod SmallFaces
+pub mod GridRounds
+pub mod GridFaces
