@@ -5,3 +5,7 @@ pub mod GridColumns
 pub mod Stretched
 pub mod GridSegments
 pub mod GridStyles
+pub mod AllLines
+pub mod SettledColumns
+pub mod SightLines
+pub mod MetLines

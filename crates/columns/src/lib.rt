@@ -5,6 +5,7 @@ mod column;
 mod draw;
 mod grid_columns;
 mod known;
+mod laws;
 mod segment_styles;
 #[cfg(test)]
 mod tests;
@@ -13,3 +14,4 @@ pub use column::{Column, style_of};
 pub use draw::{ColumnSet, columns_of, draw_cells, draw_in};
 pub use grid_columns::cell_in;
 pub use known::{KnownColumn, can_draw};
+pub use laws::demands_are_computed;

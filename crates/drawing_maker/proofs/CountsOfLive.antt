@@ -10,7 +10,7 @@ use Rattle.solid_model.specs.Demands.{said_by, IsLive, is_live}
 use Rattle.solid_model.specs.Lists.{Member}
 use Rattle.solid_model.specs.Tree.{live_count, live_below}
 use Rattle.solid_model.proofs.Lists.{member-map}
-use Rattle.solid_model.proofs.MetLines.{live_computed}
+use Rattle.columns.proofs.MetLines.{live_computed}
 use Rattle.drawing_maker.specs.declared.piece.Piece.{Piece}
 use Rattle.drawing_maker.specs.Made.{made_pieces}
 use Rattle.drawing_maker.specs.Pieces.{side_of}

@@ -9,7 +9,7 @@ use Rattle.line_demands.proofs.Prefixes.{known_more}
 use Rattle.solid_model.specs.declared.line_id.LineId.{LineId}
 use Rattle.solid_model.specs.Blocks.{ProblemParts}
 use Rattle.solid_model.specs.Demands.{has_line, said_by, known_cell, known_column, AgreesWith, CanBeMet, IsLive, is_live}
-use Rattle.solid_model.proofs.MetLines.{AreSized, live_computed}
+use Rattle.columns.proofs.MetLines.{AreSized, live_computed}
 use Rattle.search_tree.specs.BlockPaths.{decisions_of, IsPath}
 use Rattle.search_tree.specs.Walk.{IsTree}
 

@@ -55,7 +55,3 @@ pub mod PrefixTree
 pub mod AllowedReports
 pub mod ChoicesInOrder
 pub mod CompleteTree
-pub mod AllLines
-pub mod KnownColumns
-pub mod SightLines
-pub mod MetLines

@@ -1,7 +1,6 @@
 //! The laws over the definitions. Each is the contract of a function that does nothing.
 
 mod blocks;
-mod demands;
 mod drawings;
 mod grid;
 mod orders;
@@ -16,7 +15,6 @@ mod volumes;
 pub use blocks::{
     all_matching_choices_are_all_matching_solids, matching_solids_are_constant_on_blocks,
 };
-pub use demands::demands_are_computed;
 pub use drawings::{
     column_rule, each_segment_has_one_style, fillings_round_an_edge,
     order_and_repeats_do_not_matter, quartered_cube, small_drawings,

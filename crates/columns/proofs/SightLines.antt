@@ -9,7 +9,7 @@ use Rattle.solid_model.specs.declared.segment.Style.{Style}
 use Rattle.solid_model.specs.declared.segment.Style.TheVariants.{Blank, Dashed, Solid}
 use Rattle.solid_model.specs.Columns.{IsFirstFull, HaveSameFirstFull}
 use Rattle.solid_model.specs.Demands.{AgreesWith, CanDraw, CellsBeside, can_be, can_both_be, can_agree, can_differ, can_draw}
-use Rattle.solid_model.proofs.KnownColumns.{settled, granted, taken_over, CanBeApart, apart, IsEmptyBeyond, cells_from, AreEmptyBut, columns_can, same_first_at}
+use Rattle.columns.proofs.SettledColumns.{settled, granted, taken_over, CanBeApart, apart, IsEmptyBeyond, cells_from, AreEmptyBut, columns_can, same_first_at}
 
 -- two depths that are different
 apart_depths : (k d : ℤ) → (k ≡ d → ⊥) → int_eq k d ≡ false

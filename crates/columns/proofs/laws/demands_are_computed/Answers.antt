@@ -1,5 +1,5 @@
-use Rattle.solid_model.proofs.MetLines.{met_computed, live_computed}
-use Rattle.solid_model.proofs.laws.demands.demands_are_computed.Goals as goal
+use Rattle.columns.proofs.MetLines.{met_computed, live_computed}
+use Rattle.columns.proofs.laws.demands_are_computed.Goals as goal
 
 pub returns-clause-met : goal.returns-clause-met
 returns-clause-met c p are = met_computed p are.sized

@@ -15,10 +15,10 @@ use Rattle.solid_model.specs.Lists.{Member}
 use Rattle.solid_model.specs.PerAxis.{numbers_of}
 use Rattle.solid_model.specs.Rooms.{Sizes, is_below, is_within, number_at}
 use Rattle.solid_model.specs.Wire.{grid_sizes}
-use Rattle.solid_model.proofs.AllLines.{lines_are_there, lines_are_listed}
+use Rattle.columns.proofs.AllLines.{lines_are_there, lines_are_listed}
 use Rattle.solid_model.proofs.BoxCells.{below-bounds, within-below}
-use Rattle.solid_model.proofs.KnownColumns.{IsEmptyBeyond}
-use Rattle.solid_model.proofs.SightLines.{drawing_computed}
+use Rattle.columns.proofs.SettledColumns.{IsEmptyBeyond}
+use Rattle.columns.proofs.SightLines.{drawing_computed}
 use Rattle.solid_model.proofs.Views.{views_are_frames, across_along, coordinates_at}
 
 -- ---- depths of a box
