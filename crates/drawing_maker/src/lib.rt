@@ -2,7 +2,6 @@
 #![tactic(auto)]
 
 mod cells;
-mod laws;
 mod making;
 mod piece;
 mod pieces;
@@ -10,5 +9,4 @@ mod stops;
 #[cfg(test)]
 mod tests;
 
-pub use laws::{made_drawings_stay_within_the_limits, made_files_read_back};
 pub use making::make;

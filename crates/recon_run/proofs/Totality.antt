@@ -48,10 +48,10 @@ use Rattle.words.specs.declared.job.Job.TheVariants as job
 use Rattle.words.specs.Jobs.{IsCounted, job_said}
 use Rattle.words.proofs.Commands.{said_is_counted}
 use Rattle.drawing_maker.specs.Made.{made_solid}
-use Rattle.drawing_maker.proofs.MadeSolid.{made_is_solid}
+use Rattle.made_laws.proofs.MadeSolid.{made_is_solid}
 use Rattle.redraw.proofs.SomeFile.{some_file}
 use Rattle.report.specs.Texts.{no_solid_text}
-use Rattle.drawing_maker.proofs.MadeLimits.{made_problem}
+use Rattle.made_laws.proofs.MadeLimits.{made_problem}
 use Rattle.recon_run.proofs.Trials.{figures_are, made_has_problem}
 use Rattle.std.specs.List.{slice_get}
 use Rattle.std.proofs.lemmas.Option.{none-some, slice_get-get_or}

@@ -3,9 +3,9 @@ use Rattle.std.proofs.Common.{◌≡◌, ℕ, ◌≤◌, List, Bool, length, Ok,
 use Rattle.dxf_entities.specs.Reading.{read_of}
 use Rattle.dxf_entities.proofs.KeptLines.{ok_value}
 use Rattle.drawing_maker.specs.Made.{made_solid}
-use Rattle.drawing_maker.proofs.MadeFiles.{made_file_reads_back}
-use Rattle.drawing_maker.proofs.MadeLimits.{few_made_blocks, few_made_choices, few_made_nodes, made_blocks_are, made_problem}
-use Rattle.drawing_maker.proofs.SomeMadeGrid.{made_grid_is}
+use Rattle.made_laws.proofs.MadeFiles.{made_file_reads_back}
+use Rattle.made_laws.proofs.MadeLimits.{few_made_blocks, few_made_choices, few_made_nodes, made_blocks_are, made_problem}
+use Rattle.made_laws.proofs.SomeMadeGrid.{made_grid_is}
 use Rattle.redraw.specs.Files.{IsFileOf}
 use Rattle.recon_run.specs.Answers.{HasNoFault, HasProblem, IsTried, default_limits, made_drawing, node_count}
 use Rattle.recon_run.specs.Findings.{figures_text}

@@ -1,6 +1,6 @@
 use Rattle.std.proofs.Common.{List, Bool, sym, subst}
 use Rattle.drawing_maker.specs.Made.{made_solid}
-use Rattle.drawing_maker.proofs.MadeSolid.{made_is_solid}
+use Rattle.made_laws.proofs.MadeSolid.{made_is_solid}
 use Rattle.solid_model.specs.Cells.{is_full}
 use Rattle.solid_model.specs.Grid.{IsUnionOf}
 use Rattle.solid_model.specs.Panels.{coordinates_of}

@@ -31,8 +31,8 @@ use Rattle.read_back.specs.ReadBack.{IsInReach, ReadsBack}
 use Rattle.read_back.proofs.Written.{written_reads_back, drawing_as_it_is}
 use Rattle.drawing_maker.specs.Made.{made_solid}
 use Rattle.drawing_maker.proofs.MadeGrid.{made_coordinate}
-use Rattle.drawing_maker.proofs.MadeSolid.{made_is_solid, made_is_drawing}
-use Rattle.drawing_maker.proofs.SomeMadeGrid.{made_grid, made_grid_along, made_grid_is_grid, made_grid_union}
+use Rattle.made_laws.proofs.MadeSolid.{made_is_solid, made_is_drawing}
+use Rattle.made_laws.proofs.SomeMadeGrid.{made_grid, made_grid_along, made_grid_is_grid, made_grid_union}
 
 -- ---- the line of a run
 

@@ -27,12 +27,12 @@ use Rattle.solid_model.proofs.Views.{each_axis, across_along, views_are_frames}
 use Rattle.drawing_maker.specs.declared.piece.Piece.{Piece}
 use Rattle.drawing_maker.specs.Pieces.{is_void, row_cells}
 use Rattle.drawing_maker.specs.Rows.{row_stops, coordinates_of_stops}
-use Rattle.drawing_maker.proofs.BoxLines.{some_greater, out_down}
+use Rattle.made_laws.proofs.BoxLines.{some_greater, out_down}
 use Rattle.drawing_maker.proofs.Rows.{IsRow}
-use Rattle.drawing_maker.proofs.RowGrid.{undrawn}
-use Rattle.drawing_maker.proofs.RowOutside.{unbarred_away, OfSquare, kept_away, moved_across}
-use Rattle.drawing_maker.proofs.RowPlaces.{first_place}
-use Rattle.drawing_maker.proofs.RowSpots.{hole, void_is, no_hole_first, Covers, place_in, place_is, one_covers, IsIn, spot_in, IsOff, in_or_off, not_both, full_at, full_in, full_off}
+use Rattle.made_laws.proofs.RowGrid.{undrawn}
+use Rattle.made_laws.proofs.RowOutside.{unbarred_away, OfSquare, kept_away, moved_across}
+use Rattle.made_laws.proofs.RowPlaces.{first_place}
+use Rattle.made_laws.proofs.RowSpots.{hole, void_is, no_hole_first, Covers, place_in, place_is, one_covers, IsIn, spot_in, IsOff, in_or_off, not_both, full_at, full_in, full_off}
 use Rattle.drawing_maker.proofs.RowUnion.{has_side}
 
 pub placed_own : (a : Axis) (n : Cell) → placed a (coordinate a n) n ≡ n

@@ -11,8 +11,8 @@ use Rattle.solid_model.proofs.Lists.{each-at, member-filter, member-from_filter}
 use Rattle.drawing_maker.specs.declared.piece.Kind.{Kind}
 use Rattle.drawing_maker.specs.declared.piece.Kind.TheVariants.{UnitCube, HollowCube, EightVoids}
 use Rattle.drawing_maker.specs.Pieces.{Spot, side_of, spots_in, is_void}
-use Rattle.drawing_maker.specs.RowBlocks.{void_spots, block_count, same_spot, spot_place, spot_block}
-use Rattle.drawing_maker.proofs.RowSpots.{hole, void_is, no_hole_first}
+use Rattle.made_laws.specs.RowBlocks.{void_spots, block_count, same_spot, spot_place, spot_block}
+use Rattle.made_laws.proofs.RowSpots.{hole, void_is, no_hole_first}
 use Rattle.drawing_maker.proofs.RowUnion.{has_side}
 use Rattle.drawing_maker.proofs.Spots.{IsInside, member-spots_in, member-from_spots_in}
 

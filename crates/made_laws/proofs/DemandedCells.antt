@@ -20,12 +20,12 @@ use Rattle.drawing_maker.specs.declared.piece.Kind.{Kind}
 use Rattle.drawing_maker.specs.declared.piece.Piece.{Piece}
 use Rattle.drawing_maker.specs.declared.stops.Stop.{Stop}
 use Rattle.drawing_maker.specs.Pieces.{Spot, side_of, is_void, row_cells}
-use Rattle.drawing_maker.specs.RowBlocks.{void_spots, spot_place, spot_block, row_block_count}
+use Rattle.made_laws.specs.RowBlocks.{void_spots, spot_place, spot_block, row_block_count}
 use Rattle.drawing_maker.specs.Rows.{row_stops}
-use Rattle.drawing_maker.proofs.DemandedColumns.{IsProblemOf, right_axis, up_axis, away_axis, by_view, Says, says_by_spots, says_off, known_equal, sizes_are}
-use Rattle.drawing_maker.proofs.DemandedLines.{not_known_equal}
-use Rattle.drawing_maker.proofs.DemandedPieces.{spot_in}
-use Rattle.drawing_maker.proofs.DemandedPlaces.{around, is_member, stops_before, part_on, IsOff, coordinate_here, long_enough, none_behind}
+use Rattle.made_laws.proofs.DemandedColumns.{IsProblemOf, right_axis, up_axis, away_axis, by_view, Says, says_by_spots, says_off, known_equal, sizes_are}
+use Rattle.made_laws.proofs.DemandedLines.{not_known_equal}
+use Rattle.made_laws.proofs.DemandedPieces.{spot_in}
+use Rattle.made_laws.proofs.DemandedPlaces.{around, is_member, stops_before, part_on, IsOff, coordinate_here, long_enough, none_behind}
 use Rattle.drawing_maker.proofs.Rows.{Spans, LiesInPart, part_spans}
 use Rattle.drawing_maker.proofs.Spots.{full_in_spot, empty_beside}
 

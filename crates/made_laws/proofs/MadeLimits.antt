@@ -6,15 +6,15 @@ use Rattle.drawing_maker.specs.declared.piece.Kind.TheVariants.{UnitCube, Hollow
 use Rattle.drawing_maker.specs.Made.{generator_of, has_eight_voids, later_pieces, made_pieces, made_solid}
 use Rattle.drawing_maker.specs.Pieces.{next_origin}
 use Rattle.drawing_maker.proofs.Drawn.{after_two, first_by, later_by}
-use Rattle.drawing_maker.proofs.DemandedBlocks.{sum_with}
-use Rattle.drawing_maker.specs.RowBlocks.{block_count, blocks_in_row, row_block_count}
+use Rattle.made_laws.proofs.DemandedBlocks.{sum_with}
+use Rattle.made_laws.specs.RowBlocks.{block_count, blocks_in_row, row_block_count}
 use Rattle.drawing_maker.specs.Rows.{row_stops}
-use Rattle.drawing_maker.proofs.CountsOfLive.{few_live, few_solids}
-use Rattle.drawing_maker.proofs.DemandedColumns.{IsProblemOf}
-use Rattle.drawing_maker.proofs.MadeBlocks.{made_blocks, made_numbers, row_grid_coordinates}
+use Rattle.made_laws.proofs.CountsOfLive.{few_live, few_solids}
+use Rattle.made_laws.proofs.DemandedColumns.{IsProblemOf}
+use Rattle.made_laws.proofs.MadeBlocks.{made_blocks, made_numbers, row_grid_coordinates}
 use Rattle.drawing_maker.proofs.MadeRows.{made_row}
-use Rattle.drawing_maker.proofs.MadeSolid.{made_is_drawing}
-use Rattle.drawing_maker.proofs.SomeMadeGrid.{made_grid, made_grid_is}
+use Rattle.made_laws.proofs.MadeSolid.{made_is_drawing}
+use Rattle.made_laws.proofs.SomeMadeGrid.{made_grid, made_grid_is}
 use Rattle.rand_pcg.specs.Lcg.{Lcg}
 use Rattle.line_demands.proofs.LivePrefixes.{live_keeps_matching}
 use Rattle.solid_model.specs.declared.cell.Axis.{Axis}

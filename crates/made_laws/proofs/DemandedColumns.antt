@@ -19,12 +19,12 @@ use Rattle.drawing_maker.specs.declared.piece.Piece.{Piece}
 use Rattle.drawing_maker.specs.declared.stops.Part.{Part}
 use Rattle.drawing_maker.specs.declared.stops.Stop.{Stop}
 use Rattle.drawing_maker.specs.Pieces.{side_of, row_cells}
-use Rattle.drawing_maker.specs.RowBlocks.{spot_block, row_block_count, block_where, blocks_in_row}
+use Rattle.made_laws.specs.RowBlocks.{spot_block, row_block_count, block_where, blocks_in_row}
 use Rattle.drawing_maker.specs.Rows.{row_stops, coordinates_of_stops}
-use Rattle.drawing_maker.proofs.DemandedBlocks.{block_is_told, block_of_spot, no_block_between, blocks_before_are}
-use Rattle.drawing_maker.proofs.DemandedLines.{AreKnownEqual}
-use Rattle.drawing_maker.proofs.DemandedPieces.{spot_in}
-use Rattle.drawing_maker.proofs.DemandedPlaces.{around, is_member, stops_before, part_on, part_here, IsOff, part_or_off}
+use Rattle.made_laws.proofs.DemandedBlocks.{block_is_told, block_of_spot, no_block_between, blocks_before_are}
+use Rattle.made_laws.proofs.DemandedLines.{AreKnownEqual}
+use Rattle.made_laws.proofs.DemandedPieces.{spot_in}
+use Rattle.made_laws.proofs.DemandedPlaces.{around, is_member, stops_before, part_on, part_here, IsOff, part_or_off}
 use Rattle.drawing_maker.proofs.Rows.{IsRow}
 use Rattle.drawing_maker.proofs.Spots.{place_along}
 

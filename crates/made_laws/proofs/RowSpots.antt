@@ -18,10 +18,10 @@ use Rattle.drawing_maker.specs.declared.piece.Kind.TheVariants.{UnitCube, Hollow
 use Rattle.drawing_maker.specs.declared.piece.Piece.{Piece}
 use Rattle.drawing_maker.specs.declared.stops.Part.{Part}
 use Rattle.drawing_maker.specs.Pieces.{Spot, side_of, is_odd_place, is_void}
-use Rattle.drawing_maker.specs.RowBlocks.{spot_block, blocks_before, block_where}
+use Rattle.made_laws.specs.RowBlocks.{spot_block, blocks_before, block_where}
 use Rattle.drawing_maker.specs.Rows.{is_full_where}
 use Rattle.drawing_maker.proofs.Rows.{EndsBefore, IsRow, one_origin}
-use Rattle.drawing_maker.proofs.RowPlaces.{stop_count, first_place, part_at, part_there, which_part, ends_before}
+use Rattle.made_laws.proofs.RowPlaces.{stop_count, first_place, part_at, part_there, which_part, ends_before}
 
 -- ---- voids by their places
 

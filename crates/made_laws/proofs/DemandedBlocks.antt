@@ -18,9 +18,9 @@ use Rattle.drawing_maker.specs.declared.piece.Piece.{Piece}
 use Rattle.drawing_maker.specs.declared.stops.Part.{Part}
 use Rattle.drawing_maker.specs.declared.stops.Stop.{Stop}
 use Rattle.drawing_maker.specs.Pieces.{Spot}
-use Rattle.drawing_maker.specs.RowBlocks.{block_count, spot_block, blocks_before, row_block_count, part_block, block_where, blocks_in_row}
+use Rattle.made_laws.specs.RowBlocks.{block_count, spot_block, blocks_before, row_block_count, part_block, block_where, blocks_in_row}
 use Rattle.drawing_maker.specs.Rows.{row_stops}
-use Rattle.drawing_maker.proofs.DemandedPlaces.{no_stop, part_on, IsOff}
+use Rattle.made_laws.proofs.DemandedPlaces.{no_stop, part_on, IsOff}
 use Rattle.drawing_maker.proofs.Members.{length-equal_parts, get_or-equal_parts}
 use Rattle.drawing_maker.proofs.Rows.{IsRow, row_behind, EndsBefore}
 

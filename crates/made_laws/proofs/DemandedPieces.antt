@@ -10,9 +10,9 @@ use Rattle.drawing_maker.specs.declared.piece.Kind.{Kind}
 use Rattle.drawing_maker.specs.declared.piece.Kind.TheVariants.{UnitCube, HollowCube, EightVoids}
 use Rattle.drawing_maker.specs.declared.piece.Piece.{Piece}
 use Rattle.drawing_maker.specs.Pieces.{Spot, side_of, is_void}
-use Rattle.drawing_maker.specs.RowBlocks.{block_count, spot_block}
+use Rattle.made_laws.specs.RowBlocks.{block_count, spot_block}
 use Rattle.drawing_maker.proofs.Members.{member-range}
-use Rattle.drawing_maker.proofs.Parts.{PartRule, passing}
+use Rattle.made_laws.proofs.Parts.{PartRule, passing}
 
 -- ---- columns of spots
 

@@ -10,12 +10,12 @@ use Rattle.solid_model.proofs.UnionDrawing.{union_on_grid}
 use Rattle.drawing_maker.specs.declared.piece.Piece.{Piece}
 use Rattle.drawing_maker.specs.Made.{made_pieces, made_solid}
 use Rattle.drawing_maker.specs.Pieces.{row_cells}
-use Rattle.drawing_maker.specs.RowBlocks.{blocks_in_row, row_block_count}
+use Rattle.made_laws.specs.RowBlocks.{blocks_in_row, row_block_count}
 use Rattle.drawing_maker.specs.Rows.{row_stops, coordinates_of_stops}
 use Rattle.drawing_maker.proofs.DrawnAcross.{coordinate_on_grid}
 use Rattle.drawing_maker.proofs.MadeRows.{made_row}
-use Rattle.drawing_maker.proofs.MadeSolid.{made_is_drawing}
-use Rattle.drawing_maker.proofs.RowBlocks.{row_blocks, row_numbers}
+use Rattle.made_laws.proofs.MadeSolid.{made_is_drawing}
+use Rattle.made_laws.proofs.RowBlocks.{row_blocks, row_numbers}
 use Rattle.drawing_maker.proofs.RowCoordinates.{row_coordinate}
 use Rattle.drawing_maker.proofs.Rows.{IsRow}
 use Rattle.drawing_maker.proofs.RowStops.{ascends_row}

@@ -17,7 +17,7 @@ use Rattle.drawing_maker.specs.Made.{made_pieces, made_solid}
 use Rattle.drawing_maker.specs.Rows.{row_stops, coordinates_of_stops, cells_before}
 use Rattle.drawing_maker.proofs.MadeGrid.{made_coordinates, made_union}
 use Rattle.drawing_maker.proofs.MadeRows.{few_stops}
-use Rattle.drawing_maker.proofs.MadeSolid.{made_is_drawing}
+use Rattle.made_laws.proofs.MadeSolid.{made_is_drawing}
 
 -- ---- the same coordinates along each axis
 

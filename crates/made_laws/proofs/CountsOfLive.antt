@@ -14,16 +14,16 @@ use Rattle.columns.proofs.MetLines.{live_computed}
 use Rattle.drawing_maker.specs.declared.piece.Piece.{Piece}
 use Rattle.drawing_maker.specs.Made.{made_pieces}
 use Rattle.drawing_maker.specs.Pieces.{side_of}
-use Rattle.drawing_maker.specs.RowBlocks.{block_count, spot_block, row_block_count}
-use Rattle.drawing_maker.proofs.CountsOfRows.{most_in_row, few_prefixes_of_made, few_solids_of_made}
-use Rattle.drawing_maker.proofs.DemandedBlocks.{sum_with}
-use Rattle.drawing_maker.proofs.DemandedCells.{first_not_empty, voids_not_full}
-use Rattle.drawing_maker.proofs.DemandedColumns.{IsProblemOf}
-use Rattle.drawing_maker.proofs.DemandedPieces.{SpotColumn, spot_in, column_blocks, void_columns, says_full, allowed_values, rule_of, passes, all_images_pass, places_in, no_void_in, last_is_solid, each_void_column}
-use Rattle.drawing_maker.proofs.DemandedPlaces.{around}
+use Rattle.made_laws.specs.RowBlocks.{block_count, spot_block, row_block_count}
+use Rattle.made_laws.proofs.CountsOfRows.{most_in_row, few_prefixes_of_made, few_solids_of_made}
+use Rattle.made_laws.proofs.DemandedBlocks.{sum_with}
+use Rattle.made_laws.proofs.DemandedCells.{first_not_empty, voids_not_full}
+use Rattle.made_laws.proofs.DemandedColumns.{IsProblemOf}
+use Rattle.made_laws.proofs.DemandedPieces.{SpotColumn, spot_in, column_blocks, void_columns, says_full, allowed_values, rule_of, passes, all_images_pass, places_in, no_void_in, last_is_solid, each_void_column}
+use Rattle.made_laws.proofs.DemandedPlaces.{around}
 use Rattle.drawing_maker.proofs.Members.{member-range}
 use Rattle.drawing_maker.proofs.RowUnion.{has_side}
-use Rattle.drawing_maker.proofs.Parts.{Fits, all_sizes, live_in_parts, whole_in_parts}
+use Rattle.made_laws.proofs.Parts.{Fits, all_sizes, live_in_parts, whole_in_parts}
 
 -- ---- what a prefix says of a part of it
 

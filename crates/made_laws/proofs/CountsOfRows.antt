@@ -7,11 +7,11 @@ use Rattle.drawing_maker.specs.declared.piece.Kind.{Kind}
 use Rattle.drawing_maker.specs.declared.piece.Kind.TheVariants.{UnitCube, HollowCube, EightVoids}
 use Rattle.drawing_maker.specs.declared.piece.Piece.{Piece}
 use Rattle.drawing_maker.specs.Pieces.{next_origin}
-use Rattle.drawing_maker.specs.RowBlocks.{block_count}
+use Rattle.made_laws.specs.RowBlocks.{block_count}
 use Rattle.drawing_maker.specs.Made.{generator_of, kind_by, has_eight_voids, later_pieces, made_pieces}
-use Rattle.drawing_maker.proofs.DemandedPieces.{rule_of, allowed_values, one_of_unit_cubes, one_of_hollow_cubes, few_of_eight_voids}
+use Rattle.made_laws.proofs.DemandedPieces.{rule_of, allowed_values, one_of_unit_cubes, one_of_hollow_cubes, few_of_eight_voids}
 use Rattle.drawing_maker.proofs.Drawn.{after_two, first_by, later_by}
-use Rattle.drawing_maker.proofs.Parts.{most_of}
+use Rattle.made_laws.proofs.Parts.{most_of}
 
 -- what the rules of a row allow, where each prefix that ends within a piece counts w
 abbrev pub most_in_row : ℕ → List Piece → ℕ

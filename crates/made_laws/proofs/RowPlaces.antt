@@ -14,7 +14,7 @@ use Rattle.drawing_maker.specs.declared.piece.Piece.{Piece}
 use Rattle.drawing_maker.specs.declared.stops.Part.{Part}
 use Rattle.drawing_maker.specs.declared.stops.Stop.{Stop}
 use Rattle.drawing_maker.specs.Pieces.{side_of}
-use Rattle.drawing_maker.specs.RowBlocks.{block_count, blocks_before, row_block_count}
+use Rattle.made_laws.specs.RowBlocks.{block_count, blocks_before, row_block_count}
 use Rattle.drawing_maker.specs.Rows.{stop_after, row_stops}
 use Rattle.drawing_maker.proofs.Rows.{EndsBefore, IsRow, row_behind}
 use Rattle.drawing_maker.proofs.RowStops.{before_at}

@@ -18,14 +18,14 @@ use Rattle.solid_model.proofs.ConstantOnBlocks.{flat_unless_virtual}
 use Rattle.solid_model.proofs.InGrid.{placed_at}
 use Rattle.drawing_maker.specs.declared.piece.Piece.{Piece}
 use Rattle.drawing_maker.specs.Pieces.{side_of, is_void, row_cells}
-use Rattle.drawing_maker.specs.RowBlocks.{blocks_before}
+use Rattle.made_laws.specs.RowBlocks.{blocks_before}
 use Rattle.drawing_maker.specs.Rows.{row_stops, coordinates_of_stops}
 use Rattle.drawing_maker.proofs.Rows.{IsRow}
-use Rattle.drawing_maker.proofs.RowGrid.{full_on_grid, row_matches}
-use Rattle.drawing_maker.proofs.RowJoined.{placed_own, placed_twice, full_at_solid}
-use Rattle.drawing_maker.proofs.RowPlaces.{first_place}
-use Rattle.drawing_maker.proofs.RowSpots.{hole, void_is, hole_is_inner, no_hole_first, Covers, place_in, place_is, one_covers_next, IsIn, spot_in, IsOff, in_or_off, not_both, full_at, full_in, full_off, block_of, block_in, block_off}
-use Rattle.drawing_maker.proofs.SpotNumbers.{full_block}
+use Rattle.made_laws.proofs.RowGrid.{full_on_grid, row_matches}
+use Rattle.made_laws.proofs.RowJoined.{placed_own, placed_twice, full_at_solid}
+use Rattle.made_laws.proofs.RowPlaces.{first_place}
+use Rattle.made_laws.proofs.RowSpots.{hole, void_is, hole_is_inner, no_hole_first, Covers, place_in, place_is, one_covers_next, IsIn, spot_in, IsOff, in_or_off, not_both, full_at, full_in, full_off, block_of, block_in, block_off}
+use Rattle.made_laws.proofs.SpotNumbers.{full_block}
 
 module _ (ps : List Piece) (row : IsRow ps) where
   -- moved along an axis within the piece a cell stays in it

@@ -1,5 +1,5 @@
-use Rattle.drawing_maker.proofs.MadeLimits.{few_made_blocks, few_made_nodes, few_made_solids}
-use Rattle.drawing_maker.proofs.laws.made_drawings_stay_within_the_limits.Goals as goal
+use Rattle.made_laws.proofs.MadeLimits.{few_made_blocks, few_made_nodes, few_made_solids}
+use Rattle.made_laws.proofs.laws.made_drawings_stay_within_the_limits.Goals as goal
 
 pub returns-clause-blocks : goal.returns-clause-blocks
 returns-clause-blocks c = few_made_blocks

@@ -22,19 +22,19 @@ use Rattle.solid_model.proofs.OneNumbering.{one_numbering}
 use Rattle.drawing_maker.specs.declared.piece.Piece.{Piece}
 use Rattle.drawing_maker.specs.declared.stops.Stop.{Stop}
 use Rattle.drawing_maker.specs.Pieces.{Spot, side_of, row_cells}
-use Rattle.drawing_maker.specs.RowBlocks.{block_count, spot_block, blocks_before, row_block_count, block_where, blocks_in_row}
+use Rattle.made_laws.specs.RowBlocks.{block_count, spot_block, blocks_before, row_block_count, block_where, blocks_in_row}
 use Rattle.drawing_maker.specs.Rows.{row_stops, coordinates_of_stops}
 use Rattle.drawing_maker.proofs.Rows.{IsRow}
-use Rattle.drawing_maker.proofs.RowGrid.{piece_within, off_outside}
-use Rattle.drawing_maker.proofs.RowJoined.{full_joined}
-use Rattle.drawing_maker.proofs.RowOutside.{off_is_outside}
-use Rattle.drawing_maker.proofs.RowPlaces.{first_place, stop_count, part_at, ends_before, ends_within, BelongsTo, belongs_to, blocks-sum_before, blocks-sum_all}
-use Rattle.drawing_maker.proofs.RowSpots.{Covers, place_in, place_is, place_less, one_or_apart, IsIn, spot_in, IsOff, in_or_off, block_of, block_of_is, block_in, block_off}
-use Rattle.drawing_maker.proofs.RowSteps.{chain_keeps}
+use Rattle.made_laws.proofs.RowGrid.{piece_within, off_outside}
+use Rattle.made_laws.proofs.RowJoined.{full_joined}
+use Rattle.made_laws.proofs.RowOutside.{off_is_outside}
+use Rattle.made_laws.proofs.RowPlaces.{first_place, stop_count, part_at, ends_before, ends_within, BelongsTo, belongs_to, blocks-sum_before, blocks-sum_all}
+use Rattle.made_laws.proofs.RowSpots.{Covers, place_in, place_is, place_less, one_or_apart, IsIn, spot_in, IsOff, in_or_off, block_of, block_of_is, block_in, block_off}
+use Rattle.made_laws.proofs.RowSteps.{chain_keeps}
 use Rattle.drawing_maker.proofs.RowUnion.{gaps_are}
 use Rattle.drawing_maker.proofs.Spots.{IsInside}
-use Rattle.drawing_maker.proofs.Triples.{length-over_triples, get_or-over_triples}
-use Rattle.drawing_maker.proofs.SpotNumbers.{SpotBefore, block_below, one_or_full, IsFirstOf, first_of_block}
+use Rattle.made_laws.proofs.Triples.{length-over_triples, get_or-over_triples}
+use Rattle.made_laws.proofs.SpotNumbers.{SpotBefore, block_below, one_or_full, IsFirstOf, first_of_block}
 
 module _ (ps : List Piece) (row : IsRow ps) (g : GridParts) (same : (a : Axis) → coordinates_of g a ≡ coordinates_of_stops (row_stops ps))
     (grid : IsGridOf (solid_drawing (row_cells ps)) g) (is : IsDrawing (solid_drawing (row_cells ps))) where
