@@ -1,11 +1,11 @@
 //! The blocks of a grid, from its virtual faces.
 
 ghost use Rattle.std.specs.Prelude.{◌≡◌, ◌≤◌, ℕ, IfOk, IsErrOf};
-ghost use Rattle.solid_model.specs.Blocks.{IsBelow, IsBlocksOf, HasTooManyBlocks};
+ghost use Rattle.solid_model.specs.Blocks.{IsBlocksOf, HasTooManyBlocks};
+ghost use Rattle.solid_model.specs.Kept.{IsBelow, IsFaceMapOf};
 ghost use Rattle.solid_model.specs.declared.fault.Fault.{Fault};
 ghost use Rattle.solid_model.specs.Limits.{most_blocks};
 ghost use Rattle.solid_model.specs.Lists.{Each};
-ghost use Rattle.solid_model.specs.VirtualFaces.{IsFaceMapOf};
 
 use flood::{Walls, rooms_of};
 use solid_model::{Axis, Blocks, FaceMap, Fault, Grid, Memory, PerAxis, Refused};
@@ -23,7 +23,7 @@ struct FaceWalls<'a> {
 
 impl Walls for FaceWalls<'_> {
     ghost use Rattle.solid_model.specs.Marks.{is_marked, marks_along};
-    ghost use Rattle.solid_model.specs.Wire.{grid_sizes};
+    ghost use Rattle.solid_model.specs.GridBox.{grid_sizes};
 
     ghost sizes = { λ s. grid_sizes s.grid.now };
 

@@ -8,7 +8,7 @@ use Rattle.solid_model.specs.declared.line_id.LineId.{LineId}
 use Rattle.solid_model.specs.Demands.{has_line, lines_at, lines_along, lines_in, lines_of}
 use Rattle.solid_model.specs.Lists.{Member}
 use Rattle.solid_model.specs.Panels.{GridParts, joined}
-use Rattle.solid_model.specs.Wire.{grid_sizes, axis_along, axis_across}
+use Rattle.solid_model.specs.GridBox.{grid_sizes, axis_along, axis_across}
 use Rattle.solid_model.proofs.Lists.{member-append, member-append_left, member-append_right, member-map, member-from_map}
 use Rattle.solid_model.proofs.Unions.{member-joined}
 

@@ -14,7 +14,7 @@ use Rattle.solid_model.specs.Frames.{IsFrame, frame_of, along, across}
 use Rattle.solid_model.specs.Lists.{Member}
 use Rattle.solid_model.specs.PerAxis.{numbers_of}
 use Rattle.solid_model.specs.Rooms.{Sizes, is_below, is_within, number_at}
-use Rattle.solid_model.specs.Wire.{grid_sizes}
+use Rattle.solid_model.specs.GridBox.{grid_sizes}
 use Rattle.columns.proofs.AllLines.{lines_are_there, lines_are_listed}
 use Rattle.solid_model.proofs.BoxCells.{below-bounds, within-below}
 use Rattle.columns.proofs.SettledColumns.{IsEmptyBeyond}

@@ -10,7 +10,8 @@ use Rattle.solid_model.specs.DrawnStyle.{solid_drawing}
 use Rattle.solid_model.specs.Frames.{frame_of, along}
 use Rattle.solid_model.specs.Grid.{Coordinates, IsDrawnAcross, AreGridCoordinates, IsUnionOf, grid_cell_count, gaps_along}
 use Rattle.solid_model.specs.Lists.{Member, Each, Ascends}
-use Rattle.solid_model.specs.Panels.{StaysOnGrid, PanelsStyles, GridParts, coordinates_of, IsGridOf, IsGrid}
+use Rattle.solid_model.specs.Panels.{PanelsStyles, GridParts, coordinates_of, IsGridOf, IsGrid}
+use Rattle.solid_model.proofs.OnGrid.{StaysOnGrid}
 use Rattle.solid_model.specs.PerAxis.{by_axis}
 use Rattle.solid_model.specs.Runs.{IsDrawing}
 use Rattle.solid_model.proofs.Lists.{member-from_map, each-at}
@@ -18,7 +19,8 @@ use Rattle.solid_model.proofs.UnionDrawing.{union_on_grid}
 use Rattle.columns.specs.GridPanels.{ArePanels}
 use Rattle.drawing_maker.specs.declared.piece.Piece.{Piece}
 use Rattle.drawing_maker.specs.declared.stops.Stop.{Stop}
-use Rattle.drawing_maker.specs.Made.{generator_of, made_pieces, made_solid, IsMade}
+use Rattle.drawing_maker.specs.Made.{generator_of, made_pieces, made_solid}
+use Rattle.drawing_maker.specs.Making.{IsMade}
 use Rattle.drawing_maker.specs.Rows.{row_stops, coordinates_of_stops, grid_over, cells_before, AreSmall}
 use Rattle.drawing_maker.proofs.Drawn.{first_by}
 use Rattle.drawing_maker.proofs.DrawnAcross.{drawn_across, coordinate_on_grid}

@@ -1,12 +1,8 @@
 -- Made solids: a row of 14 pieces for each number, by the words of a generator (Pcg32, stream 54).
-use Rattle.std.specs.Prelude.{◌≡◌, ◌+◌, ◌%◌, ◌&&◌, nat_le, Bool, true, false, not, ℕ, zero, suc, List, [], ◌∷◌, length, if◌then◌else◌}
+use Rattle.std.specs.Prelude.{◌+◌, ◌%◌, ◌&&◌, nat_le, Bool, true, false, not, ℕ, zero, suc, List, [], ◌∷◌, if◌then◌else◌}
 use Rattle.rand_pcg.specs.Lcg.{Lcg, started, increment_of}
 use Rattle.rand_pcg.specs.Pcg.{pcg32, multiplier_64}
 use Rattle.solid_model.specs.declared.cell.Cell.{Cell}
-use Rattle.solid_model.specs.Cells.{is_full}
-use Rattle.solid_model.specs.DrawnStyle.{solid_drawing}
-use Rattle.solid_model.specs.Grid.{IsUnionOf, grid_cell_count}
-use Rattle.solid_model.specs.Panels.{GridParts, coordinates_of, IsGridOf}
 use Rattle.drawing_maker.specs.declared.piece.Kind.{Kind}
 use Rattle.drawing_maker.specs.declared.piece.Kind.TheVariants.{UnitCube, HollowCube, EightVoids}
 use Rattle.drawing_maker.specs.Pieces.{PieceParts, next_origin, row_cells}
@@ -48,9 +44,3 @@ made_pieces n =
 -- the made solid of a number
 abbrev pub made_solid : ℕ → List Cell
 made_solid n = row_cells (made_pieces n)
-
--- the grid of its drawing, and which of the grid's cells it fills, z slowest and x fastest
-pub record IsMade (n : ℕ) (g : GridParts) (chosen : List Bool) : Type 0 where
-  pub grid : IsGridOf (solid_drawing (made_solid n)) g
-  pub cells : IsUnionOf (coordinates_of g) chosen (is_full (made_solid n))
-  pub count : length chosen ≡ grid_cell_count (coordinates_of g)

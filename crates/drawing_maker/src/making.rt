@@ -2,7 +2,7 @@
 
 ghost use Rattle.std.specs.Prelude.{◌≡◌, IfOk};
 ghost use Rattle.solid_model.specs.Panels.{IsGrid};
-ghost use Rattle.drawing_maker.specs.Made.{IsMade};
+ghost use Rattle.drawing_maker.specs.Making.{IsMade};
 ghost use Rattle.drawing_maker.specs.Rows.{grid_over};
 
 use crate::cells::cells_between;

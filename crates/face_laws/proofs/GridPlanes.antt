@@ -12,7 +12,7 @@ use Rattle.face_laws.specs.GridFaces.{LiesInNumbered, AreCellsOf, face_in_space,
 use Rattle.face_laws.specs.GridRounds.{Rises}
 use Rattle.solid_model.specs.Lists.{Member, Ascends}
 use Rattle.solid_model.specs.Rooms.{is_below, is_within, box_place, place_of_number}
-use Rattle.solid_model.specs.Wire.{grid_cell_of}
+use Rattle.solid_model.specs.GridBox.{grid_cell_of}
 use Rattle.solid_model.proofs.BoxCells.{below-bounds, bounds-below, within-below, outside-below}
 use Rattle.face_laws.proofs.GridFaces.{faces_are_in_space}
 use Rattle.face_laws.proofs.GridLines.{LiesBetween}

@@ -5,7 +5,7 @@ ghost use Rattle.line_demands.specs.Broken.{TellsBroken};
 ghost use Rattle.line_demands.specs.Decisions.{decided_by};
 ghost use Rattle.solid_model.specs.declared.frame.View.TheVariants.{Top, Side};
 ghost use Rattle.solid_model.specs.Demands.{lines_at, lines_along, lines_in, lines_of};
-ghost use Rattle.solid_model.specs.Wire.{grid_sizes, axis_across};
+ghost use Rattle.solid_model.specs.GridBox.{grid_sizes, axis_across};
 
 use crate::partial::Partial;
 use solid_model::{LineId, View};

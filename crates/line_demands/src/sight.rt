@@ -9,7 +9,7 @@ ghost use Rattle.solid_model.specs.Demands.{box_cell_in};
 ghost use Rattle.solid_model.specs.Frames.{frame_of};
 ghost use Rattle.solid_model.specs.PerAxis.{numbers_of, cell_of, AreFew};
 ghost use Rattle.solid_model.specs.Rooms.{box_count, is_within};
-ghost use Rattle.solid_model.specs.Wire.{axis_along, axis_across};
+ghost use Rattle.solid_model.specs.GridBox.{axis_along, axis_across};
 
 use crate::cells::KnownCell;
 use columns::{KnownColumn, cell_in};

@@ -13,7 +13,7 @@ use Rattle.solid_model.specs.Demands.{known_cell, known_in, coordinate_on, box_c
 use Rattle.solid_model.specs.DrawnStyle.{solid_drawing}
 use Rattle.solid_model.specs.Frames.{frame_of, along, across}
 use Rattle.solid_model.specs.Panels.{coordinates_of, IsGridOf}
-use Rattle.solid_model.specs.Wire.{grid_sizes}
+use Rattle.solid_model.specs.GridBox.{grid_sizes}
 use Rattle.solid_model.proofs.Views.{across_along, views_are_frames, HasCoordinates, coordinates_at, runs_forward, stands_forward}
 use Rattle.drawing_maker.specs.declared.piece.Piece.{Piece}
 use Rattle.drawing_maker.specs.declared.stops.Part.{Part}

@@ -17,7 +17,7 @@ use Rattle.solid_model.specs.DrawnStyle.{solid_drawing, drawn_style}
 use Rattle.solid_model.specs.Frames.{frame_of}
 use Rattle.solid_model.specs.Panels.{coordinates_of, IsGridOf}
 use Rattle.solid_model.specs.Segments.{segment_at}
-use Rattle.solid_model.specs.Wire.{grid_sizes, axis_along, axis_across}
+use Rattle.solid_model.specs.GridBox.{grid_sizes, axis_along, axis_across}
 use Rattle.solid_model.proofs.ColumnRule.{columns_drawn}
 use Rattle.solid_model.proofs.Gaps.{member}
 use Rattle.solid_model.proofs.GridStyle.{grid_style-drawing}

@@ -30,7 +30,7 @@ use Rattle.solid_model.specs.Matching.{AreSolidsOf}
 use Rattle.solid_model.specs.Panels.{GridParts, coordinates_of, IsGridOf}
 use Rattle.solid_model.specs.PerAxis.{numbers_of}
 use Rattle.solid_model.specs.Tree.{live_below, live_count}
-use Rattle.solid_model.specs.Wire.{grid_sizes}
+use Rattle.solid_model.specs.GridBox.{grid_sizes}
 use Rattle.solid_model.proofs.BlockChoices.{all_solids_of_blocks}
 use Rattle.solid_model.proofs.CompleteTree.{complete_tree}
 use Rattle.solid_model.proofs.SolidOrder.{one_list_of_solids}

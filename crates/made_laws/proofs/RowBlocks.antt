@@ -14,7 +14,7 @@ use Rattle.solid_model.specs.Panels.{GridParts, coordinates_of, IsGridOf}
 use Rattle.solid_model.specs.Rooms.{is_within, number_at, IsEarlier}
 use Rattle.solid_model.specs.Runs.{IsDrawing}
 use Rattle.solid_model.specs.VirtualFaces.{IsVirtual}
-use Rattle.solid_model.specs.Wire.{grid_sizes}
+use Rattle.solid_model.specs.GridBox.{grid_sizes}
 use Rattle.solid_model.proofs.BoxPlaces.{IsCellOfBox, cell_of_box}
 use Rattle.solid_model.proofs.CellOrder.{LiesBefore, before-lies, lies-before}
 use Rattle.solid_model.proofs.Fullness.{same_coordinates}

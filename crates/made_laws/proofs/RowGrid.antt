@@ -21,7 +21,8 @@ use Rattle.solid_model.specs.Panels.{GridParts, coordinates_of, IsGridOf}
 use Rattle.solid_model.specs.Rooms.{is_below, is_within, place_of_number}
 use Rattle.solid_model.specs.Runs.{IsDrawing}
 use Rattle.solid_model.specs.Segments.{segment_at}
-use Rattle.solid_model.specs.Wire.{grid_sizes, grid_cell_of, axis_along, axis_across, grid_style, is_blank, is_drawn_from, IsGridFullness}
+use Rattle.solid_model.specs.Wire.{is_blank, is_drawn_from}
+use Rattle.solid_model.specs.GridBox.{grid_sizes, grid_cell_of, axis_along, axis_across, grid_style, IsGridFullness}
 use Rattle.solid_model.proofs.BoxCells.{within-below, below-within}
 use Rattle.solid_model.proofs.ColumnRule.{equal_columns}
 use Rattle.solid_model.proofs.Gaps.{member, member_of, begins_gap, ends_gap, last_in_none, before_first_in_none}

@@ -19,7 +19,7 @@ use Rattle.solid_model.specs.Panels.{GridParts, coordinates_of, IsGridOf}
 use Rattle.solid_model.specs.Rooms.{face_sizes, Passes}
 use Rattle.solid_model.specs.Runs.{IsDrawing}
 use Rattle.solid_model.specs.VirtualFaces.{Bars, IsVirtual}
-use Rattle.solid_model.specs.Wire.{grid_sizes, axis_along, axis_across}
+use Rattle.solid_model.specs.GridBox.{grid_sizes, axis_along, axis_across}
 use Rattle.solid_model.proofs.Chains.{reaches-onward, reaches-step_then}
 use Rattle.solid_model.proofs.InGrid.{placed_at}
 use Rattle.solid_model.proofs.Passages.{passages-back}

@@ -16,7 +16,8 @@ use Rattle.solid_model.specs.Panels.{GridParts, coordinates_of, IsGridOf}
 use Rattle.solid_model.specs.Rooms.{same_axis, face_sizes, LeadsOut}
 use Rattle.solid_model.specs.Runs.{IsDrawing}
 use Rattle.solid_model.specs.VirtualFaces.{Bars, IsVirtual}
-use Rattle.solid_model.specs.Wire.{grid_sizes, axis_along, axis_across, is_drawn_from, is_pseudo_vertex, is_drawn_or_point, is_pseudo_edge}
+use Rattle.solid_model.specs.Wire.{is_drawn_from, is_pseudo_vertex, is_drawn_or_point, is_pseudo_edge}
+use Rattle.solid_model.specs.GridBox.{grid_sizes, axis_along, axis_across}
 use Rattle.solid_model.proofs.InGrid.{before_after}
 use Rattle.drawing_maker.specs.declared.piece.Piece.{Piece}
 use Rattle.drawing_maker.specs.Pieces.{side_of, row_cells}

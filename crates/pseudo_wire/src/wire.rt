@@ -2,8 +2,9 @@
 
 ghost use Rattle.std.specs.Prelude.{IfOk, IsTrue};
 ghost use Rattle.solid_model.specs.Marks.{AreMarksOf};
-ghost use Rattle.solid_model.specs.Rooms.{edge_sizes};
-ghost use Rattle.solid_model.specs.Wire.{grid_sizes, is_pseudo_edge, IsWireOf};
+ghost use Rattle.solid_model.specs.Kept.{edge_sizes, IsWireOf};
+ghost use Rattle.solid_model.specs.Wire.{is_pseudo_edge};
+ghost use Rattle.solid_model.specs.GridBox.{grid_sizes};
 
 use crate::edges::is_pseudo_edge;
 use solid_model::{Axis, CellTest, Grid, Marks, Memory, PerAxis, Wire};
@@ -17,8 +18,9 @@ struct EdgesAlong<'a> {
 }
 
 impl CellTest for EdgesAlong<'_> {
-    ghost use Rattle.solid_model.specs.Rooms.{edge_sizes};
-    ghost use Rattle.solid_model.specs.Wire.{grid_sizes, is_pseudo_edge};
+    ghost use Rattle.solid_model.specs.Kept.{edge_sizes};
+    ghost use Rattle.solid_model.specs.Wire.{is_pseudo_edge};
+    ghost use Rattle.solid_model.specs.GridBox.{grid_sizes};
 
     ghost sizes = { λ s. edge_sizes (grid_sizes s.grid.now) s.axis };
 

@@ -6,10 +6,15 @@ use Rattle.solid_model.specs.declared.frame.View.{View}
 use Rattle.solid_model.specs.declared.frame.View.TheVariants.{Front, Top, Side}
 use Rattle.solid_model.specs.declared.segment.Segment.{Segment}
 use Rattle.solid_model.specs.declared.segment.Style.{Style}
-use Rattle.solid_model.specs.Grid.{Coordinates, AreGridCoordinates, AreCoordinatesOf, IsTooFine, IsFineEnough, IsFirstTooFine}
+use Rattle.solid_model.specs.Grid.{Coordinates, AreGridCoordinates, IsTooFine, IsFineEnough, IsFirstTooFine}
 use Rattle.solid_model.specs.Limits.{most_grid_coordinates}
 use Rattle.solid_model.specs.Panels.{GridParts, coordinates_of, panel_of, styles_along, grid_styles, IsGridOf}
 use Rattle.solid_model.proofs.InGrid.{one_coordinates}
+
+-- the coordinates of a drawing's grid, few enough along each axis
+abbrev pub AreCoordinatesOf : (Segment → Style) → Coordinates → Type 0
+AreCoordinatesOf drawing coordinates =
+    (a : Axis) → AreGridCoordinates drawing a (coordinates a) × (length (coordinates a) ≤ most_grid_coordinates)
 
 -- the first axis that is too fine, with its number of coordinates
 abbrev Same : Axis → Axis → ℕ → ℕ → Type 0

@@ -11,7 +11,7 @@ use Rattle.solid_model.specs.Panels.{GridParts, IsGridOf}
 use Rattle.solid_model.specs.PerAxis.{numbers_of}
 use Rattle.solid_model.specs.Runs.{IsDrawing}
 use Rattle.solid_model.specs.VirtualFaces.{IsVirtual}
-use Rattle.solid_model.specs.Wire.{grid_sizes}
+use Rattle.solid_model.specs.GridBox.{grid_sizes}
 use Rattle.solid_model.proofs.KeptDrawings.{lines_are_drawing}
 use Rattle.solid_model.proofs.OneNumbering.{one_numbering}
 use Rattle.solid_model.proofs.Sheets.{without_lines-empty}

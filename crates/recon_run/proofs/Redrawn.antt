@@ -21,7 +21,8 @@ use Rattle.solid_model.specs.Demands.{is_live}
 use Rattle.solid_model.specs.Grid.{Coordinates, IsUnionOf}
 use Rattle.solid_model.specs.Lists.{Each}
 use Rattle.solid_model.specs.Panels.{coordinates_of}
-use Rattle.solid_model.specs.Search.{SearchLimits, EndsAs}
+use Rattle.solid_model.specs.Search.{SearchLimits}
+use Rattle.solid_model.specs.SearchEnds.{EndsAs}
 use Rattle.solid_model.proofs.Volumes.{volume_counts}
 
 -- a property of each member is one of that at a place

@@ -21,7 +21,8 @@ use Rattle.solid_model.specs.Lists.{Member, Each}
 use Rattle.solid_model.specs.Matching.{Matches, AreSolidsOf, AreSomeSolidsOf}
 use Rattle.solid_model.specs.Orders.{IsInStatedForm}
 use Rattle.solid_model.specs.Panels.{coordinates_of}
-use Rattle.solid_model.specs.Search.{SearchLimits, AreSomeOf, EndsAs}
+use Rattle.solid_model.specs.Search.{SearchLimits}
+use Rattle.solid_model.specs.SearchEnds.{AreSomeOf, EndsAs}
 use Rattle.solid_model.specs.Tree.{live_below}
 use Rattle.solid_model.proofs.BlockChoices.{all_solids_of_blocks, some_solids_of_blocks}
 use Rattle.solid_model.proofs.CompleteTree.{complete_tree}

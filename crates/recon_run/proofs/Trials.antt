@@ -24,7 +24,7 @@ use Rattle.solid_model.specs.Limits.{most_file_bytes}
 use Rattle.solid_model.specs.Line.{Line}
 use Rattle.solid_model.specs.Matching.{AreSolidsOf}
 use Rattle.solid_model.specs.Panels.{coordinates_of, IsGridOf}
-use Rattle.solid_model.specs.Search.{EndsAs}
+use Rattle.solid_model.specs.SearchEnds.{EndsAs}
 
 module _ (n : ℕ) (t : List ℕ) (file : IsFileOf (made_solid n) t) where
   -- the lines that are read draw the made drawing

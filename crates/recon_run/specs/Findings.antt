@@ -24,7 +24,8 @@ use Rattle.solid_model.specs.Demands.{is_live}
 use Rattle.solid_model.specs.Faces.{FaceParts, AreFacesOf}
 use Rattle.solid_model.specs.Grid.{IsUnionOf}
 use Rattle.solid_model.specs.Panels.{coordinates_of}
-use Rattle.solid_model.specs.Search.{SearchLimits, EndsSearch}
+use Rattle.solid_model.specs.Search.{SearchLimits}
+use Rattle.solid_model.specs.SearchEnds.{EndsSearch}
 use Rattle.solid_model.specs.Volumes.{volume_of}
 use Rattle.tv_base.specs.Pieces.{AppendsPrefix}
 

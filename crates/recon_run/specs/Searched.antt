@@ -2,7 +2,7 @@
 use Rattle.std.specs.Prelude.{◌≤◌, length}
 use Rattle.solid_model.specs.Blocks.{ProblemParts}
 use Rattle.solid_model.specs.Limits.{most_solid_limit}
-use Rattle.solid_model.specs.Search.{SearchEnd}
+use Rattle.solid_model.specs.SearchEnds.{SearchEnd}
 
 -- a problem, and how the search of it ended
 pub record SearchedParts : Type 0 where

@@ -2,7 +2,7 @@
 
 ghost use Rattle.std.specs.Prelude.{◌≡◌, IfOk};
 ghost use Rattle.solid_model.specs.Demands.{is_live};
-ghost use Rattle.solid_model.specs.Search.{EndsSearch};
+ghost use Rattle.solid_model.specs.SearchEnds.{EndsSearch};
 
 use search_run::search_by_desk;
 use solid_model::{Ended, Limits, Memory, Problem};

@@ -16,7 +16,8 @@ use Rattle.solid_model.specs.Frames.{frame_of, along, across}
 use Rattle.solid_model.specs.Grid.{Coordinates, is_in_gap, IsUnionOf}
 use Rattle.solid_model.specs.Limits.{farthest_in_view}
 use Rattle.solid_model.specs.Lists.{Member, Each, Ascends}
-use Rattle.solid_model.specs.Panels.{joined, starts_of, PanelsStyles, panel_of, styles_along, AreGridStyles, StaysOnGrid, GridParts, coordinates_of, IsGrid}
+use Rattle.solid_model.specs.Panels.{joined, starts_of, PanelsStyles, panel_of, styles_along, AreGridStyles, GridParts, coordinates_of, IsGrid}
+use Rattle.solid_model.proofs.OnGrid.{StaysOnGrid}
 use Rattle.solid_model.specs.Runs.{run_style, IsRun, DrawingRuns, view_runs, runs_along, style_in}
 use Rattle.solid_model.specs.Segments.{segment_at}
 use Rattle.solid_model.proofs.Corners.{length-starts_of}

@@ -4,11 +4,11 @@ use Rattle.std.proofs.lemmas.Int.{ints}
 use Rattle.solid_model.specs.declared.runs.Run.{Run}
 use Rattle.solid_model.specs.declared.segment.Style.{Style}
 use Rattle.solid_model.specs.declared.segment.Style.TheVariants.{Blank}
-use Rattle.solid_model.specs.Lists.{Member, Each, pieces}
+use Rattle.solid_model.specs.Lists.{Member, Each}
+use Rattle.solid_model.proofs.Lists.{appended, each-at, each-weaker, each-appended, member-appended, member-from_appended, ascends-appended}
 use Rattle.solid_model.specs.Runs.{run_style, IsRun, StandsApart, AreRuns}
 use Rattle.solid_model.proofs.InGrid.{blank_or_drawn}
 use Rattle.solid_model.proofs.Integers.{natural}
-use Rattle.solid_model.proofs.Lists.{each-at, each-weaker, each-pieces, member-pieces, member-from_pieces, ascends-pieces}
 use Rattle.solid_model.proofs.RunStyles.{covers_parts, covers_from, covering_run}
 use Rattle.redraw.proofs.SheetLines.{style_of_run}
 use Rattle.redraw.proofs.PlacesRuns.{IsLineRun, AreFrom, some_line_runs, each_line_run, line_runs_apart, on_line_run}
@@ -32,7 +32,7 @@ module _ (drawn : ℤ → ℤ → Style) (first : ℤ) (lines : ℕ) (low : ℤ)
 
   -- those of all lines
   abbrev all_runs : List Run
-  all_runs = pieces runs_past lines
+  all_runs = appended runs_past lines
 
   -- each shows what is drawn on its line
   past : (k : ℕ) → Each (IsLineRun (first +ℤ pos k) (drawn (first +ℤ pos k)) low) (runs_past k)
@@ -44,8 +44,8 @@ module _ (drawn : ℤ → ℤ → Style) (first : ℤ) (lines : ℕ) (low : ℤ)
   -- they stand in order, apart
   all_are_runs : AreRuns all_runs
   all_are_runs = (
-    each-pieces IsRun runs_past (λ k. each-weaker (IsLineRun (first +ℤ pos k) (drawn (first +ℤ pos k)) low) IsRun (runs_past k) (λ r run. (run.long, run.shown)) (past k)) lines,
-    ascends-pieces StandsApart runs_past lines
+    each-appended IsRun runs_past (λ k. each-weaker (IsLineRun (first +ℤ pos k) (drawn (first +ℤ pos k)) low) IsRun (runs_past k) (λ r run. (run.long, run.shown)) (past k)) lines,
+    ascends-appended StandsApart runs_past lines
         (λ k l. line_runs_apart (first +ℤ pos k) (drawn (first +ℤ pos k)) low (runs_past k) (on_line (first +ℤ pos k)).1)
         (λ j k a b sooner l m n. inl (omega (arith, ints, on_past j a m, on_past k b n))),
   )
@@ -57,7 +57,7 @@ module _ (drawn : ℤ → ℤ → Style) (first : ℤ) (lines : ℕ) (low : ℤ)
   -- what lies on a run has its style, as it is drawn
   shown_by : (j y : ℤ) (r : Run) → Member all_runs r → LiesOn j y r → run_style all_runs j y ≡ drawn j y
   shown_by j y r m (on, from, to) =
-      let of = member-from_pieces runs_past lines r m in
+      let of = member-from_appended runs_past lines r m in
       let run = each-at _ (runs_past of.0) r (past of.0) of.2 in
       sym (style_of_run all_runs all_are_runs r m j y on (covers_from r y from to))
       ∙ sym (run.inside y from to) ∙ ap (λ i. drawn i y) (sym run.on ∙ on)
@@ -67,7 +67,7 @@ module _ (drawn : ℤ → ℤ → Style) (first : ℤ) (lines : ℕ) (low : ℤ)
   drawn_on_past k j y l here from shown =
       let m = on_line_run (first +ℤ pos k) (drawn (first +ℤ pos k)) low (runs_past k) (on_line (first +ℤ pos k)).1 y from
       (λ blank. shown (ap (λ i. drawn i y) (sym here) ∙ blank)) in
-      (m.0, member-pieces runs_past lines k m.0 l m.1, (on_past k m.0 m.1 ∙ here, m.2, m.3))
+      (m.0, member-appended runs_past lines k m.0 l m.1, (on_past k m.0 m.1 ∙ here, m.2, m.3))
 
   drawn_on_run : (j y : ℤ) → drawn j y ≢ Blank → (r : Run) × Member all_runs r × LiesOn j y r
   drawn_on_run j y shown =

@@ -1,11 +1,10 @@
 -- The live prefixes of full length below a prefix have no repeat: two of different sides differ.
 use Rattle.std.proofs.Common.{◌≡◌, ◌≢◌, Bool, true, false, true≢false, ℕ, zero, suc, ◌+◌, ◌<◌, List, [], ◌∷◌, ◌++◌, length, IsTrue, refl, sym, ◌∙◌, append_assoc, length-append, arith}
 use Rattle.std.proofs.lemmas.List.{append_cancel_left}
-use Rattle.solid_model.specs.Choices.{BeginsWith}
+use Rattle.solid_model.proofs.PrefixTree.{BeginsWith, live_from_begins, live_below_none, live_below_more, live_below_whole}
 use Rattle.solid_model.specs.Lists.{Each, Ascends}
 use Rattle.solid_model.specs.Tree.{Word, live_from, is_whole, live_below}
 use Rattle.solid_model.proofs.Lists.{each-weaker, each-filter, ascends-append}
-use Rattle.solid_model.proofs.PrefixTree.{live_from_begins, live_below_none, live_below_more, live_below_whole}
 use Rattle.search_core.specs.Conserves.{IsClosed}
 
 -- what begins with a list and a full block is not what begins with it and an empty one

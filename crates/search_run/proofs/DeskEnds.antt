@@ -8,7 +8,8 @@ use Rattle.solid_model.specs.declared.ended.EndKind.TheVariants.{Whole, CutNodes
 use Rattle.solid_model.specs.Choices.{ChoicePrecedes}
 use Rattle.solid_model.specs.Demands.{is_live}
 use Rattle.solid_model.specs.Lists.{Member, Each, Ascends}
-use Rattle.solid_model.specs.Search.{SearchLimits, AreSomeOf, EndsAs}
+use Rattle.solid_model.specs.Search.{SearchLimits}
+use Rattle.solid_model.specs.SearchEnds.{AreSomeOf, EndsAs}
 use Rattle.solid_model.specs.Tree.{Word, live_from, is_whole, live_below}
 use Rattle.solid_model.proofs.Lists.{each-at, each-from, member-from_filter, same_ascending}
 use Rattle.search_core.specs.Conserves.{IsClosed, EndsRightly, IsConserved}

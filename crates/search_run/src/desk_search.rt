@@ -3,7 +3,7 @@
 ghost use Rattle.std.specs.Prelude.{◌≡◌, ◌<◌, None, Some, [], IfOk, OnOk};
 ghost use Rattle.std.specs.Arc.{arc_value};
 ghost use Rattle.solid_model.specs.Demands.{is_live};
-ghost use Rattle.solid_model.specs.Search.{EndsSearch};
+ghost use Rattle.solid_model.specs.SearchEnds.{EndsSearch};
 ghost use Rattle.search_core.specs.Conserves.{IsClosed};
 ghost use Rattle.search_core.specs.Desk.{IsDesk};
 

@@ -3,13 +3,12 @@ use Rattle.std.proofs.Common.{◌≡◌, ◌⊎◌, inl, inr, ⊎_elim, Bool, tr
 use Rattle.std.proofs.lemmas.List.{take-append-le, drop-append-le, take_at, map-append}
 use Rattle.std.proofs.lemmas.List.Elements.{filter-append}
 use Rattle.std.proofs.lemmas.Bool.{cases_lt, false_from_ne_true}
-use Rattle.solid_model.specs.Choices.{BeginsWith}
+use Rattle.solid_model.proofs.PrefixTree.{BeginsWith, live_from_none, live_from_more, live_from_whole, live_from_begins}
 use Rattle.solid_model.specs.Lists.{Member, Each, Ascends}
 use Rattle.solid_model.specs.Panels.{joined}
 use Rattle.solid_model.specs.Tree.{Word, extensions, live_from, is_next_to, opened_of, rest_of}
 use Rattle.solid_model.proofs.AllowedReports.{filter_none, joined_append, last_of, next_there, next_of}
 use Rattle.solid_model.proofs.Lists.{each-at, each-from, each-append, each-weaker, each-filter, member-append, member-append_left, member-append_right, member-push_last, member-filter, ascends-append_across}
-use Rattle.solid_model.proofs.PrefixTree.{live_from_none, live_from_more, live_from_whole, live_from_begins}
 use Rattle.search_tree.specs.Walk.{after, coming}
 use Rattle.search_tree.specs.Opened.{StandsAtLast}
 use Rattle.search_tree.proofs.StatedOrder.{Before, not_itself, before_longer, one_way, each_extension, ascending_tree}

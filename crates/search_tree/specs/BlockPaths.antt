@@ -5,7 +5,7 @@ use Rattle.line_demands.specs.Decisions.{PartialParts}
 use Rattle.solid_model.specs.declared.cell.Axis.{Axis}
 use Rattle.solid_model.specs.Blocks.{ProblemParts}
 use Rattle.solid_model.specs.PerAxis.{numbers_of}
-use Rattle.solid_model.specs.Wire.{grid_sizes}
+use Rattle.solid_model.specs.GridBox.{grid_sizes}
 
 -- a problem, and the values of its first blocks
 pub record PathParts : Type 0 where

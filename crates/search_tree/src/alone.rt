@@ -3,7 +3,7 @@
 ghost use Rattle.std.specs.Prelude.{◌≡◌, [], IfOk};
 ghost use Rattle.std.specs.Arc.{arc_value};
 ghost use Rattle.solid_model.specs.Demands.{is_live};
-ghost use Rattle.solid_model.specs.Search.{EndsSearch};
+ghost use Rattle.solid_model.specs.SearchEnds.{EndsSearch};
 
 use crate::block_path::BlockPath;
 use crate::opened::{is_whole, keep_whole};

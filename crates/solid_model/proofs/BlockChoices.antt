@@ -16,7 +16,7 @@ use Rattle.solid_model.specs.Orders.{SolidPrecedes}
 use Rattle.solid_model.specs.Panels.{GridParts, coordinates_of, IsGridOf}
 use Rattle.solid_model.specs.Rooms.{is_within, number_at}
 use Rattle.solid_model.specs.VirtualFaces.{IsVirtual}
-use Rattle.solid_model.specs.Wire.{grid_sizes, grid_cell_of}
+use Rattle.solid_model.specs.GridBox.{grid_sizes, grid_cell_of}
 use Rattle.solid_model.proofs.BoxPlaces.{cell_of_place, cell_of_place-within, cell_of_place-there}
 use Rattle.solid_model.proofs.ChosenSolids.{union_precedes, matching_union}
 use Rattle.solid_model.proofs.ConstantOnBlocks.{same_in_joined, empty_in_outside}

@@ -10,7 +10,8 @@ use Rattle.solid_model.specs.declared.per_axis.PerAxis.{PerAxis}
 use Rattle.solid_model.specs.Cells.{cell_at}
 use Rattle.solid_model.specs.Orders.{ComesBefore}
 use Rattle.solid_model.specs.PerAxis.{numbers_of, cell_of, numbered, AreFew}
-use Rattle.solid_model.specs.Rooms.{Sizes, is_below, is_within, box_place, box_count, same_axis, edge_sizes, face_sizes}
+use Rattle.solid_model.specs.Rooms.{Sizes, is_below, is_within, box_place, box_count, same_axis, face_sizes}
+use Rattle.solid_model.specs.Kept.{edge_sizes}
 use Rattle.solid_model.proofs.CellOrder.{LiesBefore, before-lies, one_or_before}
 use Rattle.solid_model.proofs.Unions.{within_product}
 

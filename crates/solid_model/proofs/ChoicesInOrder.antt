@@ -1,10 +1,10 @@
 -- Choices that begin with given values: with one more value they are those that have it full, and then those that have it empty.
 use Rattle.std.proofs.Common.{◌≡◌, ◌⊎◌, inl, inr, ℕ, zero, suc, ◌+◌, ◌<◌, Bool, true, false, List, [], ◌∷◌, ◌++◌, length, refl, sym, ◌∙◌, ap, subst, append_assoc, arith}
 use Rattle.std.proofs.lemmas.List.{append-nil, length-append}
-use Rattle.solid_model.specs.Choices.{BeginsWith, ChoicePrecedes, AreChoicesThat}
+use Rattle.solid_model.specs.Choices.{ChoicePrecedes, AreChoicesThat}
+use Rattle.solid_model.proofs.PrefixTree.{BeginsWith, begins_without}
 use Rattle.solid_model.specs.Lists.{Member, Each}
 use Rattle.solid_model.proofs.Lists.{member-append_left, member-append_right, each-weaker, each-append, ascends-append}
-use Rattle.solid_model.proofs.PrefixTree.{begins_without}
 
 -- a choice that is longer than the values with which it begins has a value more, full or empty
 one_value_more : (chosen choice : List Bool) → length chosen < length choice → BeginsWith chosen choice

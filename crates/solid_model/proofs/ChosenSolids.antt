@@ -14,7 +14,7 @@ use Rattle.solid_model.specs.Grid.{Coordinates, AreGridCoordinates, GridCell, Li
 use Rattle.solid_model.specs.Lists.{Member, Ascends}
 use Rattle.solid_model.specs.Matching.{Matches}
 use Rattle.solid_model.specs.Orders.{ComesBefore, Precedes}
-use Rattle.solid_model.specs.Wire.{grid_cell_of}
+use Rattle.solid_model.specs.GridBox.{grid_cell_of}
 use Rattle.solid_model.proofs.BoxPlaces.{cell_of_place, cell_of_place-within, cell_of_place-there}
 use Rattle.solid_model.proofs.CellOrder.{LiesBefore, before-lies, lies-before, before_one_way, not_before_itself}
 use Rattle.solid_model.proofs.Corners.{corners, corner_of, corner_lies, corner_at_place, length-corners, place_within, ascends-corners, lying-is_grid_cell, within-is_grid_cell, begins_no_later, IsGridCell}

@@ -14,7 +14,7 @@ use Rattle.solid_model.specs.Matching.{Matches}
 use Rattle.solid_model.specs.Panels.{GridParts, coordinates_of, IsGridOf}
 use Rattle.solid_model.specs.Rooms.{is_below, is_within, same_axis, face_sizes, Passes, LeadsOut}
 use Rattle.solid_model.specs.VirtualFaces.{axis_across_both, is_barred, Bars, IsVirtual}
-use Rattle.solid_model.specs.Wire.{grid_sizes, grid_cell_of, IsGridFullness}
+use Rattle.solid_model.specs.GridBox.{grid_sizes, grid_cell_of, IsGridFullness}
 use Rattle.solid_model.proofs.BoxCells.{below-more, below-next, outside-below}
 use Rattle.solid_model.proofs.Chains.{reaches-keeps}
 use Rattle.solid_model.proofs.GridFillings.{IsFlatFace, flat_after, flat_before}

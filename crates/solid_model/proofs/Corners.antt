@@ -12,7 +12,7 @@ use Rattle.solid_model.specs.Lists.{Member, Each, Ascends}
 use Rattle.solid_model.specs.Orders.{ComesBefore}
 use Rattle.solid_model.specs.Panels.{joined, starts_of}
 use Rattle.solid_model.specs.Rooms.{is_within}
-use Rattle.solid_model.specs.Wire.{grid_cell_of}
+use Rattle.solid_model.specs.GridBox.{grid_cell_of}
 use Rattle.solid_model.proofs.BoxCells.{place-below, within-below}
 use Rattle.solid_model.proofs.CellOrder.{lies-before}
 use Rattle.solid_model.proofs.Lists.{each-at, each-from, each-append, each-map, ascends-append}

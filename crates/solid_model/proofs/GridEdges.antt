@@ -12,7 +12,8 @@ use Rattle.solid_model.specs.Frames.{frame_of, point_on, at_places}
 use Rattle.solid_model.specs.Matching.{Matches}
 use Rattle.solid_model.specs.Panels.{GridParts, coordinates_of, IsGridOf}
 use Rattle.solid_model.specs.Segments.{segment_at}
-use Rattle.solid_model.specs.Wire.{axis_along, axis_across, is_blank, is_drawn_from, IsGridFullness}
+use Rattle.solid_model.specs.Wire.{is_blank, is_drawn_from}
+use Rattle.solid_model.specs.GridBox.{axis_along, axis_across, IsGridFullness}
 use Rattle.solid_model.proofs.Gaps.{member_of}
 use Rattle.solid_model.proofs.GridFullness.{IsEdgeWithin, edge_within, unit_edge}
 use Rattle.solid_model.proofs.GridStyle.{grid_style-at}

@@ -15,7 +15,7 @@ use Rattle.solid_model.specs.Lists.{Ascends}
 use Rattle.solid_model.specs.Matching.{Matches}
 use Rattle.solid_model.specs.Panels.{GridParts, coordinates_of, IsGridOf}
 use Rattle.solid_model.specs.Rooms.{is_below, is_within, place_of_number}
-use Rattle.solid_model.specs.Wire.{grid_sizes, grid_cell_of, IsGridFullness}
+use Rattle.solid_model.specs.GridBox.{grid_sizes, grid_cell_of, IsGridFullness}
 use Rattle.solid_model.proofs.BoxCells.{below-more, below-next, within-below, outside-below}
 use Rattle.solid_model.proofs.Gaps.{member_of, begins_gap, ends_gap, last_in_none, before_first_in_none}
 use Rattle.solid_model.proofs.InGrid.{agree_in_grid_cell, lies_in_grid}

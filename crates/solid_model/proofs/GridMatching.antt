@@ -14,10 +14,10 @@ use Rattle.solid_model.specs.Frames.{frame_of}
 use Rattle.solid_model.specs.Grid.{IsUnionOf}
 use Rattle.solid_model.specs.Lists.{Ascends}
 use Rattle.solid_model.specs.Matching.{Matches}
-use Rattle.solid_model.specs.Panels.{PanelsStyles, panel_of, styles_along, grid_styles, AreGridStyles, GridParts, coordinates_of, IsGridOf, StaysOnGrid}
+use Rattle.solid_model.specs.Panels.{PanelsStyles, panel_of, styles_along, grid_styles, AreGridStyles, GridParts, coordinates_of, IsGridOf}
+use Rattle.solid_model.proofs.OnGrid.{StaysOnGrid, on_own_grid}
 use Rattle.solid_model.specs.Runs.{IsDrawing}
 use Rattle.solid_model.proofs.Fullness.{solid_with}
-use Rattle.solid_model.proofs.OnGrid.{on_own_grid}
 use Rattle.solid_model.proofs.SameOnGrid.{same_everywhere}
 use Rattle.solid_model.proofs.Styles.{one_style, drawn_style_drawn, HasCellBeside, cell_beside_drawn}
 use Rattle.solid_model.proofs.UnionDrawing.{union_on_grid}

@@ -9,7 +9,7 @@ use Rattle.solid_model.specs.declared.segment.Style.TheVariants.{Blank}
 use Rattle.solid_model.specs.Panels.{GridParts, coordinates_of, starts_of, AreGridStyles}
 use Rattle.solid_model.specs.Rooms.{is_below}
 use Rattle.solid_model.specs.Segments.{segment_at}
-use Rattle.solid_model.specs.Wire.{grid_sizes, axis_along, axis_across, grid_style}
+use Rattle.solid_model.specs.GridBox.{grid_sizes, axis_along, axis_across, grid_style}
 use Rattle.solid_model.proofs.Corners.{length-starts_of}
 use Rattle.solid_model.proofs.Gaps.{member, member_of}
 use Rattle.solid_model.proofs.Unions.{get_or-joined}

@@ -2,7 +2,7 @@
 use Rattle.std.proofs.Common.{◌≡◌, ◌⊎◌, inl, inr, ℕ, zero, suc, ◌<◌, ◌*◌, Bool, true, false, cond, List, [], ◌∷◌, ◌++◌, map, filter, ℤ, ◌≤ℤ◌, length, length-append, refl, sym, ◌∙◌, ap, ap₂, subst, arith}
 use Rattle.std.proofs.lemmas.Int.{ints, by_lt_z}
 use Rattle.std.proofs.lemmas.Bool.{both_ways, cases_lt}
-use Rattle.solid_model.specs.Lists.{Member, Each, Ascends, pieces}
+use Rattle.solid_model.specs.Lists.{Member, Each, Ascends}
 
 -- ---- members
 
@@ -173,43 +173,43 @@ ascends-filter p R (x ∷ xs) h = at (p x) (ascends-filter p R xs h.1)
     at true rest = (each-filter p (R x) xs h.0, rest)
     at false rest = rest
 
--- ---- pieces, one after another
+-- ---- lists, one after another
 
--- what holds of each member of each piece holds of each member of the pieces together
-pub each-pieces : {A : Type 0} (P : A → Type 0) (f : ℕ → List A) → ((k : ℕ) → Each P (f k)) → (n : ℕ) → Each P (pieces f n)
-each-pieces P f each zero = tt
-each-pieces P f each (suc n) = each-append P (pieces f n) (f n) (each-pieces P f each n) (each n)
+-- the first n lists that a function gives, one after another
+abbrev pub appended : {A : Type 0} → (ℕ → List A) → ℕ → List A
+appended f zero = []
+appended f (suc n) = appended f n ++ f n
 
--- pieces of one length
-pub length-pieces : {A : Type 0} (f : ℕ → List A) (m : ℕ) → ((k : ℕ) → length (f k) ≡ m) → (n : ℕ) → length (pieces f n) ≡ n * m
-length-pieces f m each zero = omega arith
-length-pieces f m each (suc n) = omega (arith, length-append (pieces f n) (f n), length-pieces f m each n, each n)
+-- what holds of each member of each list holds of each member of them together
+pub each-appended : {A : Type 0} (P : A → Type 0) (f : ℕ → List A) → ((k : ℕ) → Each P (f k)) → (n : ℕ) → Each P (appended f n)
+each-appended P f each zero = tt
+each-appended P f each (suc n) = each-append P (appended f n) (f n) (each-appended P f each n) (each n)
 
--- a member of a piece is a member of the pieces together
-pub member-pieces : {A : Type 0} (f : ℕ → List A) (n k : ℕ) (x : A) → k < n → Member (f k) x → Member (pieces f n) x
-member-pieces f zero k x l m = absurd (omega arith)
-member-pieces f (suc n) k x l m = elim (cases_lt k n) as (λ _. Member (pieces f n ++ f n) x) [
-  | inl earlier ↦ member-append_left (pieces f n) (f n) x (member-pieces f n k x earlier m)
-  | inr later ↦ (let last : k ≡ n = omega arith in member-append_right (pieces f n) (f n) x (subst (λ j. Member (f j) x) last m))
+-- a member of a list is a member of them together
+pub member-appended : {A : Type 0} (f : ℕ → List A) (n k : ℕ) (x : A) → k < n → Member (f k) x → Member (appended f n) x
+member-appended f zero k x l m = absurd (omega arith)
+member-appended f (suc n) k x l m = elim (cases_lt k n) as (λ _. Member (appended f n ++ f n) x) [
+  | inl earlier ↦ member-append_left (appended f n) (f n) x (member-appended f n k x earlier m)
+  | inr later ↦ (let last : k ≡ n = omega arith in member-append_right (appended f n) (f n) x (subst (λ j. Member (f j) x) last m))
 ]
 
--- a member of the pieces together is a member of some piece
-pub member-from_pieces : {A : Type 0} (f : ℕ → List A) (n : ℕ) (x : A) → Member (pieces f n) x → (k : ℕ) × (k < n) × Member (f k) x
-member-from_pieces f zero x m = absurd m
-member-from_pieces f (suc n) x m = elim (member-append (pieces f n) (f n) x m) as (λ _. (k : ℕ) × (k < suc n) × Member (f k) x) [
-  | inl l ↦ (let p = member-from_pieces f n x l in (p.0, omega arith, p.2))
+-- a member of them together is a member of some list
+pub member-from_appended : {A : Type 0} (f : ℕ → List A) (n : ℕ) (x : A) → Member (appended f n) x → (k : ℕ) × (k < n) × Member (f k) x
+member-from_appended f zero x m = absurd m
+member-from_appended f (suc n) x m = elim (member-append (appended f n) (f n) x m) as (λ _. (k : ℕ) × (k < suc n) × Member (f k) x) [
+  | inl l ↦ (let p = member-from_appended f n x l in (p.0, omega arith, p.2))
   | inr l ↦ (n, omega arith, l)
 ]
 
--- ascending pieces ascend together, where each member of a piece stands in the relation to each of a later one
-pub ascends-pieces : {A : Type 0} (R : A → A → Type 0) (f : ℕ → List A) (n : ℕ) → ((k : ℕ) → k < n → Ascends R (f k))
-    → ((j k : ℕ) (x y : A) → j < k → k < n → Member (f j) x → Member (f k) y → R x y) → Ascends R (pieces f n)
-ascends-pieces R f zero each across = tt
-ascends-pieces R f (suc n) each across =
-    ascends-append R (pieces f n) (f n)
-    (ascends-pieces R f n (λ k l. each k (omega arith)) (λ j k x y earlier l. across j k x y earlier (omega arith))) (each n (omega arith))
-    (each-from (λ x. Each (R x) (f n)) (pieces f n) (λ x m. each-from (R x) (f n) (λ y l.
-    let p = member-from_pieces f n x m in across p.0 n x y p.1 (omega arith) p.2 l)))
+-- ascending lists ascend together, where each member of a list stands in the relation to each of a later one
+pub ascends-appended : {A : Type 0} (R : A → A → Type 0) (f : ℕ → List A) (n : ℕ) → ((k : ℕ) → k < n → Ascends R (f k))
+    → ((j k : ℕ) (x y : A) → j < k → k < n → Member (f j) x → Member (f k) y → R x y) → Ascends R (appended f n)
+ascends-appended R f zero each across = tt
+ascends-appended R f (suc n) each across =
+    ascends-append R (appended f n) (f n)
+    (ascends-appended R f n (λ k l. each k (omega arith)) (λ j k x y earlier l. across j k x y earlier (omega arith))) (each n (omega arith))
+    (each-from (λ x. Each (R x) (f n)) (appended f n) (λ x m. each-from (R x) (f n) (λ y l.
+    let p = member-from_appended f n x m in across p.0 n x y p.1 (omega arith) p.2 l)))
 
 -- ---- two ascending lists with the same members
 

@@ -9,10 +9,20 @@ use Rattle.solid_model.specs.declared.segment.Style.TheVariants.{Blank, Dashed, 
 use Rattle.solid_model.specs.Frames.{frame_of, along, across}
 use Rattle.solid_model.specs.Grid.{AreGridCoordinates, is_in_gap, IsInSomeGap, Coordinates}
 use Rattle.solid_model.specs.Lists.{Member}
-use Rattle.solid_model.specs.Panels.{StaysOnGrid}
 use Rattle.solid_model.specs.Runs.{IsDrawing}
 use Rattle.solid_model.specs.Segments.{segment_at}
 use Rattle.solid_model.proofs.InGrid.{blank_or_drawn, gap_at, some_gap_or_outside, steady_between}
+
+-- A drawing stays on a grid with these coordinates: off the lines of the grid, and before and past the grid along a line, it
+-- is blank, and between two neighbouring coordinates along a line it doesn't change.
+pub record StaysOnGrid (coordinates : Coordinates) (drawing : Segment → Style) : Type 0 where
+  pub off_lines : (v : View) (upright : Bool) (start line : ℤ) → (Member (coordinates (across (frame_of v) upright).axis) line → ⊥)
+      → drawing (segment_at v upright start line) ≡ Blank
+  pub off_ends : (v : View) (upright : Bool) (start line : ℤ) → (IsInSomeGap (coordinates (along (frame_of v) upright).axis) start → ⊥)
+      → drawing (segment_at v upright start line) ≡ Blank
+  pub steady : (v : View) (upright : Bool) (n : ℕ) (start other line : ℤ) → IsTrue (is_in_gap (coordinates (along (frame_of v) upright).axis) n start)
+      → IsTrue (is_in_gap (coordinates (along (frame_of v) upright).axis) n other)
+      → drawing (segment_at v upright start line) ≡ drawing (segment_at v upright other line)
 
 -- ---- the drawing of which it is the grid
 

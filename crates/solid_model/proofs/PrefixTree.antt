@@ -3,10 +3,13 @@ use Rattle.std.proofs.Common.{◌≡◌, Bool, true, false, ℕ, zero, suc, ◌+
 use Rattle.std.proofs.lemmas.Bool.{both_ways}
 use Rattle.std.proofs.lemmas.Bool.Decides.{nat_tests}
 use Rattle.std.proofs.lemmas.List.Elements.{filter-append}
-use Rattle.solid_model.specs.Choices.{BeginsWith}
 use Rattle.solid_model.specs.Lists.{Each}
 use Rattle.solid_model.specs.Tree.{Word, extensions, live_from, live_count, is_whole, live_below}
 use Rattle.solid_model.proofs.Lists.{each-weaker, each-append, each-from, each-at, member-from_filter}
+
+-- the choice begins with these values
+abbrev pub BeginsWith : List Bool → List Bool → Type 0
+BeginsWith chosen choice = (rest : List Bool) × (choice ≡ chosen ++ rest)
 
 -- ---- beginnings
 

@@ -15,7 +15,8 @@ use Rattle.solid_model.specs.Frames.{frame_of}
 use Rattle.solid_model.specs.Matching.{Matches}
 use Rattle.solid_model.specs.Panels.{GridParts, IsGridOf}
 use Rattle.solid_model.specs.Rooms.{same_axis}
-use Rattle.solid_model.specs.Wire.{grid_sizes, axis_along, is_drawn_from, is_end_of_drawn, is_on_drawn, is_pseudo_vertex, is_drawn_or_point, is_pseudo_edge, IsGridFullness}
+use Rattle.solid_model.specs.Wire.{is_drawn_from, is_end_of_drawn, is_on_drawn, is_pseudo_vertex, is_drawn_or_point, is_pseudo_edge}
+use Rattle.solid_model.specs.GridBox.{grid_sizes, axis_along, IsGridFullness}
 use Rattle.solid_model.proofs.BoxCells.{below-bounds}
 use Rattle.solid_model.proofs.GridEdges.{edge_drawn}
 use Rattle.solid_model.proofs.GridFillings.{IsEdgeAt, turns_where_it_ends}

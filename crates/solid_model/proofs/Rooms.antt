@@ -1,6 +1,6 @@
 -- The rooms of a box: of walls that stand in the same places, and their numbers.
 use Rattle.std.proofs.Common.{◌≡◌, ◌↔◌, ℕ, ◌<◌, List, get_or, Option, Some, None, IsTrue, ap, subst, ◌∙◌}
-use Rattle.solid_model.specs.Blocks.{IsBelow}
+use Rattle.solid_model.specs.Kept.{IsBelow}
 use Rattle.solid_model.specs.declared.cell.Axis.{Axis}
 use Rattle.solid_model.specs.declared.cell.Cell.{Cell}
 use Rattle.solid_model.specs.Chains.{Reaches}

@@ -11,7 +11,7 @@ use Rattle.solid_model.specs.Panels.{GridParts, IsGrid, coordinates_of}
 use Rattle.solid_model.specs.PerAxis.{numbers_of, cell_of}
 use Rattle.solid_model.specs.Rooms.{Sizes, is_within, box_place, box_count}
 use Rattle.solid_model.specs.Volumes.{gap_width, grid_cell_volume, grid_cell_at, volume_below}
-use Rattle.solid_model.specs.Wire.{grid_cell_of}
+use Rattle.solid_model.specs.GridBox.{grid_cell_of}
 use Rattle.solid_model.proofs.BoxPlaces.{cell_of_place, cell_of_place-own}
 use Rattle.solid_model.proofs.Gaps.{member}
 use Rattle.solid_model.proofs.SomeGrid.{coordinate_near}

@@ -13,7 +13,7 @@ use Rattle.solid_model.specs.DrawnStyle.{solid_drawing}
 use Rattle.solid_model.specs.Frames.{frame_of, along, across, cell_on}
 use Rattle.solid_model.specs.Grid.{Coordinates, GridCell, is_in_gap, IsInSomeGap, LiesInGridCell, LiesInGrid, IsUnionOf}
 use Rattle.solid_model.specs.Lists.{Member, Ascends}
-use Rattle.solid_model.specs.Panels.{StaysOnGrid}
+use Rattle.solid_model.proofs.OnGrid.{StaysOnGrid}
 use Rattle.solid_model.specs.Segments.{segment_at}
 use Rattle.solid_model.proofs.ColumnRule.{equal_columns}
 use Rattle.solid_model.proofs.InGrid.{between_members, gap_or_none}

@@ -7,7 +7,8 @@ use Rattle.solid_model.specs.declared.cell.Axis.TheVariants.{X, Y, Z}
 use Rattle.solid_model.specs.declared.cell.Cell.{Cell}
 use Rattle.solid_model.specs.Cells.{coordinate, cell_at, is_full}
 use Rattle.solid_model.specs.Grid.{Coordinates, GridCell, is_in_gap, LiesInGridCell, LiesInGrid, gaps_along, grid_cell_count, grid_cell_place, IsUnionOf}
-use Rattle.solid_model.specs.Lists.{Member, Ascends, pieces}
+use Rattle.solid_model.specs.Lists.{Member, Ascends}
+use Rattle.solid_model.proofs.Lists.{appended, member-append, member-from_map, each-from, member-appended, member-from_appended, ascends-appended}
 use Rattle.solid_model.specs.Orders.{ComesBefore, IsInStatedForm}
 use Rattle.solid_model.specs.Panels.{joined}
 use Rattle.solid_model.specs.Rooms.{place_of_number, box_place}
@@ -18,7 +19,6 @@ use Rattle.solid_model.proofs.Corners.{ascends-cells_over}
 use Rattle.solid_model.proofs.Fullness.{is_full-member, member-is_full}
 use Rattle.solid_model.proofs.Gaps.{member, lies_in, in_gap, earlier_less}
 use Rattle.solid_model.proofs.Integers.{natural}
-use Rattle.solid_model.proofs.Lists.{member-append, member-from_map, each-from, member-pieces, member-from_pieces, ascends-pieces}
 use Rattle.solid_model.proofs.UnionDrawing.{in_grid_or_not}
 use Rattle.solid_model.proofs.Unions.{cells_over, member-cells_over, length-cells_over, range_from, member-range_from, one_grid_cell}
 use Rattle.solid_model.proofs.WithoutRepeats.{ascends-weaker, equally_long}
@@ -190,12 +190,12 @@ module _ (coordinates : Coordinates) (ascends : (a : Axis) → Ascends ◌<ℤ�
     cells_at_place p = if slice_index_or chosen p false then cells_in (grid_cell_at coordinates p) else []
 
     abbrev placed_cells : List Cell
-    placed_cells = pieces cells_at_place (grid_cell_count coordinates)
+    placed_cells = appended cells_at_place (grid_cell_count coordinates)
 
-    length-places : (n : ℕ) → length (pieces cells_at_place n) ≡ volume_below coordinates chosen n
+    length-places : (n : ℕ) → length (appended cells_at_place n) ≡ volume_below coordinates chosen n
     length-places zero = refl
     length-places (suc n) =
-        length-append (pieces cells_at_place n) (cells_at_place n) ∙ ap₂ ◌+◌ (length-places n) (at (slice_index_or chosen n false))
+        length-append (appended cells_at_place n) (cells_at_place n) ∙ ap₂ ◌+◌ (length-places n) (at (slice_index_or chosen n false))
       where
         at : (t : Bool) → length (if t then cells_in (grid_cell_at coordinates n) else [])
             ≡ (if t then grid_cell_volume coordinates (grid_cell_at coordinates n) else 0)
@@ -213,7 +213,7 @@ module _ (coordinates : Coordinates) (ascends : (a : Axis) → Ascends ◌<ℤ�
 
     -- no unit cell is there twice
     places_once : Ascends ◌≢◌ placed_cells
-    places_once = ascends-pieces ◌≢◌ cells_at_place (grid_cell_count coordinates) (λ k l. at k (slice_index_or chosen k false)) across
+    places_once = ascends-appended ◌≢◌ cells_at_place (grid_cell_count coordinates) (λ k l. at k (slice_index_or chosen k false)) across
       where
         at : (k : ℕ) (t : Bool) → Ascends ◌≢◌ (if t then cells_in (grid_cell_at coordinates k) else [])
         at k true = ascends-weaker ComesBefore ◌≢◌ _ before_differs (ascends-cells_in (grid_cell_at coordinates k))
@@ -229,7 +229,7 @@ module _ (coordinates : Coordinates) (ascends : (a : Axis) → Ascends ◌<ℤ�
     module _ (s : List Cell) (union : IsUnionOf coordinates chosen (is_full s)) where
       places_full : (c : Cell) → Member placed_cells c → Member s c
       places_full c k =
-          let found = member-from_pieces cells_at_place (grid_cell_count coordinates) c k in
+          let found = member-from_appended cells_at_place (grid_cell_count coordinates) c k in
           let at = cells_at_place-lie found.0 c found.1 found.2 in
           is_full-member s c (union.inside _ c at.1 ∙ ap (λ p. slice_index_or chosen p false) (own_place found.0) ∙ at.0)
 
@@ -240,7 +240,7 @@ module _ (coordinates : Coordinates) (ascends : (a : Axis) → Ascends ◌<ℤ�
           by (inl (n, lies)) =
               let p = grid_cell_place coordinates n in
               let is_chosen : slice_index_or chosen p false ≡ true = sym (union.inside n c lies) ∙ member-is_full s c k in
-              member-pieces cells_at_place (grid_cell_count coordinates) p c (place_counted n c lies)
+              member-appended cells_at_place (grid_cell_count coordinates) p c (place_counted n c lies)
               (subst (λ t. Member (if t then cells_in (grid_cell_at coordinates p) else []) c) (sym is_chosen)
               (lying-cells_in (grid_cell_at coordinates p) c (lies_at_place n c lies)))
           by (inr none) = absurd (both_ways (is_full s c) (union.outside c none) (member-is_full s c k))

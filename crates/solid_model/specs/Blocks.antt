@@ -1,16 +1,15 @@
 -- The blocks of a grid: grid cells that chains join which cross no virtual face.
-use Rattle.std.specs.Prelude.{◌≡◌, ◌<◌, ℕ, List, length, Option, Some, None, if◌then◌else◌}
+use Rattle.std.specs.Prelude.{◌≡◌, ◌<◌, ℕ, List, Option, None, if◌then◌else◌}
 use Rattle.solid_model.specs.declared.cell.Axis.{Axis}
 use Rattle.solid_model.specs.declared.cell.Cell.{Cell}
 use Rattle.solid_model.specs.declared.per_axis.PerAxis.{PerAxis}
 use Rattle.solid_model.specs.Chains.{Reaches}
 use Rattle.solid_model.specs.Limits.{most_blocks}
-use Rattle.solid_model.specs.Lists.{Each}
 use Rattle.solid_model.specs.Panels.{GridParts}
-use Rattle.solid_model.specs.PerAxis.{numbers_of, AreFew}
-use Rattle.solid_model.specs.Rooms.{box_count, is_within, Passes, LeadsOut, number_at, AreRooms}
+use Rattle.solid_model.specs.PerAxis.{numbers_of}
+use Rattle.solid_model.specs.Rooms.{is_within, Passes, LeadsOut, number_at, AreRooms}
 use Rattle.solid_model.specs.VirtualFaces.{IsVirtual}
-use Rattle.solid_model.specs.Wire.{grid_sizes}
+use Rattle.solid_model.specs.GridBox.{grid_sizes}
 
 -- a chain that crosses no virtual face joins two grid cells
 abbrev pub Joined : GridParts → Cell → Cell → Type 0
@@ -25,11 +24,6 @@ IsOutside g = LeadsOut (grid_sizes g) (IsVirtual g)
 abbrev pub AreBlocksOf : GridParts → List (Option ℕ) → ℕ → Type 0
 AreBlocksOf g = AreRooms (grid_sizes g) (IsVirtual g)
 
--- a cell's number, if it has one, is below this
-abbrev pub IsBelow : ℕ → Option ℕ → Type 0
-IsBelow n None = Unit {0}
-IsBelow n (Some k) = k < n
-
 -- there are more of them than may be, and this is their number
 abbrev pub HasTooManyBlocks : GridParts → ℕ → Type 0
 HasTooManyBlocks g count = (numbers : List (Option ℕ)) × AreBlocksOf g numbers count × (most_blocks < count)
@@ -41,12 +35,6 @@ pub record BlockNumbers : Type 0 where
   pub sizes : PerAxis
   pub numbers : List (Option ℕ)
   pub count : ℕ
-
--- each cell has a number or none, and the numbers are below the count
-pub record AreNumbers (b : BlockNumbers) : Type 0 where
-  pub few : AreFew (numbers_of b.sizes)
-  pub listed : length b.numbers ≡ box_count (numbers_of b.sizes)
-  pub below : Each (IsBelow b.count) b.numbers
 
 -- the block of a cell; beyond the box there is none
 abbrev pub block_at : BlockNumbers → Cell → Option ℕ

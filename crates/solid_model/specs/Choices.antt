@@ -1,5 +1,5 @@
 -- Choices of items, each of which is some of the grid's cells, as blocks are.
-use Rattle.std.specs.Prelude.{◌≡◌, ◌⊎◌, Bool, true, false, ℕ, List, [], ◌∷◌, ◌++◌, length, map, slice_index_or, Option, Some, None}
+use Rattle.std.specs.Prelude.{◌≡◌, ◌⊎◌, Bool, true, false, ℕ, List, [], ◌∷◌, length, map, slice_index_or, Option, Some, None}
 use Rattle.solid_model.specs.declared.cell.Cell.{Cell}
 use Rattle.solid_model.specs.declared.segment.Segment.{Segment}
 use Rattle.solid_model.specs.declared.segment.Style.{Style}
@@ -19,10 +19,6 @@ pub record AreChoicesThat (P : List Bool → Type 0) (n : ℕ) (choices : List (
   pub each : Each (λ choice. (length choice ≡ n) × P choice) choices
   pub ordered : Ascends ChoicePrecedes choices
   pub complete : (choice : List Bool) → length choice ≡ n → P choice → Member choices choice
-
--- the choice begins with these values
-abbrev pub BeginsWith : List Bool → List Bool → Type 0
-BeginsWith chosen choice = (rest : List Bool) × (choice ≡ chosen ++ rest)
 
 -- a grid cell is full where its item is; one that belongs to none is empty
 abbrev pub is_chosen : List Bool → Option ℕ → Bool

@@ -17,7 +17,7 @@ use Rattle.solid_model.specs.Frames.{frame_of, along, across, at_places}
 use Rattle.solid_model.specs.Lists.{Member}
 use Rattle.solid_model.specs.Panels.{GridParts, joined}
 use Rattle.solid_model.specs.Rooms.{Sizes}
-use Rattle.solid_model.specs.Wire.{grid_sizes, axis_along, axis_across, grid_style}
+use Rattle.solid_model.specs.GridBox.{grid_sizes, axis_along, axis_across, grid_style}
 
 -- ---- lines
 

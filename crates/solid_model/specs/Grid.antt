@@ -1,5 +1,5 @@
 -- The grid of a drawing: the positions along each axis at which it shows something, and the cells between them.
-use Rattle.std.specs.Prelude.{◌≡◌, ◌≢◌, ◌⊎◌, ◌↔◌, Bool, false, not, ◌&&◌, ℕ, zero, suc, ◌+◌, ◌-◌, ◌*◌, ◌<◌, ◌≤◌, List, [], ◌∷◌, length, slice_index_or, ℤ, pos, ◌-ℤ◌, ◌<ℤ◌, int_lt, int_le, IsTrue}
+use Rattle.std.specs.Prelude.{◌≡◌, ◌≢◌, ◌⊎◌, ◌↔◌, Bool, false, not, ◌&&◌, ℕ, zero, suc, ◌+◌, ◌-◌, ◌*◌, ◌<◌, List, [], ◌∷◌, length, slice_index_or, ℤ, pos, ◌-ℤ◌, ◌<ℤ◌, int_lt, int_le, IsTrue}
 use Rattle.solid_model.specs.declared.cell.Axis.{Axis}
 use Rattle.solid_model.specs.declared.cell.Axis.TheVariants.{X, Y, Z}
 use Rattle.solid_model.specs.declared.cell.Cell.{Cell}
@@ -94,8 +94,3 @@ abbrev pub IsFirstTooFine : (Segment → Style) → Axis → ℕ → Type 0
 IsFirstTooFine drawing X count = IsTooFine drawing X count
 IsFirstTooFine drawing Y count = IsFineEnough drawing X × IsTooFine drawing Y count
 IsFirstTooFine drawing Z count = IsFineEnough drawing X × IsFineEnough drawing Y × IsTooFine drawing Z count
-
--- the coordinates of a drawing's grid, few enough along each axis
-abbrev pub AreCoordinatesOf : (Segment → Style) → Coordinates → Type 0
-AreCoordinatesOf drawing coordinates =
-    (a : Axis) → AreGridCoordinates drawing a (coordinates a) × (length (coordinates a) ≤ most_grid_coordinates)

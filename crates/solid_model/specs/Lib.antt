@@ -26,14 +26,17 @@ pub mod Chains
 pub mod Rooms
 pub mod PerAxis
 pub mod Marks
+pub mod GridBox
 pub mod Wire
 pub mod VirtualFaces
 pub mod Blocks
+pub mod Kept
 pub mod Volumes
 pub mod Demands
 pub mod Tree
 pub mod Reports
 pub mod Search
+pub mod SearchEnds
 pub mod SmallTree
 pub mod Rounds
 pub mod Faces

@@ -1,6 +1,6 @@
 -- Words on lists. std's `Contains`, `All` and `AllPairs` look at the places of a list; these go down the list, so that they
 -- compute on lists that are written out, and a proof goes by cases.
-use Rattle.std.specs.Prelude.{◌≡◌, ◌⊎◌, ℕ, zero, suc, List, [], ◌∷◌, ◌++◌}
+use Rattle.std.specs.Prelude.{◌≡◌, ◌⊎◌, List, [], ◌∷◌}
 use Rattle.std.specs.List.{AllByRecursion}
 
 -- the list has the member
@@ -16,8 +16,3 @@ Each P xs = AllByRecursion P xs
 abbrev pub Ascends : {A : Type 0} → (A → A → Type 0) → List A → Type 0
 Ascends R [] = Unit {0}
 Ascends R (x ∷ xs) = Each (R x) xs × Ascends R xs
-
--- the first n pieces, one after another
-abbrev pub pieces : {A : Type 0} → (ℕ → List A) → ℕ → List A
-pieces f zero = []
-pieces f (suc n) = pieces f n ++ f n

@@ -1,19 +1,16 @@
 -- The styles of a grid's segments, view by view, and the grid of a drawing.
-use Rattle.std.specs.Prelude.{◌≡◌, ◌≤◌, ◌-◌, Bool, ℕ, List, [], ◌∷◌, ◌++◌, length, take, ℤ, IsTrue, if◌then◌else◌}
+use Rattle.std.specs.Prelude.{◌≡◌, ◌≤◌, ◌-◌, Bool, List, [], ◌∷◌, ◌++◌, length, take, ℤ, if◌then◌else◌}
 use Rattle.solid_model.specs.declared.cell.Axis.{Axis}
 use Rattle.solid_model.specs.declared.cell.Axis.TheVariants.{X, Y, Z}
 use Rattle.solid_model.specs.declared.frame.View.{View}
 use Rattle.solid_model.specs.declared.frame.View.TheVariants.{Front, Top, Side}
 use Rattle.solid_model.specs.declared.segment.Segment.{Segment}
 use Rattle.solid_model.specs.declared.segment.Style.{Style}
-use Rattle.solid_model.specs.declared.segment.Style.TheVariants.{Blank}
 use Rattle.solid_model.specs.DrawnStyle.{segment_styles}
 use Rattle.solid_model.specs.Frames.{frame_of, along, across}
-use Rattle.solid_model.specs.Grid.{Coordinates, AreGridCoordinates, is_in_gap, IsInSomeGap}
+use Rattle.solid_model.specs.Grid.{Coordinates, AreGridCoordinates}
 use Rattle.solid_model.specs.Limits.{most_grid_coordinates}
-use Rattle.solid_model.specs.Lists.{Member}
 use Rattle.solid_model.specs.Runs.{IsDrawing}
-use Rattle.solid_model.specs.Segments.{segment_at}
 
 -- the styles of a view's level and upright grid segments
 pub record PanelStyles : Type 0 where
@@ -55,17 +52,6 @@ grid_styles drawing coordinates v upright = joined (segment_styles drawing v upr
 abbrev pub AreGridStyles : (Segment → Style) → Coordinates → PanelsStyles → Type 0
 AreGridStyles drawing coordinates panels =
     (v : View) (upright : Bool) → styles_along upright (panel_of v panels) ≡ grid_styles drawing coordinates v upright
-
--- A drawing stays on a grid with these coordinates: off the lines of the grid, and before and past the grid along a line, it
--- is blank, and between two neighbouring coordinates along a line it doesn't change.
-pub record StaysOnGrid (coordinates : Coordinates) (drawing : Segment → Style) : Type 0 where
-  pub off_lines : (v : View) (upright : Bool) (start line : ℤ) → (Member (coordinates (across (frame_of v) upright).axis) line → ⊥)
-      → drawing (segment_at v upright start line) ≡ Blank
-  pub off_ends : (v : View) (upright : Bool) (start line : ℤ) → (IsInSomeGap (coordinates (along (frame_of v) upright).axis) start → ⊥)
-      → drawing (segment_at v upright start line) ≡ Blank
-  pub steady : (v : View) (upright : Bool) (n : ℕ) (start other line : ℤ) → IsTrue (is_in_gap (coordinates (along (frame_of v) upright).axis) n start)
-      → IsTrue (is_in_gap (coordinates (along (frame_of v) upright).axis) n other)
-      → drawing (segment_at v upright start line) ≡ drawing (segment_at v upright other line)
 
 -- ---- the grid of a drawing
 

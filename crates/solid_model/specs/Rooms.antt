@@ -47,10 +47,6 @@ same_axis _ _ = false
 abbrev pub face_sizes : Sizes → Axis → Sizes
 face_sizes sizes a b = if same_axis a b then suc (sizes b) else sizes b
 
--- The edges along an axis. The edge from the point n, the least corner of the cell n, has the number n too.
-abbrev pub edge_sizes : Sizes → Axis → Sizes
-edge_sizes sizes a b = if same_axis a b then sizes b else suc (sizes b)
-
 -- ---- walls
 
 -- Walls, some of the faces between cells: whether one stands before a cell along an axis.

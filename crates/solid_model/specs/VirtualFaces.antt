@@ -3,10 +3,10 @@ use Rattle.std.specs.Prelude.{Bool, ◌||◌, IsTrue, if◌then◌else◌}
 use Rattle.solid_model.specs.declared.cell.Axis.{Axis}
 use Rattle.solid_model.specs.declared.cell.Cell.{Cell}
 use Rattle.solid_model.specs.Edges.{second_axis, third_axis}
-use Rattle.solid_model.specs.Marks.{AxisMarks, marks_along, AreMarksOf}
 use Rattle.solid_model.specs.Panels.{GridParts}
 use Rattle.solid_model.specs.Rooms.{same_axis, face_sizes, is_within, Walls, LeadsOut}
-use Rattle.solid_model.specs.Wire.{grid_sizes, is_pseudo_edge}
+use Rattle.solid_model.specs.Wire.{is_pseudo_edge}
+use Rattle.solid_model.specs.GridBox.{grid_sizes}
 
 -- the axis across two different ones
 abbrev pub axis_across_both : Axis → Axis → Axis
@@ -26,7 +26,3 @@ Bars g a b n = IsTrue (is_barred g a b n)
 abbrev pub IsVirtual : GridParts → Walls
 IsVirtual g a n = IsTrue (is_within (face_sizes (grid_sizes g) a) n)
     × (LeadsOut (face_sizes (grid_sizes g) a) (Bars g a) n → ⊥)
-
--- what is marked across each axis are the virtual faces
-abbrev pub IsFaceMapOf : GridParts → AxisMarks → Type 0
-IsFaceMapOf g faces = (a : Axis) → AreMarksOf (face_sizes (grid_sizes g) a) (IsVirtual g a) (marks_along a faces)

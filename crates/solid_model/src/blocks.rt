@@ -16,7 +16,8 @@ pub struct Blocks {
 }
 
 impl Model for Blocks {
-    ghost use Rattle.solid_model.specs.Blocks.{BlockNumbers, AreNumbers};
+    ghost use Rattle.solid_model.specs.Blocks.{BlockNumbers};
+    ghost use Rattle.solid_model.specs.Kept.{AreNumbers};
 
     ghost Value = { BlockNumbers };
 
@@ -38,11 +39,12 @@ fn same_numbers(numbers: &[Option<u16>], others: &[Option<u16>]) -> bool
 
 impl Blocks {
     ghost use Rattle.std.specs.Prelude.{◌≡◌, ◌↔◌, length, IsTrue};
-    ghost use Rattle.solid_model.specs.Blocks.{IsBelow, block_at};
+    ghost use Rattle.solid_model.specs.Blocks.{block_at};
+    ghost use Rattle.solid_model.specs.Kept.{IsBelow};
     ghost use Rattle.solid_model.specs.Lists.{Each};
     ghost use Rattle.solid_model.specs.PerAxis.{numbers_of, cell_of};
     ghost use Rattle.solid_model.specs.Rooms.{box_count};
-    ghost use Rattle.solid_model.specs.Wire.{grid_sizes};
+    ghost use Rattle.solid_model.specs.GridBox.{grid_sizes};
 
     /// The blocks of a grid: so many, one number or none for each grid cell.
     pub fn new(grid: &Grid, of: Vec<Option<u16>>, count: u16) -> Blocks

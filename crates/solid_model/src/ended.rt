@@ -24,7 +24,7 @@ pub struct Ended {
 }
 
 impl Model for Ended {
-    ghost use Rattle.solid_model.specs.Search.{SearchEnd};
+    ghost use Rattle.solid_model.specs.SearchEnds.{SearchEnd};
 
     ghost Value = { SearchEnd };
 

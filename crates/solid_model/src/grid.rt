@@ -67,7 +67,7 @@ impl Grid {
     ghost use Rattle.solid_model.specs.Panels.{coordinates_of, IsGrid};
     ghost use Rattle.solid_model.specs.PerAxis.{numbers_of};
     ghost use Rattle.solid_model.specs.Volumes.{gap_width};
-    ghost use Rattle.solid_model.specs.Wire.{grid_sizes, axis_along, axis_across, grid_style};
+    ghost use Rattle.solid_model.specs.GridBox.{grid_sizes, axis_along, axis_across, grid_style};
 
     /// The grid with these coordinates, whose segments have these styles: those of a drawing.
     pub fn new(xs: Vec<i64>, ys: Vec<i64>, zs: Vec<i64>, panels: Panels) -> Grid

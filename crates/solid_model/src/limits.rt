@@ -11,7 +11,8 @@ pub struct Limits {
 }
 
 impl Model for Limits {
-    ghost use Rattle.solid_model.specs.Search.{SearchLimits, AreLimits};
+    ghost use Rattle.solid_model.specs.Search.{SearchLimits};
+    ghost use Rattle.solid_model.specs.SearchEnds.{AreLimits};
 
     ghost Value = { SearchLimits };
 

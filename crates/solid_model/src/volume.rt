@@ -6,7 +6,7 @@ ghost use Rattle.solid_model.specs.Panels.{coordinates_of};
 ghost use Rattle.solid_model.specs.PerAxis.{numbers_of, cell_of};
 ghost use Rattle.solid_model.specs.Rooms.{is_within};
 ghost use Rattle.solid_model.specs.Volumes.{grid_cell_volume, volume_of};
-ghost use Rattle.solid_model.specs.Wire.{grid_sizes};
+ghost use Rattle.solid_model.specs.GridBox.{grid_sizes};
 
 use crate::cell::Axis;
 use crate::choice::Choice;

@@ -9,9 +9,11 @@ use Rattle.solid_model.specs.Cells.{coordinate, cell_before}
 use Rattle.solid_model.specs.Marks.{BoxMarks, AxisMarks, marks_along, is_marked, AreMarksOf}
 use Rattle.solid_model.specs.Panels.{GridParts}
 use Rattle.solid_model.specs.PerAxis.{numbers_of}
-use Rattle.solid_model.specs.Rooms.{Sizes, same_axis, is_below, is_within, face_sizes, edge_sizes, Walls, LeadsOut}
+use Rattle.solid_model.specs.Rooms.{Sizes, same_axis, is_below, is_within, face_sizes, Walls, LeadsOut}
+use Rattle.solid_model.specs.Kept.{edge_sizes, IsWireOf}
 use Rattle.solid_model.specs.VirtualFaces.{axis_across_both, Bars, IsVirtual}
-use Rattle.solid_model.specs.Wire.{grid_sizes, is_pseudo_edge, IsWireOf}
+use Rattle.solid_model.specs.Wire.{is_pseudo_edge}
+use Rattle.solid_model.specs.GridBox.{grid_sizes}
 use Rattle.solid_model.proofs.BoxCells.{below-bounds, bounds-below, within-below, below-within}
 use Rattle.flood.specs.Ring.{touches_box}
 use Rattle.flood.proofs.LeadingOut.{leads_out-past_fewer}

@@ -3,8 +3,9 @@
 ghost use Rattle.std.specs.Prelude.{◌≡◌, ◌||◌, not, IsTrue, IfOk};
 ghost use Rattle.solid_model.specs.Marks.{marks_along, is_marked, AreMarksOf};
 ghost use Rattle.solid_model.specs.Rooms.{same_axis, face_sizes};
-ghost use Rattle.solid_model.specs.VirtualFaces.{axis_across_both, IsVirtual, IsFaceMapOf};
-ghost use Rattle.solid_model.specs.Wire.{grid_sizes, IsWireOf};
+ghost use Rattle.solid_model.specs.VirtualFaces.{axis_across_both, IsVirtual};
+ghost use Rattle.solid_model.specs.Kept.{IsFaceMapOf, IsWireOf};
+ghost use Rattle.solid_model.specs.GridBox.{grid_sizes};
 
 use flood::{Walls, leading_out};
 use solid_model::{Axis, CellTest, FaceMap, Grid, Marks, Memory, PerAxis, Wire};

@@ -14,7 +14,8 @@ ghost use Rattle.solid_model.specs.Matching.{Matches, AreSolidsOf};
 ghost use Rattle.solid_model.specs.Panels.{GridParts, coordinates_of, IsGridOf};
 ghost use Rattle.solid_model.specs.Rooms.{is_within};
 ghost use Rattle.solid_model.specs.VirtualFaces.{IsVirtual};
-ghost use Rattle.solid_model.specs.Wire.{grid_sizes, grid_cell_of, IsGridFullness, is_pseudo_edge};
+ghost use Rattle.solid_model.specs.Wire.{is_pseudo_edge};
+ghost use Rattle.solid_model.specs.GridBox.{grid_sizes, grid_cell_of, IsGridFullness};
 
 /// A solid that matches a drawing is made of blocks of the drawing's grid. Counted in grid cells,
 /// each edge of the solid is a pseudo edge: both views that show it as a segment draw it, and

@@ -1,11 +1,12 @@
 -- The rooms between the virtual faces are the blocks.
 use Rattle.std.proofs.Common.{◌≡◌, sym, subst, subst₂, ◌∙◌}
 use Rattle.solid_model.specs.declared.fault.Fault.TheVariants.{TooManyBlocks}
-use Rattle.solid_model.specs.Blocks.{IsBelow, AreBlocksOf}
+use Rattle.solid_model.specs.Blocks.{AreBlocksOf}
+use Rattle.solid_model.specs.Kept.{IsBelow}
 use Rattle.solid_model.specs.Limits.{most_blocks}
 use Rattle.solid_model.specs.Lists.{Each}
 use Rattle.solid_model.specs.VirtualFaces.{IsVirtual}
-use Rattle.solid_model.specs.Wire.{grid_sizes}
+use Rattle.solid_model.specs.GridBox.{grid_sizes}
 use Rattle.solid_model.proofs.Rooms.{room_numbers-below}
 use Rattle.blocks.proofs.BlockRooms.{rooms_blocks, block_numbers-few}
 use Rattle.blocks.proofs.grid_blocks.blocks_of.Goals as goal

@@ -1,7 +1,7 @@
 -- The stops of the number's pieces, the cells between them and what those draw make the grid.
 use Rattle.std.proofs.Common.{drop, ap, sym, subst, ◌∙◌}
 use Rattle.std.proofs.lemmas.Result.{IfOk-from_err}
-use Rattle.drawing_maker.specs.Made.{IsMade}
+use Rattle.drawing_maker.specs.Making.{IsMade}
 use Rattle.drawing_maker.specs.Rows.{AreSmall, row_stops, cells_before}
 use Rattle.drawing_maker.proofs.MadeGrid.{made_are_small, few_counts, some_stops, is_grid, is_made}
 use Rattle.drawing_maker.proofs.making.make.Goals as goal

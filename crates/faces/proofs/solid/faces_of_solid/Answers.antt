@@ -9,7 +9,7 @@ use Rattle.solid_model.specs.Marks.{BoxMarks, is_marked}
 use Rattle.solid_model.specs.Panels.{coordinates_of}
 use Rattle.solid_model.specs.PerAxis.{numbers_of}
 use Rattle.solid_model.specs.Rooms.{is_within, box_place, box_count}
-use Rattle.solid_model.specs.Wire.{grid_sizes}
+use Rattle.solid_model.specs.GridBox.{grid_sizes}
 use Rattle.face_laws.proofs.GridPlanes.{union_faces}
 use Rattle.faces.specs.GridPoints.{HasFace}
 use Rattle.faces.proofs.FacesOnGrid.{faces_on_grid}

@@ -7,7 +7,7 @@ use Rattle.line_demands.proofs.FirstBroken.{lists_more, lists_stop}
 use Rattle.line_demands.proofs.broken.broken_along.Goals as goal
 use Rattle.solid_model.specs.Demands.{lines_at}
 use Rattle.solid_model.specs.Panels.{joined}
-use Rattle.solid_model.specs.Wire.{grid_sizes, axis_across}
+use Rattle.solid_model.specs.GridBox.{grid_sizes, axis_across}
 
 pub returns-in-Some : goal.returns-in-Some
 returns-in-Some c =

@@ -4,7 +4,7 @@ use Rattle.std.proofs.lemmas.Bool.{both_ways}
 use Rattle.line_demands.specs.Decisions.{decided_by}
 use Rattle.line_demands.proofs.FirstBroken.{lines_more, lines_stop}
 use Rattle.line_demands.proofs.broken.broken_at.Goals as goal
-use Rattle.solid_model.specs.Wire.{grid_sizes, axis_along}
+use Rattle.solid_model.specs.GridBox.{grid_sizes, axis_along}
 
 pub returns-then-not-can_meet : goal.returns-then-not-can_meet
 returns-then-not-can_meet c =

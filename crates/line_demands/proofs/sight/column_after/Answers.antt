@@ -5,7 +5,7 @@ use Rattle.line_demands.proofs.KnownSight.{none_known, beyond_lines}
 use Rattle.line_demands.proofs.sight.column_after.Goals as goal
 use Rattle.solid_model.specs.Frames.{across}
 use Rattle.solid_model.specs.PerAxis.{numbers_of}
-use Rattle.solid_model.specs.Wire.{axis_across}
+use Rattle.solid_model.specs.GridBox.{axis_across}
 
 pub returns-else-at-along-clause-known : goal.returns-else-at-along-clause-known
 returns-else-at-along-clause-known c = λ k.

@@ -1,8 +1,9 @@
 -- Along each axis the marks are the pseudo edges.
 use Rattle.std.specs.Prelude.{IsTrue}
 use Rattle.solid_model.specs.Marks.{AreMarksOf}
-use Rattle.solid_model.specs.Rooms.{edge_sizes}
-use Rattle.solid_model.specs.Wire.{grid_sizes, is_pseudo_edge}
+use Rattle.solid_model.specs.Kept.{edge_sizes}
+use Rattle.solid_model.specs.Wire.{is_pseudo_edge}
+use Rattle.solid_model.specs.GridBox.{grid_sizes}
 use Rattle.solid_model.proofs.MarkedCells.{marks_by_axis}
 use Rattle.pseudo_wire.proofs.wire.wire_of.Goals as goal
 

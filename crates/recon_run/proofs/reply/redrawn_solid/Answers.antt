@@ -3,7 +3,7 @@ use Rattle.std.specs.List.{slice_get}
 use Rattle.std.proofs.lemmas.Option.{slice_get_read}
 use Rattle.recon_run.specs.Findings.{IsDrawingOf}
 use Rattle.solid_model.specs.Blocks.{ProblemParts}
-use Rattle.solid_model.specs.Search.{SearchEnd}
+use Rattle.solid_model.specs.SearchEnds.{SearchEnd}
 use Rattle.recon_run.proofs.reply.redrawn_solid.Goals as goal
 
 pub returns-in_ok-drawing_of : goal.returns-in_ok-drawing_of

@@ -4,7 +4,7 @@ use Rattle.std.proofs.lemmas.List.{append-nil}
 use Rattle.recon_run.specs.Findings.{TellsChoices, BeginsChoices, TellsFinding, BeginsFinding, search_head}
 use Rattle.recon_run.specs.declared.solve.Finding.TheVariants.{Solids}
 use Rattle.recon_run.proofs.TextByText.{ends_after, rose_since}
-use Rattle.solid_model.specs.Search.{SearchEnd}
+use Rattle.solid_model.specs.SearchEnds.{SearchEnd}
 use Rattle.tv_base.specs.Faults.{Rose}
 use Rattle.recon_run.proofs.writing.write_searched.Goals as goal
 

@@ -2,7 +2,7 @@
 use Rattle.solid_model.specs.Marks.{AreMarksOf}
 use Rattle.solid_model.specs.Rooms.{face_sizes}
 use Rattle.solid_model.specs.VirtualFaces.{IsVirtual}
-use Rattle.solid_model.specs.Wire.{grid_sizes}
+use Rattle.solid_model.specs.GridBox.{grid_sizes}
 use Rattle.solid_model.proofs.MarkedCells.{marks_by_axis}
 use Rattle.virtual_faces.proofs.faces.faces_of.Goals as goal
 

@@ -6,7 +6,7 @@ use Rattle.line_demands.proofs.KnownCells.{same_draw, marks_counted, beside_know
 use Rattle.line_demands.proofs.partial.Partial.can_meet.Goals as goal
 use Rattle.solid_model.specs.Demands.{has_line, line_style, known_after, known_before, known_cell, CanBeMet}
 use Rattle.solid_model.specs.PerAxis.{numbers_of}
-use Rattle.solid_model.specs.Wire.{grid_sizes}
+use Rattle.solid_model.specs.GridBox.{grid_sizes}
 
 pub column_after-after-requires-clause-count : goal.column_after-after-requires-clause-count
 column_after-after-requires-clause-count c =

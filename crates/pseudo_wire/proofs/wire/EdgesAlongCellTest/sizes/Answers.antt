@@ -1,7 +1,7 @@
 -- The sizes are those of the grid's edges.
 use Rattle.std.proofs.Common.{ap, sym, subst, ◌∙◌}
 use Rattle.solid_model.specs.PerAxis.{numbers_of, AreFew}
-use Rattle.solid_model.specs.Rooms.{edge_sizes}
+use Rattle.solid_model.specs.Kept.{edge_sizes}
 use Rattle.solid_model.proofs.BoxPlaces.{few_edges}
 use Rattle.pseudo_wire.proofs.wire.EdgesAlongCellTest.sizes.Goals as goal
 

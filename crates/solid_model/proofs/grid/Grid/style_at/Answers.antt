@@ -1,7 +1,7 @@
 use Rattle.std.proofs.Common.{◌⊎◌, inl, inr, ◌+◌, ◌*◌, ◌<◌, ◌≤◌, slice_index_or, ap, ◌∙◌, arith}
 use Rattle.solid_model.specs.declared.segment.Style.TheVariants.{Blank}
 use Rattle.solid_model.specs.Panels.{styles_along, panel_of}
-use Rattle.solid_model.specs.Wire.{axis_along, axis_across, grid_sizes}
+use Rattle.solid_model.specs.GridBox.{axis_along, axis_across, grid_sizes}
 use Rattle.solid_model.proofs.GridStyle.{blank_off_grid, style_on_grid}
 use Rattle.solid_model.proofs.grid.Grid.style_at.Goals as goal
 
