@@ -1,5 +1,5 @@
 pub mod AllLines
-pub mod CubeFile
+pub mod BrickFile
 pub mod DrawnRuns
 pub mod FarEnds
 pub mod FewLines

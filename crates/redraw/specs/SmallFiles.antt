@@ -1,24 +1,30 @@
 -- A small file, and a line, written out by hand.
-use Rattle.std.specs.Prelude.{ℕ, List, ◌++◌, pos, negsuc, codes}
+use Rattle.std.specs.Prelude.{ℕ, List, [], ◌∷◌, ◌++◌, pos, negsuc, codes}
+use Rattle.solid_model.specs.declared.cell.Cell.{Cell}
 use Rattle.solid_model.specs.declared.frame.View.TheVariants.{Top}
 use Rattle.solid_model.specs.declared.segment.Style.TheVariants.{Dashed}
+use Rattle.solid_model.specs.Cells.{cell_at}
 use Rattle.solid_model.specs.Line.{Line}
 
--- The file of the unit cube. Each view is a square: its lower and its upper side, then its left and its right one.
-abbrev pub cube_file : List ℕ
-cube_file = codes "0\nSECTION\n2\nENTITIES\n"
+-- a brick, 1 wide along x, 2 along y and 3 high
+abbrev pub brick : List Cell
+brick = cell_at 0 0 0 ∷ cell_at 0 1 0 ∷ cell_at 0 0 1 ∷ cell_at 0 1 1 ∷ cell_at 0 0 2 ∷ cell_at 0 1 2 ∷ []
+
+-- Its file. Each view is a rectangle: its lower and its upper side, then its left and its right one.
+abbrev pub brick_file : List ℕ
+brick_file = codes "0\nSECTION\n2\nENTITIES\n"
     ++ codes "0\nLINE\n8\nFRONT\n6\nCONTINUOUS\n10\n0\n20\n0\n30\n0\n11\n1\n21\n0\n31\n0\n"
-    ++ codes "0\nLINE\n8\nFRONT\n6\nCONTINUOUS\n10\n0\n20\n1\n30\n0\n11\n1\n21\n1\n31\n0\n"
-    ++ codes "0\nLINE\n8\nFRONT\n6\nCONTINUOUS\n10\n0\n20\n0\n30\n0\n11\n0\n21\n1\n31\n0\n"
-    ++ codes "0\nLINE\n8\nFRONT\n6\nCONTINUOUS\n10\n1\n20\n0\n30\n0\n11\n1\n21\n1\n31\n0\n"
-    ++ codes "0\nLINE\n8\nTOP\n6\nCONTINUOUS\n10\n0\n20\n11\n30\n0\n11\n1\n21\n11\n31\n0\n"
-    ++ codes "0\nLINE\n8\nTOP\n6\nCONTINUOUS\n10\n0\n20\n12\n30\n0\n11\n1\n21\n12\n31\n0\n"
-    ++ codes "0\nLINE\n8\nTOP\n6\nCONTINUOUS\n10\n0\n20\n11\n30\n0\n11\n0\n21\n12\n31\n0\n"
-    ++ codes "0\nLINE\n8\nTOP\n6\nCONTINUOUS\n10\n1\n20\n11\n30\n0\n11\n1\n21\n12\n31\n0\n"
-    ++ codes "0\nLINE\n8\nSIDE\n6\nCONTINUOUS\n10\n11\n20\n0\n30\n0\n11\n12\n21\n0\n31\n0\n"
-    ++ codes "0\nLINE\n8\nSIDE\n6\nCONTINUOUS\n10\n11\n20\n1\n30\n0\n11\n12\n21\n1\n31\n0\n"
-    ++ codes "0\nLINE\n8\nSIDE\n6\nCONTINUOUS\n10\n11\n20\n0\n30\n0\n11\n11\n21\n1\n31\n0\n"
-    ++ codes "0\nLINE\n8\nSIDE\n6\nCONTINUOUS\n10\n12\n20\n0\n30\n0\n11\n12\n21\n1\n31\n0\n"
+    ++ codes "0\nLINE\n8\nFRONT\n6\nCONTINUOUS\n10\n0\n20\n3\n30\n0\n11\n1\n21\n3\n31\n0\n"
+    ++ codes "0\nLINE\n8\nFRONT\n6\nCONTINUOUS\n10\n0\n20\n0\n30\n0\n11\n0\n21\n3\n31\n0\n"
+    ++ codes "0\nLINE\n8\nFRONT\n6\nCONTINUOUS\n10\n1\n20\n0\n30\n0\n11\n1\n21\n3\n31\n0\n"
+    ++ codes "0\nLINE\n8\nTOP\n6\nCONTINUOUS\n10\n0\n20\n13\n30\n0\n11\n1\n21\n13\n31\n0\n"
+    ++ codes "0\nLINE\n8\nTOP\n6\nCONTINUOUS\n10\n0\n20\n15\n30\n0\n11\n1\n21\n15\n31\n0\n"
+    ++ codes "0\nLINE\n8\nTOP\n6\nCONTINUOUS\n10\n0\n20\n13\n30\n0\n11\n0\n21\n15\n31\n0\n"
+    ++ codes "0\nLINE\n8\nTOP\n6\nCONTINUOUS\n10\n1\n20\n13\n30\n0\n11\n1\n21\n15\n31\n0\n"
+    ++ codes "0\nLINE\n8\nSIDE\n6\nCONTINUOUS\n10\n11\n20\n0\n30\n0\n11\n13\n21\n0\n31\n0\n"
+    ++ codes "0\nLINE\n8\nSIDE\n6\nCONTINUOUS\n10\n11\n20\n3\n30\n0\n11\n13\n21\n3\n31\n0\n"
+    ++ codes "0\nLINE\n8\nSIDE\n6\nCONTINUOUS\n10\n11\n20\n0\n30\n0\n11\n11\n21\n3\n31\n0\n"
+    ++ codes "0\nLINE\n8\nSIDE\n6\nCONTINUOUS\n10\n13\n20\n0\n30\n0\n11\n13\n21\n3\n31\n0\n"
     ++ codes "0\nENDSEC\n0\nEOF\n"
 
 -- a hidden line of the top view, from (-3, 12) to (25, 12)
