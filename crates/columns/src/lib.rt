@@ -14,4 +14,4 @@ pub use column::{Column, style_of};
 pub use draw::{ColumnSet, columns_of, draw_cells, draw_in};
 pub use grid_columns::cell_in;
 pub use known::{KnownColumn, can_draw};
-pub use laws::demands_are_computed;
+pub use laws::{demands_are_computed, lines_in_order};
