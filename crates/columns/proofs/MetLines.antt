@@ -47,7 +47,7 @@ abbrev pub AreSized : ProblemParts → Type 0
 AreSized p = (a : Axis) → numbers_of p.blocks.sizes a ≡ grid_sizes p.grid a
 
 -- a cell outside is known to be empty
-known_outside : (b : BlockNumbers) (known : ℕ → Option Bool) (n : Cell) → is_within (numbers_of b.sizes) n ≡ false → known_cell b known n ≡ Some false
+pub known_outside : (b : BlockNumbers) (known : ℕ → Option Bool) (n : Cell) → is_within (numbers_of b.sizes) n ≡ false → known_cell b known n ≡ Some false
 known_outside b known n out = ap (λ w. known_in known (if w then number_at (numbers_of b.sizes) b.numbers n else None)) out
 
 module _ (p : ProblemParts) (sized : AreSized p) (known : ℕ → Option Bool) (l : LineId) where

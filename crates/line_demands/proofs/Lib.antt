@@ -2,9 +2,9 @@ pub mod Prefixes
 pub mod OwnColumns
 pub mod ColumnNumbers
 pub mod SomeStyle
-pub mod SomeLines
 pub mod LineStyles
 pub mod LivePrefixes
+pub mod DrawnDemands
 pub mod Marking
 pub mod Deciding
 pub mod BoxSight

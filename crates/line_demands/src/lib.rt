@@ -7,5 +7,5 @@ mod laws;
 mod partial;
 mod sight;
 
-pub use laws::live_prefixes_end_in_matching_solids;
+pub use laws::{lines_are_met_by_drawings, live_prefixes_end_in_matching_solids};
 pub use partial::{Decision, Partial};

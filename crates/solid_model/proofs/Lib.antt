@@ -55,3 +55,4 @@ pub mod PrefixTree
 pub mod AllowedReports
 pub mod ChoicesInOrder
 pub mod CompleteTree
+pub mod SomeLines

@@ -21,7 +21,7 @@ pub use drawings::{
     views_are_seen_from_their_sides,
 };
 pub use grid::{
-    matching_is_seen_on_the_grid, matching_solids_lie_in_the_grid, one_drawing_of_a_grid,
+    each_axis_has_a_coordinate, matching_is_seen_on_the_grid, matching_solids_lie_in_the_grid, one_drawing_of_a_grid,
     one_list_of_grid_coordinates,
 };
 pub use orders::{

@@ -1,6 +1,6 @@
 //! Laws of the grid of a drawing.
 
-ghost use Rattle.std.specs.Prelude.{◌≡◌, ◌↔◌, Bool, List, ℤ, IsTrue};
+ghost use Rattle.std.specs.Prelude.{◌≡◌, ◌↔◌, ◌≢◌, Bool, List, [], ℤ, IsTrue};
 ghost use Rattle.solid_model.specs.declared.cell.Axis.{Axis};
 ghost use Rattle.solid_model.specs.declared.cell.Cell.{Cell};
 ghost use Rattle.solid_model.specs.declared.segment.Segment.{Segment};
@@ -16,6 +16,12 @@ ghost use Rattle.solid_model.specs.Runs.{IsDrawing};
 pub fn one_list_of_grid_coordinates()
     ensures { (drawing : Segment → Style) (a : Axis) (zs ws : List ℤ)
         → AreGridCoordinates drawing a zs → AreGridCoordinates drawing a ws → zs ≡ ws }
+{}
+
+/// Each axis has a grid coordinate, since no view of a drawing is blank.
+pub fn each_axis_has_a_coordinate()
+    ensures { (drawing : Segment → Style) (g : GridParts) → IsDrawing drawing → IsGridOf drawing g
+        → (a : Axis) → coordinates_of g a ≢ [] }
 {}
 
 /// A matching solid lies in the grid. Where a cell begins at no grid coordinate along an axis, it
