@@ -1,4 +1,0 @@
-pub mod Broken
-pub mod Cells
-pub mod Decisions
-pub mod Sight
