@@ -2,3 +2,11 @@ pub mod Bits
 pub mod GridColumns
 pub mod GridPanels
 pub mod Known
+pub mod Broken
+pub mod Decisions
+pub mod DrawnDemands
+pub mod Spans
+pub mod Lines
+pub mod Plans
+pub mod KeptColumns
+pub mod Gathered

@@ -1,11 +1,19 @@
-//! Laws of what is demanded of blocks.
+//! Laws of what is demanded of blocks, and of live prefixes.
 
 ghost use Rattle.std.specs.Prelude.{◌≡◌, ◌↔◌, Bool, true, false, ℕ, List, [], ◌∷◌, Option, IsTrue};
 ghost use Rattle.solid_model.specs.declared.frame.View.TheVariants.{Front, Top, Side};
+ghost use Rattle.solid_model.specs.declared.cell.Cell.{Cell};
 ghost use Rattle.solid_model.specs.declared.line_id.LineId.{LineId};
+ghost use Rattle.solid_model.specs.declared.segment.Segment.{Segment};
+ghost use Rattle.solid_model.specs.declared.segment.Style.{Style};
 ghost use Rattle.solid_model.specs.Blocks.{ProblemParts, IsBlocksOf};
+ghost use Rattle.solid_model.specs.Choices.{IsMatchingChoice};
 ghost use Rattle.solid_model.specs.Demands.{CanBeMet, IsLive, can_be_met, is_live, lines_of};
+ghost use Rattle.solid_model.specs.Panels.{coordinates_of, IsGridOf};
+ghost use Rattle.solid_model.specs.Runs.{IsDrawing};
 ghost use Rattle.solid_model.specs.SmallLines.{two_cells, line};
+ghost use Rattle.solid_model.specs.Tree.{KeepsMatching};
+ghost use Rattle.columns.specs.DrawnDemands.{Meets};
 
 /// Whether a line of a problem can still be met, and whether a prefix is live, can be computed: no
 /// pair of columns has to be tried.
@@ -27,4 +35,21 @@ pub fn lines_in_order()
         ∷ line Top true 0 0 ∷ line Top true 1 0 ∷ line Top true 2 0
         ∷ line Side false 0 0 ∷ line Side false 1 0
         ∷ line Side true 0 0 ∷ line Side true 1 0 ∷ [] }
+{}
+
+/// A line can be met exactly where some cells that agree with what is known draw it: so that two
+/// columns tell it, as the definition has it, is a fact of drawings and no convention.
+pub fn lines_are_met_by_drawings()
+    ensures { (p : ProblemParts) → IsBlocksOf p.grid p.blocks → (known : ℕ → Option Bool)
+        → (l : LineId) → CanBeMet p known l ↔ ((s : List Cell) × Meets p known l s) }
+{}
+
+/// Live prefixes are closed downwards and end in matching solids: what a live prefix begins with is
+/// live; so is whatever the choice of a matching solid begins with; and a live prefix of full length
+/// is the choice of a matching solid.
+pub fn live_prefixes_end_in_matching_solids()
+    ensures { (drawing : Segment → Style) → IsDrawing drawing
+        → (p : ProblemParts) → IsGridOf drawing p.grid → IsBlocksOf p.grid p.blocks
+        → KeepsMatching (is_live p) p.blocks.count
+        (IsMatchingChoice drawing (coordinates_of p.grid) p.blocks.numbers) }
 {}

@@ -1,17 +1,32 @@
-//! Columns of grid cells, and the styles that a set of grid cells draws on a grid's segments.
+//! Columns of grid cells: the styles that a set of grid cells draws on a grid's segments, and what is
+//! known of columns while some blocks of a problem are decided.
 #![tactic(auto)]
 
+mod beside;
 mod column;
+mod decision;
 mod draw;
+mod gather;
 mod grid_columns;
 mod known;
 mod laws;
+mod lines;
+mod partial_state;
+mod plan;
 mod segment_styles;
+mod spans;
+mod steps;
 #[cfg(test)]
 mod tests;
 
 pub use column::{Column, style_of};
+pub use decision::Decision;
 pub use draw::{ColumnSet, columns_of, draw_cells, draw_in};
 pub use grid_columns::cell_in;
-pub use known::{KnownColumn, can_draw};
-pub use laws::{demands_are_computed, lines_in_order};
+pub use known::{KnownColumn, can_draw, meets};
+pub use laws::{
+    demands_are_computed, lines_are_met_by_drawings, lines_in_order,
+    live_prefixes_end_in_matching_solids,
+};
+pub use partial_state::PartialState;
+pub use steps::Steps;

@@ -1,61 +1,43 @@
 //! A problem, some of whose blocks are decided.
 
-use crate::broken::broken_in_grid;
-use crate::cells::{KnownCell, mark_block, undecided_cells};
-use crate::sight::{column_after, column_before};
-use columns::can_draw;
-use solid_model::{LineId, Memory, Problem};
+use columns::{Decision, PartialState, Steps};
+use solid_model::{LineId, Memory, Problem, View};
 use std::alloc::Global;
 use std::marker::Model;
-
-/// That a block is full, or empty.
-#[derive(Clone, Copy, Debug)]
-pub struct Decision {
-    pub block: u16,
-    pub full: bool,
-}
+use std::sync::ledger::Ledger;
 
 /// A problem, some of whose blocks are decided. All memory is taken at the beginning.
 #[derive(Debug, Drop)]
-pub struct Partial<'a> {
-    problem: &'a Problem,
-    decisions: Vec<Decision>,
-    cells: Vec<KnownCell>,
+pub struct Partial<'p> {
+    state: PartialState<'p>,
 }
 
-impl<'a> Model for Partial<'a> {
-    ghost use Rattle.std.specs.Prelude.{vec_capacity};
-    ghost use Rattle.line_demands.specs.Decisions.{PartialParts};
+impl<'p> Model for Partial<'p> {
+    ghost use Rattle.columns.specs.Decisions.{PartialParts};
 
     ghost Value = { PartialParts };
 
-    ghost use Rattle.line_demands.specs.Cells.{IsKept};
-
-    ghost view = { λ s. record { problem = s.problem.now; decisions = s.decisions.items } };
-
-    ghost invariant = { λ s. IsKept s.problem.now s.decisions.items (vec_capacity s.decisions) s.cells.items };
+    ghost view = { λ s. s.state };
 }
 
-impl<'a> Partial<'a> {
-    ghost use Rattle.std.specs.Prelude.{◌≡◌, ◌↔◌, ◌<◌, ◌++◌, ◌∷◌, [], None, false, IsTrue, IfSome, IfOk};
-    ghost use Rattle.line_demands.specs.Decisions.{decided_by};
-    ghost use Rattle.solid_model.specs.Demands.{has_line, CanBeMet, IsFirstBroken};
+impl<'p> Partial<'p> {
+    ghost use Rattle.std.specs.Prelude.{◌≡◌, ◌↔◌, ◌<◌, ◌≤◌, ◌+◌, ◌++◌, ◌∷◌, [], ℕ, pos, None, false, IsTrue, IfSome, IfOk};
+    ghost use Rattle.columns.specs.declared.decision.Decision.{Decision};
+    ghost use Rattle.columns.specs.Decisions.{decided_by};
+    ghost use Rattle.columns.specs.KeptColumns.{touching, view_width, view_height, shown_cell};
+    ghost use Rattle.columns.specs.Known.{known_bits, LiesWithin};
+    ghost use Rattle.solid_model.specs.GridBox.{grid_sizes};
+    ghost use Rattle.solid_model.specs.Demands.{has_line, known_cell, CanBeMet, IsFirstBroken};
 
     /// The problem, while no block is decided. An `Err` is out of memory.
-    pub fn new(alloc: Global, problem: &'a Problem) -> Result<Partial<'a>, Memory>
+    pub fn new(alloc: Global, problem: &'p Problem) -> Result<Partial<'p>, Memory>
         ensures { IfOk result (λ partial. partial ≡ record {
           problem = problem.now;
           decisions = [];
         }) }
     {
-        let blocks = problem.blocks();
-        let decisions = Vec::with_capacity(alloc, usize::from(blocks.count()))?;
-        let cells = undecided_cells(alloc, blocks.numbers())?;
-        Ok(Partial {
-            problem,
-            decisions,
-            cells,
-        })
+        let state = PartialState::new(alloc, problem)?;
+        Ok(Partial { state })
     }
 
     /// Decides a block that isn't decided.
@@ -67,18 +49,20 @@ impl<'a> Partial<'a> {
           decisions = self.old.decisions ++ record { block = block; full = full } ∷ [];
         } }
     {
-        let mark = if full {
-            KnownCell::Full
-        } else {
-            KnownCell::Empty
-        };
-        mark_block(
-            self.cells.as_mut_slice(),
-            self.problem.blocks().numbers(),
-            block,
-            mark,
-        );
-        self.decisions.push_reserved(Decision { block, full });
+        self.state.decide(block, full);
+    }
+
+    /// The same, counting its steps: tries of a line.
+    pub fn decide_counted<L: Ledger>(&mut self, block: u16, full: bool, steps: &mut Steps<L>)
+        requires there { block < self.old.problem.blocks.count }
+        requires open { decided_by self.old.decisions block ≡ None }
+        ensures decided { self.new ≡ record {
+          problem = self.old.problem;
+          decisions = self.old.decisions ++ record { block = block; full = full } ∷ [];
+        } }
+        ensures steps { steps.new ≤ steps.old + touching self.old.problem block }
+    {
+        self.state.decide_counted(block, full, steps);
     }
 
     /// Takes back the last decision. False: there is none.
@@ -88,26 +72,21 @@ impl<'a> Partial<'a> {
             × (self.old.decisions ≡ self.new.decisions ++ last ∷ []) }
         ensures none { result ≡ false → (self.old.decisions ≡ []) × (self.new ≡ self.old) }
     {
-        match self.decisions.pop() {
-            Some(last) => {
-                let numbers = self.problem.blocks().numbers();
-                mark_block(
-                    self.cells.as_mut_slice(),
-                    numbers,
-                    last.block,
-                    KnownCell::Free,
-                );
-                true
-            }
-            None => false,
-        }
+        self.state.undo()
     }
 
     /// The problem.
-    pub fn problem(&self) -> &Problem
+    pub fn problem(&self) -> &'p Problem
         ensures { result.now ≡ self.now.problem }
     {
-        self.problem
+        self.state.problem()
+    }
+
+    /// The decisions, in the order in which they were taken.
+    pub fn decisions(&self) -> &[Decision]
+        ensures { result.now ≡ self.now.decisions }
+    {
+        self.state.decisions()
     }
 
     /// A line can still be met: some pair of columns beside it that agrees with every decided cell
@@ -116,11 +95,7 @@ impl<'a> Partial<'a> {
         requires { IsTrue (has_line self.now.problem.grid line) }
         ensures { IsTrue result ↔ CanBeMet self.now.problem (decided_by self.now.decisions) line }
     {
-        let grid = self.problem.grid();
-        let sizes = grid.sizes();
-        let after = column_after(self.cells.as_slice(), sizes, line);
-        let before = column_before(self.cells.as_slice(), sizes, line);
-        can_draw(grid.style(line), after, before)
+        self.state.can_meet(line)
     }
 
     /// The first line that can't be met.
@@ -131,6 +106,27 @@ impl<'a> Partial<'a> {
             → IsTrue (has_line self.now.problem.grid l)
             → CanBeMet self.now.problem (decided_by self.now.decisions) l) }
     {
-        broken_in_grid(self)
+        self.state.broken_line()
+    }
+
+    /// How many lines touch a block: beside the line stands a column with a cell of the block.
+    pub fn touching(&self, block: u16) -> u32
+        requires { block < self.now.problem.blocks.count }
+        ensures { result ≡ touching self.now.problem block }
+    {
+        self.state.touching(block)
+    }
+
+    /// What is known of a column of a view, by its places to the right and upwards: the cells that
+    /// are full for certain, and those that may be full. Bit 0 is the nearest.
+    pub fn mask(&self, view: View, right: u8, up: u8) -> (u64, u64)
+        requires right { right < view_width (grid_sizes self.now.problem.grid) view }
+        requires up { up < view_height (grid_sizes self.now.problem.grid) view }
+        ensures within { LiesWithin result.0 result.1 }
+        ensures known { (k : ℕ) → known_bits result.0 result.1 (pos k)
+            ≡ known_cell self.now.problem.blocks (decided_by self.now.decisions)
+            (shown_cell (grid_sizes self.now.problem.grid) view right up (pos k)) }
+    {
+        self.state.mask(view, right, up)
     }
 }

@@ -1,6 +1,6 @@
 -- From the end of a search, and what is told of it, to what is answered.
 use Rattle.std.proofs.Common.{◌≡◌, ℕ, zero, suc, ◌+◌, ◌<◌, ◌≤◌, List, [], ◌∷◌, ◌++◌, Bool, length, take, Option, refl, sym, ap, subst, ◌∙◌, arith}
-use Rattle.line_demands.proofs.LivePrefixes.{live_keeps_matching}
+use Rattle.columns.proofs.LivePrefixes.{live_keeps_matching}
 use Rattle.recon_run.specs.declared.status.Found.TheVariants.{Ended}
 use Rattle.recon_run.specs.Answers.{node_count, HasProblem, CanEnd, AreListed, ListedSolids, TellsSolids, IsSolved, IsBegun}
 use Rattle.recon_run.specs.Findings.{TellsChoices}

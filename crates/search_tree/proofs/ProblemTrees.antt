@@ -3,9 +3,9 @@ use Rattle.std.proofs.Common.{◌≡◌, Bool, true, false, ℕ, zero, suc, ◌+
 use Rattle.std.proofs.lemmas.Bool.{false_from_ne_true, eq-eqb, ne_eqb}
 use Rattle.std.proofs.lemmas.List.{same_from_push}
 use Rattle.std.proofs.lemmas.Option.{none-some}
-use Rattle.line_demands.specs.declared.partial.Decision.{Decision}
-use Rattle.line_demands.specs.Decisions.{decided_by, PartialParts}
-use Rattle.line_demands.proofs.Prefixes.{known_more}
+use Rattle.columns.specs.declared.decision.Decision.{Decision}
+use Rattle.columns.specs.Decisions.{decided_by, PartialParts}
+use Rattle.columns.proofs.Prefixes.{known_more}
 use Rattle.solid_model.specs.declared.line_id.LineId.{LineId}
 use Rattle.solid_model.specs.Blocks.{ProblemParts}
 use Rattle.solid_model.specs.Demands.{has_line, said_by, known_cell, known_column, AgreesWith, CanBeMet, IsLive, is_live}

@@ -1,10 +1,11 @@
--- The first of all lines, or none.
-use Rattle.line_demands.specs.Decisions.{decided_by}
-use Rattle.line_demands.proofs.FirstBroken.{told_some, told_none}
+-- The state is seen as the partial is.
+use Rattle.std.proofs.Common.{◌≡◌, ◌↔◌, None, IsTrue, subst}
+use Rattle.columns.specs.Decisions.{decided_by, PartialParts}
 use Rattle.line_demands.proofs.partial.Partial.broken_line.Goals as goal
-
-pub returns-clause-some : goal.returns-clause-some
-returns-clause-some c = told_some c.args.self.now.problem (decided_by c.args.self.now.decisions) c.broken_in_grid.result c.broken_in_grid.ensures
+use Rattle.solid_model.specs.declared.line_id.LineId.{LineId}
+use Rattle.solid_model.specs.Demands.{has_line, CanBeMet}
 
 pub returns-clause-none : goal.returns-clause-none
-returns-clause-none c = told_none c.args.self.now.problem (decided_by c.args.self.now.decisions) c.broken_in_grid.result c.broken_in_grid.ensures
+returns-clause-none c =
+    subst (λ (v : PartialParts). (c.broken_line.result ≡ None) ↔ ((l : LineId) → IsTrue (has_line v.problem.grid l) → CanBeMet v.problem (decided_by v.decisions) l))
+    c.self.view_is c.broken_line.ensures.none

@@ -1,7 +1,7 @@
 -- The next block isn't decided yet.
 use Rattle.std.proofs.Common.{◌≡◌, ◌<◌, length, ap, ◌∙◌, arith}
 use Rattle.std.proofs.lemmas.Option.{slice_get_past}
-use Rattle.line_demands.specs.Decisions.{decided_by}
+use Rattle.columns.specs.Decisions.{decided_by}
 use Rattle.search_tree.proofs.ProblemTrees.{decided_said, path_down}
 use Rattle.search_tree.proofs.block_path.BlockPathPath.go_down.Goals as goal
 

@@ -1,0 +1,154 @@
+-- Live prefixes are closed downwards and end in matching solids.
+use Rattle.std.proofs.Common.{◌≡◌, Bool, ℕ, suc, ◌-◌, ◌<◌, ◌≤◌, List, [], ◌∷◌, ◌++◌, length, map, get_or, ℤ, pos, ◌-ℤ◌, Some, IsTrue, refl, ap, ap₂, sym, subst, ◌∙◌, arith}
+use Rattle.std.proofs.lemmas.Bool.{and_from, lt-ltb}
+use Rattle.std.proofs.lemmas.List.{length-append, get_or-take}
+use Rattle.solid_model.specs.declared.cell.Cell.{Cell}
+use Rattle.solid_model.specs.declared.line_id.LineId.{LineId}
+use Rattle.solid_model.specs.declared.segment.Segment.{Segment}
+use Rattle.solid_model.specs.declared.segment.Style.{Style}
+use Rattle.solid_model.specs.Blocks.{ProblemParts, IsBlocksOf}
+use Rattle.solid_model.specs.Cells.{is_full}
+use Rattle.solid_model.specs.Choices.{cells_of_choice, IsMatchingChoice}
+use Rattle.solid_model.specs.Columns.{ColumnsDraw}
+use Rattle.solid_model.specs.Demands.{has_line, line_style, said_by, known_cell, known_column, AgreesWith, CanDraw, CanBeMet, IsLive, is_live}
+use Rattle.solid_model.specs.DrawnStyle.{solid_drawing}
+use Rattle.solid_model.specs.Grid.{IsUnionOf}
+use Rattle.solid_model.specs.Panels.{coordinates_of, joined, starts_of, AreGridStyles, IsGridOf}
+use Rattle.solid_model.specs.Runs.{IsDrawing}
+use Rattle.solid_model.specs.Segments.{segment_at}
+use Rattle.solid_model.specs.Tree.{KeepsMatching}
+use Rattle.solid_model.specs.GridBox.{grid_sizes, axis_along, axis_across}
+use Rattle.solid_model.proofs.Corners.{length-starts_of}
+use Rattle.solid_model.proofs.Gaps.{member}
+use Rattle.solid_model.proofs.GridMatching.{matching_on_grid}
+use Rattle.columns.proofs.MetLines.{live_computed}
+use Rattle.solid_model.proofs.Unions.{some_union}
+use Rattle.columns.proofs.LineStyles.{own_style_drawn, line_drawing, matching_draws_line}
+use Rattle.columns.proofs.OwnColumns.{own_column}
+use Rattle.columns.proofs.Prefixes.{known_more, known_filled, all_known}
+use Rattle.columns.proofs.SomeStyle.{decided_draw}
+
+-- lists made of what is alike at each place
+map_alike : {A B : Type 0} (f h : A → B) (xs : List A) (d : A) → ((i : ℕ) → i < length xs → f (get_or xs i d) ≡ h (get_or xs i d)) → map f xs ≡ map h xs
+map_alike f h [] d alike = refl
+map_alike f h (x ∷ xs) d alike = ap₂ ◌∷◌ (alike 0 (omega arith)) (map_alike f h xs d (λ i l. alike (suc i) (omega arith)))
+
+module _ (drawing : Segment → Style) (is : IsDrawing drawing) (p : ProblemParts) (grid : IsGridOf drawing p.grid) (blocks : IsBlocksOf p.grid p.blocks) where
+  -- the columns that a choice fills after and before a line, and the line's first unit segment
+  abbrev fills_after : List Bool → LineId → ℤ → Bool
+  fills_after choice l = own_column p.grid p.blocks blocks choice l.view l.upright l.cell (pos l.at)
+
+  abbrev fills_before : List Bool → LineId → ℤ → Bool
+  fills_before choice l = own_column p.grid p.blocks blocks choice l.view l.upright l.cell (pos l.at -ℤ pos 1)
+
+  abbrev segment_of : LineId → Segment
+  segment_of l = segment_at l.view l.upright
+      (member (coordinates_of p.grid (axis_along l.view l.upright)) l.cell) (member (coordinates_of p.grid (axis_across l.view l.upright)) l.at)
+
+  abbrev IsMatching : List Bool → Type 0
+  IsMatching = IsMatchingChoice drawing (coordinates_of p.grid) p.blocks.numbers
+
+  -- whether a prefix is live can be computed
+  is_live_by : (prefix : List Bool) → IsTrue (is_live p prefix) → IsLive p prefix
+  is_live_by prefix = (live_computed p blocks.sized prefix).0
+
+  live_from : (prefix : List Bool) → IsLive p prefix → IsTrue (is_live p prefix)
+  live_from prefix = (live_computed p blocks.sized prefix).1
+
+  shorter : (prefix rest : List Bool) (n : ℕ) → length (prefix ++ rest) ≤ n → length prefix ≤ n
+  shorter prefix rest n l = omega (arith, length-append prefix rest)
+
+  -- ---- beginnings
+
+  -- what is known of fewer blocks, more columns agree with
+  agrees_less : (prefix rest : List Bool) (l : LineId) (j : ℤ) (column : ℤ → Bool)
+      → AgreesWith (known_column p.grid (known_cell p.blocks (said_by (prefix ++ rest))) l j) column
+      → AgreesWith (known_column p.grid (known_cell p.blocks (said_by prefix)) l j) column
+  agrees_less prefix rest l j column agrees k value e = agrees k value (known_more p.blocks prefix rest _ value e)
+
+  begins_live : (prefix rest : List Bool) → IsLive p (prefix ++ rest) → IsLive p prefix
+  begins_live prefix rest live = record {
+    short = shorter prefix rest p.blocks.count live.short;
+    met = λ l has. fewer l (live.met l has);
+  }
+    where
+      fewer : (l : LineId) → CanBeMet p (said_by (prefix ++ rest)) l → CanBeMet p (said_by prefix) l
+      fewer l (after, before, agrees, agrees_too, draws) =
+          (after, before, agrees_less prefix rest l (pos l.at) after agrees, agrees_less prefix rest l (pos l.at -ℤ pos 1) before agrees_too, draws)
+
+  -- ---- matching choices
+
+  -- what a matching choice fills meets each line
+  matching_live : (choice : List Bool) → length choice ≡ p.blocks.count → IsMatching choice → IsLive p choice
+  matching_live choice whole (s, union, matches) = record {
+    short = omega (arith, whole);
+    met = λ l has. (
+      fills_after choice l,
+      fills_before choice l,
+      (λ k value e. known_filled p.blocks choice _ value e),
+      (λ k value e. known_filled p.blocks choice _ value e),
+      matching_draws_line drawing is p.grid grid p.blocks blocks choice l has s union matches,
+    );
+  }
+
+  -- ---- live choices
+
+  module _ (choice : List Bool) (whole : length choice ≡ p.blocks.count) (live : IsLive p choice) (s : List Cell)
+      (union : IsUnionOf (coordinates_of p.grid) (cells_of_choice p.blocks.numbers choice) (is_full s)) where
+    -- each line is met by what the choice fills, since all is decided
+    own_draws : (l : LineId) → IsTrue (has_line p.grid l) → ColumnsDraw (fills_after choice l) (fills_before choice l) (line_style p.grid l)
+    own_draws l has = decided_draw (fills_after choice l) (fills_before choice l) (line_style p.grid l) (by (live.met l has))
+      where
+        by : CanBeMet p (said_by choice) l → CanDraw (λ k. Some (fills_after choice l k)) (λ k. Some (fills_before choice l k)) (line_style p.grid l)
+        by (after, before, agrees, agrees_too, draws) = (
+          after,
+          before,
+          (λ k value e. agrees k value (all_known p.grid p.blocks blocks choice whole _ ∙ e)),
+          (λ k value e. agrees_too k value (all_known p.grid p.blocks blocks choice whole _ ∙ e)),
+          draws,
+        )
+
+    -- so its solid draws the grid's styles
+    drawn_at : (l : LineId) → IsTrue (has_line p.grid l) → drawing (segment_of l) ≡ solid_drawing s (segment_of l)
+    drawn_at l has = sym (line_drawing drawing is p.grid grid p.blocks blocks choice l has)
+        ∙ own_style_drawn drawing is p.grid grid p.blocks blocks choice l has s union (line_style p.grid l) (own_draws l has)
+
+    styles_drawn : AreGridStyles (solid_drawing s) (coordinates_of p.grid) p.grid.panels
+    styles_drawn v upright = grid.styles v upright ∙ ap joined (map_alike _ _ lines (pos 0) (λ j m. map_alike _ _ (starts_of all) (pos 0) (λ i l. at i j l m)))
+      where
+        all : List ℤ
+        all = coordinates_of p.grid (axis_along v upright)
+
+        lines : List ℤ
+        lines = coordinates_of p.grid (axis_across v upright)
+
+        Alike : ℤ → ℤ → Type 0
+        Alike start line = drawing (segment_at v upright start line) ≡ solid_drawing s (segment_at v upright start line)
+
+        at : (i j : ℕ) → i < length (starts_of all) → j < length lines
+            → Alike (get_or (starts_of all) i (pos 0)) (get_or lines j (pos 0))
+        at i j l m =
+            let within : i < length all - 1 = omega (arith, length-starts_of all) in
+            let line : LineId = record { view = v; upright = upright; at = j; cell = i } in
+            let across = lt-ltb j (suc (grid_sizes p.grid (axis_across v upright))) (omega arith) in
+            let along = lt-ltb i (grid_sizes p.grid (axis_along v upright)) within in
+            subst (λ z. Alike z (get_or lines j (pos 0))) (sym (get_or-take (length all - 1) all i (pos 0) within)) (drawn_at line (and_from _ _ across along))
+
+  live_matching : (choice : List Bool) → length choice ≡ p.blocks.count → IsLive p choice → IsMatching choice
+  live_matching choice whole live = by (some_union (coordinates_of p.grid) (λ a. (grid.coordinates a).ordered) (cells_of_choice p.blocks.numbers choice))
+    where
+      by : (s : List Cell) × IsUnionOf (coordinates_of p.grid) (cells_of_choice p.blocks.numbers choice) (is_full s)
+          → IsMatching choice
+      by (s, union) =
+          let same = matching_on_grid drawing is p.grid grid (cells_of_choice p.blocks.numbers choice) s union p.grid.panels (styles_drawn choice whole live s union) in
+          (s, union, same.0 refl)
+
+  -- ---- all four
+
+  pub live_keeps_matching : KeepsMatching (is_live p) p.blocks.count IsMatching
+  live_keeps_matching = record {
+    short = λ prefix live. (is_live_by prefix live).short;
+    downwards = λ prefix rest live. live_from prefix (begins_live prefix rest (is_live_by (prefix ++ rest) live));
+    reached = λ prefix rest whole matches. live_from prefix (begins_live prefix rest (matching_live (prefix ++ rest) whole matches));
+    ends = λ choice whole live. live_matching choice whole (is_live_by choice live);
+  }

@@ -1,0 +1,13 @@
+-- The lines so far are tried.
+use Rattle.std.proofs.Common.{◌≡◌, ◌≤◌, ◌+◌, length, take, vec_capacity}
+use Rattle.columns.specs.Lines.{AreMarked, AreTried}
+use Rattle.columns.proofs.lines.try_lines.Given as goal
+
+abbrev pub invariant-loop-line : goal.invariant-loop-line
+invariant-loop-line g l = record {
+  marked : AreMarked l.met l.broken.items;
+  count : length l.met ≡ length l.fn.met;
+  room : vec_capacity l.broken ≡ vec_capacity l.fn.broken;
+  tried : AreTried l.columns l.sides (take l.line-index l.lines) l.fn.broken.items l.broken.items;
+  steps : l.steps ≤ l.fn.steps + l.line-index;
+}

@@ -1,0 +1,36 @@
+-- The block is free again, and the lines that it broke are mended.
+use Rattle.std.proofs.Common.{◌≡◌, ◌++◌, ◌∷◌, [], None, List, if◌then◌else◌, length, take, drop, get_or, vec_capacity, ap, sym, subst, ◌∙◌}
+use Rattle.std.proofs.lemmas.List.{take_at}
+use Rattle.columns.specs.declared.decision.Decision.{Decision}
+use Rattle.columns.specs.KeptColumns.{IsKeptBy}
+use Rattle.columns.specs.Lines.{AreMarked}
+use Rattle.columns.specs.Spans.{is_on, known_there}
+use Rattle.columns.proofs.KeptState.{kept_less, seen_as}
+use Rattle.columns.proofs.partial_state.PartialState.undo.Goals as goal
+
+pub invariant_of-self : goal.invariant_of-self
+invariant_of-self c =
+    let self = c.self.inside in
+    let p = self.problem.now in
+    let last = c.in-Some.last in
+    let height = c.in-Some-pop.height in
+    let columns = c.set_spans.new.columns in
+    let met = c.mend_lines.new.met in
+    let was : c.as_mut_slice.result.now ≡ self.columns.items = c.as_mut_slice.ensures.value in
+    let long : length columns ≡ length self.columns.items = c.set_spans.auto.columns ∙ ap length was in
+    let of_block : c.as_slice.result.now ≡ get_or self.spans.items last.block c.index.result.now = c.as_slice.ensures ∙ c.index.ensures ∙ ap (λ b. get_or self.spans.items b c.index.result.now) c.from.ensures in
+    let met_was : c.as_mut_slice-in-Some-pop.result.now ≡ self.met.items = c.as_mut_slice-in-Some-pop.ensures.value in
+    let met_long : length met ≡ length self.met.items = c.mend_lines.auto.met ∙ ap length met_was in
+    let all_columns : take self.columns.len (columns ++ drop (length columns) self.columns.items) ≡ columns = take_at columns _ self.columns.len (long ∙ sym (ap length was) ∙ c.as_mut_slice.ensures.len) in
+    let all_met : take self.met.len (met ++ drop (length met) self.met.items) ≡ met = take_at met _ self.met.len (met_long ∙ sym (ap length met_was) ∙ c.as_mut_slice-in-Some-pop.ensures.len) in
+    let kept = kept_less p c.grid-grid.ensures.kept self.spans.items self.touched.items self.sides.items c.pop.new.self.items last self.columns.items columns self.met.items met
+    c.pop-in-Some.new.self.items height self.broken.items (vec_capacity self.decisions) (vec_capacity self.heights) (vec_capacity self.broken) c.index.result.now
+    (subst (λ (ds : List Decision). IsKeptBy p ds self.spans.items self.touched.items self.sides.items self.columns.items self.met.items (c.pop-in-Some.new.self.items ++ height ∷ []) self.broken.items (vec_capacity self.decisions) (vec_capacity self.heights) (vec_capacity self.broken)) c.in-Some.ensures.items
+    (subst (λ hs. IsKeptBy p self.decisions.items self.spans.items self.touched.items self.sides.items self.columns.items self.met.items hs self.broken.items (vec_capacity self.decisions) (vec_capacity self.heights) (vec_capacity self.broken)) c.in-Some-pop.ensures.items
+    c.self.invariant))
+    long c.set_spans.ensures.within
+    (λ n k. c.set_spans.ensures.known n k ∙ (λ t. if is_on (of_block t) n k then None else known_there (was t) n k))
+    met_long (subst (AreMarked met) c.mend_lines.ensures.broken c.mend_lines.ensures.marked) in
+    seen_as p c.grid-grid.ensures.kept self.spans.items self.touched.items self.sides.items c.pop.new.self.items columns _ met _ c.pop-in-Some.new.self.items (take height self.broken.items) _
+    (vec_capacity self.decisions) _ (vec_capacity self.heights) _ (vec_capacity self.broken) _
+    all_columns all_met c.mend_lines.ensures.broken c.in-Some.ensures.capacity c.in-Some-pop.ensures.capacity c.mend_lines.ensures.room kept

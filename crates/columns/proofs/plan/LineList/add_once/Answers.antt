@@ -1,0 +1,1 @@
+-- It is there, or it is added.

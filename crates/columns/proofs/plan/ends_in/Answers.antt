@@ -1,0 +1,1 @@
+-- The last one is there.

@@ -1,0 +1,61 @@
+-- Lines that can't be met, by number.
+use Rattle.std.specs.Prelude.{◌≡◌, ◌↔◌, ◌==◌, ◌<◌, ◌≤◌, ◌+◌, Bool, false, ℕ, Option, Some, None, nat_lt, List, length, take, All, slice_index_or, if◌then◌else◌}
+use Rattle.std.specs.List.{sum_by}
+use Rattle.columns.specs.Known.{known_bits}
+use Rattle.columns.specs.declared.known.KnownColumn.{KnownColumn}
+use Rattle.columns.specs.declared.lines.Beside.{Beside}
+use Rattle.columns.specs.Spans.{column_there}
+use Rattle.solid_model.specs.Demands.{CanDraw}
+
+-- 1 where the test holds
+abbrev pub one_if : Bool → ℕ
+one_if b = if b then 1 else 0
+
+-- how often a number stands in a list
+abbrev pub times : ℕ → List ℕ → ℕ
+times i xs = sum_by (λ x. one_if (x == i)) xs
+
+-- The marks of lines say which can be met; each other line is listed once.
+pub record AreMarked (met : List Bool) (broken : List ℕ) : Type 0 where
+  pub once : (i : ℕ) → i < length met → times i broken + one_if (slice_index_or met i false) ≡ 1
+  pub below : All (λ i. i < length met) broken
+  pub counted : length broken + sum_by one_if met ≡ length met
+
+-- some columns that agree with what is known of those beside a line draw its style
+abbrev pub IsMetBy : List KnownColumn → Beside → Type 0
+IsMetBy columns b = CanDraw (known_bits (column_there columns b.after).full (column_there columns b.after).may)
+    (known_bits (column_there columns b.before).full (column_there columns b.before).may) b.style
+
+-- the columns beside each line are some of so many
+abbrev pub AreBeside : ℕ → List Beside → Type 0
+AreBeside count sides = All (λ b. (b.after < count) × (b.before < count)) sides
+
+-- a list begins with another one
+pub record BeginsWith (first whole : List ℕ) : Type 0 where
+  pub same : take (length first) whole ≡ first
+  pub longer : length first ≤ length whole
+
+-- Of the lines that weren't broken, those are broken now that were tried and can't be met.
+pub record AreTried (columns : List KnownColumn) (sides : List Beside) (lines old new : List ℕ) : Type 0 where
+  pub begins : BeginsWith old new
+  pub each : (i : ℕ) (d : Beside) → i < length sides
+      → (times i new ≡ 0) ↔ ((times i old ≡ 0) × (0 < times i lines → IsMetBy columns (slice_index_or sides i d)))
+
+-- it is one of them, and each that is less isn't
+pub record IsLeastOf (numbers : List ℕ) (x : ℕ) : Type 0 where
+  pub there : 0 < times x numbers
+  pub least : (i : ℕ) → i < x → times i numbers ≡ 0
+
+abbrev pub IsLeast : List ℕ → Option ℕ → Type 0
+IsLeast numbers None = (i : ℕ) → times i numbers ≡ 0
+IsLeast numbers (Some x) = IsLeastOf numbers x
+
+-- the lesser of two numbers, of which the first may be none
+abbrev pub lesser_of : Option ℕ → ℕ → ℕ
+lesser_of None n = n
+lesser_of (Some x) n = if nat_lt n x then n else x
+
+-- of the first lines those are listed that can't be met, and none of the others
+pub record AreBrokenTo (columns : List KnownColumn) (sides : List Beside) (n : ℕ) (broken : List ℕ) : Type 0 where
+  pub before : (i : ℕ) (d : Beside) → i < n → i < length sides → (times i broken ≡ 0) ↔ IsMetBy columns (slice_index_or sides i d)
+  pub after : (i : ℕ) → n ≤ i → times i broken ≡ 0

@@ -1,0 +1,265 @@
+//! A problem, some of whose blocks are decided.
+
+ghost use Rattle.std.specs.Prelude.{◌≡◌, ◌<◌, ◌++◌, ◌∷◌, [], None};
+ghost use Rattle.columns.specs.Broken.{TellsBroken};
+ghost use Rattle.columns.specs.Decisions.{decided_by};
+
+use crate::beside::{beside_of, number_of_column};
+use crate::decision::Decision;
+use crate::gather::{
+    all_met, all_sides, break_all, empty_lists, empty_spans, gather_columns, touch_all,
+};
+use crate::known::KnownColumn;
+use crate::lines::{Beside, can_be_met, least, mend_lines, try_lines};
+use crate::plan::{LineList, SpanList};
+use crate::spans::set_spans;
+use crate::steps::Steps;
+use solid_model::{LineId, Memory, Problem, View};
+use std::alloc::Global;
+use std::marker::{Brand, Model};
+use std::sync::ledger::{Blank, Ledger};
+
+/// A problem, some of whose blocks are decided: what is known of the columns of its cells, and which
+/// lines can't be met. All memory is taken at the beginning. A decision looks at the columns of its
+/// block and tries the lines beside them, and no others; taking it back tries none.
+#[derive(Debug, Drop)]
+pub struct PartialState<'p> {
+    problem: &'p Problem,
+    decisions: Vec<Decision>,
+    /// The cells of each block, column by column.
+    spans: Vec<SpanList>,
+    /// The numbers of the lines that touch each block.
+    touched: Vec<LineList>,
+    /// All lines, in their order.
+    sides: Vec<Beside>,
+    /// What is known of the columns of the front, the top and the side, and of one beyond them that
+    /// has no cell.
+    columns: Vec<KnownColumn>,
+    /// For each line whether it can be met.
+    met: Vec<bool>,
+    /// The lines that can't be met, in the order in which they were found. More decisions never mend
+    /// a line, so those of the first decisions are the first ones.
+    broken: Vec<u32>,
+    /// For each decision how many lines couldn't be met before it.
+    heights: Vec<usize>,
+}
+
+impl<'p> Model for PartialState<'p> {
+    ghost use Rattle.std.specs.Prelude.{vec_capacity};
+    ghost use Rattle.columns.specs.Decisions.{PartialParts};
+
+    ghost Value = { PartialParts };
+
+    ghost use Rattle.columns.specs.KeptColumns.{IsKeptBy};
+
+    ghost view = { λ s. record { problem = s.problem.now; decisions = s.decisions.items } };
+
+    ghost invariant = { λ s. IsKeptBy s.problem.now s.decisions.items s.spans.items s.touched.items
+        s.sides.items s.columns.items s.met.items s.heights.items s.broken.items
+        (vec_capacity s.decisions) (vec_capacity s.heights) (vec_capacity s.broken) };
+}
+
+impl<'p> PartialState<'p> {
+    ghost use Rattle.std.specs.Prelude.{◌≡◌, ◌↔◌, ◌<◌, ◌≤◌, ◌+◌, ◌++◌, ◌∷◌, [], ℕ, pos, None, false, IsTrue, IfSome, IfOk};
+    ghost use Rattle.columns.specs.Decisions.{decided_by};
+    ghost use Rattle.columns.specs.KeptColumns.{touching, view_width, view_height, shown_cell};
+    ghost use Rattle.columns.specs.Known.{known_bits, LiesWithin};
+    ghost use Rattle.solid_model.specs.GridBox.{grid_sizes};
+    ghost use Rattle.solid_model.specs.Demands.{has_line, known_cell, CanBeMet, IsFirstBroken};
+
+    /// The problem, while no block is decided. An `Err` is out of memory.
+    pub fn new(alloc: Global, problem: &'p Problem) -> Result<PartialState<'p>, Memory>
+        ensures { IfOk result (λ state. state ≡ record {
+          problem = problem.now;
+          decisions = [];
+        }) }
+    {
+        let _grid = problem.grid();
+        let count = usize::from(problem.blocks().count());
+        let decisions = Vec::with_capacity(alloc, count)?;
+        let heights = Vec::with_capacity(alloc, count)?;
+        let mut spans = empty_spans(alloc, count)?;
+        let mut on = Vec::new(alloc);
+        let mut columns = gather_columns(alloc, problem, spans.as_mut_slice(), &mut on)?;
+        columns.push(KnownColumn { full: 0, may: 0 })?;
+        on.push(LineList::new(alloc))?;
+        let sides = all_sides(alloc, problem)?;
+        let mut touched = empty_lists(alloc, count)?;
+        touch_all(on.as_slice(), sides.as_slice(), touched.as_mut_slice())?;
+        let mut met = all_met(alloc, sides.len())?;
+        let mut broken = Vec::with_capacity(alloc, sides.len())?;
+        break_all(
+            columns.as_slice(),
+            sides.as_slice(),
+            met.as_mut_slice(),
+            &mut broken,
+        );
+        Ok(PartialState {
+            problem,
+            decisions,
+            spans,
+            touched,
+            sides,
+            columns,
+            met,
+            broken,
+            heights,
+        })
+    }
+
+    /// The number of lines that touch a block.
+    pub fn touching(&self, block: u16) -> u32
+        requires { block < self.now.problem.blocks.count }
+        ensures { result ≡ touching self.now.problem block }
+    {
+        let _grid = self.problem.grid();
+        self.touched[usize::from(block)].as_slice().len() as u32
+    }
+
+    /// Decides a block that isn't decided.
+    pub fn decide_counted<L: Ledger>(&mut self, block: u16, full: bool, steps: &mut Steps<L>)
+        requires there { block < self.old.problem.blocks.count }
+        requires open { decided_by self.old.decisions block ≡ None }
+        ensures decided { self.new ≡ record {
+          problem = self.old.problem;
+          decisions = self.old.decisions ++ record { block = block; full = full } ∷ [];
+        } }
+        ensures steps { steps.new ≤ steps.old + touching self.old.problem block }
+    {
+        let _grid = self.problem.grid();
+        let number = usize::from(block);
+        set_spans(
+            self.columns.as_mut_slice(),
+            self.spans[number].as_slice(),
+            Some(full),
+        );
+        self.heights.push_reserved(self.broken.len());
+        try_lines(
+            self.columns.as_slice(),
+            self.sides.as_slice(),
+            self.touched[number].as_slice(),
+            self.met.as_mut_slice(),
+            &mut self.broken,
+            steps,
+        );
+        self.decisions.push_reserved(Decision { block, full });
+    }
+
+    /// Takes back the last decision. False: there is none.
+    pub fn undo(&mut self) -> bool
+        ensures problem { self.new.problem ≡ self.old.problem }
+        ensures undone { IsTrue result → (last : Decision)
+            × (self.old.decisions ≡ self.new.decisions ++ last ∷ []) }
+        ensures none { result ≡ false → (self.old.decisions ≡ []) × (self.new ≡ self.old) }
+    {
+        let _grid = self.problem.grid();
+        match self.decisions.pop() {
+            Some(last) => {
+                set_spans(
+                    self.columns.as_mut_slice(),
+                    self.spans[usize::from(last.block)].as_slice(),
+                    None,
+                );
+                if let Some(height) = self.heights.pop() {
+                    mend_lines(self.met.as_mut_slice(), &mut self.broken, height);
+                }
+                true
+            }
+            None => false,
+        }
+    }
+
+    /// Decides a block that isn't decided.
+    pub fn decide(&mut self, block: u16, full: bool)
+        requires there { block < self.old.problem.blocks.count }
+        requires open { decided_by self.old.decisions block ≡ None }
+        ensures { self.new ≡ record {
+          problem = self.old.problem;
+          decisions = self.old.decisions ++ record { block = block; full = full } ∷ [];
+        } }
+    {
+        decide_with::<Brand>(self, block, full, Blank::new(1));
+    }
+
+    /// The problem.
+    pub fn problem(&self) -> &'p Problem
+        ensures { result.now ≡ self.now.problem }
+    {
+        self.problem
+    }
+
+    /// The decisions, in the order in which they were taken.
+    pub fn decisions(&self) -> &[Decision]
+        ensures { result.now ≡ self.now.decisions }
+    {
+        self.decisions.as_slice()
+    }
+
+    /// A line can still be met: some pair of columns beside it that agrees with every decided cell
+    /// draws its style.
+    pub fn can_meet(&self, line: LineId) -> bool
+        requires { IsTrue (has_line self.now.problem.grid line) }
+        ensures { IsTrue result ↔ CanBeMet self.now.problem (decided_by self.now.decisions) line }
+    {
+        let beside = beside_of(self.problem.grid(), line);
+        can_be_met(self.columns.as_slice(), beside)
+    }
+
+    /// The first line that can't be met.
+    pub fn broken_line(&self) -> Option<LineId>
+        ensures some { IfSome result
+            (IsFirstBroken self.now.problem (decided_by self.now.decisions)) }
+        ensures none { (result ≡ None) ↔ ((l : LineId)
+            → IsTrue (has_line self.now.problem.grid l)
+            → CanBeMet self.now.problem (decided_by self.now.decisions) l) }
+    {
+        first_broken(self)
+    }
+
+    /// What is known of a column, by its places to the right and upwards: the cells that are full
+    /// for certain, and those that may be full.
+    pub fn mask(&self, view: View, right: u8, up: u8) -> (u64, u64)
+        requires right { right < view_width (grid_sizes self.now.problem.grid) view }
+        requires up { up < view_height (grid_sizes self.now.problem.grid) view }
+        ensures within { LiesWithin result.0 result.1 }
+        ensures known { (k : ℕ) → known_bits result.0 result.1 (pos k)
+            ≡ known_cell self.now.problem.blocks (decided_by self.now.decisions)
+            (shown_cell (grid_sizes self.now.problem.grid) view right up (pos k)) }
+    {
+        let sizes = self.problem.grid().sizes();
+        let column = self.columns[number_of_column(
+            sizes,
+            view,
+            usize::from(right),
+            usize::from(up),
+        )];
+        (column.full, column.may)
+    }
+}
+
+/// Decides a block, and counts the steps in a ledger of its own.
+fn decide_with<L: Ledger>(state: &mut PartialState, block: u16, full: bool, blank: Blank)
+    requires name { L.name ≡ blank.name }
+    requires parts { L.parts ≡ blank.parts }
+    requires some { 0 < blank.parts }
+    requires there { block < state.old.problem.blocks.count }
+    requires open { decided_by state.old.decisions block ≡ None }
+    ensures { state.new ≡ record {
+      problem = state.old.problem;
+      decisions = state.old.decisions ++ record { block = block; full = full } ∷ [];
+    } }
+{
+    let mut steps = Steps::<L>::new(blank);
+    state.decide_counted(block, full, &mut steps);
+}
+
+/// The first line that can't be met.
+fn first_broken(state: &PartialState) -> Option<LineId>
+    ensures { TellsBroken state.now.problem (decided_by state.now.decisions) result }
+{
+    let _grid = state.problem.grid();
+    match least(state.broken.as_slice()) {
+        Some(number) => Some(state.sides[number as usize].line),
+        None => None,
+    }
+}
