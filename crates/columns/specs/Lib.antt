@@ -4,6 +4,7 @@ pub mod GridPanels
 pub mod Known
 pub mod Broken
 pub mod Decisions
+pub mod Touching
 pub mod Spans
 pub mod Lines
 pub mod Plans
