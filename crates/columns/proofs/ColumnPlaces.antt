@@ -5,7 +5,8 @@ use Rattle.std.proofs.lemmas.Nat.{mul-add-lt}
 use Rattle.std.proofs.Math.Nat.{mul_comm, mod-lt, div-lt_iff_lt-mul}
 use Rattle.columns.specs.declared.gather.ColumnPlace.{ColumnPlace}
 use Rattle.columns.specs.Gathered.{place_in_view, place_numbered}
-use Rattle.columns.specs.KeptColumns.{view_width, view_height, columns_before, column_number, column_count}
+use Rattle.columns.specs.KeptColumns.{columns_before, column_number, column_count}
+use Rattle.columns.specs.Touching.{view_width, view_height}
 use Rattle.solid_model.specs.declared.frame.View.{View}
 use Rattle.solid_model.specs.declared.frame.View.TheVariants.{Front, Top, Side}
 use Rattle.solid_model.specs.declared.line_id.LineId.{LineId}

@@ -10,11 +10,11 @@ use Rattle.columns.specs.declared.known.KnownColumn.{KnownColumn}
 use Rattle.columns.specs.Known.{known_of, LiesWithin}
 use Rattle.columns.specs.declared.gather.ColumnPlace.{ColumnPlace}
 use Rattle.columns.specs.declared.spans.Span.{Span}
-use Rattle.columns.specs.Spans.{is_of, is_on, no_column, column_there, known_there}
+use Rattle.columns.specs.Touching.{is_of, shown_cell}
 use Rattle.columns.specs.Decisions.{decided_by}
 use Rattle.columns.specs.Lines.{times}
-use Rattle.columns.specs.KeptColumns.{shown_cell}
 use Rattle.columns.specs.Gathered.{block_of_place, block_of_column, place_numbered, IsGathered, AreGatheredTo}
+use Rattle.columns.specs.Spans.{is_on, no_column, column_there, known_there}
 use Rattle.columns.proofs.BoxSight.{shown_within}
 use Rattle.columns.proofs.Gathering.{no_more}
 use Rattle.solid_model.specs.Bits.{is_set}

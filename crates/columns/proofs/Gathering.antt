@@ -7,8 +7,9 @@ use Rattle.columns.specs.declared.known.KnownColumn.{KnownColumn}
 use Rattle.columns.specs.declared.gather.ColumnPlace.{ColumnPlace}
 use Rattle.columns.specs.declared.lines.Beside.{Beside}
 use Rattle.columns.specs.declared.spans.Span.{Span}
-use Rattle.columns.specs.Spans.{is_of, is_on}
+use Rattle.columns.specs.Touching.{is_of}
 use Rattle.columns.specs.Gathered.{block_of_place, AreAddedTo, IsListed, IsGatheredTo}
+use Rattle.columns.specs.Spans.{is_on}
 use Rattle.solid_model.specs.Bits.{is_set}
 use Rattle.columns.specs.Lines.{one_if, times, IsMetBy, AreBrokenTo}
 use Rattle.columns.specs.Plans.{IsAddedOnce}

@@ -9,10 +9,11 @@ use Rattle.columns.specs.Known.{known_bits}
 use Rattle.columns.specs.declared.lines.Beside.{Beside}
 use Rattle.columns.specs.declared.decision.Decision.{Decision}
 use Rattle.columns.specs.declared.spans.Span.{Span}
-use Rattle.columns.specs.Spans.{is_of, is_on, is_in_span, column_there, known_there, AreWithin}
+use Rattle.columns.specs.Touching.{is_of, view_width, view_height, shown_cell}
 use Rattle.columns.specs.Decisions.{decided_by}
 use Rattle.columns.specs.Lines.{times, IsMetBy, AreTried}
-use Rattle.columns.specs.KeptColumns.{view_width, view_height, column_count, column_number, shown_cell, AreKnownColumns, AreSpans, IsColumnOf, IsBeside, IsPlanOf}
+use Rattle.columns.specs.Spans.{is_on, is_in_span, column_there, known_there, AreWithin}
+use Rattle.columns.specs.KeptColumns.{column_count, column_number, AreKnownColumns, AreSpans, IsColumnOf, IsBeside, IsPlanOf}
 use Rattle.columns.proofs.BoxSight.{shown_within}
 use Rattle.columns.proofs.Deciding.{decided_more, same_test}
 use Rattle.solid_model.specs.declared.frame.View.{View}

@@ -13,7 +13,8 @@ use Rattle.columns.specs.Decisions.{decided_by}
 use Rattle.columns.specs.Broken.{TellsBroken}
 use Rattle.columns.specs.Lines.{one_if, times, AreMarked, AreBeside, AreTried, IsMetBy, IsLeast}
 use Rattle.columns.specs.Spans.{is_on, known_there, AreWithin}
-use Rattle.columns.specs.KeptColumns.{column_count, IsColumnOf, IsBeside, touches, IsKeptBy}
+use Rattle.columns.specs.KeptColumns.{column_count, IsColumnOf, IsBeside, IsKeptBy}
+use Rattle.columns.specs.Touching.{touches}
 use Rattle.columns.proofs.Deciding.{one_taken, one_untaken, last_untaken}
 use Rattle.columns.proofs.KeptColumns.{known_more, known_less, columns_set, broken_more, side_met}
 use Rattle.columns.proofs.LeastBroken.{none_broken, some_broken}

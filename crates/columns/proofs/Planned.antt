@@ -15,11 +15,12 @@ use Rattle.columns.specs.declared.gather.ColumnPlace.{ColumnPlace}
 use Rattle.columns.specs.declared.lines.Beside.{Beside}
 use Rattle.columns.specs.declared.decision.Decision.{Decision}
 use Rattle.columns.specs.declared.spans.Span.{Span}
-use Rattle.columns.specs.Spans.{is_of, is_on, no_column, column_there, known_there}
+use Rattle.columns.specs.Touching.{is_of, view_width, view_height, touching}
 use Rattle.columns.specs.Decisions.{decided_by}
 use Rattle.columns.specs.Gathered.{place_in_view, place_numbered, block_of_place, block_of_column, AreGatheredTo, AreTouchedTo}
-use Rattle.columns.specs.KeptColumns.{view_width, view_height, columns_before, column_count, column_number, AreKnownColumns, AreSpans, AreSides, IsTrail, touching, IsKeptBy}
+use Rattle.columns.specs.KeptColumns.{columns_before, column_count, column_number, AreKnownColumns, AreSpans, AreSides, IsTrail, IsKeptBy}
 use Rattle.columns.specs.Lines.{times, AreMarked, AreBrokenTo, AreBeside}
+use Rattle.columns.specs.Spans.{is_on, no_column, column_there, known_there}
 use Rattle.columns.proofs.Deciding.{none_taken}
 use Rattle.columns.proofs.ColumnPlaces.{in_view, number_inside}
 use Rattle.columns.proofs.GatheredColumns.{at_push}

@@ -10,10 +10,11 @@ use Rattle.std.proofs.Math.Seq.{get_or-append_seam}
 use Rattle.columns.specs.declared.known.KnownColumn.{KnownColumn}
 use Rattle.columns.specs.declared.lines.Beside.{Beside}
 use Rattle.columns.specs.declared.spans.Span.{Span}
-use Rattle.columns.specs.Spans.{is_of}
+use Rattle.columns.specs.Touching.{is_of}
 use Rattle.columns.specs.Plans.{is_there}
 use Rattle.columns.specs.Gathered.{block_of_column, AreGatheredTo, AreTouchedTo, no_side, hits}
-use Rattle.columns.specs.KeptColumns.{column_count, IsColumnOf, AreSides, block_beside, touches, touching}
+use Rattle.columns.specs.KeptColumns.{column_count, IsColumnOf, AreSides}
+use Rattle.columns.specs.Touching.{block_beside, touches, touching}
 use Rattle.columns.specs.Lines.{one_if, times}
 use Rattle.columns.proofs.BoxSight.{shown_within}
 use Rattle.columns.proofs.ColumnPlaces.{number_inside}

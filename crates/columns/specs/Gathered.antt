@@ -5,14 +5,15 @@ use Rattle.columns.specs.declared.gather.ColumnPlace.{ColumnPlace}
 use Rattle.solid_model.specs.declared.segment.Style.TheVariants.{Blank}
 use Rattle.columns.specs.declared.lines.Beside.{Beside}
 use Rattle.columns.specs.declared.spans.Span.{Span}
-use Rattle.columns.specs.Spans.{is_of, is_on, known_there, AreWithin, AreAdded}
+use Rattle.columns.specs.Touching.{is_of, view_width, shown_cell}
 use Rattle.columns.specs.Lines.{times, AreMarked}
+use Rattle.columns.specs.Spans.{is_on, known_there, AreWithin, AreAdded}
 use Rattle.columns.specs.Decisions.{decided_by}
 use Rattle.solid_model.specs.Demands.{known_in}
 use Rattle.columns.specs.Plans.{IsAddedOnce, with_hit, is_there}
 use Rattle.columns.specs.declared.known.KnownColumn.{KnownColumn}
 use Rattle.solid_model.specs.Frames.{frame_of}
-use Rattle.columns.specs.KeptColumns.{view_width, columns_before, shown_cell, IsBeside}
+use Rattle.columns.specs.KeptColumns.{columns_before, IsBeside}
 use Rattle.solid_model.specs.declared.frame.View.{View}
 use Rattle.solid_model.specs.declared.frame.View.TheVariants.{Front, Top, Side}
 use Rattle.solid_model.specs.declared.line_id.LineId.{LineId}

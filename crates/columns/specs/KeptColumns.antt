@@ -5,10 +5,11 @@ use Rattle.std.specs.List.{list_any, filter, range_with_len}
 use Rattle.columns.specs.declared.known.KnownColumn.{KnownColumn}
 use Rattle.columns.specs.declared.lines.Beside.{Beside}
 use Rattle.columns.specs.declared.spans.Span.{Span}
-use Rattle.columns.specs.Spans.{is_of, is_on, known_there, AreWithin}
+use Rattle.columns.specs.Touching.{is_of, view_width, view_height, shown_cell, touching}
 use Rattle.columns.specs.declared.decision.Decision.{Decision}
 use Rattle.columns.specs.Decisions.{decided_by, AreDecisions}
 use Rattle.columns.specs.Lines.{times, AreMarked}
+use Rattle.columns.specs.Spans.{is_on, known_there, AreWithin}
 use Rattle.solid_model.specs.declared.cell.Cell.{Cell}
 use Rattle.solid_model.specs.declared.frame.View.{View}
 use Rattle.solid_model.specs.declared.frame.View.TheVariants.{Front, Top, Side}
@@ -18,13 +19,6 @@ use Rattle.solid_model.specs.Demands.{box_cell_in, known_cell, line_style, lines
 use Rattle.solid_model.specs.Frames.{frame_of}
 use Rattle.solid_model.specs.Rooms.{Sizes, is_below}
 use Rattle.solid_model.specs.GridBox.{grid_sizes, axis_along, axis_across}
-
--- how many columns there are in a row, and how many rows
-abbrev pub view_width : Sizes → View → ℕ
-view_width sizes v = sizes (axis_along v false)
-
-abbrev pub view_height : Sizes → View → ℕ
-view_height sizes v = sizes (axis_across v false)
 
 -- how many columns stand before those of a view
 abbrev pub columns_before : Sizes → View → ℕ
@@ -39,10 +33,6 @@ column_count sizes = columns_before sizes Side + view_height sizes Side * view_w
 -- the number of a column
 abbrev pub column_number : Sizes → View → ℕ → ℕ → ℕ
 column_number sizes v right up = columns_before sizes v + (up * view_width sizes v + right)
-
--- the cell that it shows at a depth
-abbrev pub shown_cell : Sizes → View → ℕ → ℕ → ℤ → Cell
-shown_cell sizes v right up k = box_cell_in sizes (frame_of v) false (pos right) (pos up) k
 
 -- the columns say what is known of the grid's cells
 pub record AreKnownColumns (p : ProblemParts) (known : ℕ → Option Bool) (columns : List KnownColumn) : Type 0 where
@@ -78,19 +68,6 @@ pub record IsBeside (p : ProblemParts) (b : Beside) : Type 0 where
 pub record AreSides (p : ProblemParts) (sides : List Beside) : Type 0 where
   pub listed : map (λ b. b.line) sides ≡ lines_of p.grid
   pub each : All (IsBeside p) sides
-
--- the block of the cell that stands beside a line, at a place across it, at a depth
-abbrev pub block_beside : ProblemParts → LineId → ℤ → ℕ → Option ℕ
-block_beside p l j k = block_at p.blocks (box_cell_in (grid_sizes p.grid) (frame_of l.view) l.upright (pos l.cell) j (pos k))
-
--- a line touches a block where one of the two columns beside it has a cell of the block
-abbrev pub touches : ProblemParts → ℕ → LineId → Bool
-touches p b l = list_any (λ k. is_of b (block_beside p l (pos l.at) k) || is_of b (block_beside p l (pos l.at -ℤ pos 1) k))
-    (range_with_len 0 (grid_sizes p.grid (frame_of l.view).away.axis))
-
--- how many do
-abbrev pub touching : ProblemParts → ℕ → ℕ
-touching p b = length (filter (touches p b) (lines_of p.grid))
 
 -- a line is listed with a block where a column beside it has a cell of the block
 pub record AreTouched (p : ProblemParts) (sides : List Beside) (spans : List (List Span)) (touched : List (List ℕ)) : Type 0 where

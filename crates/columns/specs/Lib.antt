@@ -5,6 +5,7 @@ pub mod Known
 pub mod Broken
 pub mod Decisions
 pub mod DrawnDemands
+pub mod Touching
 pub mod Spans
 pub mod Lines
 pub mod Plans

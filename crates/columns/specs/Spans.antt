@@ -6,11 +6,6 @@ use Rattle.columns.specs.declared.known.KnownColumn.{KnownColumn}
 use Rattle.columns.specs.declared.spans.Span.{Span}
 use Rattle.solid_model.specs.Bits.{is_set}
 
--- the block of a cell has this number
-abbrev pub is_of : ℕ → Option ℕ → Bool
-is_of block None = false
-is_of block (Some other) = other == block
-
 -- the cell of a column at a depth is one of a span's
 abbrev pub is_in_span : ℕ → ℕ → Span → Bool
 is_in_span c k s = (s.column == c) && is_set s.cells k

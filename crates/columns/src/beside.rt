@@ -1,7 +1,8 @@
 //! The columns beside a line, by number.
 
 ghost use Rattle.std.specs.Prelude.{◌≡◌, ◌<◌, ◌≤◌, ◌+◌, ◌*◌, pos, ◌-ℤ◌, IsTrue, if◌then◌else◌};
-ghost use Rattle.columns.specs.KeptColumns.{columns_before, column_count, column_number, view_width, view_height, IsColumnOf, IsBeside};
+ghost use Rattle.columns.specs.KeptColumns.{columns_before, column_count, column_number, IsColumnOf, IsBeside};
+ghost use Rattle.columns.specs.Touching.{view_width, view_height};
 ghost use Rattle.solid_model.specs.declared.cell.Axis.{Axis};
 ghost use Rattle.solid_model.specs.Blocks.{ProblemParts};
 ghost use Rattle.solid_model.specs.Demands.{has_line, line_style};

@@ -3,7 +3,8 @@
 ghost use Rattle.std.specs.Prelude.{◌≡◌, ◌==◌, ◌&&◌, ◌||◌, ◌<◌, ◌≤◌, ℕ, [], length, All, is_some, vec_capacity, IsTrue, IfOk, IfSome};
 ghost use Rattle.solid_model.specs.Demands.{has_line, lines_at, lines_along};
 ghost use Rattle.columns.specs.Gathered.{place_in_view, place_numbered, block_of_place, IsListed, AreAddedTo, IsGathered, AreGatheredTo, AreTouchedBy, AreTouchedTo, AllEmpty, AllMet, AreMoreSides};
-ghost use Rattle.columns.specs.KeptColumns.{view_width, view_height, column_count, IsBeside, AreSides};
+ghost use Rattle.columns.specs.KeptColumns.{column_count, IsBeside, AreSides};
+ghost use Rattle.columns.specs.Touching.{view_width, view_height};
 ghost use Rattle.solid_model.specs.declared.cell.Axis.{Axis};
 ghost use Rattle.columns.specs.Lines.{AreMarked, AreBeside, AreBrokenTo};
 ghost use Rattle.columns.specs.Spans.{AreWithin};

@@ -62,7 +62,7 @@ impl<'p> Model for PartialState<'p> {
 impl<'p> PartialState<'p> {
     ghost use Rattle.std.specs.Prelude.{◌≡◌, ◌↔◌, ◌<◌, ◌≤◌, ◌+◌, ◌++◌, ◌∷◌, [], ℕ, pos, None, false, IsTrue, IfSome, IfOk};
     ghost use Rattle.columns.specs.Decisions.{decided_by};
-    ghost use Rattle.columns.specs.KeptColumns.{touching, view_width, view_height, shown_cell};
+    ghost use Rattle.columns.specs.Touching.{touching, view_width, view_height, shown_cell};
     ghost use Rattle.columns.specs.Known.{known_bits, LiesWithin};
     ghost use Rattle.solid_model.specs.GridBox.{grid_sizes};
     ghost use Rattle.solid_model.specs.Demands.{has_line, known_cell, CanBeMet, IsFirstBroken};

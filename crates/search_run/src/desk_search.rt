@@ -6,10 +6,11 @@ ghost use Rattle.solid_model.specs.Demands.{is_live};
 ghost use Rattle.solid_model.specs.SearchEnds.{EndsSearch};
 ghost use Rattle.search_core.specs.Conserves.{IsClosed};
 ghost use Rattle.search_core.specs.Desk.{IsDesk};
+ghost use Rattle.search_tree.specs.BlockPaths.{IsWayOf};
 
 use crate::sorted::sort_choices;
 use search_core::{Desk, Reported};
-use search_tree::expand;
+use search_tree::{BlockPath, expand_from};
 use solid_model::{EndKind, Ended, Limits, Memory, Prefix, Problem};
 use std::alloc::Global;
 use std::sync::Arc;
@@ -18,12 +19,33 @@ use std::sync::Arc;
 const QUANTUM: u32 = 64;
 
 /// Whether any prefix of a problem is live: whether the empty one is. An `Err` is out of memory.
-fn is_any_live(alloc: Global, problem: &Arc<Problem>) -> Result<bool, Memory>
-    ensures { IfOk result (λ live. live ≡ is_live (arc_value problem.now) []) }
+fn is_any_live(alloc: Global, path: &mut BlockPath, problem: &Arc<Problem>) -> Result<bool, Memory>
+    requires way { IsWayOf (arc_value problem.now) path.old }
+    ensures way { IsWayOf (arc_value problem.now) path.new }
+    ensures live { IfOk result (λ live. live ≡ is_live (arc_value problem.now) []) }
 {
     let empty = Prefix::from_bools(alloc, &[])?;
-    let report = expand(alloc, problem, &empty, 1)?;
+    let report = expand_from(alloc, path, problem, &empty, 1)?;
     Ok(report.is_some())
+}
+
+/// The desk of a search that begins, by a way down the tree of its problem. An `Err` is out of
+/// memory.
+fn begin_from(
+    alloc: Global,
+    path: &mut BlockPath,
+    problem: &Arc<Problem>,
+    limits: Limits,
+) -> Result<Desk, Memory>
+    requires way { IsWayOf (arc_value problem.now) path.old }
+    ensures way { IsWayOf (arc_value problem.now) path.new }
+    ensures problem { IfOk result (λ desk. desk.problem ≡ arc_value problem.now) }
+    ensures limits { IfOk result (λ desk. desk.limits ≡ limits) }
+    ensures begun { IfOk result (λ desk. desk.history ≡ []) }
+    ensures kept { IfOk result IsDesk }
+{
+    let live = is_any_live(alloc, path, problem)?;
+    Desk::new(alloc, Arc::try_clone(problem)?, limits, live)
 }
 
 /// The desk of a search of a problem within limits that begins. An `Err` is out of memory.
@@ -33,13 +55,16 @@ pub fn begin(alloc: Global, problem: &Arc<Problem>, limits: Limits) -> Result<De
     ensures begun { IfOk result (λ desk. desk.history ≡ []) }
     ensures kept { IfOk result IsDesk }
 {
-    let live = is_any_live(alloc, problem)?;
-    Desk::new(alloc, Arc::try_clone(problem)?, limits, live)
+    let mut path = BlockPath::new(alloc, problem)?;
+    begin_from(alloc, &mut path, problem, limits)
 }
 
-/// Expands the first piece of the frontier, and reports it. An `Err` is out of memory.
-fn step(alloc: Global, desk: &mut Desk) -> Result<(), Memory>
+/// Expands the first piece of the frontier by a way down the tree of the desk's problem, and reports
+/// it. An `Err` is out of memory.
+fn step(alloc: Global, path: &mut BlockPath, desk: &mut Desk) -> Result<(), Memory>
+    requires way { IsWayOf desk.old.problem path.old }
     requires going { desk.old.end ≡ None }
+    ensures way { OnOk result (IsWayOf desk.new.problem path.new) }
     ensures problem { OnOk result (desk.new.problem ≡ desk.old.problem) }
     ensures limits { OnOk result (desk.new.limits ≡ desk.old.limits) }
     ensures opened { OnOk result (desk.old.opened < desk.new.opened) }
@@ -49,7 +74,7 @@ fn step(alloc: Global, desk: &mut Desk) -> Result<(), Memory>
     let Some(piece) = desk.first_piece() else {
         unreachable!()
     };
-    let Some(expansion) = expand(alloc, desk.problem(), piece, QUANTUM)? else {
+    let Some(expansion) = expand_from(alloc, path, desk.problem(), piece, QUANTUM)? else {
         unreachable!()
     };
     match desk.report(expansion) {
@@ -86,11 +111,12 @@ pub fn search_by_desk(
         (arc_value problem.now).blocks.count limits) }
 {
     let _grid = problem.grid();
-    let mut desk = begin(alloc, problem, limits)?;
+    let mut path = BlockPath::new(alloc, problem)?;
+    let mut desk = begin_from(alloc, &mut path, problem, limits)?;
     loop {
         if let Some(kind) = desk.end() {
             return Ok(ended(desk, kind));
         }
-        step(alloc, &mut desk)?;
+        step(alloc, &mut path, &mut desk)?;
     }
 }

@@ -4,6 +4,7 @@ use Rattle.columns.specs.declared.decision.Decision.{Decision}
 use Rattle.columns.specs.Decisions.{PartialParts}
 use Rattle.solid_model.specs.declared.cell.Axis.{Axis}
 use Rattle.solid_model.specs.Blocks.{ProblemParts}
+use Rattle.solid_model.specs.Demands.{is_live}
 use Rattle.solid_model.specs.PerAxis.{numbers_of}
 use Rattle.solid_model.specs.GridBox.{grid_sizes}
 
@@ -26,3 +27,8 @@ pub record IsPath (partial : PartialParts) (blocks : ℕ) (values : List Bool) (
   pub within : length values ≤ blocks
   pub roomy : blocks ≤ room
   pub sized : (a : Axis) → numbers_of partial.problem.blocks.sizes a ≡ grid_sizes partial.problem.grid a
+
+-- the way goes down the tree of this problem's prefixes
+pub record IsWayOf (p : ProblemParts) (path : PathParts) : Type 0 where
+  pub live : is_live path.problem ≡ is_live p
+  pub count : path.problem.blocks.count ≡ p.blocks.count

@@ -1,12 +1,14 @@
 //! The expansion of a piece.
 
-ghost use Rattle.std.specs.Prelude.{◌≡◌, ◌≤◌, false, [], length, IsTrue, IfOk, IfSome, MatchOption};
+ghost use Rattle.std.specs.Prelude.{◌≡◌, ◌≤◌, false, length, IsTrue, IfOk, IfSome, MatchOption};
 ghost use Rattle.std.specs.Arc.{arc_value};
 ghost use Rattle.solid_model.specs.Demands.{is_live};
 ghost use Rattle.solid_model.specs.Tree.{opened_of, found_of, rest_of, IsAllowed};
+ghost use Rattle.search_tree.specs.BlockPaths.{IsWayOf};
 ghost use Rattle.search_tree.specs.Walk.{IsTree};
 
 use crate::block_path::BlockPath;
+use crate::going::go_to;
 use crate::opened::open_first;
 use crate::path::Path;
 use crate::rest::keep_rest;
@@ -35,6 +37,8 @@ pub fn expand_path<P: Path>(alloc: Global, path: &mut P, quantum: u32) -> Result
         ≡ found_of (P.live path.old) (P.blocks path.old) (P.prefix path.old) quantum) }
     ensures rest { IfOk result (λ parts. parts.rest.items
         ≡ rest_of (P.live path.old) (P.blocks path.old) (P.prefix path.old) quantum) }
+    ensures live { P.live path.new ≡ P.live path.old }
+    ensures blocks { P.blocks path.new ≡ P.blocks path.old }
     ensures allowed { IfOk result (λ parts. IsAllowed (P.live path.old) (P.blocks path.old)
         (P.prefix path.old) parts.opened parts.found.items parts.rest.items) }
 {
@@ -52,17 +56,45 @@ pub fn expand_path<P: Path>(alloc: Global, path: &mut P, quantum: u32) -> Result
     })
 }
 
-/// Goes from the empty prefix along a piece.
-fn go_along<P: Path>(path: &mut P, piece: &Prefix)
-    requires empty { P.prefix path.old ≡ [] }
-    requires within { length piece.now ≤ P.blocks path.old }
-    ensures live { P.live path.new ≡ P.live path.old }
-    ensures blocks { P.blocks path.new ≡ P.blocks path.old }
-    ensures along { P.prefix path.new ≡ piece.now }
+/// The report of a piece of a problem, as [`expand`] gives it, by a way down the tree of the
+/// problem's prefixes, wherever it stands: it goes to the piece from there. At an `Err`, which is out
+/// of memory, the way stands somewhere else.
+pub fn expand_from(
+    alloc: Global,
+    path: &mut BlockPath,
+    problem: &Arc<Problem>,
+    piece: &Prefix,
+    quantum: u32,
+) -> Result<Option<Expansion>, Memory>
+    requires way { IsWayOf (arc_value problem.now) path.old }
+    requires quantum { 1 ≤ quantum }
+    ensures way { IsWayOf (arc_value problem.now) path.new }
+    ensures live { IfOk result (λ answer. MatchOption answer
+        (is_live (arc_value problem.now) piece.now ≡ false)
+        (λ _. IsTrue (is_live (arc_value problem.now) piece.now))) }
+    ensures report { IfOk result (λ answer. IfSome answer (λ expansion. expansion ≡ record {
+      problem = arc_value problem.now;
+      piece = piece.now;
+      opened = length (opened_of (is_live (arc_value problem.now))
+          (arc_value problem.now).blocks.count piece.now quantum);
+      found = found_of (is_live (arc_value problem.now))
+          (arc_value problem.now).blocks.count piece.now quantum;
+      rest = rest_of (is_live (arc_value problem.now))
+          (arc_value problem.now).blocks.count piece.now quantum;
+    })) }
 {
-    for at in 0..piece.len() {
-        path.go_down(piece.get(at));
+    if piece.len() > path.block_count() {
+        return Ok(None);
     }
+    go_to(path, piece);
+    if !path.is_live() {
+        return Ok(None);
+    }
+    let parts = expand_path(alloc, path, quantum)?;
+    let problem = Arc::try_clone(problem)?;
+    let piece = piece.try_clone()?;
+    let expansion = Expansion::new(problem, piece, parts.opened, parts.found, parts.rest);
+    Ok(Some(expansion))
 }
 
 /// The report of a piece of a problem: opens the first live prefixes that begin with the piece, in
@@ -91,16 +123,5 @@ pub fn expand(
     })) }
 {
     let mut path = BlockPath::new(alloc, problem)?;
-    if piece.len() > path.block_count() {
-        return Ok(None);
-    }
-    go_along(&mut path, piece);
-    if !path.is_live() {
-        return Ok(None);
-    }
-    let parts = expand_path(alloc, &mut path, quantum)?;
-    let problem = Arc::try_clone(problem)?;
-    let piece = piece.try_clone()?;
-    let expansion = Expansion::new(problem, piece, parts.opened, parts.found, parts.rest);
-    Ok(Some(expansion))
+    expand_from(alloc, &mut path, problem, piece, quantum)
 }

@@ -4,13 +4,15 @@
 mod alone;
 mod block_path;
 mod expansion;
+mod going;
 mod opened;
 mod path;
 mod rest;
 mod walk;
 
 pub use alone::solve_alone;
-pub use expansion::expand;
+pub use block_path::BlockPath;
+pub use expansion::{expand, expand_from};
 
 #[cfg(test)]
 mod tests;

@@ -2,7 +2,7 @@
 use Rattle.std.proofs.Common.{◌≡◌, ◌<◌, false, pos, ap, sym, subst, ◌∙◌}
 use Rattle.std.specs.Prelude.{IfSome}
 use Rattle.columns.specs.GridColumns.{grid_cell_in}
-use Rattle.columns.specs.KeptColumns.{shown_cell}
+use Rattle.columns.specs.Touching.{shown_cell}
 use Rattle.columns.proofs.BoxSight.{shown_cell as shown_there}
 use Rattle.columns.proofs.Gathering.{block_below}
 use Rattle.columns.proofs.gather.block_at_depth.Goals as goal

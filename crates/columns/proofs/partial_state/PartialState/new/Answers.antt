@@ -4,7 +4,7 @@ use Rattle.std.specs.Prelude.{All}
 use Rattle.std.proofs.lemmas.List.{take_at}
 use Rattle.columns.specs.declared.lines.Beside.{Beside}
 use Rattle.columns.specs.Gathered.{AreTouchedTo}
-use Rattle.columns.specs.KeptColumns.{touching}
+use Rattle.columns.specs.Touching.{touching}
 use Rattle.columns.specs.Lines.{AreBrokenTo}
 use Rattle.columns.specs.Spans.{no_column, AreWithin}
 use Rattle.columns.proofs.Touching.{touched_exact}

@@ -1,6 +1,6 @@
 -- So many of the piece's values are taken.
 use Rattle.std.proofs.Common.{◌≡◌, take}
-use Rattle.search_tree.proofs.expansion.go_along.Given as goal
+use Rattle.search_tree.proofs.going.go_to.Given as goal
 
 abbrev pub invariant-loop-at : goal.invariant-loop-at
 invariant-loop-at g l = record {

@@ -2,20 +2,20 @@
 use Rattle.std.proofs.Common.{◌≡◌, sym, ◌∙◌, ap}
 use Rattle.std.specs.Arc.{arc_value}
 use Rattle.solid_model.specs.Demands.{is_live}
-use Rattle.search_tree.proofs.expansion.expand.Goals as goal
+use Rattle.search_tree.proofs.expansion.expand_from.Goals as goal
 
 pub returns-then-not-is_live-clause-live : goal.returns-then-not-is_live-clause-live
 returns-then-not-is_live-clause-live c =
     let piece = c.args.piece.now in
     let asked : c.is_live.result ≡ is_live (arc_value c.args.problem.now) piece =
-    c.is_live.ensures.live ∙ ap (λ word. word c.go_along.new.path.values) c.go_along.ensures.live ∙ ap (is_live c.in_ok-path.path.problem) c.go_along.ensures.along
-    ∙ ap (λ path. is_live path.problem piece) c.in_ok-path.ensures ∙ ap (λ p. is_live p piece) c.deref.ensures in
+    c.is_live.ensures.live ∙ ap (λ word. word c.go_to.new.path.values) c.go_to.ensures.live ∙ ap (is_live c.args.path.now.problem) c.go_to.ensures.there
+    ∙ ap (λ word. word piece) c.requires.way.live in
     sym asked ∙ c.if-not-is_live.true
 
 pub returns-clause-live : goal.returns-clause-live
 returns-clause-live c =
     let piece = c.args.piece.now in
     let asked : c.is_live.result ≡ is_live (arc_value c.args.problem.now) piece =
-    c.is_live.ensures.live ∙ ap (λ word. word c.go_along.new.path.values) c.go_along.ensures.live ∙ ap (is_live c.in_ok-path.path.problem) c.go_along.ensures.along
-    ∙ ap (λ path. is_live path.problem piece) c.in_ok-path.ensures ∙ ap (λ p. is_live p piece) c.deref.ensures in
+    c.is_live.ensures.live ∙ ap (λ word. word c.go_to.new.path.values) c.go_to.ensures.live ∙ ap (is_live c.args.path.now.problem) c.go_to.ensures.there
+    ∙ ap (λ word. word piece) c.requires.way.live in
     sym asked ∙ c.if-not-is_live.false
