@@ -1,13 +1,14 @@
 -- Each step of a pass keeps the rule.
-use Rattle.std.proofs.Common.{◌≡◌, ℕ, zero, suc, ◌+◌, ◌-◌, ◌<◌, List, [], ◌∷◌, ◌++◌, length, length-append, set, sym, refl, ap, ◌∙◌, subst, append_assoc, arith}
+use Rattle.std.proofs.Common.{◌≡◌, ℕ, zero, suc, ◌+◌, ◌-◌, ◌<◌, List, [], ◌∷◌, ◌++◌, length, length-append, set, sym, refl, ap, ◌∙◌, subst, append_assoc, drop, arith}
 use mathlib.Core.Option.{some, some-ne-none, some-injective}
 use lib.ListN.{get_elem?}
+use Rattle.std.proofs.Math.Seq.{drop-append_seam}
 use Rattle.crossbeam_deque.specs.Tasks.{Pushes, Takes, Finds, FindsFew, Forks, Merges, Learns}
 use Rattle.crossbeam_deque.proofs.Lists.{at_longer}
 use Rattle.steal_pool.specs.declared.rule.Account.{Account}
 use Rattle.steal_pool.specs.Seats.{Deque, OwnerState}
 use Rattle.steal_pool.specs.Accounts.{Piece, account, total, HoldsTheLast, Balanced, Held, WasFirst, IsSettled}
-use Rattle.steal_pool.proofs.Sums.{total-append, total_set, total_snoc, idle_set, idle_snoc, alone}
+use Rattle.steal_pool.proofs.Sums.{total-append, total_set, total_snoc, idle_set, idle_snoc, elem_le, alone}
 
 -- what the owner put stays, whichever pass changes and keeps what it put
 owner_stays : (views : List Account) (port : ℕ) (v w : Account) → get_elem? views port ≡ some v → w.put ≡ v.put → (owner : Account) → get_elem? views 0 ≡ some owner
@@ -135,6 +136,17 @@ learns port v whole items views b at h =
 pub emptied : (v : Account) → v.parts ≡ 64 → Held [] v → IsSettled v []
 emptied v whole e = learns e.0 v whole [] e.1 e.2 e.3
 
+-- a pass that has all parts, where there is a piece, is the owner's
+owns : (items : List Piece) (views : List Account) (port : ℕ) (v : Account) → v.parts ≡ 64 → Balanced items views → get_elem? views port ≡ some v → 0 < length items
+    → (gone : List Piece) × (v.put ≡ gone ++ items)
+owns items [] port v whole b at more = absurd (some-ne-none b.order.0 (sym b.order.2))
+owns items (x ∷ views) zero v whole b at more = (b.order.1, ap (λ (y : Account). y.put) (sym (some-injective _ _ at) ∙ some-injective _ _ b.order.2) ∙ b.order.3)
+owns items (x ∷ views) (suc p) v whole b at more =
+    let le = elem_le (λ y. y.parts) views p v at in
+    let none : x.parts ≡ 0 = omega (arith, b.parts) in
+    let put = ap length (sym (b.idle 0 x refl none).0 ∙ ap (λ (y : Account). y.put) (some-injective _ _ b.order.2) ∙ b.order.3) in
+    absurd (omega (arith, put, length-append b.order.1 items))
+
 pub ones : (xs : List Piece) → total (λ _. 1) xs ≡ length xs
 ones [] = refl
 ones (x ∷ xs) = let e = ones xs in omega arith
@@ -160,3 +172,12 @@ seen now d r v more p q e = λ i. record { deque = p i; room = q i; parts = (e i
 -- there is room for one more
 pub has_room : (v : Account) (items : List Piece) (taken more : List Piece) → IsSettled v items → 0 < length items → v.taken ≡ taken ++ more → length more < length v.put
 has_room v items taken more s more_than_none e = let l = settled_length v items s in let q = ap length e in omega (arith, length-append taken more)
+
+-- where one pass has all parts, it takes what it put in the order in which it put it
+pub next_put : (v : Account) (piece : Piece) → v.parts ≡ 64 → WasFirst (piece ∷ []) v → (rest : List Piece) × (drop (length v.taken) v.put ≡ piece ∷ rest)
+next_put v piece whole (items, (port, views, b, at)) =
+    let held = piece ∷ items in
+    let put = owns held views port v whole b at (omega arith) in
+    let settled = settled_length v held (learns port v whole held views b at) in
+    let gone : length v.taken ≡ length put.0 = (let all = ap length put.1 in omega (arith, settled, all, length-append put.0 held)) in
+    (items, (λ i. drop (gone i) (put.1 i)) ∙ drop-append_seam put.0 held)

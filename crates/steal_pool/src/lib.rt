@@ -8,12 +8,14 @@
 //! pool's (`map seat_of seats.items ≡ pool`), is then the clause of `open`.
 #![tactic(auto)]
 
+mod laws;
 mod owner;
 mod pool;
 mod rule;
 mod seat;
 mod thief;
 
+pub use laws::a_lone_owner_takes_in_order;
 pub use owner::OwnerSeat;
 pub use pool::{Pool, Remains};
 pub use seat::WorkerSeat;
