@@ -55,14 +55,14 @@ new_seats room deques = seats_after room [] deques
 
 -- which seat it is, whatever was put and taken: the seat as it was when the pool was opened
 
+abbrev pub opened_owner : OwnerState → OwnerState
+opened_owner s = record { deque = s.deque; room = s.room; parts = s.parts; put = []; taken = [] }
+
 abbrev pub opened_thief : ThiefState → ThiefState
 opened_thief t = record { deque = t.deque; parts = t.parts; taken = [] }
 
 abbrev pub as_opened : SeatState → SeatState
-as_opened s = record {
-  owner = record { deque = s.owner.deque; room = s.owner.room; parts = s.owner.parts; put = []; taken = [] };
-  thieves = map opened_thief s.thieves;
-}
+as_opened s = record { owner = opened_owner s.owner; thieves = map opened_thief s.thieves }
 
 -- what all seats put, took and stole
 

@@ -3,7 +3,7 @@
 ghost use Rattle.std.specs.Prelude.{◌≡◌, ◌<◌, ◌≤◌, ◌+◌, ◌-◌, ◌++◌, ◌∷◌, [], ℕ, length, vec_len, vec_capacity, IfOk, MatchOption, MatchResult};
 ghost use Rattle.crossbeam_deque.specs.Handles.{stealer_deque};
 ghost use Rattle.steal_pool.specs.Accounts.{Piece, Held, WasFirst, total};
-ghost use Rattle.steal_pool.specs.Seats.{owner_account, new_thief, absorbed};
+ghost use Rattle.steal_pool.specs.Seats.{owner_account, opened_owner, new_thief, absorbed};
 
 use crate::rule::{Account, Balance, Puts, Shares, Takes, Whole};
 use crate::thief::ThiefSeat;
@@ -60,9 +60,10 @@ impl OwnerSeat {
     /// Puts a piece at the end of the deque. The piece comes back only where this seat has already
     /// put as many as the pool's room; the deque is then unchanged.
     pub fn put(&mut self, piece: Prefix) -> Result<(), Prefix>
-        ensures { MatchResult result
+        ensures put { MatchResult result
             (λ _. self.new ≡ record self.old { put = self.old.put ++ piece ∷ [] })
             (λ back. (back ≡ piece) × (self.new ≡ self.old) × (self.old.room ≤ length self.old.put)) }
+        ensures seat { opened_owner self.new ≡ opened_owner self.old }
     {
         if self.count == usize::MAX {
             return Err(piece);
@@ -78,10 +79,11 @@ impl OwnerSeat {
 
     /// Takes the deque's first piece. `None` only where the deque was empty at a step of the call.
     pub fn take(&mut self) -> Option<Prefix>
-        ensures { MatchOption result
+        ensures taken { MatchOption result
             ((self.new ≡ self.old) × Held [] (owner_account self.old))
             (λ piece. (self.new ≡ record self.old { taken = self.old.taken ++ piece ∷ [] })
             × WasFirst (piece ∷ []) (owner_account self.old)) }
+        ensures seat { opened_owner self.new ≡ opened_owner self.old }
     {
         self.worker.pop_as::<Takes>()
     }

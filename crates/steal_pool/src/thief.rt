@@ -2,7 +2,7 @@
 
 ghost use Rattle.std.specs.Prelude.{◌≡◌, ◌++◌, ◌∷◌, [], MatchOption};
 ghost use Rattle.steal_pool.specs.Accounts.{Held, WasFirst};
-ghost use Rattle.steal_pool.specs.Seats.{thief_account};
+ghost use Rattle.steal_pool.specs.Seats.{thief_account, opened_thief};
 
 use crate::rule::{Account, Balance, Takes};
 use crossbeam_deque::{Pass, Steal, Stealer};
@@ -38,10 +38,11 @@ impl ThiefSeat {
     /// Steals the deque's first piece. `None` only where the deque was empty at a step of the call.
     /// Where others were quicker it tries again, so it may wait.
     pub fn steal<R: Wait>(&mut self, rt: &R) -> Option<Prefix>
-        ensures { MatchOption result
+        ensures stolen { MatchOption result
             ((self.new ≡ self.old) × Held [] (thief_account self.old))
             (λ piece. (self.new ≡ record self.old { taken = self.old.taken ++ piece ∷ [] })
             × WasFirst (piece ∷ []) (thief_account self.old)) }
+        ensures seat { opened_thief self.new ≡ opened_thief self.old }
     {
         for _ in rt.forever() {
             match self.stealer.steal_as::<Takes>(&mut self.pass) {
