@@ -1,0 +1,4 @@
+pub mod Sums
+pub mod Passes
+pub mod SeatLists
+pub mod Pools

@@ -1,0 +1,80 @@
+//! A pool of two workers, call by call.
+
+ghost use Rattle.std.specs.Prelude.{◌≡◌};
+ghost use Rattle.steal_pool.specs.WorkerSeats.{seat_of};
+
+use super::{number_of, piece};
+use solid_model::Prefix;
+use std::alloc::Global;
+use std::sync::Wait;
+use std::test::*;
+use steal_pool::{Pool, WorkerSeat};
+
+/// What the calls answered: whether the second deque was empty, and the numbers of pieces.
+#[derive(Clone, Copy, Debug, PartialEq, Eq)]
+struct Answers {
+    empty: bool,
+    stolen: u32,
+    taken: u32,
+    left: u32,
+}
+
+/// Three puts into the first deque, a look at the second one, a steal by the second seat, and a take
+/// by the first.
+fn play<R: Wait>(
+    rt: &R,
+    alloc: Global,
+    first: &mut WorkerSeat,
+    second: &mut WorkerSeat,
+) -> Option<(bool, Prefix, Prefix)>
+    ensures first { seat_of first.new ≡ seat_of first.old }
+    ensures second { seat_of second.new ≡ seat_of second.old }
+{
+    for number in 5..8 {
+        first.owner.put(piece(alloc, number).ok()?).ok()?;
+    }
+    let empty = second.owner.take().is_none();
+    let stolen = second.thieves.get_mut(0)?.steal(rt)?;
+    let taken = first.owner.take()?;
+    Some((empty, stolen, taken))
+}
+
+/// A pool of two workers with room for two pieces each, played and closed. `None` where memory was
+/// lacking, or a call answered otherwise than it should.
+fn played_and_closed<R: Wait>(rt: &R, alloc: Global) -> Option<Answers> {
+    let Ok((pool, mut seats)) = Pool::open(alloc, 2, 2) else {
+        return None;
+    };
+    let mut second = seats.pop()?;
+    let mut first = seats.pop()?;
+    let (empty, stolen, taken) = play(rt, alloc, &mut first, &mut second)?;
+    let Ok(()) = seats.push(first) else {
+        return None;
+    };
+    let Ok(()) = seats.push(second) else {
+        return None;
+    };
+    let mut left = pool.close(seats).ok()?.left;
+    let last = left.pop()?;
+    left.is_empty().then_some(Answers {
+        empty,
+        stolen: number_of(&stolen),
+        taken: number_of(&taken),
+        left: number_of(&last),
+    })
+}
+
+#[test]
+fn pieces_come_in_the_order_in_which_they_were_put(rt: HostRuntime) -> Result<(), Fail> {
+    let played = played_and_closed(&rt, rt.alloc()).ok_or("a call failed")?;
+    assert_eq!(rt;
+        played,
+        Answers {
+            empty: true,
+            stolen: 5,
+            taken: 6,
+            left: 7
+        }
+    );
+    Ok(())
+}
