@@ -88,6 +88,8 @@ line S 0 0 5 0, line D 0 3 2 3, line S 2 3 5 3, line S 0 4 2 4, line S 0 0 0 4, 
 lattice 16 16; lattice 16 16; lattice 16 16 -> 1 fault F18 TooManyBlocks count 4097
 -- One line more than 32 cubes on the diagonal; and two axes that are too fine.
 diagonal 32, line S 64 0 64 1; diagonal 32; diagonal 32 -> 1 fault F17 TooFine axis x count 65
+diagonal 32, line S 64 0 64 1; diagonal 32, line S 0 64 1 64; diagonal 32 -> \
+    1 fault F17 TooFine axis x count 65
 diagonal 32, line S 0 64 1 64; diagonal 32, line S 0 66 1 66, line S 0 67 1 67; diagonal 32 -> \
     1 fault F17 TooFine axis y count 66
 -- Views that show nothing.
