@@ -1,6 +1,6 @@
 //! Laws of made drawings.
 
-ghost use Rattle.std.specs.Prelude.{◌≡◌, ◌≤◌, [], length, List, ℕ, Option};
+ghost use Rattle.std.specs.Prelude.{◌≡◌, ◌≤◌, [], length, List, ℕ, Option, codes};
 ghost use Rattle.solid_model.specs.declared.cell.Cell.{Cell};
 ghost use Rattle.solid_model.specs.declared.segment.Segment.{Segment};
 ghost use Rattle.solid_model.specs.Blocks.{AreBlocksOf, IsBlocksOf, ProblemParts};
@@ -14,6 +14,14 @@ ghost use Rattle.solid_model.specs.Tree.{live_count};
 ghost use Rattle.redraw.specs.Files.{IsFileOf};
 ghost use Rattle.read_back.specs.ReadBack.{ReadsBack};
 ghost use Rattle.drawing_maker.specs.Made.{made_solid};
+ghost use Rattle.drawing_maker.specs.SmallPieces.{pieces_text};
+
+/// The pieces of two numbers, as another program computed them after the reference code of PCG32: `E`
+/// for a cube with eight voids, `H` for a hollow cube, `U` for a unit cube, and the scale.
+pub fn small_pieces()
+    ensures three { pieces_text 3 ≡ codes " E6 U4 E2 H4 H8 H4 H3 U7 U5 H4 H4 U3 U6 H5" }
+    ensures eleven { pieces_text 11 ≡ codes " E9 U1 U7 H6 U6 U1 U9 U7 H7 U7 H4 H2 H4 U6" }
+{}
 
 /// The file of a made solid reads back: it isn't too long, reads as lines, shows something in each
 /// view, and its drawing is the made solid's own.

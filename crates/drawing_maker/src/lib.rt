@@ -7,8 +7,6 @@ mod making;
 mod piece;
 mod pieces;
 mod stops;
-#[cfg(test)]
-mod tests;
 
-pub use laws::{made_drawings_stay_within_the_limits, made_files_read_back};
+pub use laws::{made_drawings_stay_within_the_limits, made_files_read_back, small_pieces};
 pub use making::make;
