@@ -8,35 +8,29 @@
 //! file itself, with `|` for the end of a line. Where a frame begins with `padded: ` or
 //! `padded CR LF: `, the codes of the file are right in three places.
 
-use super::drawings::DRAWINGS;
-use super::entities::ENTITIES;
-use super::files::{file_of, padded_file};
-use super::runs::{UNIT_CUBE, solve};
-use super::texts::{SIZES, TEXTS};
-use super::values::{LINETYPES, NUMERALS};
+use crate::drawings::DRAWINGS;
+use crate::entities::ENTITIES;
+use crate::runs::{UNIT_CUBE, solve};
+use crate::texts::{SIZES, TEXTS};
+use crate::values::{LINETYPES, NUMERALS};
 use std::alloc::{AllocError, Global};
 use std::test::Fail;
+use test_files::{Row, file_of, padded_file, row_of};
 
-/// The steps of a frame with what is told.
-fn steps_of(alloc: Global, frame: &str, told: &str) -> Result<String, AllocError> {
-    let mut steps = String::from_str(alloc, frame)?;
-    for (place, part) in told.split("; ").enumerate() {
-        let hole = match place {
-            0 => "#1",
-            1 => "#2",
-            _ => "#3",
-        };
-        steps = steps.replace(alloc, hole, part)?;
-    }
-    Ok(steps)
+/// The steps of a frame with what a row tells.
+fn steps_of(alloc: Global, frame: &str, row: Row<'_>) -> Result<String, AllocError> {
+    let [first, second, third, ..] = row.parts;
+    let steps = frame.replace(alloc, "#1", first)?;
+    let steps = steps.replace(alloc, "#2", second)?;
+    steps.replace(alloc, "#3", third)
 }
 
-/// The file that is told in a frame.
-fn told_file(alloc: Global, frame: &str, told: &str) -> Result<String, AllocError> {
+/// The file that a row tells in a frame.
+fn told_file(alloc: Global, frame: &str, row: Row<'_>) -> Result<String, AllocError> {
     if frame == "text" {
-        return told.replace(alloc, "|", "\n");
+        return row.told.replace(alloc, "|", "\n");
     }
-    let steps = steps_of(alloc, frame, told)?;
+    let steps = steps_of(alloc, frame, row)?;
     match steps.as_str().split_once(": ") {
         Some(("padded", steps)) => padded_file(alloc, steps, "\n"),
         Some((_, steps)) => padded_file(alloc, steps, "\r\n"),
@@ -71,10 +65,9 @@ fn is_wanted(wrote: &str, wanted: &str) -> bool {
 }
 
 /// Whether a row is right.
-fn is_right(alloc: Global, frame: &str, row: &str) -> Result<bool, AllocError> {
-    let (told, wanted) = row.rsplit_once(" -> ").unwrap_or((row, ""));
-    let wrote = solve(alloc, told_file(alloc, frame, told)?)?;
-    let wanted = wanted_text(alloc, wanted)?;
+fn is_right(alloc: Global, frame: &str, row: Row<'_>) -> Result<bool, AllocError> {
+    let wrote = solve(alloc, told_file(alloc, frame, row)?)?;
+    let wanted = wanted_text(alloc, row.wanted)?;
     Ok(match wrote.as_str().strip_suffix('\n') {
         Some(wrote) => is_wanted(wrote, wanted.as_str()),
         None => false,
@@ -85,9 +78,9 @@ fn is_right(alloc: Global, frame: &str, row: &str) -> Result<bool, AllocError> {
 fn wrong_row(alloc: Global, table: &str) -> Result<&str, AllocError> {
     for framed in table.split("\n= ").skip(1) {
         let (frame, rows) = framed.split_once('\n').unwrap_or((framed, ""));
-        for row in rows.lines() {
-            if !row.starts_with("-- ") && !is_right(alloc, frame, row)? {
-                return Ok(row);
+        for line in rows.lines() {
+            if !line.starts_with("-- ") && !is_right(alloc, frame, row_of(line))? {
+                return Ok(line);
             }
         }
     }

@@ -1,9 +1,9 @@
 //! Runs over a source and a sink in memory.
 
-use super::files::file_of;
-use crate::run;
+use recon_run::run;
 use std::alloc::{AllocError, Global};
 use std::test::Fail;
+use test_files::{Row, file_of, row_of};
 use tv_base::{MemSink, MemSource, OpenGate};
 
 /// The status and the text of a run. The sink's calls fail as `faults` says.
@@ -95,18 +95,38 @@ face +z at 1 loop 0,0,1 1,0,1 1,1,1 0,1,1
 /// What `solve` writes where nothing is left.
 const NOTHING_LEFT: &str = "1 fault F4 NoEof line 1\n";
 
+/// Whether words aren't taken, and the source isn't read.
+fn is_usage(alloc: Global, words: &str) -> Result<bool, AllocError> {
+    writes(alloc, words, [0, 0], [USAGE, UNIT_CUBE])
+}
+
 #[test]
-fn runs_end_so(rt: HostRuntime) -> Result<(), Fail> {
-    let alloc = rt.alloc();
+fn other_words_are_not_taken(rt: HostRuntime) -> Result<(), Fail> {
     for words in OTHER_WORDS.lines() {
-        assert!(rt;
-            writes(alloc, words, [0, 0], [USAGE, UNIT_CUBE])?,
-            "{words}"
-        );
+        assert!(rt; is_usage(rt.alloc(), words)?, "{words}");
     }
-    assert!(rt; writes(alloc, "solve|", [2, 0], ["5 ", NOTHING_LEFT])?);
-    assert!(rt; writes(alloc, "solve|", [0, 1], ["6 whole 1 no", NOTHING_LEFT])?);
-    let cut = "6 whole 1 nodes 2 blocks 1\nsolid 1 ch";
-    assert!(rt; writes(alloc, "solve|", [0, 2], [cut, NOTHING_LEFT])?);
+    Ok(())
+}
+
+/// A row a run of `solve` in which a call fails: the number of the source's call, or else of the sink's;
+/// and the status and the text, with `|` for the end of a line.
+const FAULTS: &str = "\
+2; 0 -> 5 \n\
+0; 1 -> 6 whole 1 no\n\
+0; 2 -> 6 whole 1 nodes 2 blocks 1|solid 1 ch";
+
+/// Whether a run ends as its row has it, and leaves nothing of the source.
+fn ends_so(alloc: Global, row: Row<'_>) -> Result<bool, AllocError> {
+    let [read, write, ..] = row.parts;
+    let calls = [read.parse().unwrap_or(0), write.parse().unwrap_or(0)];
+    let wanted = row.wanted.replace(alloc, "|", "\n")?;
+    writes(alloc, "solve|", calls, [wanted.as_str(), NOTHING_LEFT])
+}
+
+#[test]
+fn faulty_runs_end_so(rt: HostRuntime) -> Result<(), Fail> {
+    for line in FAULTS.lines() {
+        assert!(rt; ends_so(rt.alloc(), row_of(line))?, "{line}");
+    }
     Ok(())
 }

@@ -14,8 +14,15 @@
 //!     blanks              16 blanks
 //!     9 * line S 0 0 1 0  a step so many times
 
+ghost use Rattle.std.specs.Prelude.{◌≤◌, length, IfOk};
+ghost use Rattle.solid_model.specs.Limits.{most_file_bytes};
+
 use solid_model::View;
 use std::alloc::{AllocError, Global};
+use std::test::Fail;
+
+/// As many bytes as a file may have.
+const MOST_BYTES: usize = 16_777_216;
 
 /// The strokes of the unit cube.
 const CUBE: &str = "FRONT, rect S 0 0 1 1, TOP, rect S 0 0 1 1, SIDE, rect S 0 0 1 1";
@@ -156,6 +163,24 @@ pub fn file_of(alloc: Global, steps: &str) -> Result<String, AllocError> {
         }
     }
     Ok(file)
+}
+
+/// The file of a drawing with these strokes in front, from the top and from the side.
+pub fn drawing_file(alloc: Global, [front, top, side]: [&str; 3]) -> Result<String, AllocError> {
+    let steps = format!(in alloc;
+        "0 SECTION, 2 ENTITIES, FRONT, {front}, TOP, {top}, SIDE, {side}, 0 ENDSEC, 0 EOF"
+    )?;
+    file_of(alloc, steps.as_str())
+}
+
+/// The bytes of a file that isn't too long.
+pub fn file_bytes(file: String) -> Result<Vec<u8>, Fail>
+    ensures { IfOk result (λ bytes. length bytes.items ≤ most_file_bytes) }
+{
+    if file.len() > MOST_BYTES {
+        return Err(Fail::new("a file is too long"));
+    }
+    Ok(file.into_bytes())
 }
 
 /// The file of these steps, with its codes right in three places, and with these ends of lines.

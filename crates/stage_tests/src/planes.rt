@@ -1,29 +1,28 @@
 //! Squares whose loops were found by hand.
 
-use crate::loops::plane_loops;
-use crate::plane_loop::PlaneLoop;
-use crate::squares::Squares;
+use faces::{PlaneLoop, Squares, plane_loops};
 use std::alloc::Global;
 use std::fmt::Write;
 use std::test::Fail;
+use test_files::{Row, row_of};
 
 /// Squares, row by row from the lowest one up; whether points come by v, then u (`up`), or by u,
 /// then v (`right`); and the loops. Each loop is told by its square and its corners, two digits
 /// each.
 const PLANES: &str = "\
-.|up|
-#|up|00: 00 10 11 01
-#|right|00: 00 10 11 01
-###/#.#/###|up|00: 00 30 33 03, 10: 11 12 22 21
-###/#.#/###|right|00: 00 30 33 03, 10: 11 12 22 21
-#./.#|up|00: 00 10 11 01, 11: 11 21 22 12
-#./.#|right|00: 00 10 11 01, 11: 11 21 22 12
-.#/#.|up|10: 10 20 21 11, 01: 01 11 12 02
-.#/#.|right|01: 01 11 12 02, 10: 10 20 21 11
-####/#.##/##.#/####|up|00: 00 40 44 04, 10: 11 12 22 23 33 32 22 21
-####/#.##/##.#/####|right|00: 00 40 44 04, 10: 11 12 22 23 33 32 22 21
-####/##.#/#.##/####|up|00: 00 40 44 04, 20: 21 22 12 13 23 22 32 31
-####/##.#/#.##/####|right|00: 00 40 44 04, 11: 12 13 23 22 32 31 21 22";
+.; up
+#; up -> 00: 00 10 11 01
+#; right -> 00: 00 10 11 01
+###/#.#/###; up -> 00: 00 30 33 03, 10: 11 12 22 21
+###/#.#/###; right -> 00: 00 30 33 03, 10: 11 12 22 21
+#./.#; up -> 00: 00 10 11 01, 11: 11 21 22 12
+#./.#; right -> 00: 00 10 11 01, 11: 11 21 22 12
+.#/#.; up -> 10: 10 20 21 11, 01: 01 11 12 02
+.#/#.; right -> 01: 01 11 12 02, 10: 10 20 21 11
+####/#.##/##.#/####; up -> 00: 00 40 44 04, 10: 11 12 22 23 33 32 22 21
+####/#.##/##.#/####; right -> 00: 00 40 44 04, 10: 11 12 22 23 33 32 22 21
+####/##.#/#.##/####; up -> 00: 00 40 44 04, 20: 21 22 12 13 23 22 32 31
+####/##.#/#.##/####; right -> 00: 00 40 44 04, 11: 12 13 23 22 32 31 21 22";
 
 /// The squares that a row begins with.
 fn read_squares(alloc: Global, text: &str) -> Result<Squares, Fail> {
@@ -50,10 +49,12 @@ fn tell_loop(along: &PlaneLoop, told: &mut String) -> Result<(), Fail> {
     Ok(())
 }
 
-/// All loops, as a row has them.
-fn told_loops(alloc: Global, loops: &[PlaneLoop]) -> Result<String, Fail> {
+/// All loops of a row's squares, as the row has them.
+fn told_loops(alloc: Global, row: Row<'_>) -> Result<String, Fail> {
+    let [squares, order, ..] = row.parts;
+    let squares = read_squares(alloc, squares)?;
     let mut told = String::new(alloc);
-    for along in loops {
+    for along in &plane_loops(alloc, &squares, order == "up")? {
         if !told.is_empty() {
             told.push_str(", ")?;
         }
@@ -64,13 +65,9 @@ fn told_loops(alloc: Global, loops: &[PlaneLoop]) -> Result<String, Fail> {
 
 #[test]
 fn loops_are_those_found_by_hand(rt: HostRuntime) -> Result<(), Fail> {
-    let alloc = rt.alloc();
-    for row in PLANES.lines() {
-        let mut parts = row.split('|');
-        let squares = read_squares(alloc, parts.next().ok_or("squares")?)?;
-        let up_first = parts.next().ok_or("order")? == "up";
-        let told = told_loops(alloc, plane_loops(alloc, &squares, up_first)?.as_slice())?;
-        assert_eq!(rt; Some(told.as_str()), parts.next(), "{row}");
+    for line in PLANES.lines() {
+        let row = row_of(line);
+        assert_eq!(rt; told_loops(rt.alloc(), row)?.as_str(), row.wanted, "{line}");
     }
     Ok(())
 }

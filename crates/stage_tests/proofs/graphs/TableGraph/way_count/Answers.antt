@@ -2,7 +2,7 @@
 use Rattle.std.proofs.Common.{◌≡◌, ◌<◌, ◌+◌, ◌*◌, ◌||◌, if◌then◌else◌, Bool, true, false, ℕ, Some, None, slice_index_or, IsTrue, refl, subst}
 use Rattle.std.proofs.lemmas.Bool.{false≢true}
 use Rattle.std.proofs.lemmas.Option.{same_Some, none-some}
-use Rattle.flood.proofs.tests.TableGraph.way_count.Goals as goal
+use Rattle.stage_tests.proofs.graphs.TableGraph.way_count.Goals as goal
 
 some_if : (t : Bool) (b : ℕ) → t ≡ true → (if t then Some b else None) ≡ Some b
 some_if true b e = refl

@@ -2,29 +2,28 @@
 
 ghost use Rattle.std.specs.Prelude.{◌≡◌, ◌≤◌, ◌<◌, length, IsTrue, IfOk};
 ghost use Rattle.rounds.specs.Succession.{IsSuccession};
-ghost use Rattle.rounds.specs.Tables.{follower, has_follower, IsTold};
+ghost use Rattle.stage_tests.specs.Tables.{follower, has_follower, IsTold};
 
-use crate::succession::Succession;
-use crate::trace::all_rounds;
+use rounds::{Succession, all_rounds};
 use std::alloc::Global;
 use std::fmt::Write;
 use std::test::Fail;
+use test_files::row_of;
 
 /// A row a succession: for each node, from 0 on, the digit of the node that follows it, or a point
-/// for a node that isn't inside; and its rounds, a digit a node.
-const SUCCESSIONS: &str = "\
-|
-.|
-0|0
-10|01
-.1|1
-120.4|012 4
-4.0.25|042 5
-2301|02 13
-3201|0312
-.3.5.1|135
-1234560|0123456
-6543210|06 15 24 3";
+/// for a node that isn't inside; and its rounds, a digit a node. The first has no node.
+const SUCCESSIONS: &str = "
+.
+0 -> 0
+10 -> 01
+.1 -> 1
+120.4 -> 012 4
+4.0.25 -> 042 5
+2301 -> 02 13
+3201 -> 0312
+.3.5.1 -> 135
+1234560 -> 0123456
+6543210 -> 06 15 24 3";
 
 /// What stands in place of a follower where a node isn't inside.
 const OUTSIDE: usize = 10;
@@ -112,28 +111,36 @@ fn read_table(alloc: Global, text: &str) -> Result<Table, Fail> {
     Ok(Table { followers })
 }
 
-/// The rounds, as a row has them.
-fn told_rounds(alloc: Global, table: &Table) -> Result<String, Fail> {
+/// Adds a round.
+fn push_round(told: &mut String, round: &[usize]) -> Result<(), Fail> {
+    if !told.is_empty() {
+        told.push_str(" ")?;
+    }
+    for node in round {
+        write!(told, "{node}")?;
+    }
+    Ok(())
+}
+
+/// The rounds of a succession, as a row has them.
+fn told_rounds(alloc: Global, text: &str) -> Result<String, Fail> {
+    let table = read_table(alloc, text)?;
     let mut told = String::new(alloc);
-    for round in &all_rounds(alloc, table)? {
-        if !told.is_empty() {
-            told.push_str(" ")?;
-        }
-        for node in round {
-            write!(told, "{node}")?;
-        }
+    for round in &all_rounds(alloc, &table)? {
+        push_round(&mut told, round.as_slice())?;
     }
     Ok(told)
 }
 
 #[test]
 fn rounds_are_those_found_by_hand(rt: HostRuntime) -> Result<(), Fail> {
-    let alloc = rt.alloc();
-    for row in SUCCESSIONS.lines() {
-        let mut parts = row.split('|');
-        let table = read_table(alloc, parts.next().ok_or("nodes")?)?;
-        let told = told_rounds(alloc, &table)?;
-        assert_eq!(rt; Some(told.as_str()), parts.next(), "{row}");
+    for line in SUCCESSIONS.lines() {
+        let row = row_of(line);
+        assert_eq!(rt;
+            told_rounds(rt.alloc(), row.told)?.as_str(),
+            row.wanted,
+            "{line}"
+        );
     }
     Ok(())
 }

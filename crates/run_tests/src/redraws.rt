@@ -1,10 +1,11 @@
 //! Drawings that are written: redrawn, and made.
 
-use super::files::file_of;
-use super::runs::run_words;
-use crate::problem_of;
+use crate::runs::run_words;
+use drawing_maker::make;
+use recon_run::problem_of;
 use std::alloc::{AllocError, Global};
 use std::test::Fail;
+use test_files::{Row, drawing_file, file_bytes, row_of};
 
 /// A row a run: the strokes in front, from the top and from the side, and the words; and then what is
 /// written: after `0 drawing ` the strokes of a file in front, from the top and from the side.
@@ -30,48 +31,44 @@ rect S 0 0 3 1, line D 1 0 1 1, line D 2 0 2 1; rect S 0 0 3 3, rect S 1 1 2 2; 
     line S 13 0 16 0, line S 13 1 16 1, line S 13 0 13 1, line D 14 0 14 1, line D 15 0 15 1, \
     line S 16 0 16 1";
 
-/// The file of strokes in front, from the top and from the side.
-fn drawing_file(alloc: Global, strokes: &str) -> Result<String, AllocError> {
-    let mut views = strokes.split("; ");
-    let front = views.next().unwrap_or("");
-    let top = views.next().unwrap_or("");
-    let side = views.next().unwrap_or("");
-    let steps = format!(in alloc;
-        "0 SECTION, 2 ENTITIES, FRONT, {front}, TOP, {top}, SIDE, {side}, 0 ENDSEC, 0 EOF"
-    )?;
-    file_of(alloc, steps.as_str())
-}
-
 /// What is wanted: a status with a line, or with a file.
 fn wanted_text(alloc: Global, wanted: &str) -> Result<String, AllocError> {
     match wanted.strip_prefix("0 drawing ") {
         Some(strokes) => {
-            let file = drawing_file(alloc, strokes)?;
+            let file = drawing_file(alloc, row_of(strokes).views())?;
             format!(in alloc; "0 {file}")
         }
         None => format!(in alloc; "{wanted}\n"),
     }
 }
 
+/// What a row's run writes.
+fn told_run(alloc: Global, row: Row<'_>) -> Result<String, AllocError> {
+    let [_, _, _, words, _] = row.parts;
+    run_words(alloc, words, drawing_file(alloc, row.views())?)
+}
+
 #[test]
 fn drawings_are_redrawn(rt: HostRuntime) -> Result<(), Fail> {
-    let alloc = rt.alloc();
-    for row in REDRAWS.lines() {
-        let (run, wanted) = row.split_once(" -> ").ok_or("a row")?;
-        let (strokes, words) = run.rsplit_once("; ").ok_or("words")?;
-        let wrote = run_words(alloc, words, drawing_file(alloc, strokes)?)?;
-        let wanted = wanted_text(alloc, wanted)?;
-        assert_eq!(rt; wrote.as_str(), wanted.as_str(), "{row}");
+    for line in REDRAWS.lines() {
+        let row = row_of(line);
+        let wanted = wanted_text(rt.alloc(), row.wanted)?;
+        assert_eq!(rt;
+            told_run(rt.alloc(), row)?.as_str(),
+            wanted.as_str(),
+            "{line}"
+        );
     }
     Ok(())
 }
 
 /// A slab with a block on its corner, unequal along all three axes.
-const STEP: &str = "\
-    line S 0 0 5 0, line D 0 3 2 3, line S 2 3 5 3, line S 0 4 2 4, line S 0 0 0 4, line S 2 3 2 4, \
-    line S 5 0 5 3; \
-    rect S 0 0 5 5, line S 0 1 2 1, line S 2 0 2 1; \
-    rect S 0 0 5 3, line S 0 4 1 4, line S 0 3 0 4, line S 1 3 1 4";
+const STEP: [&str; 3] = [
+    "line S 0 0 5 0, line D 0 3 2 3, line S 2 3 5 3, line S 0 4 2 4, line S 0 0 0 4, line S 2 3 2 4, \
+    line S 5 0 5 3",
+    "rect S 0 0 5 5, line S 0 1 2 1, line S 2 0 2 1",
+    "rect S 0 0 5 3, line S 0 4 1 4, line S 0 3 0 4, line S 1 3 1 4",
+];
 
 /// The text of a run that ends with status 0.
 fn written(alloc: Global, words: &str, file: String) -> Result<String, Fail> {
@@ -80,41 +77,69 @@ fn written(alloc: Global, words: &str, file: String) -> Result<String, Fail> {
     Ok(String::from_str(alloc, text)?)
 }
 
+/// The drawing of a solid that a drawing shows, redrawn by these words.
+fn redrawn(alloc: Global, words: &str, views: [&str; 3]) -> Result<String, Fail> {
+    written(alloc, words, drawing_file(alloc, views)?)
+}
+
+/// Whether the redrawn file of a drawing shows the same solids.
+fn shows_the_same(alloc: Global, views: [&str; 3]) -> Result<bool, Fail> {
+    let again = run_words(alloc, "solve|", redrawn(alloc, "redraw|1|", views)?)?;
+    let solids = run_words(alloc, "solve|", drawing_file(alloc, views)?)?;
+    Ok(again.as_str() == solids.as_str() && solids.starts_with("0 whole 1 "))
+}
+
 #[test]
 fn a_redrawn_file_shows_the_same_solids(rt: HostRuntime) -> Result<(), Fail> {
-    let alloc = rt.alloc();
-    let again = written(alloc, "redraw|1|", drawing_file(alloc, STEP)?)?;
-    let solids = run_words(alloc, "solve|", drawing_file(alloc, STEP)?)?;
-    assert_eq!(rt;
-        run_words(alloc, "solve|", again)?.as_str(),
-        solids.as_str()
-    );
+    assert!(rt; shows_the_same(rt.alloc(), STEP)?);
     Ok(())
 }
 
 #[test]
 fn solids_of_one_drawing_are_redrawn_alike(rt: HostRuntime) -> Result<(), Fail> {
-    let alloc = rt.alloc();
-    let voids = "lattice 2 2; lattice 2 2; lattice 2 2";
-    let first = written(alloc, "redraw|1|", drawing_file(alloc, voids)?)?;
-    let last = written(alloc, "redraw|35|", drawing_file(alloc, voids)?)?;
+    let first = redrawn(rt.alloc(), "redraw|1|", ["lattice 2 2"; 3])?;
+    let last = redrawn(rt.alloc(), "redraw|35|", ["lattice 2 2"; 3])?;
     assert_eq!(rt; first.as_str(), last.as_str());
     Ok(())
 }
 
-/// More bytes than the file of a made drawing has.
-const MOST_BYTES: usize = 16_000_000;
+/// How many blocks the made drawing of a number has.
+fn made_blocks(alloc: Global, words: &str) -> Result<u16, Fail> {
+    let file = file_bytes(written(alloc, words, String::new(alloc))?)?;
+    Ok(problem_of(alloc, file)?.blocks().count())
+}
 
 /// The drawing of 7 has two cubes with eight voids, four with one, and eight full ones: 2 times 9, 4
 /// times 2 and 8 blocks.
 #[test]
 fn a_made_drawing_has_its_blocks(rt: HostRuntime) -> Result<(), Fail> {
-    let alloc = rt.alloc();
-    let file = written(alloc, "make|7|", String::new(alloc))?.into_bytes();
-    if file.len() > MOST_BYTES {
-        return Err(Fail::from("a file"));
+    assert_eq!(rt; made_blocks(rt.alloc(), "make|7|")?, 34);
+    Ok(())
+}
+
+/// A row a number: where the last piece of its made solid ends; how many cells its grid has; and how many
+/// of them are full: 117 of each cube with eight voids, 26 of each hollow cube, and 1 of each unit cube.
+const MADE: &str = "\
+3 -> 174 117649 421
+11 -> 171 68921 255";
+
+/// How many of the cells are full.
+fn full_count(cells: &[bool]) -> usize {
+    cells.iter().filter(|cell| **cell).count()
+}
+
+/// What is made of a row's number, as the row has it.
+fn told_made(alloc: Global, row: Row<'_>) -> Result<String, Fail> {
+    let (grid, cells) = make(alloc, row.told.parse::<u64>()?)?;
+    let end = grid.zs().last().ok_or("no coordinate")?;
+    Ok(format!(in alloc; "{end} {} {}", cells.len(), full_count(&cells))?)
+}
+
+#[test]
+fn numbers_make_grids_of_so_many_cells(rt: HostRuntime) -> Result<(), Fail> {
+    for line in MADE.lines() {
+        let row = row_of(line);
+        assert_eq!(rt; told_made(rt.alloc(), row)?.as_str(), row.wanted, "{line}");
     }
-    let problem = problem_of(alloc, file)?;
-    assert_eq!(rt; problem.blocks().count(), 34);
     Ok(())
 }

@@ -1,10 +1,9 @@
-//! What no clause says: what std's readers give and its writers hold, that pieces are flushed, and
-//! that memory is found.
+//! What std's readers give and its writers hold, and that pieces are flushed.
 
-use super::*;
 use std::io;
 use std::io::Write;
 use std::test::Fail;
+use tv_base::{MemSink, Sink, SinkError, StdSink, StdSource, read_all};
 
 #[test]
 fn what_a_reader_gives_comes_to_a_sink(rt: HostRuntime) -> Result<(), Fail> {

@@ -2,24 +2,23 @@
 
 ghost use Rattle.std.specs.Prelude.{◌≡◌, ◌≤◌, ◌<◌, if◌then◌else◌, ◌+◌, ◌*◌, ◌||◌, Some, None, false, slice_index_or, IsTrue};
 
-use crate::flood::reached;
-use crate::graph::Graph;
-use crate::numbering::components;
+use flood::{Graph, components, reached};
 use std::alloc::Global;
 use std::fmt::Write;
 use std::test::Fail;
+use test_files::row_of;
 
 /// A row a graph: for each node the letters of the nodes to which it is joined, and a comma, where
-/// each joint is told once; the number of each node's component, and how many there are; and the
-/// nodes that are reached from each node, a `#` for each.
+/// each joint is told once; how many components it has; and for each node the number of its
+/// component, and the nodes that are reached from it, a `#` for each.
 const GRAPHS: &str = "\
-|; 0|
-,|0; 1|#
-a,|0; 1|#
-c,,e,f,,,,|0102023; 4|#.#.#.. .#..... #.#.#.. ...#.#. #.#.#.. ...#.#. ......#
-b,c,d,a,|0000; 1|#### #### #### ####
-,b,f,b,,a,|010120; 3|#.#..# .#.#.. #.#..# .#.#.. ....#. #.#..#
-b,c,a,e,f,d,|000111; 2|###... ###... ###... ...### ...### ...###";
+, -> 1 0#
+ -> 0
+a, -> 1 0#
+c,,e,f,,,, -> 4 0#.#.#.. 1.#..... 0#.#.#.. 2...#.#. 0#.#.#.. 2...#.#. 3......#
+b,c,d,a, -> 1 0#### 0#### 0#### 0####
+,b,f,b,,a, -> 3 0#.#..# 1.#.#.. 0#.#..# 1.#.#.. 2....#. 0#.#..#
+b,c,a,e,f,d, -> 2 0###... 0###... 0###... 1...### 1...### 1...###";
 
 /// The most nodes that a graph of these has.
 const SIDE: usize = 8;
@@ -92,26 +91,25 @@ fn read_table(alloc: Global, text: &str) -> Result<Table, Fail> {
     })
 }
 
-/// The numbers of the components, as a row has them.
-fn told_components(alloc: Global, graph: &Table) -> Result<String, Fail> {
-    let found = components(alloc, graph)?;
-    let mut told = String::new(alloc);
-    for number in &found.numbers {
-        write!(told, "{number}")?;
+/// Adds the nodes that are reached from a node.
+fn push_reached(alloc: Global, told: &mut String, graph: &Table, start: usize) -> Result<(), Fail>
+    requires { start < graph.now.size }
+{
+    for is_reached in reached(alloc, graph, start)?.as_slice() {
+        told.push_str(if *is_reached { "#" } else { "." })?;
     }
-    write!(told, "; {}", found.count)?;
-    Ok(told)
+    Ok(())
 }
 
-/// The nodes that are reached from each node, as a row has them.
-fn told_reached(alloc: Global, graph: &Table) -> Result<String, Fail> {
-    let mut told = String::new(alloc);
-    for start in 0..graph.size {
-        if start > 0 {
-            told.push_str(" ")?;
-        }
-        for is_reached in reached(alloc, graph, start)?.as_slice() {
-            told.push_str(if *is_reached { "#" } else { "." })?;
+/// What is found of a graph, as a row has it.
+fn told_graph(alloc: Global, text: &str) -> Result<String, Fail> {
+    let graph = read_table(alloc, text)?;
+    let found = components(alloc, &graph)?;
+    let mut told = format!(in alloc; "{}", found.count)?;
+    for (node, number) in found.numbers.iter().enumerate() {
+        write!(told, " {number}")?;
+        if node < graph.size {
+            push_reached(alloc, &mut told, &graph, node)?;
         }
     }
     Ok(told)
@@ -119,14 +117,13 @@ fn told_reached(alloc: Global, graph: &Table) -> Result<String, Fail> {
 
 #[test]
 fn reached_nodes_and_components_are_those_found_by_hand(rt: HostRuntime) -> Result<(), Fail> {
-    let alloc = rt.alloc();
-    for row in GRAPHS.lines() {
-        let mut parts = row.split('|');
-        let graph = read_table(alloc, parts.next().ok_or("nodes")?)?;
-        let told = told_components(alloc, &graph)?;
-        assert_eq!(rt; Some(told.as_str()), parts.next(), "{row}");
-        let told = told_reached(alloc, &graph)?;
-        assert_eq!(rt; Some(told.as_str()), parts.next(), "{row}");
+    for line in GRAPHS.lines() {
+        let row = row_of(line);
+        assert_eq!(rt;
+            told_graph(rt.alloc(), row.told)?.as_str(),
+            row.wanted,
+            "{line}"
+        );
     }
     Ok(())
 }

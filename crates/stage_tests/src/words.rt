@@ -1,8 +1,9 @@
 //! Words, and what they ask for.
 
-use crate::{Job, WordFault, job_of};
 use std::alloc::Global;
 use std::test::Fail;
+use test_files::row_of;
+use words::{Job, WordFault, job_of};
 
 /// Words, divided by commas, and what they ask for: of a search the limits of nodes and of solids.
 const WORDS: &str = "\
@@ -134,8 +135,8 @@ fn job_text(alloc: Global, job: Job) -> Result<String, Fail> {
 }
 
 /// What words ask for, as in the table.
-fn asked(alloc: Global, words: &[String]) -> Result<String, Fail> {
-    match job_of(alloc, words) {
+fn asked(alloc: Global, told: &str) -> Result<String, Fail> {
+    match job_of(alloc, words_of(alloc, told)?.as_slice()) {
         Ok(job) => job_text(alloc, job),
         Err(WordFault::Usage) => Ok(String::from_str(alloc, "usage")?),
         Err(WordFault::Memory) => Err(Fail::new("out of memory")),
@@ -144,11 +145,9 @@ fn asked(alloc: Global, words: &[String]) -> Result<String, Fail> {
 
 #[test]
 fn words_ask_for_jobs(rt: HostRuntime) -> Result<(), Fail> {
-    let alloc = rt.alloc();
-    for row in WORDS.lines() {
-        let (told, wanted) = row.split_once(" -> ").ok_or("a row has no answer")?;
-        let words = words_of(alloc, told)?;
-        assert_eq!(rt; asked(alloc, words.as_slice())?.as_str(), wanted, "{told}");
+    for line in WORDS.lines() {
+        let row = row_of(line);
+        assert_eq!(rt; asked(rt.alloc(), row.told)?.as_str(), row.wanted, "{line}");
     }
     Ok(())
 }

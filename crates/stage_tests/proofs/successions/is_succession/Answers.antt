@@ -2,7 +2,7 @@
 use Rattle.std.proofs.Common.{◌≡◌, ◌<◌, ◌==◌, not, IsTrue, inl, inr, ℕ, List, length, get_or, ◌∙◌, sym, ap}
 use Rattle.std.proofs.lemmas.Bool.{both_ways}
 use Rattle.rounds.specs.Succession.{IsInside, IsSuccession}
-use Rattle.rounds.specs.Tables.{follower, has_follower, IsTold}
+use Rattle.stage_tests.specs.Tables.{follower, has_follower, IsTold}
 
 told : (followers leaders : List ℕ) → ((a : ℕ) → a < length followers → IsTold followers leaders a)
     → IsSuccession (length followers) (has_follower followers) (follower followers)

@@ -1,25 +1,26 @@
 //! Solids whose faces were found by hand.
 
-use crate::counted::counted_faces;
+use faces::counted_faces;
 use solid_model::{Face, Loop, Marks, Out, PerAxis};
 use std::alloc::Global;
 use std::fmt::Write;
 use std::test::Fail;
+use test_files::{Row, row_of};
 
 /// How many cells there are along each axis, the cells, x fastest and z slowest, and the faces: each
 /// is told by its outward side, the coordinate of its plane, and its loops, a digit a coordinate.
 /// They are a cube, two cubes that touch along an edge, and a plate with a hole.
 const SOLIDS: &str = "\
-000||
-111|.|
-111|#|\
+000
+111; .
+111; # -> \
 -x0 000 001 011 010, +x1 100 110 111 101, -y0 000 100 101 001, +y1 010 011 111 110, \
 -z0 000 010 110 100, +z1 001 101 111 011
-221|#..#|\
+221; #..# -> \
 -x0 000 001 011 010, -x1 110 111 121 120, +x1 100 110 111 101, +x2 210 220 221 211, \
 -y0 000 100 101 001, -y1 110 210 211 111, +y1 010 011 111 110, +y2 120 121 221 220, \
 -z0 000 010 110 100, -z0 110 120 220 210, +z1 001 101 111 011, +z1 111 211 221 121
-331|####.####|\
+331; ####.#### -> \
 -x0 000 001 031 030, -x2 210 211 221 220, +x1 110 120 121 111, +x3 300 330 331 301, \
 -y0 000 300 301 001, -y2 120 220 221 121, +y1 110 111 211 210, +y3 030 031 331 330, \
 -z0 000 030 330 300 / 110 210 220 120, +z1 001 301 331 031 / 111 121 221 211";
@@ -79,10 +80,12 @@ fn tell_face(face: &Face, told: &mut String) -> Result<(), Fail> {
     Ok(())
 }
 
-/// All faces, as a row has them.
-fn told_faces(alloc: Global, faces: &[Face]) -> Result<String, Fail> {
+/// All faces of a row's cells, as the row has them.
+fn told_faces(alloc: Global, row: Row<'_>) -> Result<String, Fail> {
+    let [sizes, cells, ..] = row.parts;
+    let marks = read_marks(alloc, sizes, cells)?;
     let mut told = String::new(alloc);
-    for face in faces {
+    for face in &counted_faces(alloc, &marks)? {
         if !told.is_empty() {
             told.push_str(", ")?;
         }
@@ -93,13 +96,9 @@ fn told_faces(alloc: Global, faces: &[Face]) -> Result<String, Fail> {
 
 #[test]
 fn faces_are_those_found_by_hand(rt: HostRuntime) -> Result<(), Fail> {
-    let alloc = rt.alloc();
-    for row in SOLIDS.lines() {
-        let mut parts = row.split('|');
-        let sizes = parts.next().ok_or("sizes")?;
-        let marks = read_marks(alloc, sizes, parts.next().ok_or("cells")?)?;
-        let told = told_faces(alloc, counted_faces(alloc, &marks)?.as_slice())?;
-        assert_eq!(rt; Some(told.as_str()), parts.next(), "{row}");
+    for line in SOLIDS.lines() {
+        let row = row_of(line);
+        assert_eq!(rt; told_faces(rt.alloc(), row)?.as_str(), row.wanted, "{line}");
     }
     Ok(())
 }

@@ -1,11 +1,11 @@
 //! Small solids, drawn by their columns of cells.
 
-use super::files::{file_of, layer_of};
-use super::runs::solve;
-use crate::problem_of;
+use crate::runs::solve;
+use recon_run::problem_of;
 use solid_model::{Axis, Choice, Grid, PerAxis, Problem, View};
 use std::alloc::{AllocError, Global};
 use std::test::Fail;
+use test_files::{file_bytes, file_of, layer_of};
 
 /// Whether a set of cells has this one. The sets are those of a box of 2 by 2 by 2 cells, whose
 /// coordinates are 1 and 2; a set has a bit for each cell, by z, then y, then x.
@@ -77,9 +77,6 @@ fn moved(set: u8) -> u8 {
     }
 }
 
-/// More bytes than a set's file has.
-const MOST_BYTES: usize = 1_000_000;
-
 /// The cells of a set along x, y and z: those at 0, and those at 1.
 const HALVES: [(Axis, u8, u8); 3] = [
     (Axis::X, 0b0101_0101, 0b1010_1010),
@@ -136,11 +133,7 @@ fn tells(alloc: Global, problem: &Problem, line: &str, set: u8) -> Result<bool, 
 
 /// Whether a set is listed for its own drawing, with its volume.
 fn is_found(alloc: Global, set: u8) -> Result<bool, Fail> {
-    let file = drawn_file(alloc, set)?.into_bytes();
-    if file.len() > MOST_BYTES {
-        return Ok(false);
-    }
-    let problem = problem_of(alloc, file)?;
+    let problem = problem_of(alloc, file_bytes(drawn_file(alloc, set)?)?)?;
     let wrote = solve(alloc, drawn_file(alloc, set)?)?;
     for line in wrote.as_str().lines().skip(1) {
         if tells(alloc, &problem, line, moved(set))? {
