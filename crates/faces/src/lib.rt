@@ -4,8 +4,6 @@
 mod border;
 mod border_side;
 mod counted;
-#[cfg(test)]
-mod counted_tests;
 mod grid_points;
 mod groups;
 mod joined;
@@ -17,8 +15,6 @@ mod point;
 mod solid;
 mod space;
 mod squares;
-#[cfg(test)]
-mod tests;
 mod way;
 
 pub use counted::counted_faces;

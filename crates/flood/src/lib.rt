@@ -7,8 +7,6 @@ mod numbering;
 mod passages;
 mod ring;
 mod rooms;
-#[cfg(test)]
-mod tests;
 mod walls;
 
 pub use flood::reached;

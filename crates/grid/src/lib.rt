@@ -6,7 +6,5 @@ mod coordinates;
 mod grid;
 mod panels;
 mod positions;
-#[cfg(test)]
-mod tests;
 
 pub use grid::grid_of;

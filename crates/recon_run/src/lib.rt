@@ -15,6 +15,3 @@ pub use command::run;
 pub use laws::{one_answer, one_first_fault, some_answer};
 pub use problem::problem_of;
 pub use status::{Answer, Found, Status, Stop};
-
-#[cfg(test)]
-mod tests;

@@ -3,11 +3,11 @@
 #![tactic(auto)]
 
 mod faults;
+mod laws;
 mod solid;
-#[cfg(test)]
-mod tests;
 mod text;
 
 pub use faults::fault_text;
+pub use laws::{small_faces, small_faults, small_texts};
 pub use solid::solid_text;
 pub use text::{head_text, no_solid_text, page_text, trial_text};

@@ -1,4 +1,3 @@
 pub mod Succession
 pub mod NodeMarks
 pub mod SmallRounds
-pub mod Tables

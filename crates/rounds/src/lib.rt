@@ -4,8 +4,6 @@
 
 mod laws;
 mod succession;
-#[cfg(test)]
-mod tests;
 mod trace;
 
 pub use laws::{each_inside_node_has_a_round, one_list_of_rounds, small_succession};

@@ -18,6 +18,3 @@ pub use sink::{Sink, SinkError};
 pub use source::{Failed, Source};
 pub use std_sink::StdSink;
 pub use std_source::StdSource;
-
-#[cfg(test)]
-mod tests;

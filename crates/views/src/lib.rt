@@ -6,8 +6,6 @@ mod corner;
 mod joined;
 mod strokes;
 mod sweep;
-#[cfg(test)]
-mod tests;
 mod views;
 
 pub use views::drawing;

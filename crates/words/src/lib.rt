@@ -9,6 +9,3 @@ mod table;
 
 pub use job::{Job, WordFault, job_of};
 pub use laws::{refused_words, small_jobs, small_words};
-
-#[cfg(test)]
-mod tests;

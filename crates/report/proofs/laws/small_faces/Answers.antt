@@ -1,0 +1,28 @@
+-- Each text comes out of its definition.
+use Rattle.std.proofs.Common.{refl}
+use Rattle.std.specs.Fmt.{digits}
+use Rattle.report.proofs.laws.small_faces.Goals as goal
+
+pub returns-clause-minus_x : goal.returns-clause-minus_x
+unfolding digits
+returns-clause-minus_x c = refl
+
+pub returns-clause-plus_x : goal.returns-clause-plus_x
+unfolding digits
+returns-clause-plus_x c = refl
+
+pub returns-clause-minus_y : goal.returns-clause-minus_y
+unfolding digits
+returns-clause-minus_y c = refl
+
+pub returns-clause-plus_y : goal.returns-clause-plus_y
+unfolding digits
+returns-clause-plus_y c = refl
+
+pub returns-clause-minus_z : goal.returns-clause-minus_z
+unfolding digits
+returns-clause-minus_z c = refl
+
+pub returns-clause-plus_z : goal.returns-clause-plus_z
+unfolding digits
+returns-clause-plus_z c = refl

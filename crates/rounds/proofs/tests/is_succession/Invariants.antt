@@ -1,7 +1,0 @@
--- The nodes so far.
-use Rattle.std.proofs.Common.{ℕ, ◌<◌}
-use Rattle.rounds.specs.Tables.{IsTold}
-use Rattle.rounds.proofs.tests.is_succession.Given as goal
-
-abbrev pub invariant-loop-node : goal.invariant-loop-node
-invariant-loop-node l = (a : ℕ) → a < l.node → IsTold l.followers l.leaders a

@@ -1,0 +1,24 @@
+//! Tests of whole runs, and of searches: the very bytes that come out, that memory is found, and that
+//! the definitions mean what they say.
+#![tactic(auto)]
+
+#[cfg(test)]
+mod drawings;
+#[cfg(test)]
+mod entities;
+#[cfg(test)]
+mod options;
+#[cfg(test)]
+mod redraws;
+#[cfg(test)]
+mod rows;
+#[cfg(test)]
+mod runs;
+#[cfg(test)]
+mod searches;
+#[cfg(test)]
+mod sets;
+#[cfg(test)]
+mod texts;
+#[cfg(test)]
+mod values;

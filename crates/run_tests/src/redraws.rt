@@ -1,0 +1,145 @@
+//! Drawings that are written: redrawn, and made.
+
+use crate::runs::run_words;
+use drawing_maker::make;
+use recon_run::problem_of;
+use std::alloc::{AllocError, Global};
+use std::test::Fail;
+use test_files::{Row, drawing_file, file_bytes, row_of};
+
+/// A row a run: the strokes in front, from the top and from the side, and the words; and then what is
+/// written: after `0 drawing ` the strokes of a file in front, from the top and from the side.
+const REDRAWS: &str = "\
+rect S 100 200 101 201; line S 101 350 100 350, rect D 100 350 101 351, rect S 100 350 101 351; \
+    rect S 250 200 251 201; redraw|1| -> \
+    0 drawing rect S 0 0 1 1; rect S 0 11 1 12; rect S 11 0 12 1
+rect S 0 0 1 1; rect S 0 0 1 1; rect S 0 0 1 1; redraw|2| -> 8 none 2 of 1
+rect S 0 0 3 3, rect D 1 1 2 2; rect S 0 0 3 3, rect D 1 1 2 2; rect S 0 0 3 3, rect D 1 1 2 2; \
+    redraw|--nodes|2|1| -> 3 cut nodes 2
+lattice 2 2; lattice 2 2; lattice 2 2; redraw|1|--solids=34| -> 4 cut solids 34
+lattice 2 2; lattice 2 2; lattice 2 2; redraw|36| -> 8 none 36 of 35
+rect S 0 0 2 1; rect S 0 0 1 1; rect S 0 0 1 1; redraw|1| -> 8 none 1 of 0
+rect S 0 0 1 1; rect S 0 0 1 1; line S 3 3 3 3; redraw|1| -> 1 fault F14 EmptyView view SIDE
+line S 0 0 6 0, line S 4 0 10 0, line D 2 0 9 0, line S 0 10 10 10, line S 0 0 0 10, \
+    line S 10 0 10 10; rect S 0 0 10 10; rect S 0 0 10 10; redraw|1| -> \
+    0 drawing rect S 0 0 10 10; rect S 0 20 10 30; rect S 20 0 30 10
+rect S 0 0 3 1, line D 1 0 1 1, line D 2 0 2 1; rect S 0 0 3 3, rect S 1 1 2 2; \
+    rect S 0 0 3 1, line D 1 0 1 1, line D 2 0 2 1; redraw|1| -> \
+    0 drawing line S 0 0 3 0, line S 0 1 3 1, line S 0 0 0 1, line D 1 0 1 1, line D 2 0 2 1, \
+    line S 3 0 3 1; line S 0 11 3 11, line S 1 12 2 12, line S 1 13 2 13, line S 0 14 3 14, \
+    line S 0 11 0 14, line S 1 12 1 13, line S 2 12 2 13, line S 3 11 3 14; \
+    line S 13 0 16 0, line S 13 1 16 1, line S 13 0 13 1, line D 14 0 14 1, line D 15 0 15 1, \
+    line S 16 0 16 1";
+
+/// What is wanted: a status with a line, or with a file.
+fn wanted_text(alloc: Global, wanted: &str) -> Result<String, AllocError> {
+    match wanted.strip_prefix("0 drawing ") {
+        Some(strokes) => {
+            let file = drawing_file(alloc, row_of(strokes).views())?;
+            format!(in alloc; "0 {file}")
+        }
+        None => format!(in alloc; "{wanted}\n"),
+    }
+}
+
+/// What a row's run writes.
+fn told_run(alloc: Global, row: Row<'_>) -> Result<String, AllocError> {
+    let [_, _, _, words, _] = row.parts;
+    run_words(alloc, words, drawing_file(alloc, row.views())?)
+}
+
+#[test]
+fn drawings_are_redrawn(rt: HostRuntime) -> Result<(), Fail> {
+    for line in REDRAWS.lines() {
+        let row = row_of(line);
+        let wanted = wanted_text(rt.alloc(), row.wanted)?;
+        assert_eq!(rt;
+            told_run(rt.alloc(), row)?.as_str(),
+            wanted.as_str(),
+            "{line}"
+        );
+    }
+    Ok(())
+}
+
+/// A slab with a block on its corner, unequal along all three axes.
+const STEP: [&str; 3] = [
+    "line S 0 0 5 0, line D 0 3 2 3, line S 2 3 5 3, line S 0 4 2 4, line S 0 0 0 4, line S 2 3 2 4, \
+    line S 5 0 5 3",
+    "rect S 0 0 5 5, line S 0 1 2 1, line S 2 0 2 1",
+    "rect S 0 0 5 3, line S 0 4 1 4, line S 0 3 0 4, line S 1 3 1 4",
+];
+
+/// The text of a run that ends with status 0.
+fn written(alloc: Global, words: &str, file: String) -> Result<String, Fail> {
+    let wrote = run_words(alloc, words, file)?;
+    let text = wrote.as_str().strip_prefix("0 ").ok_or("a drawing")?;
+    Ok(String::from_str(alloc, text)?)
+}
+
+/// The drawing of a solid that a drawing shows, redrawn by these words.
+fn redrawn(alloc: Global, words: &str, views: [&str; 3]) -> Result<String, Fail> {
+    written(alloc, words, drawing_file(alloc, views)?)
+}
+
+/// Whether the redrawn file of a drawing shows the same solids.
+fn shows_the_same(alloc: Global, views: [&str; 3]) -> Result<bool, Fail> {
+    let again = run_words(alloc, "solve|", redrawn(alloc, "redraw|1|", views)?)?;
+    let solids = run_words(alloc, "solve|", drawing_file(alloc, views)?)?;
+    Ok(again.as_str() == solids.as_str() && solids.starts_with("0 whole 1 "))
+}
+
+#[test]
+fn a_redrawn_file_shows_the_same_solids(rt: HostRuntime) -> Result<(), Fail> {
+    assert!(rt; shows_the_same(rt.alloc(), STEP)?);
+    Ok(())
+}
+
+#[test]
+fn solids_of_one_drawing_are_redrawn_alike(rt: HostRuntime) -> Result<(), Fail> {
+    let first = redrawn(rt.alloc(), "redraw|1|", ["lattice 2 2"; 3])?;
+    let last = redrawn(rt.alloc(), "redraw|35|", ["lattice 2 2"; 3])?;
+    assert_eq!(rt; first.as_str(), last.as_str());
+    Ok(())
+}
+
+/// How many blocks the made drawing of a number has.
+fn made_blocks(alloc: Global, words: &str) -> Result<u16, Fail> {
+    let file = file_bytes(written(alloc, words, String::new(alloc))?)?;
+    Ok(problem_of(alloc, file)?.blocks().count())
+}
+
+/// The drawing of 7 has two cubes with eight voids, four with one, and eight full ones: 2 times 9, 4
+/// times 2 and 8 blocks.
+#[test]
+fn a_made_drawing_has_its_blocks(rt: HostRuntime) -> Result<(), Fail> {
+    assert_eq!(rt; made_blocks(rt.alloc(), "make|7|")?, 34);
+    Ok(())
+}
+
+/// A row a number: where the last piece of its made solid ends; how many cells its grid has; and how many
+/// of them are full: 117 of each cube with eight voids, 26 of each hollow cube, and 1 of each unit cube.
+const MADE: &str = "\
+3 -> 174 117649 421
+11 -> 171 68921 255";
+
+/// How many of the cells are full.
+fn full_count(cells: &[bool]) -> usize {
+    cells.iter().filter(|cell| **cell).count()
+}
+
+/// What is made of a row's number, as the row has it.
+fn told_made(alloc: Global, row: Row<'_>) -> Result<String, Fail> {
+    let (grid, cells) = make(alloc, row.told.parse::<u64>()?)?;
+    let end = grid.zs().last().ok_or("no coordinate")?;
+    Ok(format!(in alloc; "{end} {} {}", cells.len(), full_count(&cells))?)
+}
+
+#[test]
+fn numbers_make_grids_of_so_many_cells(rt: HostRuntime) -> Result<(), Fail> {
+    for line in MADE.lines() {
+        let row = row_of(line);
+        assert_eq!(rt; told_made(rt.alloc(), row)?.as_str(), row.wanted, "{line}");
+    }
+    Ok(())
+}

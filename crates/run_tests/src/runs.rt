@@ -1,0 +1,132 @@
+//! Runs over a source and a sink in memory.
+
+use recon_run::run;
+use std::alloc::{AllocError, Global};
+use std::test::Fail;
+use test_files::{Row, file_of, row_of};
+use tv_base::{MemSink, MemSource, OpenGate};
+
+/// The status and the text of a run. The sink's calls fail as `faults` says.
+fn run_over(
+    alloc: Global,
+    words: &str,
+    source: &mut MemSource,
+    faults: Vec<(u32, usize)>,
+) -> Result<String, AllocError> {
+    let mut command = Vec::new(alloc);
+    for word in words.split_terminator('|') {
+        command.push(String::from_str(alloc, word)?)?;
+    }
+    let mut sink = MemSink::new(faults);
+    let status = run(alloc, command.as_slice(), source, &mut sink, &OpenGate);
+    let text = std::str::from_utf8(sink.bytes()).unwrap_or("no text");
+    format!(in alloc; "{status} {text}")
+}
+
+/// The status and the text of `solve` over a file.
+pub fn solve(alloc: Global, file: String) -> Result<String, AllocError> {
+    run_words(alloc, "solve|", file)
+}
+
+/// The status and the text of a run with these words over a file.
+pub fn run_words(alloc: Global, words: &str, file: String) -> Result<String, AllocError> {
+    let mut source = MemSource::new(file.into_bytes(), Vec::new(alloc));
+    run_over(alloc, words, &mut source, Vec::new(alloc))
+}
+
+/// The file of the unit cube.
+fn cube_file(alloc: Global) -> Result<String, AllocError> {
+    file_of(alloc, "0 SECTION, 2 ENTITIES, cube, 0 ENDSEC, 0 EOF")
+}
+
+/// Whether this is what a run over the unit cube's file writes, and then `solve` for what is left of
+/// the source. The source's call of the number `read` fails, and the sink's call of the number
+/// `write`, after ten bytes; the calls count from 1.
+fn writes(
+    alloc: Global,
+    words: &str,
+    [read, write]: [u32; 2],
+    [first, second]: [&str; 2],
+) -> Result<bool, AllocError> {
+    let mut source = MemSource::new(cube_file(alloc)?.into_bytes(), vec![in alloc; read]?);
+    let wrote = run_over(alloc, words, &mut source, vec![in alloc; (write, 10usize)]?)?;
+    let rest = run_over(alloc, "solve|", &mut source, Vec::new(alloc))?;
+    Ok(wrote.as_str() == first && rest.as_str() == second)
+}
+
+/// Words that aren't taken, a list in each line, and `|` behind each word; the first list has none.
+const OTHER_WORDS: &str = "
+sovle|
+solve|solve|
+solve|4|
+Solve|
+solve |
+solve||
+solve|--nodes|
+solve|--nodes|0|
+solve|--nodes|+3|
+solve|--nodes=|
+solve|--nodes||
+solve|--nodes|3|--nodes|3|
+solve|--solids|65537|
+solve|--node|3|
+solve|--pages|
+solve|--help|
+solve|-h|
+solve|--|
+--nodes|3|solve|
+redraw|
+redraw|0|
+|";
+
+const USAGE: &str = "2 usage: recon solve|redraw|make|trial\n";
+
+/// The status and the text of `solve` over the unit cube's file.
+pub const UNIT_CUBE: &str = "0 whole 1 nodes 2 blocks 1
+solid 1 choice 1 volume 1 faces 6
+face -x at 0 loop 0,0,0 0,0,1 0,1,1 0,1,0
+face +x at 1 loop 1,0,0 1,1,0 1,1,1 1,0,1
+face -y at 0 loop 0,0,0 1,0,0 1,0,1 0,0,1
+face +y at 1 loop 0,1,0 0,1,1 1,1,1 1,1,0
+face -z at 0 loop 0,0,0 0,1,0 1,1,0 1,0,0
+face +z at 1 loop 0,0,1 1,0,1 1,1,1 0,1,1
+";
+
+/// What `solve` writes where nothing is left.
+const NOTHING_LEFT: &str = "1 fault F4 NoEof line 1\n";
+
+/// Whether words aren't taken, and the source isn't read.
+fn is_usage(alloc: Global, words: &str) -> Result<bool, AllocError> {
+    writes(alloc, words, [0, 0], [USAGE, UNIT_CUBE])
+}
+
+#[test]
+fn other_words_are_not_taken(rt: HostRuntime) -> Result<(), Fail> {
+    for words in OTHER_WORDS.lines() {
+        assert!(rt; is_usage(rt.alloc(), words)?, "{words}");
+    }
+    Ok(())
+}
+
+/// A row a run of `solve` in which a call fails: the number of the source's call, or else of the sink's;
+/// and the status and the text, with `|` for the end of a line.
+const FAULTS: &str = "\
+2; 0 -> 5 \n\
+0; 1 -> 6 whole 1 no\n\
+0; 2 -> 6 whole 1 nodes 2 blocks 1|solid 1 ch";
+
+/// Whether a run ends as its row has it, and leaves nothing of the source.
+fn ends_so(alloc: Global, row: Row<'_>) -> Result<bool, AllocError> {
+    let [read, write, ..] = row.parts;
+    let calls = [read.parse().unwrap_or(0), write.parse().unwrap_or(0)];
+    let wanted = row.wanted.replace(alloc, "|", "\n")?;
+    writes(alloc, "solve|", calls, [wanted.as_str(), NOTHING_LEFT])
+}
+
+#[test]
+fn faulty_runs_end_so(rt: HostRuntime) -> Result<(), Fail> {
+    for line in FAULTS.lines() {
+        assert!(rt; ends_so(rt.alloc(), row_of(line))?, "{line}");
+    }
+    Ok(())
+}

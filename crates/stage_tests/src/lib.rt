@@ -1,0 +1,21 @@
+//! Tests of the stages by their public calls: what no clause says. Expected values were found by hand.
+#![tactic(auto)]
+
+#[cfg(test)]
+mod faces;
+#[cfg(test)]
+mod graphs;
+#[cfg(test)]
+mod grids;
+#[cfg(test)]
+mod planes;
+#[cfg(test)]
+mod sources;
+#[cfg(test)]
+mod successions;
+#[cfg(test)]
+mod texts;
+#[cfg(test)]
+mod views;
+#[cfg(test)]
+mod words;

@@ -1,0 +1,52 @@
+//! What std's readers give and its writers hold, and that pieces are flushed.
+
+use std::io;
+use std::io::Write;
+use std::test::Fail;
+use tv_base::{MemSink, Sink, SinkError, StdSink, StdSource, read_all};
+
+#[test]
+fn what_a_reader_gives_comes_to_a_sink(rt: HostRuntime) -> Result<(), Fail> {
+    let alloc = rt.alloc();
+    let bytes = read_all(alloc, &mut StdSource::new(b"edge".as_slice()), 4)?;
+    let mut sink = MemSink::new(Vec::new(alloc));
+    assert_eq!(rt; sink.write_all(&bytes), Ok(()));
+    assert_eq!(rt; sink.bytes(), b"edge".as_slice());
+    Ok(())
+}
+
+/// A writer that takes at most two bytes a call, and can be flushed so many times.
+#[derive(Drop)]
+struct Choppy {
+    taken: Vec<u8>,
+    flushes: u8,
+}
+
+impl Write for Choppy {
+    fn write(&mut self, piece: &[u8]) -> io::Result<usize> {
+        let count = piece.len().min(2);
+        self.taken.extend_from_slice(&piece[..count])?;
+        Ok(count)
+    }
+
+    fn flush(&mut self) -> io::Result<()> {
+        if self.flushes == 0 {
+            return Err(io::Error::other("not flushed"));
+        }
+        self.flushes -= 1;
+        Ok(())
+    }
+}
+
+#[test]
+fn each_piece_is_written_and_flushed(rt: HostRuntime) -> Result<(), Fail> {
+    let mut choppy = Choppy {
+        taken: Vec::new(rt.alloc()),
+        flushes: 1,
+    };
+    let mut sink = StdSink::new(&mut choppy);
+    assert_eq!(rt; sink.write_all(b"abc"), Ok(()));
+    assert_eq!(rt; sink.write_all(b"de"), Err(SinkError::Failed));
+    assert_eq!(rt; choppy.taken.as_slice(), b"abcde".as_slice());
+    Ok(())
+}
