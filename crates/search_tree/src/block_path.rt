@@ -63,7 +63,7 @@ impl<'a> Path for BlockPath<'a> {
         usize::from(self.blocks)
     }
 
-    fn is_live(&self) -> bool {
+    fn is_live(&mut self) -> bool {
         self.partial.broken_line().is_none()
     }
 

@@ -24,10 +24,14 @@ pub trait Path {
         ensures count { result ≡ blocks self.now }
         ensures tree { IsTree (live self.now) (blocks self.now) };
 
-    /// Whether the present prefix is live. What a live prefix begins with is live.
-    fn is_live(&self) -> bool
-        ensures live { result ≡ live self.now (prefix self.now) }
-        ensures tree { IsTree (live self.now) (blocks self.now) };
+    /// Whether the present prefix is live. What a live prefix begins with is live. The way stays where
+    /// it is, but may note what it finds out.
+    fn is_live(&mut self) -> bool
+        ensures asked { result ≡ live self.old (prefix self.old) }
+        ensures tree { IsTree (live self.old) (blocks self.old) }
+        ensures live { live self.new ≡ live self.old }
+        ensures blocks { blocks self.new ≡ blocks self.old }
+        ensures prefix { prefix self.new ≡ prefix self.old };
 
     /// Goes to the present prefix with one value more.
     fn go_down(&mut self, full: bool)

@@ -77,7 +77,7 @@ impl<'a> Path for ToldPath<'a> {
         self.blocks
     }
 
-    fn is_live(&self) -> bool {
+    fn is_live(&mut self) -> bool {
         self.values.len() <= self.blocks && lets_on(self.text, 0, self.values.as_slice())
     }
 

@@ -9,11 +9,11 @@ pub loop-more-init : goal.loop-more-init
 loop-more-init g c =
     let word = g.P.Path.live c.args.path.now in
     let n = g.P.Path.blocks c.args.path.now in
-    let prefix = g.P.Path.prefix c.args.path.now in
-    let asked : c.is_live-more.result ≡ word [] = c.is_live-more.ensures.live ∙ ap word c.requires in record {
-      live = refl;
-      blocks = refl;
-      searches = rw c.new-solids.ensures.items (search_begins word n c.args.limits c.is_live-more.result asked c.is_live-more.ensures.tree.downwards prefix c.requires);
+    let prefix = g.P.Path.prefix c.is_live-more.new.self in
+    let asked : c.is_live-more.result ≡ word [] = c.is_live-more.ensures.asked ∙ ap word c.requires in record {
+      live = c.is_live-more.ensures.live;
+      blocks = c.is_live-more.ensures.blocks;
+      searches = rw c.new-solids.ensures.items (search_begins word n c.args.limits c.is_live-more.result asked c.is_live-more.ensures.tree.downwards prefix (c.is_live-more.ensures.prefix ∙ c.requires));
     }
 
 pub returns-then-opened-limits : goal.returns-then-opened-limits

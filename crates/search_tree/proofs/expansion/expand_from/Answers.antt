@@ -8,7 +8,7 @@ pub returns-then-not-is_live-clause-live : goal.returns-then-not-is_live-clause-
 returns-then-not-is_live-clause-live c =
     let piece = c.args.piece.now in
     let asked : c.is_live.result ≡ is_live (arc_value c.args.problem.now) piece =
-    c.is_live.ensures.live ∙ ap (λ word. word c.go_to.new.path.values) c.go_to.ensures.live ∙ ap (is_live c.args.path.now.problem) c.go_to.ensures.there
+    c.is_live.ensures.asked ∙ ap (λ word. word c.go_to.new.path.values) c.go_to.ensures.live ∙ ap (is_live c.args.path.now.problem) c.go_to.ensures.there
     ∙ ap (λ word. word piece) c.requires.way.live in
     sym asked ∙ c.if-not-is_live.true
 
@@ -16,6 +16,11 @@ pub returns-clause-live : goal.returns-clause-live
 returns-clause-live c =
     let piece = c.args.piece.now in
     let asked : c.is_live.result ≡ is_live (arc_value c.args.problem.now) piece =
-    c.is_live.ensures.live ∙ ap (λ word. word c.go_to.new.path.values) c.go_to.ensures.live ∙ ap (is_live c.args.path.now.problem) c.go_to.ensures.there
+    c.is_live.ensures.asked ∙ ap (λ word. word c.go_to.new.path.values) c.go_to.ensures.live ∙ ap (is_live c.args.path.now.problem) c.go_to.ensures.there
     ∙ ap (λ word. word piece) c.requires.way.live in
     sym asked ∙ c.if-not-is_live.false
+
+pub expand_path-requires-clause-live : goal.expand_path-requires-clause-live
+expand_path-requires-clause-live c =
+    let asked = c.is_live.ensures in
+    ap (λ word. word c.is_live.new.self.values) asked.live ∙ ap (is_live c.go_to.new.path.problem) asked.prefix ∙ sym asked.asked ∙ c.if-not-is_live.false

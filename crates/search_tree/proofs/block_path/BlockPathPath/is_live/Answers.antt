@@ -5,8 +5,8 @@ use Rattle.search_tree.specs.Walk.{IsTree}
 use Rattle.search_tree.proofs.ProblemTrees.{problem_tree, path_live, none_by}
 use Rattle.search_tree.proofs.block_path.BlockPathPath.is_live.Goals as goal
 
-pub returns-clause-live : goal.returns-clause-live
-returns-clause-live c =
+pub returns-clause-asked : goal.returns-clause-asked
+returns-clause-asked c =
     let partial = c.self.inside.partial in
     let values = c.self.inside.values.items in
     let kept = c.self.invariant in
