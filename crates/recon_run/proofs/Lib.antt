@@ -6,6 +6,7 @@ pub mod Faults
 pub mod Solved
 pub mod Told
 pub mod Sources
+pub mod OneEnd
 pub mod OneAnswer
 pub mod Endings
 pub mod DueAnswers

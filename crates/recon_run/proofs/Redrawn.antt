@@ -1,15 +1,13 @@
 -- What `redraw` and `trial` tell of what was found in a file is their answer to it.
-use Rattle.std.proofs.Common.{◌≡◌, ℕ, zero, suc, ◌-◌, ◌<◌, ◌≤◌, List, [], ◌∷◌, Bool, Option, Some, refl, sym, ap, subst, ◌∙◌}
+use Rattle.std.proofs.Common.{◌≡◌, ℕ, zero, suc, ◌-◌, ◌<◌, ◌≤◌, List, [], ◌∷◌, Bool, Option, Some, inl, inr, refl, sym, ap, subst, ◌∙◌, cond, lt-ltb, le-ltb}
 use Rattle.std.specs.List.{slice_get}
-use Rattle.recon_run.specs.declared.solve.Finding.{Finding}
-use Rattle.recon_run.specs.declared.solve.Finding.TheVariants.{Solids, Fault}
-use Rattle.recon_run.specs.declared.status.Answer.{Answer}
-use Rattle.recon_run.specs.declared.status.Answer.TheVariants.{Solve, Redraw, NoSolid, Make, Trial, Usage}
-use Rattle.recon_run.specs.declared.status.Found.TheVariants.{Ended, Faulty}
-use Rattle.recon_run.specs.Answers.{HasProblem, first_volume}
-use Rattle.recon_run.specs.Endings.{Redraws}
-use Rattle.recon_run.specs.Findings.{IsFinding, TellsSolid, TellsRedrawn, TellsRedrawing, first_choice_volume}
-use Rattle.recon_run.proofs.Solved.{Fill, IsStated, IsWholeListing, as_many, listed_solids, listing, whole_listing}
+use Rattle.recon_run.specs.declared.status.Answer.TheVariants as answers
+use Rattle.recon_run.specs.Answers.{CanEnd, HasProblem, first_volume, numbered_answer}
+use Rattle.recon_run.specs.Findings.{TellsOne, TellsOneAt, first_choice_volume}
+use Rattle.recon_run.specs.Owed.{search_for_one}
+use Rattle.recon_run.proofs.Solved.{Fill, IsStated, as_many, listing, whole_listing}
+use Rattle.recon_run.proofs.Told.{TellsRightly}
+use Rattle.redraw.specs.Files.{IsFileOf}
 use Rattle.report.specs.Texts.{no_solid_text}
 use Rattle.solid_model.specs.declared.cell.Cell.{Cell}
 use Rattle.solid_model.specs.declared.ended.EndKind.{EndKind}
@@ -24,6 +22,14 @@ use Rattle.solid_model.specs.Panels.{coordinates_of}
 use Rattle.solid_model.specs.Search.{SearchLimits}
 use Rattle.solid_model.specs.SearchEnds.{EndsAs}
 use Rattle.solid_model.proofs.Volumes.{volume_counts}
+
+-- where a number isn't above that of the solids, the answer is that all is done,
+pub numbered_done : (which solids : ℕ) → which ≤ solids → answers.Done ≡ numbered_answer which solids
+numbered_done which solids within = sym (ap (λ b. cond b answers.NoSolid answers.Done) (le-ltb solids which within))
+
+-- and otherwise that there is none
+pub numbered_lacks : (which solids : ℕ) → solids < which → answers.NoSolid ≡ numbered_answer which solids
+numbered_lacks which solids few = sym (ap (λ b. cond b answers.NoSolid answers.Done) (lt-ltb solids which few))
 
 -- a property of each member is one of that at a place
 pub each_get : {A : Type 0} (P : A → Type 0) (xs : List A) (k : ℕ) (x : A) → Each P xs → slice_get xs k ≡ Some x → P x
@@ -47,42 +53,23 @@ fills_at coordinates numbers count (c ∷ choices) (s ∷ solids) filled (suc k)
     fills_at coordinates numbers count choices solids filled.2 k choice at
 
 module _ (limits : SearchLimits) (t : List ℕ) (p : ProblemParts) (has : HasProblem t p) where
-  -- ---- `redraw`
-
-  -- of a whole search
-  solid_told : (which : ℕ) → 1 ≤ which → (opened : ℕ) (choices : List (List Bool)) → IsWholeListing limits t p has opened choices
-      → (answer : Answer) (text : List ℕ) → TellsSolid p choices which answer text → Redraws which limits t answer text
-  solid_told which some opened choices is (Redraw (Ended Whole)) text (choice, at, draws) =
-      let (s, at_s, union) = fills_at (coordinates_of p.grid) p.blocks.numbers p.blocks.count choices is.can.solids is.filled (which - 1) choice at in
-      (is.can, s, (some, at_s), draws s (each_get (IsStated limits t p has) is.can.solids (which - 1) s is.each at_s).0.0 union)
-  solid_told which some opened choices is NoSolid text (fewer, told) =
+  -- what `redraw` tells of a search that ended so goes with its end
+  one_told_at : (which : ℕ) → 1 ≤ which → (kind : EndKind) (opened : ℕ) (choices : List (List Bool))
+      → EndsAs (is_live p) p.blocks.count limits kind opened choices → (text : List ℕ)
+      → TellsOneAt limits which kind (record { problem = p; ended = record { kind = kind; opened = opened; solids = choices } }) text
+      → (c : CanEnd limits t kind) × (search_for_one IsFileOf which limits).tells t kind c text
+  one_told_at which some Whole opened choices ends text (inl (choice, at, draws)) =
+      let is = whole_listing limits t p has opened choices ends in let solids = is.can.solids in
+      let (s, at_s, union) = fills_at (coordinates_of p.grid) p.blocks.numbers p.blocks.count choices solids is.filled (which - 1) choice at in
+      (is.can, inl (s, (some, at_s), draws s (each_get (IsStated limits t p has) solids (which - 1) s is.each at_s).0.0 union))
+  one_told_at which some Whole opened choices ends text (inr (fewer, told)) =
+      let is = whole_listing limits t p has opened choices ends in
       let many = as_many (coordinates_of p.grid) p.blocks.numbers p.blocks.count choices is.can.solids is.filled in
-      (is.can, subst (λ n. n < which) many fewer, told ∙ ap (no_solid_text which) many)
-  solid_told which some opened choices is (Redraw (Ended CutNodes)) text tells = absurd tells
-  solid_told which some opened choices is (Redraw (Ended CutSolids)) text tells = absurd tells
-  solid_told which some opened choices is (Redraw Faulty) text tells = absurd tells
-  solid_told which some opened choices is (Solve found) text tells = absurd tells
-  solid_told which some opened choices is Make text tells = absurd tells
-  solid_told which some opened choices is Trial text tells = absurd tells
-  solid_told which some opened choices is Usage text tells = absurd tells
-
-  -- of one that ended so
-  redrawn_told : (which : ℕ) → 1 ≤ which → (kind : EndKind) (opened : ℕ) (choices : List (List Bool))
-      → EndsAs (is_live p) p.blocks.count limits kind opened choices → (answer : Answer) (text : List ℕ)
-      → TellsRedrawn limits which (record { problem = p; ended = record { kind = kind; opened = opened; solids = choices } }) kind answer text
-      → Redraws which limits t answer text
-  redrawn_told which some Whole opened choices ends answer text tells =
-      solid_told which some opened choices (whole_listing limits t p has opened choices ends) answer text tells
-  redrawn_told which some CutNodes opened choices ends answer text (is, told) =
-      let (solids, listed) = listing limits t p has CutNodes opened choices ends in
-      subst (λ a. Redraws which limits t a text) (sym is)
-      (listed.can, listed_solids limits t p has CutNodes opened choices solids listed, told ∙ listed.head)
-  redrawn_told which some CutSolids opened choices ends answer text (is, told) =
-      let (solids, listed) = listing limits t p has CutSolids opened choices ends in
-      subst (λ a. Redraws which limits t a text) (sym is)
-      (listed.can, listed_solids limits t p has CutSolids opened choices solids listed, told ∙ listed.head)
-
-  -- ---- `trial`
+      (is.can, inr (subst (λ n. n < which) many fewer, told ∙ ap (no_solid_text which) many))
+  one_told_at which some CutNodes opened choices ends text told =
+      let (solids, listed) = listing limits t p has CutNodes opened choices ends in (listed.can, told ∙ listed.head)
+  one_told_at which some CutSolids opened choices ends text told =
+      let (solids, listed) = listing limits t p has CutSolids opened choices ends in (listed.can, told ∙ listed.head)
 
   -- the first choice fills the first solid
   pub first_counts : (choices : List (List Bool)) (solids : List (List Cell)) → Each (IsStated limits t p has) solids → Fill limits t p has choices solids
@@ -93,10 +80,7 @@ module _ (limits : SearchLimits) (t : List ℕ) (p : ProblemParts) (has : HasPro
   first_counts (choice ∷ choices) (s ∷ solids) each filled =
       sym (volume_counts (coordinates_of p.grid) (λ a. (has.grid.coordinates a).ordered) (cells_of_choice p.blocks.numbers choice) s filled.1 each.0.1)
 
--- what `redraw` tells of what was found is its answer
-pub redrawing_answers : (limits : SearchLimits) (t : List ℕ) (which : ℕ) → 1 ≤ which → (finding : Finding) → IsFinding limits t finding
-    → (answer : Answer) (text : List ℕ) → TellsRedrawing limits which finding answer text → Redraws which limits t answer text
-redrawing_answers limits t which some (Solids s) (has, ends) answer text tells =
-    redrawn_told limits t s.problem has which some s.ended.kind s.ended.opened s.ended.solids ends answer text tells
-redrawing_answers limits t which some (Fault fault) found answer text (is, told) =
-    subst (λ a. Redraws which limits t a text) (sym is) (fault, found, told)
+-- what `redraw` tells goes with the end
+pub one_told : (which : ℕ) (limits : SearchLimits) → 1 ≤ which → TellsRightly (search_for_one IsFileOf which limits) (TellsOne limits which)
+one_told which limits some t s (has, ends) text told =
+    one_told_at limits t s.problem has which some s.ended.kind s.ended.opened s.ended.solids ends text told

@@ -1,8 +1,7 @@
--- From the end of a search, and what is told of it, to what is answered.
+-- From the end of a search, and what `solve` tells of it, to the solids that are listed.
 use Rattle.std.proofs.Common.{◌≡◌, ℕ, zero, suc, ◌+◌, ◌<◌, ◌≤◌, List, [], ◌∷◌, ◌++◌, Bool, length, take, Option, refl, sym, ap, subst, ◌∙◌, arith}
 use Rattle.columns.proofs.LivePrefixes.{live_keeps_matching}
-use Rattle.recon_run.specs.declared.status.Found.TheVariants.{Ended}
-use Rattle.recon_run.specs.Answers.{node_count, HasProblem, CanEnd, AreListed, ListedSolids, TellsSolids, IsSolved, IsBegun}
+use Rattle.recon_run.specs.Answers.{node_count, HasProblem, CanEnd, AreListed, BeginsToList, ListedSolids, ListsSolids, TellsSolids, head_of}
 use Rattle.recon_run.specs.Findings.{TellsChoices}
 use Rattle.recon_run.proofs.Problems.{problem_drawing}
 use Rattle.report.specs.Texts.{head_text, solid_text}
@@ -110,7 +109,7 @@ module _ (limits : SearchLimits) (t : List ℕ) (p : ProblemParts) (has : HasPro
     pub listed : AreListed limits drawing kind solids
     pub filled : Fill choices solids
     pub each : Each IsStated solids
-    pub head : head_text limits kind (length choices) opened p.blocks.count ≡ head_text limits kind (length solids) (node_count p) p.blocks.count
+    pub head : head_text limits kind (length choices) opened p.blocks.count ≡ head_of can
 
   pub listing : (kind : EndKind) (opened : ℕ) (choices : List (List Bool)) → EndsAs (is_live p) p.blocks.count limits kind opened choices
       → (solids : List (List Cell)) × IsListing kind opened choices solids
@@ -166,7 +165,7 @@ module _ (limits : SearchLimits) (t : List ℕ) (p : ProblemParts) (has : HasPro
     counted = counted;
   }
 
-  -- ---- the answer
+  -- ---- what is answered
 
   -- the solids that it lists
   abbrev pub listed_solids : (kind : EndKind) (opened : ℕ) (choices : List (List Bool)) (solids : List (List Cell)) → IsListing kind opened choices solids
@@ -174,10 +173,10 @@ module _ (limits : SearchLimits) (t : List ℕ) (p : ProblemParts) (has : HasPro
   listed_solids kind opened choices solids is =
       record { problem = p; has = has; solids = solids; listed = is.listed; choices = choices; filled = is.filled }
 
-  -- what the search ends as, with the texts of all its choices, is the answer
+  -- how the search ended, with the texts of all its choices, lists its solids
   pub solved : (kind : EndKind) (opened : ℕ) (choices : List (List Bool)) → EndsAs (is_live p) p.blocks.count limits kind opened choices
       → (texts : List ℕ) → TellsChoices p 1 choices texts
-      → IsSolved limits t (Ended kind) (head_text limits kind (length choices) opened p.blocks.count ++ texts)
+      → (c : CanEnd limits t kind) × ListsSolids limits t kind c (head_text limits kind (length choices) opened p.blocks.count ++ texts)
   solved kind opened choices ends texts tells =
       let (solids, is) = listing kind opened choices ends in (
         is.can,
@@ -187,7 +186,7 @@ module _ (limits : SearchLimits) (t : List ℕ) (p : ProblemParts) (has : HasPro
   -- and with the texts of the first of them it begins to be
   pub begun : (kind : EndKind) (opened : ℕ) (choices : List (List Bool)) → EndsAs (is_live p) p.blocks.count limits kind opened choices
       → (first : ℕ) (texts : List ℕ) → TellsChoices p 1 (take first choices) texts
-      → IsBegun limits t (Ended kind) (head_text limits kind (length choices) opened p.blocks.count ++ texts)
+      → (c : CanEnd limits t kind) × BeginsToList limits t kind c (head_text limits kind (length choices) opened p.blocks.count ++ texts)
   begun kind opened choices ends first texts tells =
       let (solids, is) = listing kind opened choices ends in (
         is.can,
@@ -212,10 +211,10 @@ module _ (limits : SearchLimits) (t : List ℕ) (p : ProblemParts) (has : HasPro
       some_faces s (λ faces are. some_telling (number + 1) choices solids filled.2 (λ rest tells.
       never (solid_text number choice (length s) faces ++ rest) (faces, are, rest, tells, refl)))
 
-  -- or that no text is the answer where the search ends so
-  pub some_answer_of : (kind : EndKind) (opened : ℕ) (choices : List (List Bool)) → EndsAs (is_live p) p.blocks.count limits kind opened choices
-      → ((text : List ℕ) → IsSolved limits t (Ended kind) text → ⊥) → ⊥
-  some_answer_of kind opened choices ends never =
+  -- or that none lists them where the search ends so
+  pub some_listing : (kind : EndKind) (opened : ℕ) (choices : List (List Bool)) → EndsAs (is_live p) p.blocks.count limits kind opened choices
+      → ((c : CanEnd limits t kind) (text : List ℕ) → ListsSolids limits t kind c text → ⊥) → ⊥
+  some_listing kind opened choices ends never =
       let (solids, is) = listing kind opened choices ends in
       some_telling 1 choices solids is.filled (λ texts tells.
-      never (head_text limits kind (length solids) (node_count p) p.blocks.count ++ texts) (is.can, (listed_solids kind opened choices solids is, texts, tells, refl)))
+      never is.can (head_of is.can ++ texts) (listed_solids kind opened choices solids is, texts, tells, refl))

@@ -2,7 +2,7 @@
 use Rattle.std.proofs.Common.{◌≤◌, ℕ, List, length, Option, Some, None, IfSome, refl, subst, inl, inr}
 use Rattle.recon_run.specs.declared.solve.Finding.{Finding}
 use Rattle.recon_run.specs.declared.solve.Finding.TheVariants.{Fault}
-use Rattle.recon_run.specs.Endings.{ReadsAllOrPast}
+use Rattle.recon_run.specs.Owed.{ReadsAllOrPast}
 use Rattle.recon_run.specs.Findings.{IsFinding}
 use Rattle.solid_model.specs.declared.fault.Fault.TheVariants.{TooLong}
 use Rattle.solid_model.specs.Limits.{most_file_bytes}

@@ -6,7 +6,7 @@ use Rattle.std.proofs.lemmas.List.{append-nil}
 use Rattle.std.specs.Io.KnownBytes.{Appends, Keeps}
 use Rattle.recon_run.specs.declared.status.Stop.{Stop}
 use Rattle.recon_run.specs.declared.status.Stop.TheVariants.{ReadFault, WriteFault, Memory}
-use Rattle.recon_run.specs.Findings.{TellsChoice, TellsChoices, EndsWriting}
+use Rattle.recon_run.specs.Findings.{TellsChoice, TellsChoices, EndsText, EndsWriting}
 use Rattle.solid_model.specs.Blocks.{ProblemParts}
 use Rattle.tv_base.proofs.Told.{appends_both}
 use Rattle.tv_base.specs.Faults.{Rose}
@@ -43,34 +43,32 @@ rose_since before mid now later (inr most) = inr most
 -- ---- writings
 
 -- a writing that was refused was so whatever it should have told
-pub refused : (A B : Type 0) (tells others begins starts : List ℕ → Type 0) (held now : Option (List ℕ)) (rose : Type 0) → ((text : List ℕ) → begins text → starts text)
-    → (stop : Stop) → EndsWriting {A = A} tells begins held now rose (Err stop) → EndsWriting {A = B} others starts held now rose (Err stop)
-refused A B tells others begins starts held now rose weaker ReadFault ends = ends
-refused A B tells others begins starts held now rose weaker WriteFault (rises, text, begun, prefix) = (rises, text, weaker text begun, prefix)
-refused A B tells others begins starts held now rose weaker Memory (inl keeps) = inl keeps
-refused A B tells others begins starts held now rose weaker Memory (inr (text, begun, prefix)) = inr (text, weaker text begun, prefix)
+pub refused : (A B : Type 0) (tells begins : A → List ℕ → Type 0) (others starts : B → List ℕ → Type 0) (held now : Option (List ℕ)) (rose : Type 0)
+    → ((a : A) (text : List ℕ) → begins a text → (b : B) × starts b text)
+    → (stop : Stop) → EndsWriting tells begins held now rose (Err stop) → EndsWriting others starts held now rose (Err stop)
+refused A B tells begins others starts held now rose weaker ReadFault ends = ends
+refused A B tells begins others starts held now rose weaker WriteFault (rises, a, text, begun, prefix) =
+    let (b, starts_it) = weaker a text begun in (rises, b, text, starts_it, prefix)
+refused A B tells begins others starts held now rose weaker Memory (inl keeps) = inl keeps
+refused A B tells begins others starts held now rose weaker Memory (inr (a, text, begun, prefix)) =
+    let (b, starts_it) = weaker a text begun in inr (b, text, starts_it, prefix)
 
--- after a text that was written whole, a writing is refused as one of both together
-pub refused_after : (A B : Type 0) (tells others begins starts : List ℕ → Type 0) (first : List ℕ) (held mid now : Option (List ℕ)) (rose rises : Type 0)
-    → Appends held mid first → (rose → rises) → ((text : List ℕ) → begins text → starts (first ++ text)) → starts first
-    → (stop : Stop) → EndsWriting {A = A} tells begins mid now rose (Err stop) → EndsWriting {A = B} others starts held now rises (Err stop)
-refused_after A B tells others begins starts first held mid now rose rises appends since both alone ReadFault ends = ends
-refused_after A B tells others begins starts first held mid now rose rises appends since both alone WriteFault (rising, text, begun, prefix) =
-    (since rising, first ++ text, both text begun, prefix_after held mid now first text appends prefix)
-refused_after A B tells others begins starts first held mid now rose rises appends since both alone Memory (inl keeps) =
-    inr (first, alone, prefix_kept held mid now first appends keeps)
-refused_after A B tells others begins starts first held mid now rose rises appends since both alone Memory (inr (text, begun, prefix)) =
-    inr (first ++ text, both text begun, prefix_after held mid now first text appends prefix)
+module _ (tells others begins starts : List ℕ → Type 0) (first : List ℕ) (held mid now : Option (List ℕ)) (rose rises : Type 0)
+    (appends : Appends held mid first) (since : rose → rises) (both : (text : List ℕ) → begins text → starts (first ++ text)) (alone : starts first) where
+  -- after a text that was written whole, a writing is refused as one of both together
+  pub refused_after : (stop : Stop) → EndsText tells begins mid now rose (Err stop) → EndsText others starts held now rises (Err stop)
+  refused_after ReadFault ends = ends
+  refused_after WriteFault (rising, given, text, begun, prefix) =
+      (since rising, given, first ++ text, both text begun, prefix_after held mid now first text appends prefix)
+  refused_after Memory (inl keeps) = inr (tt, first, alone, prefix_kept held mid now first appends keeps)
+  refused_after Memory (inr (given, text, begun, prefix)) =
+      inr (given, first ++ text, both text begun, prefix_after held mid now first text appends prefix)
 
--- and ends as one of both together
-pub ends_after : (A : Type 0) (tells others begins starts : List ℕ → Type 0) (first : List ℕ) (held mid now : Option (List ℕ)) (rose rises : Type 0)
-    → Appends held mid first → (rose → rises) → ((text : List ℕ) → tells text → others (first ++ text))
-    → ((text : List ℕ) → begins text → starts (first ++ text)) → starts first
-    → (r : Result A Stop) → EndsWriting {A = A} tells begins mid now rose r → EndsWriting {A = A} others starts held now rises r
-ends_after A tells others begins starts first held mid now rose rises appends since told both alone (Ok value) (text, tells_it, more) =
-    (first ++ text, told text tells_it, appends_both held mid now first text appends more)
-ends_after A tells others begins starts first held mid now rose rises appends since told both alone (Err stop) ends =
-    refused_after A A tells others begins starts first held mid now rose rises appends since both alone stop ends
+  -- and ends as one of both together
+  pub ends_after : ((text : List ℕ) → tells text → others (first ++ text)) → (r : Result (Unit {0}) Stop)
+      → EndsText tells begins mid now rose r → EndsText others starts held now rises r
+  ends_after told (Ok given) (text, tells_it, more) = (first ++ text, told text tells_it, appends_both held mid now first text appends more)
+  ends_after told (Err stop) ends = refused_after stop ends
 
 -- ---- solids
 

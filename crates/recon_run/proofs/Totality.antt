@@ -5,13 +5,13 @@ use Rattle.std.proofs.lemmas.List.{take-append-drop, length-take-le}
 use Rattle.dxf_entities.specs.Reading.{read_of}
 use Rattle.dxf_entities.proofs.KeptLines.{read_lines_are_kept}
 use Rattle.recon_run.specs.declared.status.Answer.{Answer}
-use Rattle.recon_run.specs.declared.status.Answer.TheVariants.{Solve, Redraw, NoSolid, Make, Trial, Usage}
-use Rattle.recon_run.specs.declared.status.Found.TheVariants.{Ended, Faulty}
-use Rattle.recon_run.specs.Answers.{usage_text, IsFaultAfter, IsFileFault, HasProblem, IsSolved, IsTried, default_limits, head_of}
-use Rattle.recon_run.specs.Endings.{Answers, AnswersJob, AnswersSaid, ReadsAllOrPast, Redraws}
+use Rattle.recon_run.specs.declared.status.Answer.TheVariants as answers
+use Rattle.recon_run.specs.Answers.{usage_text, CanEnd, IsFaultAfter, IsFileFault, HasProblem, IsTried, TellsNumbered, default_limits, head_of, numbered_answer}
+use Rattle.recon_run.specs.Endings.{Answers}
+use Rattle.recon_run.specs.Owed.{alone, AnswersOwed, Owed, ReadsAllOrPast, Search, answer_at, in_one_piece, search_for_one, owed, owed_for, searched}
 use Rattle.recon_run.proofs.Redrawn.{each_get}
 use Rattle.recon_run.proofs.Faults.{file_fault}
-use Rattle.recon_run.proofs.Solved.{matching, some_answer_of}
+use Rattle.recon_run.proofs.Solved.{listing, matching, some_listing, whole_listing}
 use Rattle.report.specs.FaultText.{fault_text}
 use Rattle.solid_model.specs.declared.cell.Axis.{Axis}
 use Rattle.solid_model.specs.declared.cell.Axis.TheVariants.{X, Y, Z}
@@ -24,6 +24,7 @@ use Rattle.solid_model.specs.declared.frame.View.TheVariants.{Front, Top, Side}
 use Rattle.solid_model.specs.declared.segment.Segment.{Segment}
 use Rattle.solid_model.specs.declared.segment.Style.{Style}
 use Rattle.solid_model.specs.Blocks.{AreBlocksOf, ProblemParts}
+use Rattle.solid_model.specs.Cells.{IsSolid}
 use Rattle.solid_model.specs.Choices.{ChoicePrecedes}
 use Rattle.solid_model.specs.Demands.{is_live}
 use Rattle.solid_model.specs.Drawings.{drawing_of, IsShown, IsEmptyView, IsFirstEmptyView}
@@ -50,6 +51,7 @@ use Rattle.words.specs.Jobs.{IsCounted, job_said}
 use Rattle.words.proofs.Commands.{said_is_counted}
 use Rattle.drawing_maker.specs.Made.{made_solid}
 use Rattle.made_laws.proofs.MadeSolid.{made_is_solid}
+use Rattle.redraw.specs.Files.{IsFileOf}
 use Rattle.redraw.proofs.SomeFile.{some_file}
 use Rattle.report.specs.Texts.{no_solid_text}
 use Rattle.made_laws.proofs.MadeLimits.{made_problem}
@@ -123,8 +125,13 @@ some_end live n limits ordered = ⊎_elim
     first_ordered = ascends-append_left ChoicePrecedes (take limits.solids all) (drop limits.solids all)
         (subst (λ (xs : List (List Bool)). Ascends ChoicePrecedes xs) (sym parts) ordered)
 
+-- no search of an input's problem ends
+abbrev EndlessSearch : SearchLimits → List ℕ → Type 0
+EndlessSearch limits t = (p : ProblemParts) → HasProblem t p → (kind : EndKind) (opened : ℕ) (choices : List (List Bool))
+    → EndsAs (is_live p) p.blocks.count limits kind opened choices → ⊥
+
 module _ (limits : SearchLimits) (t : List ℕ) (short : length t ≤ most_file_bytes) (faultless : (fault : Fault) → IsFileFault t fault → ⊥)
-    (endless : (kind : EndKind) (text : List ℕ) → IsSolved limits t (Ended kind) text → ⊥) where
+    (endless : EndlessSearch limits t) where
   module _ (ls : List Line) (reads : read_of t ≡ Ok ls) where
     abbrev drawing : Segment → Style
     drawing = drawing_of ls
@@ -158,7 +165,7 @@ module _ (limits : SearchLimits) (t : List ℕ) (short : length t ≤ most_file_
     with_blocks : (g : GridParts) → IsGridOf drawing g → (numbers : List (Option ℕ)) (count : ℕ) → AreBlocksOf g numbers count → count ≤ most_blocks → ⊥
     with_blocks g grid numbers count are few_blocks =
         let (kind, opened, choices, ends) = some_end (is_live problem) count limits (matching limits t problem has).ordered in
-        some_answer_of limits t problem has kind opened choices ends (endless kind)
+        endless problem has kind opened choices ends
       where
         problem : ProblemParts
         problem = record {
@@ -219,7 +226,7 @@ module _ (limits : SearchLimits) (t : List ℕ) (short : length t ≤ most_file_
 
 -- it can't be that a text of any length has neither a fault nor an end of a search
 searched_somehow : (limits : SearchLimits) (t : List ℕ) → ((fault : Fault) → IsFileFault t fault → ⊥)
-    → ((kind : EndKind) (text : List ℕ) → IsSolved limits t (Ended kind) text → ⊥) → ⊥
+    → EndlessSearch limits t → ⊥
 searched_somehow limits t faultless endless = ⊎_elim (λ long. faultless TooLong (inl (long, refl)))
     (λ short. short_input limits t short faultless endless (read_of t) refl) (cases_lt most_file_bytes (length t))
 
@@ -228,21 +235,44 @@ can_be_read : (t : List ℕ) → ((rest : Option (List ℕ)) → ReadsAllOrPast 
 can_be_read t never = ⊎_elim (λ long. never (Some (drop (most_file_bytes + 1) t)) (inr (long, refl)))
     (λ short. never (Some []) (inl (short, refl))) (cases_lt most_file_bytes (length t))
 
--- a whole search has a solid of a number, and that has a file; or there are fewer
-redrawn_somehow : (limits : SearchLimits) (which : ℕ) → 1 ≤ which → (t : List ℕ) (kind : EndKind) (text : List ℕ) → IsSolved limits t (Ended kind) text
-    → ((answer : Answer) (told : List ℕ) → Redraws which limits t answer told → ⊥) → ⊥
-redrawn_somehow limits which some t Whole text (c, lists) never = ⊎_elim
-    (λ few. never NoSolid (no_solid_text which (length c.solids)) (c, few, refl))
-    (λ enough. by (slice_get c.solids (which - 1)) refl (let within : which - 1 < length c.solids = omega arith in within))
-    (cases_lt (length c.solids) which)
+-- ---- some text of each command
+
+-- it can't be that an end of a search is told by no text
+abbrev TellsSome : Search → Type 0
+TellsSome s = (t : List ℕ) (p : ProblemParts) → HasProblem t p → (kind : EndKind) (opened : ℕ) (choices : List (List Bool))
+    → EndsAs (is_live p) p.blocks.count s.limits kind opened choices
+    → ((c : CanEnd s.limits t kind) (text : List ℕ) → s.tells t kind c text → ⊥) → ⊥
+
+-- nor one of a search that answers in one piece, if no whole one lacks its text
+some_in_one_piece : (limits : SearchLimits) (whole : ℕ → Answer) (tells : (t : List ℕ) → CanEnd limits t Whole → List ℕ → Type 0)
+    → ((t : List ℕ) (c : CanEnd limits t Whole) → ((text : List ℕ) → tells t c text → ⊥) → ⊥) → TellsSome (in_one_piece limits whole tells)
+some_in_one_piece limits whole tells some t p has Whole opened choices ends never =
+    let is = whole_listing limits t p has opened choices ends in some t is.can (never is.can)
+some_in_one_piece limits whole tells some t p has CutNodes opened choices ends never =
+    let (solids, is) = listing limits t p has CutNodes opened choices ends in never is.can (head_of is.can) refl
+some_in_one_piece limits whole tells some t p has CutSolids opened choices ends never =
+    let (solids, is) = listing limits t p has CutSolids opened choices ends in never is.can (head_of is.can) refl
+
+-- a whole search has a solid of a number, of which something is written; or there are fewer
+some_numbered : (writes : List Cell → List ℕ → Type 0) → ((s : List Cell) → IsSolid s → ((text : List ℕ) → writes s text → ⊥) → ⊥)
+    → (which : ℕ) → 1 ≤ which → (limits : SearchLimits) → TellsSome (search_for_one writes which limits)
+some_numbered writes written which some limits =
+    some_in_one_piece limits (numbered_answer which) (λ t c. TellsNumbered writes which c.solids) at_whole
   where
-    by : (o : Option (List Cell)) → slice_get c.solids (which - 1) ≡ o → which - 1 < length c.solids → ⊥
-    by None none within = none-some _ (sym none ∙ slice_get-get_or c.solids (which - 1) [] within)
-    by (Some s) at within =
-        let matches = each_get (λ u. Matches (drawing_of c.has.lines) u × IsInStatedForm u) c.solids (which - 1) s c.all.matching at in
-        let (file, is) = some_file s matches.0.0 in never (Redraw (Ended Whole)) file (c, s, (some, at), is)
-redrawn_somehow limits which some t CutNodes text (can, lists) never = never (Redraw (Ended CutNodes)) (head_of lists.0) (can, lists.0, refl)
-redrawn_somehow limits which some t CutSolids text (can, lists) never = never (Redraw (Ended CutSolids)) (head_of lists.0) (can, lists.0, refl)
+    at_whole : (t : List ℕ) (c : CanEnd limits t Whole) → ((text : List ℕ) → TellsNumbered writes which c.solids text → ⊥) → ⊥
+    at_whole t c never = ⊎_elim (λ few. never (no_solid_text which (length c.solids)) (inr (few, refl)))
+        (λ enough. by (slice_get c.solids (which - 1)) refl (let within : which - 1 < length c.solids = omega arith in within))
+        (cases_lt (length c.solids) which)
+      where
+        by : (o : Option (List Cell)) → slice_get c.solids (which - 1) ≡ o → which - 1 < length c.solids → ⊥
+        by None none within = none-some _ (sym none ∙ slice_get-get_or c.solids (which - 1) [] within)
+        by (Some s) at within =
+            let matches = each_get (λ u. Matches (drawing_of c.has.lines) u × IsInStatedForm u) c.solids (which - 1) s c.all.matching at in
+            written s matches.0.0 (λ text is. never text (inl (s, (some, at), is)))
+
+-- no solid lacks a file
+some_written_file : (s : List Cell) → IsSolid s → ((text : List ℕ) → IsFileOf s text → ⊥) → ⊥
+some_written_file s is never = let (text, file) = some_file s is in never text file
 
 -- the search of a made file ends, and has figures
 tried_somehow : (n : ℕ) → ((text : List ℕ) → IsTried n text → ⊥) → ⊥
@@ -252,23 +282,32 @@ tried_somehow n never =
     let (kind, opened, choices, ends) = some_end (is_live p) p.blocks.count default_limits (matching default_limits t p has).ordered in
     never _ (figures_are n t file p has kind opened choices ends _ refl)
 
--- no job lacks an answer
-job_answered : (j : Job) → IsCounted j → (t : List ℕ)
-    → ((rest : Option (List ℕ)) (answer : Answer) (text : List ℕ) → AnswersJob j (Some t) rest answer text → ⊥) → ⊥
-job_answered (job.Solve limits) counted t never = can_be_read t (λ rest reads. searched_somehow limits t
-    (λ fault is. never rest (Solve Faulty) (fault_text fault) (reads, (fault, is, refl)))
-    (λ kind text is. never rest (Solve (Ended kind)) text (reads, is)))
-job_answered (job.Redraw which limits) counted t never = can_be_read t (λ rest reads. searched_somehow limits t
-    (λ fault is. never rest (Redraw Faulty) (fault_text fault) (reads, (fault, is, refl)))
-    (λ kind text is. redrawn_somehow limits which counted t kind text is (λ answer told redraws. never rest answer told (reads, redraws))))
-job_answered (job.Make n) counted t never = let (file, is) = some_file (made_solid n) (made_is_solid n) in never (Some t) Make file (refl, is)
-job_answered (job.Trial n) counted t never = tried_somehow n (λ text is. never (Some t) Trial text (refl, is))
+-- what is owed for a job is told by some text
+abbrev OwesSome : Owed → Type 0
+OwesSome (searched s) = TellsSome s
+OwesSome (alone right tells) = ((text : List ℕ) → tells text → ⊥) → ⊥
+
+some_owed : (j : Job) → IsCounted j → OwesSome (owed_for j)
+some_owed (job.Solve limits) counted = some_listing limits
+some_owed (job.Redraw which limits) counted = some_numbered IsFileOf some_written_file which counted limits
+some_owed (job.Make n) counted = some_written_file (made_solid n) (made_is_solid n)
+some_owed (job.Trial n) counted = tried_somehow n
+
+-- ---- some answer
+
+-- so there is an answer to each input
+answered : (o : Owed) → OwesSome o → (t : List ℕ)
+    → ((rest : Option (List ℕ)) (answer : Answer) (text : List ℕ) → AnswersOwed o (Some t) rest answer text → ⊥) → ⊥
+answered (alone right tells) some t never = some (λ text is. never (Some t) right text (refl, refl, is))
+answered (searched s) some t never = can_be_read t (λ rest reads. searched_somehow s.limits t
+    (λ fault is. never rest answers.Faulty (fault_text fault) (inl refl, (reads, inl (refl, (fault, is, refl)))))
+    (λ p has kind opened choices ends. some t p has kind opened choices ends (λ c text tells.
+    never rest (answer_at s.whole kind (length c.solids)) text (inr (kind, length c.solids, refl), (reads, inr (kind, c, refl, tells))))))
 
 pub answered_somehow : (words : List (List ℕ)) (t : List ℕ)
     → ((rest : Option (List ℕ)) (answer : Answer) (text : List ℕ) → Answers words (Some t) rest answer text → ⊥) → ⊥
-answered_somehow words t never = by (job_said words) refl
+answered_somehow words t = answered (owed (job_said words)) (by (job_said words) refl) t
   where
-    by : (said : Option Job) → job_said words ≡ said → ⊥
-    by None none = never (Some t) Usage usage_text (subst (λ o. AnswersSaid o (Some t) (Some t) Usage usage_text) (sym none) (refl, refl))
-    by (Some j) asks = job_answered j (said_is_counted words j asks) t
-        (λ rest answer text answers. never rest answer text (subst (λ o. AnswersSaid o (Some t) rest answer text) (sym asks) answers))
+    by : (said : Option Job) → job_said words ≡ said → OwesSome (owed said)
+    by None none = λ never. never usage_text refl
+    by (Some j) asks = some_owed j (said_is_counted words j asks)

@@ -1,11 +1,9 @@
 -- What commands answer to an input.
-use Rattle.std.specs.Prelude.{◌≡◌, ◌⊎◌, ℕ, ◌+◌, ◌-◌, ◌<◌, ◌≤◌, List, [], ◌∷◌, ◌++◌, Bool, length, take, slice_get, Some, Result, Ok, Err, codes}
+use Rattle.std.specs.Prelude.{◌≡◌, ◌⊎◌, ℕ, nat_lt, ◌+◌, ◌-◌, ◌<◌, ◌≤◌, List, [], ◌∷◌, ◌++◌, Bool, length, take, slice_get, Some, Result, Ok, Err, codes, if◌then◌else◌}
 use Rattle.drawing_maker.specs.Made.{made_solid}
 use Rattle.dxf_entities.specs.Reading.{read_of}
-use Rattle.recon_run.specs.declared.status.Found.{Found}
-use Rattle.recon_run.specs.declared.status.Found.TheVariants.{Ended, Faulty}
-use Rattle.report.specs.FaultText.{fault_text}
-use Rattle.redraw.specs.Files.{IsFileOf}
+use Rattle.recon_run.specs.declared.status.Answer.{Answer}
+use Rattle.recon_run.specs.declared.status.Answer.TheVariants as answers
 use Rattle.report.specs.Texts.{head_text, no_solid_text, solid_text, trial_text}
 use Rattle.solid_model.specs.declared.cell.Axis.{Axis}
 use Rattle.solid_model.specs.declared.cell.Cell.{Cell}
@@ -96,9 +94,21 @@ pub record CanEnd (limits : SearchLimits) (t : List ℕ) (kind : EndKind) : Type
 
 -- ---- the answers
 
+-- the answer to a search that ended so
+abbrev pub end_answer : EndKind → Answer
+end_answer Whole = answers.Done
+end_answer CutNodes = answers.CutNodes
+end_answer CutSolids = answers.CutSolids
+
 -- the usage line
 abbrev pub usage_text : List ℕ
 usage_text = codes "usage: recon solve|redraw|make|trial\n"
+
+-- the first line, where a search of the input ends so
+abbrev pub head_of : {limits : SearchLimits} {t : List ℕ} {kind : EndKind} → CanEnd limits t kind → List ℕ
+head_of {limits} {t} {kind} c = head_text limits kind (length c.solids) (node_count c.problem) c.problem.blocks.count
+
+-- ---- `solve`
 
 -- what is listed at an end: all matching solids; or, at a cut, some, at a cut at solids as many as the limit
 abbrev pub AreListed : SearchLimits → (Segment → Style) → EndKind → List (List Cell) → Type 0
@@ -123,29 +133,15 @@ TellsSolids number (choice ∷ choices) (s ∷ solids) text = (faces : List Face
     × (rest : List ℕ) × TellsSolids (number + 1) choices solids rest × (text ≡ solid_text number choice (length s) faces ++ rest)
 TellsSolids number _ _ text = ⊥
 
--- the first line, before solids that are listed so
-abbrev pub head_of : {limits : SearchLimits} {t : List ℕ} {kind : EndKind} → ListedSolids limits t kind → List ℕ
-head_of {limits} {t} {kind} l = head_text limits kind (length l.solids) (node_count l.problem) l.problem.blocks.count
-
--- the text lists solids, as an end of this kind has it: it tells how the search ended, and then all of them
-abbrev pub ListsSolidsOf : SearchLimits → List ℕ → EndKind → List ℕ → Type 0
-ListsSolidsOf limits t kind text = (l : ListedSolids limits t kind) × (texts : List ℕ) × TellsSolids 1 l.choices l.solids texts
-    × (text ≡ head_of l ++ texts)
+-- where a search ends so, the text lists solids, as an end of this kind has it: it tells how the search ended, and then all of them
+abbrev pub ListsSolids : (limits : SearchLimits) (t : List ℕ) (kind : EndKind) → CanEnd limits t kind → List ℕ → Type 0
+ListsSolids limits t kind c text = (l : ListedSolids limits t kind) × (texts : List ℕ) × TellsSolids 1 l.choices l.solids texts
+    × (text ≡ head_of c ++ texts)
 
 -- the text begins to list them: it tells how the search ended, and then the first of them
-abbrev pub BeginsToList : SearchLimits → List ℕ → EndKind → List ℕ → Type 0
-BeginsToList limits t kind text = (l : ListedSolids limits t kind) × (first : ℕ) × (texts : List ℕ)
-    × TellsSolids 1 (take first l.choices) (take first l.solids) texts × (text ≡ head_of l ++ texts)
-
--- what the word `solve` and the input ask for within limits: what is found, and the text that goes with it
-abbrev pub IsSolved : SearchLimits → List ℕ → Found → List ℕ → Type 0
-IsSolved limits t (Ended kind) text = CanEnd limits t kind × ListsSolidsOf limits t kind text
-IsSolved limits t Faulty text = (fault : Fault) × IsFileFault t fault × (text ≡ fault_text fault)
-
--- the same, of a text that tells the first of the solids
-abbrev pub IsBegun : SearchLimits → List ℕ → Found → List ℕ → Type 0
-IsBegun limits t (Ended kind) text = CanEnd limits t kind × BeginsToList limits t kind text
-IsBegun limits t Faulty text = IsSolved limits t Faulty text
+abbrev pub BeginsToList : (limits : SearchLimits) (t : List ℕ) (kind : EndKind) → CanEnd limits t kind → List ℕ → Type 0
+BeginsToList limits t kind c text = (l : ListedSolids limits t kind) × (first : ℕ) × (texts : List ℕ)
+    × TellsSolids 1 (take first l.choices) (take first l.solids) texts × (text ≡ head_of c ++ texts)
 
 -- ---- `redraw`
 
@@ -153,17 +149,14 @@ IsBegun limits t Faulty text = IsSolved limits t Faulty text
 abbrev pub IsNumbered : List (List Cell) → ℕ → List Cell → Type 0
 IsNumbered solids which s = (1 ≤ which) × (slice_get solids (which - 1) ≡ Some s)
 
--- What `redraw` asks for and the input within limits: of a whole search the written file of the solid of this number; at a cut
--- how the search ended, alone; or the text of the first fault.
-abbrev pub IsRedrawn : SearchLimits → ℕ → List ℕ → Found → List ℕ → Type 0
-IsRedrawn limits which t (Ended Whole) text =
-    (c : CanEnd limits t Whole) × (s : List Cell) × IsNumbered c.solids which s × IsFileOf s text
-IsRedrawn limits which t (Ended kind) text = CanEnd limits t kind × (l : ListedSolids limits t kind) × (text ≡ head_of l)
-IsRedrawn limits which t Faulty text = (fault : Fault) × IsFileFault t fault × (text ≡ fault_text fault)
+-- the answer where the solid of a number is asked for, among so many
+abbrev pub numbered_answer : ℕ → ℕ → Answer
+numbered_answer which solids = if nat_lt solids which then answers.NoSolid else answers.Done
 
--- a whole search lists fewer solids than that
-abbrev pub LacksSolid : SearchLimits → ℕ → List ℕ → List ℕ → Type 0
-LacksSolid limits which t text = (c : CanEnd limits t Whole) × (length c.solids < which) × (text ≡ no_solid_text which (length c.solids))
+-- the text that is written of the solid of a number, among these; or where they are fewer, that there is none
+abbrev pub TellsNumbered : (List Cell → List ℕ → Type 0) → ℕ → List (List Cell) → List ℕ → Type 0
+TellsNumbered writes which solids text = ((s : List Cell) × IsNumbered solids which s × writes s text)
+    ⊎ ((length solids < which) × (text ≡ no_solid_text which (length solids)))
 
 -- ---- `trial`
 

@@ -4,19 +4,18 @@ use Rattle.std.specs.Io.KnownBytes.{Appends, Keeps}
 use Rattle.recon_run.specs.declared.solve.Finding.{Finding}
 use Rattle.recon_run.specs.declared.solve.Finding.TheVariants.{Solids, Fault}
 use Rattle.recon_run.specs.declared.status.Answer.{Answer}
-use Rattle.recon_run.specs.declared.status.Answer.TheVariants.{Redraw, NoSolid}
-use Rattle.recon_run.specs.declared.status.Found.{Found}
-use Rattle.recon_run.specs.declared.status.Found.TheVariants.{Ended, Faulty}
+use Rattle.recon_run.specs.declared.status.Answer.TheVariants as answers
 use Rattle.recon_run.specs.declared.status.Stop.{Stop}
 use Rattle.recon_run.specs.declared.status.Stop.TheVariants.{ReadFault, WriteFault, Memory}
 use Rattle.recon_run.specs.Answers.{IsFileFault, HasProblem}
+use Rattle.recon_run.specs.Owed.{answer_at}
 use Rattle.recon_run.specs.Searched.{SearchedParts}
 use Rattle.report.specs.FaultText.{fault_text}
 use Rattle.redraw.specs.Files.{IsFileOf}
 use Rattle.report.specs.Texts.{head_text, no_solid_text, solid_text, trial_text}
 use Rattle.solid_model.specs.declared.cell.Cell.{Cell}
 use Rattle.solid_model.specs.declared.ended.EndKind.{EndKind}
-use Rattle.solid_model.specs.declared.ended.EndKind.TheVariants.{Whole}
+use Rattle.solid_model.specs.declared.ended.EndKind.TheVariants.{Whole, CutNodes, CutSolids}
 use Rattle.solid_model.specs.Blocks.{ProblemParts}
 use Rattle.solid_model.specs.Cells.{IsSolid, is_full}
 use Rattle.solid_model.specs.Choices.{cells_of_choice}
@@ -39,11 +38,6 @@ IsSearched limits t s = HasProblem t s.problem × EndsSearch (is_live s.problem)
 abbrev pub IsFinding : SearchLimits → List ℕ → Finding → Type 0
 IsFinding limits t (Solids searched) = IsSearched limits t searched
 IsFinding limits t (Fault fault) = IsFileFault t fault
-
--- the same in an answer's word
-abbrev pub found_of : Finding → Found
-found_of (Solids searched) = Ended searched.ended.kind
-found_of (Fault fault) = Faulty
 
 -- ---- what is told of it
 
@@ -75,15 +69,13 @@ BeginsChoices p number choices text = (first : ℕ) × TellsChoices p number (ta
 abbrev pub search_head : SearchLimits → SearchedParts → List ℕ
 search_head limits s = head_text limits s.ended.kind (length s.ended.solids) s.ended.opened s.problem.blocks.count
 
--- the text tells what is found: a search and its solids, or a fault
-abbrev pub TellsFinding : SearchLimits → Finding → List ℕ → Type 0
-TellsFinding limits (Solids s) text = (texts : List ℕ) × TellsChoices s.problem 1 s.ended.solids texts × (text ≡ search_head limits s ++ texts)
-TellsFinding limits (Fault fault) text = text ≡ fault_text fault
+-- the text tells a search and its solids
+abbrev pub TellsAll : SearchLimits → SearchedParts → List ℕ → Type 0
+TellsAll limits s text = (texts : List ℕ) × TellsChoices s.problem 1 s.ended.solids texts × (text ≡ search_head limits s ++ texts)
 
--- it begins to tell that: a search and the first of its solids, or a fault
-abbrev pub BeginsFinding : SearchLimits → Finding → List ℕ → Type 0
-BeginsFinding limits (Solids s) text = (texts : List ℕ) × BeginsChoices s.problem 1 s.ended.solids texts × (text ≡ search_head limits s ++ texts)
-BeginsFinding limits (Fault fault) text = text ≡ fault_text fault
+-- it begins to tell that: a search and the first of its solids
+abbrev pub BeginsAll : SearchLimits → SearchedParts → List ℕ → Type 0
+BeginsAll limits s text = (texts : List ℕ) × BeginsChoices s.problem 1 s.ended.solids texts × (text ≡ search_head limits s ++ texts)
 
 -- ---- what `redraw` tells of it
 
@@ -92,23 +84,20 @@ abbrev pub IsDrawingOf : ProblemParts → List Bool → List ℕ → Type 0
 IsDrawingOf p choice text = (s : List Cell) → IsSolid s
     → IsUnionOf (coordinates_of p.grid) (cells_of_choice p.blocks.numbers choice) (is_full s) → IsFileOf s text
 
--- The text is the written file of the solid that the choice of this number fills, counted from 1; or it tells that there are
--- fewer choices.
-abbrev pub TellsSolid : ProblemParts → List (List Bool) → ℕ → Answer → List ℕ → Type 0
-TellsSolid p choices which (Redraw (Ended Whole)) text = (choice : List Bool) × (slice_get choices (which - 1) ≡ Some choice)
-    × IsDrawingOf p choice text
-TellsSolid p choices which NoSolid text = (length choices < which) × (text ≡ no_solid_text which (length choices))
-TellsSolid p choices which _ text = ⊥
+-- the text is the written file of the solid that the choice of this number fills, counted from 1; or it tells that there are
+-- fewer choices
+abbrev pub TellsOneOf : ProblemParts → List (List Bool) → ℕ → List ℕ → Type 0
+TellsOneOf p choices which text = ((choice : List Bool) × (slice_get choices (which - 1) ≡ Some choice) × IsDrawingOf p choice text)
+    ⊎ ((length choices < which) × (text ≡ no_solid_text which (length choices)))
 
 -- the same of a search that ended so; of a cut how it ended
-abbrev pub TellsRedrawn : SearchLimits → ℕ → SearchedParts → EndKind → Answer → List ℕ → Type 0
-TellsRedrawn limits which s Whole answer text = TellsSolid s.problem s.ended.solids which answer text
-TellsRedrawn limits which s kind answer text = (answer ≡ Redraw (Ended kind)) × (text ≡ search_head limits s)
+abbrev pub TellsOneAt : SearchLimits → ℕ → EndKind → SearchedParts → List ℕ → Type 0
+TellsOneAt limits which Whole s text = TellsOneOf s.problem s.ended.solids which text
+TellsOneAt limits which CutNodes s text = text ≡ search_head limits s
+TellsOneAt limits which CutSolids s text = text ≡ search_head limits s
 
--- and of what was found
-abbrev pub TellsRedrawing : SearchLimits → ℕ → Finding → Answer → List ℕ → Type 0
-TellsRedrawing limits which (Solids s) answer text = TellsRedrawn limits which s s.ended.kind answer text
-TellsRedrawing limits which (Fault fault) answer text = (answer ≡ Redraw Faulty) × (text ≡ fault_text fault)
+abbrev pub TellsOne : SearchLimits → ℕ → SearchedParts → List ℕ → Type 0
+TellsOne limits which s = TellsOneAt limits which s.ended.kind s
 
 -- ---- what `trial` tells of it
 
@@ -121,12 +110,29 @@ first_choice_volume p (choice ∷ choices) = choice_volume p choice
 abbrev pub figures_text : ℕ → SearchedParts → List ℕ
 figures_text n s = trial_text n s.problem.blocks.count (length s.ended.solids) s.ended.opened (first_choice_volume s.problem s.ended.solids)
 
+-- ---- the answer
+
+-- What is answered to what was found, by the answer to a whole search and the texts that tell a search: the answer of its end and
+-- such a text, or that the file is faulty.
+abbrev pub AnswersFinding : (ℕ → Answer) → (SearchedParts → List ℕ → Type 0) → Finding → Answer → List ℕ → Type 0
+AnswersFinding whole tells (Solids s) answer text = (answer ≡ answer_at whole s.ended.kind (length s.ended.solids)) × tells s text
+AnswersFinding whole tells (Fault fault) answer text = (answer ≡ answers.Faulty) × (text ≡ fault_text fault)
+
+-- these are this answer and this text
+abbrev pub IsReply : Answer → List ℕ → Answer → List ℕ → Type 0
+IsReply answer text told other = (told ≡ answer) × (other ≡ text)
+
 -- ---- how writing ends
 
--- How the writing of a text ends: a text that tells so was written; the sink failed, its count rose, and a prefix of a text that
--- begins so was written; or memory ran out, and such a prefix was written, or nothing.
-abbrev pub EndsWriting : {A : Type 0} → (List ℕ → Type 0) → (List ℕ → Type 0) → Option (List ℕ) → Option (List ℕ) → Type 0 → Result A Stop → Type 0
-EndsWriting tells begins held now rose (Ok _) = (text : List ℕ) × tells text × Appends held now text
+-- How the writing of a text ends that goes with what is given back: such a text was written; the sink failed, its count rose,
+-- and a prefix of a text that begins so was written; or memory ran out, and such a prefix was written, or nothing.
+abbrev pub EndsWriting : {A : Type 0} → (A → List ℕ → Type 0) → (A → List ℕ → Type 0) → Option (List ℕ) → Option (List ℕ) → Type 0 → Result A Stop → Type 0
+EndsWriting tells begins held now rose (Ok given) = (text : List ℕ) × tells given text × Appends held now text
 EndsWriting tells begins held now rose (Err ReadFault) = ⊥
-EndsWriting tells begins held now rose (Err WriteFault) = rose × (text : List ℕ) × begins text × AppendsPrefix held now text
-EndsWriting tells begins held now rose (Err Memory) = Keeps held now ⊎ ((text : List ℕ) × begins text × AppendsPrefix held now text)
+EndsWriting {A} tells begins held now rose (Err WriteFault) = rose × (given : A) × (text : List ℕ) × begins given text × AppendsPrefix held now text
+EndsWriting {A} tells begins held now rose (Err Memory) =
+    Keeps held now ⊎ ((given : A) × (text : List ℕ) × begins given text × AppendsPrefix held now text)
+
+-- the same where nothing is given back, and these are the texts
+abbrev pub EndsText : (List ℕ → Type 0) → (List ℕ → Type 0) → Option (List ℕ) → Option (List ℕ) → Type 0 → Result (Unit {0}) Stop → Type 0
+EndsText tells begins = EndsWriting (λ _. tells) (λ _. begins)

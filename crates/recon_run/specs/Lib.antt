@@ -1,5 +1,6 @@
 pub mod Status
 pub mod Answers
+pub mod Owed
+pub mod Endings
 pub mod Searched
 pub mod Findings
-pub mod Endings

@@ -1,33 +1,30 @@
 -- The numbers of the statuses.
-use Rattle.std.specs.Prelude.{ℕ}
+use Rattle.std.specs.Prelude.{ℕ, Result, Ok, Err}
 use Rattle.recon_run.specs.declared.status.Answer.{Answer}
-use Rattle.recon_run.specs.declared.status.Answer.TheVariants.{Solve, Redraw, NoSolid, Make, Trial, Usage}
-use Rattle.recon_run.specs.declared.status.Found.{Found}
-use Rattle.recon_run.specs.declared.status.Found.TheVariants.{Ended, Faulty}
-use Rattle.recon_run.specs.declared.status.Status.{Status}
-use Rattle.recon_run.specs.declared.status.Status.TheVariants.{Answered, Stopped}
+use Rattle.recon_run.specs.declared.status.Answer.TheVariants.{Done, Faulty, Usage, CutNodes, CutSolids, NoSolid}
+use Rattle.recon_run.specs.declared.status.Stop.{Stop}
 use Rattle.recon_run.specs.declared.status.Stop.TheVariants.{ReadFault, WriteFault, Memory}
-use Rattle.solid_model.specs.declared.ended.EndKind.TheVariants.{Whole, CutNodes, CutSolids}
 
--- the number of what a search found
-abbrev pub found_code : Found → ℕ
-found_code (Ended Whole) = 0
-found_code Faulty = 1
-found_code (Ended CutNodes) = 3
-found_code (Ended CutSolids) = 4
+-- how a run ends: with an answer, or by a stop
+abbrev pub Status : Type 0
+Status = Result Answer Stop
 
 -- the number of an answer
 abbrev pub answer_code : Answer → ℕ
-answer_code (Solve found) = found_code found
-answer_code (Redraw found) = found_code found
-answer_code NoSolid = 8
-answer_code Make = 0
-answer_code Trial = 0
+answer_code Done = 0
+answer_code Faulty = 1
 answer_code Usage = 2
+answer_code CutNodes = 3
+answer_code CutSolids = 4
+answer_code NoSolid = 8
+
+-- the number of a stop
+abbrev pub stop_code : Stop → ℕ
+stop_code ReadFault = 5
+stop_code WriteFault = 6
+stop_code Memory = 7
 
 -- the number of a status
 abbrev pub status_code : Status → ℕ
-status_code (Answered answer) = answer_code answer
-status_code (Stopped ReadFault) = 5
-status_code (Stopped WriteFault) = 6
-status_code (Stopped Memory) = 7
+status_code (Ok answer) = answer_code answer
+status_code (Err stop) = stop_code stop

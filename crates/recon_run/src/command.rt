@@ -1,27 +1,24 @@
 //! The run of a command.
 
-ghost use Rattle.std.specs.Prelude.{◌≡◌, ◌≤◌, false, ℕ, List, length, None, Some, Option, map, string_bytes};
+ghost use Rattle.std.specs.Prelude.{◌≡◌, ◌≤◌, false, length, map, string_bytes, Err, Some};
 ghost use Rattle.recon_run.specs.declared.status.Answer.TheVariants as answers;
-ghost use Rattle.recon_run.specs.declared.status.Status.{Status};
-ghost use Rattle.recon_run.specs.declared.status.Status.TheVariants.{Stopped};
 ghost use Rattle.recon_run.specs.declared.status.Stop.TheVariants.{ReadFault, WriteFault};
-ghost use Rattle.recon_run.specs.Answers.{HasNoFault, IsFileFault, CanEnd, usage_text};
-ghost use Rattle.recon_run.specs.Endings.{AnswersOrStops, AsksFor, Ends, EndsJob, EndsOrStops, EndsReply, IsReply, Makes, Searches, Tries};
-ghost use Rattle.recon_run.specs.Endings.{answer_at, answer_at_fault, limits_of, reads_source};
-ghost use Rattle.recon_run.specs.Status.{status_code};
+ghost use Rattle.recon_run.specs.Answers.{CanEnd, HasNoFault, IsFileFault};
+ghost use Rattle.recon_run.specs.Endings.{AnswersOrStops, Ends, EndsOrStops, OfAlone, OfSearch, owed_to};
+ghost use Rattle.recon_run.specs.Owed.{owed_for, reads_source, search_for_all, search_for_one, searched};
+ghost use Rattle.recon_run.specs.Status.{Status, status_code, stop_code};
+ghost use Rattle.redraw.specs.Files.{IsFileOf};
 ghost use Rattle.solid_model.specs.declared.ended.EndKind.TheVariants.{Whole};
 ghost use Rattle.solid_model.specs.declared.fault.Fault.{Fault};
 ghost use Rattle.tv_base.specs.Faults.{Rose};
-ghost use Rattle.words.specs.declared.job.Job.{Job};
-ghost use Rattle.words.specs.declared.job.Job.TheVariants as job;
-ghost use Rattle.words.specs.Jobs.{IsCounted, job_said};
+ghost use Rattle.words.specs.Jobs.{IsCounted};
 
-use crate::reply::{redrawn, write_reply};
+use crate::reply::redrawn;
 use crate::solve::find;
-use crate::status::{Answer, Status, Stop};
+use crate::status::{Answer, Status, Stop, code};
 use crate::trial::{made_file, trial};
-use crate::writing::write_finding;
-use solid_model::{Limits, Memory};
+use crate::writing::{write_finding, write_reply};
+use solid_model::Limits;
 use std::alloc::Global;
 use tv_base::{Gate, Sink, Source};
 use words::{Job, WordFault, job_of};
@@ -29,22 +26,15 @@ use words::{Job, WordFault, job_of};
 /// The usage line.
 const USAGE: &str = "usage: recon solve|redraw|make|trial\n";
 
-/// Searches within limits for the solids of the drawing that the source has left, and writes what is
-/// found.
+/// Searches within limits for the solids of the drawing that the source has left, and writes them.
 fn solve<S: Source, K: Sink>(alloc: Global, limits: Limits, source: &mut S, sink: &mut K) -> Status
-    ensures ends { EndsJob (job.Solve limits) (S.left source.old) (S.left source.new)
+    ensures ends { Ends (searched (search_for_all limits)) (S.left source.old) (S.left source.new)
         (K.held sink.old) (K.held sink.new) (Rose (S.faults source.old) (S.faults source.new))
         (Rose (K.faults sink.old) (K.faults sink.new)) result }
-    ensures unwritten { result ≡ Stopped ReadFault → sink.new ≡ sink.old }
+    ensures unwritten { result ≡ Err ReadFault → sink.new ≡ sink.old }
 {
-    let finding = match find(alloc, source, limits) {
-        Ok(finding) => finding,
-        Err(stop) => return Status::Stopped(stop),
-    };
-    match write_finding(alloc, &finding, limits, sink) {
-        Ok(()) => Status::Answered(Answer::Solve(finding.found())),
-        Err(stop) => Status::Stopped(stop),
-    }
+    let finding = find(alloc, source, limits)?;
+    write_finding(alloc, &finding, limits, sink)
 }
 
 /// Searches within limits for the solids of the drawing that the source has left, and writes the
@@ -57,57 +47,31 @@ fn redraw<S: Source, K: Sink>(
     sink: &mut K,
 ) -> Status
     requires { 1 ≤ which }
-    ensures ends { EndsJob (job.Redraw which limits) (S.left source.old) (S.left source.new)
-        (K.held sink.old) (K.held sink.new) (Rose (S.faults source.old) (S.faults source.new))
+    ensures ends { Ends (searched (search_for_one IsFileOf which limits)) (S.left source.old)
+        (S.left source.new) (K.held sink.old) (K.held sink.new)
+        (Rose (S.faults source.old) (S.faults source.new))
         (Rose (K.faults sink.old) (K.faults sink.new)) result }
-    ensures unwritten { result ≡ Stopped ReadFault → sink.new ≡ sink.old }
+    ensures unwritten { result ≡ Err ReadFault → sink.new ≡ sink.old }
 {
-    let finding = match find(alloc, source, limits) {
-        Ok(finding) => finding,
-        Err(stop) => return Status::Stopped(stop),
-    };
-    match redrawn(alloc, &finding, which, limits) {
-        Ok(reply) => write_reply(reply.answer, reply.text.as_slice(), sink),
-        Err(Memory) => Status::Stopped(Stop::Memory),
-    }
-}
-
-/// Writes the drawing that is made from a number.
-fn make<K: Sink>(alloc: Global, n: u64, sink: &mut K) -> Status
-    ensures { EndsReply (Makes n) (K.held sink.old) (K.held sink.new)
-        (Rose (K.faults sink.old) (K.faults sink.new)) result }
-{
-    match made_file(alloc, n) {
-        Ok(text) => write_reply(Answer::Make, text.as_slice(), sink),
-        Err(Memory) => Status::Stopped(Stop::Memory),
-    }
-}
-
-/// Searches for the solids of that drawing, and writes a line of figures.
-fn try_out<K: Sink>(alloc: Global, n: u64, sink: &mut K) -> Status
-    ensures { EndsReply (Tries n) (K.held sink.old) (K.held sink.new)
-        (Rose (K.faults sink.old) (K.faults sink.new)) result }
-{
-    match trial(alloc, n) {
-        Ok(text) => write_reply(Answer::Trial, text.as_slice(), sink),
-        Err(Memory) => Status::Stopped(Stop::Memory),
-    }
+    let finding = find(alloc, source, limits)?;
+    let reply = redrawn(alloc, &finding, which, limits)?;
+    write_reply(reply.answer, reply.text.as_slice(), sink)
 }
 
 /// Does a job over what the source has left.
 fn do_job<S: Source, K: Sink>(alloc: Global, job: Job, source: &mut S, sink: &mut K) -> Status
     requires { IsCounted job }
-    ensures ends { EndsJob job (S.left source.old) (S.left source.new) (K.held sink.old)
+    ensures ends { Ends (owed_for job) (S.left source.old) (S.left source.new) (K.held sink.old)
         (K.held sink.new) (Rose (S.faults source.old) (S.faults source.new))
         (Rose (K.faults sink.old) (K.faults sink.new)) result }
-    ensures unread { reads_source (Some job) ≡ false → source.new ≡ source.old }
-    ensures unwritten { result ≡ Stopped ReadFault → sink.new ≡ sink.old }
+    ensures unread { reads_source (owed_for job) ≡ false → source.new ≡ source.old }
+    ensures unwritten { result ≡ Err ReadFault → sink.new ≡ sink.old }
 {
     match job {
         Job::Solve { limits } => solve(alloc, limits, source, sink),
         Job::Redraw { which, limits } => redraw(alloc, which, limits, source, sink),
-        Job::Make { n } => make(alloc, n, sink),
-        Job::Trial { n } => try_out(alloc, n, sink),
+        Job::Make { n } => write_reply(Answer::Done, made_file(alloc, n)?.as_slice(), sink),
+        Job::Trial { n } => write_reply(Answer::Done, trial(alloc, n)?.as_slice(), sink),
     }
 }
 
@@ -118,19 +82,21 @@ fn answer<S: Source, K: Sink>(
     source: &mut S,
     sink: &mut K,
 ) -> Status
-    ensures ends { Ends (map string_bytes words.now) (S.left source.old) (S.left source.new)
-        (K.held sink.old) (K.held sink.new) result }
-    ensures unread { reads_source (job_said (map string_bytes words.now)) ≡ false
+    ensures ends { Ends (owed_to (map string_bytes words.now)) (S.left source.old)
+        (S.left source.new) (K.held sink.old) (K.held sink.new)
+        (Rose (S.faults source.old) (S.faults source.new))
+        (Rose (K.faults sink.old) (K.faults sink.new)) result }
+    ensures unread { reads_source (owed_to (map string_bytes words.now)) ≡ false
         → source.new ≡ source.old }
-    ensures read_fault { result ≡ Stopped ReadFault
+    ensures read_fault { result ≡ Err ReadFault
         → Rose (S.faults source.old) (S.faults source.new) × (sink.new ≡ sink.old) }
-    ensures write_fault { result ≡ Stopped WriteFault
+    ensures write_fault { result ≡ Err WriteFault
         → Rose (K.faults sink.old) (K.faults sink.new) }
 {
     match job_of(alloc, words) {
         Ok(job) => do_job(alloc, job, source, sink),
         Err(WordFault::Usage) => write_reply(Answer::Usage, USAGE.as_bytes(), sink),
-        Err(WordFault::Memory) => Status::Stopped(Stop::Memory),
+        Err(WordFault::Memory) => Err(Stop::Memory),
     }
 }
 
@@ -154,31 +120,27 @@ pub fn run<S: Source, K: Sink, G: Gate>(
     _gate: &G,
 ) -> u8
     ensures ends { (status : Status) × (result ≡ status_code status)
-        × Ends (map string_bytes words.now) (S.left source.old) (S.left source.new)
-        (K.held sink.old) (K.held sink.new) status }
+        × Ends (owed_to (map string_bytes words.now)) (S.left source.old) (S.left source.new)
+        (K.held sink.old) (K.held sink.new) (Rose (S.faults source.old) (S.faults source.new))
+        (Rose (K.faults sink.old) (K.faults sink.new)) status }
 
-    ensures whole { (job : Job) (input : List ℕ) → AsksFor (map string_bytes words.now) job
-        → Searches job (S.left source.old) input → (c : CanEnd (limits_of job) input Whole)
-        → AnswersOrStops (answer_at job Whole (length c.solids)) result }
-    ensures ended { (job : Job) (input : List ℕ) → AsksFor (map string_bytes words.now) job
-        → Searches job (S.left source.old) input → HasNoFault input
-        → EndsOrStops job input result }
-    ensures fault { (job : Job) (input : List ℕ) → AsksFor (map string_bytes words.now) job
-        → Searches job (S.left source.old) input → (fault : Fault) → IsFileFault input fault
-        → AnswersOrStops (answer_at_fault job) result }
-    ensures made { (n : ℕ) → AsksFor (map string_bytes words.now) (job.Make n)
-        → AnswersOrStops answers.Make result }
-    ensures tried { (n : ℕ) → AsksFor (map string_bytes words.now) (job.Trial n)
-        → AnswersOrStops answers.Trial result }
-    ensures usage { job_said (map string_bytes words.now) ≡ None
-        → AnswersOrStops answers.Usage result }
+    ensures whole { OfSearch (owed_to (map string_bytes words.now)) (S.left source.old)
+        (λ s input. (c : CanEnd s.limits input Whole)
+        → AnswersOrStops (s.whole (length c.solids)) result) }
+    ensures ended { OfSearch (owed_to (map string_bytes words.now)) (S.left source.old)
+        (λ s input. HasNoFault input → EndsOrStops s input result) }
+    ensures fault { OfSearch (owed_to (map string_bytes words.now)) (S.left source.old)
+        (λ s input. (fault : Fault) → IsFileFault input fault
+        → AnswersOrStops answers.Faulty result) }
+    ensures alone { OfAlone (owed_to (map string_bytes words.now))
+        (λ answer. AnswersOrStops answer result) }
 
-    ensures unread { reads_source (job_said (map string_bytes words.now)) ≡ false
+    ensures unread { reads_source (owed_to (map string_bytes words.now)) ≡ false
         → source.new ≡ source.old }
-    ensures read_fault { result ≡ status_code (Stopped ReadFault)
+    ensures read_fault { result ≡ stop_code ReadFault
         → Rose (S.faults source.old) (S.faults source.new) × (sink.new ≡ sink.old) }
-    ensures write_fault { result ≡ status_code (Stopped WriteFault)
+    ensures write_fault { result ≡ stop_code WriteFault
         → Rose (K.faults sink.old) (K.faults sink.new) }
 {
-    answer(alloc, words, source, sink).code()
+    code(answer(alloc, words, source, sink))
 }

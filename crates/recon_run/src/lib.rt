@@ -14,4 +14,4 @@ mod writing;
 pub use command::run;
 pub use laws::{one_answer, one_first_fault, some_answer};
 pub use problem::problem_of;
-pub use status::{Answer, Found, Status, Stop};
+pub use status::{Answer, Status, Stop};

@@ -1,21 +1,19 @@
 //! Answers whose text is written in one piece.
 
-ghost use Rattle.std.specs.Prelude.{◌≡◌, ◌≤◌, IfOk};
-ghost use Rattle.recon_run.specs.Endings.{EndsReply, IsReply};
-ghost use Rattle.recon_run.specs.Findings.{IsDrawingOf, TellsRedrawing, TellsRedrawn, TellsSolid};
-ghost use Rattle.recon_run.specs.Findings.{search_head};
+ghost use Rattle.std.specs.Prelude.{◌≡◌, ◌≤◌, length, IfOk};
+ghost use Rattle.recon_run.specs.declared.solve.Finding.TheVariants as finding;
+ghost use Rattle.recon_run.specs.declared.status.Answer.TheVariants as answers;
+ghost use Rattle.recon_run.specs.Answers.{numbered_answer};
+ghost use Rattle.recon_run.specs.Findings.{AnswersFinding, IsDrawingOf, TellsOne, TellsOneOf};
 ghost use Rattle.report.specs.FaultText.{fault_text};
-ghost use Rattle.tv_base.specs.Faults.{Rose};
 
 use crate::searched::Searched;
 use crate::solve::Finding;
-use crate::status::{Answer, Found, Status};
-use crate::writing::write_text;
+use crate::status::Answer;
 use redraw::dxf_of;
-use report::{fault_text, head_text, no_solid_text};
-use solid_model::{Choice, EndKind, Limits, Memory, Problem};
+use report::{fault_text, no_solid_text};
+use solid_model::{Choice, EndKind, Fault, Limits, Memory, Problem};
 use std::alloc::Global;
-use tv_base::Sink;
 
 /// An answer and its text.
 #[derive(Drop)]
@@ -24,23 +22,15 @@ pub struct Reply {
     pub text: Vec<u8>,
 }
 
-/// Writes the text of an answer in one piece.
-pub fn write_reply<K: Sink>(answer: Answer, text: &[u8], sink: &mut K) -> Status
-    ensures { EndsReply (IsReply answer text.now) (K.held sink.old) (K.held sink.new)
-        (Rose (K.faults sink.old) (K.faults sink.new)) result }
+/// What every command replies to a file that has a fault.
+pub fn faulty(alloc: Global, fault: &Fault) -> Result<Reply, Memory>
+    ensures { IfOk result (λ reply. (reply.answer ≡ answers.Faulty)
+        × (reply.text.items ≡ fault_text fault.now)) }
 {
-    match write_text(sink, text) {
-        Ok(()) => Status::Answered(answer),
-        Err(stop) => Status::Stopped(stop),
-    }
-}
-
-/// How a search within limits ended.
-fn head(alloc: Global, searched: &Searched, limits: Limits) -> Result<Vec<u8>, Memory>
-    ensures { IfOk result (λ text. text.items ≡ search_head limits searched.now) }
-{
-    let blocks = searched.problem().blocks().count();
-    head_text(alloc, searched.ended(), limits, blocks)
+    Ok(Reply {
+        answer: Answer::Faulty,
+        text: fault_text(alloc, fault)?,
+    })
 }
 
 /// The drawing of the solid that a choice of a problem's blocks fills.
@@ -55,14 +45,15 @@ fn drawing_of(alloc: Global, problem: &Problem, choice: &Choice) -> Result<Vec<u
 /// there are fewer.
 fn redrawn_solid(alloc: Global, searched: &Searched, which: u32) -> Result<Reply, Memory>
     requires { 1 ≤ which }
-    ensures { IfOk result (λ reply. TellsSolid searched.now.problem searched.now.ended.solids which
-        reply.answer reply.text.items) }
+    ensures { IfOk result (λ reply.
+        (reply.answer ≡ numbered_answer which (length searched.now.ended.solids))
+        × TellsOneOf searched.now.problem searched.now.ended.solids which reply.text.items) }
 {
     let solids = searched.ended().solids.as_slice();
     let place = which as usize - 1;
     if place < solids.len() {
         Ok(Reply {
-            answer: Answer::Redraw(Found::Ended(EndKind::Whole)),
+            answer: Answer::Done,
             text: drawing_of(alloc, searched.problem(), &solids[place])?,
         })
     } else {
@@ -81,14 +72,14 @@ fn redrawn_search(
     limits: Limits,
 ) -> Result<Reply, Memory>
     requires { 1 ≤ which }
-    ensures { IfOk result (λ reply. TellsRedrawn limits which searched.now searched.now.ended.kind
-        reply.answer reply.text.items) }
+    ensures { IfOk result (λ reply. AnswersFinding (numbered_answer which) (TellsOne limits which)
+        (finding.Solids searched.now) reply.answer reply.text.items) }
 {
     match searched.ended().kind {
         EndKind::Whole => redrawn_solid(alloc, searched, which),
         kind => Ok(Reply {
-            answer: Answer::Redraw(Found::Ended(kind)),
-            text: head(alloc, searched, limits)?,
+            answer: Answer::at_end(kind),
+            text: searched.head(alloc, limits)?,
         }),
     }
 }
@@ -101,14 +92,11 @@ pub fn redrawn(
     limits: Limits,
 ) -> Result<Reply, Memory>
     requires { 1 ≤ which }
-    ensures { IfOk result (λ reply. TellsRedrawing limits which finding.now
-        reply.answer reply.text.items) }
+    ensures { IfOk result (λ reply. AnswersFinding (numbered_answer which) (TellsOne limits which)
+        finding.now reply.answer reply.text.items) }
 {
     match finding {
         Finding::Solids(searched) => redrawn_search(alloc, searched, which, limits),
-        Finding::Fault(fault) => Ok(Reply {
-            answer: Answer::Redraw(Found::Faulty),
-            text: fault_text(alloc, fault)?,
-        }),
+        Finding::Fault(fault) => faulty(alloc, fault),
     }
 }

@@ -4,6 +4,7 @@ ghost use Rattle.std.specs.Prelude.{◌≡◌, IfOk};
 ghost use Rattle.solid_model.specs.Demands.{is_live};
 ghost use Rattle.solid_model.specs.SearchEnds.{EndsSearch};
 
+use report::head_text;
 use search_run::search_by_desk;
 use solid_model::{Ended, Limits, Memory, Problem};
 use std::alloc::Global;
@@ -33,6 +34,7 @@ impl Model for Searched {
 
 impl Searched {
     ghost use Rattle.std.specs.Prelude.{◌≡◌};
+    ghost use Rattle.recon_run.specs.Findings.{search_head};
     ghost use Rattle.recon_run.specs.Searched.{HasFewSolids};
 
     /// The problem.
@@ -48,6 +50,14 @@ impl Searched {
         ensures few { HasFewSolids self.now }
     {
         &self.ended
+    }
+
+    /// The line that tells how the search within these limits ended.
+    pub fn head(&self, alloc: Global, limits: Limits) -> Result<Vec<u8>, Memory>
+        ensures { IfOk result (λ text. text.items ≡ search_head limits self.now) }
+    {
+        let blocks = self.problem().blocks().count();
+        head_text(alloc, self.ended(), limits, blocks)
     }
 }
 

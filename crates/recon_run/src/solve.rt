@@ -2,14 +2,14 @@
 
 ghost use Rattle.std.specs.Prelude.{◌≤◌, length, IfOk, IfSome, IsErrOf};
 ghost use Rattle.recon_run.specs.declared.status.Stop.TheVariants as stop;
-ghost use Rattle.recon_run.specs.Endings.{ReadsAllOrPast};
+ghost use Rattle.recon_run.specs.Owed.{ReadsAllOrPast};
 ghost use Rattle.recon_run.specs.Findings.{IsFinding};
 ghost use Rattle.solid_model.specs.Limits.{most_file_bytes};
 ghost use Rattle.tv_base.specs.Faults.{Rose};
 
 use crate::problem::problem_of;
 use crate::searched::{Searched, search};
-use crate::status::{Found, Stop};
+use crate::status::Stop;
 use solid_model::{Fault, Limits, Memory, Refused};
 use std::alloc::Global;
 use tv_base::{ReadEnd, Source, read_all};
@@ -24,21 +24,6 @@ pub enum Finding {
     Solids(Searched),
     /// Its first fault.
     Fault(Fault),
-}
-
-impl Finding {
-    ghost use Rattle.std.specs.Prelude.{◌≡◌};
-    ghost use Rattle.recon_run.specs.Findings.{found_of};
-
-    /// The same in an answer's word.
-    pub fn found(&self) -> Found
-        ensures { result ≡ found_of self.now }
-    {
-        match self {
-            Finding::Solids(searched) => Found::Ended(searched.ended().kind),
-            Finding::Fault(_) => Found::Faulty,
-        }
-    }
 }
 
 /// The solids that a file's drawing shows, searched for within limits, or the file's first fault.
@@ -63,10 +48,7 @@ pub fn find<S: Source>(alloc: Global, source: &mut S, limits: Limits) -> Result<
     ensures no_write_fault { IsErrOf result stop.WriteFault → ⊥ }
 {
     match read_all(alloc, source, MOST_BYTES) {
-        Ok(file) => match find_in(alloc, file, limits) {
-            Ok(finding) => Ok(finding),
-            Err(Memory) => Err(Stop::Memory),
-        },
+        Ok(file) => Ok(find_in(alloc, file, limits)?),
         Err(ReadEnd::TooLong) => Ok(Finding::Fault(Fault::TooLong)),
         Err(ReadEnd::Failed) => Err(Stop::ReadFault),
         Err(ReadEnd::Memory) => Err(Stop::Memory),

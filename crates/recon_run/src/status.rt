@@ -1,33 +1,27 @@
 //! How a run ends.
 
 ghost use Rattle.std.specs.Prelude.{◌≡◌};
+ghost use Rattle.recon_run.specs.declared.status.Stop.TheVariants as stop;
+ghost use Rattle.recon_run.specs.Answers.{end_answer};
+ghost use Rattle.recon_run.specs.Status.{answer_code, status_code, stop_code};
 
-use solid_model::EndKind;
-
-/// What was found in a file.
-#[derive(Clone, Copy, Debug, PartialEq, Eq)]
-pub enum Found {
-    /// Solids, by a search that ended so.
-    Ended(EndKind),
-    /// A fault of the file.
-    Faulty,
-}
+use solid_model::{EndKind, Memory};
 
 /// What a run answers.
 #[derive(Clone, Copy, Debug, PartialEq, Eq)]
 pub enum Answer {
-    /// What `solve` found.
-    Solve(Found),
-    /// What `redraw` found: at a whole search, the drawing of the solid that it was asked for.
-    Redraw(Found),
-    /// That there is no solid of the number that `redraw` was asked for.
-    NoSolid,
-    /// The drawing that `make` was asked for.
-    Make,
-    /// The figures that `trial` was asked for.
-    Trial,
-    /// That the arguments aren't taken.
+    /// What was asked for: of a search, one that was whole.
+    Done,
+    /// The first fault of the file.
+    Faulty,
+    /// The usage line, since the arguments aren't taken.
     Usage,
+    /// That a search was cut: there are more live prefixes than their limit.
+    CutNodes,
+    /// That a search was cut: there are more solids than their limit.
+    CutSolids,
+    /// That there is no solid of the number that was asked for.
+    NoSolid,
 }
 
 /// Why a run stops before its answer is written.
@@ -41,59 +35,63 @@ pub enum Stop {
     Memory,
 }
 
-/// How a run ended.
-#[derive(Clone, Copy, Debug, PartialEq, Eq)]
-pub enum Status {
-    /// Its answer is written.
-    Answered(Answer),
-    /// It stopped before.
-    Stopped(Stop),
-}
-
-impl Found {
-    ghost use Rattle.recon_run.specs.Status.{found_code};
-
-    /// Its number.
-    fn code(self) -> u8
-        ensures { result ≡ found_code self }
-    {
-        match self {
-            Found::Ended(EndKind::Whole) => 0,
-            Found::Faulty => 1,
-            Found::Ended(EndKind::CutNodes) => 3,
-            Found::Ended(EndKind::CutSolids) => 4,
-        }
-    }
-}
+/// How a run ends: its answer is written, or it stops before.
+pub type Status = Result<Answer, Stop>;
 
 impl Answer {
-    ghost use Rattle.recon_run.specs.Status.{answer_code};
-
     /// Its number.
-    fn code(self) -> u8
+    pub fn code(self) -> u8
         ensures { result ≡ answer_code self }
     {
         match self {
-            Answer::Solve(found) | Answer::Redraw(found) => found.code(),
-            Answer::Make | Answer::Trial => 0,
+            Answer::Done => 0,
+            Answer::Faulty => 1,
             Answer::Usage => 2,
+            Answer::CutNodes => 3,
+            Answer::CutSolids => 4,
             Answer::NoSolid => 8,
+        }
+    }
+
+    /// The answer to a search that ended so.
+    pub fn at_end(kind: EndKind) -> Answer
+        ensures { result ≡ end_answer kind }
+    {
+        match kind {
+            EndKind::Whole => Answer::Done,
+            EndKind::CutNodes => Answer::CutNodes,
+            EndKind::CutSolids => Answer::CutSolids,
         }
     }
 }
 
-impl Status {
-    ghost use Rattle.recon_run.specs.Status.{status_code};
-
-    /// Its number, the process' exit status.
+impl Stop {
+    /// Its number.
     pub fn code(self) -> u8
-        ensures { result ≡ status_code self }
+        ensures { result ≡ stop_code self }
     {
         match self {
-            Status::Answered(answer) => answer.code(),
-            Status::Stopped(Stop::ReadFault) => 5,
-            Status::Stopped(Stop::WriteFault) => 6,
-            Status::Stopped(Stop::Memory) => 7,
+            Stop::ReadFault => 5,
+            Stop::WriteFault => 6,
+            Stop::Memory => 7,
         }
+    }
+}
+
+impl From<Memory> for Stop {
+    ghost from_gives = { λ _ e. e ≡ stop.Memory };
+
+    fn from(_error: Memory) -> Stop {
+        Stop::Memory
+    }
+}
+
+/// The number of a status, the process' exit status.
+pub fn code(status: Status) -> u8
+    ensures { result ≡ status_code status }
+{
+    match status {
+        Ok(answer) => answer.code(),
+        Err(stop) => stop.code(),
     }
 }

@@ -1,14 +1,47 @@
-use Rattle.std.proofs.Common.{sym, subst}
+-- What is made from a number is owed.
+use Rattle.std.proofs.Common.{refl, sym, subst}
 use Rattle.tv_base.specs.Faults.{Rose}
-use Rattle.recon_run.specs.Endings.{EndsJob}
-use Rattle.recon_run.proofs.Endings.{trial_ends}
+use Rattle.drawing_maker.specs.Made.{made_solid}
+use Rattle.recon_run.specs.declared.status.Answer.TheVariants as answers
+use Rattle.recon_run.specs.Answers.{IsTried}
+use Rattle.recon_run.specs.Endings.{Ends}
+use Rattle.recon_run.specs.Findings.{IsReply}
+use Rattle.recon_run.specs.Owed.{owed_for}
+use Rattle.recon_run.proofs.Endings.{never_unread, reply_ends}
+use Rattle.redraw.specs.Files.{IsFileOf}
+use Rattle.words.specs.declared.job.Job.TheVariants as job
 use Rattle.recon_run.proofs.command.do_job.Goals as goal
 
-pub returns-in-Trial-clause-ends : goal.returns-in-Trial-clause-ends
-returns-in-Trial-clause-ends g c =
-    let left = g.S.Source.left c.args.source.now in
-    let held = g.K.Sink.held c.args.sink.now in let now = g.K.Sink.held c.try_out.new.sink in
+pub returns-in_ok-made_file-in-Make-clause-ends : goal.returns-in_ok-made_file-in-Make-clause-ends
+returns-in_ok-made_file-in-Make-clause-ends g c =
+    let left = g.S.Source.left c.args.source.now in let n = c.in-Make.n in
+    let held = g.K.Sink.held c.args.sink.now in let now = g.K.Sink.held c.write_reply.new.sink in
     let source_rose = Rose (g.S.Source.faults c.args.source.now) (g.S.Source.faults c.args.source.now) in
-    let sink_rose = Rose (g.K.Sink.faults c.args.sink.now) (g.K.Sink.faults c.try_out.new.sink) in
-    subst (λ j. EndsJob j left left held now source_rose sink_rose c.try_out.result) (sym c.in-Trial.is)
-    (trial_ends c.in-Trial.n left held now source_rose sink_rose c.try_out.result c.try_out.ensures)
+    let sink_rose = Rose (g.K.Sink.faults c.args.sink.now) (g.K.Sink.faults c.write_reply.new.sink) in
+    let told = subst (IsFileOf (made_solid n)) (sym c.as_slice.ensures.value) c.in_ok-made_file-in-Make.ensures in
+    subst (λ j. Ends (owed_for j) left left held now source_rose sink_rose c.write_reply.result) (sym c.in-Make.is)
+    (reply_ends (owed_for (job.Make n)) left left held now source_rose sink_rose answers.Done c.as_slice.result.now (refl, refl, told) (refl, refl, told)
+    c.write_reply.result c.write_reply.ensures)
+
+pub returns-in_ok-made_file-in-Make-clause-unwritten : goal.returns-in_ok-made_file-in-Make-clause-unwritten
+returns-in_ok-made_file-in-Make-clause-unwritten g c failed =
+    let right = IsReply answers.Done c.as_slice.result.now in
+    absurd (never_unread right right (g.K.Sink.held c.args.sink.now) (g.K.Sink.held c.write_reply.new.sink)
+    (Rose (g.K.Sink.faults c.args.sink.now) (g.K.Sink.faults c.write_reply.new.sink)) c.write_reply.result c.write_reply.ensures failed)
+
+pub returns-in_ok-trial-in-Trial-clause-ends : goal.returns-in_ok-trial-in-Trial-clause-ends
+returns-in_ok-trial-in-Trial-clause-ends g c =
+    let left = g.S.Source.left c.args.source.now in let n = c.in-Trial.n in
+    let held = g.K.Sink.held c.args.sink.now in let now = g.K.Sink.held c.write_reply-in-Trial.new.sink in
+    let source_rose = Rose (g.S.Source.faults c.args.source.now) (g.S.Source.faults c.args.source.now) in
+    let sink_rose = Rose (g.K.Sink.faults c.args.sink.now) (g.K.Sink.faults c.write_reply-in-Trial.new.sink) in
+    let told = subst (IsTried n) (sym c.as_slice-in-Trial.ensures.value) c.in_ok-trial-in-Trial.ensures in
+    subst (λ j. Ends (owed_for j) left left held now source_rose sink_rose c.write_reply-in-Trial.result) (sym c.in-Trial.is)
+    (reply_ends (owed_for (job.Trial n)) left left held now source_rose sink_rose answers.Done c.as_slice-in-Trial.result.now (refl, refl, told) (refl, refl, told)
+    c.write_reply-in-Trial.result c.write_reply-in-Trial.ensures)
+
+pub returns-in_ok-trial-in-Trial-clause-unwritten : goal.returns-in_ok-trial-in-Trial-clause-unwritten
+returns-in_ok-trial-in-Trial-clause-unwritten g c failed =
+    let right = IsReply answers.Done c.as_slice-in-Trial.result.now in
+    absurd (never_unread right right (g.K.Sink.held c.args.sink.now) (g.K.Sink.held c.write_reply-in-Trial.new.sink)
+    (Rose (g.K.Sink.faults c.args.sink.now) (g.K.Sink.faults c.write_reply-in-Trial.new.sink)) c.write_reply-in-Trial.result c.write_reply-in-Trial.ensures failed)

@@ -1,38 +1,42 @@
 use Rattle.std.proofs.Common.{sym, subst, map, length}
 use Rattle.std.specs.Prelude.{string_bytes}
-use Rattle.recon_run.specs.declared.status.Answer.TheVariants.{Make, Trial}
-use Rattle.recon_run.specs.Endings.{AnswersOrStops, EndsOrStops, answer_at, answer_at_fault}
-use Rattle.recon_run.proofs.DueAnswers.{faultless_ends, faulty_ends, made_ends, tried_ends, whole_ends}
+use Rattle.recon_run.specs.declared.status.Answer.TheVariants as answers
+use Rattle.recon_run.specs.Answers.{CanEnd, HasNoFault, IsFileFault}
+use Rattle.recon_run.specs.Endings.{AnswersOrStops, EndsOrStops, OfAlone, OfSearch, owed_to}
+use Rattle.recon_run.proofs.DueAnswers.{faultless_ends, faulty_ends, reply_is_due, whole_ends}
 use Rattle.solid_model.specs.declared.ended.EndKind.TheVariants.{Whole}
-use Rattle.words.specs.Jobs.{job_said}
+use Rattle.solid_model.specs.declared.fault.Fault.{Fault}
+use Rattle.tv_base.specs.Faults.{Rose}
 use Rattle.recon_run.proofs.command.run.Goals as goal
 
 pub returns-clause-whole : goal.returns-clause-whole
-returns-clause-whole g c j input asks searches can =
-    subst (AnswersOrStops (answer_at j Whole (length can.solids))) (sym c.code.ensures)
-    (whole_ends (job_said (map string_bytes c.args.words.now)) j asks (g.S.Source.left c.args.source.now) (g.S.Source.left c.answer.new.source)
-    (g.K.Sink.held c.args.sink.now) (g.K.Sink.held c.answer.new.sink) input searches c.answer.result c.answer.ensures.ends can)
+returns-clause-whole g c =
+    let o = owed_to (map string_bytes c.args.words.now) in let left = g.S.Source.left c.args.source.now in
+    subst (λ code. OfSearch o left (λ s input. (c : CanEnd s.limits input Whole) → AnswersOrStops (s.whole (length c.solids)) code)) (sym c.code.ensures)
+    (whole_ends o left (g.S.Source.left c.answer.new.source) (g.K.Sink.held c.args.sink.now) (g.K.Sink.held c.answer.new.sink)
+    (Rose (g.S.Source.faults c.args.source.now) (g.S.Source.faults c.answer.new.source))
+    (Rose (g.K.Sink.faults c.args.sink.now) (g.K.Sink.faults c.answer.new.sink)) c.answer.result c.answer.ensures.ends)
 
 pub returns-clause-ended : goal.returns-clause-ended
-returns-clause-ended g c j input asks searches none =
-    subst (EndsOrStops j input) (sym c.code.ensures)
-    (faultless_ends (job_said (map string_bytes c.args.words.now)) j asks (g.S.Source.left c.args.source.now) (g.S.Source.left c.answer.new.source)
-    (g.K.Sink.held c.args.sink.now) (g.K.Sink.held c.answer.new.sink) input searches c.answer.result c.answer.ensures.ends none)
+returns-clause-ended g c =
+    let o = owed_to (map string_bytes c.args.words.now) in let left = g.S.Source.left c.args.source.now in
+    subst (λ code. OfSearch o left (λ s input. HasNoFault input → EndsOrStops s input code)) (sym c.code.ensures)
+    (faultless_ends o left (g.S.Source.left c.answer.new.source) (g.K.Sink.held c.args.sink.now) (g.K.Sink.held c.answer.new.sink)
+    (Rose (g.S.Source.faults c.args.source.now) (g.S.Source.faults c.answer.new.source))
+    (Rose (g.K.Sink.faults c.args.sink.now) (g.K.Sink.faults c.answer.new.sink)) c.answer.result c.answer.ensures.ends)
 
 pub returns-clause-fault : goal.returns-clause-fault
-returns-clause-fault g c j input asks searches fault is =
-    subst (AnswersOrStops (answer_at_fault j)) (sym c.code.ensures)
-    (faulty_ends (job_said (map string_bytes c.args.words.now)) j asks (g.S.Source.left c.args.source.now) (g.S.Source.left c.answer.new.source)
-    (g.K.Sink.held c.args.sink.now) (g.K.Sink.held c.answer.new.sink) input searches c.answer.result c.answer.ensures.ends fault is)
+returns-clause-fault g c =
+    let o = owed_to (map string_bytes c.args.words.now) in let left = g.S.Source.left c.args.source.now in
+    subst (λ code. OfSearch o left (λ s input. (fault : Fault) → IsFileFault input fault → AnswersOrStops answers.Faulty code)) (sym c.code.ensures)
+    (faulty_ends o left (g.S.Source.left c.answer.new.source) (g.K.Sink.held c.args.sink.now) (g.K.Sink.held c.answer.new.sink)
+    (Rose (g.S.Source.faults c.args.source.now) (g.S.Source.faults c.answer.new.source))
+    (Rose (g.K.Sink.faults c.args.sink.now) (g.K.Sink.faults c.answer.new.sink)) c.answer.result c.answer.ensures.ends)
 
-pub returns-clause-made : goal.returns-clause-made
-returns-clause-made g c n asks =
-    subst (AnswersOrStops Make) (sym c.code.ensures)
-    (made_ends (job_said (map string_bytes c.args.words.now)) n asks (g.S.Source.left c.args.source.now) (g.S.Source.left c.answer.new.source)
-    (g.K.Sink.held c.args.sink.now) (g.K.Sink.held c.answer.new.sink) c.answer.result c.answer.ensures.ends)
-
-pub returns-clause-tried : goal.returns-clause-tried
-returns-clause-tried g c n asks =
-    subst (AnswersOrStops Trial) (sym c.code.ensures)
-    (tried_ends (job_said (map string_bytes c.args.words.now)) n asks (g.S.Source.left c.args.source.now) (g.S.Source.left c.answer.new.source)
-    (g.K.Sink.held c.args.sink.now) (g.K.Sink.held c.answer.new.sink) c.answer.result c.answer.ensures.ends)
+pub returns-clause-alone : goal.returns-clause-alone
+returns-clause-alone g c =
+    let o = owed_to (map string_bytes c.args.words.now) in
+    subst (λ code. OfAlone o (λ answer. AnswersOrStops answer code)) (sym c.code.ensures)
+    (reply_is_due o (g.S.Source.left c.args.source.now) (g.S.Source.left c.answer.new.source) (g.K.Sink.held c.args.sink.now) (g.K.Sink.held c.answer.new.sink)
+    (Rose (g.S.Source.faults c.args.source.now) (g.S.Source.faults c.answer.new.source))
+    (Rose (g.K.Sink.faults c.args.sink.now) (g.K.Sink.faults c.answer.new.sink)) c.answer.result c.answer.ensures.ends)
