@@ -35,10 +35,6 @@ pub none_left : {A : Type 0} (xs : List A) → length xs ≡ 0 → xs ≡ []
 none_left [] e = refl
 none_left (x ∷ xs) e = absurd (omega arith)
 
-pub snoc_back : {A : Type 0} (xs : List A) → xs ++ [] ≡ xs
-snoc_back [] = refl
-snoc_back (x ∷ xs) = ap (λ ys. x ∷ ys) (snoc_back xs)
-
 pub without_last-snoc : (ts : List ThiefState) (t : ThiefState) → without_last (ts ++ t ∷ []) ≡ ts
 without_last-snoc [] t = refl
 without_last-snoc (u ∷ []) t = refl

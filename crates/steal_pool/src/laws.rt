@@ -11,5 +11,4 @@ pub fn a_lone_owner_takes_in_order()
         → (rest : List Piece) × (drop (length taken) put ≡ piece ∷ rest) }
     ensures none { (put : List Piece) (taken : List Piece) → Held [] (account 64 put taken)
         → (piece : Piece) → times piece put ≡ times piece taken }
-{
-}
+{}

@@ -17,7 +17,9 @@ use std::marker::Model;
 #[derive(Drop)]
 pub struct OwnerSeat {
     worker: Worker<Prefix, Global, Account, Balance>,
+    /// How many first puts are sure.
     room: usize,
+    /// How many pieces were put.
     count: usize,
 }
 
@@ -47,7 +49,8 @@ impl Model for OwnerSeat {
 impl OwnerSeat {
     /// The owner of a new deque, with memory for `room` pieces. An `Err` is out of memory.
     pub(crate) fn open(alloc: Global, room: usize) -> Result<OwnerSeat, Memory>
-        ensures { IfOk result (λ s. (s.room ≡ room) × (s.parts ≡ 64) × (s.put ≡ []) × (s.taken ≡ [])) }
+        ensures { IfOk result
+            (λ s. (s.room ≡ room) × (s.parts ≡ 64) × (s.put ≡ []) × (s.taken ≡ [])) }
     {
         let worker = Worker::fifo_as(alloc, room)?;
         Ok(OwnerSeat {
@@ -62,7 +65,8 @@ impl OwnerSeat {
     pub fn put(&mut self, piece: Prefix) -> Result<(), Prefix>
         ensures put { MatchResult result
             (λ _. self.new ≡ record self.old { put = self.old.put ++ piece ∷ [] })
-            (λ back. (back ≡ piece) × (self.new ≡ self.old) × (self.old.room ≤ length self.old.put)) }
+            (λ back. (back ≡ piece) × (self.new ≡ self.old)
+            × (self.old.room ≤ length self.old.put)) }
         ensures seat { opened_owner self.new ≡ opened_owner self.old }
     {
         if self.count == usize::MAX {

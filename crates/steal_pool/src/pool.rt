@@ -1,6 +1,6 @@
 //! The pool: how it is opened and closed.
 
-ghost use Rattle.std.specs.Prelude.{◌≡◌, ◌<◌, ◌≤◌, ◌+◌, ◌++◌, ◌∷◌, [], List, ℕ, length, map, vec_len, vec_capacity, IfOk, OnOk, MatchResult};
+ghost use Rattle.std.specs.Prelude.{◌≡◌, ◌<◌, ◌≤◌, ◌+◌, ◌++◌, List, ℕ, length, map, vec_len, vec_capacity, IfOk, OnOk, MatchResult};
 ghost use Rattle.crossbeam_deque.specs.Handles.{stealer_deque};
 ghost use Rattle.steal_pool.specs.Accounts.{Piece, total, times};
 ghost use Rattle.steal_pool.specs.Seats.{Deque, SeatState, new_seats, as_opened, AreMet, parted_seats, parted_owner, put_by, taken_by, times_put, times_taken};
@@ -19,6 +19,7 @@ use std::marker::Model;
 #[derive(Drop)]
 pub struct Pool {
     room: usize,
+    /// A handle of each deque.
     stealers: Vec<Stealer<Prefix, Global, Account, Balance>>,
 }
 
@@ -47,7 +48,8 @@ fn add(
     seats: &mut Vec<WorkerSeat>,
     stealers: &mut Vec<Stealer<Prefix, Global, Account, Balance>>,
 ) -> Result<(), Memory>
-    requires seats { map state_of seats.old.items ≡ new_seats room (map stealer_deque stealers.old.items) }
+    requires seats { map state_of seats.old.items
+        ≡ new_seats room (map stealer_deque stealers.old.items) }
     requires few { length stealers.old.items < 64 }
     ensures seats { OnOk result
         (map state_of seats.new.items ≡ new_seats room (map stealer_deque stealers.new.items)) }
@@ -66,7 +68,8 @@ fn take_last(seats: &mut [WorkerSeat], last: WorkerSeat, left: &mut Vec<Prefix>)
     requires met { AreMet last.owner.deque (map state_of seats.old) last.thieves.items }
     requires parts { last.owner.parts + length seats.old ≡ 64 }
     requires room { vec_len left.old + length last.owner.put ≤ vec_capacity left.old }
-    ensures seats { map state_of seats.new ≡ parted_seats (map state_of seats.old) last.thieves.items }
+    ensures seats { map state_of seats.new
+        ≡ parted_seats (map state_of seats.old) last.thieves.items }
     ensures capacity { vec_capacity left.new ≡ vec_capacity left.old }
     ensures left { (more : List Piece) × (left.new.items ≡ left.old.items ++ more)
         × ((h : Piece → ℕ) → total h last.owner.put
@@ -93,8 +96,8 @@ fn take_all(seats: Vec<WorkerSeat>, left: &mut Vec<Prefix>)
 }
 
 impl Pool {
-    /// Opens a pool of so many deques, each sure of `room` puts, with the seats of its workers: seat
-    /// k owns deque k, from 0. An `Err` is out of memory.
+    /// Opens a pool of so many deques, each sure of `room` puts, with the seats of its workers; the
+    /// one at place k, from 0, owns deque k. An `Err` is out of memory.
     pub fn open(alloc: Global, workers: u32, room: usize) -> Result<(Pool, Vec<WorkerSeat>), Memory>
         requires { (0 < workers) × (workers ≤ 64) }
         ensures new { IfOk result (λ r. (deques : List Deque) × (length deques ≡ workers)

@@ -1,6 +1,6 @@
 //! The seats of a worker, and how the seats of a pool come to know each other and part again.
 
-ghost use Rattle.std.specs.Prelude.{◌≡◌, ◌<◌, ◌≤◌, ◌+◌, ◌-◌, ◌++◌, ℕ, length, map, slice_index, vec_len, IfOk, IfSome, OnOk};
+ghost use Rattle.std.specs.Prelude.{◌≡◌, ◌<◌, ◌-◌, length, map, IfOk, IfSome, OnOk};
 ghost use Rattle.solid_model.specs.Lists.{Each};
 ghost use Rattle.steal_pool.specs.Accounts.{total};
 ghost use Rattle.steal_pool.specs.Seats.{grown, new_thief, absorbed_last, shrunk, EndsAt, AreMet, parted_seats, parted_owner, new_thieves};
@@ -56,8 +56,10 @@ pub(crate) fn meet_all(
 ) -> Result<Vec<ThiefSeat>, Memory>
     requires seats { Each (λ s. 1 < s.owner.parts) (map state_of seats.old) }
     requires owner { length seats.old < owner.old.parts }
-    ensures seats { OnOk result (map state_of seats.new ≡ map (grown owner.old.deque) (map state_of seats.old)) }
-    ensures owner { OnOk result (owner.new ≡ record owner.old { parts = owner.old.parts - length seats.old }) }
+    ensures seats { OnOk result
+        (map state_of seats.new ≡ map (grown owner.old.deque) (map state_of seats.old)) }
+    ensures owner { OnOk result
+        (owner.new ≡ record owner.old { parts = owner.old.parts - length seats.old }) }
     ensures thieves { IfOk result (λ ts. ts.items ≡ new_thieves (map state_of seats.old)) }
 {
     let mut thieves = Vec::new(alloc);

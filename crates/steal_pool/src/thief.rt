@@ -26,7 +26,11 @@ impl Model for ThiefSeat {
 
     ghost Value = { ThiefState };
 
-    ghost view = { λ s. record { deque = stealer_deque s.stealer; parts = (knows s.pass).parts; taken = (knows s.pass).taken } };
+    ghost view = { λ s. record {
+      deque = stealer_deque s.stealer;
+      parts = (knows s.pass).parts;
+      taken = (knows s.pass).taken;
+    } };
 
     ghost invariant = { λ s. IsPassOf (stealer_deque s.stealer) s.pass
         × (stealer_flavor s.stealer ≡ 0)

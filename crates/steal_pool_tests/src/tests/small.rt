@@ -19,8 +19,8 @@ struct Answers {
     left: u32,
 }
 
-/// Three puts into the first deque, a look at the second one, a steal by the second seat, and a take
-/// by the first.
+/// Three puts into the first deque, a take from the second one, a steal by the second seat, and a
+/// take by the first.
 fn play<R: Wait>(
     rt: &R,
     alloc: Global,

@@ -1,6 +1,6 @@
 //! Four workers in threads of their own put, take and steal at random until all is gone.
 
-ghost use Rattle.std.specs.Prelude.{◌≡◌, ◌<◌, ◌≤◌, map, IfSome};
+ghost use Rattle.std.specs.Prelude.{◌≡◌, map, IfSome};
 ghost use Rattle.steal_pool.specs.WorkerSeats.{seat_of};
 
 use super::{number_of, piece};
@@ -125,7 +125,8 @@ fn start_all<'s, E, R: Wait + Sync>(
     alloc: Global,
     seats: Vec<WorkerSeat>,
 ) -> Option<Vec<Running>>
-    ensures { IfSome result (λ all. map (λ h. seat_of h.promise.0.value) all.items ≡ map seat_of seats.items) }
+    ensures { IfSome result (λ all. map (λ h. seat_of h.promise.0.value) all.items
+        ≡ map seat_of seats.items) }
 {
     let mut all = Vec::new(alloc);
     let mut number: u32 = 0;
@@ -159,7 +160,8 @@ fn end_all<R: Threads>(
     all: Vec<Running>,
     counts: &mut [u8],
 ) -> Option<Vec<WorkerSeat>>
-    ensures { IfSome result (λ seats. map seat_of seats.items ≡ map (λ h. seat_of h.promise.0.value) all.items) }
+    ensures { IfSome result (λ seats. map seat_of seats.items
+        ≡ map (λ h. seat_of h.promise.0.value) all.items) }
 {
     let mut seats = Vec::new(alloc);
     for running in all {
