@@ -3,6 +3,7 @@
 What is proved is the program, and not this. A drawing is read as docs/FORMAT.md says, as far as its lines go, and looked
 through for no fault; an answer that isn't what the program writes is refused.
 """
+import functools
 import itertools
 import math
 import pathlib
@@ -258,6 +259,13 @@ class Grid:
             raise Refused(f"the faces of the solid of choice {solid.choice[:60]} don't enclose its volume")
         return found.pop()
 
+    @functools.cached_property
+    def margin(self) -> int:
+        """The places that are no cells: the last ones along an axis."""
+        x, y, z = map(len, self.cuts)
+        rows = ["1" * x if k == z - 1 or j == y - 1 else "0" * (x - 1) + "1" for k in range(z) for j in range(y)]
+        return int("".join(rows)[::-1] or "0", 2)
+
     def rows(self, cells: int) -> list[list[str]]:
         """The cells as texts of 0 and 1, one for each row along x: by z, and then y."""
         text = f"{cells:0{self.count}b}"[::-1]
@@ -278,10 +286,7 @@ class Grid:
 
     def outside(self, cells: int) -> int:
         """The places that are joined with what lies around all cells, by chains of neighbours that aren't in a set of cells."""
-        around = 0
-        for corner in itertools.product(*self.cuts):
-            if any(at == cut[-1] for at, cut in zip(corner, self.cuts)):
-                around |= 1 << self.place(corner)
+        around = self.margin
         while True:
             grown = around
             for stride in self.strides:

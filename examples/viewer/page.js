@@ -18,8 +18,12 @@ const SHADES = [0.72, 0.8, 0.88, 0.78, 0.6, 1];
 
 /** The cells of a number in base 16, whose bits they are. */
 function cellsOf(number) {
-  const digit = (place) => parseInt(number[number.length - 1 - (place >> 2)] || "0", 16);
-  return Uint8Array.from({ length: places }, (_, place) => (digit(place) >> (place & 3)) & 1);
+  const cells = new Uint8Array(places);
+  [...number].reverse().forEach((digit, at) => {
+    const four = parseInt(digit, 16);
+    for (let bit = 0; bit < 4 && four >> bit; bit++) cells[4 * at + bit] = (four >> bit) & 1;
+  });
+  return cells;
 }
 
 /** The cells that the first has and the second lacks. */
@@ -93,8 +97,12 @@ function surfaceOf(cells, kinds) {
 
 /** Whether the stretch from a place on along an axis is an edge: not all four cells around it alike, nor two beside two. */
 function isEdge(cells, place, axis) {
-  const [u, v] = [strides[(axis + 1) % 3], strides[(axis + 2) % 3]];
-  const [a, b, c, d] = [place, place - u, place - u - v, place - v].map((it) => cells[it] | 0);
+  const u = strides[(axis + 1) % 3];
+  const v = strides[(axis + 2) % 3];
+  const a = cells[place] | 0;
+  const b = cells[place - u] | 0;
+  const c = cells[place - u - v] | 0;
+  const d = cells[place - v] | 0;
   return !(a === b && c === d) && !(a === d && b === c);
 }
 
@@ -103,13 +111,13 @@ function edgesOf(cells) {
   const ends = [];
   for (let place = 0; place < places; place++) {
     for (let axis = 0; axis < 3; axis++) {
-      if (rankOf(place, axis) + 1 === counts[axis] || !isEdge(cells, place, axis)) continue;
+      if (!isEdge(cells, place, axis)) continue;
       const far = [0, 0, 0];
       far[axis] = 1;
       ends.push(...cornerOf(place, [0, 0, 0]), ...cornerOf(place, far));
     }
   }
-  return new THREE.LineSegmentsGeometry().setPositions(ends.length ? ends : [0, 0, 0, 0, 0, 0]);
+  return new THREE.LineSegmentsGeometry().setPositions(ends);
 }
 
 // ---- colours
@@ -148,32 +156,44 @@ let renderer = null;
 class Tile {
   constructor(canvas) {
     this.canvas = canvas;
+    this.cells = this.kinds = null;
     this.scene = null;
     this.isSeen = false;
+    this.through = false;
+    this.coloured = true;
   }
 
   show(cells, kinds) {
-    const marked = cells.map((full, place) => full & (kinds[place] > 0));
     this.scene?.traverse((part) => part.geometry?.dispose());
-    this.scene = new THREE.Scene();
-    this.skin = new THREE.Mesh(surfaceOf(cells, kinds), solidFaces);
-    this.lines = new THREE.LineSegments2(edgesOf(cells), edgeLines);
-    this.marks = new THREE.Mesh(surfaceOf(marked, kinds), solidFaces);
+    this.scene = null;
+    [this.cells, this.kinds] = [cells, kinds];
+  }
+
+  /** Makes what is drawn: the solid's surface and edges, and those of its cells of other kinds than the first. */
+  build() {
+    const marked = this.cells.map((full, place) => full & (this.kinds[place] > 0));
+    this.skin = new THREE.Mesh(surfaceOf(this.cells, this.kinds));
+    this.lines = new THREE.LineSegments2(edgesOf(this.cells));
+    this.marks = new THREE.Mesh(surfaceOf(marked, this.kinds), solidFaces);
     this.markLines = new THREE.LineSegments2(edgesOf(marked), edgeLines);
+    this.scene = new THREE.Scene();
     this.scene.add(this.skin, this.lines, this.marks, this.markLines);
   }
 
-  /** Shows the cells of other kinds than the first within, through clear faces; or the solid as it looks from outside. */
-  seeThrough(through, coloured) {
-    this.skin.material = through ? clearFaces : solidFaces;
-    this.lines.material = through ? faintLines : edgeLines;
-    this.marks.visible = this.markLines.visible = through && coloured;
+  /** Whether the cells of other kinds are seen within, through clear faces, or the solid as it looks from outside. */
+  setThrough() {
+    this.skin.material = this.through ? clearFaces : solidFaces;
+    this.lines.material = this.through ? faintLines : edgeLines;
+    const isMarked = this.marks.geometry.index.count > 0;
+    this.marks.visible = this.markLines.visible = isMarked && this.through && this.coloured;
   }
 
   draw() {
     const scale = window.devicePixelRatio || 1;
     const size = Math.round(this.canvas.clientWidth * scale);
-    if (!size || !this.scene) return;
+    if (!size || !this.cells) return;
+    if (!this.scene) this.build();
+    this.setThrough();
     if (this.canvas.width !== size) this.canvas.width = this.canvas.height = size;
     if (Math.min(renderer.domElement.width, renderer.domElement.height) < size) renderer.setSize(size, size, false);
     for (const [lines, width] of [[edgeLines, 1.6], [faintLines, 1]]) {
@@ -258,10 +278,15 @@ function listenForTurns() {
     look(turned + KEYS[event.key][0], raised + KEYS[event.key][1]);
   });
   for (const { canvas } of [...tiles, ...pair]) {
-    canvas.addEventListener("pointerdown", (event) => canvas.setPointerCapture(event.pointerId));
+    let from = [0, 0];
+    canvas.addEventListener("pointerdown", (event) => {
+      canvas.setPointerCapture(event.pointerId);
+      from = [event.clientX, event.clientY];
+    });
     canvas.addEventListener("pointermove", (event) => {
-      if (!canvas.hasPointerCapture(event.pointerId)) return;
-      look(turned - event.movementX / 2, raised + event.movementY / 2);
+      if (!event.isPrimary || !canvas.hasPointerCapture(event.pointerId)) return;
+      look(turned - (event.clientX - from[0]) / 2, raised + (event.clientY - from[1]) / 2);
+      from = [event.clientX, event.clientY];
     });
   }
 }
@@ -271,7 +296,7 @@ function listenForTurns() {
 function setShown() {
   const [through, coloured] = ["through", "coloured"].map((id) => document.getElementById(id).checked);
   takeColours();
-  tiles.forEach((tile) => tile.seeThrough(through, coloured));
+  tiles.forEach((tile) => Object.assign(tile, { through, coloured }));
   redraw();
 }
 
@@ -315,11 +340,12 @@ function compare() {
     const more = without(solids[one], solids[other]);
     const volume = volumeOf(more);
     pair[at].show(solids[one], more.map((full) => 2 * full));
-    pair[at].seeThrough(true, true);
+    pair[at].through = true;
     box.querySelectorAll("figcaption")[at].textContent = volume
       ? `Solid ${one + 1} has, and solid ${other + 1} lacks: volume ${volume}`
       : `Solid ${one + 1} has nothing that solid ${other + 1} lacks`;
   });
+  box.scrollIntoView({ block: "nearest" });
   redraw();
 }
 
