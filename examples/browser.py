@@ -1,4 +1,4 @@
-"""A browser for page_check: Chromium without a window, which opens pages, is given keys, mouse and touch, and tells what it does."""
+"""A browser for page_check: Chromium without a window. It opens pages, takes keys, mouse and touch, and tells what a page does."""
 import base64
 import json
 import os
@@ -103,11 +103,12 @@ class Browser:
             time.sleep(0.05)
         self.settle()
 
-    def size(self, width: int = 1280, height: int = 900, mobile: bool = False) -> None:
-        self.call("Emulation.setDeviceMetricsOverride", width=width, height=height, deviceScaleFactor=1, mobile=mobile)
+    def size(self, width: int = 1280, mobile: bool = False) -> None:
+        self.call("Emulation.setDeviceMetricsOverride", width=width, height=900, deviceScaleFactor=1, mobile=mobile)
 
     def dark(self, dark: bool) -> None:
-        self.call("Emulation.setEmulatedMedia", features=[{"name": "prefers-color-scheme", "value": "dark" if dark else "light"}])
+        scheme = {"name": "prefers-color-scheme", "value": "dark" if dark else "light"}
+        self.call("Emulation.setEmulatedMedia", features=[scheme])
 
     def value(self, script: str) -> Any:
         """The value of a script in the page."""
@@ -150,17 +151,17 @@ class Browser:
         """Where the middle of an element is on the screen, once it is scrolled there."""
         self.value(f"{element}.scrollIntoView({{block: 'center'}})")
         self.settle()
-        x, y = self.value(f"(({{left, top, width, height}}) => [left + width / 2, top + height / 2])({element}.getBoundingClientRect())")
+        middle = "(({left, top, width, height}) => [left + width / 2, top + height / 2])"
+        x, y = self.value(f"{middle}({element}.getBoundingClientRect())")
         return x, y
 
     def mouse(self, element: str, right: int = 0, down: int = 0) -> None:
         """Presses the mouse on an element, moves it so far, and lets it go."""
         x, y = self.middle(element)
-        for kind, share, buttons in (("mousePressed", 0, 1), ("mouseMoved", 0.5, 1), ("mouseMoved", 1, 1), ("mouseReleased", 1, 0)):
-            self.call(
-                "Input.dispatchMouseEvent", type=kind, x=x + share * right, y=y + share * down, button="left", buttons=buttons,
-                clickCount=1,
-            )
+        for kind, share in (("mousePressed", 0), ("mouseMoved", 0.5), ("mouseMoved", 1), ("mouseReleased", 1)):
+            place = {"x": x + share * right, "y": y + share * down}
+            buttons = 0 if kind == "mouseReleased" else 1
+            self.call("Input.dispatchMouseEvent", type=kind, **place, button="left", buttons=buttons, clickCount=1)
 
     def touch(self, element: str, right: int) -> None:
         """Draws a finger over an element, so far to the right."""
