@@ -127,6 +127,7 @@ function faceMaterials(options) {
 }
 
 const solidFaces = faceMaterials({ polygonOffset: true, polygonOffsetFactor: 1, polygonOffsetUnits: 1 });
+const plainFaces = solidFaces.map((_, number) => solidFaces[number % 6]);
 const clearFaces = faceMaterials({ transparent: true, opacity: 0.16, depthWrite: false });
 const edgeLines = new THREE.LineMaterial();
 // Behind the edges of marked cells where both are at the same place.
@@ -136,9 +137,8 @@ const faintLines = new THREE.LineMaterial({ polygonOffset: true, polygonOffsetFa
 function takeColours() {
   const style = getComputedStyle(document.documentElement);
   const colour = (name) => new THREE.Color(style.getPropertyValue(name).trim());
-  const coloured = document.getElementById("coloured").checked;
   solidFaces.forEach((material, number) => {
-    material.color = colour(KINDS[coloured ? Math.floor(number / 6) : 0]).multiplyScalar(SHADES[number % 6]);
+    material.color = colour(KINDS[Math.floor(number / 6)]).multiplyScalar(SHADES[number % 6]);
     clearFaces[number].color = colour("--faint").multiplyScalar(SHADES[number % 6]);
   });
   edgeLines.color = colour("--edge");
@@ -180,9 +180,9 @@ class Tile {
     this.scene.add(this.skin, this.lines, this.marks, this.markLines);
   }
 
-  /** Whether the cells of other kinds are seen within, through clear faces, or the solid as it looks from outside. */
-  setThrough() {
-    this.skin.material = this.through ? clearFaces : solidFaces;
+  /** Shows the cells of other kinds within, through clear faces, or the solid as it looks from outside. */
+  dress() {
+    this.skin.material = this.through ? clearFaces : this.coloured ? solidFaces : plainFaces;
     this.lines.material = this.through ? faintLines : edgeLines;
     const isMarked = this.marks.geometry.index.count > 0;
     this.marks.visible = this.markLines.visible = isMarked && this.through && this.coloured;
@@ -193,7 +193,7 @@ class Tile {
     const size = Math.round(this.canvas.clientWidth * scale);
     if (!size || !this.cells) return;
     if (!this.scene) this.build();
-    this.setThrough();
+    this.dress();
     if (this.canvas.width !== size) this.canvas.width = this.canvas.height = size;
     if (Math.min(renderer.domElement.width, renderer.domElement.height) < size) renderer.setSize(size, size, false);
     for (const [lines, width] of [[edgeLines, 1.6], [faintLines, 1]]) {
@@ -305,10 +305,13 @@ function listenForChoices() {
   for (const button of document.querySelectorAll("[data-size]")) {
     button.addEventListener("click", () => {
       const width = tiles[0].canvas.clientWidth * Number(button.dataset.size);
-      document.querySelector(".solids").style.setProperty("--tile", `${Math.max(90, Math.round(width))}px`);
+      const solids = document.querySelector(".solids");
+      solids.classList.add("sized");
+      solids.style.setProperty("--tile", `${Math.max(90, Math.round(width))}px`);
     });
   }
   matchMedia("(prefers-color-scheme: dark)").addEventListener("change", setShown);
+  window.addEventListener("beforeprint", () => tiles.forEach((tile) => tile.draw()));
 }
 
 // ---- two compared
@@ -345,8 +348,16 @@ function compare() {
       ? `Solid ${one + 1} has, and solid ${other + 1} lacks: volume ${volume}`
       : `Solid ${one + 1} has nothing that solid ${other + 1} lacks`;
   });
-  box.scrollIntoView({ block: "nearest" });
   redraw();
+}
+
+function listenForPicks() {
+  document.querySelectorAll(".solids button").forEach((button, number) => {
+    button.addEventListener("click", () => {
+      pick(number);
+      if (picked.length === 2) document.getElementById("compared").scrollIntoView({ block: "nearest" });
+    });
+  });
 }
 
 // ---- begin
@@ -355,7 +366,10 @@ function begin() {
   try {
     renderer = new THREE.WebGLRenderer({ antialias: true, alpha: true });
   } catch (_) {
-    document.querySelector(".hint").textContent = "This browser doesn't draw in three dimensions: WebGL is off.";
+    const note = document.createElement("p");
+    note.className = "notice";
+    note.textContent = "This browser doesn't draw in three dimensions: WebGL is off.";
+    document.querySelector("main").prepend(note);
     return;
   }
   Object.assign(camera, { left: -radius, right: radius, top: radius, bottom: -radius, near: radius / 2, far: 4 * radius });
@@ -372,8 +386,7 @@ function begin() {
   }
   listenForTurns();
   listenForChoices();
-  document.querySelectorAll(".solids button").forEach((button, number) => button.addEventListener("click", () => pick(number)));
-  window.addEventListener("beforeprint", () => tiles.forEach((tile) => tile.draw()));
+  listenForPicks();
   setShown();
   look(...START);
   if (solids.length === 2) [0, 1].forEach(pick);
