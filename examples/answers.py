@@ -105,13 +105,13 @@ def entries_of(lines: list[str]) -> Iterator[Entry]:
         yield entry
 
 
-def ends_of(values: dict[int, str]) -> list[Place]:
+def ends_of(values: dict[int, str]) -> tuple[Place, Place] | None:
     """The two ends of a line; none of one that has no length, or is broken."""
     try:
-        ends = [(float(values[x]), float(values[y])) for x, y in ((10, 20), (11, 21))]
+        start, end = [(float(values[x]), float(values[y])) for x, y in ((10, 20), (11, 21))]
     except (KeyError, ValueError):
-        return []
-    return ends if ends[0] != ends[1] and all(map(math.isfinite, itertools.chain(*ends))) else []
+        return None
+    return (start, end) if start != end and all(map(math.isfinite, start + end)) else None
 
 
 def views_of(lines: list[str]) -> dict[str, list[Line]]:
@@ -159,7 +159,7 @@ class Answer(NamedTuple):
 
     head: str
     solids: list[Solid]
-    count: int
+    listed: int
 
 
 def ways_along(loop: list[Point]) -> list[Way]:

@@ -64,7 +64,7 @@ class Browser:
                 raise Refused("chromium has ended")
             self.rest += piece
         text, _, self.rest = self.rest.partition(b"\0")
-        return json.loads(text)
+        return dict(json.loads(text))
 
     def call(self, method: str, **parameters: Any) -> dict[str, Any]:
         """What the browser answers; what it tells meanwhile is kept."""
@@ -80,7 +80,7 @@ class Browser:
             if told.get("id") == self.number:
                 if "error" in told:
                     raise Refused(f"{method}: {told['error']['message']}")
-                return told["result"]
+                return dict(told["result"])
             self.events.append(told)
 
     def open(self, path: pathlib.Path) -> None:
