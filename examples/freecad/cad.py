@@ -1,4 +1,4 @@
-"""What views.py and solids.py share: FreeCAD's modules, the files of shapes, and how a script ends that refuses its input.
+"""What views.py and solids.py share: FreeCAD's modules, the files of shapes, and the way to what all scripts here share.
 
 FreeCAD runs without a window. On Debian it is `apt-get install --no-install-recommends freecad-python3`, whose modules are
 for /usr/bin/python3, which the scripts' first lines name. For a FreeCAD elsewhere PYTHONPATH names the folder of its modules,
@@ -6,10 +6,12 @@ and its own Python runs the scripts. They were tried with FreeCAD 0.20.2, OpenCA
 """
 import pathlib
 import sys
-from collections.abc import Callable
 
-# Where FreeCAD's packages put its modules.
+# Where answers.py stands, and where FreeCAD's packages put its modules.
+sys.path.append(str(pathlib.Path(__file__).resolve().parent.parent))
 sys.path += ["/usr/lib/freecad-python3/lib", "/usr/lib/freecad/lib", "/usr/lib64/freecad/lib"]
+from answers import Refused
+
 try:
     import FreeCAD
     import Part
@@ -21,13 +23,9 @@ except ImportError as missing:
         " apt-get install --no-install-recommends freecad-python3, or name their folder in PYTHONPATH"
     )
 
-__all__ = ["FreeCAD", "Part", "Refused", "TechDraw", "is_shape_file", "load", "run", "save"]
+__all__ = ["FreeCAD", "Part", "TechDraw", "is_shape_file", "load", "save"]
 
 STEP, BREP = (".step", ".stp"), (".brep", ".brp")
-
-
-class Refused(Exception):
-    """An input that isn't taken, and why."""
 
 
 def is_shape_file(path: str) -> bool:
@@ -53,11 +51,3 @@ def save(shape: Part.Shape, path: str) -> None:
         write(path)
     except (OSError, RuntimeError):
         raise Refused(f"{path}: can't be written") from None
-
-
-def run(main: Callable[[list[str]], None]) -> None:
-    """Runs a script on its arguments; a refusal goes to standard error, with status 1."""
-    try:
-        main(sys.argv[1:])
-    except (Refused, OSError) as refusal:
-        sys.exit(f"{pathlib.Path(sys.argv[0]).name}: {refusal}")

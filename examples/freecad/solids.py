@@ -11,35 +11,15 @@ a corner alone stay parts, each with a closed shell of its own, and what touches
 to the same place twice. Several parts are saved as a compound of solids. A void is a further shell of the part round it.
 """
 import itertools
-import operator
 import pathlib
-import re
 import sys
 from collections import Counter, defaultdict
 from collections.abc import Iterable, Iterator
 from typing import NamedTuple
 
-from cad import FreeCAD, Part, Refused, is_shape_file, run, save
-
-Point = tuple[int, ...]
-Way = tuple[Point, Point]
-
-SOLID = re.compile(r"solid (\d+) choice [01]+ volume (\d+) faces (\d+)")
-FACE = re.compile(r"face ([-+])([xyz]) at (-?\d+)((?: loop(?: -?\d+,-?\d+,-?\d+)+)+)")
-
-
-class Face(NamedTuple):
-    """A face: its outward direction, and its loops with the face on their left, seen from outside."""
-
-    outward: Point
-    loops: list[list[Point]]
-
-
-class Told(NamedTuple):
-    """A solid as it is told."""
-
-    volume: int
-    faces: list[Face]
+# cad comes first: it finds FreeCAD's modules, and answers.
+from cad import FreeCAD, Part, is_shape_file, save
+from answers import FAULT, Face, Point, Refused, Solid, Way, answer_of, run, usage, ways_along
 
 
 class Side(NamedTuple):
@@ -52,44 +32,12 @@ class Side(NamedTuple):
 
 # ---- what is read
 
-def ways_along(loop: list[Point]) -> list[Way]:
-    return list(zip(loop, loop[1:] + loop[:1]))
-
-
-def face_of(line: str) -> Face | None:
-    told = FACE.fullmatch(line)
-    if told is None:
-        return None
-    axis = "xyz".index(told[2])
-    outward = tuple((1 if told[1] == "+" else -1) * (at == axis) for at in range(3))
-    loops = [
-        [tuple(map(int, corner.split(","))) for corner in loop.split()] for loop in told[4].split(" loop ")[1:]
-    ]
-    ways = [way for loop in loops for way in ways_along(loop)]
-    flat = all(start[axis] == int(told[3]) and sum(map(operator.ne, start, end)) == 1 for start, end in ways)
-    return Face(outward, loops) if flat else None
-
-
-def told_solids(text: str) -> list[Told]:
+def told_solids(text: str) -> list[Solid]:
     """The solids of an answer, which has to be whole."""
-    head, *lines = text.splitlines() or [""]
-    if not re.match(r"(whole|cut) ", head):
-        raise Refused(f"no solids of a drawing: {head}")
-    solids: list[Told] = []
-    counts: list[int] = []
-    for number, line in enumerate(lines, 2):
-        told, face = SOLID.fullmatch(line), face_of(line)
-        if told and int(told[1]) == len(solids) + 1:
-            solids.append(Told(int(told[2]), []))
-            counts.append(int(told[3]))
-        elif face and solids:
-            solids[-1].faces.append(face)
-        else:
-            raise Refused(f"line {number} isn't what recon writes: {line[:60]}")
-    whole = re.match(r"whole (\d+) ", head)
-    if whole and int(whole[1]) != len(solids) or counts != [len(solid.faces) for solid in solids]:
-        raise Refused("the answer isn't whole")
-    return solids
+    answer = answer_of(text)
+    if FAULT.fullmatch(answer.head):
+        raise Refused(f"no solids of a drawing: {answer.head}")
+    return answer.solids
 
 
 # ---- the faces' sides
@@ -203,7 +151,7 @@ def parts_of(shells: list[Part.Shell]) -> list[list[Part.Shell]]:
     return parts
 
 
-def shape_of(told: Told) -> Part.Shape:
+def shape_of(told: Solid) -> Part.Shape:
     """The solid, or a compound of its parts."""
     shells = Model(told.faces).shells()
     if not all(shell.isClosed() for shell in shells):
@@ -219,7 +167,7 @@ def shape_of(told: Told) -> Part.Shape:
 
 def main(arguments: list[str]) -> None:
     if len(arguments) != 1 or not is_shape_file(arguments[0]):
-        raise Refused("called as " + str(__doc__).partition("\n")[0])
+        raise usage()
     text = sys.stdin.read()
     solids = []
     for number, told in enumerate(told_solids(text), 1):

@@ -19,7 +19,9 @@ from collections import defaultdict
 from collections.abc import Callable, Iterable, Iterator
 from typing import NamedTuple
 
-from cad import FreeCAD, Part, Refused, TechDraw, is_shape_file, load, run
+# cad comes first: it finds FreeCAD's modules, and answers.
+from cad import FreeCAD, Part, TechDraw, is_shape_file, load
+from answers import Refused, run, usage
 
 # The direction from the part to the viewer; and, as a box with three different sides shows, what is to the right and upwards
 # in the two coordinates that TechDraw answers.
@@ -179,7 +181,7 @@ def drawing(views: dict[str, list[Edge]]) -> str:
 
 def main(arguments: list[str]) -> None:
     if len(arguments) not in (1, 2):
-        raise Refused("called as " + str(__doc__).partition("\n")[0])
+        raise usage()
     path = arguments[0]
     shape = load(path) if is_shape_file(path) else shape_of_boxes(path)
     try:
