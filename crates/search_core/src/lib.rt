@@ -12,6 +12,3 @@ mod waiting;
 
 pub use desk::{Desk, Reported};
 pub use laws::{small_core, the_core_conserves};
-
-#[cfg(test)]
-mod tests;
