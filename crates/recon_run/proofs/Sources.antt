@@ -1,5 +1,5 @@
 -- What is found in a source.
-use Rattle.std.proofs.Common.{◌≤◌, ℕ, List, length, Option, Some, None, IfSome, refl, subst, inl, inr}
+use Rattle.std.proofs.Common.{◌≤◌, ℕ, List, [], length, Option, Some, None, IfSome, refl, subst, inl, inr, arith}
 use Rattle.recon_run.specs.declared.solve.Finding.{Finding}
 use Rattle.recon_run.specs.declared.solve.Finding.TheVariants.{Fault}
 use Rattle.recon_run.specs.Owed.{ReadsAllOrPast}
@@ -7,7 +7,12 @@ use Rattle.recon_run.specs.Findings.{IsFinding}
 use Rattle.solid_model.specs.declared.fault.Fault.TheVariants.{TooLong}
 use Rattle.solid_model.specs.Limits.{most_file_bytes}
 use Rattle.solid_model.specs.Search.{SearchLimits}
-use Rattle.tv_base.specs.Pieces.{ReadsAll, ReadsPast}
+use Rattle.tv_base.specs.Pieces.{ReadsAll, ReadsPast, ReadsWithin}
+
+-- where nothing is read, any bound is kept
+pub reads_nothing : (left : Option (List ℕ)) (limit : ℕ) → ReadsWithin left left limit
+reads_nothing None limit = ([], omega arith, tt)
+reads_nothing (Some bytes) limit = ([], omega arith, refl)
 
 -- all that was left was read, and what is found in it is found in what was left
 pub found_source : (limits : SearchLimits) (left rest : Option (List ℕ)) (file : List ℕ) (finding : Finding) → length file ≤ most_file_bytes

@@ -1,6 +1,6 @@
 //! The run of a command.
 
-ghost use Rattle.std.specs.Prelude.{◌≡◌, ◌≤◌, false, length, map, string_bytes, Err, Some};
+ghost use Rattle.std.specs.Prelude.{◌≡◌, ◌≤◌, ◌+◌, false, length, map, string_bytes, Err, Some};
 ghost use Rattle.recon_run.specs.declared.status.Answer.TheVariants as answers;
 ghost use Rattle.recon_run.specs.declared.status.Stop.TheVariants.{ReadFault, WriteFault};
 ghost use Rattle.recon_run.specs.Answers.{CanEnd, HasNoFault, IsFileFault};
@@ -10,7 +10,9 @@ ghost use Rattle.recon_run.specs.Status.{Status, status_code, stop_code};
 ghost use Rattle.redraw.specs.Files.{IsFileOf};
 ghost use Rattle.solid_model.specs.declared.ended.EndKind.TheVariants.{Whole};
 ghost use Rattle.solid_model.specs.declared.fault.Fault.{Fault};
+ghost use Rattle.solid_model.specs.Limits.{most_file_bytes};
 ghost use Rattle.tv_base.specs.Faults.{Rose};
+ghost use Rattle.tv_base.specs.Pieces.{ReadsWithin};
 ghost use Rattle.words.specs.Jobs.{IsCounted};
 
 use crate::reply::redrawn;
@@ -31,6 +33,7 @@ fn solve<S: Source, K: Sink>(alloc: Global, limits: Limits, source: &mut S, sink
     ensures ends { Ends (searched (search_for_all limits)) (S.left source.old) (S.left source.new)
         (K.held sink.old) (K.held sink.new) (Rose (S.faults source.old) (S.faults source.new))
         (Rose (K.faults sink.old) (K.faults sink.new)) result }
+    ensures within { ReadsWithin (S.left source.old) (S.left source.new) (most_file_bytes + 1) }
     ensures unwritten { result ≡ Err ReadFault → sink.new ≡ sink.old }
 {
     let finding = find(alloc, source, limits)?;
@@ -51,6 +54,7 @@ fn redraw<S: Source, K: Sink>(
         (S.left source.new) (K.held sink.old) (K.held sink.new)
         (Rose (S.faults source.old) (S.faults source.new))
         (Rose (K.faults sink.old) (K.faults sink.new)) result }
+    ensures within { ReadsWithin (S.left source.old) (S.left source.new) (most_file_bytes + 1) }
     ensures unwritten { result ≡ Err ReadFault → sink.new ≡ sink.old }
 {
     let finding = find(alloc, source, limits)?;
@@ -65,6 +69,7 @@ fn do_job<S: Source, K: Sink>(alloc: Global, job: Job, source: &mut S, sink: &mu
         (K.held sink.new) (Rose (S.faults source.old) (S.faults source.new))
         (Rose (K.faults sink.old) (K.faults sink.new)) result }
     ensures unread { reads_source (owed_for job) ≡ false → source.new ≡ source.old }
+    ensures within { ReadsWithin (S.left source.old) (S.left source.new) (most_file_bytes + 1) }
     ensures unwritten { result ≡ Err ReadFault → sink.new ≡ sink.old }
 {
     match job {
@@ -88,6 +93,7 @@ fn answer<S: Source, K: Sink>(
         (Rose (K.faults sink.old) (K.faults sink.new)) result }
     ensures unread { reads_source (owed_to (map string_bytes words.now)) ≡ false
         → source.new ≡ source.old }
+    ensures within { ReadsWithin (S.left source.old) (S.left source.new) (most_file_bytes + 1) }
     ensures read_fault { result ≡ Err ReadFault
         → Rose (S.faults source.old) (S.faults source.new) × (sink.new ≡ sink.old) }
     ensures write_fault { result ≡ Err WriteFault
@@ -137,6 +143,7 @@ pub fn run<S: Source, K: Sink, G: Gate>(
 
     ensures unread { reads_source (owed_to (map string_bytes words.now)) ≡ false
         → source.new ≡ source.old }
+    ensures within { ReadsWithin (S.left source.old) (S.left source.new) (most_file_bytes + 1) }
     ensures read_fault { result ≡ stop_code ReadFault
         → Rose (S.faults source.old) (S.faults source.new) × (sink.new ≡ sink.old) }
     ensures write_fault { result ≡ stop_code WriteFault

@@ -12,9 +12,12 @@ mod trial;
 mod writing;
 
 pub use command::run;
-pub use laws::{one_answer, one_first_fault, some_answer};
+pub use laws::{
+    made_files_have_no_fault, one_answer, one_first_fault, some_answer, status_numbers,
+};
 pub use problem::problem_of;
 pub use status::{Answer, Status, Stop};
+pub use words::{Job, WordFault, job_of};
 
 #[cfg(test)]
 mod tests;

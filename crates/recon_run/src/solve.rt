@@ -1,11 +1,12 @@
 //! From a source to the solids that its file shows.
 
-ghost use Rattle.std.specs.Prelude.{◌≤◌, length, IfOk, IfSome, IsErrOf};
+ghost use Rattle.std.specs.Prelude.{◌≤◌, ◌+◌, length, IfOk, IfSome, IsErrOf};
 ghost use Rattle.recon_run.specs.declared.status.Stop.TheVariants as stop;
 ghost use Rattle.recon_run.specs.Owed.{ReadsAllOrPast};
 ghost use Rattle.recon_run.specs.Findings.{IsFinding};
 ghost use Rattle.solid_model.specs.Limits.{most_file_bytes};
 ghost use Rattle.tv_base.specs.Faults.{Rose};
+ghost use Rattle.tv_base.specs.Pieces.{ReadsWithin};
 
 use crate::problem::problem_of;
 use crate::searched::{Searched, search};
@@ -41,6 +42,7 @@ fn find_in(alloc: Global, file: Vec<u8>, limits: Limits) -> Result<Finding, Memo
 /// The same for what a source has left.
 pub fn find<S: Source>(alloc: Global, source: &mut S, limits: Limits) -> Result<Finding, Stop>
     ensures later { S.faults source.old ≤ S.faults source.new }
+    ensures within { ReadsWithin (S.left source.old) (S.left source.new) (most_file_bytes + 1) }
     ensures found { IfOk result (λ finding. IfSome (S.left source.old) (λ t.
         ReadsAllOrPast t (S.left source.new) × IsFinding limits t finding)) }
     ensures read_fault { IsErrOf result stop.ReadFault
