@@ -1,7 +1,7 @@
 //! Frontiers by hand.
 
-use crate::books::Books;
 use crate::desk::Desk;
+use crate::ledger::Ledger;
 use solid_model::Prefix;
 use std::alloc::Global;
 use std::test::Fail;
@@ -35,15 +35,15 @@ fn prefix_of(alloc: Global, digits: &[u8]) -> Result<Prefix, Fail> {
 }
 
 /// Adds the first prefix that waits as a row has it.
-fn push_first(told: &mut String, books: &Books) -> Result<(), Fail> {
-    let Some(place) = books.waiting.first() else {
+fn push_first(told: &mut String, ledger: &Ledger) -> Result<(), Fail> {
+    let Some(place) = ledger.frontier.first() else {
         told.push_str(" .")?;
         return Ok(());
     };
-    if books.prefixes.len() <= place as usize {
+    if ledger.prefixes.len() <= place as usize {
         return Err("a place of no prefix".into());
     }
-    let prefix = books.prefixes.get(place);
+    let prefix = ledger.prefixes.get(place);
     told.push_str(if prefix.len() == 0 { " e" } else { " " })?;
     for block in 0..prefix.len() {
         told.push_str(if prefix.get(block) { "1" } else { "0" })?;
@@ -52,28 +52,28 @@ fn push_first(told: &mut String, books: &Books) -> Result<(), Fail> {
 }
 
 /// Puts a prefix.
-fn put(alloc: Global, books: &mut Books, digits: &[u8]) -> Result<(), Fail> {
-    let place = books.prefixes.keep(&prefix_of(alloc, digits)?)?;
-    books.waiting.reserve(books.prefixes.len(), 1)?;
-    books.waiting.put(place);
+fn put(alloc: Global, ledger: &mut Ledger, digits: &[u8]) -> Result<(), Fail> {
+    let place = ledger.prefixes.keep(&prefix_of(alloc, digits)?)?;
+    ledger.frontier.reserve(ledger.prefixes.len(), 1)?;
+    ledger.frontier.put(place);
     Ok(())
 }
 
 /// Takes a prefix out, if it waits.
-fn take(alloc: Global, books: &mut Books, digits: &[u8]) -> Result<bool, Fail> {
-    let place = books.waiting_place(&prefix_of(alloc, digits)?);
+fn take(alloc: Global, ledger: &mut Ledger, digits: &[u8]) -> Result<bool, Fail> {
+    let place = ledger.frontier_place(&prefix_of(alloc, digits)?);
     if let Some(place) = place {
-        books.waiting.take(place);
+        ledger.frontier.take(place);
     }
     Ok(place.is_some())
 }
 
 /// Does what a step says. False: it is to take out a prefix that doesn't wait.
-fn do_step(alloc: Global, books: &mut Books, step: &[u8]) -> Result<bool, Fail> {
+fn do_step(alloc: Global, ledger: &mut Ledger, step: &[u8]) -> Result<bool, Fail> {
     match step {
-        [b'-', digits @ ..] => take(alloc, books, digits),
+        [b'-', digits @ ..] => take(alloc, ledger, digits),
         [_, digits @ ..] => {
-            put(alloc, books, digits)?;
+            put(alloc, ledger, digits)?;
             Ok(true)
         }
         [] => Err("no step".into()),
@@ -82,11 +82,11 @@ fn do_step(alloc: Global, books: &mut Books, step: &[u8]) -> Result<bool, Fail> 
 
 /// What comes of a row's steps, as the row has it.
 fn told_steps(alloc: Global, steps: &str) -> Result<String, Fail> {
-    let mut books = Books::new(alloc, false)?;
+    let mut ledger = Ledger::new(alloc, false)?;
     let mut told = String::new(alloc);
     for step in steps.split(' ') {
-        if do_step(alloc, &mut books, step.as_bytes())? {
-            push_first(&mut told, &books)?;
+        if do_step(alloc, &mut ledger, step.as_bytes())? {
+            push_first(&mut told, &ledger)?;
         } else {
             told.push_str(" ?")?;
         }
