@@ -122,7 +122,7 @@ module _ (live : Word) (n : ℕ) where
   kept : (limits : SearchLimits) → IsClosed live → (c : Core) (e : Event) → IsConserved live n limits c → IsEvent live n c e → IsConserved live n limits (after_event limits c e)
   kept limits closed c e h event =
       let going = subst (EndsRightly live n limits c) event.going h.ends in
-      conserved_after limits c e (tree_after limits c e going.0 (stands_between e.piece c.frontier event.waiting) event.allowed) closed
+      conserved_after limits c e (tree_after limits c e going.0 (stands_between e.piece c.frontier event.in_frontier) event.allowed) closed
 
   -- ---- the start
 

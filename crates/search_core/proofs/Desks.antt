@@ -15,7 +15,7 @@ use Rattle.search_core.specs.Conserves.{IsClosed, IsConserved}
 use Rattle.search_core.specs.Core.{Core, Event, IsEvent, IsRun, start_of, without, end_at, after_event, after_events}
 use Rattle.search_core.specs.Desk.{DeskParts, IsDesk, IsTaken, state_of, event_of}
 use Rattle.search_core.proofs.CoreEvents.{conserved}
-use Rattle.search_core.proofs.Frontiers.{each-without}
+use Rattle.search_core.proofs.KeptFrontiers.{each-without}
 use Rattle.search_core.proofs.Lists.{member-permutation}
 
 -- where the search goes on after an event something is left to be expanded
@@ -28,17 +28,17 @@ some_left false false (p ∷ ps) going none = omega (arith, ap length none)
 module _ (live : Word) (n : ℕ) (limits : SearchLimits) where
   -- before the end something is left to be expanded, and all that is left is live
   record IsOpen (c : Core) : Type 0 where
-    waits : c.end ≡ None → c.frontier ≡ [] → ⊥
+    goes_on : c.end ≡ None → c.frontier ≡ [] → ⊥
     lives : Each (λ p. IsTrue (live p)) c.frontier
 
   open_at_start : (t : Bool) → live [] ≡ t → IsOpen (start_of live)
-  open_at_start true e = rw e (record { waits = λ going none. omega (arith, ap length none); lives = (e, tt) })
-  open_at_start false e = rw e (record { waits = λ going none. none-some Whole (sym going); lives = tt })
+  open_at_start true e = rw e (record { goes_on = λ going none. omega (arith, ap length none); lives = (e, tt) })
+  open_at_start false e = rw e (record { goes_on = λ going none. none-some Whole (sym going); lives = tt })
 
   open_after : (c : Core) (e : Event) → IsOpen c → IsEvent live n c e → IsOpen (after_event limits c e)
   open_after c e h event = record {
-    waits = some_left (nat_lt limits.solids (length c.found + length e.found)) (nat_lt limits.nodes (c.opened + e.opened)) (without e.piece c.frontier ++ e.rest);
-    lives = each-append (λ p. IsTrue (live p)) (without e.piece c.frontier) e.rest (each-without (λ p. IsTrue (live p)) e.piece c.frontier event.waiting h.lives) event.allowed.rest_live;
+    goes_on = some_left (nat_lt limits.solids (length c.found + length e.found)) (nat_lt limits.nodes (c.opened + e.opened)) (without e.piece c.frontier ++ e.rest);
+    lives = each-append (λ p. IsTrue (live p)) (without e.piece c.frontier) e.rest (each-without (λ p. IsTrue (live p)) e.piece c.frontier event.in_frontier h.lives) event.allowed.rest_live;
   }
 
   open_all : (es : List Event) (c : Core) → IsOpen c → IsRun live n limits c es → IsOpen (after_events limits c es)
@@ -61,7 +61,7 @@ module _ (d : DeskParts) (desk : IsDesk d) where
   -- before its end a desk has a piece
   pub piece_waits : d.end ≡ None → d.frontier ≡ [] → ⊥
   piece_waits going none =
-      state_open.waits (sym desk.end ∙ going) (nil_from_length state.frontier (length_permutation _ _ desk.frontier ∙ ap length none))
+      state_open.goes_on (sym desk.end ∙ going) (nil_from_length state.frontier (length_permutation _ _ desk.frontier ∙ ap length none))
 
   -- each piece is live
   pub piece_lives : (p : List Bool) → Member d.frontier p → IsTrue (is_live d.problem p)

@@ -4,8 +4,8 @@ pub mod OnceBelow
 pub mod CoreEvents
 pub mod Tries
 pub mod Stored
-pub mod Waits
+pub mod FrontierPlaces
 pub mod Told
-pub mod Frontiers
-pub mod DeskBooks
+pub mod KeptFrontiers
+pub mod DeskLedger
 pub mod Desks

@@ -41,7 +41,7 @@ start_of live = if live [] then record { frontier = [] ∷ []; found = []; opene
 -- a report is an event of a state that has no end, where it is allowed and its piece is still to be expanded
 pub record IsEvent (live : Word) (n : ℕ) (c : Core) (e : Event) : Type 0 where
   pub going : c.end ≡ None
-  pub waiting : Member c.frontier e.piece
+  pub in_frontier : Member c.frontier e.piece
   pub allowed : IsAllowed live n e.piece e.opened e.found e.rest
 
 -- the search is whole where nothing is left to be expanded

@@ -41,7 +41,7 @@ event_of r = record { piece = r.piece; opened = r.opened; found = r.found; rest 
 pub record Takes (d : DeskParts) (r : Report) : Type 0 where
   pub same : r.problem ≡ d.problem
   pub going : d.end ≡ None
-  pub waiting : Member d.frontier r.piece
+  pub in_frontier : Member d.frontier r.piece
 
 -- after a report its event stands behind the history
 pub record IsTaken (before : DeskParts) (r : Report) (after : DeskParts) : Type 0 where

@@ -3,8 +3,8 @@ pub mod Conserves
 pub mod SmallCore
 pub mod Trie
 pub mod Notes
-pub mod Queue
+pub mod Frontier
 pub mod Desk
 pub mod Reported
-pub mod Books
-pub mod Entries
+pub mod Ledger
+pub mod Postings

@@ -2,9 +2,9 @@
 
 ghost use Rattle.std.specs.Prelude.{◌≡◌, ℕ, Bool, List, length, take};
 ghost use Rattle.search_core.specs.Core.{end_after};
-ghost use Rattle.search_core.specs.Books.{books_of, KeepsFrontier};
+ghost use Rattle.search_core.specs.Ledger.{ledger_of, KeepsFrontier};
 
-use crate::books::Books;
+use crate::ledger::Ledger;
 use solid_model::{Choice, EndKind, Expansion, Limits, Memory, Prefix, Problem};
 use std::alloc::Global;
 use std::marker::Model;
@@ -30,23 +30,23 @@ pub enum Reported {
 pub struct Desk {
     problem: Arc<Problem>,
     limits: Limits,
-    books: Books,
+    ledger: Ledger,
     opened: u64,
     end: Option<EndKind>,
 }
 
-/// How a search stands by its books, where so many prefixes were opened.
-fn end_after(limits: Limits, books: &Books, opened: u64) -> Option<EndKind>
+/// How a search stands by its ledger, where so many prefixes were opened.
+fn end_after(limits: Limits, ledger: &Ledger, opened: u64) -> Option<EndKind>
     ensures { (frontier : List (List Bool))
-        → KeepsFrontier (books_of books.now).stored (books_of books.now).counts frontier
-        → result ≡ end_after limits (length (books_of books.now).found) opened frontier }
+        → KeepsFrontier (ledger_of ledger.now).stored (ledger_of ledger.now).counts frontier
+        → result ≡ end_after limits (length (ledger_of ledger.now).found) opened frontier }
 {
-    if books.found.len() > limits.solids as usize {
+    if ledger.found.len() > limits.solids as usize {
         Some(EndKind::CutSolids)
     } else if opened > limits.nodes {
         Some(EndKind::CutNodes)
     } else {
-        match books.waiting.first() {
+        match ledger.frontier.first() {
             Some(_) => None,
             None => Some(EndKind::Whole),
         }
@@ -71,11 +71,11 @@ impl Model for Desk {
     ghost Value = { DeskParts };
 
     ghost use Rattle.std.specs.Arc.{arc_value};
-    ghost use Rattle.search_core.specs.Books.{books_of, history_of, desk_of, AreBooksOf};
+    ghost use Rattle.search_core.specs.Ledger.{ledger_of, history_of, desk_of, IsLedgerOf};
 
-    ghost view = { λ s. desk_of (arc_value s.problem) s.limits (history_of (books_of s.books)) };
+    ghost view = { λ s. desk_of (arc_value s.problem) s.limits (history_of (ledger_of s.ledger)) };
 
-    ghost invariant = { λ s. AreBooksOf (arc_value s.problem) s.limits (books_of s.books) s.opened
+    ghost invariant = { λ s. IsLedgerOf (arc_value s.problem) s.limits (ledger_of s.ledger) s.opened
         s.end };
 }
 
@@ -101,12 +101,12 @@ impl Desk {
         ensures begun { IfOk result (λ desk. desk.history ≡ []) }
         ensures kept { IfOk result IsDesk }
     {
-        let books = Books::new(alloc, live)?;
+        let ledger = Ledger::new(alloc, live)?;
         let end = if live { None } else { Some(EndKind::Whole) };
         Ok(Desk {
             problem,
             limits,
-            books,
+            ledger,
             opened: 0,
             end,
         })
@@ -126,15 +126,15 @@ impl Desk {
         if self.end.is_some() {
             return Ok(Reported::Stop);
         }
-        let Some(piece) = self.books.waiting_place(expansion.piece()) else {
+        let Some(piece) = self.ledger.frontier_place(expansion.piece()) else {
             return Ok(Reported::Gone);
         };
-        let Ok(entry) = self.books.prepare(expansion.found(), expansion.rest()) else {
+        let Ok(posting) = self.ledger.prepare(expansion.found(), expansion.rest()) else {
             return Err(expansion);
         };
-        self.books.enter(piece, expansion.opened(), entry);
+        self.ledger.post(piece, expansion.opened(), posting);
         self.opened += u64::from(expansion.opened());
-        self.end = end_after(self.limits, &self.books, self.opened);
+        self.end = end_after(self.limits, &self.ledger, self.opened);
         Ok(Reported::Taken {
             rest: expansion.take_rest(),
         })
@@ -154,8 +154,8 @@ impl Desk {
             (λ piece. Member self.now.frontier piece.now) }
         ensures kept { IsDesk self.now }
     {
-        match self.books.waiting.first() {
-            Some(place) => Some(self.books.prefixes.get(place)),
+        match self.ledger.frontier.first() {
+            Some(place) => Some(self.ledger.prefixes.get(place)),
             None => None,
         }
     }
@@ -165,7 +165,7 @@ impl Desk {
         ensures found { result.now ≡ self.now.found }
         ensures kept { IsDesk self.now }
     {
-        shown(&self.books.found, self.limits)
+        shown(&self.ledger.found, self.limits)
     }
 
     /// The same, handed over.
@@ -173,8 +173,8 @@ impl Desk {
         ensures found { result.items ≡ self.found }
         ensures kept { IsDesk self }
     {
-        let Desk { limits, books, .. } = self;
-        let Books { mut found, .. } = books;
+        let Desk { limits, ledger, .. } = self;
+        let Ledger { mut found, .. } = ledger;
         found.truncate(limits.solids as usize);
         found
     }

@@ -2,13 +2,13 @@
 //! may happen to it.
 #![tactic(auto)]
 
-mod books;
 mod desk;
+mod frontier;
 mod laws;
+mod ledger;
 mod note;
 mod prefixes;
 mod trie;
-mod waiting;
 
 pub use desk::{Desk, Reported};
 pub use laws::{small_core, the_core_conserves};

@@ -3,8 +3,8 @@ use Rattle.std.proofs.Common.{◌≡◌, Bool, Some, None, sym, ◌∙◌, ap}
 use Rattle.std.specs.Arc.{arc_value}
 use Rattle.std.specs.Prelude.{if◌then◌else◌}
 use Rattle.solid_model.specs.declared.ended.EndKind.TheVariants.{Whole}
-use Rattle.search_core.specs.Books.{books_of}
-use Rattle.search_core.proofs.DeskBooks.{desk-begun}
+use Rattle.search_core.specs.Ledger.{ledger_of}
+use Rattle.search_core.proofs.DeskLedger.{desk-begun}
 use Rattle.search_core.proofs.desk.Desk.new.Goals as goal
 use Rattle.search_core.proofs.desk.Desk.new.Goals.{then-live, else-live}
 
@@ -15,4 +15,4 @@ invariant_of-result c =
       | then-live w ↦ w.end-is ∙ ap (λ (t : Bool). if t then None else Some Whole) (sym w.if-live.true)
       | else-live w ↦ w.end-is ∙ ap (λ (t : Bool). if t then None else Some Whole) (sym w.if-live.false)
     ] in
-    desk-begun (arc_value c.args.problem) c.args.limits (books_of c.in_ok-books.books) c.args.live c.in_ok-books.ensures c.requires c.if-live.end end
+    desk-begun (arc_value c.args.problem) c.args.limits (ledger_of c.in_ok-ledger.ledger) c.args.live c.in_ok-ledger.ensures c.requires c.if-live.end end

@@ -1,0 +1,23 @@
+-- The frontier of a search, by the places of its prefixes.
+use Rattle.std.specs.Prelude.{◌==◌, ◌<◌, ◌≤◌, ◌+◌, ℕ, List, [], ◌∷◌, length, drop, slice_index, slice_index_or, if◌then◌else◌}
+
+-- how often a number stands in a list
+abbrev pub times_in : ℕ → List ℕ → ℕ
+times_in k [] = 0
+times_in k (j ∷ js) = (if j == k then 1 else 0) + times_in k js
+
+-- how often a place stands in it
+abbrev pub count_of : List ℕ → ℕ → ℕ
+count_of counts k = slice_index_or counts k 0
+
+-- Each place stands in it at most as often as it was put and not yet passed over; the first that isn't passed over stands in it.
+pub record IsFrontier (put counts : List ℕ) (first : ℕ) : Type 0 where
+  pub within : first ≤ length put
+  pub behind : (k : ℕ) → count_of counts k ≤ times_in k (drop first put)
+  pub there : first < length put → 0 < count_of counts (slice_index put first)
+
+-- a frontier: the places that were ever put into it, how often each stands in it, and how many it has room for
+pub record FrontierParts : Type 0 where
+  pub put : List ℕ
+  pub counts : List ℕ
+  pub room : ℕ

@@ -1,0 +1,106 @@
+-- The ledger of a desk.
+use Rattle.std.specs.Prelude.{◌≡◌, ◌==◌, ◌<◌, ◌≤◌, ◌+◌, ◌-◌, Bool, ℕ, List, [], ◌∷◌, ◌++◌, length, take, drop, Option, None, if◌then◌else◌}
+use Rattle.solid_model.specs.declared.ended.EndKind.{EndKind}
+use Rattle.solid_model.specs.Blocks.{ProblemParts}
+use Rattle.solid_model.specs.Demands.{is_live}
+use Rattle.solid_model.specs.Lists.{Member, Each}
+use Rattle.solid_model.specs.Search.{SearchLimits}
+use Rattle.search_core.specs.declared.ledger.Ledger.{Ledger}
+use Rattle.search_core.specs.declared.note.Note.{Note}
+use Rattle.search_core.specs.Core.{Event, IsRun, same_prefix, start_of}
+use Rattle.search_core.specs.Desk.{DeskParts, state_of}
+use Rattle.search_core.specs.Notes.{prefix_at, told, StandsAt, AreDistinct, AreShared}
+use Rattle.search_core.specs.Frontier.{count_of, times_in}
+
+-- stored prefixes; the places that were put into the frontier, and how often each stands there; notes; and the choices found
+pub record LedgerParts : Type 0 where
+  pub stored : List (List Bool)
+  pub put : List ℕ
+  pub counts : List ℕ
+  pub notes : List Note
+  pub found : List (List Bool)
+
+-- the same of a ledger
+abbrev pub ledger_of : Ledger → LedgerParts
+ledger_of b = record {
+  stored = b.prefixes;
+  put = b.frontier.put;
+  counts = b.frontier.counts;
+  notes = b.notes.items;
+  found = b.found.items;
+}
+
+-- the history that a ledger tells; the place that was put first is that of the empty prefix
+abbrev pub history_of : LedgerParts → List Event
+history_of b = told b.stored b.notes b.found (drop 1 b.put)
+
+-- A ledger is in order: its places are those of stored prefixes, no two of which are equal, and the notes share what was found
+-- and what was put.
+pub record IsLedger (b : LedgerParts) : Type 0 where
+  pub distinct : AreDistinct b.stored
+  pub begun : 0 < length b.put
+  pub put : Each (λ k. k < length b.stored) b.put
+  pub pieces : Each (λ (x : Note). x.piece < length b.stored) b.notes
+  pub shared : AreShared b.notes b.found (drop 1 b.put)
+
+-- A ledger in which nothing is noted: the empty prefix was put first. It is in the frontier where it is live.
+pub record IsBegun (b : LedgerParts) (live : Bool) : Type 0 where
+  pub root : ℕ
+  pub stands : StandsAt b.stored [] root
+  pub distinct : AreDistinct b.stored
+  pub put : b.put ≡ root ∷ []
+  pub counts : (k : ℕ) → count_of b.counts k ≡ (if live then times_in k (root ∷ []) else 0)
+  pub notes : b.notes ≡ []
+  pub found : b.found ≡ []
+
+-- before a report: the same ledger, with more prefixes stored
+pub record HasGrown (b after : LedgerParts) : Type 0 where
+  pub grown : (more : List (List Bool)) × (after.stored ≡ b.stored ++ more)
+  pub distinct : AreDistinct after.stored
+  pub put : after.put ≡ b.put
+  pub counts : (k : ℕ) → count_of after.counts k ≡ count_of b.counts k
+  pub notes : after.notes ≡ b.notes
+  pub found : after.found ≡ b.found
+
+-- after a report: its piece is taken out, its rest is put, its choices are found, and it is noted
+pub record HasPosted (b after : LedgerParts) (piece opened : ℕ) (choices : List (List Bool)) (places : List ℕ) : Type 0 where
+  pub stored : after.stored ≡ b.stored
+  pub put : after.put ≡ b.put ++ places
+  pub counts : (k : ℕ) → count_of after.counts k ≡ (if k == piece then count_of b.counts k - 1 else count_of b.counts k) + times_in k places
+  pub notes : after.notes ≡ b.notes ++ record { piece = piece; opened = opened; found = length choices; rest = length places } ∷ []
+  pub found : after.found ≡ b.found ++ choices
+
+-- how often a prefix stands in a list
+abbrev pub times_among : List Bool → List (List Bool) → ℕ
+times_among p [] = 0
+times_among p (q ∷ qs) = (if same_prefix p q then 1 else 0) + times_among p qs
+
+-- counts keep a frontier: its prefixes are stored, and each stored prefix is counted as often as it stands there
+pub record KeepsFrontier (stored : List (List Bool)) (counts : List ℕ) (frontier : List (List Bool)) : Type 0 where
+  pub kept : Each (Member stored) frontier
+  pub counted : (k : ℕ) → k < length stored → count_of counts k ≡ times_among (prefix_at stored k) frontier
+  pub unstored : (k : ℕ) → length stored ≤ k → count_of counts k ≡ 0
+
+-- the desk that a ledger tells of
+abbrev pub desk_of : ProblemParts → SearchLimits → List Event → DeskParts
+desk_of p limits history = record {
+  problem = p;
+  limits = limits;
+  history = history;
+  frontier = (state_of p limits history).frontier;
+  found = (state_of p limits history).found;
+  opened = (state_of p limits history).opened;
+  end = (state_of p limits history).end;
+}
+
+-- The ledger of a desk is in order, its history is a run, and what the desk keeps stands as the history leaves it. Before its
+-- end both limits are kept.
+pub record IsLedgerOf (p : ProblemParts) (limits : SearchLimits) (b : LedgerParts) (count : ℕ) (kind : Option EndKind) : Type 0 where
+  pub ledger : IsLedger b
+  pub run : IsRun (is_live p) p.blocks.count limits (start_of (is_live p)) (history_of b)
+  pub frontier : KeepsFrontier b.stored b.counts (state_of p limits (history_of b)).frontier
+  pub found : (state_of p limits (history_of b)).found ≡ take limits.solids b.found
+  pub opened : count ≡ (state_of p limits (history_of b)).opened
+  pub end : kind ≡ (state_of p limits (history_of b)).end
+  pub few_found : kind ≡ None → length b.found ≤ limits.solids
+  pub few_opened : kind ≡ None → count ≤ limits.nodes

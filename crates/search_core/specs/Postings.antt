@@ -1,0 +1,20 @@
+-- What a report puts into the ledger of a desk.
+use Rattle.std.specs.Prelude.{◌≡◌, ◌<◌, ◌≤◌, ◌+◌, Bool, List, length, map, vec_len, vec_capacity}
+use Rattle.solid_model.specs.Lists.{Each}
+use Rattle.search_core.specs.declared.ledger.Ledger.{Ledger}
+use Rattle.search_core.specs.declared.ledger.Posting.{Posting}
+use Rattle.search_core.specs.Notes.{prefix_at}
+
+-- the ledger has room for it
+pub record HasRoom (b : Ledger) (e : Posting) : Type 0 where
+  pub places : Each (λ k. k < length b.frontier.counts) e.rest.items
+  pub put : length b.frontier.put + length e.rest.items ≤ b.frontier.room
+  pub notes : vec_len b.notes < vec_capacity b.notes
+  pub found : vec_len b.found + vec_len e.found ≤ vec_capacity b.found
+
+-- it has these choices and the places of these prefixes, and the ledger has room for it
+pub record IsPosting (b : Ledger) (choices prefixes : List (List Bool)) (e : Posting) : Type 0 where
+  pub found : e.found.items ≡ choices
+  pub rest : map (prefix_at b.prefixes) e.rest.items ≡ prefixes
+  pub below : Each (λ k. k < length b.prefixes) e.rest.items
+  pub room : HasRoom b e
