@@ -6,10 +6,8 @@ mod draw;
 mod grid_columns;
 mod known;
 mod segment_styles;
-#[cfg(test)]
-mod tests;
 
 pub use column::{Column, style_of};
-pub use draw::{ColumnSet, columns_of, draw_cells, draw_in};
+pub use draw::{ColumnSet, columns_in, columns_of, draw_cells, draw_in};
 pub use grid_columns::cell_in;
 pub use known::{KnownColumn, can_draw};
