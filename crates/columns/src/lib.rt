@@ -16,12 +16,10 @@ mod plan;
 mod segment_styles;
 mod spans;
 mod steps;
-#[cfg(test)]
-mod tests;
 
 pub use column::{Column, style_of};
 pub use decision::Decision;
-pub use draw::{ColumnSet, columns_of, draw_cells, draw_in};
+pub use draw::{ColumnSet, columns_in, columns_of, draw_cells, draw_in};
 pub use grid_columns::cell_in;
 pub use known::{KnownColumn, can_draw, meets};
 pub use laws::{

@@ -11,7 +11,7 @@ ghost use Rattle.report.specs.SmallTexts.{face_on, point_at};
 ghost use Rattle.report.specs.Texts.{face_text, head_text, no_solid_text, page_text, solid_line, trial_text};
 
 /// The lines of faces on each outward side, written out by hand.
-pub fn small_faces()
+pub fn small_face_texts()
     ensures minus_x { face_text (face_on MinusX (pos 0) ((point_at 0 0 0 ∷ point_at 0 0 1
         ∷ point_at 0 1 1 ∷ point_at 0 1 0 ∷ []) ∷ []))
         ≡ codes "face -x at 0 loop 0,0,0 0,0,1 0,1,1 0,1,0\n" }
@@ -38,7 +38,7 @@ pub fn small_faces()
 
 /// The lines of searches, written out by hand: how they end, a solid, a page, a trial, and a solid
 /// that there isn't.
-pub fn small_texts()
+pub fn small_search_texts()
     ensures whole { head_text (record { nodes = 7; solids = 34 }) Whole 2 109 9
         ≡ codes "whole 2 nodes 109 blocks 9\n" }
     ensures nodes { head_text (record { nodes = 7; solids = 34 }) CutNodes 2 109 9
@@ -56,7 +56,7 @@ pub fn small_texts()
 
 /// The lines of faults, written out by hand: with a line and a code, a line alone, a view, nothing, and
 /// an axis with a count.
-pub fn small_faults()
+pub fn small_fault_texts()
     ensures code { fault_text (fault.NotWhole 12 (pos 10)) ≡ codes "fault F7 NotWhole line 12 code 10\n" }
     ensures line { fault_text (fault.TooManyLines 1800005)
         ≡ codes "fault F15 TooManyLines line 1800005\n" }

@@ -8,6 +8,6 @@ mod solid;
 mod text;
 
 pub use faults::fault_text;
-pub use laws::{small_faces, small_faults, small_texts};
+pub use laws::{small_face_texts, small_fault_texts, small_search_texts};
 pub use solid::solid_text;
 pub use text::{head_text, no_solid_text, page_text, trial_text};

@@ -1,7 +1,7 @@
 -- Each text comes out of its definition.
 use Rattle.std.proofs.Common.{refl}
 use Rattle.std.specs.Fmt.{digits}
-use Rattle.report.proofs.laws.small_faces.Goals as goal
+use Rattle.report.proofs.laws.small_face_texts.Goals as goal
 
 pub returns-clause-minus_x : goal.returns-clause-minus_x
 unfolding digits

@@ -1,7 +1,7 @@
 -- Each text comes out of its definition.
 use Rattle.std.proofs.Common.{refl}
 use Rattle.std.specs.Fmt.{digits}
-use Rattle.report.proofs.laws.small_texts.Goals as goal
+use Rattle.report.proofs.laws.small_search_texts.Goals as goal
 
 pub returns-clause-whole : goal.returns-clause-whole
 unfolding digits
