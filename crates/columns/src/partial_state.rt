@@ -195,6 +195,13 @@ impl<'p> PartialState<'p> {
         self.decisions.as_slice()
     }
 
+    /// What is decided of a block.
+    pub fn value(&self, block: u16) -> Option<bool>
+        ensures { result ≡ decided_by self.now.decisions block }
+    {
+        said(self.decisions.as_slice(), block)
+    }
+
     /// A line can still be met: some pair of columns beside it that agrees with every decided cell
     /// draws its style.
     pub fn can_meet(&self, line: LineId) -> bool
@@ -235,6 +242,18 @@ impl<'p> PartialState<'p> {
         )];
         (column.full, column.may)
     }
+}
+
+/// What decisions say of a block.
+fn said(decisions: &[Decision], block: u16) -> Option<bool>
+    ensures { result ≡ decided_by decisions.now block }
+{
+    for decision in decisions {
+        if decision.block == block {
+            return Some(decision.full);
+        }
+    }
+    None
 }
 
 /// Decides a block, and counts the steps in a ledger of its own.

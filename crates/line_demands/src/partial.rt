@@ -89,6 +89,13 @@ impl<'p> Partial<'p> {
         self.state.decisions()
     }
 
+    /// What is decided of a block.
+    pub fn value(&self, block: u16) -> Option<bool>
+        ensures { result ≡ decided_by self.now.decisions block }
+    {
+        self.state.value(block)
+    }
+
     /// A line can still be met: some pair of columns beside it that agrees with every decided cell
     /// draws its style.
     pub fn can_meet(&self, line: LineId) -> bool
