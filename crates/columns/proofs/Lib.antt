@@ -34,3 +34,4 @@ pub mod Deciding
 pub mod BoxSight
 pub mod ListParts
 pub mod DrawnDemands
+pub mod LiveTree

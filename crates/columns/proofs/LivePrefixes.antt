@@ -1,7 +1,9 @@
--- Live prefixes are closed downwards and end in matching solids.
-use Rattle.std.proofs.Common.{◌≡◌, Bool, ℕ, suc, ◌-◌, ◌<◌, ◌≤◌, List, [], ◌∷◌, ◌++◌, length, map, get_or, ℤ, pos, ◌-ℤ◌, Some, IsTrue, refl, ap, ap₂, sym, subst, ◌∙◌, arith}
+-- Live prefixes are a tree and end in matching solids.
+use Rattle.std.proofs.Common.{◌≡◌, Bool, ℕ, suc, ◌-◌, ◌<◌, List, [], ◌∷◌, ◌++◌, length, map, get_or, ℤ, pos, ◌-ℤ◌, Some, IsTrue, refl, ap, ap₂, sym, subst, ◌∙◌, arith}
+use Rattle.std.specs.List.{flat_map}
 use Rattle.std.proofs.lemmas.Bool.{and_from, lt-ltb}
-use Rattle.std.proofs.lemmas.List.{length-append, get_or-take}
+use Rattle.std.proofs.lemmas.List.{get_or-take}
+use Rattle.std.proofs.lemmas.List.Folds.{flat_map-map}
 use Rattle.solid_model.specs.declared.cell.Cell.{Cell}
 use Rattle.solid_model.specs.declared.line_id.LineId.{LineId}
 use Rattle.solid_model.specs.declared.segment.Segment.{Segment}
@@ -10,10 +12,10 @@ use Rattle.solid_model.specs.Blocks.{ProblemParts, IsBlocksOf}
 use Rattle.solid_model.specs.Cells.{is_full}
 use Rattle.solid_model.specs.Choices.{cells_of_choice, IsMatchingChoice}
 use Rattle.solid_model.specs.Columns.{ColumnsDraw}
-use Rattle.solid_model.specs.Demands.{has_line, line_style, said_by, known_cell, known_column, AgreesWith, CanDraw, CanBeMet, IsLive, is_live}
+use Rattle.solid_model.specs.Demands.{has_line, line_style, said_by, CanDraw, CanBeMet, IsLive, is_live}
 use Rattle.solid_model.specs.DrawnStyle.{solid_drawing}
 use Rattle.solid_model.specs.Grid.{IsUnionOf}
-use Rattle.solid_model.specs.Panels.{coordinates_of, joined, starts_of, AreGridStyles, IsGridOf}
+use Rattle.solid_model.specs.Panels.{coordinates_of, starts_of, AreGridStyles, IsGridOf}
 use Rattle.solid_model.specs.Runs.{IsDrawing}
 use Rattle.solid_model.specs.Segments.{segment_at}
 use Rattle.solid_model.specs.Tree.{KeepsMatching}
@@ -21,11 +23,12 @@ use Rattle.solid_model.specs.GridBox.{grid_sizes, axis_along, axis_across}
 use Rattle.solid_model.proofs.Corners.{length-starts_of}
 use Rattle.solid_model.proofs.Gaps.{member}
 use Rattle.solid_model.proofs.GridMatching.{matching_on_grid}
+use Rattle.columns.proofs.LiveTree.{problem_tree}
 use Rattle.columns.proofs.MetLines.{live_computed}
 use Rattle.solid_model.proofs.Unions.{some_union}
 use Rattle.columns.proofs.LineStyles.{own_style_drawn, line_drawing, matching_draws_line}
 use Rattle.columns.proofs.OwnColumns.{own_column}
-use Rattle.columns.proofs.Prefixes.{known_more, known_filled, all_known}
+use Rattle.columns.proofs.Prefixes.{known_filled, all_known}
 use Rattle.columns.proofs.SomeStyle.{decided_draw}
 
 -- lists made of what is alike at each place
@@ -47,34 +50,6 @@ module _ (drawing : Segment → Style) (is : IsDrawing drawing) (p : ProblemPart
 
   abbrev IsMatching : List Bool → Type 0
   IsMatching = IsMatchingChoice drawing (coordinates_of p.grid) p.blocks.numbers
-
-  -- whether a prefix is live can be computed
-  is_live_by : (prefix : List Bool) → IsTrue (is_live p prefix) → IsLive p prefix
-  is_live_by prefix = (live_computed p blocks.sized prefix).0
-
-  live_from : (prefix : List Bool) → IsLive p prefix → IsTrue (is_live p prefix)
-  live_from prefix = (live_computed p blocks.sized prefix).1
-
-  shorter : (prefix rest : List Bool) (n : ℕ) → length (prefix ++ rest) ≤ n → length prefix ≤ n
-  shorter prefix rest n l = omega (arith, length-append prefix rest)
-
-  -- ---- beginnings
-
-  -- what is known of fewer blocks, more columns agree with
-  agrees_less : (prefix rest : List Bool) (l : LineId) (j : ℤ) (column : ℤ → Bool)
-      → AgreesWith (known_column p.grid (known_cell p.blocks (said_by (prefix ++ rest))) l j) column
-      → AgreesWith (known_column p.grid (known_cell p.blocks (said_by prefix)) l j) column
-  agrees_less prefix rest l j column agrees k value e = agrees k value (known_more p.blocks prefix rest _ value e)
-
-  begins_live : (prefix rest : List Bool) → IsLive p (prefix ++ rest) → IsLive p prefix
-  begins_live prefix rest live = record {
-    short = shorter prefix rest p.blocks.count live.short;
-    met = λ l has. fewer l (live.met l has);
-  }
-    where
-      fewer : (l : LineId) → CanBeMet p (said_by (prefix ++ rest)) l → CanBeMet p (said_by prefix) l
-      fewer l (after, before, agrees, agrees_too, draws) =
-          (after, before, agrees_less prefix rest l (pos l.at) after agrees, agrees_less prefix rest l (pos l.at -ℤ pos 1) before agrees_too, draws)
 
   -- ---- matching choices
 
@@ -114,7 +89,9 @@ module _ (drawing : Segment → Style) (is : IsDrawing drawing) (p : ProblemPart
         ∙ own_style_drawn drawing is p.grid grid p.blocks blocks choice l has s union (line_style p.grid l) (own_draws l has)
 
     styles_drawn : AreGridStyles (solid_drawing s) (coordinates_of p.grid) p.grid.panels
-    styles_drawn v upright = grid.styles v upright ∙ ap joined (map_alike _ _ lines (pos 0) (λ j m. map_alike _ _ (starts_of all) (pos 0) (λ i l. at i j l m)))
+    styles_drawn v upright = grid.styles v upright ∙ sym (flat_map-map (λ styles. styles) _ lines)
+        ∙ ap (flat_map (λ styles. styles)) (map_alike _ _ lines (pos 0) (λ j m. map_alike _ _ (starts_of all) (pos 0) (λ i l. at i j l m)))
+        ∙ flat_map-map (λ styles. styles) _ lines
       where
         all : List ℤ
         all = coordinates_of p.grid (axis_along v upright)
@@ -143,12 +120,12 @@ module _ (drawing : Segment → Style) (is : IsDrawing drawing) (p : ProblemPart
           let same = matching_on_grid drawing is p.grid grid (cells_of_choice p.blocks.numbers choice) s union p.grid.panels (styles_drawn choice whole live s union) in
           (s, union, same.0 refl)
 
-  -- ---- all four
+  -- ---- all of it
 
   pub live_keeps_matching : KeepsMatching (is_live p) p.blocks.count IsMatching
   live_keeps_matching = record {
-    short = λ prefix live. (is_live_by prefix live).short;
-    downwards = λ prefix rest live. live_from prefix (begins_live prefix rest (is_live_by (prefix ++ rest) live));
-    reached = λ prefix rest whole matches. live_from prefix (begins_live prefix rest (matching_live (prefix ++ rest) whole matches));
-    ends = λ choice whole live. live_matching choice whole (is_live_by choice live);
+    tree = problem_tree p blocks.sized;
+    reached = λ prefix rest whole matches. (problem_tree p blocks.sized).closed prefix rest
+        ((live_computed p blocks.sized (prefix ++ rest)).1 (matching_live (prefix ++ rest) whole matches));
+    ends = λ choice whole live. live_matching choice whole ((live_computed p blocks.sized choice).0 live);
   }

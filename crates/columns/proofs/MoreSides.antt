@@ -1,8 +1,9 @@
 -- Lines are listed one after another, and marked as lines that can be met.
 use Rattle.std.proofs.Common.{◌≡◌, inl, inr, Bool, true, false, ℕ, ◌+◌, ◌*◌, ◌≤◌, List, [], ◌∷◌, ◌++◌, length, map, get_or, append_assoc, refl, ap, sym, subst, ◌∙◌, arith}
 use Rattle.std.specs.Prelude.{All}
-use Rattle.std.specs.List.{range_with_len}
+use Rattle.std.specs.List.{flat_map, range_with_len}
 use Rattle.std.proofs.lemmas.Bool.{cases_lt}
+use Rattle.std.proofs.lemmas.Grind.{flat_map-append}
 use Rattle.std.proofs.lemmas.List.{length_push, map-append, append-nil, get_or_append_left}
 use Rattle.std.proofs.lemmas.List.Elements.{All-push}
 use Rattle.std.proofs.lemmas.List.FromFn.{map-range_with_len_more}
@@ -12,12 +13,11 @@ use Rattle.columns.specs.declared.lines.Beside.{Beside}
 use Rattle.columns.specs.Gathered.{AreMoreSides, AllMet}
 use Rattle.columns.specs.KeptColumns.{IsBeside, AreSides}
 use Rattle.columns.specs.Lines.{one_if, times}
-use Rattle.columns.proofs.ListParts.{joined-append}
+use Rattle.columns.proofs.ListParts.{range_more}
 use Rattle.solid_model.specs.declared.line_id.LineId.{LineId}
 use Rattle.solid_model.specs.Blocks.{ProblemParts}
 use Rattle.solid_model.specs.declared.frame.View.TheVariants.{Front, Top, Side}
 use Rattle.solid_model.specs.Demands.{lines_along, lines_in, lines_of}
-use Rattle.solid_model.specs.Panels.{joined}
 
 module _ (p : ProblemParts) where
   pub no_sides : (old : List Beside) → AreMoreSides p [] 0 old old
@@ -45,12 +45,12 @@ module _ (p : ProblemParts) where
       (sides_both (map f (range_with_len 0 n)) (b.line ∷ []) n 1 old half (half ++ b ∷ []) so_far (one_side half b is))
 
   -- one position more
-  pub lines_more : (f : ℕ → List LineId) (n : ℕ) (old half new : List Beside) → AreMoreSides p (joined (map f (range_with_len 0 n))) (n * 63) old half → AreMoreSides p (f n) 63 half new
-      → AreMoreSides p (joined (map f (range_with_len 0 (n + 1)))) (n * 63 + 63) old new
+  pub lines_more : (f : ℕ → List LineId) (n : ℕ) (old half new : List Beside) → AreMoreSides p (flat_map f (range_with_len 0 n)) (n * 63) old half → AreMoreSides p (f n) 63 half new
+      → AreMoreSides p (flat_map f (range_with_len 0 (n + 1))) (n * 63 + 63) old new
   lines_more f n old half new so_far more = subst (λ ls. AreMoreSides p ls (n * 63 + 63) old new)
-      (ap (λ ls. joined (map f (range_with_len 0 n)) ++ ls) (sym (append-nil (f n))) ∙ sym (joined-append (map f (range_with_len 0 n)) (f n ∷ []))
-      ∙ ap joined (sym (map-range_with_len_more f 0 n n (omega arith))))
-      (sides_both (joined (map f (range_with_len 0 n))) (f n) (n * 63) 63 old half new so_far more)
+      (ap (λ ls. flat_map f (range_with_len 0 n) ++ ls) (sym (append-nil (f n))) ∙ sym (flat_map-append f (range_with_len 0 n) (n ∷ []))
+      ∙ ap (flat_map f) (sym (range_more 0 n n (omega arith))))
+      (sides_both (flat_map f (range_with_len 0 n)) (f n) (n * 63) 63 old half new so_far more)
 
   pub fewer : (xs : List LineId) (a b : ℕ) (old new : List Beside) → a ≤ b → AreMoreSides p xs a old new → AreMoreSides p xs b old new
   fewer xs a b old new l more = record { listed = more.listed; each = more.each; few = (let e = more.few in omega arith) }

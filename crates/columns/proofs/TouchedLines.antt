@@ -10,7 +10,7 @@ use Rattle.std.specs.List.{filter, range_with_len}
 use Rattle.std.proofs.lemmas.List.Folds.{list_any_more}
 use Rattle.std.proofs.lemmas.List.FromFn.{filter_of_map_range_with_len_more}
 use Rattle.std.proofs.Math.Seq.{get_or-append_seam}
-use Rattle.columns.proofs.AllLines.{member-from_numbers}
+use Rattle.solid_model.proofs.Ranges.{member-from_range}
 use Rattle.solid_model.proofs.ListPlaces.{each-all}
 use Rattle.solid_model.proofs.Lists.{each-from, member-from_filter}
 use Rattle.columns.specs.Gathered.{AreTouchedBy, AreTouchedTo, no_side, hits}
@@ -105,7 +105,7 @@ filter_more p n = ap (filter p) (sym (map_same (range_with_len 0 (n + 1)))) ∙ 
 
 filtered_below : (p : ℕ → Bool) (n : ℕ) → All (λ x. x < n) (filter p (range_with_len 0 n))
 filtered_below p n = each-all (λ x. x < n) (filter p (range_with_len 0 n)) (each-from (λ x. x < n) (filter p (range_with_len 0 n))
-    (λ x m. (let f = (member-from_numbers 0 n x (member-from_filter p (range_with_len 0 n) x m).0).1 in omega arith)))
+    (λ x m. (let f = (member-from_range n 0 x (member-from_filter p (range_with_len 0 n) x m).0).1 in omega arith)))
 
 module _ (sides : List Beside) (on : List (List ℕ)) (blocks : ℕ) where
   pub none_listed : (touched : List (List ℕ)) → length touched ≡ blocks → All (λ ls. ls ≡ []) touched → AreTouchedTo sides on blocks 0 touched

@@ -2,10 +2,9 @@ pub mod Drawn
 pub mod DrawnAcross
 pub mod MadeGrid
 pub mod MadeRows
-pub mod Members
 pub mod RowCoordinates
 pub mod RowDrawing
-pub mod RowStops
+pub mod RowTicks
 pub mod RowUnion
 pub mod Rows
-pub mod Spots
+pub mod Cubelets

@@ -1,5 +1,5 @@
-pub mod Pieces
+pub mod Cubes
 pub mod Rows
 pub mod Made
 pub mod Making
-pub mod SmallPieces
+pub mod SmallCubes

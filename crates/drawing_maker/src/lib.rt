@@ -2,11 +2,11 @@
 #![tactic(auto)]
 
 mod cells;
+mod cube;
+mod cubes;
 mod laws;
 mod making;
-mod piece;
-mod pieces;
-mod stops;
+mod ticks;
 
-pub use laws::small_pieces;
+pub use laws::small_cubes;
 pub use making::make;

@@ -1,10 +1,9 @@
 -- The faces of a solid of grid cells are those of the solid of their numbers, as they stand in space.
-use Rattle.std.proofs.Common.{◌≡◌, inl, inr, Bool, true, ℕ, zero, suc, List, [], ◌∷◌, map, ℤ, ◌<ℤ◌, IsTrue, refl, sym, ◌∙◌, ap, ap₂, subst}
+use Rattle.std.proofs.Common.{◌≡◌, inl, inr, Bool, true, ℕ, List, [], ◌∷◌, map, ℤ, ◌<ℤ◌, IsTrue, refl, sym, ◌∙◌, ap, ap₂, subst}
 use Rattle.std.proofs.lemmas.Bool.{false≢true}
 use Rattle.solid_model.specs.declared.cell.Axis.{Axis}
 use Rattle.solid_model.specs.declared.cell.Cell.{Cell}
 use Rattle.solid_model.specs.declared.face.Out.{Out}
-use Rattle.solid_model.specs.declared.face.Out.TheVariants.{MinusX, PlusX, MinusY, PlusY, MinusZ, PlusZ}
 use Rattle.solid_model.specs.Faces.{outward, right_axis, up_axis, place, is_boundary, BeginsLeast, IsLoopOf, StartsBefore, AreLoopsOf, FaceParts, IsFaceAt, out_number, first_loop, FaceBefore, AreFacesOf}
 use Rattle.face_laws.specs.GridFaces.{Planes, point_of_numbers, AreCellsOf, face_in_space}
 use Rattle.face_laws.specs.GridRounds.{Rises, grid_point, last_side}
@@ -21,6 +20,7 @@ use Rattle.face_laws.proofs.GridLines.{LiesBetween, later_line}
 use Rattle.face_laws.proofs.GridTraces.{grid_round, ends_on_grid}
 use Rattle.face_laws.proofs.JoinedSides.{joined-back, round-joined}
 use Rattle.solid_model.proofs.Lists.{each-map, each-weaker, ascends-map, member-map}
+use Rattle.face_laws.proofs.OutwardSides.{one_out}
 use Rattle.face_laws.proofs.RoundStarts.{one_start}
 use Rattle.face_laws.proofs.SomeLoop.{some_round}
 
@@ -42,28 +42,6 @@ module _ (squares : Spot → Bool) (there : Spot → Cell) (p q : Spot) (chain :
     ordered = h.ordered;
     complete = λ loop is. h.complete loop (loop_to loop is);
   }
-
--- ---- outward sides by their numbers
-
-out_of : ℕ → Out
-out_of zero = MinusX
-out_of (suc zero) = PlusX
-out_of (suc (suc zero)) = MinusY
-out_of (suc (suc (suc zero))) = PlusY
-out_of (suc (suc (suc (suc zero)))) = MinusZ
-out_of (suc (suc (suc (suc (suc n))))) = PlusZ
-
-out_of-number : (o : Out) → out_of (out_number o) ≡ o
-unfolding out_of
-out_of-number MinusX = refl
-out_of-number PlusX = refl
-out_of-number MinusY = refl
-out_of-number PlusY = refl
-out_of-number MinusZ = refl
-out_of-number PlusZ = refl
-
-pub one_out : (o p : Out) → out_number o ≡ out_number p → o ≡ p
-one_out o p e = sym (out_of-number o) ∙ ap out_of e ∙ out_of-number p
 
 module _ (planes : Planes) (rises : (a : Axis) → Rises (planes a)) where
   abbrev point : Cell → Cell

@@ -5,7 +5,8 @@ use Rattle.recon_run.specs.declared.status.Answer.TheVariants as answers
 use Rattle.recon_run.specs.Answers.{CanEnd, HasProblem, first_volume, numbered_answer}
 use Rattle.recon_run.specs.Findings.{TellsOne, TellsOneAt, first_choice_volume}
 use Rattle.recon_run.specs.Owed.{search_for_one}
-use Rattle.recon_run.proofs.Solved.{Fill, IsStated, as_many, listing, whole_listing}
+use Rattle.recon_run.proofs.Solved.{Fill, IsStated, listing, whole_listing}
+use Rattle.solid_model.proofs.SolidsOfChoices.{as_many}
 use Rattle.recon_run.proofs.Told.{TellsRightly}
 use Rattle.redraw.specs.Files.{IsFileOf}
 use Rattle.report.specs.Texts.{no_solid_text}

@@ -8,7 +8,8 @@ use Rattle.recon_run.specs.Findings.{AnswersFinding, BeginsAll, IsFinding, IsSea
 use Rattle.recon_run.specs.Owed.{AnswersInput, AnswersOwed, IsAnswerOf, ReadsAllOrPast, Search, answer_at, beginning, search_for_all, searched}
 use Rattle.recon_run.specs.Searched.{SearchedParts}
 use Rattle.recon_run.proofs.OneEnd.{one_count}
-use Rattle.recon_run.proofs.Solved.{as_many, begun, solved, whole_listing}
+use Rattle.recon_run.proofs.Solved.{begun, solved, whole_listing}
+use Rattle.solid_model.proofs.SolidsOfChoices.{as_many}
 use Rattle.solid_model.specs.declared.ended.EndKind.{EndKind}
 use Rattle.solid_model.specs.declared.ended.EndKind.TheVariants.{Whole, CutNodes, CutSolids}
 use Rattle.solid_model.specs.Blocks.{ProblemParts}

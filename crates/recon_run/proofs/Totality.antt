@@ -6,7 +6,8 @@ use Rattle.dxf_entities.specs.Reading.{read_of}
 use Rattle.dxf_entities.proofs.KeptLines.{read_lines_are_kept}
 use Rattle.recon_run.specs.declared.status.Answer.{Answer}
 use Rattle.recon_run.specs.declared.status.Answer.TheVariants as answers
-use Rattle.recon_run.specs.Answers.{usage_text, CanEnd, IsFaultAfter, IsFileFault, HasProblem, IsTried, TellsNumbered, default_limits, head_of, numbered_answer}
+use Rattle.recon_run.specs.Answers.{usage_text, CanEnd, IsFaultAfter, IsFileFault, HasProblem, IsTried, TellsNumbered, head_of, numbered_answer}
+use Rattle.solid_model.specs.Search.{default_limits, SearchLimits}
 use Rattle.recon_run.specs.Endings.{Answers}
 use Rattle.recon_run.specs.Owed.{alone, AnswersOwed, Owed, ReadsAllOrPast, Search, answer_at, in_one_piece, search_for_one, owed, owed_for, searched}
 use Rattle.recon_run.proofs.Redrawn.{each_get}
@@ -35,9 +36,8 @@ use Rattle.solid_model.specs.Lists.{Member, Each, Ascends}
 use Rattle.solid_model.specs.Panels.{PanelStyles, GridParts, coordinates_of, grid_styles, AreGridStyles, IsGridOf}
 use Rattle.solid_model.specs.PerAxis.{numbers_of}
 use Rattle.solid_model.specs.Runs.{IsDrawing}
-use Rattle.solid_model.specs.Search.{SearchLimits}
 use Rattle.solid_model.specs.SearchEnds.{EndsAs}
-use Rattle.solid_model.specs.Tree.{Word, live_count, live_below}
+use Rattle.solid_model.specs.Tree.{PrefixTest, live_count, live_below}
 use Rattle.solid_model.specs.VirtualFaces.{IsVirtual}
 use Rattle.solid_model.specs.GridBox.{grid_sizes}
 use Rattle.solid_model.proofs.KeptDrawings.{lines_are_drawing}
@@ -91,7 +91,7 @@ grid_with drawing xs ys zs = record { xs = xs; ys = ys; zs = zs; panels = record
     panel v = record { level = grid_styles drawing (along xs ys zs) v false; upright = grid_styles drawing (along xs ys zs) v true }
 
 -- a search of whatever is live ends somehow, where the live prefixes of full length stand in the stated order
-some_end : (live : Word) (n : ℕ) (limits : SearchLimits) → Ascends ChoicePrecedes (live_below live n [])
+some_end : (live : PrefixTest) (n : ℕ) (limits : SearchLimits) → Ascends ChoicePrecedes (live_below live n [])
     → (kind : EndKind) × (opened : ℕ) × (choices : List (List Bool)) × EndsAs live n limits kind opened choices
 some_end live n limits ordered = ⊎_elim
     (λ many. (CutNodes, live_count live n [], [], (many, omega arith, record { listed = tt; ordered = tt }, omega arith)))

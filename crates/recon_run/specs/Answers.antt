@@ -26,7 +26,7 @@ use Rattle.solid_model.specs.Limits.{most_blocks, most_file_bytes}
 use Rattle.solid_model.specs.Line.{Line}
 use Rattle.solid_model.specs.Matching.{AreSolidsOf, AreSomeSolidsOf}
 use Rattle.solid_model.specs.Panels.{GridParts, coordinates_of, IsGridOf}
-use Rattle.solid_model.specs.Search.{SearchLimits}
+use Rattle.solid_model.specs.Search.{SearchLimits, default_limits}
 use Rattle.solid_model.specs.Tree.{live_count}
 
 -- ---- the faults of an input
@@ -159,10 +159,6 @@ TellsNumbered writes which solids text = ((s : List Cell) × IsNumbered solids w
     ⊎ ((length solids < which) × (text ≡ no_solid_text which (length solids)))
 
 -- ---- `trial`
-
--- the limits of a search where none are asked for
-abbrev pub default_limits : SearchLimits
-default_limits = record { nodes = 1000000; solids = 4096 }
 
 -- the drawing that is made from a number
 abbrev pub made_drawing : ℕ → Segment → Style

@@ -3,9 +3,8 @@
 ghost use Rattle.std.specs.Prelude.{◌≡◌, ◌≤◌, false, length, IsTrue, IfOk, IfSome, MatchOption};
 ghost use Rattle.std.specs.Arc.{arc_value};
 ghost use Rattle.solid_model.specs.Demands.{is_live};
-ghost use Rattle.solid_model.specs.Tree.{opened_of, found_of, rest_of, IsAllowed};
+ghost use Rattle.solid_model.specs.Tree.{opened_of, found_of, rest_of, IsAllowed, IsTree};
 ghost use Rattle.search_tree.specs.BlockPaths.{IsWayOf};
-ghost use Rattle.search_tree.specs.Walk.{IsTree};
 
 use crate::block_path::BlockPath;
 use crate::going::go_to;
@@ -16,10 +15,10 @@ use solid_model::{Choice, Expansion, Memory, Prefix, Problem};
 use std::alloc::Global;
 use std::sync::Arc;
 
-/// What is reported of a piece: how many live prefixes were opened, the choices among them, and the
+/// What expanding a piece gave: how many live prefixes were opened, the choices among them, and the
 /// rest.
 #[derive(Debug, Drop)]
-pub struct Parts {
+pub struct Expanded {
     pub opened: u32,
     pub found: Vec<Choice>,
     pub rest: Vec<Prefix>,
@@ -27,7 +26,7 @@ pub struct Parts {
 
 /// Opens the first live prefixes that begin with the present one, a live one: as many as the quantum
 /// says, or all if they are fewer. An `Err` is out of memory.
-pub fn expand_path<P: Path>(alloc: Global, path: &mut P, quantum: u32) -> Result<Parts, Memory>
+pub fn expand_path<P: Path>(alloc: Global, path: &mut P, quantum: u32) -> Result<Expanded, Memory>
     requires live { IsTrue (P.live path.old (P.prefix path.old)) }
     requires tree { IsTree (P.live path.old) (P.blocks path.old) }
     requires quantum { 1 ≤ quantum }
@@ -49,7 +48,7 @@ pub fn expand_path<P: Path>(alloc: Global, path: &mut P, quantum: u32) -> Result
     if opened == quantum {
         keep_rest(path, floor, &mut rest)?;
     }
-    Ok(Parts {
+    Ok(Expanded {
         opened,
         found,
         rest,

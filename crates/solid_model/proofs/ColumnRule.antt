@@ -38,6 +38,7 @@ edge_where_parting false true true e = refl
 edge_where_parting false true false e = refl
 edge_where_parting false false z e = absurd (false≢true e)
 
+-- where two truth values don't differ they are one
 pub same_from_agree : (x y : Bool) → not (agree x y) ≡ false → x ≡ y
 same_from_agree true true e = refl
 same_from_agree true false e = absurd (false≢true (sym e))
@@ -70,6 +71,11 @@ equal_columns f is full g same k edge =
     ((λ t. is_edge_of (column_after f full g k) (sym (same k) t) (column_after f full g (k -ℤ pos 1)) (sym (same (k -ℤ pos 1)) t))
     ∙ no_edge_between (column_after f full g k) (column_after f full g (k -ℤ pos 1)))
     (sym (has_edge_is f is full g k) ∙ edge)
+
+-- a column has one first full depth
+pub one_first : (column : ℤ → Bool) (k m : ℤ) → IsFirstFull column k → IsFirstFull column m → k ≡ m
+one_first column k m first here = by_lt_z k m (λ l. absurd (both_ways (column k) (here.1 k l) first.0))
+    (λ l. by_lt_z m k (λ l'. absurd (both_ways (column m) (first.1 m l') here.0)) (λ l'. omega (arith, ints)))
 
 module _ (f : Frame) (is : IsFrame f) (s : List Cell) (g : Segment) where
   abbrev after : ℤ → Bool

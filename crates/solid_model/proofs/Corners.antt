@@ -1,5 +1,6 @@
 -- The least unit cells of a grid's cells, and choices of grid cells read off them.
 use Rattle.std.proofs.Common.{◌≡◌, inl, inr, true, ℕ, zero, suc, ◌+◌, ◌*◌, ◌-◌, ◌<◌, List, [], ◌∷◌, length, map, get_or, ℤ, pos, ◌≤ℤ◌, ◌<ℤ◌, int_lt, int_le, IsTrue, refl, ap, sym, subst, ◌∙◌, arith}
+use Rattle.std.specs.List.{flat_map}
 use Rattle.std.proofs.lemmas.Bool.{false≢true, and_parts, and_from}
 use Rattle.std.proofs.lemmas.Int.{ints}
 use Rattle.std.proofs.lemmas.List.{length-take-le}
@@ -8,19 +9,21 @@ use Rattle.solid_model.specs.declared.cell.Axis.TheVariants.{X, Y, Z}
 use Rattle.solid_model.specs.declared.cell.Cell.{Cell}
 use Rattle.solid_model.specs.Cells.{coordinate}
 use Rattle.solid_model.specs.Grid.{Coordinates, GridCell, is_in_gap, LiesInGridCell, gaps_along, grid_cell_count, grid_cell_place}
-use Rattle.solid_model.specs.Lists.{Member, Each, Ascends}
+use Rattle.solid_model.specs.Lists.{Each, Ascends}
 use Rattle.solid_model.specs.Orders.{ComesBefore}
-use Rattle.solid_model.specs.Panels.{joined, starts_of}
+use Rattle.solid_model.specs.Panels.{starts_of}
 use Rattle.solid_model.specs.Rooms.{is_within}
 use Rattle.solid_model.specs.GridBox.{grid_cell_of}
 use Rattle.solid_model.proofs.BoxCells.{place-below, within-below}
 use Rattle.solid_model.proofs.CellOrder.{lies-before}
-use Rattle.solid_model.proofs.Lists.{each-at, each-from, each-append, each-map, ascends-append}
+use Rattle.solid_model.proofs.Lists.{each-at, each-from, each-map}
 use Rattle.solid_model.proofs.SameOnGrid.{starts_more}
-use Rattle.solid_model.proofs.Unions.{cells_over, length-cells_over, get_or-cells_over, within_product}
+use Rattle.solid_model.proofs.Concatenations.{each-flat_map, ascends-flat_map, within_product, get_or-over_triples}
+use Rattle.solid_model.proofs.Unions.{cells_over, length-cells_over}
 
 -- ---- where gaps begin
 
+-- there are as many of these as gaps, one fewer than members
 pub length-starts_of : (zs : List ℤ) → length (starts_of zs) ≡ length zs - 1
 length-starts_of zs = length-take-le (length zs - 1) zs (omega arith)
 
@@ -79,26 +82,15 @@ ascends-starts_of (a ∷ b ∷ zs) ascends =
 
 -- ---- cells in order
 
-each-joined : (P : Cell → Type 0) (f : ℤ → List Cell) (xs : List ℤ) → ((x : ℤ) → Member xs x → Each P (f x)) → Each P (joined (map f xs))
-each-joined P f [] h = tt
-each-joined P f (x ∷ xs) h = each-append P (f x) (joined (map f xs)) (h x (inl refl)) (each-joined P f xs (λ y k. h y (inr k)))
-
-ascends-joined : (f : ℤ → List Cell) (xs : List ℤ) → Ascends ◌<ℤ◌ xs → ((x : ℤ) → Ascends ComesBefore (f x))
-    → ((x y : ℤ) → x <ℤ y → Each (λ c. Each (ComesBefore c) (f y)) (f x)) → Ascends ComesBefore (joined (map f xs))
-ascends-joined f [] ascends each across = tt
-ascends-joined f (x ∷ xs) ascends each across =
-    ascends-append ComesBefore (f x) (joined (map f xs)) (each x) (ascends-joined f xs ascends.1 each across)
-    (each-from (λ c. Each (ComesBefore c) (joined (map f xs))) (f x) (λ c k. each-joined (ComesBefore c) f xs (λ y l.
-    each-at (λ d. Each (ComesBefore d) (f y)) (f x) c (across x y (each-at (λ w. x <ℤ w) xs y ascends.0 l)) k)))
-
+-- the cells over three ascending lists are in order
 pub ascends-cells_over : (xs ys zs : List ℤ) → Ascends ◌<ℤ◌ xs → Ascends ◌<ℤ◌ ys → Ascends ◌<ℤ◌ zs → Ascends ComesBefore (cells_over xs ys zs)
-ascends-cells_over xs ys zs in_x in_y in_z = ascends-joined layer zs in_z layers_ascend layers_across
+ascends-cells_over xs ys zs in_x in_y in_z = ascends-flat_map ◌<ℤ◌ ComesBefore layer zs in_z layers_ascend layers_across
   where
     row : ℤ → ℤ → List Cell
     row z y = map (λ x. record { x = x; y = y; z = z }) xs
 
     layer : ℤ → List Cell
-    layer z = joined (map (row z) ys)
+    layer z = flat_map (row z) ys
 
     row_ascends : (z y : ℤ) (ws : List ℤ) → Ascends ◌<ℤ◌ ws → Ascends ComesBefore (map (λ x. record { x = x; y = y; z = z }) ws)
     row_ascends z y [] h = tt
@@ -114,12 +106,12 @@ ascends-cells_over xs ys zs in_x in_y in_z = ascends-joined layer zs in_z layers
         (each-from _ xs (λ w m. lies-before (record { x = x; y = y; z = z }) (record { x = w; y = v; z = z }) (inr (refl, inl l))))))
 
     layers_ascend : (z : ℤ) → Ascends ComesBefore (layer z)
-    layers_ascend z = ascends-joined (row z) ys in_y (λ y. row_ascends z y xs in_x) (rows_across z)
+    layers_ascend z = ascends-flat_map ◌<ℤ◌ ComesBefore (row z) ys in_y (λ y. row_ascends z y xs in_x) (rows_across z)
 
     layers_across : (z w : ℤ) → z <ℤ w → Each (λ c. Each (ComesBefore c) (layer w)) (layer z)
-    layers_across z w l = each-joined (λ c. Each (ComesBefore c) (layer w)) (row z) ys (λ y k.
+    layers_across z w l = each-flat_map (λ c. Each (ComesBefore c) (layer w)) (row z) ys (λ y k.
         each-map (λ x. record { x = x; y = y; z = z }) (λ c. Each (ComesBefore c) (layer w)) xs (each-from _ xs (λ x m.
-        each-joined (ComesBefore (record { x = x; y = y; z = z })) (row w) ys (λ v n.
+        each-flat_map (ComesBefore (record { x = x; y = y; z = z })) (row w) ys (λ v n.
         each-map (λ u. record { x = u; y = v; z = w }) (ComesBefore (record { x = x; y = y; z = z })) xs (each-from _ xs (λ u o. lies-before (record { x = x; y = y; z = z }) (record { x = u; y = v; z = w }) (inl l)))))))
 
 -- ---- the corners of a grid's cells
@@ -141,6 +133,7 @@ module _ (coordinates : Coordinates) (ascends : (a : Axis) → Ascends ◌<ℤ�
   abbrev pub IsGridCell : GridCell → Type 0
   IsGridCell n = (a : Axis) → BeginsGap (coordinates a) (n a)
 
+  -- what a unit cell lies in is one
   pub lying-is_grid_cell : (n : GridCell) (c : Cell) → LiesInGridCell coordinates n c → IsGridCell n
   lying-is_grid_cell n c at a = gap_begins (coordinates a) (n a) (coordinate a c) (at a)
 
@@ -149,6 +142,7 @@ module _ (coordinates : Coordinates) (ascends : (a : Axis) → Ascends ◌<ℤ�
   within-is_grid_cell n within a = numbered_gap (coordinates a) (ascends a) (grid_cell_of n a)
       (place-below (gaps_along coordinates a) (coordinate a n) (within-below (gaps_along coordinates) n within a))
 
+  -- its corner lies in it
   pub corner_lies : (n : GridCell) → IsGridCell n → LiesInGridCell coordinates n (corner_of n)
   corner_lies n is X = (is X).in_gap
   corner_lies n is Y = (is Y).in_gap
@@ -159,10 +153,13 @@ module _ (coordinates : Coordinates) (ascends : (a : Axis) → Ascends ◌<ℤ�
       ≡ (n Z * length (starts_of (coordinates Y)) + n Y) * length (starts_of (coordinates X)) + n X
   place_is n = λ t. (n Z * sym (length-starts_of (coordinates Y)) t + n Y) * sym (length-starts_of (coordinates X)) t + n X
 
+  -- so the corner of a grid cell stands at its place
   pub corner_at_place : (n : GridCell) (d : Cell) → IsGridCell n → get_or corners (grid_cell_place coordinates n) d ≡ corner_of n
   corner_at_place n d is = ap (λ p. get_or corners p d) (place_is n)
-      ∙ get_or-cells_over (starts_of (coordinates X)) (starts_of (coordinates Y)) (starts_of (coordinates Z)) (n X) (n Y) (n Z) d (is X).within (is Y).within (is Z).within
+      ∙ get_or-over_triples (λ x y z. record { x = x; y = y; z = z }) (starts_of (coordinates X)) (starts_of (coordinates Y)) (starts_of (coordinates Z))
+      (n X) (n Y) (n Z) (pos 0) (pos 0) (pos 0) d (is X).within (is Y).within (is Z).within
 
+  -- there are as many corners as grid cells
   pub length-corners : length corners ≡ grid_cell_count coordinates
   length-corners =
       let p = length-starts_of (coordinates X) in let q = length-starts_of (coordinates Y) in let r = length-starts_of (coordinates Z) in
@@ -172,6 +169,7 @@ module _ (coordinates : Coordinates) (ascends : (a : Axis) → Ascends ◌<ℤ�
       regrouped : (x y z : ℕ) → z * (y * x) ≡ z * y * x
       regrouped x y z = omega arith
 
+  -- the place of a grid cell is one of them
   pub place_within : (n : GridCell) → IsGridCell n → grid_cell_place coordinates n < length corners
   place_within n is =
       let x = (is X).within in let y = (is Y).within in let z = (is Z).within in
@@ -180,5 +178,6 @@ module _ (coordinates : Coordinates) (ascends : (a : Axis) → Ascends ◌<ℤ�
       (within_product (n Z) (length (starts_of (coordinates Z))) (n Y) (length (starts_of (coordinates Y))) z y) x in
       omega arith
 
+  -- the corners are in order
   pub ascends-corners : Ascends ComesBefore corners
   ascends-corners = ascends-cells_over _ _ _ (ascends-starts_of (coordinates X) (ascends X)) (ascends-starts_of (coordinates Y) (ascends Y)) (ascends-starts_of (coordinates Z) (ascends Z))

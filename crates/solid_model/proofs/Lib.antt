@@ -1,6 +1,9 @@
 pub mod Integers
 pub mod Lists
+pub mod Tests
 pub mod ListPlaces
+pub mod Ranges
+pub mod Concatenations
 pub mod Chains
 pub mod Gaps
 pub mod GridFillings

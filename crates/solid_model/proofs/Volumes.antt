@@ -1,5 +1,5 @@
 -- The unit cells of a union of grid cells, grid cell by grid cell: as many as its volume.
-use Rattle.std.proofs.Common.{◌≡◌, ◌≢◌, ◌⊎◌, inl, inr, Bool, true, false, if◌then◌else◌, ℕ, zero, suc, ◌+◌, ◌*◌, ◌<◌, List, [], ◌∷◌, length, length-append, map, slice_index_or, ℤ, pos, ◌+ℤ◌, ◌-ℤ◌, ◌≤ℤ◌, ◌<ℤ◌, unsigned_abs, IsTrue, refl, ap, ap₂, sym, subst, ◌∙◌, arith}
+use Rattle.std.proofs.Common.{◌≡◌, ◌≢◌, ◌⊎◌, inl, inr, Bool, true, false, if◌then◌else◌, ℕ, zero, suc, ◌+◌, ◌*◌, ◌<◌, List, [], length, length-append, slice_index_or, ℤ, pos, ◌+ℤ◌, ◌-ℤ◌, ◌≤ℤ◌, ◌<ℤ◌, unsigned_abs, IsTrue, refl, ap, ap₂, sym, subst, ◌∙◌, arith}
 use Rattle.std.proofs.lemmas.Bool.{both_ways}
 use Rattle.std.proofs.lemmas.Int.{ints}
 use Rattle.solid_model.specs.declared.cell.Axis.{Axis}
@@ -8,9 +8,8 @@ use Rattle.solid_model.specs.declared.cell.Cell.{Cell}
 use Rattle.solid_model.specs.Cells.{coordinate, cell_at, is_full}
 use Rattle.solid_model.specs.Grid.{Coordinates, GridCell, is_in_gap, LiesInGridCell, LiesInGrid, gaps_along, grid_cell_count, grid_cell_place, IsUnionOf}
 use Rattle.solid_model.specs.Lists.{Member, Ascends}
-use Rattle.solid_model.proofs.Lists.{appended, member-append, member-from_map, each-from, member-appended, member-from_appended, ascends-appended}
+use Rattle.solid_model.proofs.Lists.{appended, each-from, member-appended, member-from_appended, ascends-appended}
 use Rattle.solid_model.specs.Orders.{ComesBefore, IsInStatedForm}
-use Rattle.solid_model.specs.Panels.{joined}
 use Rattle.solid_model.specs.Rooms.{place_of_number, box_place}
 use Rattle.solid_model.specs.Volumes.{gap_width, grid_cell_volume, grid_cell_at, volume_below, volume_of}
 use Rattle.solid_model.proofs.BoxPlaces.{place_there, within_box, HasNumbersBelow, numbers_below, cell_of_place, cell_of_place-within, cell_of_place-there, cell_of_place-own}
@@ -20,7 +19,7 @@ use Rattle.solid_model.proofs.Fullness.{is_full-member, member-is_full}
 use Rattle.solid_model.proofs.Gaps.{member, lies_in, in_gap, earlier_less}
 use Rattle.solid_model.proofs.Integers.{natural}
 use Rattle.solid_model.proofs.UnionDrawing.{in_grid_or_not}
-use Rattle.solid_model.proofs.Unions.{cells_over, member-cells_over, length-cells_over, range_from, member-range_from, one_grid_cell}
+use Rattle.solid_model.proofs.Unions.{cells_over, member-cells_over, member-from_cells_over, length-cells_over, range_from, member-range_from, one_grid_cell}
 use Rattle.solid_model.proofs.WithoutRepeats.{ascends-weaker, equally_long}
 
 -- ---- ranges, and cells over three of them
@@ -41,25 +40,6 @@ ascends-range_from (suc n) z = (
   each-from (λ w. z <ℤ w) (range_from (z +ℤ pos 1) n) (λ w k. let l = (member-from_range_from n (z +ℤ pos 1) w k).0 in omega (arith, ints, l)),
   ascends-range_from n (z +ℤ pos 1),
 )
-
--- one of lists together is one of some list
-member-from_joined : {A : Type 0} (f : ℤ → List A) (xs : List ℤ) (c : A) → Member (joined (map f xs)) c → (x : ℤ) × Member xs x × Member (f x) c
-member-from_joined f [] c k = absurd k
-member-from_joined f (x ∷ xs) c k = elim (member-append (f x) (joined (map f xs)) c k) as (λ _. (y : ℤ) × Member (x ∷ xs) y × Member (f y) c) [
-  | inl l ↦ (x, inl refl, l)
-  | inr l ↦ (let rest = member-from_joined f xs c l in (rest.0, inr rest.1, rest.2))
-]
-
--- the coordinates of a cell over three lists are members of them
-member-from_cells_over : (xs ys zs : List ℤ) (c : Cell) → Member (cells_over xs ys zs) c → Member xs c.x × Member ys c.y × Member zs c.z
-member-from_cells_over xs ys zs c k =
-    let at_z = member-from_joined (λ z. joined (map (λ y. map (λ x. record { x = x; y = y; z = z }) xs) ys)) zs c k in
-    let at_y = member-from_joined (λ y. map (λ x. record { x = x; y = y; z = at_z.0 }) xs) ys c at_z.2 in
-    let at_x = member-from_map (λ x. record { x = x; y = at_y.0; z = at_z.0 }) xs c at_y.2 in (
-      subst (Member xs) (ap (λ (d : Cell). d.x) at_x.2) at_x.1,
-      subst (Member ys) (ap (λ (d : Cell). d.y) at_x.2) at_y.1,
-      subst (Member zs) (ap (λ (d : Cell). d.z) at_x.2) at_z.1,
-    )
 
 -- ---- the integers in a gap
 
@@ -245,6 +225,7 @@ module _ (coordinates : Coordinates) (ascends : (a : Axis) → Ascends ◌<ℤ�
               (lying-cells_in (grid_cell_at coordinates p) c (lies_at_place n c lies)))
           by (inr none) = absurd (both_ways (is_full s c) (union.outside c none) (member-is_full s c k))
 
+      -- so the volume is the number of unit cells
       pub volume_counts : IsInStatedForm s → length s ≡ volume_of coordinates chosen
       volume_counts stated = equally_long s placed_cells
           (ascends-weaker ComesBefore ◌≢◌ s before_differs stated)

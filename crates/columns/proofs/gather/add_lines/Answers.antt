@@ -1,11 +1,10 @@
 -- One more.
 use Rattle.columns.proofs.MoreSides.{lines_more, fewer}
 use Rattle.columns.proofs.gather.add_lines.Goals as goal
-use Rattle.std.proofs.Common.{◌≡◌, ◌≤◌, ◌+◌, ◌*◌, suc, map, subst, ap, ◌∙◌, arith}
-use Rattle.std.specs.List.{range_with_len}
+use Rattle.std.proofs.Common.{◌≡◌, ◌≤◌, ◌+◌, ◌*◌, suc, subst, ap, ◌∙◌, arith}
+use Rattle.std.specs.List.{flat_map, range_with_len}
 use Rattle.columns.specs.Gathered.{AreMoreSides}
 use Rattle.solid_model.specs.Demands.{lines_at}
-use Rattle.solid_model.specs.Panels.{joined}
 use Rattle.solid_model.specs.GridBox.{grid_sizes, axis_across}
 
 pub loop-at-preserved : goal.loop-at-preserved
@@ -14,7 +13,7 @@ loop-at-preserved c =
     let f = lines_at p.grid c.args.view c.args.upright in
     let n = c.loop-at.at in
     let e : n * 63 + 63 ≡ (n + 1) * 63 = omega arith in
-    subst (λ m. AreMoreSides p (joined (map f (range_with_len 0 (n + 1)))) m c.args.sides.now.items c.add_lines_at.new.sides.items) e
+    subst (λ m. AreMoreSides p (flat_map f (range_with_len 0 (n + 1))) m c.args.sides.now.items c.add_lines_at.new.sides.items) e
     (lines_more p f n c.args.sides.now.items c.loop-at.sides.items c.add_lines_at.new.sides.items c.loop-at.invariant c.in_ok-add_lines_at.ensures)
 
 pub returns : goal.returns
@@ -24,5 +23,5 @@ returns c =
     let size : c.cells_across-at-end.result ≡ grid_sizes p.grid (axis_across c.args.view c.args.upright) = c.cells_across-at-end.ensures.same ∙ ap (λ g. grid_sizes g (axis_across c.args.view c.args.upright)) c.grid.ensures.grid in
     let ended : c.loop-at.at ≡ suc c.cells_across-at-end.result = omega (arith, c.loop-at-test.false, c.loop-at.auto.at-end) in
     let few : c.loop-at.at * 63 ≤ 4032 = omega (arith, ended, c.cells_across-at-end.ensures.few) in
-    subst (λ n. AreMoreSides p (joined (map f (range_with_len 0 n))) 4032 c.args.sides.now.items c.loop-at.sides.items) (ended ∙ ap suc size)
-    (fewer p (joined (map f (range_with_len 0 c.loop-at.at))) (c.loop-at.at * 63) 4032 c.args.sides.now.items c.loop-at.sides.items few c.loop-at.invariant)
+    subst (λ n. AreMoreSides p (flat_map f (range_with_len 0 n)) 4032 c.args.sides.now.items c.loop-at.sides.items) (ended ∙ ap suc size)
+    (fewer p (flat_map f (range_with_len 0 c.loop-at.at)) (c.loop-at.at * 63) 4032 c.args.sides.now.items c.loop-at.sides.items few c.loop-at.invariant)

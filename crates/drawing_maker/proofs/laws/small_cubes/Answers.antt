@@ -1,7 +1,7 @@
--- The pieces come out of their definition.
+-- The cubes come out of their definition.
 use Rattle.std.proofs.Common.{refl}
 use Rattle.std.specs.Fmt.{digits}
-use Rattle.drawing_maker.proofs.laws.small_pieces.Goals as goal
+use Rattle.drawing_maker.proofs.laws.small_cubes.Goals as goal
 
 pub returns-clause-three : goal.returns-clause-three
 unfolding digits
