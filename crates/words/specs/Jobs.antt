@@ -73,4 +73,6 @@ job_said (name ∷ words) = said_among commands name words
 -- a job that asks for a solid counts it from 1
 abbrev pub IsCounted : Job → Type 0
 IsCounted (job.Redraw which limits) = 1 ≤ which
-IsCounted _ = Unit {0}
+IsCounted (job.Solve limits) = Unit {0}
+IsCounted (job.Make n) = Unit {0}
+IsCounted (job.Trial n) = Unit {0}
