@@ -29,6 +29,11 @@ all_among : (p : Rule → Bool) (g : Field → Rule) → ((f : Field) → p (g f
 all_among p g each [] rest e = e
 all_among p g each (f ∷ fs) rest e = ap₂ (λ a b. a && b) (each f) (all_among p g each fs rest e)
 
+any_among : (p : Rule → Bool) (g : Field → Rule) → ((f : Field) → p (g f) ≡ false) → (fs : List Field) (rest : List Rule)
+    → list_any p (map g fs ++ rest) ≡ list_any p rest
+any_among p g each [] rest = refl
+any_among p g each (f ∷ fs) rest = ap (λ b. b || list_any p (map g fs ++ rest)) (each f) ∙ any_among p g each fs rest
+
 rules_simple : (t : Table) → list_all (λ (a : Rule). a.is_simple) (rules_of t) ≡ true
 rules_simple t = all_among (λ a. a.is_simple) option_rule (λ f. one f.name f.range) t.options (number_rules t.number)
     (number t.number)
@@ -61,20 +66,17 @@ built_simple = all_built (λ a. a.is_simple) (λ name. refl) (λ name r. refl) (
 built_free : (t : Table) → list_all (λ (a : Rule). a.is_free) (built_rules t) ≡ true
 built_free = all_built (λ a. a.is_free) (λ name. refl) (λ name r. refl) (λ r. refl)
 
--- where all fail a test none passes it
-none_passes : (p : Rule → Bool) (rules : List Rule) → list_all (λ a. not (p a)) rules ≡ true → list_any p rules ≡ false
-none_passes p [] e = refl
-none_passes p (a ∷ rules) e =
-    let parts = both _ _ e in
-    ap₂ ◌||◌ (false_from_not (p a) parts.0) (none_passes p rules parts.1)
-  where
-    false_from_not : (b : Bool) → not b ≡ true → b ≡ false
-    false_from_not false e = refl
-    false_from_not true e = absurd (true≢false (sym e))
-
 built_in_order : (t : Table) (k : ℕ) → list_any (is_early_multiple k) (built_rules t) ≡ false
-built_in_order t k = none_passes (is_early_multiple k) (built_rules t)
-    (all_built (λ a. not (is_early_multiple k a)) (λ name. refl) (λ name r. refl) (λ r. refl) t)
+built_in_order t k = any_among (is_early_multiple k) built_option (λ f. one f.name f.range) t.options (built_numbers t.number)
+    ∙ number t.number
+  where
+    one : (name : Text) (range : Option Range) → is_early_multiple k (filled (rule_by name range)) ≡ false
+    one name None = refl
+    one name (Some r) = refl
+
+    number : (n : Option Range) → list_any (is_early_multiple k) (built_numbers n) ≡ false
+    number None = refl
+    number (Some r) = refl
 
 -- the command of a table, built
 abbrev built_app : List Rule → App
