@@ -46,7 +46,7 @@ rules_simple t = all_among (λ a. a.is_simple) option_rule (λ f. one f.name f.r
     number None = refl
     number (Some r) = refl
 
--- A test that is passed by the rules of options and numbers, as they are built, is passed by all rules of a table, as they are built.
+-- what the rules of options and of numbers pass, as they are built, all rules of a table pass, as they are built
 all_built : (p : Rule → Bool) → ((name : Text) → p (filled (rule_by name None)) ≡ true)
     → ((name : Text) (r : Range) → p (filled (rule_by name (Some r))) ≡ true) → ((r : Range) → p (built_number r) ≡ true)
     → (t : Table) → list_all p (built_rules t) ≡ true
