@@ -7,31 +7,11 @@ use Rattle.solid_model.specs.declared.frame.View.TheVariants.{Front, Top, Side}
 use Rattle.solid_model.specs.declared.line_id.LineId.{LineId}
 use Rattle.solid_model.specs.Demands.{has_line, lines_at, lines_along, lines_in, lines_of}
 use Rattle.solid_model.specs.Lists.{Member}
-use Rattle.solid_model.specs.Panels.{GridParts, joined}
+use Rattle.solid_model.specs.Panels.{GridParts}
 use Rattle.solid_model.specs.GridBox.{grid_sizes, axis_along, axis_across}
 use Rattle.solid_model.proofs.Lists.{member-append, member-append_left, member-append_right, member-map, member-from_map}
-use Rattle.solid_model.proofs.Unions.{member-joined}
-
--- ---- numbers and lists of lists
-
--- n numbers from one on are those from it to before its n-th next one
-pub member-numbers : (a n k : ℕ) → a ≤ k → k < a + n → Member (range_with_len a n) k
-member-numbers a zero k from to = absurd (omega arith)
-member-numbers a (suc n) k from to = elim (cases_lt a k) as (λ _. Member (range_with_len a (suc n)) k) [
-  | inl later ↦ inr (member-numbers (a + 1) n k (omega arith) (omega arith))
-  | inr here ↦ inl (omega arith)
-]
-
-pub member-from_numbers : (a n k : ℕ) → Member (range_with_len a n) k → (a ≤ k) × (k < a + n)
-member-from_numbers a zero k m = absurd m
-member-from_numbers a (suc n) k (inl e) = (omega arith, omega arith)
-member-from_numbers a (suc n) k (inr m) = let l = member-from_numbers (a + 1) n k m in (omega (arith, l.0), omega (arith, l.1))
-
--- a member of lists together is one of some of them
-pub member-from_joined : {A : Type 0} (xss : List (List A)) (x : A) → Member (joined xss) x → (xs : List A) × Member xss xs × Member xs x
-member-from_joined [] x m = absurd m
-member-from_joined {A} (ys ∷ xss) x m = ⊎_elim {C = (xs : List A) × Member (ys ∷ xss) xs × Member xs x}
-    (λ h. (ys, inl refl, h)) (λ h. let k = member-from_joined xss x h in (k.0, inr k.1, k.2)) (member-append ys (joined xss) x m)
+use Rattle.solid_model.proofs.Concatenations.{member-flat_map, member-from_flat_map}
+use Rattle.solid_model.proofs.Ranges.{member-range, member-from_range}
 
 -- ---- lines
 
@@ -41,11 +21,10 @@ module _ (g : GridParts) where
       let parts = and_parts (nat_lt l.at (suc (grid_sizes g (axis_across l.view l.upright)))) (nat_lt l.cell (grid_sizes g (axis_along l.view l.upright))) has in
       let at = ltb-true l.at (suc (grid_sizes g (axis_across l.view l.upright))) parts.0 in
       let cell = ltb-true l.cell (grid_sizes g (axis_along l.view l.upright)) parts.1 in
-      member-joined (map (lines_at g l.view l.upright) (range_with_len 0 (suc (grid_sizes g (axis_across l.view l.upright))))) (lines_at g l.view l.upright l.at) l
-      (member-map (lines_at g l.view l.upright) (range_with_len 0 (suc (grid_sizes g (axis_across l.view l.upright)))) l.at
-      (member-numbers 0 (suc (grid_sizes g (axis_across l.view l.upright))) l.at (omega arith) (omega arith)))
+      member-flat_map (lines_at g l.view l.upright) (range_with_len 0 (suc (grid_sizes g (axis_across l.view l.upright)))) l.at l
+      (member-range (suc (grid_sizes g (axis_across l.view l.upright))) 0 l.at (omega arith) (omega arith))
       (member-map (λ cell. record { view = l.view; upright = l.upright; at = l.at; cell = cell }) (range_with_len 0 (grid_sizes g (axis_along l.view l.upright))) l.cell
-      (member-numbers 0 (grid_sizes g (axis_along l.view l.upright)) l.cell (omega arith) (omega arith)))
+      (member-range (grid_sizes g (axis_along l.view l.upright)) 0 l.cell (omega arith) (omega arith)))
 
   listed_in : (l : LineId) → IsTrue (has_line g l) → Member (lines_in g l.view) l
   listed_in l has = by l.upright (listed_along l has)
@@ -65,12 +44,10 @@ module _ (g : GridParts) where
 
   had_along : (v : View) (upright : Bool) (l : LineId) → Member (lines_along g v upright) l → IsTrue (has_line g l)
   had_along v upright l k =
-      let among = member-from_joined (map (lines_at g v upright) (range_with_len 0 (suc (grid_sizes g (axis_across v upright))))) l k in
-      let at = member-from_map (lines_at g v upright) (range_with_len 0 (suc (grid_sizes g (axis_across v upright)))) among.0 among.1 in
-      let cell = member-from_map (λ cell. record { view = v; upright = upright; at = at.0; cell = cell }) (range_with_len 0 (grid_sizes g (axis_along v upright))) l
-      (subst (λ xs. Member xs l) (sym at.2) among.2) in
-      let few = member-from_numbers 0 (suc (grid_sizes g (axis_across v upright))) at.0 at.1 in
-      let far = member-from_numbers 0 (grid_sizes g (axis_along v upright)) cell.0 cell.1 in
+      let at = member-from_flat_map (lines_at g v upright) (range_with_len 0 (suc (grid_sizes g (axis_across v upright)))) l k in
+      let cell = member-from_map (λ cell. record { view = v; upright = upright; at = at.0; cell = cell }) (range_with_len 0 (grid_sizes g (axis_along v upright))) l at.2 in
+      let few = member-from_range (suc (grid_sizes g (axis_across v upright))) 0 at.0 at.1 in
+      let far = member-from_range (grid_sizes g (axis_along v upright)) 0 cell.0 cell.1 in
       subst (λ (x : LineId). IsTrue (has_line g x)) cell.2
       (and_from (nat_lt at.0 (suc (grid_sizes g (axis_across v upright)))) (nat_lt cell.0 (grid_sizes g (axis_along v upright)))
       (lt-ltb at.0 (suc (grid_sizes g (axis_across v upright))) (omega (arith, few.1))) (lt-ltb cell.0 (grid_sizes g (axis_along v upright)) (omega (arith, far.1))))

@@ -1,5 +1,6 @@
 -- The styles of a view's segments are made from its columns, one by one.
 use Rattle.std.proofs.Common.{◌≡◌, Bool, true, false, ℕ, suc, ◌+◌, ◌-◌, ◌*◌, ◌/◌, ◌%◌, ◌<◌, ◌≤◌, List, [], ◌∷◌, ◌++◌, map, length, take, drop, get_or, ℤ, pos, refl, ap, ap₂, sym, subst, ◌∙◌, arith}
+use Rattle.std.specs.List.{flat_map}
 use Rattle.std.proofs.lemmas.List.{length-take, length-drop, length-map, ext_get_or, get_or-take, get_or-drop, get_or-map, take-append-drop}
 use Rattle.std.proofs.lemmas.Nat.{div-mul-add, mod-mul-add, mul-add-lt}
 use Rattle.std.proofs.Math.Nat.{mul_comm, suc-mul, zero-mul}
@@ -11,7 +12,7 @@ use Rattle.solid_model.specs.declared.segment.Style.TheVariants.{Blank}
 use Rattle.solid_model.specs.DrawnStyle.{solid_drawing}
 use Rattle.solid_model.specs.Frames.{frame_of, along, across}
 use Rattle.solid_model.specs.Grid.{gaps_along}
-use Rattle.solid_model.specs.Panels.{joined, starts_of}
+use Rattle.solid_model.specs.Panels.{starts_of}
 use Rattle.solid_model.specs.Segments.{segment_at}
 use Rattle.solid_model.specs.PerAxis.{gaps_of}
 use Rattle.columns.specs.declared.column.Column.{Column}
@@ -58,16 +59,16 @@ module _ (f : ℤ → ℤ → Style) (starts : List ℤ) where
   abbrev n : ℕ
   n = length starts
 
-  joined_from_places : (lines : List ℤ) (styles : List Style) → length styles ≡ length lines * n
+  styles_from_places : (lines : List ℤ) (styles : List Style) → length styles ≡ length lines * n
       → ((i j : ℕ) → i < n → j < length lines → get_or styles (j * n + i) Blank ≡ f (get_or lines j (pos 0)) (get_or starts i (pos 0)))
-      → styles ≡ joined (map (λ line. map (f line) starts) lines)
-  joined_from_places [] styles count at = none styles (count ∙ zero-mul n)
+      → styles ≡ flat_map (λ line. map (f line) starts) lines
+  styles_from_places [] styles count at = none styles (count ∙ zero-mul n)
     where
       none : (xs : List Style) → length xs ≡ 0 → xs ≡ []
       none [] e = refl
       none (x ∷ xs) e = absurd (omega arith)
-  joined_from_places (line ∷ lines) styles count at =
-      sym (take-append-drop n styles) ∙ ap₂ ◌++◌ first (joined_from_places lines (drop n styles) (omega (arith, length-drop n styles, longer)) rest)
+  styles_from_places (line ∷ lines) styles count at =
+      sym (take-append-drop n styles) ∙ ap₂ ◌++◌ first (styles_from_places lines (drop n styles) (omega (arith, length-drop n styles, longer)) rest)
     where
       longer : length styles ≡ length lines * n + n
       longer = count ∙ suc-mul (length lines) n
@@ -95,7 +96,7 @@ pub all_styles : (counts : Axis → ℕ) (chosen : List Bool) (v : View) (uprigh
     → width ≡ gaps_of counts (along (frame_of v) upright).axis → many ≡ counts (across (frame_of v) upright).axis * width
     → HoldsSoFar (IsStyleAt (frame_of v) (gaps_of counts) chosen upright width) styles many → AreStylesAlong counts chosen v upright styles
 all_styles counts chosen v upright styles width many wide whole so_far coordinates has s union =
-    joined_from_places (λ line start. solid_drawing s (segment_at v upright start line)) starts lines styles count at
+    styles_from_places (λ line start. solid_drawing s (segment_at v upright start line)) starts lines styles count at
   where
     f : Frame
     f = frame_of v

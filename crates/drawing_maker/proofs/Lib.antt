@@ -2,7 +2,6 @@ pub mod Drawn
 pub mod DrawnAcross
 pub mod MadeGrid
 pub mod MadeRows
-pub mod Members
 pub mod RowCoordinates
 pub mod RowDrawing
 pub mod RowStops

@@ -19,7 +19,7 @@ use Rattle.drawing_maker.specs.declared.stops.Stop.{Stop}
 use Rattle.drawing_maker.specs.Pieces.{Spot, side_of, is_void, row_cells}
 use Rattle.drawing_maker.specs.Rows.{row_stops, coordinates_of_stops}
 use Rattle.drawing_maker.proofs.DrawnAcross.{coordinate_between}
-use Rattle.drawing_maker.proofs.Members.{member-range}
+use Rattle.solid_model.proofs.Ranges.{member-range}
 use Rattle.drawing_maker.proofs.Rows.{IsRow, Spans, LiesInPart, scaled, part_spans}
 use Rattle.drawing_maker.proofs.RowStops.{stop_in_piece, stop_in_row}
 use Rattle.drawing_maker.proofs.Spots.{place_along, empty_beside, full_in_spot}

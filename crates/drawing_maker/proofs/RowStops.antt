@@ -1,5 +1,5 @@
 -- The stops of a row of pieces: they ascend, and what is kept before each lies in the gap that ends there.
-use Rattle.std.proofs.Common.{◌≡◌, ⊎_elim, inl, inr, ℕ, zero, suc, ◌+◌, ◌*◌, ◌<◌, ◌≤◌, List, [], ◌∷◌, ◌++◌, map, drop, get_or, Option, Some, None, ℤ, pos, ◌≤ℤ◌, ◌<ℤ◌, int_lt, int_le, IsTrue, refl, ap, sym, ◌∙◌, arith}
+use Rattle.std.proofs.Common.{◌≡◌, ⊎_elim, inl, inr, ℕ, zero, suc, ◌+◌, ◌*◌, ◌<◌, ◌≤◌, List, [], ◌∷◌, ◌++◌, map, drop, get_or, Option, Some, None, ℤ, pos, negsuc, ◌≤ℤ◌, ◌<ℤ◌, int_lt, int_le, IsTrue, refl, ap, sym, ◌∙◌, arith}
 use Rattle.std.specs.List.{range_with_len}
 use Rattle.std.proofs.lemmas.Bool.{false≢true, and_parts}
 use Rattle.std.proofs.lemmas.Int.{ints, by_lt_z}
@@ -12,7 +12,8 @@ use Rattle.drawing_maker.specs.declared.stops.Part.{Part}
 use Rattle.drawing_maker.specs.declared.stops.Stop.{Stop}
 use Rattle.drawing_maker.specs.Pieces.{side_of}
 use Rattle.drawing_maker.specs.Rows.{first_stop, stop_after, piece_stops, row_stops, coordinates_of_stops}
-use Rattle.drawing_maker.proofs.Members.{member-from_flat_map, member-from_range, ascends-range}
+use Rattle.solid_model.proofs.Concatenations.{member-from_flat_map}
+use Rattle.solid_model.proofs.Ranges.{member-from_range, ascends-range}
 use Rattle.drawing_maker.proofs.Rows.{end_of, EndsBefore, IsRow, row_behind, Spans, LiesInPart, scaled}
 
 -- ---- ascending stops
@@ -67,9 +68,18 @@ abbrev pub IsTold : List Piece → Option Part → ℤ → Type 0
 IsTold ps None z = (p : Piece) → Member ps p → Spans p z → ⊥
 IsTold ps (Some w) z = Member ps w.piece × (w.place < side_of w.piece.kind) × LiesInPart w.piece w.place z
 
+-- where there is no stop nothing lies before it
+abbrev pub no_stop : Stop
+no_stop = record { at = 0; before = None }
+
 -- what is kept before the stop that ends a gap
 abbrev pub before_at : List Stop → ℕ → Option Part
-before_at stops n = (get_or (drop 1 stops) n (record { at = 0; before = None })).before
+before_at stops n = (get_or (drop 1 stops) n no_stop).before
+
+-- what lies in the gap of a number
+abbrev pub part_at : List Piece → ℤ → Option Part
+part_at ps (pos k) = before_at (row_stops ps) k
+part_at ps (negsuc k) = None
 
 -- what is told by the pieces behind one holds with it too, where the coordinate doesn't lie in it
 told_behind : (p : Piece) (ps : List Piece) (part : Option Part) (z : ℤ) → (Spans p z → ⊥) → IsTold ps part z → IsTold (p ∷ ps) part z

@@ -13,15 +13,15 @@ use Rattle.solid_model.specs.Lists.{Member}
 use Rattle.solid_model.proofs.Gaps.{lies_in}
 use Rattle.solid_model.proofs.InGrid.{some_gap_or_outside}
 use Rattle.solid_model.proofs.Lists.{member-map}
-use Rattle.solid_model.proofs.Unions.{within_product}
 use Rattle.drawing_maker.specs.declared.piece.Kind.{Kind}
 use Rattle.drawing_maker.specs.declared.piece.Kind.TheVariants.{UnitCube, HollowCube, EightVoids}
 use Rattle.drawing_maker.specs.declared.piece.Piece.{Piece}
 use Rattle.drawing_maker.specs.declared.stops.Part.{Part}
 use Rattle.drawing_maker.specs.declared.stops.Stop.{Stop}
 use Rattle.drawing_maker.specs.Pieces.{side_of, is_void, row_cells}
-use Rattle.drawing_maker.specs.Rows.{first_stop, stop_after, piece_stops, row_stops, coordinates_of_stops, is_full_where, is_full_before, cells_in_line, cells_in_layer, cells_before}
-use Rattle.drawing_maker.proofs.Members.{member-flat_map, member-range, length-equal_parts, get_or-equal_parts}
+use Rattle.drawing_maker.specs.Rows.{first_stop, stop_after, piece_stops, row_stops, coordinates_of_stops, is_full_where, is_full_before, cells_before}
+use Rattle.solid_model.proofs.Concatenations.{member-flat_map, length-over_triples, get_or-over_triples}
+use Rattle.solid_model.proofs.Ranges.{member-range}
 use Rattle.drawing_maker.proofs.Rows.{end_of, IsRow, Spans, LiesInPart, part_spans, one_origin}
 use Rattle.drawing_maker.proofs.RowStops.{IsTold, before_at, ascends_row, told_in_gap}
 use Rattle.drawing_maker.proofs.Spots.{IsInside, LiesInSpot, filled_from_full, filled_spans, filled_by, full_in_spot}
@@ -31,22 +31,11 @@ use Rattle.drawing_maker.proofs.Spots.{IsInside, LiesInSpot, filled_from_full, f
 -- the cell before three stops
 pub cell_before_stops : (stops : List Stop) (i j k : ℕ) (d : Stop) → i < length stops → j < length stops → k < length stops
     → get_or (cells_before stops) ((k * length stops + j) * length stops + i) false ≡ is_full_before (get_or stops i d) (get_or stops j d) (get_or stops k d)
-cell_before_stops stops i j k d in_x in_y in_z =
-    let m = length stops in
-    let z = get_or stops k d in let y = get_or stops j d in
-    let there : (k * m + j) * m + i ≡ k * (m * m) + (j * m + i) = omega arith in
-    ap (λ n. get_or (cells_before stops) n false) there
-    ∙ get_or-equal_parts (cells_in_layer stops) (m * m) (λ w. layer w) stops k (j * m + i) false d in_z (within_product j m i m in_y in_x)
-    ∙ get_or-equal_parts (λ w. cells_in_line stops w z) m (λ w. length-map stops (λ x. is_full_before x w z)) stops j i false d in_y in_x
-    ∙ get_or-map (λ x. is_full_before x y z) stops i d false in_x
-  where
-    layer : (w : Stop) → length (cells_in_layer stops w) ≡ length stops * length stops
-    layer w = length-equal_parts (λ y. cells_in_line stops y w) (length stops) (λ y. length-map stops (λ x. is_full_before x y w)) stops
+cell_before_stops stops i j k d = get_or-over_triples is_full_before stops stops stops i j k d d d false
 
 -- how many they are
 pub length-cells_before : (stops : List Stop) → length (cells_before stops) ≡ length stops * (length stops * length stops)
-length-cells_before stops = length-equal_parts (cells_in_layer stops) (length stops * length stops)
-    (λ z. length-equal_parts (λ y. cells_in_line stops y z) (length stops) (λ y. length-map stops (λ x. is_full_before x y z)) stops) stops
+length-cells_before stops = length-over_triples is_full_before stops stops stops
 
 -- ---- full cells by what is told along each axis
 

@@ -13,7 +13,8 @@ use Rattle.solid_model.proofs.Integers.{natural}
 use Rattle.solid_model.proofs.Lists.{member-map, member-from_map, member-filter, member-from_filter}
 use Rattle.drawing_maker.specs.declared.piece.Piece.{Piece}
 use Rattle.drawing_maker.specs.Pieces.{Spot, spots_in, side_of, is_void, full_spots, enlarged, piece_cells, row_cells}
-use Rattle.drawing_maker.proofs.Members.{member-flat_map, member-from_flat_map, member-range, member-from_range}
+use Rattle.solid_model.proofs.Concatenations.{member-flat_map, member-from_flat_map}
+use Rattle.solid_model.proofs.Ranges.{member-range, member-from_range}
 use Rattle.drawing_maker.proofs.Rows.{IsRow, Spans, LiesInPart, part_spans, one_part, one_piece}
 
 -- ---- spots

@@ -7,38 +7,7 @@ use Rattle.solid_model.specs.declared.face.Out.TheVariants.{MinusX, PlusX, Minus
 use Rattle.solid_model.specs.Edges.{agree, is_edge_of, is_edge}
 use Rattle.solid_model.specs.Faces.{right_axis, up_axis, place, inner_cell, outer_cell, is_boundary}
 use Rattle.solid_model.specs.Rounds.{Spot, West, South, spot_after}
-
--- ---- the four cells round an edge, in other orders
-
-or_swap : (a b : Bool) → (a || b) ≡ (b || a)
-or_swap true true = refl
-or_swap true false = refl
-or_swap false true = refl
-or_swap false false = refl
-
-and_swap : (a b : Bool) → (a && b) ≡ (b && a)
-and_swap true true = refl
-and_swap true false = refl
-and_swap false true = refl
-and_swap false false = refl
-
-agree_swap : (a b : Bool) → agree a b ≡ agree b a
-agree_swap true true = refl
-agree_swap true false = refl
-agree_swap false true = refl
-agree_swap false false = refl
-
--- the other way across the one plane,
-across_one : (a b c d : Bool) → is_edge_of a b c d ≡ is_edge_of b a d c
-across_one a b c d = ap₂ (λ x y. not (x || y)) (and_swap (agree a c) (agree b d)) (ap₂ ◌&&◌ (agree_swap a b) (agree_swap c d))
-
--- across the other one,
-across_other : (a b c d : Bool) → is_edge_of a b c d ≡ is_edge_of c d a b
-across_other a b c d = ap₂ (λ x y. not (x || y)) (ap₂ ◌&&◌ (agree_swap a c) (agree_swap b d)) (and_swap (agree a b) (agree c d))
-
--- and with the two planes exchanged
-exchanged : (a b c d : Bool) → is_edge_of a b c d ≡ is_edge_of a c b d
-exchanged a b c d = ap not (or_swap (agree a c && agree b d) (agree a b && agree c d))
+use Rattle.solid_model.proofs.Views.{is_edge_of_turned, is_edge_of_flipped, is_edge_of_mirrored}
 
 -- ---- the edge between two squares
 
@@ -66,34 +35,34 @@ module _ (full : Cell → Bool) (at : ℤ) (q : Spot) where
   -- the edge below a square is between it and the one below
   edge_below : (out : Out) → is_edge full (right_axis out) (place out at q) ≡ between out below
   edge_below MinusX = refl
-  edge_below PlusX = exchanged (full (outer_cell PlusX at q)) (full (outer_cell PlusX at below)) (full (inner_cell PlusX at q))
+  edge_below PlusX = is_edge_of_turned (full (outer_cell PlusX at q)) (full (outer_cell PlusX at below)) (full (inner_cell PlusX at q))
       (full (inner_cell PlusX at below))
-      ∙ across_one (full (outer_cell PlusX at q)) (full (inner_cell PlusX at q)) (full (outer_cell PlusX at below))
+      ∙ is_edge_of_mirrored (full (outer_cell PlusX at q)) (full (inner_cell PlusX at q)) (full (outer_cell PlusX at below))
       (full (inner_cell PlusX at below))
   edge_below MinusY = refl
-  edge_below PlusY = exchanged (full (outer_cell PlusY at q)) (full (outer_cell PlusY at below)) (full (inner_cell PlusY at q))
+  edge_below PlusY = is_edge_of_turned (full (outer_cell PlusY at q)) (full (outer_cell PlusY at below)) (full (inner_cell PlusY at q))
       (full (inner_cell PlusY at below))
-      ∙ across_one (full (outer_cell PlusY at q)) (full (inner_cell PlusY at q)) (full (outer_cell PlusY at below))
+      ∙ is_edge_of_mirrored (full (outer_cell PlusY at q)) (full (inner_cell PlusY at q)) (full (outer_cell PlusY at below))
       (full (inner_cell PlusY at below))
   edge_below MinusZ = refl
-  edge_below PlusZ = exchanged (full (outer_cell PlusZ at q)) (full (outer_cell PlusZ at below)) (full (inner_cell PlusZ at q))
+  edge_below PlusZ = is_edge_of_turned (full (outer_cell PlusZ at q)) (full (outer_cell PlusZ at below)) (full (inner_cell PlusZ at q))
       (full (inner_cell PlusZ at below))
-      ∙ across_one (full (outer_cell PlusZ at q)) (full (inner_cell PlusZ at q)) (full (outer_cell PlusZ at below))
+      ∙ is_edge_of_mirrored (full (outer_cell PlusZ at q)) (full (inner_cell PlusZ at q)) (full (outer_cell PlusZ at below))
       (full (inner_cell PlusZ at below))
 
   -- and that on its left between it and the one before
   edge_before : (out : Out) → is_edge full (up_axis out) (place out at q) ≡ between out before
-  edge_before MinusX = exchanged (full (inner_cell MinusX at q)) (full (inner_cell MinusX at before))
+  edge_before MinusX = is_edge_of_turned (full (inner_cell MinusX at q)) (full (inner_cell MinusX at before))
       (full (outer_cell MinusX at q)) (full (outer_cell MinusX at before))
-  edge_before PlusX = across_one (full (outer_cell PlusX at q)) (full (inner_cell PlusX at q))
+  edge_before PlusX = is_edge_of_mirrored (full (outer_cell PlusX at q)) (full (inner_cell PlusX at q))
       (full (outer_cell PlusX at before)) (full (inner_cell PlusX at before))
-  edge_before MinusY = exchanged (full (inner_cell MinusY at q)) (full (inner_cell MinusY at before))
+  edge_before MinusY = is_edge_of_turned (full (inner_cell MinusY at q)) (full (inner_cell MinusY at before))
       (full (outer_cell MinusY at q)) (full (outer_cell MinusY at before))
-  edge_before PlusY = across_one (full (outer_cell PlusY at q)) (full (inner_cell PlusY at q))
+  edge_before PlusY = is_edge_of_mirrored (full (outer_cell PlusY at q)) (full (inner_cell PlusY at q))
       (full (outer_cell PlusY at before)) (full (inner_cell PlusY at before))
-  edge_before MinusZ = exchanged (full (inner_cell MinusZ at q)) (full (inner_cell MinusZ at before))
+  edge_before MinusZ = is_edge_of_turned (full (inner_cell MinusZ at q)) (full (inner_cell MinusZ at before))
       (full (outer_cell MinusZ at q)) (full (outer_cell MinusZ at before))
-  edge_before PlusZ = across_one (full (outer_cell PlusZ at q)) (full (inner_cell PlusZ at q))
+  edge_before PlusZ = is_edge_of_mirrored (full (outer_cell PlusZ at q)) (full (inner_cell PlusZ at q))
       (full (outer_cell PlusZ at before)) (full (inner_cell PlusZ at before))
 
   -- from the square, and from the other one
@@ -103,7 +72,7 @@ module _ (full : Cell → Bool) (at : ℤ) (q : Spot) where
 
   unless_this : (out : Out) (p : Spot) → IsTrue (is_boundary full out at p) → between out p ≡ not (is_boundary full out at q)
   unless_this out p is =
-      across_other (full (inner_cell out at q)) (full (outer_cell out at q)) (full (inner_cell out at p))
+      is_edge_of_flipped (full (inner_cell out at q)) (full (outer_cell out at q)) (full (inner_cell out at p))
       (full (outer_cell out at p))
       ∙ edge_unless (full (inner_cell out at p)) (full (outer_cell out at p)) (full (inner_cell out at q))
       (full (outer_cell out at q)) is

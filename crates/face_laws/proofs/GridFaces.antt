@@ -21,6 +21,7 @@ use Rattle.face_laws.proofs.GridLines.{LiesBetween, later_line}
 use Rattle.face_laws.proofs.GridTraces.{grid_round, ends_on_grid}
 use Rattle.face_laws.proofs.JoinedSides.{joined-back, round-joined}
 use Rattle.solid_model.proofs.Lists.{each-map, each-weaker, ascends-map, member-map}
+use Rattle.face_laws.proofs.OutwardSides.{one_out}
 use Rattle.face_laws.proofs.RoundStarts.{one_start}
 use Rattle.face_laws.proofs.SomeLoop.{some_round}
 
@@ -42,28 +43,6 @@ module _ (squares : Spot → Bool) (there : Spot → Cell) (p q : Spot) (chain :
     ordered = h.ordered;
     complete = λ loop is. h.complete loop (loop_to loop is);
   }
-
--- ---- outward sides by their numbers
-
-out_of : ℕ → Out
-out_of zero = MinusX
-out_of (suc zero) = PlusX
-out_of (suc (suc zero)) = MinusY
-out_of (suc (suc (suc zero))) = PlusY
-out_of (suc (suc (suc (suc zero)))) = MinusZ
-out_of (suc (suc (suc (suc (suc n))))) = PlusZ
-
-out_of-number : (o : Out) → out_of (out_number o) ≡ o
-unfolding out_of
-out_of-number MinusX = refl
-out_of-number PlusX = refl
-out_of-number MinusY = refl
-out_of-number PlusY = refl
-out_of-number MinusZ = refl
-out_of-number PlusZ = refl
-
-pub one_out : (o p : Out) → out_number o ≡ out_number p → o ≡ p
-one_out o p e = sym (out_of-number o) ∙ ap out_of e ∙ out_of-number p
 
 module _ (planes : Planes) (rises : (a : Axis) → Rises (planes a)) where
   abbrev point : Cell → Cell

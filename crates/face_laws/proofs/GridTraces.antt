@@ -23,7 +23,8 @@ module _ (squares : Spot → Bool) where
   sides-then zero b x = refl
   sides-then (suc a) b x = ap (λ ss. x ∷ ss) (sides-then a b (following squares x))
 
-  corners-append : (ss ts : List Side) → corners squares (ss ++ ts) ≡ corners squares ss ++ corners squares ts
+  -- the corners to which sides come, and those to which others come
+  pub corners-append : (ss ts : List Side) → corners squares (ss ++ ts) ≡ corners squares ss ++ corners squares ts
   corners-append [] ts = refl
   corners-append (s ∷ ss) ts = by (turns squares s) (corners-append ss ts)
     where

@@ -1,5 +1,6 @@
 pub mod Turns
 pub mod FaceLists
+pub mod OutwardSides
 pub mod SameSides
 pub mod SmallLoops
 pub mod SidesInOrder

@@ -8,10 +8,8 @@ use Rattle.solid_model.specs.Rounds.{Spot, Side, left_square, is_border, IsRound
 use Rattle.face_laws.proofs.FacePlaces.{place_keeps}
 use Rattle.face_laws.proofs.RoundStarts.{one_start}
 
--- the side is on a loop that is listed
-pub record IsListed (squares : Spot → Bool) (there : Spot → Cell) (loops : List (List Cell)) (r : Side) : Type 0 where
-  pub loop : List Cell
-  pub among : Member loops loop
+-- A loop of cells goes along a side of the border.
+pub record GoesAlong (squares : Spot → Bool) (there : Spot → Cell) (r : Side) (loop : List Cell) : Type 0 where
   pub start : Side
   pub length : ℕ
   pub is_round : IsRound squares start length
@@ -19,16 +17,20 @@ pub record IsListed (squares : Spot → Bool) (there : Spot → Cell) (loops : L
   pub begins : BeginsLeast loop
   pub on : Member (round_sides squares start length) r
 
+-- one that is listed does
+abbrev IsListed : (Spot → Bool) → (Spot → Cell) → List (List Cell) → Side → Type 0
+IsListed squares there loops r = (loop : List Cell) × Member loops loop × GoesAlong squares there r loop
+
 module _ (squares : Spot → Bool) (out : Out) (at : ℤ) (q : Spot) (loops : List (List Cell)) where
   -- all loops of the face are listed
   pub listed_complete :
       ((r : Side) → IsTrue (is_border squares r) → AreJoined squares q (left_square r) → IsListed squares (place out at) loops r)
       → (loop : List Cell) → IsLoopOf squares (place out at) q loop → Member loops loop
   listed_complete listed loop (s, n, is, joined, e, begins) =
-      let l = listed s is.border joined in
+      let (found, among, l) = listed s is.border joined in
       let one : (s ≡ l.start) × (n ≡ l.length) =
       one_start squares (place out at) (place_keeps out at) s l.start s n l.length is l.is_round
       (subst BeginsLeast e begins) (subst BeginsLeast l.is l.begins) (inl refl) l.on in
-      let same : l.loop ≡ loop =
+      let same : found ≡ loop =
       l.is ∙ ap₂ (λ (t : Side) (m : ℕ). map (place out at) (round_corners squares t m)) (sym one.0) (sym one.1) ∙ sym e in
-      subst (Member loops) same l.among
+      subst (Member loops) same among

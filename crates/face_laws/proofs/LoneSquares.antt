@@ -31,16 +31,18 @@ module _ (squares : Spot → Bool) (out : Out) (at : ℤ) (q : Spot) (only : (p 
   lone_loops loop e begins = record {
     each = ((side_of South q, 3, lone.is_round, lone.joined, e, begins), tt);
     ordered = (tt, tt);
-    complete = listed_complete squares out at q (loop ∷ []) (λ r border _. record {
-      loop = loop;
-      among = inl refl;
-      start = side_of South q;
-      length = 3;
-      is_round = lone.is_round;
-      is = e;
-      begins = begins;
-      on = subst (Member (round_sides squares (side_of South q) 3))
-          (ap (side_of r.heading) (sym (only (left_square r) (border_left squares r border))) ∙ side_of-own r)
-          ((Decides-is_among (round_sides squares (side_of South q) 3) (side_of r.heading q)).0 (lone.on r.heading));
-    });
+    complete = listed_complete squares out at q (loop ∷ []) (λ r border _. (
+      loop,
+      inl refl,
+      record {
+        start = side_of South q;
+        length = 3;
+        is_round = lone.is_round;
+        is = e;
+        begins = begins;
+        on = subst (Member (round_sides squares (side_of South q) 3))
+            (ap (side_of r.heading) (sym (only (left_square r) (border_left squares r border))) ∙ side_of-own r)
+            ((Decides-is_among (round_sides squares (side_of South q) 3) (side_of r.heading q)).0 (lone.on r.heading));
+      },
+    ));
   }

@@ -13,6 +13,7 @@ use Rattle.solid_model.proofs.Integers.{natural}
 use Rattle.face_laws.proofs.JoinedSides.{joined-back, round-joined}
 use Rattle.face_laws.proofs.LeastSides.{GoesDown, KeepsOrder, comes_down, one_down, corners_from}
 use Rattle.solid_model.proofs.Lists.{least_member}
+use Rattle.face_laws.proofs.ListedLoops.{GoesAlong}
 use Rattle.face_laws.proofs.RoundStarts.{begins_least_side, one_length}
 use Rattle.face_laws.proofs.SomeLoop.{side_of, some_round}
 use Rattle.face_laws.proofs.Turns.{same_spot, up_and_down}
@@ -23,15 +24,6 @@ starts_onward [] m n h k = absurd (false≢true h)
 starts_onward (b ∷ bs) [] n h k = absurd (false≢true h)
 starts_onward (b ∷ bs) (c ∷ cs) [] h k = absurd (false≢true k)
 starts_onward (b ∷ bs) (c ∷ cs) (d ∷ ds) h k = before_onward b c d h k
-
--- A loop of cells goes along a side of the border.
-pub record GoesAlong (squares : Spot → Bool) (there : Spot → Cell) (r : Side) (loop : List Cell) : Type 0 where
-  pub start : Side
-  pub length : ℕ
-  pub is_round : IsRound squares start length
-  pub is : loop ≡ map there (round_corners squares start length)
-  pub begins : BeginsLeast loop
-  pub on : Member (round_sides squares start length) r
 
 module _ (squares : Spot → Bool) (there : Spot → Cell) (keeps : KeepsOrder there) where
   -- ---- two loops

@@ -13,7 +13,7 @@ use Rattle.solid_model.specs.Rounds.{Spot, Heading, East, North, West, South, Si
 use Rattle.face_laws.specs.SmallFaces.{first_square, plate, pierced_plate, pierced_loops, twice_pierced_plate, twice_pierced_loops}
 use Rattle.face_laws.proofs.BoundarySquares.{inner_full, border_left}
 use Rattle.solid_model.proofs.CellOrder.{Decides-int_lt}
-use Rattle.face_laws.proofs.ListedLoops.{IsListed, listed_complete}
+use Rattle.face_laws.proofs.ListedLoops.{GoesAlong, listed_complete}
 use Rattle.face_laws.proofs.SameSides.{is_among, Decides-is_among}
 use Rattle.face_laws.proofs.SmallLoops.{side_at, round_is, second_joined}
 use Rattle.face_laws.proofs.SomeLoop.{side_of, side_of-own}
@@ -105,19 +105,9 @@ module _ (full : Cell → Bool) (wide : ℕ) (within : (c : Cell) → full c ≡
     ordered = ((starts, tt), (tt, tt));
     complete = listed_complete above PlusZ (pos 1) first_square (l ∷ k ∷ []) (λ r border _.
         elim (on_one (round_sides above s n) (round_sides above t m) all r border) as
-        (λ _. IsListed above (place PlusZ (pos 1)) (l ∷ k ∷ []) r) [
-          | inl on ↦ record { loop = l; among = inl refl; start = s; length = n; is_round = is; is = e; begins = begins; on = on }
-          | inr on ↦ record {
-            loop = k;
-            among = inr
-                (inl refl);
-            start = t;
-            length = m;
-            is_round = is_too;
-            is = f;
-            begins = begins_too;
-            on = on;
-          }
+        (λ _. (loop : List Cell) × Member (l ∷ k ∷ []) loop × GoesAlong above (place PlusZ (pos 1)) r loop) [
+          | inl on ↦ (l, inl refl, record { start = s; length = n; is_round = is; is = e; begins = begins; on = on })
+          | inr on ↦ (k, inr (inl refl), record { start = t; length = m; is_round = is_too; is = f; begins = begins_too; on = on })
         ]);
   }
 

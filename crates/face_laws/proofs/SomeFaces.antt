@@ -14,10 +14,11 @@ use Rattle.solid_model.proofs.CellOrder.{one_or_less}
 use Rattle.face_laws.proofs.FaceLists.{LiesFirst, Decides-is_face_before, one_list_of_loops}
 use Rattle.face_laws.proofs.FacePlaces.{place_keeps}
 use Rattle.solid_model.proofs.Fullness.{is_full-member}
-use Rattle.face_laws.proofs.GridFaces.{loops_from, one_out}
+use Rattle.face_laws.proofs.GridFaces.{loops_from}
+use Rattle.face_laws.proofs.OutwardSides.{one_out}
 use Rattle.face_laws.proofs.LeastSides.{KeepsOrder}
-use Rattle.face_laws.proofs.ListedLoops.{listed_complete}
-use Rattle.face_laws.proofs.LoopsInOrder.{starts_onward, GoesAlong, loops_in_order, side_loop, first_is_loop}
+use Rattle.face_laws.proofs.ListedLoops.{GoesAlong, listed_complete}
+use Rattle.face_laws.proofs.LoopsInOrder.{starts_onward, loops_in_order, side_loop, first_is_loop}
 use Rattle.face_laws.proofs.SomeList.{IsListFrom, some_list}
 use Rattle.face_laws.proofs.SomeLoop.{all_sides, border_member}
 use Rattle.face_laws.proofs.Turns.{down_and_up}
@@ -169,17 +170,7 @@ module _ (s : List Cell) where
           each = h.each;
           ordered = h.ordered;
           complete = listed_complete squares out at q loops (λ r border joined.
-              let (loop, among, along) = h.reached r (border_member squares spots finite r border) (border, joined) in
-              record {
-                loop = loop;
-                among = among;
-                start = along.start;
-                length = along.length;
-                is_round = along.is_round;
-                is = along.is;
-                begins = along.begins;
-                on = along.on;
-              });
+              h.reached r (border_member squares spots finite r border) (border, joined));
         }
 
     -- ---- two faces of one plane

@@ -10,6 +10,7 @@ use Rattle.faces.proofs.Sides.{end_of-side_to}
 use Rattle.rounds.specs.Succession.{first}
 use Rattle.solid_model.specs.Lists.{Each}
 use Rattle.solid_model.specs.Rounds.{Spot, Side, end_of, turns, corners}
+use Rattle.face_laws.proofs.GridTraces.{corners-append}
 
 -- one member more
 pub take_next : {A : Type 0} (xs : List A) (i : ℕ) (x : A) → i < length xs → take (i + 1) xs ≡ take i xs ++ get_or xs i x ∷ []
@@ -26,21 +27,10 @@ pub map-twice_next : {A B C : Type 0} (f : A → B) (g : B → C) (xs : List A) 
 map-twice_next f g xs i x l = ap (map g) (map-take_next f xs i x l) ∙ map-append g (map f (take i xs)) (f (get_or xs i x) ∷ [])
 
 module _ (squares : Spot → Bool) where
-  -- the corners to which sides come, and those to which others come
-  corners-append : (xs ys : List Side) → corners squares (xs ++ ys) ≡ corners squares xs ++ corners squares ys
-  corners-append [] ys = refl
-  corners-append (x ∷ xs) ys = by (turns squares x) (corners-append xs ys)
-    where
-      by : (b : Bool) → corners squares (xs ++ ys) ≡ corners squares xs ++ corners squares ys
-          → (if b then (end_of x ∷ corners squares (xs ++ ys)) else corners squares (xs ++ ys))
-          ≡ (if b then (end_of x ∷ corners squares xs) else corners squares xs) ++ corners squares ys
-      by true e = ap (λ ps. end_of x ∷ ps) e
-      by false e = e
-
   pub corners-next : (side : ℕ → Side) (round : List ℕ) (i : ℕ) → i < length round
       → corners squares (map side (take (i + 1) round)) ≡ corners squares (map side (take i round)) ++ corners squares (side (get_or round i 0) ∷ [])
   corners-next side round i l =
-      ap (corners squares) (map-take_next side round i 0 l) ∙ corners-append (map side (take i round)) (side (get_or round i 0) ∷ [])
+      ap (corners squares) (map-take_next side round i 0 l) ∙ corners-append squares (map side (take i round)) (side (get_or round i 0) ∷ [])
 
   -- a side more where the border turns, and one where it doesn't
   pub corner_here : (ps : List Spot) (s : BorderSide) (at : Side) → side_of s ≡ at → turns squares (side_of s) ≡ true

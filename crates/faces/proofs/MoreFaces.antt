@@ -14,30 +14,10 @@ use Rattle.solid_model.specs.PerAxis.{numbers_of}
 use Rattle.solid_model.specs.Rounds.{Spot}
 use Rattle.solid_model.proofs.CellOrder.{Decides-int_lt}
 use Rattle.solid_model.proofs.Lists.{each-at, each-from, each-append, each-weaker, ascends-append, member-append_left, member-append_right}
+use Rattle.face_laws.proofs.OutwardSides.{one_out, out_number-below}
 use Rattle.faces.specs.FacesSoFar.{IsEarlierPlane, AreFacesBefore}
 use Rattle.faces.specs.PlaneFaces.{AreFacesInPlane}
 use Rattle.faces.proofs.PlaneBoundary.{boundary_over}
-
--- ---- outward sides by their numbers
-
-abbrev out_of : ℕ → Out
-out_of zero = MinusX
-out_of (suc zero) = PlusX
-out_of (suc (suc zero)) = MinusY
-out_of (suc (suc (suc zero))) = PlusY
-out_of (suc (suc (suc (suc zero)))) = MinusZ
-out_of (suc (suc (suc (suc (suc n))))) = PlusZ
-
-own_number : (out : Out) → (out_of (out_number out) ≡ out) × (out_number out < 6)
-own_number MinusX = (refl, omega arith)
-own_number PlusX = (refl, omega arith)
-own_number MinusY = (refl, omega arith)
-own_number PlusY = (refl, omega arith)
-own_number MinusZ = (refl, omega arith)
-own_number PlusZ = (refl, omega arith)
-
-one_out : (o p : Out) → out_number o ≡ out_number p → o ≡ p
-one_out o p e = sym (own_number o).0 ∙ ap out_of e ∙ (own_number p).0
 
 -- ---- faces in earlier planes come before others
 
@@ -152,5 +132,5 @@ module _ (m : BoxMarks) where
     each = each-weaker (λ f. IsEarlierPlane 6 0 f.out f.at × ((q : Spot) × IsFaceAt (is_marked m) q f)) (λ f. (q : Spot) × IsFaceAt (is_marked m) q f)
         faces (λ f p. p.1) so_far.each;
     ordered = so_far.ordered;
-    complete = λ out at q is. so_far.complete out at q (inl (own_number out).1) is;
+    complete = λ out at q is. so_far.complete out at q (inl (out_number-below out)) is;
   }

@@ -9,7 +9,7 @@ use Rattle.solid_model.proofs.BoxCells.{below-bounds}
 use Rattle.solid_model.proofs.Lists.{member-map}
 use Rattle.solid_model.proofs.BoxPlaces.{IsNumber, number_below, below_number}
 use Rattle.face_laws.proofs.Turns.{same_spot}
-use Rattle.solid_model.proofs.Unions.{within_product}
+use Rattle.solid_model.proofs.Concatenations.{within_product}
 use Rattle.faces.specs.PlaneSquares.{SquareTable, is_in_table, square_place, is_there}
 use Rattle.faces.specs.SquareSteps.{square_count, square_at_place}
 

@@ -1,21 +1,17 @@
 -- The styles of a view's grid segments, line by line.
 use Rattle.std.proofs.Common.{◌≡◌, Bool, true, false, List, [], ◌∷◌, ◌++◌, map, ℤ, refl, sym, ap, ◌∙◌, append_assoc}
+use Rattle.std.specs.List.{flat_map}
 use Rattle.std.proofs.lemmas.List.{append-nil}
 use Rattle.solid_model.specs.declared.frame.View.{View}
 use Rattle.solid_model.specs.declared.segment.Style.{Style}
 use Rattle.solid_model.specs.Frames.{frame_of, along, across}
 use Rattle.solid_model.specs.Grid.{Coordinates}
-use Rattle.solid_model.specs.Panels.{joined, starts_of, grid_styles}
+use Rattle.solid_model.specs.Panels.{starts_of, grid_styles}
 use Rattle.solid_model.specs.Runs.{run_style, DrawingRuns, view_runs, runs_along, style_in}
-
--- one more list at the end
-pub joined-push : {A : Type 0} (xss : List (List A)) (xs : List A) → joined (xss ++ xs ∷ []) ≡ joined xss ++ xs
-joined-push [] xs = append-nil xs
-joined-push (ys ∷ xss) xs = ap (λ zs. ys ++ zs) (joined-push xss xs) ∙ sym (append_assoc ys (joined xss) xs)
 
 -- the styles that runs give the unit lengths which begin at these places on the lines
 abbrev pub styles_by : List ℤ → List ℤ → (ℤ → ℤ → Style) → List Style
-styles_by lines starts style = joined (map (λ line. map (style line) starts) lines)
+styles_by lines starts style = flat_map (λ line. map (style line) starts) lines
 
 -- a grid's styles are those that the view's runs give
 pub grid_styles-runs : (d : DrawingRuns) (coordinates : Coordinates) (v : View) (upright : Bool)

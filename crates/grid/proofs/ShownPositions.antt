@@ -17,7 +17,7 @@ use Rattle.solid_model.specs.Runs.{run_covers, run_style, IsRun, AreRuns, Drawin
 use Rattle.solid_model.specs.Segments.{segment_at}
 use Rattle.solid_model.proofs.InGrid.{blank_or_drawn}
 use Rattle.solid_model.proofs.Lists.{each-at, member-append, member-append_left, member-append_right, member-push, member-push_last, member-map, member-from_map}
-use Rattle.solid_model.proofs.RunStyles.{covers_parts, covers_from, covering_run, run_stretch}
+use Rattle.solid_model.proofs.RunStyles.{covers_parts, covers_from, covering_run, run_stretch, in_runs}
 use Rattle.solid_model.proofs.Sheets.{same_style-one}
 use Rattle.grid.specs.Positions.{ends_of, lines_of, ShowsByKind, ShowsInView, ShowsInSomeView}
 
@@ -93,12 +93,6 @@ module _ (rs : List Run) (runs : AreRuns rs) where
       is.1 (sym (run_style-covered r k r.at r.from (covers_from r r.from (omega (arith, ints)) is.0)) ∙ blank)
 
 -- ---- what a view shows
-
--- a drawing gives a segment the style of the unit length of a run's line
-in_runs : (d : DrawingRuns) (v : View) (upright : Bool) (start line : ℤ)
-    → style_in d (segment_at v upright start line) ≡ run_style (runs_along upright (view_runs v d)) line start
-in_runs d v true start line = refl
-in_runs d v false start line = refl
 
 module _ (d : DrawingRuns) (v : View) (upright : Bool) (own : AreRuns (runs_along upright (view_runs v d))) (other : AreRuns (runs_along (not upright) (view_runs v d))) where
   -- the runs that run along, and those across

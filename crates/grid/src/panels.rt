@@ -1,8 +1,9 @@
 //! The styles of a grid's segments.
 
 ghost use Rattle.std.specs.Prelude.{◌≡◌, ◌≤◌, ◌++◌, Bool, true, false, length, map, IfOk};
+ghost use Rattle.std.specs.List.{flat_map};
 ghost use Rattle.std.specs.List.Sorted.{IsPartitionPoint};
-ghost use Rattle.solid_model.specs.Panels.{joined, styles_along, grid_styles, AreGridStyles};
+ghost use Rattle.solid_model.specs.Panels.{styles_along, grid_styles, AreGridStyles};
 ghost use Rattle.solid_model.specs.Runs.{AreRuns, run_covers, run_style, style_in};
 ghost use Rattle.grid.specs.AxisCoordinates.{coordinates_in};
 ghost use Rattle.grid.specs.Positions.{begins_by};
@@ -72,7 +73,7 @@ fn styles_on(
     starts: &[i64],
 ) -> Result<Vec<Style>, AllocError>
     ensures { IfOk result (λ styles.
-        styles.items ≡ joined (map (λ line. map (run_style runs.now line) starts.now) lines.now)) }
+        styles.items ≡ flat_map (λ line. map (run_style runs.now line) starts.now) lines.now) }
 {
     let mut styles = Vec::new(alloc);
     for line in lines {

@@ -21,7 +21,7 @@ use Rattle.made_laws.proofs.DemandedCells.{first_not_empty, voids_not_full}
 use Rattle.made_laws.proofs.DemandedColumns.{IsProblemOf}
 use Rattle.made_laws.proofs.DemandedPieces.{SpotColumn, spot_in, column_blocks, void_columns, says_full, allowed_values, rule_of, passes, all_images_pass, places_in, no_void_in, last_is_solid, each_void_column}
 use Rattle.made_laws.proofs.DemandedPlaces.{around}
-use Rattle.drawing_maker.proofs.Members.{member-range}
+use Rattle.solid_model.proofs.Ranges.{member-range}
 use Rattle.drawing_maker.proofs.RowUnion.{has_side}
 use Rattle.made_laws.proofs.Parts.{Fits, all_sizes, live_in_parts, whole_in_parts}
 

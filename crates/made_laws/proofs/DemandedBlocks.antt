@@ -13,38 +13,25 @@ use Rattle.solid_model.specs.Lists.{Each}
 use Rattle.solid_model.specs.PerAxis.{numbers_of}
 use Rattle.solid_model.specs.Rooms.{is_below, place_of_number, is_below}
 use Rattle.solid_model.proofs.Lists.{each-at, each-weaker, member-append_right}
-use Rattle.solid_model.proofs.Unions.{within_product}
 use Rattle.drawing_maker.specs.declared.piece.Piece.{Piece}
 use Rattle.drawing_maker.specs.declared.stops.Part.{Part}
 use Rattle.drawing_maker.specs.declared.stops.Stop.{Stop}
 use Rattle.drawing_maker.specs.Pieces.{Spot}
 use Rattle.made_laws.specs.RowBlocks.{block_count, spot_block, blocks_before, row_block_count, part_block, block_where, blocks_in_row}
 use Rattle.drawing_maker.specs.Rows.{row_stops}
-use Rattle.made_laws.proofs.DemandedPlaces.{no_stop, part_on, IsOff}
-use Rattle.drawing_maker.proofs.Members.{length-equal_parts, get_or-equal_parts}
+use Rattle.made_laws.proofs.DemandedPlaces.{IsOff}
+use Rattle.drawing_maker.proofs.RowStops.{no_stop, part_at}
+use Rattle.solid_model.proofs.Concatenations.{get_or-over_triples}
 use Rattle.drawing_maker.proofs.Rows.{IsRow, row_behind, EndsBefore}
 
 -- ---- the list of all cells' blocks
 
 module _ (ps : List Piece) (stops : List Stop) where
-  abbrev blocks_in_line : Stop → Stop → List (Option ℕ)
-  blocks_in_line z y = map (λ (x : Stop). block_where ps x.before y.before z.before) stops
-
   -- the block of the cell before three stops
   block_before_stops : (i j k : ℕ) → i < length stops → j < length stops → k < length stops
       → get_or (blocks_in_row ps stops) ((k * length stops + j) * length stops + i) None
       ≡ block_where ps (get_or stops i no_stop).before (get_or stops j no_stop).before (get_or stops k no_stop).before
-  block_before_stops i j k in_x in_y in_z =
-      let m = length stops in
-      let z = get_or stops k no_stop in let y = get_or stops j no_stop in
-      let there : (k * m + j) * m + i ≡ k * (m * m) + (j * m + i) = omega arith in
-      ap (λ n. get_or (blocks_in_row ps stops) n None) there
-      ∙ get_or-equal_parts (λ w. flat_map (blocks_in_line w) stops) (m * m) layer stops k (j * m + i) None no_stop in_z (within_product j m i m in_y in_x)
-      ∙ get_or-equal_parts (blocks_in_line z) m (λ w. length-map stops (λ (x : Stop). block_where ps x.before w.before z.before)) stops j i None no_stop in_y in_x
-      ∙ get_or-map (λ (x : Stop). block_where ps x.before y.before z.before) stops i no_stop None in_x
-    where
-      layer : (w : Stop) → length (flat_map (blocks_in_line w) stops) ≡ length stops * length stops
-      layer w = length-equal_parts (blocks_in_line w) (length stops) (λ y. length-map stops (λ (x : Stop). block_where ps x.before y.before w.before)) stops
+  block_before_stops i j k = get_or-over_triples (λ (x y z : Stop). block_where ps x.before y.before z.before) stops stops stops i j k no_stop no_stop no_stop None
 
 -- ---- the block of any cell
 
@@ -52,7 +39,7 @@ module _ (ps : List Piece) (b : BlockNumbers) (sized : (a : Axis) → numbers_of
     (numbers : b.numbers ≡ blocks_in_row ps (drop 1 (row_stops ps))) where
   -- what is told of it along the three axes
   abbrev pub block_told : Cell → Option ℕ
-  block_told c = block_where ps (part_on ps c.x) (part_on ps c.y) (part_on ps c.z)
+  block_told c = block_where ps (part_at ps c.x) (part_at ps c.y) (part_at ps c.z)
 
   abbrev own_stops : List Stop
   own_stops = drop 1 (row_stops ps)
@@ -63,7 +50,7 @@ module _ (ps : List Piece) (b : BlockNumbers) (sized : (a : Axis) → numbers_of
   none_beyond (s ∷ stops) zero l = absurd (omega arith)
   none_beyond (s ∷ stops) (suc n) l = none_beyond stops n (omega arith)
 
-  none_off : (z : ℤ) → is_below (length own_stops) z ≡ false → part_on ps z ≡ None
+  none_off : (z : ℤ) → is_below (length own_stops) z ≡ false → part_at ps z ≡ None
   none_off (pos n) off = none_beyond own_stops n (ltb-false n (length own_stops) off)
   none_off (negsuc n) off = refl
 
@@ -79,7 +66,7 @@ module _ (ps : List Piece) (b : BlockNumbers) (sized : (a : Axis) → numbers_of
   -- where a cell lies, the list has what is told
   within_told : (x y z : ℤ) → is_below (length own_stops) x ≡ true → is_below (length own_stops) y ≡ true → is_below (length own_stops) z ≡ true
       → get_or (blocks_in_row ps own_stops) ((place_of_number z * length own_stops + place_of_number y) * length own_stops + place_of_number x) None
-      ≡ block_where ps (part_on ps x) (part_on ps y) (part_on ps z)
+      ≡ block_where ps (part_at ps x) (part_at ps y) (part_at ps z)
   within_told (pos i) (pos j) (pos k) in_x in_y in_z =
       block_before_stops ps own_stops i j k (ltb-true i (length own_stops) in_x) (ltb-true j (length own_stops) in_y) (ltb-true k (length own_stops) in_z)
   within_told (negsuc i) y z in_x in_y in_z = absurd (false≢true in_x)
@@ -100,13 +87,13 @@ module _ (ps : List Piece) (b : BlockNumbers) (sized : (a : Axis) → numbers_of
       by true true true e f g = (λ t. if e t && (f t && g t) then listed else None) ∙ within_told c.x c.y c.z e f g
       by false q r e f g =
           (λ t. if e t && (is_below (length own_stops) c.y && is_below (length own_stops) c.z) then listed else None)
-          ∙ sym (λ t. block_where ps (none_off c.x e t) (part_on ps c.y) (part_on ps c.z))
+          ∙ sym (λ t. block_where ps (none_off c.x e t) (part_at ps c.y) (part_at ps c.z))
       by true false r e f g =
           (λ t. if e t && (f t && is_below (length own_stops) c.z) then listed else None)
-          ∙ sym ((λ t. block_where ps (part_on ps c.x) (none_off c.y f t) (part_on ps c.z)) ∙ none_along_y (part_on ps c.x) (part_on ps c.z))
+          ∙ sym ((λ t. block_where ps (part_at ps c.x) (none_off c.y f t) (part_at ps c.z)) ∙ none_along_y (part_at ps c.x) (part_at ps c.z))
       by true true false e f g =
           (λ t. if e t && (f t && g t) then listed else None)
-          ∙ sym ((λ t. block_where ps (part_on ps c.x) (part_on ps c.y) (none_off c.z g t)) ∙ none_along_z (part_on ps c.x) (part_on ps c.y))
+          ∙ sym ((λ t. block_where ps (part_at ps c.x) (part_at ps c.y) (none_off c.z g t)) ∙ none_along_z (part_at ps c.x) (part_at ps c.y))
 
 -- ---- the blocks of one piece
 

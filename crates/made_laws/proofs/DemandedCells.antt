@@ -25,9 +25,10 @@ use Rattle.drawing_maker.specs.Rows.{row_stops}
 use Rattle.made_laws.proofs.DemandedColumns.{IsProblemOf, right_axis, up_axis, away_axis, by_view, Says, says_by_spots, says_off, known_equal, sizes_are}
 use Rattle.made_laws.proofs.DemandedLines.{not_known_equal}
 use Rattle.made_laws.proofs.DemandedPieces.{spot_in}
-use Rattle.made_laws.proofs.DemandedPlaces.{around, is_member, stops_before, part_on, IsOff, coordinate_here, long_enough, none_behind}
+use Rattle.made_laws.proofs.DemandedPlaces.{around, is_member, stops_before, IsOff, coordinate_here, long_enough, none_behind}
 use Rattle.drawing_maker.proofs.Rows.{Spans, LiesInPart, part_spans}
 use Rattle.drawing_maker.proofs.Spots.{full_in_spot, empty_beside}
+use Rattle.drawing_maker.proofs.RowStops.{part_at}
 
 -- a spot that is no void is of the first block
 first_block : (kind : Kind) (c : Spot) → is_void kind c ≡ false → spot_block kind c ≡ 0
@@ -147,7 +148,7 @@ module _ (before : List Piece) (p : Piece) (behind : List Piece) (q : ProblemPar
     first_not_empty last none said =
         let few : 0 < side_of p.kind = omega arith in
         let full = unit_full (line -ℤ pos 1) up 0 in_up few before_line ∙ ap not (none 0 few) in
-        let off : part_on row_around (pos line_place) ≡ None = ap (λ n. part_on row_around (pos (stops_before before p behind + n))) last ∙ none_behind before p behind in
+        let off : part_at row_around (pos line_place) ≡ None = ap (λ n. part_at row_around (pos (stops_before before p behind + n))) last ∙ none_behind before p behind in
         apart 0 (λ e. both_ways (is_full solid (unit_cell line 0)) (empty_beyond last 0) (e ∙ full)) false
         (says_off before p behind q is v right in_right (said_by prefix) (pos line_place) (subst (IsOff p) (sym off) tt))
         (says_by_spots before p behind q is v right in_right (said_by prefix) up false in_up (λ m l. says_first up m false said (none m l)))

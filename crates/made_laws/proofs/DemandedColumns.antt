@@ -24,9 +24,10 @@ use Rattle.drawing_maker.specs.Rows.{row_stops, coordinates_of_stops}
 use Rattle.made_laws.proofs.DemandedBlocks.{block_is_told, block_of_spot, no_block_between, blocks_before_are}
 use Rattle.made_laws.proofs.DemandedLines.{AreKnownEqual}
 use Rattle.made_laws.proofs.DemandedPieces.{spot_in}
-use Rattle.made_laws.proofs.DemandedPlaces.{around, is_member, stops_before, part_on, part_here, IsOff, part_or_off}
+use Rattle.made_laws.proofs.DemandedPlaces.{around, is_member, stops_before, part_here, IsOff, part_or_off}
 use Rattle.drawing_maker.proofs.Rows.{IsRow}
 use Rattle.drawing_maker.proofs.Spots.{place_along}
+use Rattle.drawing_maker.proofs.RowStops.{part_at}
 
 -- ---- the problem of a row
 
@@ -46,7 +47,7 @@ module _ (ps : List Piece) (q : ProblemParts) (is : IsProblemOf ps q) where
 
   -- what the row holds along each axis where a cell lies
   abbrev pub held : Cell → Axis → Option Part
-  held c a = part_on ps (coordinate a c)
+  held c a = part_at ps (coordinate a c)
 
   pub block_held : (c : Cell) → block_at q.blocks c ≡ block_where ps (held c X) (held c Y) (held c Z)
   block_held = block_is_told ps q.blocks (λ a. is.blocks.sized a ∙ sizes_are a) is.numbers
@@ -113,32 +114,32 @@ module _ (before : List Piece) (p : Piece) (behind : List Piece) (q : ProblemPar
   part_of place = record { piece = p; place = place }
 
   held_right : (j k : ℤ) → held row_around q is (column_cell j k) (right_axis v) ≡ Some (part_of right)
-  held_right j k = ap (part_on row_around) (column_at_is j k).first ∙ part_here before p behind right in_piece
+  held_right j k = ap (part_at row_around) (column_at_is j k).first ∙ part_here before p behind right in_piece
 
   -- how many blocks stand before the piece
   abbrev pub offset : ℕ
   offset = row_block_count before
 
   -- where it lies in the piece along all axes, it is a block of the piece
-  block_in_piece : (j k : ℤ) (up m : ℕ) → part_on row_around j ≡ Some (part_of up) → part_on row_around (depth k) ≡ Some (part_of m)
+  block_in_piece : (j k : ℤ) (up m : ℕ) → part_at row_around j ≡ Some (part_of up) → part_at row_around (depth k) ≡ Some (part_of m)
       → block_at q.blocks (column_cell j k) ≡ Some (offset + spot_block p.kind (spot_in v right up m))
   block_in_piece j k up m at_up at_depth =
       let parts = by_view (λ a place. held row_around q is (column_cell j k) a ≡ Some (part_of place)) v right up m (held_right j k)
-      (ap (part_on row_around) (column_at_is j k).second ∙ at_up) (ap (part_on row_around) (column_at_is j k).third ∙ at_depth) in
+      (ap (part_at row_around) (column_at_is j k).second ∙ at_up) (ap (part_at row_around) (column_at_is j k).third ∙ at_depth) in
       block_held row_around q is (column_cell j k)
       ∙ block_of_spot row_around p (spot_in v right up m) _ _ _ (parts X) (parts Y) (parts Z)
       ∙ ap (λ n. Some (n + spot_block p.kind (spot_in v right up m))) (blocks_before_are before p behind is.row)
 
   -- where it lies off the piece upwards, or in depth, it has none
-  no_block_up : (j k : ℤ) → IsOff p (part_on row_around j) → block_at q.blocks (column_cell j k) ≡ None
+  no_block_up : (j k : ℤ) → IsOff p (part_at row_around j) → block_at q.blocks (column_cell j k) ≡ None
   no_block_up j k off = block_held row_around q is (column_cell j k)
       ∙ no_block_between row_around p (held row_around q is (column_cell j k)) (right_axis v) (up_axis v) right (held_right j k)
-      (subst (λ z. IsOff p (part_on row_around z)) (sym (column_at_is j k).second) off)
+      (subst (λ z. IsOff p (part_at row_around z)) (sym (column_at_is j k).second) off)
 
-  no_block_away : (j k : ℤ) → IsOff p (part_on row_around (depth k)) → block_at q.blocks (column_cell j k) ≡ None
+  no_block_away : (j k : ℤ) → IsOff p (part_at row_around (depth k)) → block_at q.blocks (column_cell j k) ≡ None
   no_block_away j k off = block_held row_around q is (column_cell j k)
       ∙ no_block_between row_around p (held row_around q is (column_cell j k)) (right_axis v) (away_axis v) right (held_right j k)
-      (subst (λ z. IsOff p (part_on row_around z)) (sym (column_at_is j k).third) off)
+      (subst (λ z. IsOff p (part_at row_around z)) (sym (column_at_is j k).third) off)
 
   -- ---- what is known of it
 
@@ -149,7 +150,7 @@ module _ (before : List Piece) (p : Piece) (behind : List Piece) (q : ProblemPar
 
     -- in all its parts that lie in the piece it is known to have a value
     abbrev pub Says : ℤ → Bool → Type 0
-    Says j value = (k : ℤ) (m : ℕ) → m < side_of p.kind → part_on row_around (depth k) ≡ Some (part_of m) → known_there j k ≡ Some value
+    Says j value = (k : ℤ) (m : ℕ) → m < side_of p.kind → part_at row_around (depth k) ≡ Some (part_of m) → known_there j k ≡ Some value
 
     -- by the blocks of its spots,
     pub says_by_spots : (up : ℕ) (value : Bool) → up < side_of p.kind
@@ -159,7 +160,7 @@ module _ (before : List Piece) (p : Piece) (behind : List Piece) (q : ProblemPar
         ap (known_in known) (block_in_piece (pos (stops_before before p behind + up)) k up m (part_here before p behind up l) at) ∙ each m few
 
     -- or since it stands off the piece
-    pub says_off : (j : ℤ) → IsOff p (part_on row_around j) → Says j false
+    pub says_off : (j : ℤ) → IsOff p (part_at row_around j) → Says j false
     says_off j off k m few at = ap (known_in known) (no_block_up j k off)
 
     -- Two columns with one value are known to be equal: elsewhere they are empty.

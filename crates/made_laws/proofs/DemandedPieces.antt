@@ -11,7 +11,7 @@ use Rattle.drawing_maker.specs.declared.piece.Kind.TheVariants.{UnitCube, Hollow
 use Rattle.drawing_maker.specs.declared.piece.Piece.{Piece}
 use Rattle.drawing_maker.specs.Pieces.{Spot, side_of, is_void}
 use Rattle.made_laws.specs.RowBlocks.{block_count, spot_block}
-use Rattle.drawing_maker.proofs.Members.{member-range}
+use Rattle.solid_model.proofs.Ranges.{member-range}
 use Rattle.made_laws.proofs.Parts.{PartRule, passing}
 
 -- ---- columns of spots

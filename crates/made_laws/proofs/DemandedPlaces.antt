@@ -13,18 +13,9 @@ use Rattle.drawing_maker.specs.declared.stops.Part.{Part}
 use Rattle.drawing_maker.specs.declared.stops.Stop.{Stop}
 use Rattle.drawing_maker.specs.Pieces.{side_of}
 use Rattle.drawing_maker.specs.Rows.{first_stop, stop_after, piece_stops, row_stops, coordinates_of_stops}
-use Rattle.drawing_maker.proofs.Members.{member-from_range}
+use Rattle.solid_model.proofs.Ranges.{member-from_range}
 use Rattle.drawing_maker.proofs.Rows.{IsRow, one_origin}
-use Rattle.drawing_maker.proofs.RowStops.{before_at, stop_in_row}
-
--- where there is no stop nothing lies before it
-abbrev pub no_stop : Stop
-no_stop = record { at = 0; before = None }
-
--- what a row holds in the gap of this number
-abbrev pub part_on : List Piece → ℤ → Option Part
-part_on ps (pos n) = before_at (row_stops ps) n
-part_on ps (negsuc n) = None
+use Rattle.drawing_maker.proofs.RowStops.{no_stop, before_at, part_at, stop_in_row}
 
 before_next : (stops : List Stop) (n : ℕ) → before_at stops n ≡ (get_or stops (1 + n) no_stop).before
 before_next stops n = ap (λ (s : Stop). s.before) (get_or_after_one stops n no_stop)
@@ -77,7 +68,7 @@ module _ (before : List Piece) (p : Piece) (behind : List Piece) where
       ∙ ap (stop_after p) (get_or-range (side_of p.kind) 0 j l ∙ omega arith)
 
   -- the gap of each of its places holds that part,
-  pub part_here : (j : ℕ) → j < side_of p.kind → part_on around (pos (stops_before + j)) ≡ Some (record { piece = p; place = j })
+  pub part_here : (j : ℕ) → j < side_of p.kind → part_at around (pos (stops_before + j)) ≡ Some (record { piece = p; place = j })
   part_here j l =
       let there : 1 + (stops_before + j) ≡ stops_before + suc j = omega arith in
       before_next (row_stops around) (stops_before + j)
@@ -85,7 +76,7 @@ module _ (before : List Piece) (p : Piece) (behind : List Piece) where
       ∙ ap (λ (s : Stop). s.before) (stop_from (suc j) ∙ own_stop j l)
 
   -- and the one behind it holds nothing
-  pub none_behind : part_on around (pos (stops_before + side_of p.kind)) ≡ None
+  pub none_behind : part_at around (pos (stops_before + side_of p.kind)) ≡ None
   none_behind =
       let range = range_with_len 0 (side_of p.kind) in
       let there : 1 + (stops_before + side_of p.kind) ≡ stops_before + suc (length (map (stop_after p) range) + 0) =
@@ -131,7 +122,7 @@ stop_holds_part ps s k = let (p, m, l) = stop_in_row ps s k in by p m l
         let r = member-from_range (side_of p.kind) 0 from.0 from.1 in
         subst (λ (t : Stop). IsPartOf ps t.before) from.2 (m, omega (arith, r.1))
 
-some_part : (ps : List Piece) (z : ℤ) → IsPartOf ps (part_on ps z)
+some_part : (ps : List Piece) (z : ℤ) → IsPartOf ps (part_at ps z)
 some_part ps (pos n) = subst (IsPartOf ps) (sym (before_next (row_stops ps) n))
     (each_get_or (λ s. IsPartOf ps s.before) (row_stops ps) (1 + n) no_stop (each-from (λ s. IsPartOf ps s.before) (row_stops ps) (stop_holds_part ps)) tt)
 some_part ps (negsuc n) = tt
@@ -148,8 +139,8 @@ pub record HoldsPart (p : Piece) (part : Option Part) : Type 0 where
   pub is : part ≡ Some (record { piece = p; place = place })
 
 -- each gap holds a part of a piece of the row, or none of it
-pub part_or_off : (ps : List Piece) → IsRow ps → (p : Piece) → Member ps p → (z : ℤ) → HoldsPart p (part_on ps z) ⊎ IsOff p (part_on ps z)
-part_or_off ps row p k z = by (part_on ps z) (some_part ps z)
+pub part_or_off : (ps : List Piece) → IsRow ps → (p : Piece) → Member ps p → (z : ℤ) → HoldsPart p (part_at ps z) ⊎ IsOff p (part_at ps z)
+part_or_off ps row p k z = by (part_at ps z) (some_part ps z)
   where
     by : (part : Option Part) → IsPartOf ps part → HoldsPart p part ⊎ IsOff p part
     by None of = inr tt

@@ -21,4 +21,3 @@ pub mod RowSpots
 pub mod RowSteps
 pub mod SomeMadeGrid
 pub mod SpotNumbers
-pub mod Triples

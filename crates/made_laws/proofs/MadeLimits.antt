@@ -34,6 +34,7 @@ use Rattle.solid_model.specs.GridBox.{grid_sizes}
 use Rattle.solid_model.proofs.BlockChoices.{all_solids_of_blocks}
 use Rattle.solid_model.proofs.CompleteTree.{complete_tree}
 use Rattle.solid_model.proofs.SolidOrder.{one_list_of_solids}
+use Rattle.solid_model.proofs.SolidsOfChoices.{as_many}
 
 -- ---- blocks
 
@@ -77,14 +78,6 @@ module _ (n : ℕ) (p : ProblemParts) (grid : IsGridOf (solid_drawing (made_soli
   few_made_choices = few_solids n p is_problem
 
 -- ---- solids
-
--- choices fill as many solids
-as_many : (coordinates : Coordinates) (numbers : List (Option ℕ)) (count : ℕ) (choices : List (List Bool)) (solids : List (List Cell))
-    → AreSolidsOfChoices coordinates numbers count choices solids → length choices ≡ length solids
-as_many coordinates numbers count [] [] filled = refl
-as_many coordinates numbers count [] (s ∷ solids) filled = absurd filled
-as_many coordinates numbers count (choice ∷ choices) [] filled = absurd filled
-as_many coordinates numbers count (choice ∷ choices) (s ∷ solids) filled = ap suc (as_many coordinates numbers count choices solids filled.2)
 
 -- the problem of a made drawing
 abbrev pub made_problem : ℕ → ProblemParts

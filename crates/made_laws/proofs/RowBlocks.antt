@@ -25,15 +25,16 @@ use Rattle.drawing_maker.specs.Pieces.{Spot, side_of, row_cells}
 use Rattle.made_laws.specs.RowBlocks.{block_count, spot_block, blocks_before, row_block_count, block_where, blocks_in_row}
 use Rattle.drawing_maker.specs.Rows.{row_stops, coordinates_of_stops}
 use Rattle.drawing_maker.proofs.Rows.{IsRow}
+use Rattle.drawing_maker.proofs.RowStops.{no_stop, part_at}
 use Rattle.made_laws.proofs.RowGrid.{piece_within, off_outside}
 use Rattle.made_laws.proofs.RowJoined.{full_joined}
 use Rattle.made_laws.proofs.RowOutside.{off_is_outside}
-use Rattle.made_laws.proofs.RowPlaces.{first_place, stop_count, part_at, ends_before, ends_within, BelongsTo, belongs_to, blocks-sum_before, blocks-sum_all}
+use Rattle.made_laws.proofs.RowPlaces.{first_place, stop_count, ends_before, ends_within, BelongsTo, belongs_to, blocks-sum_before, blocks-sum_all}
 use Rattle.made_laws.proofs.RowSpots.{Covers, place_in, place_is, place_less, one_or_apart, IsIn, spot_in, IsOff, in_or_off, block_of, block_of_is, block_in, block_off}
 use Rattle.made_laws.proofs.RowSteps.{chain_keeps}
 use Rattle.drawing_maker.proofs.RowUnion.{gaps_are}
 use Rattle.drawing_maker.proofs.Spots.{IsInside}
-use Rattle.made_laws.proofs.Triples.{length-over_triples, get_or-over_triples}
+use Rattle.solid_model.proofs.Concatenations.{length-over_triples, get_or-over_triples}
 use Rattle.made_laws.proofs.SpotNumbers.{SpotBefore, block_below, one_or_full, IsFirstOf, first_of_block}
 
 module _ (ps : List Piece) (row : IsRow ps) (g : GridParts) (same : (a : Axis) → coordinates_of g a ≡ coordinates_of_stops (row_stops ps))
@@ -59,7 +60,7 @@ module _ (ps : List Piece) (row : IsRow ps) (g : GridParts) (same : (a : Axis) �
           let i = at.x.number in let j = at.y.number in let k = at.z.number in
           (λ t. number_at (grid_sizes g) blocks (record { x = at.x.is t; y = at.y.is t; z = at.z.is t }))
           ∙ (λ t. get_or blocks ((k * sizes_are Y t + j) * sizes_are X t + i) None)
-          ∙ get_or-over_triples before_three stops_behind i j k (record { at = 0; before = None }) None
+          ∙ get_or-over_triples before_three stops_behind stops_behind stops_behind i j k no_stop no_stop no_stop None
           (let l = at.x.less in omega (arith, l, sizes_are X)) (let l = at.y.less in omega (arith, l, sizes_are Y)) (let l = at.z.less in omega (arith, l, sizes_are Z))
           ∙ sym (λ t. block_where ps (part_at ps (at.x.is t)) (part_at ps (at.y.is t)) (part_at ps (at.z.is t)))
           ∙ sym (block_of_is ps row n)
@@ -241,7 +242,7 @@ module _ (ps : List Piece) (row : IsRow ps) (g : GridParts) (same : (a : Axis) �
   -- The blocks of the grid are those of the row.
   pub row_blocks : AreBlocksOf g (blocks_in_row ps (drop 1 (row_stops ps))) (row_block_count ps)
   row_blocks = record {
-    listed = length-over_triples before_three stops_behind ∙ omega arith ∙ sym (λ t. sizes_are Z t * sizes_are Y t * sizes_are X t);
+    listed = length-over_triples before_three stops_behind stops_behind stops_behind ∙ omega arith ∙ sym (λ t. sizes_are Z t * sizes_are Y t * sizes_are X t);
     outside = outside_both;
     joined = joined_both;
     below = below_count;

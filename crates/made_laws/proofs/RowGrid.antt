@@ -36,9 +36,8 @@ use Rattle.drawing_maker.specs.declared.stops.Stop.{Stop}
 use Rattle.drawing_maker.specs.Pieces.{row_cells}
 use Rattle.drawing_maker.specs.Rows.{row_stops, coordinates_of_stops}
 use Rattle.drawing_maker.proofs.Rows.{IsRow}
-use Rattle.made_laws.proofs.RowPlaces.{part_at}
 use Rattle.made_laws.proofs.RowSpots.{Covers, IsIn, IsOff, in_or_off, full_at, full_at_is, full_off, part_of_covered}
-use Rattle.drawing_maker.proofs.RowStops.{IsTold, ascends_row, told_in_gap}
+use Rattle.drawing_maker.proofs.RowStops.{IsTold, ascends_row, told_in_gap, part_at}
 use Rattle.drawing_maker.proofs.RowUnion.{full_where_told, in_gap_of_row}
 
 module _ (ps : List Piece) (row : IsRow ps) where

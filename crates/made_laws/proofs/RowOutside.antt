@@ -24,8 +24,9 @@ use Rattle.drawing_maker.specs.Pieces.{side_of, row_cells}
 use Rattle.drawing_maker.specs.Rows.{row_stops, coordinates_of_stops}
 use Rattle.made_laws.proofs.BoxLines.{some_greater, out_down, out_up}
 use Rattle.drawing_maker.proofs.Rows.{IsRow}
+use Rattle.drawing_maker.proofs.RowStops.{part_at}
 use Rattle.made_laws.proofs.RowGrid.{undrawn}
-use Rattle.made_laws.proofs.RowPlaces.{first_place, part_at}
+use Rattle.made_laws.proofs.RowPlaces.{first_place}
 use Rattle.made_laws.proofs.RowSpots.{Covers, covered_or_none, one_covers, IsOff, Apart, in_or_off, full_at, full_off}
 
 -- ---- edges that aren't drawn

@@ -17,7 +17,7 @@ use Rattle.drawing_maker.specs.Pieces.{side_of}
 use Rattle.made_laws.specs.RowBlocks.{block_count, blocks_before, row_block_count}
 use Rattle.drawing_maker.specs.Rows.{stop_after, row_stops}
 use Rattle.drawing_maker.proofs.Rows.{EndsBefore, IsRow, row_behind}
-use Rattle.drawing_maker.proofs.RowStops.{before_at}
+use Rattle.drawing_maker.proofs.RowStops.{before_at, part_at, no_stop}
 
 -- ---- sums over the pieces that begin before a coordinate
 
@@ -121,14 +121,6 @@ stop_count kind = suc (side_of kind)
 -- the number of a piece's first part
 abbrev pub first_place : List Piece → Piece → ℕ
 first_place ps p = sum_before stop_count ps p.origin
-
--- what lies in the gap of a number
-abbrev pub part_at : List Piece → ℤ → Option Part
-part_at ps (pos k) = before_at (row_stops ps) k
-part_at ps (negsuc k) = None
-
-abbrev no_stop : Stop
-no_stop = record { at = 0; before = None }
 
 module _ (q : Piece) (ps : List Piece) where
   abbrev own_stops : List Stop

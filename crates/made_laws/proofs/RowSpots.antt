@@ -21,7 +21,8 @@ use Rattle.drawing_maker.specs.Pieces.{Spot, side_of, is_odd_place, is_void}
 use Rattle.made_laws.specs.RowBlocks.{spot_block, blocks_before, block_where}
 use Rattle.drawing_maker.specs.Rows.{is_full_where}
 use Rattle.drawing_maker.proofs.Rows.{EndsBefore, IsRow, one_origin}
-use Rattle.made_laws.proofs.RowPlaces.{stop_count, first_place, part_at, part_there, which_part, ends_before}
+use Rattle.drawing_maker.proofs.RowStops.{part_at}
+use Rattle.made_laws.proofs.RowPlaces.{stop_count, first_place, part_there, which_part, ends_before}
 
 -- ---- voids by their places
 

@@ -9,7 +9,8 @@ use Rattle.recon_run.specs.declared.status.Found.TheVariants.{Ended, Faulty}
 use Rattle.recon_run.specs.Answers.{HasProblem, first_volume}
 use Rattle.recon_run.specs.Endings.{Redraws}
 use Rattle.recon_run.specs.Findings.{IsFinding, TellsSolid, TellsRedrawn, TellsRedrawing, first_choice_volume}
-use Rattle.recon_run.proofs.Solved.{Fill, IsStated, IsWholeListing, as_many, listed_solids, listing, whole_listing}
+use Rattle.recon_run.proofs.Solved.{Fill, IsStated, IsWholeListing, listed_solids, listing, whole_listing}
+use Rattle.solid_model.proofs.SolidsOfChoices.{as_many}
 use Rattle.report.specs.Texts.{no_solid_text}
 use Rattle.solid_model.specs.declared.cell.Cell.{Cell}
 use Rattle.solid_model.specs.declared.ended.EndKind.{EndKind}

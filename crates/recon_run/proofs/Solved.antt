@@ -28,15 +28,8 @@ use Rattle.solid_model.proofs.BlockChoices.{all_solids_of_blocks, some_solids_of
 use Rattle.solid_model.proofs.CompleteTree.{complete_tree}
 use Rattle.solid_model.proofs.Lists.{each-at, each-weaker}
 use Rattle.face_laws.proofs.SomeFaces.{some_faces}
+use Rattle.solid_model.proofs.SolidsOfChoices.{as_many}
 use Rattle.solid_model.proofs.Volumes.{volume_counts}
-
--- choices fill as many solids
-pub as_many : (coordinates : Coordinates) (numbers : List (Option ℕ)) (count : ℕ) (choices : List (List Bool)) (solids : List (List Cell))
-    → AreSolidsOfChoices coordinates numbers count choices solids → length choices ≡ length solids
-as_many coordinates numbers count [] [] filled = refl
-as_many coordinates numbers count [] (s ∷ solids) filled = absurd filled
-as_many coordinates numbers count (choice ∷ choices) [] filled = absurd filled
-as_many coordinates numbers count (choice ∷ choices) (s ∷ solids) filled = ap suc (as_many coordinates numbers count choices solids filled.2)
 
 module _ (limits : SearchLimits) (t : List ℕ) (p : ProblemParts) (has : HasProblem t p) where
   abbrev pub drawing : Segment → Style

@@ -11,7 +11,8 @@ use Rattle.recon_run.specs.Answers.{HasNoFault, HasProblem, IsTried, default_lim
 use Rattle.recon_run.specs.Findings.{figures_text}
 use Rattle.recon_run.proofs.Faults.{no_fault}
 use Rattle.recon_run.proofs.Redrawn.{first_counts}
-use Rattle.recon_run.proofs.Solved.{as_many, whole_listing}
+use Rattle.recon_run.proofs.Solved.{whole_listing}
+use Rattle.solid_model.proofs.SolidsOfChoices.{as_many}
 use Rattle.report.specs.Texts.{trial_text}
 use Rattle.solid_model.specs.declared.ended.EndKind.{EndKind}
 use Rattle.solid_model.specs.declared.ended.EndKind.TheVariants.{Whole, CutNodes, CutSolids}

@@ -16,7 +16,7 @@ use Rattle.solid_model.specs.Frames.{frame_of, along, across}
 use Rattle.solid_model.specs.Grid.{Coordinates, is_in_gap, IsUnionOf}
 use Rattle.solid_model.specs.Limits.{farthest_in_view}
 use Rattle.solid_model.specs.Lists.{Member, Each, Ascends}
-use Rattle.solid_model.specs.Panels.{joined, starts_of, PanelsStyles, panel_of, styles_along, AreGridStyles, GridParts, coordinates_of, IsGrid}
+use Rattle.solid_model.specs.Panels.{starts_of, PanelsStyles, panel_of, styles_along, AreGridStyles, GridParts, coordinates_of, IsGrid}
 use Rattle.solid_model.proofs.OnGrid.{StaysOnGrid}
 use Rattle.solid_model.specs.Runs.{run_style, IsRun, DrawingRuns, view_runs, runs_along, style_in}
 use Rattle.solid_model.specs.Segments.{segment_at}
@@ -27,6 +27,7 @@ use Rattle.solid_model.proofs.GridStyle.{style_on_grid, grid_style-drawing}
 use Rattle.solid_model.proofs.InGrid.{gap_or_none, between_members}
 use Rattle.solid_model.proofs.ListPlaces.{member-place}
 use Rattle.solid_model.proofs.Lists.{each-at, each-from}
+use Rattle.solid_model.proofs.Concatenations.{length-equal_parts}
 use Rattle.solid_model.proofs.SameOnGrid.{member_or_not}
 use Rattle.solid_model.proofs.SomeGrid.{coordinate_near}
 use Rattle.solid_model.proofs.UnionDrawing.{union_on_grid}
@@ -38,20 +39,13 @@ use Rattle.redraw.proofs.LastRuns.{run_style-drawn}
 
 -- ---- how many styles there are
 
--- lists of one length, together
-length-joined : {A : Type 0} (f : ℤ → List A) (m : ℕ) → ((x : ℤ) → length (f x) ≡ m) → (xs : List ℤ) → length (joined (map f xs)) ≡ length xs * m
-length-joined f m long [] = omega arith
-length-joined f m long (x ∷ xs) =
-    let rest = length-joined f m long xs in
-    length-append (f x) (joined (map f xs)) ∙ ap₂ ◌+◌ (long x) rest ∙ omega arith
-
 -- a grid's segments of a view and kind: so many in each line
 pub drawn_count : (drawing : Segment → Style) (coordinates : Coordinates) (panels : PanelsStyles) → AreGridStyles drawing coordinates panels → (v : View) (upright : Bool)
     → length (styles_along upright (panel_of v panels))
     ≡ length (coordinates (across (frame_of v) upright).axis) * (length (coordinates (along (frame_of v) upright).axis) - 1)
 drawn_count drawing coordinates panels styles v upright =
     let starts = starts_of (coordinates (along (frame_of v) upright).axis) in
-    ap length (styles v upright) ∙ length-joined (λ line. map (λ start. drawing (segment_at v upright start line)) starts) _
+    ap length (styles v upright) ∙ length-equal_parts (λ line. map (λ start. drawing (segment_at v upright start line)) starts) _
     (λ line. length-map starts (λ start. drawing (segment_at v upright start line)) ∙ length-starts_of (coordinates (along (frame_of v) upright).axis))
     (coordinates (across (frame_of v) upright).axis)
 

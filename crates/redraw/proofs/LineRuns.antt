@@ -9,19 +9,12 @@ use Rattle.solid_model.specs.declared.segment.Style.TheVariants.{Blank}
 use Rattle.solid_model.specs.Grid.{is_in_gap, IsInSomeGap}
 use Rattle.solid_model.specs.Lists.{Member, Each, Ascends}
 use Rattle.solid_model.specs.Runs.{run_style, StandsApart, AreRuns}
-use Rattle.solid_model.proofs.Gaps.{member, lies_in, earlier_less}
+use Rattle.solid_model.proofs.Gaps.{member, lies_in, earlier_less, earlier_at_most}
 use Rattle.solid_model.proofs.InGrid.{some_gap_or_outside}
 use Rattle.solid_model.proofs.ListPlaces.{member-at}
 use Rattle.solid_model.proofs.Lists.{each-at, each-weaker, each-push, member-push}
 use Rattle.redraw.specs.GridRuns.{cell_style, IsStretchEnd, IsWithLine}
 use Rattle.redraw.proofs.LastRuns.{run_style-uncovered, blank_past, runs_push, push-elsewhere, push-covered, apart_later}
-
--- of two members of an ascending list the earlier one is at most the later one
-earlier_at_most : (zs : List ℤ) → Ascends ◌<ℤ◌ zs → (m n : ℕ) → m ≤ n → n < length zs → member zs m ≤ℤ member zs n
-earlier_at_most zs ascends m n l within = elim (cases_lt m n) as (λ _. member zs m ≤ℤ member zs n) [
-  | inl less ↦ (let h = earlier_less zs ascends m n less within in omega (arith, ints))
-  | inr same ↦ (let e : m ≡ n = omega arith in subst (λ x. member zs m ≤ℤ member zs x) e (omega (arith, ints)))
-]
 
 -- the cells of a line from one up to but without another, as a run
 abbrev pub stretch : ℤ → List ℤ → List Style → ℕ → ℕ → Run

@@ -12,18 +12,12 @@ use Rattle.solid_model.specs.Matching.{Matches}
 use Rattle.solid_model.specs.Runs.{run_style, DrawingRuns, view_runs, runs_along, style_in}
 use Rattle.solid_model.specs.Segments.{segment_at}
 use Rattle.solid_model.proofs.GridMatching.{matching_draws_it}
-use Rattle.solid_model.proofs.RunStyles.{same_styles_one_list}
+use Rattle.solid_model.proofs.RunStyles.{same_styles_one_list, in_runs}
 use Rattle.solid_model.proofs.Styles.{one_style, same_drawing, drawn_style_drawn}
 use Rattle.solid_model.proofs.Views.{views_are_frames}
 use Rattle.redraw.specs.Files.{AreRunsOf, IsFileOf, sheet_lines}
 use Rattle.redraw.specs.Plain.{plain_file}
 use Rattle.redraw.proofs.FarEnds.{one_farthest, far_end-is_farthest_line}
-
--- a drawing gives a segment the style of the unit length of a run's line
-pub in_runs : (d : DrawingRuns) (v : View) (upright : Bool) (start line : ℤ)
-    → style_in d (segment_at v upright start line) ≡ run_style (runs_along upright (view_runs v d)) line start
-in_runs d v true start line = refl
-in_runs d v false start line = refl
 
 -- two drawings that are the same everywhere have the same runs
 one_drawing_runs : (drawing other : Segment → Style) → ((g : Segment) → drawing g ≡ other g) → (d e : DrawingRuns) → AreRunsOf drawing d → AreRunsOf other e → d ≡ e

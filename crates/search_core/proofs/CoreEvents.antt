@@ -1,16 +1,16 @@
 -- What a state of a search conserves: the start does, and each event keeps it.
 use Rattle.std.proofs.Common.{◌≡◌, ◌≢◌, Bool, true, false, ℕ, ◌+◌, ◌≤◌, ◌<◌, nat_lt, List, [], ◌∷◌, ◌++◌, length, map, sum, Some, IsPermutation, if◌then◌else◌, refl, sym, ◌∙◌, ap, subst, append-nil, length-append, length-take, arith}
+use Rattle.std.specs.List.{flat_map}
 use Rattle.std.proofs.lemmas.Bool.{ltb-false}
 use Rattle.std.proofs.lemmas.Bool.Decides.{Decides-ltb}
 use Rattle.std.proofs.lemmas.List.{map-append, take_all, length-take-le}
 use Rattle.std.proofs.lemmas.List.Sorted.{IsPermutation-refl, IsPermutation-trans, length_permutation, IsPermutation-sym}
 use Rattle.std.proofs.lemmas.List.Sums.{sum_by-cons}
+use Rattle.std.proofs.lemmas.Grind.{flat_map-append}
 use Rattle.solid_model.specs.declared.ended.EndKind.TheVariants.{Whole, CutNodes, CutSolids}
 use Rattle.solid_model.specs.Lists.{Member}
-use Rattle.solid_model.specs.Panels.{joined}
 use Rattle.solid_model.specs.Search.{SearchLimits}
 use Rattle.solid_model.specs.Tree.{Word, IsAllowed, live_count, live_below}
-use Rattle.solid_model.proofs.AllowedReports.{joined_append}
 use Rattle.solid_model.proofs.Lists.{each-from, ascends-append_left, member-append_left}
 use Rattle.solid_model.proofs.PrefixTree.{live_count_none, live_below_none}
 use Rattle.search_core.specs.Conserves.{IsClosed, IsWholeTree, EndsRightly, IsConserved}
@@ -30,7 +30,7 @@ module _ (live : Word) (n : ℕ) where
 
   -- the choices below them
   abbrev choices_of : List (List Bool) → List (List Bool)
-  choices_of prefixes = joined (map (live_below live n) prefixes)
+  choices_of prefixes = flat_map (live_below live n) prefixes
 
   -- those of two lists are counted one after the other
   count_of-append : (ps qs : List (List Bool)) → count_of (ps ++ qs) ≡ count_of ps + count_of qs
@@ -38,7 +38,7 @@ module _ (live : Word) (n : ℕ) where
 
   -- and so for the choices
   choices_of-append : (ps qs : List (List Bool)) → choices_of (ps ++ qs) ≡ choices_of ps ++ choices_of qs
-  choices_of-append ps qs = ap joined (map-append (live_below live n) ps qs) ∙ joined_append (map (live_below live n) ps) (map (live_below live n) qs)
+  choices_of-append = flat_map-append (live_below live n)
 
   -- where both limits are kept the search goes on, or nothing is left to be expanded and it is whole
   ends_within : (limits : SearchLimits) (c : Core) (frontier : List (List Bool)) → c.frontier ≡ frontier → IsWholeTree live n c → c.opened ≤ limits.nodes

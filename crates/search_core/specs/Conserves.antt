@@ -1,9 +1,9 @@
 -- What a search conserves: no live prefix and no choice is lost, and none counts twice.
 use Rattle.std.specs.Prelude.{◌≡◌, ◌≢◌, ◌≤◌, ◌<◌, ◌+◌, Bool, ℕ, List, [], ◌++◌, length, map, sum, Option, Some, None, IsPermutation, IsTrue}
+use Rattle.std.specs.List.{flat_map}
 use Rattle.solid_model.specs.declared.ended.EndKind.{EndKind}
 use Rattle.solid_model.specs.declared.ended.EndKind.TheVariants.{Whole, CutNodes, CutSolids}
 use Rattle.solid_model.specs.Lists.{Member, Each, Ascends}
-use Rattle.solid_model.specs.Panels.{joined}
 use Rattle.solid_model.specs.Search.{SearchLimits}
 use Rattle.solid_model.specs.Tree.{Word, live_count, live_below}
 use Rattle.search_core.specs.Core.{Core}
@@ -16,7 +16,7 @@ IsClosed live = (prefix rest : List Bool) → IsTrue (live (prefix ++ rest)) →
 -- found and those below the frontier
 pub record IsWholeTree (live : Word) (n : ℕ) (c : Core) : Type 0 where
   pub counted : live_count live n [] ≡ c.opened + sum (map (live_count live n) c.frontier)
-  pub shared : IsPermutation (live_below live n []) (c.found ++ joined (map (live_below live n) c.frontier))
+  pub shared : IsPermutation (live_below live n []) (c.found ++ flat_map (live_below live n) c.frontier)
 
 -- What holds at an end, or before it. Before it, at a cut at nodes and at a whole search the tree is kept; a whole search has
 -- found all and opened all; at a cut its limit is passed.

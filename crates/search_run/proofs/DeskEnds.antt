@@ -11,6 +11,7 @@ use Rattle.solid_model.specs.Lists.{Member, Each, Ascends}
 use Rattle.solid_model.specs.Search.{SearchLimits}
 use Rattle.solid_model.specs.SearchEnds.{AreSomeOf, EndsAs}
 use Rattle.solid_model.specs.Tree.{Word, live_from, is_whole, live_below}
+use Rattle.solid_model.proofs.ComparedChoices.{precedes_one_way}
 use Rattle.solid_model.proofs.Lists.{each-at, each-from, member-from_filter, same_ascending}
 use Rattle.search_core.specs.Conserves.{IsClosed, EndsRightly, IsConserved}
 use Rattle.search_core.specs.Core.{Core}
@@ -18,15 +19,6 @@ use Rattle.search_core.specs.Desk.{DeskParts, IsDesk}
 use Rattle.search_core.proofs.Desks.{desk_conserved}
 use Rattle.search_core.proofs.Lists.{member-permutation}
 use Rattle.search_tree.proofs.SearchEnds.{some_found}
-
--- of two choices at most one precedes the other
-one_way : (xs ys : List Bool) → ChoicePrecedes xs ys → ChoicePrecedes ys xs → ⊥
-one_way [] ys h k = h
-one_way (x ∷ xs) [] h k = h
-one_way (x ∷ xs) (y ∷ ys) (inl (full, empty)) (inl (other, none)) = both_ways x none full
-one_way (x ∷ xs) (y ∷ ys) (inl (full, empty)) (inr (same, rest)) = both_ways y empty (same ∙ full)
-one_way (x ∷ xs) (y ∷ ys) (inr (same, rest)) (inl (full, empty)) = both_ways x empty (same ∙ full)
-one_way (x ∷ xs) (y ∷ ys) (inr (same, h)) (inr (other, k)) = one_way xs ys h k
 
 module _ (live : Word) (n : ℕ) where
   -- all choices are in the stated order
@@ -57,7 +49,7 @@ module _ (live : Word) (n : ℕ) where
         omega (arith, all, few),
         omega (arith, length_permutation (live_below live n []) c.found shared, kept.few),
         all,
-        same_ascending ChoicePrecedes one_way sorted (live_below live n []) ordered all_ascend
+        same_ascending ChoicePrecedes precedes_one_way sorted (live_below live n []) ordered all_ascend
             (λ x k. each-at (Member (live_below live n [])) sorted x some.listed k)
             (λ x k. member-permutation c.found sorted x moved (member-permutation (live_below live n []) c.found x shared k)),
       )

@@ -1,13 +1,15 @@
 -- What is left where a walk stands, and what is next to the opened prefixes.
 use Rattle.std.proofs.Common.{◌≡◌, ◌⊎◌, inl, inr, ⊎_elim, Bool, true, false, ℕ, zero, suc, ◌-◌, ◌<◌, ◌≤◌, List, [], ◌∷◌, ◌++◌, length, take, drop, filter, map, cond, IsTrue, refl, sym, ◌∙◌, ap, ap₂, subst, append-nil, append_assoc, length-append, take-append-drop, arith}
+use Rattle.std.specs.List.{flat_map}
 use Rattle.std.proofs.lemmas.List.{take-append-le, drop-append-le, take_at, map-append}
 use Rattle.std.proofs.lemmas.List.Elements.{filter-append}
 use Rattle.std.proofs.lemmas.Bool.{cases_lt, false_from_ne_true}
+use Rattle.std.proofs.lemmas.Grind.{flat_map-append}
 use Rattle.solid_model.proofs.PrefixTree.{BeginsWith, live_from_none, live_from_more, live_from_whole, live_from_begins}
 use Rattle.solid_model.specs.Lists.{Member, Each, Ascends}
-use Rattle.solid_model.specs.Panels.{joined}
 use Rattle.solid_model.specs.Tree.{Word, extensions, live_from, is_next_to, opened_of, rest_of}
-use Rattle.solid_model.proofs.AllowedReports.{filter_none, joined_append, last_of, next_there, next_of}
+use Rattle.solid_model.proofs.Concatenations.{member-flat_map}
+use Rattle.solid_model.proofs.AllowedReports.{filter_none, last_of, next_there, next_of}
 use Rattle.solid_model.proofs.Lists.{each-at, each-from, each-append, each-weaker, each-filter, member-append, member-append_left, member-append_right, member-push_last, member-filter, ascends-append_across}
 use Rattle.search_tree.specs.Walk.{after, coming}
 use Rattle.search_tree.specs.Opened.{StandsAtLast}
@@ -71,12 +73,6 @@ each_longer P (suc more) prefix h =
     let below = λ (value : Bool). each_extension P more (prefix ++ value ∷ []) (λ rest. subst P (sym (append_assoc prefix (value ∷ []) rest)) (h value rest)) in
     each-append P (extensions more (prefix ++ true ∷ [])) (extensions more (prefix ++ false ∷ [])) (below true) (below false)
 
--- a member of what a function gives of one of them is a member of all together
-member_joined : {A : Type 0} (f : A → List A) (xs : List A) (x y : A) → Member xs x → Member (f x) y → Member (joined (map f xs)) y
-member_joined f [] x y k l = absurd k
-member_joined f (z ∷ xs) x y (inl e) l = member-append_left (f z) (joined (map f xs)) y (subst (λ w. Member (f w) y) (sym e) l)
-member_joined f (z ∷ xs) x y (inr k) l = member-append_right (f z) (joined (map f xs)) y (member_joined f xs x y k l)
-
 module _ (live : Word) (n : ℕ) (closed : (prefix rest : List Bool) → IsTrue (live (prefix ++ rest)) → IsTrue (live prefix))
     (short : (prefix : List Bool) → IsTrue (live prefix) → length prefix ≤ n) where
   -- a live prefix is one of those that begin with what it begins with
@@ -87,19 +83,19 @@ module _ (live : Word) (n : ℕ) (closed : (prefix rest : List Bool) → IsTrue 
       (begun_member (n - length prefix) prefix rest (omega (arith, within, length-append prefix rest))) lives
 
   -- those below a side, if it is live
-  below_side : (prefix : List Bool) (full : Bool) → joined (map (live_from live n) (live_side live prefix full)) ≡ live_from live n (prefix ++ full ∷ [])
+  below_side : (prefix : List Bool) (full : Bool) → flat_map (live_from live n) (live_side live prefix full) ≡ live_from live n (prefix ++ full ∷ [])
   below_side prefix full = at (live (prefix ++ full ∷ [])) refl
     where
-      at : (t : Bool) → live (prefix ++ full ∷ []) ≡ t → joined (map (live_from live n) (live_side live prefix full)) ≡ live_from live n (prefix ++ full ∷ [])
+      at : (t : Bool) → live (prefix ++ full ∷ []) ≡ t → flat_map (live_from live n) (live_side live prefix full) ≡ live_from live n (prefix ++ full ∷ [])
       at true e = rw e (append-nil (live_from live n (prefix ++ full ∷ [])))
       at false e = rw (e, live_from_none live n (prefix ++ full ∷ []) e closed) refl
 
   -- those below two lists of prefixes
-  below_both : (xs ys : List (List Bool)) → joined (map (live_from live n) (xs ++ ys)) ≡ joined (map (live_from live n) xs) ++ joined (map (live_from live n) ys)
-  below_both xs ys = ap joined (map-append (live_from live n) xs ys) ∙ joined_append (map (live_from live n) xs) (map (live_from live n) ys)
+  below_both : (xs ys : List (List Bool)) → flat_map (live_from live n) (xs ++ ys) ≡ flat_map (live_from live n) xs ++ flat_map (live_from live n) ys
+  below_both = flat_map-append (live_from live n)
 
   -- the later ones are those below what is beside the prefix
-  after_besides : (piece values : List Bool) → after live n piece values ≡ joined (map (live_from live n) (live_besides live piece values))
+  after_besides : (piece values : List Bool) → after live n piece values ≡ flat_map (live_from live n) (live_besides live piece values)
   after_besides piece [] = refl
   after_besides piece (true ∷ values) =
       ap₂ ◌++◌ (after_besides (piece ++ true ∷ []) values) (sym (below_side piece false))
@@ -107,13 +103,13 @@ module _ (live : Word) (n : ℕ) (closed : (prefix rest : List Bool) → IsTrue 
   after_besides piece (false ∷ values) = after_besides (piece ++ false ∷ []) values
 
   -- the longer ones are those below the sides
-  longer_sides : (prefix : List Bool) → IsTrue (live prefix) → drop 1 (live_from live n prefix) ≡ joined (map (live_from live n) (live_sides live prefix))
+  longer_sides : (prefix : List Bool) → IsTrue (live prefix) → drop 1 (live_from live n prefix) ≡ flat_map (live_from live n) (live_sides live prefix)
   longer_sides prefix lives = by (cases_lt (length prefix) n) ∙ sym sides
     where
       side : Bool → List (List Bool)
       side full = live_from live n (prefix ++ full ∷ [])
 
-      sides : joined (map (live_from live n) (live_sides live prefix)) ≡ side true ++ side false
+      sides : flat_map (live_from live n) (live_sides live prefix) ≡ side true ++ side false
       sides = below_both (live_side live prefix true) (live_side live prefix false) ∙ ap₂ ◌++◌ (below_side prefix true) (below_side prefix false)
 
       dead : n ≤ length prefix → (full : Bool) → side full ≡ []
@@ -129,7 +125,7 @@ module _ (live : Word) (n : ℕ) (closed : (prefix rest : List Bool) → IsTrue 
   abbrev pub left_at : ℕ → List Bool → List (List Bool)
   left_at floor prefix = live_sides live prefix ++ besides live floor prefix
 
-  coming_left : (floor : ℕ) (prefix : List Bool) → IsTrue (live prefix) → coming live n floor prefix ≡ joined (map (live_from live n) (left_at floor prefix))
+  coming_left : (floor : ℕ) (prefix : List Bool) → IsTrue (live prefix) → coming live n floor prefix ≡ flat_map (live_from live n) (left_at floor prefix)
   coming_left floor prefix lives =
       ap₂ ◌++◌ (longer_sides prefix lives) (after_besides (take floor prefix) (drop floor prefix))
       ∙ sym (below_both (live_sides live prefix) (besides live floor prefix))
@@ -156,10 +152,10 @@ module _ (live : Word) (n : ℕ) (closed : (prefix rest : List Bool) → IsTrue 
             (each-filter live (λ x. next x ≡ false) (drop 1 (extensions (n - length root) root)) (each_longer (λ x. next x ≡ false) (n - length root) root stops.alone))
 
     -- so it keeps them all
-    only_roots : (roots : List (List Bool)) → Each Stops roots → filter next (joined (map (live_from live n) roots)) ≡ roots
+    only_roots : (roots : List (List Bool)) → Each Stops roots → filter next (flat_map (live_from live n) roots) ≡ roots
     only_roots [] h = refl
     only_roots (root ∷ roots) h =
-        filter-append next (live_from live n root) (joined (map (live_from live n) roots)) ∙ ap₂ ◌++◌ (only_root root h.0) (only_roots roots h.1)
+        filter-append next (live_from live n root) (flat_map (live_from live n) roots) ∙ ap₂ ◌++◌ (only_root root h.0) (only_roots roots h.1)
 
   -- ---- beside a prefix
 
@@ -233,13 +229,13 @@ module _ (live : Word) (n : ℕ) (closed : (prefix rest : List Bool) → IsTrue 
     prefix_opened = subst (λ xs. Member xs prefix) (sym stands.last.1) (member-push_last stands.last.0 prefix)
 
     -- what is behind are those below the roots
-    behind_roots : behind ≡ joined (map (live_from live n) roots)
+    behind_roots : behind ≡ flat_map (live_from live n) roots
     behind_roots = stands.left ∙ coming_left (length piece) prefix stands.lives
 
     -- nothing that is opened begins with a root
     not_opened : (root rest : List Bool) → Member roots root → Member opened (root ++ rest) → ⊥
     not_opened root rest listed k =
-        let there = member_joined (live_from live n) roots root (root ++ rest) listed (live_member root rest (opened_in (root ++ rest) k).1) in
+        let there = member-flat_map (live_from live n) roots root (root ++ rest) listed (live_member root rest (opened_in (root ++ rest) k).1) in
         not_itself (root ++ rest) (opened_before (root ++ rest) (root ++ rest) k (subst (λ xs. Member xs (root ++ rest)) (sym behind_roots) there))
 
     -- a root is next to what is opened, and nothing that begins with it and is longer is

@@ -1,16 +1,17 @@
 -- A report of the first live prefixes below a piece, with those of the rest that stand next to them, is an allowed one: below
 -- each prefix of the tree the same holds of the part of the opened ones that stands there.
 use Rattle.std.proofs.Common.{◌≡◌, inl, inr, ⊎_elim, Bool, true, false, true≢false, not, eqb, ℕ, zero, suc, ◌+◌, ◌-◌, ◌<◌, ◌≤◌, List, [], ◌∷◌, ◌++◌, length, take, drop, filter, map, sum, IsPermutation, IsTrue, refl, sym, ◌∙◌, ap, subst, append-nil, append_assoc, length-append, take-append-drop, arith}
+use Rattle.std.specs.List.{flat_map}
 use Rattle.std.proofs.lemmas.Bool.{and_parts}
 use Rattle.std.proofs.lemmas.Bool.Decides.{nat_tests}
 use Rattle.std.proofs.lemmas.List.{map-append}
 use Rattle.std.proofs.lemmas.List.Elements.{filter-append}
 use Rattle.std.proofs.lemmas.List.Sorted.{IsPermutation-refl, IsPermutation-trans, IsPermutation-append, IsPermutation-append_left, IsPermutation-append_right, IsPermutation-append_comm}
 use Rattle.std.proofs.lemmas.List.Sums.{sum_by-append}
+use Rattle.std.proofs.lemmas.Grind.{flat_map-append}
 use Rattle.solid_model.proofs.PrefixTree.{BeginsWith, begins_itself, begins_without, live_from_begins, live_from_none, live_count_none, live_below_none, live_from_more, live_count_more, not_whole, live_below_more, live_from_whole, live_count_whole, live_below_whole}
 use Rattle.solid_model.specs.Edges.{agree}
 use Rattle.solid_model.specs.Lists.{Member, Each}
-use Rattle.solid_model.specs.Panels.{joined}
 use Rattle.solid_model.specs.Tree.{Word, live_from, live_count, is_whole, live_below, IsAllowed, is_one_more, is_next_to, opened_of, found_of, rest_of}
 use Rattle.solid_model.proofs.ColumnRule.{same_from_agree}
 use Rattle.solid_model.proofs.Lists.{member-append, member-append_left, member-append_right, each-at, each-from, each-weaker, each-append_right, each-filter}
@@ -47,11 +48,6 @@ module _ {A : Type 0} where
   pub filter_none : (p : A → Bool) (xs : List A) → Each (λ x. p x ≡ false) xs → filter p xs ≡ []
   filter_none p [] h = refl
   filter_none p (x ∷ xs) h = rw (h.0, filter_none p xs h.1) refl
-
-  -- lists of lists, one after another
-  pub joined_append : (xs ys : List (List A)) → joined (xs ++ ys) ≡ joined xs ++ joined ys
-  joined_append [] ys = refl
-  joined_append (x ∷ xs) ys = ap (λ l. x ++ l) (joined_append xs ys) ∙ sym (append_assoc x (joined xs) (joined ys))
 
   -- the middle two of four lists change places
   shuffle : (xs ys us vs : List A) → IsPermutation ((xs ++ ys) ++ (us ++ vs)) ((xs ++ us) ++ (ys ++ vs))
@@ -109,7 +105,7 @@ module _ (live : Word) (n : ℕ) where
   -- are those of full length among the opened ones, and those below the rest.
   record Splits (prefix : List Bool) (opened rest : List (List Bool)) : Type 0 where
     counted : live_count live n prefix ≡ length opened + sum (map (live_count live n) rest)
-    shared : IsPermutation (live_below live n prefix) (filter (is_whole n) opened ++ joined (map (live_below live n) rest))
+    shared : IsPermutation (live_below live n prefix) (filter (is_whole n) opened ++ flat_map (live_below live n) rest)
 
   -- nothing is opened: the prefix itself is the rest
   unopened : (prefix : List Bool) → Splits prefix [] (prefix ∷ [])
@@ -139,11 +135,11 @@ module _ (live : Word) (n : ℕ) where
     shared =
         let found : filter (is_whole n) (prefix ∷ (opened ++ others)) ≡ filter (is_whole n) opened ++ filter (is_whole n) others =
         rw (not_whole live n prefix lives more, filter-append (is_whole n) opened others) refl in
-        let left : joined (map (live_below live n) (rest ++ besides)) ≡ joined (map (live_below live n) rest) ++ joined (map (live_below live n) besides) =
-        ap joined (map-append (live_below live n) rest besides) ∙ joined_append (map (live_below live n) rest) (map (live_below live n) besides) in
+        let left : flat_map (live_below live n) (rest ++ besides) ≡ flat_map (live_below live n) rest ++ flat_map (live_below live n) besides =
+        flat_map-append (live_below live n) rest besides in
         rw (live_below_more live n prefix lives more, found, left)
         (IsPermutation-trans _ _ _ (IsPermutation-append _ _ _ _ full.shared empty.shared)
-        (shuffle (filter (is_whole n) opened) (joined (map (live_below live n) rest)) (filter (is_whole n) others) (joined (map (live_below live n) besides))));
+        (shuffle (filter (is_whole n) opened) (flat_map (live_below live n) rest) (filter (is_whole n) others) (flat_map (live_below live n) besides)));
   }
 
   -- ---- down the tree

@@ -1,19 +1,20 @@
 -- The places of a box's cells in a list of all of them.
 use Rattle.std.proofs.Common.{◌≡◌, ◌⊎◌, inl, inr, Bool, true, false, if◌then◌else◌, ◌&&◌, ℕ, zero, suc, ◌+◌, ◌*◌, ◌/◌, ◌%◌, ◌<◌, ◌≤◌, ℤ, pos, negsuc, ◌<ℤ◌, IsTrue, refl, ap, sym, subst, ◌∙◌, arith}
-use Rattle.std.proofs.lemmas.Bool.{false≢true, and_parts, and_from}
+use Rattle.std.proofs.lemmas.Bool.{false≢true}
 use Rattle.std.proofs.lemmas.Int.{ints}
 use Rattle.std.proofs.lemmas.Nat.{mul-le, mod-mul-add, div-mul-add, div-add-mod', div_below, mod_below}
 use Rattle.solid_model.specs.declared.cell.Axis.{Axis}
 use Rattle.solid_model.specs.declared.cell.Axis.TheVariants.{X, Y, Z}
 use Rattle.solid_model.specs.declared.cell.Cell.{Cell}
 use Rattle.solid_model.specs.declared.per_axis.PerAxis.{PerAxis}
-use Rattle.solid_model.specs.Cells.{cell_at}
+use Rattle.solid_model.specs.Cells.{coordinate, cell_at}
 use Rattle.solid_model.specs.Orders.{ComesBefore}
 use Rattle.solid_model.specs.PerAxis.{numbers_of, cell_of, numbered, AreFew}
 use Rattle.solid_model.specs.Rooms.{Sizes, is_below, is_within, box_place, box_count, same_axis, face_sizes}
 use Rattle.solid_model.specs.Kept.{edge_sizes}
+use Rattle.solid_model.proofs.BoxCells.{place-below, within-below, below-within}
 use Rattle.solid_model.proofs.CellOrder.{LiesBefore, before-lies, one_or_before}
-use Rattle.solid_model.proofs.Unions.{within_product}
+use Rattle.solid_model.proofs.Concatenations.{within_product}
 
 -- ---- how far they go
 
@@ -42,7 +43,7 @@ pub record IsNumber (n : ℕ) (k : ℤ) : Type 0 where
   pub less : number < n
 
 pub number_below : (n : ℕ) (k : ℤ) → is_below n k ≡ true → IsNumber n k
-number_below n (pos k) below = record { number = k; is = refl; less = grind (arith, below) }
+number_below n (pos k) below = record { number = k; is = refl; less = place-below n (pos k) below }
 number_below n (negsuc k) below = absurd (false≢true below)
 
 pub below_number : (n k : ℕ) → k < n → is_below n (pos k) ≡ true
@@ -55,15 +56,19 @@ pub record IsCellOfBox (sizes : Sizes) (n : Cell) : Type 0 where
   pub z : IsNumber (sizes Z) n.z
 
 pub cell_of_box : (sizes : Sizes) (n : Cell) → is_within sizes n ≡ true → IsCellOfBox sizes n
-cell_of_box sizes n within =
-    let outer = and_parts (is_below (sizes X) n.x) (is_below (sizes Y) n.y && is_below (sizes Z) n.z) within in
-    let inner = and_parts (is_below (sizes Y) n.y) (is_below (sizes Z) n.z) outer.1 in
-    record { x = number_below (sizes X) n.x outer.0; y = number_below (sizes Y) n.y inner.0; z = number_below (sizes Z) n.z inner.1 }
+cell_of_box sizes n within = record {
+  x = number_below (sizes X) n.x (within-below sizes n within X);
+  y = number_below (sizes Y) n.y (within-below sizes n within Y);
+  z = number_below (sizes Z) n.z (within-below sizes n within Z);
+}
 
 pub within_box : (sizes : Sizes) (x y z : ℕ) → x < sizes X → y < sizes Y → z < sizes Z → is_within sizes (cell_at x y z) ≡ true
-within_box sizes x y z at_x at_y at_z =
-    and_from (is_below (sizes X) (pos x)) (is_below (sizes Y) (pos y) && is_below (sizes Z) (pos z)) (below_number (sizes X) x at_x)
-    (and_from (is_below (sizes Y) (pos y)) (is_below (sizes Z) (pos z)) (below_number (sizes Y) y at_y) (below_number (sizes Z) z at_z))
+within_box sizes x y z at_x at_y at_z = below-within sizes (cell_at x y z) below
+  where
+    below : (a : Axis) → is_below (sizes a) (coordinate a (cell_at x y z)) ≡ true
+    below X = below_number (sizes X) x at_x
+    below Y = below_number (sizes Y) y at_y
+    below Z = below_number (sizes Z) z at_z
 
 -- ---- one cell a place
 
@@ -245,10 +250,11 @@ pub record HasNumbersBelow (sizes : Sizes) (n : PerAxis) : Type 0 where
   pub z : n.z < sizes Z
 
 pub numbers_below : (sizes : Sizes) (n : PerAxis) → IsTrue (is_within sizes (cell_of n)) → HasNumbersBelow sizes n
-numbers_below sizes n within =
-    let outer = and_parts (is_below (sizes X) (pos n.x)) (is_below (sizes Y) (pos n.y) && is_below (sizes Z) (pos n.z)) within in
-    let inner = and_parts (is_below (sizes Y) (pos n.y)) (is_below (sizes Z) (pos n.z)) outer.1 in
-    record { x = grind (arith, outer); y = grind (arith, inner); z = grind (arith, inner) }
+numbers_below sizes n within = record {
+  x = place-below (sizes X) (pos n.x) (within-below sizes (cell_of n) within X);
+  y = place-below (sizes Y) (pos n.y) (within-below sizes (cell_of n) within Y);
+  z = place-below (sizes Z) (pos n.z) (within-below sizes (cell_of n) within Z);
+}
 
 -- of a box with few cells they are few
 pub few_numbers : (sizes : Sizes) → AreFew sizes → (n : PerAxis) → IsTrue (is_within sizes (cell_of n)) → AreFew (numbers_of n)

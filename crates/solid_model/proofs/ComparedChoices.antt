@@ -6,20 +6,18 @@ use Rattle.std.proofs.lemmas.List.{ext_get_or}
 use Rattle.solid_model.specs.Choices.{ChoicePrecedes}
 use Rattle.solid_model.proofs.ItemOrder.{differ-precedes}
 
--- no choice precedes itself
-not_before_itself : (xs : List Bool) → ChoicePrecedes xs xs → ⊥
-not_before_itself [] h = h
-not_before_itself (x ∷ xs) (inl (full, empty)) = both_ways x empty full
-not_before_itself (x ∷ xs) (inr (same, rest)) = not_before_itself xs rest
-
 -- of two choices at most one precedes the other
-before_one_way : (xs ys : List Bool) → ChoicePrecedes xs ys → ChoicePrecedes ys xs → ⊥
-before_one_way [] ys h k = h
-before_one_way (x ∷ xs) [] h k = h
-before_one_way (x ∷ xs) (y ∷ ys) (inl (full, empty)) (inl (other_full, other_empty)) = both_ways x other_empty full
-before_one_way (x ∷ xs) (y ∷ ys) (inl (full, empty)) (inr (same, rest)) = both_ways y empty (same ∙ full)
-before_one_way (x ∷ xs) (y ∷ ys) (inr (same, rest)) (inl (full, empty)) = both_ways x empty (same ∙ full)
-before_one_way (x ∷ xs) (y ∷ ys) (inr (same, rest)) (inr (other_same, other_rest)) = before_one_way xs ys rest other_rest
+pub precedes_one_way : (xs ys : List Bool) → ChoicePrecedes xs ys → ChoicePrecedes ys xs → ⊥
+precedes_one_way [] ys h k = h
+precedes_one_way (x ∷ xs) [] h k = h
+precedes_one_way (x ∷ xs) (y ∷ ys) (inl (full, empty)) (inl (other_full, other_empty)) = both_ways x other_empty full
+precedes_one_way (x ∷ xs) (y ∷ ys) (inl (full, empty)) (inr (same, rest)) = both_ways y empty (same ∙ full)
+precedes_one_way (x ∷ xs) (y ∷ ys) (inr (same, rest)) (inl (full, empty)) = both_ways x empty (same ∙ full)
+precedes_one_way (x ∷ xs) (y ∷ ys) (inr (same, rest)) (inr (other_same, other_rest)) = precedes_one_way xs ys rest other_rest
+
+-- none precedes itself
+precedes_itself : (xs : List Bool) → ChoicePrecedes xs xs → ⊥
+precedes_itself xs h = precedes_one_way xs xs h h
 
 -- the answer says which of the three ways holds
 pub record AreCompared (answer : Ordering) (xs ys : List Bool) : Type 0 where
@@ -30,22 +28,22 @@ pub record AreCompared (answer : Ordering) (xs ys : List Bool) : Type 0 where
 compared_less : (xs ys : List Bool) → ChoicePrecedes xs ys → AreCompared Less xs ys
 compared_less xs ys h = record {
   less = (λ e. h, λ k. refl);
-  equal = (λ e. absurd (cc), λ e. absurd (not_before_itself xs (subst (ChoicePrecedes xs) (sym e) h)));
-  greater = (λ e. absurd (cc), λ k. absurd (before_one_way xs ys h k));
+  equal = (λ e. absurd (cc), λ e. absurd (precedes_itself xs (subst (ChoicePrecedes xs) (sym e) h)));
+  greater = (λ e. absurd (cc), λ k. absurd (precedes_one_way xs ys h k));
 }
 
 compared_greater : (xs ys : List Bool) → ChoicePrecedes ys xs → AreCompared Greater xs ys
 compared_greater xs ys h = record {
-  less = (λ e. absurd (cc), λ k. absurd (before_one_way xs ys k h));
-  equal = (λ e. absurd (cc), λ e. absurd (not_before_itself ys (subst (ChoicePrecedes ys) e h)));
+  less = (λ e. absurd (cc), λ k. absurd (precedes_one_way xs ys k h));
+  equal = (λ e. absurd (cc), λ e. absurd (precedes_itself ys (subst (ChoicePrecedes ys) e h)));
   greater = (λ e. h, λ k. refl);
 }
 
 compared_equal : (xs ys : List Bool) → xs ≡ ys → AreCompared Equal xs ys
 compared_equal xs ys same = record {
-  less = (λ e. absurd (cc), λ k. absurd (not_before_itself ys (subst (λ zs. ChoicePrecedes zs ys) same k)));
+  less = (λ e. absurd (cc), λ k. absurd (precedes_itself ys (subst (λ zs. ChoicePrecedes zs ys) same k)));
   equal = (λ e. same, λ e. refl);
-  greater = (λ e. absurd (cc), λ k. absurd (not_before_itself ys (subst (ChoicePrecedes ys) same k)));
+  greater = (λ e. absurd (cc), λ k. absurd (precedes_itself ys (subst (ChoicePrecedes ys) same k)));
 }
 
 -- ---- what a walk over the places finds

@@ -1,5 +1,6 @@
 -- The least unit cells of a grid's cells, and choices of grid cells read off them.
 use Rattle.std.proofs.Common.{◌≡◌, inl, inr, true, ℕ, zero, suc, ◌+◌, ◌*◌, ◌-◌, ◌<◌, List, [], ◌∷◌, length, map, get_or, ℤ, pos, ◌≤ℤ◌, ◌<ℤ◌, int_lt, int_le, IsTrue, refl, ap, sym, subst, ◌∙◌, arith}
+use Rattle.std.specs.List.{flat_map}
 use Rattle.std.proofs.lemmas.Bool.{false≢true, and_parts, and_from}
 use Rattle.std.proofs.lemmas.Int.{ints}
 use Rattle.std.proofs.lemmas.List.{length-take-le}
@@ -10,14 +11,15 @@ use Rattle.solid_model.specs.Cells.{coordinate}
 use Rattle.solid_model.specs.Grid.{Coordinates, GridCell, is_in_gap, LiesInGridCell, gaps_along, grid_cell_count, grid_cell_place}
 use Rattle.solid_model.specs.Lists.{Member, Each, Ascends}
 use Rattle.solid_model.specs.Orders.{ComesBefore}
-use Rattle.solid_model.specs.Panels.{joined, starts_of}
+use Rattle.solid_model.specs.Panels.{starts_of}
 use Rattle.solid_model.specs.Rooms.{is_within}
 use Rattle.solid_model.specs.GridBox.{grid_cell_of}
 use Rattle.solid_model.proofs.BoxCells.{place-below, within-below}
 use Rattle.solid_model.proofs.CellOrder.{lies-before}
 use Rattle.solid_model.proofs.Lists.{each-at, each-from, each-append, each-map, ascends-append}
 use Rattle.solid_model.proofs.SameOnGrid.{starts_more}
-use Rattle.solid_model.proofs.Unions.{cells_over, length-cells_over, get_or-cells_over, within_product}
+use Rattle.solid_model.proofs.Concatenations.{each-flat_map, ascends-flat_map, within_product, get_or-over_triples}
+use Rattle.solid_model.proofs.Unions.{cells_over, length-cells_over}
 
 -- ---- where gaps begin
 
@@ -79,26 +81,14 @@ ascends-starts_of (a ∷ b ∷ zs) ascends =
 
 -- ---- cells in order
 
-each-joined : (P : Cell → Type 0) (f : ℤ → List Cell) (xs : List ℤ) → ((x : ℤ) → Member xs x → Each P (f x)) → Each P (joined (map f xs))
-each-joined P f [] h = tt
-each-joined P f (x ∷ xs) h = each-append P (f x) (joined (map f xs)) (h x (inl refl)) (each-joined P f xs (λ y k. h y (inr k)))
-
-ascends-joined : (f : ℤ → List Cell) (xs : List ℤ) → Ascends ◌<ℤ◌ xs → ((x : ℤ) → Ascends ComesBefore (f x))
-    → ((x y : ℤ) → x <ℤ y → Each (λ c. Each (ComesBefore c) (f y)) (f x)) → Ascends ComesBefore (joined (map f xs))
-ascends-joined f [] ascends each across = tt
-ascends-joined f (x ∷ xs) ascends each across =
-    ascends-append ComesBefore (f x) (joined (map f xs)) (each x) (ascends-joined f xs ascends.1 each across)
-    (each-from (λ c. Each (ComesBefore c) (joined (map f xs))) (f x) (λ c k. each-joined (ComesBefore c) f xs (λ y l.
-    each-at (λ d. Each (ComesBefore d) (f y)) (f x) c (across x y (each-at (λ w. x <ℤ w) xs y ascends.0 l)) k)))
-
 pub ascends-cells_over : (xs ys zs : List ℤ) → Ascends ◌<ℤ◌ xs → Ascends ◌<ℤ◌ ys → Ascends ◌<ℤ◌ zs → Ascends ComesBefore (cells_over xs ys zs)
-ascends-cells_over xs ys zs in_x in_y in_z = ascends-joined layer zs in_z layers_ascend layers_across
+ascends-cells_over xs ys zs in_x in_y in_z = ascends-flat_map ◌<ℤ◌ ComesBefore layer zs in_z layers_ascend layers_across
   where
     row : ℤ → ℤ → List Cell
     row z y = map (λ x. record { x = x; y = y; z = z }) xs
 
     layer : ℤ → List Cell
-    layer z = joined (map (row z) ys)
+    layer z = flat_map (row z) ys
 
     row_ascends : (z y : ℤ) (ws : List ℤ) → Ascends ◌<ℤ◌ ws → Ascends ComesBefore (map (λ x. record { x = x; y = y; z = z }) ws)
     row_ascends z y [] h = tt
@@ -114,12 +104,12 @@ ascends-cells_over xs ys zs in_x in_y in_z = ascends-joined layer zs in_z layers
         (each-from _ xs (λ w m. lies-before (record { x = x; y = y; z = z }) (record { x = w; y = v; z = z }) (inr (refl, inl l))))))
 
     layers_ascend : (z : ℤ) → Ascends ComesBefore (layer z)
-    layers_ascend z = ascends-joined (row z) ys in_y (λ y. row_ascends z y xs in_x) (rows_across z)
+    layers_ascend z = ascends-flat_map ◌<ℤ◌ ComesBefore (row z) ys in_y (λ y. row_ascends z y xs in_x) (rows_across z)
 
     layers_across : (z w : ℤ) → z <ℤ w → Each (λ c. Each (ComesBefore c) (layer w)) (layer z)
-    layers_across z w l = each-joined (λ c. Each (ComesBefore c) (layer w)) (row z) ys (λ y k.
+    layers_across z w l = each-flat_map (λ c. Each (ComesBefore c) (layer w)) (row z) ys (λ y k.
         each-map (λ x. record { x = x; y = y; z = z }) (λ c. Each (ComesBefore c) (layer w)) xs (each-from _ xs (λ x m.
-        each-joined (ComesBefore (record { x = x; y = y; z = z })) (row w) ys (λ v n.
+        each-flat_map (ComesBefore (record { x = x; y = y; z = z })) (row w) ys (λ v n.
         each-map (λ u. record { x = u; y = v; z = w }) (ComesBefore (record { x = x; y = y; z = z })) xs (each-from _ xs (λ u o. lies-before (record { x = x; y = y; z = z }) (record { x = u; y = v; z = w }) (inl l)))))))
 
 -- ---- the corners of a grid's cells
@@ -161,7 +151,8 @@ module _ (coordinates : Coordinates) (ascends : (a : Axis) → Ascends ◌<ℤ�
 
   pub corner_at_place : (n : GridCell) (d : Cell) → IsGridCell n → get_or corners (grid_cell_place coordinates n) d ≡ corner_of n
   corner_at_place n d is = ap (λ p. get_or corners p d) (place_is n)
-      ∙ get_or-cells_over (starts_of (coordinates X)) (starts_of (coordinates Y)) (starts_of (coordinates Z)) (n X) (n Y) (n Z) d (is X).within (is Y).within (is Z).within
+      ∙ get_or-over_triples (λ x y z. record { x = x; y = y; z = z }) (starts_of (coordinates X)) (starts_of (coordinates Y)) (starts_of (coordinates Z))
+      (n X) (n Y) (n Z) (pos 0) (pos 0) (pos 0) d (is X).within (is Y).within (is Z).within
 
   pub length-corners : length corners ≡ grid_cell_count coordinates
   length-corners =

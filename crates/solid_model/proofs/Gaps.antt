@@ -42,7 +42,8 @@ module _ (zs : List ℤ) (ascends : Ascends ◌<ℤ◌ zs) where
   pub earlier_less : (m n : ℕ) → m < n → n < length zs → member zs m <ℤ member zs n
   earlier_less m n l within = ascends-pairs ◌<ℤ◌ zs ascends m n (pos 0) l within
 
-  earlier_at_most : (m n : ℕ) → m ≤ n → n < length zs → member zs m ≤ℤ member zs n
+  -- and at most the later one
+  pub earlier_at_most : (m n : ℕ) → m ≤ n → n < length zs → member zs m ≤ℤ member zs n
   earlier_at_most m n l within = elim (cases_lt m n) as (λ _. member zs m ≤ℤ member zs n) [
     | inl less ↦ (let h = earlier_less m n less within in omega (arith, ints))
     | inr same ↦ (let e : m ≡ n = omega arith in subst (λ x. member zs m ≤ℤ member zs x) e (omega (arith, ints)))

@@ -12,7 +12,7 @@ use Rattle.solid_model.specs.Segments.{segment_at}
 use Rattle.solid_model.specs.GridBox.{grid_sizes, axis_along, axis_across, grid_style}
 use Rattle.solid_model.proofs.Corners.{length-starts_of}
 use Rattle.solid_model.proofs.Gaps.{member, member_of}
-use Rattle.solid_model.proofs.Unions.{get_or-joined}
+use Rattle.solid_model.proofs.Concatenations.{get_or-equal_parts}
 
 -- off the grid it is Blank
 pub blank_off_grid : (line lines cell cells : ℕ) (style : Style) → (lines < line) ⊎ (cells ≤ cell)
@@ -45,7 +45,7 @@ module _ (drawing : Segment → Style) (g : GridParts) (styles : AreGridStyles d
   grid_style-drawing v upright line cell at_line at_cell =
       sym (style_on_grid line (grid_sizes g (axis_across v upright)) cell size _ (let l = at_line in omega arith) at_cell)
       ∙ ap (λ xs. slice_index_or xs (line * size + cell) Blank) (styles v upright)
-      ∙ get_or-joined (λ at. map (λ start. drawing (segment_at v upright start at)) starts) size long lines line cell Blank (pos 0) at_line at_cell
+      ∙ get_or-equal_parts (λ at. map (λ start. drawing (segment_at v upright start at)) starts) size long lines line cell Blank (pos 0) at_line at_cell
       ∙ get_or-map (λ start. drawing (segment_at v upright start (member lines line))) starts cell (pos 0) Blank
       (subst (λ n. cell < n) (sym (length-starts_of all)) at_cell)
       ∙ ap (λ start. drawing (segment_at v upright start (member lines line))) (get_or-take size all cell (pos 0) at_cell)

@@ -1,6 +1,8 @@
 pub mod Integers
 pub mod Lists
 pub mod ListPlaces
+pub mod Ranges
+pub mod Concatenations
 pub mod Chains
 pub mod Gaps
 pub mod GridFillings

@@ -3,12 +3,14 @@ use Rattle.std.proofs.Common.{◌≡◌, ◌≢◌, ◌⊎◌, inl, inr, ⊎_eli
 use Rattle.std.proofs.lemmas.Bool.{both_ways, and_parts, and_from, false_from_ne_true}
 use Rattle.std.proofs.lemmas.Bool.Decides.{Decides-int_eq}
 use Rattle.std.proofs.lemmas.Int.{ints}
+use Rattle.solid_model.specs.declared.frame.View.{View}
 use Rattle.solid_model.specs.declared.runs.Run.{Run}
 use Rattle.solid_model.specs.declared.segment.Style.{Style}
 use Rattle.solid_model.specs.declared.segment.Style.TheVariants.{Blank}
 use Rattle.solid_model.specs.Drawings.{same_style}
 use Rattle.solid_model.specs.Lists.{Member, Each, Ascends}
-use Rattle.solid_model.specs.Runs.{run_covers, run_style, IsRun, StandsApart, AreRuns}
+use Rattle.solid_model.specs.Runs.{run_covers, run_style, IsRun, StandsApart, AreRuns, DrawingRuns, view_runs, runs_along, style_in}
+use Rattle.solid_model.specs.Segments.{segment_at}
 use Rattle.solid_model.specs.Stretches.{IsStretch}
 use Rattle.solid_model.proofs.Lists.{IsWithin, each-at, each-from, each-weaker, ascends-members, same_ascending}
 use Rattle.solid_model.proofs.MaximalStretches.{one_stretch}
@@ -161,3 +163,11 @@ pub same_styles_one_list : (rs ss : List Run) → AreRuns rs → AreRuns ss → 
 same_styles_one_list rs ss runs others same =
     same_ascending BeginsBefore begins_one_way rs ss (runs-begin rs runs) (runs-begin ss others)
     (runs_within rs ss runs others same) (runs_within ss rs others runs (λ j z. sym (same j z)))
+
+-- ---- a drawing that is kept as runs
+
+-- it gives a segment the style of the unit length of a run's line
+pub in_runs : (d : DrawingRuns) (v : View) (upright : Bool) (start line : ℤ)
+    → style_in d (segment_at v upright start line) ≡ run_style (runs_along upright (view_runs v d)) line start
+in_runs d v true start line = refl
+in_runs d v false start line = refl

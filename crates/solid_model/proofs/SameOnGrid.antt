@@ -1,5 +1,6 @@
 -- Drawings that stay on a grid and give its segments the same styles are the same.
 use Rattle.std.proofs.Common.{◌≡◌, ◌⊎◌, inl, inr, ⊎_elim, Bool, true, false, ℕ, zero, suc, ◌-◌, List, [], ◌∷◌, ◌++◌, length, map, take, drop, ℤ, ◌<ℤ◌, int_lt, int_le, int_eq, IsTrue, refl, ap, sym, subst, ◌∙◌, arith}
+use Rattle.std.specs.List.{flat_map}
 use Rattle.std.proofs.Math.Seq.{take-append_seam, drop-append_seam}
 use Rattle.std.proofs.lemmas.Bool.{false≢true, and_parts, and_from}
 use Rattle.std.proofs.lemmas.Bool.Decides.{Decides-int_eq}
@@ -12,7 +13,7 @@ use Rattle.solid_model.specs.declared.segment.Style.{Style}
 use Rattle.solid_model.specs.Frames.{frame_of, along, across}
 use Rattle.solid_model.specs.Grid.{Coordinates, is_in_gap, IsInSomeGap}
 use Rattle.solid_model.specs.Lists.{Member, Ascends}
-use Rattle.solid_model.specs.Panels.{joined, starts_of, grid_styles}
+use Rattle.solid_model.specs.Panels.{starts_of, grid_styles}
 use Rattle.solid_model.proofs.OnGrid.{StaysOnGrid}
 use Rattle.solid_model.specs.Segments.{segment_at}
 use Rattle.solid_model.proofs.InGrid.{gap_or_none}
@@ -40,18 +41,18 @@ same_map {A} f g (y ∷ xs) same x (inl e) = subst (λ z. f z ≡ g z) e (ap (fi
 same_map f g (y ∷ xs) same x (inr k) = same_map f g xs (ap (drop 1) same) x k
 
 -- lists of the same lengths that make one list are the same
-same_joined : (f g : ℤ → List Style) → ((x : ℤ) → length (f x) ≡ length (g x)) → (xs : List ℤ) → joined (map f xs) ≡ joined (map g xs)
+same_parts : (f g : ℤ → List Style) → ((x : ℤ) → length (f x) ≡ length (g x)) → (xs : List ℤ) → flat_map f xs ≡ flat_map g xs
     → (x : ℤ) → Member xs x → f x ≡ g x
-same_joined f g long [] same x k = absurd k
-same_joined f g long (y ∷ xs) same x k = ⊎_elim {C = f x ≡ g x} (λ e. subst (λ z. f z ≡ g z) e first) (same_joined f g long xs rest x) k
+same_parts f g long [] same x k = absurd k
+same_parts f g long (y ∷ xs) same x k = ⊎_elim {C = f x ≡ g x} (λ e. subst (λ z. f z ≡ g z) e first) (same_parts f g long xs rest x) k
   where
     first : f y ≡ g y
-    first = sym (take-append_seam (f y) (joined (map f xs))) ∙ ap (take (length (f y))) same
-        ∙ ap (λ n. take n (g y ++ joined (map g xs))) (long y) ∙ take-append_seam (g y) (joined (map g xs))
+    first = sym (take-append_seam (f y) (flat_map f xs)) ∙ ap (take (length (f y))) same
+        ∙ ap (λ n. take n (g y ++ flat_map g xs)) (long y) ∙ take-append_seam (g y) (flat_map g xs)
 
-    rest : joined (map f xs) ≡ joined (map g xs)
-    rest = sym (drop-append_seam (f y) (joined (map f xs))) ∙ ap (drop (length (f y))) same
-        ∙ ap (λ n. drop n (g y ++ joined (map g xs))) (long y) ∙ drop-append_seam (g y) (joined (map g xs))
+    rest : flat_map f xs ≡ flat_map g xs
+    rest = sym (drop-append_seam (f y) (flat_map f xs)) ∙ ap (drop (length (f y))) same
+        ∙ ap (λ n. drop n (g y ++ flat_map g xs)) (long y) ∙ drop-append_seam (g y) (flat_map g xs)
 
 -- ---- where grid segments begin
 
@@ -86,7 +87,7 @@ module _ (coordinates : Coordinates) (ascends : (a : Axis) → Ascends ◌<ℤ�
   same_at_start v upright start line at_start at_line =
       let starts = starts_of (coordinates (along (frame_of v) upright).axis) in
       same_map (λ z. drawing (segment_at v upright z line)) (λ z. other (segment_at v upright z line)) starts
-      (same_joined (λ l. map (λ z. drawing (segment_at v upright z l)) starts) (λ l. map (λ z. other (segment_at v upright z l)) starts)
+      (same_parts (λ l. map (λ z. drawing (segment_at v upright z l)) starts) (λ l. map (λ z. other (segment_at v upright z l)) starts)
       (λ l. length-map starts (λ z. drawing (segment_at v upright z l)) ∙ sym (length-map starts (λ z. other (segment_at v upright z l))))
       (coordinates (across (frame_of v) upright).axis) (same v upright) line at_line) start at_start
 

@@ -1,6 +1,6 @@
 -- All matching choices are all matching solids, where each matching solid is the union that a choice fills, and choices come in
 -- the order of their unions. They are one list, where what a choice fills determines it.
-use Rattle.std.proofs.Common.{◌≡◌, inl, inr, Bool, ℕ, List, [], ◌∷◌, length, map, Option, ◌<ℤ◌, refl, ap₂, sym, subst, ◌∙◌}
+use Rattle.std.proofs.Common.{◌≡◌, inl, inr, Bool, ℕ, suc, List, [], ◌∷◌, length, map, Option, ◌<ℤ◌, refl, ap, ap₂, sym, subst, ◌∙◌}
 use Rattle.std.proofs.lemmas.List.{length-map}
 use Rattle.solid_model.specs.declared.cell.Axis.{Axis}
 use Rattle.solid_model.specs.declared.cell.Cell.{Cell}
@@ -115,6 +115,14 @@ module _ (drawing : Segment → Style) (coordinates : Coordinates) (ascends : (a
       },
       solids-filled choices are.each,
     )
+
+-- choices fill as many solids
+pub as_many : (coordinates : Coordinates) (items : List (Option ℕ)) (n : ℕ) (choices : List (List Bool)) (ss : List (List Cell))
+    → AreSolidsOfChoices coordinates items n choices ss → length choices ≡ length ss
+as_many coordinates items n [] [] filled = refl
+as_many coordinates items n [] (s ∷ ss) filled = absurd filled
+as_many coordinates items n (choice ∷ choices) [] filled = absurd filled
+as_many coordinates items n (choice ∷ choices) (s ∷ ss) filled = ap suc (as_many coordinates items n choices ss filled.2)
 
 -- Where the grid cells that it fills determine a choice, the choices that fill these solids are one list.
 module _ (coordinates : Coordinates) (ascends : (a : Axis) → Ascends ◌<ℤ◌ (coordinates a)) (items : List (Option ℕ)) (n : ℕ)

@@ -9,73 +9,31 @@ use Rattle.solid_model.specs.declared.cell.Cell.{Cell}
 use Rattle.solid_model.specs.Cells.{coordinate, is_full}
 use Rattle.solid_model.specs.Grid.{Coordinates, GridCell, is_in_gap, LiesInGridCell, LiesInGrid, gaps_along, grid_cell_place, IsUnionOf}
 use Rattle.solid_model.specs.Lists.{Member, Ascends}
-use Rattle.solid_model.specs.Panels.{joined}
+use Rattle.solid_model.proofs.Concatenations.{over_triples, member-over_triples, member-from_over_triples, length-over_triples}
 use Rattle.solid_model.proofs.Fullness.{is_full-member, member-is_full}
 use Rattle.solid_model.proofs.Lists.{member-append_left, member-append_right, member-map, member-filter, member-from_filter}
 use Rattle.solid_model.proofs.UnionDrawing.{one_gap, in_grid_or_not}
 
 -- ---- lists over three axes
 
--- a member of a member is one of all together
-pub member-joined : {A : Type 0} (xss : List (List A)) (xs : List A) (x : A) → Member xss xs → Member xs x → Member (joined xss) x
-member-joined [] xs x k l = absurd k
-member-joined (ys ∷ xss) xs x (inl e) l = member-append_left ys (joined xss) x (subst (λ zs. Member zs x) (sym e) l)
-member-joined (ys ∷ xss) xs x (inr k) l = member-append_right ys (joined xss) x (member-joined xss xs x k l)
-
 -- the cells with these coordinates, z slowest and x fastest
 abbrev pub cells_over : List ℤ → List ℤ → List ℤ → List Cell
-cells_over xs ys zs = joined (map (λ z. joined (map (λ y. map (λ x. record { x = x; y = y; z = z }) xs) ys)) zs)
+cells_over = over_triples (λ x y z. record { x = x; y = y; z = z })
 
 pub member-cells_over : (xs ys zs : List ℤ) (c : Cell) → Member xs c.x → Member ys c.y → Member zs c.z → Member (cells_over xs ys zs) c
-member-cells_over xs ys zs c in_x in_y in_z =
-    let row : ℤ → ℤ → List Cell = λ z y. map (λ x. record { x = x; y = y; z = z }) xs in
-    let layer : ℤ → List Cell = λ z. joined (map (row z) ys) in
-    member-joined (map layer zs) (layer c.z) c (member-map layer zs c.z in_z)
-    (member-joined (map (row c.z) ys) (row c.z c.y) c (member-map (row c.z) ys c.y in_y)
-    (member-map (λ x. record { x = x; y = c.y; z = c.z }) xs c.x in_x))
+member-cells_over xs ys zs c = member-over_triples (λ x y z. record { x = x; y = y; z = z }) xs ys zs c.x c.y c.z
 
--- lists of one length, together
-length-joined : {A : Type 0} (f : ℤ → List A) (m : ℕ) → ((x : ℤ) → length (f x) ≡ m) → (xs : List ℤ) → length (joined (map f xs)) ≡ length xs * m
-length-joined f m long [] = omega arith
-length-joined f m long (x ∷ xs) =
-    let rest = length-joined f m long xs in
-    length-append (f x) (joined (map f xs)) ∙ ap₂ ◌+◌ (long x) rest ∙ omega arith
-
--- and the i-th member of the j-th of them
-pub get_or-joined : {A : Type 0} (f : ℤ → List A) (m : ℕ) → ((x : ℤ) → length (f x) ≡ m) → (xs : List ℤ) (j i : ℕ) (d : A) (e : ℤ) → j < length xs → i < m
-    → get_or (joined (map f xs)) (j * m + i) d ≡ get_or (f (get_or xs j e)) i d
-get_or-joined f m long [] j i d e p q = absurd (omega arith)
-get_or-joined f m long (x ∷ xs) zero i d e p q =
-    let there : zero * m + i ≡ i = omega arith in
-    ap (λ n. get_or (f x ++ joined (map f xs)) n d) there ∙ get_or_append_left (f x) (joined (map f xs)) d i (subst (λ n. i < n) (sym (long x)) q)
-get_or-joined f m long (x ∷ xs) (suc j) i d e p q =
-    let own = long x in
-    let there : suc j * m + i ≡ length (f x) + (j * m + i) = omega arith in
-    ap (λ n. get_or (f x ++ joined (map f xs)) n d) there
-    ∙ get_or-append-add (f x) (joined (map f xs)) (j * m + i) d
-    ∙ get_or-joined f m long xs j i d e (omega arith) q
-
--- a place in a list of k lists of m
-pub within_product : (j k i m : ℕ) → j < k → i < m → j * m + i < k * m
-within_product j zero i m p q = absurd (omega arith)
-within_product zero (suc k) i m p q = omega arith
-within_product (suc j) (suc k) i m p q = let rest = within_product j k i m (omega arith) q in omega arith
+-- the coordinates of a cell over three lists are members of them
+pub member-from_cells_over : (xs ys zs : List ℤ) (c : Cell) → Member (cells_over xs ys zs) c → Member xs c.x × Member ys c.y × Member zs c.z
+member-from_cells_over xs ys zs c k =
+    let (x, y, z, at_x, at_y, at_z, e) = member-from_over_triples (λ x y z. record { x = x; y = y; z = z }) xs ys zs c k in (
+      subst (Member xs) (ap (λ (d : Cell). d.x) e) at_x,
+      subst (Member ys) (ap (λ (d : Cell). d.y) e) at_y,
+      subst (Member zs) (ap (λ (d : Cell). d.z) e) at_z,
+    )
 
 pub length-cells_over : (xs ys zs : List ℤ) → length (cells_over xs ys zs) ≡ length zs * (length ys * length xs)
-length-cells_over xs ys zs = length-joined (λ z. joined (map (λ y. map (λ x. record { x = x; y = y; z = z }) xs) ys)) (length ys * length xs)
-    (λ z. length-joined (λ y. map (λ x. record { x = x; y = y; z = z }) xs) (length xs) (λ y. length-map xs (λ x. record { x = x; y = y; z = z })) ys) zs
-
-pub get_or-cells_over : (xs ys zs : List ℤ) (i j k : ℕ) (d : Cell) → i < length xs → j < length ys → k < length zs
-    → get_or (cells_over xs ys zs) ((k * length ys + j) * length xs + i) d ≡ record { x = get_or xs i (pos 0); y = get_or ys j (pos 0); z = get_or zs k (pos 0) }
-get_or-cells_over xs ys zs i j k d in_x in_y in_z =
-    let z = get_or zs k (pos 0) in let y = get_or ys j (pos 0) in
-    let there : (k * length ys + j) * length xs + i ≡ k * (length ys * length xs) + (j * length xs + i) = omega arith in
-    ap (λ n. get_or (cells_over xs ys zs) n d) there
-    ∙ get_or-joined (λ w. joined (map (λ v. map (λ x. record { x = x; y = v; z = w }) xs) ys)) (length ys * length xs)
-    (λ w. length-joined (λ v. map (λ x. record { x = x; y = v; z = w }) xs) (length xs) (λ v. length-map xs (λ x. record { x = x; y = v; z = w })) ys)
-    zs k (j * length xs + i) d (pos 0) in_z (within_product j (length ys) i (length xs) in_y in_x)
-    ∙ get_or-joined (λ v. map (λ x. record { x = x; y = v; z = z }) xs) (length xs) (λ v. length-map xs (λ x. record { x = x; y = v; z = z })) ys j i d (pos 0) in_y in_x
-    ∙ get_or-map (λ x. record { x = x; y = y; z = z }) xs i (pos 0) d in_x
+length-cells_over = length-over_triples (λ x y z. record { x = x; y = y; z = z })
 
 -- ---- the unit cells of a union
 

@@ -10,7 +10,6 @@ use Rattle.solid_model.specs.Grid.{Coordinates, GridCell, is_in_gap, LiesInGridC
 use Rattle.solid_model.specs.Lists.{Member, Ascends}
 use Rattle.solid_model.proofs.Lists.{appended, member-append, member-from_map, each-from, member-appended, member-from_appended, ascends-appended}
 use Rattle.solid_model.specs.Orders.{ComesBefore, IsInStatedForm}
-use Rattle.solid_model.specs.Panels.{joined}
 use Rattle.solid_model.specs.Rooms.{place_of_number, box_place}
 use Rattle.solid_model.specs.Volumes.{gap_width, grid_cell_volume, grid_cell_at, volume_below, volume_of}
 use Rattle.solid_model.proofs.BoxPlaces.{place_there, within_box, HasNumbersBelow, numbers_below, cell_of_place, cell_of_place-within, cell_of_place-there, cell_of_place-own}
@@ -20,7 +19,7 @@ use Rattle.solid_model.proofs.Fullness.{is_full-member, member-is_full}
 use Rattle.solid_model.proofs.Gaps.{member, lies_in, in_gap, earlier_less}
 use Rattle.solid_model.proofs.Integers.{natural}
 use Rattle.solid_model.proofs.UnionDrawing.{in_grid_or_not}
-use Rattle.solid_model.proofs.Unions.{cells_over, member-cells_over, length-cells_over, range_from, member-range_from, one_grid_cell}
+use Rattle.solid_model.proofs.Unions.{cells_over, member-cells_over, member-from_cells_over, length-cells_over, range_from, member-range_from, one_grid_cell}
 use Rattle.solid_model.proofs.WithoutRepeats.{ascends-weaker, equally_long}
 
 -- ---- ranges, and cells over three of them
@@ -41,25 +40,6 @@ ascends-range_from (suc n) z = (
   each-from (λ w. z <ℤ w) (range_from (z +ℤ pos 1) n) (λ w k. let l = (member-from_range_from n (z +ℤ pos 1) w k).0 in omega (arith, ints, l)),
   ascends-range_from n (z +ℤ pos 1),
 )
-
--- one of lists together is one of some list
-member-from_joined : {A : Type 0} (f : ℤ → List A) (xs : List ℤ) (c : A) → Member (joined (map f xs)) c → (x : ℤ) × Member xs x × Member (f x) c
-member-from_joined f [] c k = absurd k
-member-from_joined f (x ∷ xs) c k = elim (member-append (f x) (joined (map f xs)) c k) as (λ _. (y : ℤ) × Member (x ∷ xs) y × Member (f y) c) [
-  | inl l ↦ (x, inl refl, l)
-  | inr l ↦ (let rest = member-from_joined f xs c l in (rest.0, inr rest.1, rest.2))
-]
-
--- the coordinates of a cell over three lists are members of them
-member-from_cells_over : (xs ys zs : List ℤ) (c : Cell) → Member (cells_over xs ys zs) c → Member xs c.x × Member ys c.y × Member zs c.z
-member-from_cells_over xs ys zs c k =
-    let at_z = member-from_joined (λ z. joined (map (λ y. map (λ x. record { x = x; y = y; z = z }) xs) ys)) zs c k in
-    let at_y = member-from_joined (λ y. map (λ x. record { x = x; y = y; z = at_z.0 }) xs) ys c at_z.2 in
-    let at_x = member-from_map (λ x. record { x = x; y = at_y.0; z = at_z.0 }) xs c at_y.2 in (
-      subst (Member xs) (ap (λ (d : Cell). d.x) at_x.2) at_x.1,
-      subst (Member ys) (ap (λ (d : Cell). d.y) at_x.2) at_y.1,
-      subst (Member zs) (ap (λ (d : Cell). d.z) at_x.2) at_z.1,
-    )
 
 -- ---- the integers in a gap
 

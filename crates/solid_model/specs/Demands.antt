@@ -1,7 +1,7 @@
 -- What the lines of a grid demand of its blocks, and which choices for the first blocks are live. Where a line is told of, the
 -- box of grid cells is counted by its own coordinates, and its columns from the nearest grid cell on, which stands at depth 0.
 use Rattle.std.specs.Prelude.{◌≡◌, Bool, true, false, ◌&&◌, ◌||◌, ℕ, suc, ◌≤◌, nat_lt, nat_le, List, [], ◌∷◌, ◌++◌, length, map, slice_get, ℤ, pos, ◌-ℤ◌, Option, Some, None, IsTrue, if◌then◌else◌}
-use Rattle.std.specs.List.{list_any, list_all, range_with_len}
+use Rattle.std.specs.List.{flat_map, list_any, list_all, range_with_len}
 use Rattle.solid_model.specs.declared.cell.Cell.{Cell}
 use Rattle.solid_model.specs.declared.frame.Direction.{Direction}
 use Rattle.solid_model.specs.declared.frame.Frame.{Frame}
@@ -15,7 +15,7 @@ use Rattle.solid_model.specs.Columns.{ColumnsDraw}
 use Rattle.solid_model.specs.Edges.{agree}
 use Rattle.solid_model.specs.Frames.{frame_of, along, across, at_places}
 use Rattle.solid_model.specs.Lists.{Member}
-use Rattle.solid_model.specs.Panels.{GridParts, joined}
+use Rattle.solid_model.specs.Panels.{GridParts}
 use Rattle.solid_model.specs.Rooms.{Sizes}
 use Rattle.solid_model.specs.GridBox.{grid_sizes, axis_along, axis_across, grid_style}
 
@@ -35,7 +35,7 @@ lines_at g v upright at = map (λ cell. record { view = v; upright = upright; at
 
 -- all of them, by position, then by cell
 abbrev pub lines_along : GridParts → View → Bool → List LineId
-lines_along g v upright = joined (map (lines_at g v upright) (range_with_len 0 (suc (grid_sizes g (axis_across v upright)))))
+lines_along g v upright = flat_map (lines_at g v upright) (range_with_len 0 (suc (grid_sizes g (axis_across v upright))))
 
 -- all lines of a view, the level ones first
 abbrev pub lines_in : GridParts → View → List LineId

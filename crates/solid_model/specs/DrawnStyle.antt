@@ -43,7 +43,11 @@ drawn_style f s g = if list_any (is_seen f s g) (side_depths f s) then Solid
 abbrev pub solid_drawing : List Cell → Segment → Style
 solid_drawing s g = drawn_style (frame_of g.view) s g
 
--- the styles that a drawing gives the level, or the upright, segments of a view: a list for each line, with a style for each
--- place at which a segment begins
+-- the styles that a drawing gives the level, or the upright, segments of a view on a line: one for each place at which a segment
+-- begins
+abbrev pub line_styles : (Segment → Style) → View → Bool → List ℤ → ℤ → List Style
+line_styles drawing v upright starts line = map (λ start. drawing (segment_at v upright start line)) starts
+
+-- and on some lines: a list for each
 abbrev pub segment_styles : (Segment → Style) → View → Bool → List ℤ → List ℤ → List (List Style)
-segment_styles drawing v upright lines starts = map (λ line. map (λ start. drawing (segment_at v upright start line)) starts) lines
+segment_styles drawing v upright lines starts = map (line_styles drawing v upright starts) lines

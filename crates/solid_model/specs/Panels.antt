@@ -1,12 +1,13 @@
 -- The styles of a grid's segments, view by view, and the grid of a drawing.
 use Rattle.std.specs.Prelude.{◌≡◌, ◌≤◌, ◌-◌, Bool, List, [], ◌∷◌, ◌++◌, length, take, ℤ, if◌then◌else◌}
+use Rattle.std.specs.List.{flat_map}
 use Rattle.solid_model.specs.declared.cell.Axis.{Axis}
 use Rattle.solid_model.specs.declared.cell.Axis.TheVariants.{X, Y, Z}
 use Rattle.solid_model.specs.declared.frame.View.{View}
 use Rattle.solid_model.specs.declared.frame.View.TheVariants.{Front, Top, Side}
 use Rattle.solid_model.specs.declared.segment.Segment.{Segment}
 use Rattle.solid_model.specs.declared.segment.Style.{Style}
-use Rattle.solid_model.specs.DrawnStyle.{segment_styles}
+use Rattle.solid_model.specs.DrawnStyle.{line_styles}
 use Rattle.solid_model.specs.Frames.{frame_of, along, across}
 use Rattle.solid_model.specs.Grid.{Coordinates, AreGridCoordinates}
 use Rattle.solid_model.specs.Limits.{most_grid_coordinates}
@@ -33,11 +34,6 @@ panel_of Front p = p.front
 panel_of Top p = p.top
 panel_of Side p = p.side
 
--- lists, one after another
-abbrev pub joined : {A : Type 0} → List (List A) → List A
-joined [] = []
-joined (xs ∷ xss) = xs ++ joined xss
-
 -- the members of a list but its last one: where the grid segments along an axis begin
 abbrev pub starts_of : List ℤ → List ℤ
 starts_of zs = take (length zs - 1) zs
@@ -45,8 +41,8 @@ starts_of zs = take (length zs - 1) zs
 -- The styles that a drawing gives the level, or the upright, grid segments of a view: by position across them, then by cell.
 -- A grid segment has the style of its first unit segment.
 abbrev pub grid_styles : (Segment → Style) → Coordinates → View → Bool → List Style
-grid_styles drawing coordinates v upright = joined (segment_styles drawing v upright
-    (coordinates (across (frame_of v) upright).axis) (starts_of (coordinates (along (frame_of v) upright).axis)))
+grid_styles drawing coordinates v upright =
+    flat_map (line_styles drawing v upright (starts_of (coordinates (along (frame_of v) upright).axis))) (coordinates (across (frame_of v) upright).axis)
 
 -- these are the styles that a drawing gives the segments of a grid with these coordinates
 abbrev pub AreGridStyles : (Segment → Style) → Coordinates → PanelsStyles → Type 0

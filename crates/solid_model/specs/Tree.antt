@@ -1,10 +1,9 @@
 -- The tree of prefixes, over any word "live" that tells some lists of truth values from others. A prefix says for each of the
 -- first blocks whether it is full; below it stand those that say so for one block more, the full one first.
 use Rattle.std.specs.Prelude.{◌≡◌, Bool, true, false, ◌&&◌, ℕ, zero, suc, ◌+◌, ◌-◌, ◌≤◌, ◌==◌, List, [], ◌∷◌, ◌++◌, length, take, drop, filter, map, sum, IsPermutation, IsTrue}
-use Rattle.std.specs.List.{list_any}
+use Rattle.std.specs.List.{flat_map, list_any}
 use Rattle.solid_model.specs.Edges.{agree}
 use Rattle.solid_model.specs.Lists.{Each}
-use Rattle.solid_model.specs.Panels.{joined}
 
 -- which prefixes are live
 abbrev pub Word : Type 0
@@ -51,7 +50,7 @@ pub record IsAllowed (live : Word) (n : ℕ) (piece : List Bool) (opened : ℕ) 
   pub some : 1 ≤ opened
   pub rest_live : Each (λ prefix. IsTrue (live prefix)) rest
   pub counted : live_count live n piece ≡ opened + sum (map (live_count live n) rest)
-  pub shared : IsPermutation (live_below live n piece) (found ++ joined (map (live_below live n) rest))
+  pub shared : IsPermutation (live_below live n piece) (found ++ flat_map (live_below live n) rest)
 
 -- a list is another one with one value more
 abbrev pub is_one_more : List Bool → List Bool → Bool

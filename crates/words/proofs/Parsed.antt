@@ -19,7 +19,7 @@ use Rattle.words.specs.declared.table.Range.{Range}
 use Rattle.words.specs.Rows.{has_flag, is_range, is_sound, read_in}
 use Rattle.words.specs.Rules.{app_by, number_rules, option_rule, rule_by, rules_of}
 use Rattle.words.specs.Words.{Field, Table, Text, Use, has_number, is_used, number_name}
-use Rattle.words.proofs.Built.{built_numbers, built_option, built_rules, rules_filled, shape_by}
+use Rattle.words.proofs.Built.{built_number, built_numbers, built_option, built_rules, rules_filled, shape_by}
 use Rattle.words.proofs.OneUse.{at_new, none, use_row}
 
 -- ---- the command is one of which `clap` says all
@@ -46,29 +46,25 @@ rules_simple t = all_among (λ a. a.is_simple) option_rule (λ f. one f.name f.r
     number None = refl
     number (Some r) = refl
 
-built_simple : (t : Table) → list_all (λ (a : Rule). a.is_simple) (built_rules t) ≡ true
-built_simple t = all_among (λ a. a.is_simple) built_option (λ f. one f.name f.range) t.options (built_numbers t.number)
-    (number t.number)
+-- what the rules of options and of numbers pass, as they are built, all rules of a table pass, as they are built
+all_built : (p : Rule → Bool) → ((name : Text) → p (filled (rule_by name None)) ≡ true)
+    → ((name : Text) (r : Range) → p (filled (rule_by name (Some r))) ≡ true) → ((r : Range) → p (built_number r) ≡ true)
+    → (t : Table) → list_all p (built_rules t) ≡ true
+all_built p flag option number t = all_among p built_option (λ f. one f.name f.range) t.options (built_numbers t.number) (numbers t.number)
   where
-    one : (name : Text) (range : Option Range) → (filled (rule_by name range)).is_simple ≡ true
-    one name None = refl
-    one name (Some r) = refl
+    one : (name : Text) (range : Option Range) → p (filled (rule_by name range)) ≡ true
+    one name None = flag name
+    one name (Some r) = option name r
 
-    number : (n : Option Range) → list_all (λ (a : Rule). a.is_simple) (built_numbers n) ≡ true
-    number None = refl
-    number (Some r) = refl
+    numbers : (n : Option Range) → list_all p (built_numbers n) ≡ true
+    numbers None = refl
+    numbers (Some r) = ap (λ b. b && true) (number r)
+
+built_simple : (t : Table) → list_all (λ (a : Rule). a.is_simple) (built_rules t) ≡ true
+built_simple = all_built (λ a. a.is_simple) (λ name. refl) (λ name r. refl) (λ r. refl)
 
 built_free : (t : Table) → list_all (λ (a : Rule). a.is_free) (built_rules t) ≡ true
-built_free t = all_among (λ a. a.is_free) built_option (λ f. one f.name f.range) t.options (built_numbers t.number)
-    (number t.number)
-  where
-    one : (name : Text) (range : Option Range) → (filled (rule_by name range)).is_free ≡ true
-    one name None = refl
-    one name (Some r) = refl
-
-    number : (n : Option Range) → list_all (λ (a : Rule). a.is_free) (built_numbers n) ≡ true
-    number None = refl
-    number (Some r) = refl
+built_free = all_built (λ a. a.is_free) (λ name. refl) (λ name r. refl) (λ r. refl)
 
 built_in_order : (t : Table) (k : ℕ) → list_any (is_early_multiple k) (built_rules t) ≡ false
 built_in_order t k = any_among (is_early_multiple k) built_option (λ f. one f.name f.range) t.options (built_numbers t.number)

@@ -1,12 +1,11 @@
 -- A position more at which all can be met, or the first broken line.
 use Rattle.std.proofs.Common.{◌≡◌, ◌<◌, suc, map, None, ap, subst, ◌∙◌, arith}
-use Rattle.std.specs.List.{range_with_len}
+use Rattle.std.specs.List.{flat_map, range_with_len}
 use Rattle.line_demands.specs.Broken.{TellsBroken}
 use Rattle.line_demands.specs.Decisions.{decided_by}
 use Rattle.line_demands.proofs.FirstBroken.{lists_more, lists_stop}
 use Rattle.line_demands.proofs.broken.broken_along.Goals as goal
 use Rattle.solid_model.specs.Demands.{lines_at}
-use Rattle.solid_model.specs.Panels.{joined}
 use Rattle.solid_model.specs.GridBox.{grid_sizes, axis_across}
 
 pub returns-in-Some : goal.returns-in-Some
@@ -29,4 +28,4 @@ returns c =
     let size : c.cells_across-at-end.result ≡ grid_sizes p.grid (axis_across c.args.view c.args.upright) =
     c.cells_across-at-end.ensures.same ∙ ap (λ g. grid_sizes g (axis_across c.args.view c.args.upright)) (c.grid.ensures.grid ∙ ap (λ q. q.grid) c.problem.ensures) in
     let whole : c.loop-at.at ≡ suc (grid_sizes p.grid (axis_across c.args.view c.args.upright)) = (let e : c.loop-at.at ≡ suc c.cells_across-at-end.result = omega arith in e ∙ ap suc size) in
-    subst (λ n. TellsBroken p (decided_by c.args.partial.now.decisions) (joined (map (lines_at p.grid c.args.view c.args.upright) (range_with_len 0 n))) None) whole c.loop-at.invariant
+    subst (λ n. TellsBroken p (decided_by c.args.partial.now.decisions) (flat_map (lines_at p.grid c.args.view c.args.upright) (range_with_len 0 n)) None) whole c.loop-at.invariant

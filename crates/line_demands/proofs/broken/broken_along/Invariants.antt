@@ -1,12 +1,11 @@
 -- All lines at the positions so far can be met.
 use Rattle.std.proofs.Common.{map, None}
-use Rattle.std.specs.List.{range_with_len}
+use Rattle.std.specs.List.{flat_map, range_with_len}
 use Rattle.line_demands.specs.Broken.{TellsBroken}
 use Rattle.line_demands.specs.Decisions.{decided_by}
 use Rattle.line_demands.proofs.broken.broken_along.Given as goal
 use Rattle.solid_model.specs.Demands.{lines_at}
-use Rattle.solid_model.specs.Panels.{joined}
 
 abbrev pub invariant-loop-at : goal.invariant-loop-at
 invariant-loop-at l = TellsBroken l.partial.problem (decided_by l.partial.decisions)
-    (joined (map (lines_at l.partial.problem.grid l.view l.upright) (range_with_len 0 l.at))) None
+    (flat_map (lines_at l.partial.problem.grid l.view l.upright) (range_with_len 0 l.at)) None
