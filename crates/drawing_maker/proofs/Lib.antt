@@ -4,7 +4,7 @@ pub mod MadeGrid
 pub mod MadeRows
 pub mod RowCoordinates
 pub mod RowDrawing
-pub mod RowStops
+pub mod RowTicks
 pub mod RowUnion
 pub mod Rows
-pub mod Spots
+pub mod Cubelets

@@ -1,4 +1,4 @@
--- Each coordinate of a row of pieces is a grid coordinate of its drawing: some cell there differs from the one before it.
+-- Each coordinate of a row of cubes is a grid coordinate of its drawing: some cell there differs from the one before it.
 use Rattle.std.proofs.Common.{◌≡◌, ◌≢◌, inl, inr, Bool, true, false, ◌&&◌, ◌||◌, ◌==◌, not, nat_lt, ℕ, zero, suc, ◌+◌, ◌*◌, ◌<◌, ◌≤◌, List, ℤ, pos, ◌-ℤ◌, ◌<ℤ◌, IsTrue, if◌then◌else◌, refl, ap, sym, subst, ◌∙◌, arith}
 use Rattle.std.specs.List.{range_with_len}
 use Rattle.std.proofs.lemmas.Bool.{false≢true, and_parts, cases_lt, ltb-true}
@@ -12,25 +12,25 @@ use Rattle.solid_model.specs.Edges.{agree, second_axis}
 use Rattle.solid_model.specs.Grid.{IsGridCoordinate}
 use Rattle.solid_model.specs.Lists.{Member, Each}
 use Rattle.solid_model.proofs.Lists.{member-from_map, each-at}
-use Rattle.drawing_maker.specs.declared.piece.Kind.{Kind}
-use Rattle.drawing_maker.specs.declared.piece.Kind.TheVariants.{UnitCube, HollowCube, EightVoids}
-use Rattle.drawing_maker.specs.declared.piece.Piece.{Piece}
-use Rattle.drawing_maker.specs.declared.stops.Stop.{Stop}
-use Rattle.drawing_maker.specs.Pieces.{Spot, side_of, is_void, row_cells}
-use Rattle.drawing_maker.specs.Rows.{row_stops, coordinates_of_stops}
+use Rattle.drawing_maker.specs.declared.cube.Kind.{Kind}
+use Rattle.drawing_maker.specs.declared.cube.Kind.TheVariants.{UnitCube, HollowCube, EightVoids}
+use Rattle.drawing_maker.specs.declared.cube.Cube.{Cube}
+use Rattle.drawing_maker.specs.declared.ticks.Tick.{Tick}
+use Rattle.drawing_maker.specs.Cubes.{Cubelet, cube_side, is_void, row_cells}
+use Rattle.drawing_maker.specs.Rows.{row_ticks, coordinates_of_ticks}
 use Rattle.drawing_maker.proofs.DrawnAcross.{coordinate_between}
 use Rattle.solid_model.proofs.Ranges.{member-range}
 use Rattle.drawing_maker.proofs.Rows.{IsRow, Spans, LiesInPart, scaled, part_spans}
-use Rattle.drawing_maker.proofs.RowStops.{stop_in_piece, stop_in_row}
-use Rattle.drawing_maker.proofs.Spots.{place_along, empty_beside, full_in_spot}
+use Rattle.drawing_maker.proofs.RowTicks.{tick_in_cube, tick_in_row}
+use Rattle.drawing_maker.proofs.Cubelets.{place_along, empty_beside, full_in_cubelet}
 
 -- ---- one place along an axis, another across it
 
--- the spot with the place i along an axis and j along the two others
-abbrev pub spot_with : Axis → ℕ → ℕ → Spot
-spot_with X i j = record { x = i; y = j; z = j }
-spot_with Y i j = record { x = j; y = i; z = j }
-spot_with Z i j = record { x = j; y = j; z = i }
+-- the cubelet with the place i along an axis and j along the two others
+abbrev pub cubelet_with : Axis → ℕ → ℕ → Cubelet
+cubelet_with X i j = record { x = i; y = j; z = j }
+cubelet_with Y i j = record { x = j; y = i; z = j }
+cubelet_with Z i j = record { x = j; y = j; z = i }
 
 -- and the cell with these coordinates
 abbrev pub cell_with : Axis → ℤ → ℤ → Cell
@@ -39,7 +39,7 @@ cell_with Y z w = record { x = w; y = z; z = w }
 cell_with Z z w = record { x = w; y = w; z = z }
 
 -- what holds of both holds along each axis
-along_each : (P : ℕ → ℤ → Type 0) (i j : ℕ) (z w : ℤ) → P i z → P j w → (a b : Axis) → P (place_along b (spot_with a i j)) (coordinate b (cell_with a z w))
+along_each : (P : ℕ → ℤ → Type 0) (i j : ℕ) (z w : ℤ) → P i z → P j w → (a b : Axis) → P (place_along b (cubelet_with a i j)) (coordinate b (cell_with a z w))
 along_each P i j z w h k X X = h
 along_each P i j z w h k X Y = k
 along_each P i j z w h k X Z = k
@@ -67,23 +67,23 @@ before_it Z z w = refl
 
 -- ---- full and empty places along a line
 
--- Along a line at the place j across an axis: before the piece, at 0, nothing is full; at suc i its place i; behind it nothing.
+-- Along a line at the place j across an axis: before the cube, at 0, nothing is full; at suc i its place i; behind it nothing.
 abbrev pub is_full_along : Kind → Axis → ℕ → ℕ → Bool
 is_full_along kind a j zero = false
-is_full_along kind a j (suc i) = nat_lt i (side_of kind) && not (is_void kind (spot_with a i j))
+is_full_along kind a j (suc i) = nat_lt i (cube_side kind) && not (is_void kind (cubelet_with a i j))
 
--- the line on which the place before a stop and the one behind it differ: along the border at the first and the last stop, and
+-- the line on which the place before a tick and the one behind it differ: along the border at the first and the last tick, and
 -- else through the place 1, where the voids stand
 abbrev pub telling_line : Kind → ℕ → ℕ
-telling_line kind k = if k == 0 || k == side_of kind then 0 else 1
+telling_line kind k = if k == 0 || k == cube_side kind then 0 else 1
 
--- on that line, which the piece has, they do differ
+-- on that line, which the cube has, they do differ
 abbrev tells : Kind → Axis → ℕ → Bool
-tells kind a k = nat_lt (telling_line kind k) (side_of kind)
+tells kind a k = nat_lt (telling_line kind k) (cube_side kind)
     && not (agree (is_full_along kind a (telling_line kind k) k) (is_full_along kind a (telling_line kind k) (suc k)))
 
--- at each stop
-each_tells : (kind : Kind) (a : Axis) → Each (λ k. IsTrue (tells kind a k)) (range_with_len 0 (suc (side_of kind)))
+-- at each tick
+each_tells : (kind : Kind) (a : Axis) → Each (λ k. IsTrue (tells kind a k)) (range_with_len 0 (suc (cube_side kind)))
 each_tells UnitCube X = (refl, (refl, tt))
 each_tells UnitCube Y = (refl, (refl, tt))
 each_tells UnitCube Z = (refl, (refl, tt))
@@ -102,52 +102,52 @@ differ_from_tells false false e = absurd (false≢true e)
 
 -- ---- cells of a row
 
--- a coordinate lies before the piece, or in its place i, or behind it
-abbrev LiesAt : Piece → ℕ → ℤ → Type 0
+-- a coordinate lies before the cube, or in its place i, or behind it
+abbrev LiesAt : Cube → ℕ → ℤ → Type 0
 LiesAt p zero z = z <ℤ pos p.origin
 LiesAt p (suc i) z = LiesInPart p i z
 
--- behind a stop that place begins, and before it the place before ends
-at_stop : (p : Piece) (k : ℕ) → 0 < p.scale → LiesAt p (suc k) (pos (p.origin + p.scale * k))
-at_stop p k sized = (omega (arith, ints), (let e = scaled p 1 1 (omega arith) in omega (arith, ints)))
+-- behind a tick that place begins, and before it the place before ends
+at_tick : (p : Cube) (k : ℕ) → 0 < p.scale → LiesAt p (suc k) (pos (p.origin + p.scale * k))
+at_tick p k sized = (omega (arith, ints), (let e = scaled p 1 1 (omega arith) in omega (arith, ints)))
 
-before_stop : (p : Piece) (k : ℕ) → 0 < p.scale → LiesAt p k (pos (p.origin + p.scale * k) -ℤ pos 1)
-before_stop p zero sized = omega (arith, ints)
-before_stop p (suc k) sized = (omega (arith, ints), omega (arith, ints))
+before_tick : (p : Cube) (k : ℕ) → 0 < p.scale → LiesAt p k (pos (p.origin + p.scale * k) -ℤ pos 1)
+before_tick p zero sized = omega (arith, ints)
+before_tick p (suc k) sized = (omega (arith, ints), omega (arith, ints))
 
-module _ (ps : List Piece) (row : IsRow ps) (p : Piece) (k : Member ps p) (a : Axis) (j : ℕ) (w : ℤ) (inside : j < side_of p.kind) (lies : LiesInPart p j w) where
+module _ (ps : List Cube) (row : IsRow ps) (p : Cube) (k : Member ps p) (a : Axis) (j : ℕ) (w : ℤ) (inside : j < cube_side p.kind) (lies : LiesInPart p j w) where
   across_spans : (z : ℤ) → Spans p (coordinate (second_axis a) (cell_with a z w))
   across_spans z = subst (Spans p) (sym (across_it a z w)) (part_spans p j w inside lies)
 
   outside : (z : ℤ) → (Spans p z → ⊥) → is_full (row_cells ps) (cell_with a z w) ≡ false
   outside z none = empty_beside ps row p k a (second_axis a) (cell_with a z w) (across_spans z) (λ spans. none (subst (Spans p) (along_it a z w) spans))
 
-  -- on a line in a piece a cell is full as the piece's kind says
+  -- on a line in a cube a cell is full as the cube's kind says
   pub full_along : (n : ℕ) (z : ℤ) → LiesAt p n z → is_full (row_cells ps) (cell_with a z w) ≡ is_full_along p.kind a j n
   full_along zero z at = outside z (λ spans. omega (arith, ints, spans.0))
-  full_along (suc i) z at = elim (cases_lt i (side_of p.kind)) as (λ _. is_full (row_cells ps) (cell_with a z w) ≡ is_full_along p.kind a j (suc i)) [
-    | inl l ↦ (let yes : nat_lt i (side_of p.kind) ≡ true = grind (arith, l) in
-        full_in_spot ps row p k (spot_with a i j) (along_each (λ n _. n < side_of p.kind) i j z w l inside a) (cell_with a z w) (along_each (LiesInPart p) i j z w at lies a)
-        ∙ sym (ap (λ b. b && not (is_void p.kind (spot_with a i j))) yes))
-    | inr l ↦ (let no : nat_lt i (side_of p.kind) ≡ false = grind (arith, l) in
-        outside z (λ spans. let e = scaled p (side_of p.kind) i l in omega (arith, ints, spans.1, at.0, e))
-        ∙ sym (ap (λ b. b && not (is_void p.kind (spot_with a i j))) no))
+  full_along (suc i) z at = elim (cases_lt i (cube_side p.kind)) as (λ _. is_full (row_cells ps) (cell_with a z w) ≡ is_full_along p.kind a j (suc i)) [
+    | inl l ↦ (let yes : nat_lt i (cube_side p.kind) ≡ true = grind (arith, l) in
+        full_in_cubelet ps row p k (cubelet_with a i j) (along_each (λ n _. n < cube_side p.kind) i j z w l inside a) (cell_with a z w) (along_each (LiesInPart p) i j z w at lies a)
+        ∙ sym (ap (λ b. b && not (is_void p.kind (cubelet_with a i j))) yes))
+    | inr l ↦ (let no : nat_lt i (cube_side p.kind) ≡ false = grind (arith, l) in
+        outside z (λ spans. let e = scaled p (cube_side p.kind) i l in omega (arith, ints, spans.1, at.0, e))
+        ∙ sym (ap (λ b. b && not (is_void p.kind (cubelet_with a i j))) no))
   ]
 
-module _ (ps : List Piece) (row : IsRow ps) where
-  -- at a stop of a piece, on the telling line, a cell differs from the one before it
-  pub differs_at_stop : (p : Piece) → Member ps p → (a : Axis) (k : ℕ) → k ≤ side_of p.kind
+module _ (ps : List Cube) (row : IsRow ps) where
+  -- at a tick of a cube, on the telling line, a cell differs from the one before it
+  pub differs_at_tick : (p : Cube) → Member ps p → (a : Axis) (k : ℕ) → k ≤ cube_side p.kind
       → (c : Cell) × (coordinate a c ≡ pos (p.origin + p.scale * k)) × (is_full (row_cells ps) (cell_before a c) ≢ is_full (row_cells ps) c)
-  differs_at_stop p m a k l = (
+  differs_at_tick p m a k l = (
     cell_with a z w,
     along_it a z w,
-    λ same. differ_from_tells _ _ parts.1 (sym (full_along ps row p m a j w inside line k (z -ℤ pos 1) (before_stop p k sized))
+    λ same. differ_from_tells _ _ parts.1 (sym (full_along ps row p m a j w inside line k (z -ℤ pos 1) (before_tick p k sized))
         ∙ ap (is_full (row_cells ps)) (sym (before_it a z w)) ∙ same
-        ∙ full_along ps row p m a j w inside line (suc k) z (at_stop p k sized)),
+        ∙ full_along ps row p m a j w inside line (suc k) z (at_tick p k sized)),
   )
     where
       sized : 0 < p.scale
-      sized = each-at (λ (q : Piece). 0 < q.scale) ps p row.sized m
+      sized = each-at (λ (q : Cube). 0 < q.scale) ps p row.sized m
 
       j : ℕ
       j = telling_line p.kind k
@@ -158,22 +158,22 @@ module _ (ps : List Piece) (row : IsRow ps) where
       w : ℤ
       w = pos (p.origin + p.scale * j)
 
-      parts : (nat_lt j (side_of p.kind) ≡ true) × (not (agree (is_full_along p.kind a j k) (is_full_along p.kind a j (suc k))) ≡ true)
-      parts = and_parts _ _ (each-at (λ n. IsTrue (tells p.kind a n)) (range_with_len 0 (suc (side_of p.kind))) k (each_tells p.kind a)
-          (member-range (suc (side_of p.kind)) 0 k (omega arith) (omega arith)))
+      parts : (nat_lt j (cube_side p.kind) ≡ true) × (not (agree (is_full_along p.kind a j k) (is_full_along p.kind a j (suc k))) ≡ true)
+      parts = and_parts _ _ (each-at (λ n. IsTrue (tells p.kind a n)) (range_with_len 0 (suc (cube_side p.kind))) k (each_tells p.kind a)
+          (member-range (suc (cube_side p.kind)) 0 k (omega arith) (omega arith)))
 
-      inside : j < side_of p.kind
-      inside = ltb-true j (side_of p.kind) parts.0
+      inside : j < cube_side p.kind
+      inside = ltb-true j (cube_side p.kind) parts.0
 
       line : LiesInPart p j w
-      line = at_stop p j sized
+      line = at_tick p j sized
 
   -- so each coordinate of the row is a grid coordinate of its drawing
-  pub row_coordinate : (a : Axis) (z : ℤ) → Member (coordinates_of_stops (row_stops ps)) z → IsGridCoordinate (solid_drawing (row_cells ps)) a z
+  pub row_coordinate : (a : Axis) (z : ℤ) → Member (coordinates_of_ticks (row_ticks ps)) z → IsGridCoordinate (solid_drawing (row_cells ps)) a z
   row_coordinate a z k =
-      let s = member-from_map (λ (t : Stop). pos t.at) (row_stops ps) z k in
-      let p = stop_in_row ps s.0 s.1 in
-      let at = stop_in_piece p.0 s.0 p.2 in
-      let d = differs_at_stop p.0 p.1 a at.0 at.1 in
+      let s = member-from_map (λ (t : Tick). pos t.at) (row_ticks ps) z k in
+      let p = tick_in_row ps s.0 s.1 in
+      let at = tick_in_cube p.0 s.0 p.2 in
+      let d = differs_at_tick p.0 p.1 a at.0 at.1 in
       subst (IsGridCoordinate (solid_drawing (row_cells ps)) a) (d.1 ∙ ap pos (sym at.2) ∙ s.2)
       (coordinate_between (row_cells ps) a d.0 d.2)

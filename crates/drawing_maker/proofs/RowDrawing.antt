@@ -1,4 +1,4 @@
--- The drawing of a row of pieces that begins at 0 is a drawing, and the row's coordinates make its grid.
+-- The drawing of a row of cubes that begins at 0 is a drawing, and the row's coordinates make its grid.
 use Rattle.std.proofs.Common.{◌≢◌, ⊎_elim, Bool, true, false, List, ℤ, pos, ◌≤ℤ◌, ◌<ℤ◌, refl, arith}
 use Rattle.std.proofs.lemmas.Int.{ints}
 use Rattle.solid_model.specs.declared.cell.Axis.{Axis}

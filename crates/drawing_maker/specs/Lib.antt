@@ -1,4 +1,4 @@
-pub mod Pieces
+pub mod Cubes
 pub mod Rows
 pub mod Made
 pub mod Making

@@ -1,11 +1,12 @@
--- Made solids: a row of 14 pieces for each number, by the words of a generator (Pcg32, stream 54).
+-- Made solids: a row of 14 cubes for each number, by the words of a generator (Pcg32, stream 54).
 use Rattle.std.specs.Prelude.{◌+◌, ◌%◌, ◌&&◌, nat_le, Bool, true, false, not, ℕ, zero, suc, List, [], ◌∷◌, if◌then◌else◌}
 use Rattle.rand_pcg.specs.Lcg.{Lcg, started, increment_of}
 use Rattle.rand_pcg.specs.Pcg.{pcg32, multiplier_64}
 use Rattle.solid_model.specs.declared.cell.Cell.{Cell}
-use Rattle.drawing_maker.specs.declared.piece.Kind.{Kind}
-use Rattle.drawing_maker.specs.declared.piece.Kind.TheVariants.{UnitCube, HollowCube, EightVoids}
-use Rattle.drawing_maker.specs.Pieces.{PieceParts, next_origin, row_cells}
+use Rattle.drawing_maker.specs.declared.cube.Kind.{Kind}
+use Rattle.drawing_maker.specs.declared.cube.Kind.TheVariants.{UnitCube, HollowCube, EightVoids}
+use Rattle.drawing_maker.specs.declared.cube.Cube.{Cube}
+use Rattle.drawing_maker.specs.Cubes.{next_origin, row_cells}
 
 -- the generator of a number
 abbrev pub generator_of : ℕ → Lcg
@@ -26,21 +27,21 @@ abbrev pub has_eight_voids : Kind → Bool
 has_eight_voids EightVoids = true
 has_eight_voids _ = false
 
--- so many pieces more, from an origin on: for each two words are drawn, the first for its kind and the second for its scale
-abbrev pub later_pieces : ℕ → Lcg → Bool → ℕ → List PieceParts
-later_pieces zero g alone origin = []
-later_pieces (suc more) g alone origin =
+-- so many cubes more, from an origin on: for each two words are drawn, the first for its kind and the second for its scale
+abbrev pub later_cubes : ℕ → Lcg → Bool → ℕ → List Cube
+later_cubes zero g alone origin = []
+later_cubes (suc more) g alone origin =
     let a = pcg32 g in let b = pcg32 a.1 in
-    let p : PieceParts = record { kind = kind_by alone (a.0 % 8); scale = scale_by b.0; origin = origin } in
-    p ∷ later_pieces more b.1 (alone && not (has_eight_voids p.kind)) (next_origin p)
+    let p : Cube = record { kind = kind_by alone (a.0 % 8); scale = scale_by b.0; origin = origin } in
+    p ∷ later_cubes more b.1 (alone && not (has_eight_voids p.kind)) (next_origin p)
 
--- the pieces of a number: the first is a cube with eight voids, whatever its first word is
-abbrev pub made_pieces : ℕ → List PieceParts
-made_pieces n =
+-- the cubes of a number: the first is a cube with eight voids, whatever its first word is
+abbrev pub made_cubes : ℕ → List Cube
+made_cubes n =
     let a = pcg32 (generator_of n) in let b = pcg32 a.1 in
-    let p : PieceParts = record { kind = EightVoids; scale = scale_by b.0; origin = 0 } in
-    p ∷ later_pieces 13 b.1 true (next_origin p)
+    let p : Cube = record { kind = EightVoids; scale = scale_by b.0; origin = 0 } in
+    p ∷ later_cubes 13 b.1 true (next_origin p)
 
 -- the made solid of a number
 abbrev pub made_solid : ℕ → List Cell
-made_solid n = row_cells (made_pieces n)
+made_solid n = row_cells (made_cubes n)

@@ -1,12 +1,12 @@
-//! Drawings of any size to try things on, each made from a number.
+//! Drawings to try things on, each made from a number.
 #![tactic(auto)]
 
 mod cells;
+mod cube;
+mod cubes;
 mod making;
-mod piece;
-mod pieces;
-mod stops;
 #[cfg(test)]
 mod tests;
+mod ticks;
 
 pub use making::make;

@@ -1,13 +1,13 @@
-//! Made solids whose pieces were computed by another program, after the reference code of PCG32.
+//! Made solids whose cubes were computed by another program, after the reference code of PCG32.
 
+use crate::cube::Kind;
+use crate::cubes::made_cubes;
 use crate::making::make;
-use crate::piece::Kind;
-use crate::pieces::made_pieces;
 use std::alloc::Global;
 use std::fmt::Write;
 use std::test::Fail;
 
-/// A row a number: the number; its pieces, with `E` for a cube with eight voids, `H` for a hollow
+/// A row a number: the number; its cubes, with `E` for a cube with eight voids, `H` for a hollow
 /// cube, `U` for a unit cube, and the scale; where the last one ends; how many cells its grid has;
 /// and how many of them are full: 117 of each `E`, 26 of each `H` and 1 of each `U`.
 const MADE: &str = "\
@@ -23,12 +23,12 @@ fn letter(kind: Kind) -> &'static str {
     }
 }
 
-/// A number and its pieces, as a row has them.
-fn told_pieces(alloc: Global, n: u64) -> Result<String, Fail> {
+/// A number and its cubes, as a row has them.
+fn told_cubes(alloc: Global, n: u64) -> Result<String, Fail> {
     let mut told = String::new(alloc);
     write!(told, "{n}")?;
-    for piece in &made_pieces(alloc, n)? {
-        write!(told, " {}{}", letter(piece.kind), piece.scale)?;
+    for cube in &made_cubes(alloc, n)? {
+        write!(told, " {}{}", letter(cube.kind), cube.scale)?;
     }
     Ok(told)
 }
@@ -54,7 +54,7 @@ fn numbers_make_the_solids_that_another_program_made(rt: HostRuntime) -> Result<
     for row in MADE.lines() {
         let n = row.split(' ').next().ok_or("number")?.parse::<u64>()?;
         let mut parts = row.split("; ");
-        assert_eq!(rt; Some(told_pieces(alloc, n)?.as_str()), parts.next());
+        assert_eq!(rt; Some(told_cubes(alloc, n)?.as_str()), parts.next());
         assert_eq!(rt; Some(told_cells(alloc, n)?.as_str()), parts.next());
     }
     Ok(())

@@ -5,7 +5,7 @@ pub mod DemandedBlocks
 pub mod DemandedCells
 pub mod DemandedColumns
 pub mod DemandedLines
-pub mod DemandedPieces
+pub mod DemandedCubes
 pub mod DemandedPlaces
 pub mod MadeBlocks
 pub mod MadeFiles
@@ -17,7 +17,7 @@ pub mod RowGrid
 pub mod RowJoined
 pub mod RowOutside
 pub mod RowPlaces
-pub mod RowSpots
+pub mod RowCubelets
 pub mod RowSteps
 pub mod SomeMadeGrid
-pub mod SpotNumbers
+pub mod CubeletNumbers

@@ -7,26 +7,26 @@ use Rattle.solid_model.specs.Grid.{Coordinates, AreGridCoordinates}
 use Rattle.solid_model.specs.Panels.{GridParts, coordinates_of, IsGridOf}
 use Rattle.solid_model.proofs.InGrid.{one_coordinates}
 use Rattle.solid_model.proofs.UnionDrawing.{union_on_grid}
-use Rattle.drawing_maker.specs.declared.piece.Piece.{Piece}
-use Rattle.drawing_maker.specs.Made.{made_pieces, made_solid}
-use Rattle.drawing_maker.specs.Pieces.{row_cells}
+use Rattle.drawing_maker.specs.declared.cube.Cube.{Cube}
+use Rattle.drawing_maker.specs.Made.{made_cubes, made_solid}
+use Rattle.drawing_maker.specs.Cubes.{row_cells}
 use Rattle.made_laws.specs.RowBlocks.{blocks_in_row, row_block_count}
-use Rattle.drawing_maker.specs.Rows.{row_stops, coordinates_of_stops}
+use Rattle.drawing_maker.specs.Rows.{row_ticks, coordinates_of_ticks}
 use Rattle.drawing_maker.proofs.DrawnAcross.{coordinate_on_grid}
 use Rattle.drawing_maker.proofs.MadeRows.{made_row}
 use Rattle.made_laws.proofs.MadeSolid.{made_is_drawing}
 use Rattle.made_laws.proofs.RowBlocks.{row_blocks, row_numbers}
 use Rattle.drawing_maker.proofs.RowCoordinates.{row_coordinate}
 use Rattle.drawing_maker.proofs.Rows.{IsRow}
-use Rattle.drawing_maker.proofs.RowStops.{ascends_row}
+use Rattle.drawing_maker.proofs.RowTicks.{ascends_row}
 use Rattle.drawing_maker.proofs.RowUnion.{union_of_row}
 
--- the coordinates of the grid of a row's drawing are those of its stops
-module _ (ps : List Piece) (row : IsRow ps) where
+-- the coordinates of the grid of a row's drawing are those of its ticks
+module _ (ps : List Cube) (row : IsRow ps) where
   abbrev own_coordinates : Coordinates
-  own_coordinates = λ a. coordinates_of_stops (row_stops ps)
+  own_coordinates = λ a. coordinates_of_ticks (row_ticks ps)
 
-  are_coordinates : (a : Axis) → AreGridCoordinates (solid_drawing (row_cells ps)) a (coordinates_of_stops (row_stops ps))
+  are_coordinates : (a : Axis) → AreGridCoordinates (solid_drawing (row_cells ps)) a (coordinates_of_ticks (row_ticks ps))
   are_coordinates a = record {
     ordered = ascends_row ps row;
     exact = λ z. (
@@ -36,15 +36,15 @@ module _ (ps : List Piece) (row : IsRow ps) where
     );
   }
 
-  pub row_grid_coordinates : (g : GridParts) → IsGridOf (solid_drawing (row_cells ps)) g → (a : Axis) → coordinates_of g a ≡ coordinates_of_stops (row_stops ps)
-  row_grid_coordinates g grid a = one_coordinates (solid_drawing (row_cells ps)) a (coordinates_of g a) (coordinates_of_stops (row_stops ps)) (grid.coordinates a) (are_coordinates a)
+  pub row_grid_coordinates : (g : GridParts) → IsGridOf (solid_drawing (row_cells ps)) g → (a : Axis) → coordinates_of g a ≡ coordinates_of_ticks (row_ticks ps)
+  row_grid_coordinates g grid a = one_coordinates (solid_drawing (row_cells ps)) a (coordinates_of g a) (coordinates_of_ticks (row_ticks ps)) (grid.coordinates a) (are_coordinates a)
 
 module _ (n : ℕ) (g : GridParts) (grid : IsGridOf (solid_drawing (made_solid n)) g) where
-  -- of each piece its full cells together, and each of its voids
-  pub made_blocks : AreBlocksOf g (blocks_in_row (made_pieces n) (drop 1 (row_stops (made_pieces n)))) (row_block_count (made_pieces n))
-  made_blocks = row_blocks (made_pieces n) (made_row n) g (row_grid_coordinates (made_pieces n) (made_row n) g grid) grid (made_is_drawing n)
+  -- of each cube its full cells together, and each of its voids
+  pub made_blocks : AreBlocksOf g (blocks_in_row (made_cubes n) (drop 1 (row_ticks (made_cubes n)))) (row_block_count (made_cubes n))
+  made_blocks = row_blocks (made_cubes n) (made_row n) g (row_grid_coordinates (made_cubes n) (made_row n) g grid) grid (made_is_drawing n)
 
   -- numbered in one way
   pub made_numbers : (numbers : List (Option ℕ)) (count : ℕ) → AreBlocksOf g numbers count
-      → (numbers ≡ blocks_in_row (made_pieces n) (drop 1 (row_stops (made_pieces n)))) × (count ≡ row_block_count (made_pieces n))
-  made_numbers = row_numbers (made_pieces n) (made_row n) g (row_grid_coordinates (made_pieces n) (made_row n) g grid) grid (made_is_drawing n)
+      → (numbers ≡ blocks_in_row (made_cubes n) (drop 1 (row_ticks (made_cubes n)))) × (count ≡ row_block_count (made_cubes n))
+  made_numbers = row_numbers (made_cubes n) (made_row n) g (row_grid_coordinates (made_cubes n) (made_row n) g grid) grid (made_is_drawing n)

@@ -1,14 +1,14 @@
 -- Made drawings stay within the limits of a search: the blocks of their grids are those of their rows, which are few, and so are
 -- their live prefixes and the solids that match them.
 use Rattle.std.proofs.Common.{◌≡◌, ℕ, zero, suc, ◌*◌, ◌≤◌, List, [], ◌∷◌, Bool, true, not, ◌&&◌, length, Option, refl, ap, subst, drop, arith}
-use Rattle.drawing_maker.specs.declared.piece.Kind.{Kind}
-use Rattle.drawing_maker.specs.declared.piece.Kind.TheVariants.{UnitCube, HollowCube, EightVoids}
-use Rattle.drawing_maker.specs.Made.{generator_of, has_eight_voids, later_pieces, made_pieces, made_solid}
-use Rattle.drawing_maker.specs.Pieces.{next_origin}
+use Rattle.drawing_maker.specs.declared.cube.Kind.{Kind}
+use Rattle.drawing_maker.specs.declared.cube.Kind.TheVariants.{UnitCube, HollowCube, EightVoids}
+use Rattle.drawing_maker.specs.Made.{generator_of, has_eight_voids, later_cubes, made_cubes, made_solid}
+use Rattle.drawing_maker.specs.Cubes.{next_origin}
 use Rattle.drawing_maker.proofs.Drawn.{after_two, first_by, later_by}
 use Rattle.made_laws.proofs.DemandedBlocks.{sum_with}
 use Rattle.made_laws.specs.RowBlocks.{block_count, blocks_in_row, row_block_count}
-use Rattle.drawing_maker.specs.Rows.{row_stops}
+use Rattle.drawing_maker.specs.Rows.{row_ticks}
 use Rattle.made_laws.proofs.CountsOfLive.{few_live, few_solids}
 use Rattle.made_laws.proofs.DemandedColumns.{IsProblemOf}
 use Rattle.made_laws.proofs.MadeBlocks.{made_blocks, made_numbers, row_grid_coordinates}
@@ -43,20 +43,20 @@ few_of_kind UnitCube = omega arith
 few_of_kind HollowCube = omega arith
 few_of_kind EightVoids = omega arith
 
-few_of_later : (more : ℕ) (g : Lcg) (alone : Bool) (origin : ℕ) → row_block_count (later_pieces more g alone origin) ≤ 9 * more
+few_of_later : (more : ℕ) (g : Lcg) (alone : Bool) (origin : ℕ) → row_block_count (later_cubes more g alone origin) ≤ 9 * more
 few_of_later zero g alone origin = omega arith
 few_of_later (suc more) g alone origin =
     let p = later_by g alone origin in
     let still = alone && not (has_eight_voids p.kind) in
     let behind = few_of_later more (after_two g) still (next_origin p) in
-    omega (arith, few_of_kind p.kind, behind, sum_with p (later_pieces more (after_two g) still (next_origin p)))
+    omega (arith, few_of_kind p.kind, behind, sum_with p (later_cubes more (after_two g) still (next_origin p)))
 
-few_blocks_of_row : (n : ℕ) → row_block_count (made_pieces n) ≤ 126
+few_blocks_of_row : (n : ℕ) → row_block_count (made_cubes n) ≤ 126
 few_blocks_of_row n =
     let g = generator_of n in
     let p = first_by g in
     let behind = few_of_later 13 (after_two g) true (next_origin p) in
-    omega (arith, few_of_kind p.kind, behind, sum_with p (later_pieces 13 (after_two g) true (next_origin p)))
+    omega (arith, few_of_kind p.kind, behind, sum_with p (later_cubes 13 (after_two g) true (next_origin p)))
 
 module _ (n : ℕ) (g : GridParts) (grid : IsGridOf (solid_drawing (made_solid n)) g) where
   -- a grid of a made drawing has few blocks
@@ -66,10 +66,10 @@ module _ (n : ℕ) (g : GridParts) (grid : IsGridOf (solid_drawing (made_solid n
 -- ---- live prefixes
 
 module _ (n : ℕ) (p : ProblemParts) (grid : IsGridOf (solid_drawing (made_solid n)) p.grid) (blocks : IsBlocksOf p.grid p.blocks) where
-  is_problem : IsProblemOf (made_pieces n) p
+  is_problem : IsProblemOf (made_cubes n) p
   is_problem =
       let are = made_numbers n p.grid grid p.blocks.numbers p.blocks.count blocks.blocks in
-      record { row = made_row n; grid = grid; coordinates = row_grid_coordinates (made_pieces n) (made_row n) p.grid grid; blocks = blocks; numbers = are.0; count = are.1 }
+      record { row = made_row n; grid = grid; coordinates = row_grid_coordinates (made_cubes n) (made_row n) p.grid grid; blocks = blocks; numbers = are.0; count = are.1 }
 
   pub few_made_nodes : live_count (is_live p) p.blocks.count [] ≤ 1000000
   few_made_nodes = few_live n p is_problem
@@ -85,8 +85,8 @@ made_problem n = record {
   grid = made_grid n;
   blocks = record {
     sizes = record { x = grid_sizes (made_grid n) X; y = grid_sizes (made_grid n) Y; z = grid_sizes (made_grid n) Z };
-    numbers = blocks_in_row (made_pieces n) (drop 1 (row_stops (made_pieces n)));
-    count = row_block_count (made_pieces n);
+    numbers = blocks_in_row (made_cubes n) (drop 1 (row_ticks (made_cubes n)));
+    count = row_block_count (made_cubes n);
   };
 }
 

@@ -1,7 +1,7 @@
 -- A made solid has a cell, and its drawing keeps what a drawing of three views keeps.
 use Rattle.std.proofs.Common.{ℕ, List, [], ◌∷◌, refl}
-use Rattle.drawing_maker.specs.Made.{made_pieces, made_solid}
-use Rattle.drawing_maker.specs.Rows.{coordinates_of_stops, row_stops}
+use Rattle.drawing_maker.specs.Made.{made_cubes, made_solid}
+use Rattle.drawing_maker.specs.Rows.{coordinates_of_ticks, row_ticks}
 use Rattle.drawing_maker.proofs.MadeGrid.{made_drawing}
 use Rattle.solid_model.specs.declared.cell.Cell.{Cell}
 use Rattle.solid_model.specs.declared.frame.View.TheVariants.{Front}
@@ -10,7 +10,7 @@ use Rattle.solid_model.specs.DrawnStyle.{solid_drawing}
 use Rattle.solid_model.specs.Runs.{IsDrawing}
 
 pub made_is_drawing : (n : ℕ) → IsDrawing (solid_drawing (made_solid n))
-made_is_drawing n = made_drawing n (λ a. coordinates_of_stops (row_stops (made_pieces n))) (λ a. refl)
+made_is_drawing n = made_drawing n (λ a. coordinates_of_ticks (row_ticks (made_cubes n))) (λ a. refl)
 
 -- what draws something has a cell
 drawn_is_solid : (s : List Cell) → IsDrawing (solid_drawing s) → IsSolid s

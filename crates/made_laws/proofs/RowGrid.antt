@@ -1,4 +1,4 @@
--- A row of pieces on its grid: which grid cells are full, that it matches its drawing, and which grid segments are blank.
+-- A row of cubes on its grid: which grid cells are full, that it matches its drawing, and which grid segments are blank.
 use Rattle.std.proofs.Common.{◌≡◌, ⊎_elim, inl, inr, Bool, true, false, not, ℕ, zero, suc, ◌+◌, ◌-◌, ◌<◌, ◌≤◌, List, length, drop, None, ℤ, pos, negsuc, ◌-ℤ◌, refl, ap, sym, subst, ◌∙◌, arith}
 use Rattle.std.proofs.lemmas.Bool.{false≢true, both_ways, cases_lt, ltb-true, lt-ltb}
 use Rattle.std.proofs.lemmas.Int.{ints}
@@ -31,54 +31,54 @@ use Rattle.solid_model.proofs.GridStyle.{grid_style-drawing, blank_off_grid}
 use Rattle.solid_model.proofs.InGrid.{gap_or_none, placed_at}
 use Rattle.solid_model.proofs.Styles.{one_style}
 use Rattle.solid_model.proofs.Views.{views_are_frames, runs_forward, stands_forward, forward_cell}
-use Rattle.drawing_maker.specs.declared.piece.Piece.{Piece}
-use Rattle.drawing_maker.specs.declared.stops.Stop.{Stop}
-use Rattle.drawing_maker.specs.Pieces.{row_cells}
-use Rattle.drawing_maker.specs.Rows.{row_stops, coordinates_of_stops}
+use Rattle.drawing_maker.specs.declared.cube.Cube.{Cube}
+use Rattle.drawing_maker.specs.declared.ticks.Tick.{Tick}
+use Rattle.drawing_maker.specs.Cubes.{row_cells}
+use Rattle.drawing_maker.specs.Rows.{row_ticks, coordinates_of_ticks}
 use Rattle.drawing_maker.proofs.Rows.{IsRow}
-use Rattle.made_laws.proofs.RowSpots.{Covers, IsIn, IsOff, in_or_off, full_at, full_at_is, full_off, part_of_covered}
-use Rattle.drawing_maker.proofs.RowStops.{IsTold, ascends_row, told_in_gap, part_at}
+use Rattle.made_laws.proofs.RowCubelets.{Covers, IsIn, IsOff, in_or_off, full_at, full_at_is, full_off, part_of_covered}
+use Rattle.drawing_maker.proofs.RowTicks.{IsTold, ascends_row, told_in_gap, part_at}
 use Rattle.drawing_maker.proofs.RowUnion.{full_where_told, in_gap_of_row}
 
-module _ (ps : List Piece) (row : IsRow ps) where
-  abbrev stops_at : List ℤ
-  stops_at = coordinates_of_stops (row_stops ps)
+module _ (ps : List Cube) (row : IsRow ps) where
+  abbrev ticks_at : List ℤ
+  ticks_at = coordinates_of_ticks (row_ticks ps)
 
   -- ---- what is told of a unit cell by the numbers of a grid cell
 
-  told_of_number : (k z : ℤ) → is_below (length stops_at - 1) k ≡ true → is_in_gap stops_at (place_of_number k) z ≡ true → IsTold ps (part_at ps k) z
+  told_of_number : (k z : ℤ) → is_below (length ticks_at - 1) k ≡ true → is_in_gap ticks_at (place_of_number k) z ≡ true → IsTold ps (part_at ps k) z
   told_of_number (pos k) z below e = told_in_gap ps row k z e
   told_of_number (negsuc k) z below e = absurd (false≢true below)
 
-  told_in_none : (z : ℤ) → (IsInSomeGap stops_at z → ⊥) → IsTold ps None z
+  told_in_none : (z : ℤ) → (IsInSomeGap ticks_at z → ⊥) → IsTold ps None z
   told_in_none z none p k spans = none (in_gap_of_row ps row p k z spans)
 
   -- each place has a number at which it is told
   told_somewhere : (z : ℤ) → (k : ℤ) × IsTold ps (part_at ps k) z
   told_somewhere z = ⊎_elim {C = (k : ℤ) × IsTold ps (part_at ps k) z} (λ gap. (pos gap.0, told_in_gap ps row gap.0 z gap.1))
-      (λ none. (negsuc 0, told_in_none z none)) (gap_or_none stops_at (ascends_row ps row) z)
+      (λ none. (negsuc 0, told_in_none z none)) (gap_or_none ticks_at (ascends_row ps row) z)
 
-  -- so it is at a stop, and just before it
-  told_at_stop : (k : ℤ) → is_below (length stops_at) k ≡ true → IsTold ps (part_at ps k) (member_of stops_at k)
-  told_at_stop (negsuc k) below = absurd (false≢true below)
-  told_at_stop (pos k) below = elim (cases_lt (suc k) (length stops_at)) as (λ _. IsTold ps (part_at ps (pos k)) (member_of stops_at (pos k))) [
-    | inl less ↦ told_in_gap ps row k (member_of stops_at (pos k)) (begins_gap stops_at (ascends_row ps row) k less)
-    | inr most ↦ (let l = ltb-true k (length stops_at) below in
-        let last : k + 1 ≡ length stops_at = omega arith in
-        let past : length (drop 1 (row_stops ps)) ≤ k =
-        omega (arith, length-drop 1 (row_stops ps), length-map (row_stops ps) (λ (s : Stop). pos s.at), last) in
-        subst (λ (s : Stop). IsTold ps s.before (member_of stops_at (pos k))) (sym (get_or_past (drop 1 (row_stops ps)) k _ past))
-        (told_in_none (member_of stops_at (pos k)) (λ gap. last_in_none stops_at (ascends_row ps row) k last gap.0 gap.1)))
+  -- so it is at a tick, and just before it
+  told_at_tick : (k : ℤ) → is_below (length ticks_at) k ≡ true → IsTold ps (part_at ps k) (member_of ticks_at k)
+  told_at_tick (negsuc k) below = absurd (false≢true below)
+  told_at_tick (pos k) below = elim (cases_lt (suc k) (length ticks_at)) as (λ _. IsTold ps (part_at ps (pos k)) (member_of ticks_at (pos k))) [
+    | inl less ↦ told_in_gap ps row k (member_of ticks_at (pos k)) (begins_gap ticks_at (ascends_row ps row) k less)
+    | inr most ↦ (let l = ltb-true k (length ticks_at) below in
+        let last : k + 1 ≡ length ticks_at = omega arith in
+        let past : length (drop 1 (row_ticks ps)) ≤ k =
+        omega (arith, length-drop 1 (row_ticks ps), length-map (row_ticks ps) (λ (s : Tick). pos s.at), last) in
+        subst (λ (s : Tick). IsTold ps s.before (member_of ticks_at (pos k))) (sym (get_or_past (drop 1 (row_ticks ps)) k _ past))
+        (told_in_none (member_of ticks_at (pos k)) (λ gap. last_in_none ticks_at (ascends_row ps row) k last gap.0 gap.1)))
   ]
 
-  told_before_stop : (k : ℤ) → is_below (length stops_at) k ≡ true → IsTold ps (part_at ps (k -ℤ pos 1)) (member_of stops_at k -ℤ pos 1)
-  told_before_stop (negsuc k) below = absurd (false≢true below)
-  told_before_stop (pos zero) below =
-      told_in_none (member_of stops_at (pos 0) -ℤ pos 1) (λ gap. before_first_in_none stops_at (ascends_row ps row) gap.0 gap.1)
-  told_before_stop (pos (suc k)) below =
+  told_before_tick : (k : ℤ) → is_below (length ticks_at) k ≡ true → IsTold ps (part_at ps (k -ℤ pos 1)) (member_of ticks_at k -ℤ pos 1)
+  told_before_tick (negsuc k) below = absurd (false≢true below)
+  told_before_tick (pos zero) below =
+      told_in_none (member_of ticks_at (pos 0) -ℤ pos 1) (λ gap. before_first_in_none ticks_at (ascends_row ps row) gap.0 gap.1)
+  told_before_tick (pos (suc k)) below =
       let before : pos k ≡ pos (suc k) -ℤ pos 1 = omega (arith, ints) in
-      subst (λ j. IsTold ps (part_at ps j) (member_of stops_at (pos (suc k)) -ℤ pos 1)) before
-      (told_in_gap ps row k _ (ends_gap stops_at (ascends_row ps row) k (ltb-true (suc k) (length stops_at) below)))
+      subst (λ j. IsTold ps (part_at ps j) (member_of ticks_at (pos (suc k)) -ℤ pos 1)) before
+      (told_in_gap ps row k _ (ends_gap ticks_at (ascends_row ps row) k (ltb-true (suc k) (length ticks_at) below)))
 
   -- a unit cell is as full as the grid cell whose numbers tell of it
   full_where_numbered : (n c : Cell) → ((a : Axis) → IsTold ps (part_at ps (coordinate a n)) (coordinate a c)) → full_at ps row n ≡ is_full (row_cells ps) c
@@ -120,25 +120,25 @@ module _ (ps : List Piece) (row : IsRow ps) where
   kept_along Side true n = refl
   kept_along Side false n = refl
 
-  module _ (g : GridParts) (same : (a : Axis) → coordinates_of g a ≡ stops_at) where
-    sizes_are : (a : Axis) → grid_sizes g a ≡ length stops_at - 1
+  module _ (g : GridParts) (same : (a : Axis) → coordinates_of g a ≡ ticks_at) where
+    sizes_are : (a : Axis) → grid_sizes g a ≡ length ticks_at - 1
     sizes_are a = ap (λ ws. length ws - 1) (same a)
 
-    -- what lies in a piece is within the box
-    pub covered_within : (p : Piece) (a : Axis) (z : ℤ) → Covers ps row p z → is_below (grid_sizes g a) z ≡ true
+    -- what lies in a cube is within the box
+    pub covered_within : (p : Cube) (a : Axis) (z : ℤ) → Covers ps row p z → is_below (grid_sizes g a) z ≡ true
     covered_within p a (negsuc k) at = absurd (let l = at.from in omega (arith, ints, l))
-    covered_within p a (pos k) at = elim (cases_lt k (length (drop 1 (row_stops ps)))) as (λ _. is_below (grid_sizes g a) (pos k) ≡ true) [
+    covered_within p a (pos k) at = elim (cases_lt k (length (drop 1 (row_ticks ps)))) as (λ _. is_below (grid_sizes g a) (pos k) ≡ true) [
       | inl less ↦ lt-ltb k (grid_sizes g a)
-          (omega (arith, less, sizes_are a, length-drop 1 (row_stops ps), length-map (row_stops ps) (λ (s : Stop). pos s.at)))
-      | inr past ↦ absurd (none-some _ (ap (λ (s : Stop). s.before) (sym (get_or_past (drop 1 (row_stops ps)) k _ past)) ∙ part_of_covered ps row p (pos k) at))
+          (omega (arith, less, sizes_are a, length-drop 1 (row_ticks ps), length-map (row_ticks ps) (λ (s : Tick). pos s.at)))
+      | inr past ↦ absurd (none-some _ (ap (λ (s : Tick). s.before) (sym (get_or_past (drop 1 (row_ticks ps)) k _ past)) ∙ part_of_covered ps row p (pos k) at))
     ]
 
-    pub piece_within : (p : Piece) (n : Cell) → IsIn ps row p n → is_within (grid_sizes g) n ≡ true
-    piece_within p n inside = below-within (grid_sizes g) n (λ a. covered_within p a (coordinate a n) (inside a))
+    pub cube_within : (p : Cube) (n : Cell) → IsIn ps row p n → is_within (grid_sizes g) n ≡ true
+    cube_within p n inside = below-within (grid_sizes g) n (λ a. covered_within p a (coordinate a n) (inside a))
 
     -- so a cell without the box is in none
     pub off_outside : (n : Cell) → is_within (grid_sizes g) n ≡ false → IsOff ps row n
-    off_outside n out = ⊎_elim {C = IsOff ps row n} (λ at. absurd (both_ways _ out (piece_within at.0 n at.1))) (λ off. off) (in_or_off ps row n)
+    off_outside n out = ⊎_elim {C = IsOff ps row n} (λ at. absurd (both_ways _ out (cube_within at.0 n at.1))) (λ off. off) (in_or_off ps row n)
 
     -- the full grid cells
     pub full_on_grid : IsGridFullness g (row_cells ps) (full_at ps row)
@@ -161,22 +161,22 @@ module _ (ps : List Piece) (row : IsRow ps) where
 
       -- then so are the two columns of unit cells beside its first unit segment
       equal_units : (v : View) (upright : Bool) (n : Cell) → HasEqualColumns v upright n
-          → is_below (length stops_at) (coordinate (axis_across v upright) n) ≡ true → is_below (length stops_at) (coordinate (axis_along v upright) n) ≡ true
-          → (i j k : ℤ) → i ≡ member_of stops_at (coordinate (axis_along v upright) n) → j ≡ member_of stops_at (coordinate (axis_across v upright) n)
+          → is_below (length ticks_at) (coordinate (axis_across v upright) n) ≡ true → is_below (length ticks_at) (coordinate (axis_along v upright) n) ≡ true
+          → (i j k : ℤ) → i ≡ member_of ticks_at (coordinate (axis_along v upright) n) → j ≡ member_of ticks_at (coordinate (axis_across v upright) n)
           → is_full (row_cells ps) (cell_in (frame_of v) upright i j k) ≡ is_full (row_cells ps) (cell_in (frame_of v) upright i (j -ℤ pos 1) k)
       equal_units v upright n equal at_line at_cell i j k e f =
           let z = told_somewhere (cell_on (frame_of v).away k) in
-          let first = subst (IsTold ps (part_at ps (coordinate (axis_along v upright) n))) (sym e) (told_at_stop _ at_cell) in
-          let line = subst (IsTold ps (part_at ps (coordinate (axis_across v upright) n))) (sym f) (told_at_stop _ at_line) in
-          let before = subst (λ w. IsTold ps (part_at ps (coordinate (axis_across v upright) n -ℤ pos 1)) (w -ℤ pos 1)) (sym f) (told_before_stop _ at_line) in
+          let first = subst (IsTold ps (part_at ps (coordinate (axis_along v upright) n))) (sym e) (told_at_tick _ at_cell) in
+          let line = subst (IsTold ps (part_at ps (coordinate (axis_across v upright) n))) (sym f) (told_at_tick _ at_line) in
+          let before = subst (λ w. IsTold ps (part_at ps (coordinate (axis_across v upright) n -ℤ pos 1)) (w -ℤ pos 1)) (sym f) (told_before_tick _ at_line) in
           sym (full_in_cell v upright n i j k z.0 first line z.1) ∙ equal z.0
           ∙ full_in_cell v upright (cell_before (axis_across v upright) n) i (j -ℤ pos 1) k z.0
           (subst (λ w. IsTold ps (part_at ps w) i) (sym (kept_along v upright n)) first)
           (subst (λ w. IsTold ps (part_at ps w) (j -ℤ pos 1)) (sym (placed_at (axis_across v upright) _ n)) before) z.1
 
       blank_unit : (v : View) (upright : Bool) (n : Cell) → HasEqualColumns v upright n
-          → is_below (length stops_at) (coordinate (axis_across v upright) n) ≡ true → is_below (length stops_at) (coordinate (axis_along v upright) n) ≡ true
-          → (i j : ℤ) → i ≡ member_of stops_at (coordinate (axis_along v upright) n) → j ≡ member_of stops_at (coordinate (axis_across v upright) n)
+          → is_below (length ticks_at) (coordinate (axis_across v upright) n) ≡ true → is_below (length ticks_at) (coordinate (axis_along v upright) n) ≡ true
+          → (i j : ℤ) → i ≡ member_of ticks_at (coordinate (axis_along v upright) n) → j ≡ member_of ticks_at (coordinate (axis_across v upright) n)
           → solid_drawing (row_cells ps) (segment_at v upright i j) ≡ Blank
       blank_unit v true n equal at_line at_cell i j e f =
           let h : Segment = segment_at v true i j in
@@ -195,14 +195,14 @@ module _ (ps : List Piece) (row : IsRow ps) where
       blank_style v upright n equal (pos line) (pos cell) e f = elim (cases_lt lines line) as (λ _. grid_style g v upright (pos line) (pos cell) ≡ Blank) [
         | inl off ↦ sym (blank_off_grid line lines cell cells _ (inl off))
         | inr on ↦ elim (cases_lt cell cells) as (λ _. grid_style g v upright (pos line) (pos cell) ≡ Blank) [
-          | inl less ↦ (let at_line : line < length stops_at = omega (arith, sizes_are (axis_across v upright), sizes_are (axis_along v upright)) in
-              let at_cell : cell < length stops_at = omega (arith, sizes_are (axis_along v upright)) in
+          | inl less ↦ (let at_line : line < length ticks_at = omega (arith, sizes_are (axis_across v upright), sizes_are (axis_along v upright)) in
+              let at_cell : cell < length ticks_at = omega (arith, sizes_are (axis_along v upright)) in
               grid_style-drawing (solid_drawing (row_cells ps)) g grid.styles v upright line cell
               (subst (λ ws. line < length ws) (sym (same (axis_across v upright))) at_line) less
-              ∙ blank_unit v upright n equal (ap (is_below (length stops_at)) (sym e) ∙ lt-ltb line (length stops_at) at_line)
-              (ap (is_below (length stops_at)) (sym f) ∙ lt-ltb cell (length stops_at) at_cell) _ _
-              ((λ t. member (same (axis_along v upright) t) cell) ∙ ap (member_of stops_at) f)
-              ((λ t. member (same (axis_across v upright) t) line) ∙ ap (member_of stops_at) e))
+              ∙ blank_unit v upright n equal (ap (is_below (length ticks_at)) (sym e) ∙ lt-ltb line (length ticks_at) at_line)
+              (ap (is_below (length ticks_at)) (sym f) ∙ lt-ltb cell (length ticks_at) at_cell) _ _
+              ((λ t. member (same (axis_along v upright) t) cell) ∙ ap (member_of ticks_at) f)
+              ((λ t. member (same (axis_across v upright) t) line) ∙ ap (member_of ticks_at) e))
           | inr most ↦ sym (blank_off_grid line lines cell cells _ (inr most))
         ]
       ]

@@ -1,4 +1,4 @@
--- What lies in no piece along all axes is outside: in a view that shows two axes along which it isn't in one piece, nothing is
+-- What lies in no cube along all axes is outside: in a view that shows two axes along which it isn't in one cube, nothing is
 -- drawn beside its square but towards the diagonal, so each face of the column over the square leads out the other way.
 use Rattle.std.proofs.Common.{◌≡◌, ◌⊎◌, ⊎_elim, inl, inr, Bool, true, false, not, ◌&&◌, ◌||◌, ℕ, ◌+◌, List, None, ℤ, pos, ◌+ℤ◌, ◌-ℤ◌, ◌≤ℤ◌, ◌<ℤ◌, refl, ap, sym, subst, ◌∙◌, arith}
 use Rattle.std.proofs.lemmas.Bool.{both_ways, and_parts}
@@ -19,15 +19,15 @@ use Rattle.solid_model.specs.VirtualFaces.{Bars, IsVirtual}
 use Rattle.solid_model.specs.Wire.{is_drawn_from, is_pseudo_vertex, is_drawn_or_point, is_pseudo_edge}
 use Rattle.solid_model.specs.GridBox.{grid_sizes, axis_along, axis_across}
 use Rattle.solid_model.proofs.InGrid.{before_after}
-use Rattle.drawing_maker.specs.declared.piece.Piece.{Piece}
-use Rattle.drawing_maker.specs.Pieces.{side_of, row_cells}
-use Rattle.drawing_maker.specs.Rows.{row_stops, coordinates_of_stops}
+use Rattle.drawing_maker.specs.declared.cube.Cube.{Cube}
+use Rattle.drawing_maker.specs.Cubes.{cube_side, row_cells}
+use Rattle.drawing_maker.specs.Rows.{row_ticks, coordinates_of_ticks}
 use Rattle.made_laws.proofs.BoxLines.{some_greater, out_down, out_up}
 use Rattle.drawing_maker.proofs.Rows.{IsRow}
-use Rattle.drawing_maker.proofs.RowStops.{part_at}
+use Rattle.drawing_maker.proofs.RowTicks.{part_at}
 use Rattle.made_laws.proofs.RowGrid.{undrawn}
 use Rattle.made_laws.proofs.RowPlaces.{first_place}
-use Rattle.made_laws.proofs.RowSpots.{Covers, covered_or_none, one_covers, IsOff, Apart, in_or_off, full_at, full_off}
+use Rattle.made_laws.proofs.RowCubelets.{Covers, covered_or_none, one_covers, IsOff, Apart, in_or_off, full_at, full_off}
 
 -- ---- edges that aren't drawn
 
@@ -106,23 +106,23 @@ module _ (Q : ℤ → ℤ → Type 0) where
   moved_across Side true k n h = h
   moved_across Side false k n h = h
 
-module _ (ps : List Piece) (row : IsRow ps) where
-  -- over a square that lies in no piece nothing is full
+module _ (ps : List Cube) (row : IsRow ps) where
+  -- over a square that lies in no cube nothing is full
   empty_apart : (v : View) (upright : Bool) (n : Cell) → OfSquare (Apart ps row) v upright n → full_at ps row n ≡ false
   empty_apart v upright n apart = ⊎_elim (λ at. absurd (apart at.0 (at.1 (axis_along v upright)) (at.1 (axis_across v upright)))) (full_off ps row n) (in_or_off ps row n)
 
-  -- numbers before a piece, or behind it, aren't in a piece with one of its own
-  apart_before : (p : Piece) (z w : ℤ) → Covers ps row p z → w <ℤ pos (first_place ps p) → Apart ps row z w
+  -- numbers before a cube, or behind it, aren't in a cube with one of its own
+  apart_before : (p : Cube) (z w : ℤ) → Covers ps row p z → w <ℤ pos (first_place ps p) → Apart ps row z w
   apart_before p z w at l q k m =
       let own = subst (λ r. Covers ps row r w) (one_covers ps row q p z k at) m in let f = own.from in omega (arith, ints, f)
 
-  apart_behind : (p : Piece) (z w : ℤ) → Covers ps row p z → pos (first_place ps p + side_of p.kind) ≤ℤ w → Apart ps row z w
+  apart_behind : (p : Cube) (z w : ℤ) → Covers ps row p z → pos (first_place ps p + cube_side p.kind) ≤ℤ w → Apart ps row z w
   apart_behind p z w at l q k m =
       let own = subst (λ r. Covers ps row r w) (one_covers ps row q p z k at) m in let f = own.to in omega (arith, ints, f)
 
-  module _ (g : GridParts) (same : (a : Axis) → coordinates_of g a ≡ coordinates_of_stops (row_stops ps))
+  module _ (g : GridParts) (same : (a : Axis) → coordinates_of g a ≡ coordinates_of_ticks (row_ticks ps))
       (grid : IsGridOf (solid_drawing (row_cells ps)) g) (is : IsDrawing (solid_drawing (row_cells ps))) where
-    -- between two squares that lie in no piece nothing is drawn
+    -- between two squares that lie in no cube nothing is drawn
     unbarred_apart : (v : View) (upright : Bool) (n : Cell) → OfSquare (Apart ps row) v upright n
         → OfSquare (Apart ps row) v upright (cell_before (axis_across v upright) n) → Bars g (frame_of v).away.axis (axis_across v upright) n → ⊥
     unbarred_apart v upright n here before = unbarred_across g v upright n (undrawn ps row g same grid is v upright n (λ k.
@@ -154,7 +154,7 @@ module _ (ps : List Piece) (row : IsRow ps) where
         sizes : Axis → ℕ
         sizes = face_sizes (grid_sizes g) (frame_of v).away.axis
 
-    -- One of the two is so: the piece along the first axis, if there is one, lies before the second number or behind it.
+    -- One of the two is so: the cube along the first axis, if there is one, lies before the second number or behind it.
     face_out : (v : View) (upright : Bool) (n : Cell) → OfSquare (Apart ps row) v upright n
         → LeadsOut (face_sizes (grid_sizes g) (frame_of v).away.axis) (Bars g (frame_of v).away.axis) n
     face_out v upright n apart = by (covered_or_none ps row (coordinate (axis_along v upright) n))
@@ -165,15 +165,15 @@ module _ (ps : List Piece) (row : IsRow ps) where
         w : ℤ
         w = coordinate (axis_across v upright) n
 
-        by : ((p : Piece) × Covers ps row p z) ⊎ ((part_at ps z ≡ None) × ((p : Piece) → Covers ps row p z → ⊥))
+        by : ((p : Cube) × Covers ps row p z) ⊎ ((part_at ps z ≡ None) × ((p : Cube) → Covers ps row p z → ⊥))
             → LeadsOut (face_sizes (grid_sizes g) (frame_of v).away.axis) (Bars g (frame_of v).away.axis) n
-        by (inr none) = face_out_down v upright (λ x y. (p : Piece) → Covers ps row p x → ⊥) (λ x y h p at too. h p at) (λ x y h. h) n none.1
+        by (inr none) = face_out_down v upright (λ x y. (p : Cube) → Covers ps row p x → ⊥) (λ x y h p at too. h p at) (λ x y h. h) n none.1
         by (inl (p, at)) = by_lt_z w (pos (first_place ps p))
             (λ before. face_out_down v upright (λ x y. Covers ps row p x × (y <ℤ pos (first_place ps p)))
             (λ x y h. apart_before p x y h.0 h.1) (λ x y h. (h.0, omega (arith, ints, h.1))) n (at, before))
-            (λ from. by_lt_z w (pos (first_place ps p + side_of p.kind))
+            (λ from. by_lt_z w (pos (first_place ps p + cube_side p.kind))
             (λ to. absurd (apart p at (record { member = at.member; from = from; to = to })))
-            (λ behind. face_out_up v upright (λ x y. Covers ps row p x × (pos (first_place ps p + side_of p.kind) ≤ℤ y))
+            (λ behind. face_out_up v upright (λ x y. Covers ps row p x × (pos (first_place ps p + cube_side p.kind) ≤ℤ y))
             (λ x y h. apart_behind p x y h.0 h.1) (λ x y h. (h.0, omega (arith, ints, h.1))) n (omega (arith, ints)) (at, behind)))
 
     -- so down the column over the square no face is virtual

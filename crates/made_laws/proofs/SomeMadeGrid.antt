@@ -1,4 +1,4 @@
--- Each made drawing has a grid: that of its row's stops.
+-- Each made drawing has a grid: that of its row's ticks.
 use Rattle.std.proofs.Common.{◌≡◌, true, false, ℕ, ◌≤◌, List, drop, length, ℤ, pos, refl, sym, subst, arith}
 use Rattle.std.proofs.lemmas.List.{length-map}
 use Rattle.solid_model.specs.declared.cell.Axis.{Axis}
@@ -12,11 +12,11 @@ use Rattle.solid_model.specs.DrawnStyle.{solid_drawing}
 use Rattle.solid_model.specs.Grid.{AreGridCoordinates, IsUnionOf}
 use Rattle.solid_model.specs.Limits.{most_grid_coordinates}
 use Rattle.solid_model.specs.Panels.{PanelStyles, GridParts, coordinates_of, grid_styles, AreGridStyles, IsGridOf, IsGrid}
-use Rattle.drawing_maker.specs.declared.stops.Stop.{Stop}
-use Rattle.drawing_maker.specs.Made.{made_pieces, made_solid}
-use Rattle.drawing_maker.specs.Rows.{row_stops, coordinates_of_stops, cells_before}
+use Rattle.drawing_maker.specs.declared.ticks.Tick.{Tick}
+use Rattle.drawing_maker.specs.Made.{made_cubes, made_solid}
+use Rattle.drawing_maker.specs.Rows.{row_ticks, coordinates_of_ticks, cells_before}
 use Rattle.drawing_maker.proofs.MadeGrid.{made_coordinates, made_union}
-use Rattle.drawing_maker.proofs.MadeRows.{few_stops}
+use Rattle.drawing_maker.proofs.MadeRows.{few_ticks}
 use Rattle.made_laws.proofs.MadeSolid.{made_is_drawing}
 
 -- ---- the same coordinates along each axis
@@ -54,26 +54,26 @@ module _ (drawing : Segment → Style) (zs : List ℤ) where
 
 -- the grid of a made drawing
 pub made_grid : ℕ → GridParts
-made_grid n = grid_along (solid_drawing (made_solid n)) (coordinates_of_stops (row_stops (made_pieces n)))
+made_grid n = grid_along (solid_drawing (made_solid n)) (coordinates_of_ticks (row_ticks (made_cubes n)))
 
--- it has the coordinates of the row's stops
-pub made_grid_along : (n : ℕ) (a : Axis) → coordinates_of (made_grid n) a ≡ coordinates_of_stops (row_stops (made_pieces n))
+-- it has the coordinates of the row's ticks
+pub made_grid_along : (n : ℕ) (a : Axis) → coordinates_of (made_grid n) a ≡ coordinates_of_ticks (row_ticks (made_cubes n))
 unfolding made_grid
-made_grid_along n = same_along (solid_drawing (made_solid n)) (coordinates_of_stops (row_stops (made_pieces n)))
+made_grid_along n = same_along (solid_drawing (made_solid n)) (coordinates_of_ticks (row_ticks (made_cubes n)))
 
-few_along : (n : ℕ) → length (coordinates_of_stops (row_stops (made_pieces n))) ≤ most_grid_coordinates
-few_along n = let few = few_stops n in omega (arith, length-map (row_stops (made_pieces n)) (λ (s : Stop). pos s.at))
+few_along : (n : ℕ) → length (coordinates_of_ticks (row_ticks (made_cubes n))) ≤ most_grid_coordinates
+few_along n = let few = few_ticks n in omega (arith, length-map (row_ticks (made_cubes n)) (λ (s : Tick). pos s.at))
 
 -- it is the grid of the drawing
 pub made_grid_is : (n : ℕ) → IsGridOf (solid_drawing (made_solid n)) (made_grid n)
 unfolding made_grid
-made_grid_is n = is_grid_along (solid_drawing (made_solid n)) (coordinates_of_stops (row_stops (made_pieces n)))
-    (made_coordinates n (λ a. coordinates_of_stops (row_stops (made_pieces n))) (λ a. refl)) (few_along n)
+made_grid_is n = is_grid_along (solid_drawing (made_solid n)) (coordinates_of_ticks (row_ticks (made_cubes n)))
+    (made_coordinates n (λ a. coordinates_of_ticks (row_ticks (made_cubes n))) (λ a. refl)) (few_along n)
 
 -- so it is a grid
 pub made_grid_is_grid : (n : ℕ) → IsGrid (made_grid n)
 made_grid_is_grid n = (solid_drawing (made_solid n), made_is_drawing n, made_grid_is n)
 
 -- and the made solid is a union of its cells
-pub made_grid_union : (n : ℕ) → IsUnionOf (coordinates_of (made_grid n)) (cells_before (drop 1 (row_stops (made_pieces n)))) (is_full (made_solid n))
+pub made_grid_union : (n : ℕ) → IsUnionOf (coordinates_of (made_grid n)) (cells_before (drop 1 (row_ticks (made_cubes n)))) (is_full (made_solid n))
 made_grid_union n = made_union n (coordinates_of (made_grid n)) (made_grid_along n)

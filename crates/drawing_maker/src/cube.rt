@@ -1,9 +1,9 @@
-//! Pieces of made solids.
+//! The cubes of made solids.
 
 ghost use Rattle.std.specs.Prelude.{◌≡◌, ◌≤◌};
-ghost use Rattle.drawing_maker.specs.Pieces.{side_of, is_odd_place, is_void};
+ghost use Rattle.drawing_maker.specs.Cubes.{cube_side, is_odd_place, is_void};
 
-/// The kind of a piece: a full cube of side 1, one of side 3 with a void in its middle, or one of
+/// The kind of a cube: a full cube of side 1, one of side 3 with a void in its middle, or one of
 /// side 5 with eight voids.
 #[derive(Clone, Copy, Debug, PartialEq, Eq)]
 pub enum Kind {
@@ -15,7 +15,7 @@ pub enum Kind {
 impl Kind {
     /// The side at scale 1.
     pub fn side(self) -> u32
-        ensures side { result ≡ side_of self }
+        ensures side { result ≡ cube_side self }
         ensures few { result ≤ 5 }
     {
         match self {
@@ -40,7 +40,7 @@ impl Kind {
 /// A cube on the diagonal: its kind, by how much it is enlarged, and the coordinate along each axis
 /// at which it begins.
 #[derive(Clone, Copy)]
-pub struct Piece {
+pub struct Cube {
     pub kind: Kind,
     pub scale: u32,
     pub origin: u32,
