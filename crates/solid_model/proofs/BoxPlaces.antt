@@ -22,6 +22,7 @@ use Rattle.solid_model.proofs.Concatenations.{within_product}
 pub layers_small : (sizes : Sizes) → AreFew sizes → sizes Z * sizes Y ≤ 1048576
 layers_small sizes few = mul-le (sizes Z) (sizes Y) 1024 1024 (few Z) (few Y)
 
+-- and all cells are
 pub cells_small : (sizes : Sizes) → AreFew sizes → box_count sizes ≤ 1073741824
 cells_small sizes few = mul-le (sizes Z * sizes Y) (sizes X) 1048576 1024 (layers_small sizes few) (few X)
 
@@ -42,10 +43,12 @@ pub record IsNumber (n : ℕ) (k : ℤ) : Type 0 where
   pub is : k ≡ pos number
   pub less : number < n
 
+-- a coordinate of the box is such a number,
 pub number_below : (n : ℕ) (k : ℤ) → is_below n k ≡ true → IsNumber n k
 number_below n (pos k) below = record { number = k; is = refl; less = place-below n (pos k) below }
 number_below n (negsuc k) below = absurd (false≢true below)
 
+-- and such a number is a coordinate of the box
 pub below_number : (n k : ℕ) → k < n → is_below n (pos k) ≡ true
 below_number n k less = grind (arith, less)
 
@@ -55,6 +58,7 @@ pub record IsCellOfBox (sizes : Sizes) (n : Cell) : Type 0 where
   pub y : IsNumber (sizes Y) n.y
   pub z : IsNumber (sizes Z) n.z
 
+-- a cell of the box has such numbers,
 pub cell_of_box : (sizes : Sizes) (n : Cell) → is_within sizes n ≡ true → IsCellOfBox sizes n
 cell_of_box sizes n within = record {
   x = number_below (sizes X) n.x (within-below sizes n within X);
@@ -62,6 +66,7 @@ cell_of_box sizes n within = record {
   z = number_below (sizes Z) n.z (within-below sizes n within Z);
 }
 
+-- and a cell with such numbers is one of the box
 pub within_box : (sizes : Sizes) (x y z : ℕ) → x < sizes X → y < sizes Y → z < sizes Z → is_within sizes (cell_at x y z) ≡ true
 within_box sizes x y z at_x at_y at_z = below-within sizes (cell_at x y z) below
   where
@@ -200,6 +205,7 @@ earlier_before sizes n m n_in m_in earlier = by (one_or_before n m)
 
 -- ---- the edges and faces of a box's cells
 
+-- the sizes of the box of edges along an axis, from one more than the cells have along each axis
 pub numbered_edges : (sizes : Sizes) (a : Axis) (points : Sizes) → ((b : Axis) → points b ≡ suc (sizes b)) → numbered a (sizes a) points ≡ edge_sizes sizes a
 numbered_edges sizes a points more = λ t b. by a b t
   where
@@ -214,6 +220,7 @@ numbered_edges sizes a points more = λ t b. by a b t
     by Z Y = more Y
     by Z Z = refl
 
+-- the sizes of the box of faces across an axis, from one more than the cells have along it
 pub numbered_faces : (sizes : Sizes) (a : Axis) (k : ℕ) → k ≡ suc (sizes a) → numbered a k sizes ≡ face_sizes sizes a
 numbered_faces sizes a k more = λ t b. by a k more b t
   where
@@ -236,6 +243,7 @@ few_edges sizes few a b = by (same_axis a b)
     by true = omega (arith, few b)
     by false = omega (arith, few b)
 
+-- and so are the faces
 pub few_faces : (sizes : Sizes) → ((a : Axis) → sizes a ≤ 63) → (a b : Axis) → face_sizes sizes a b ≤ 64
 few_faces sizes few a b = by (same_axis a b)
   where
@@ -249,6 +257,7 @@ pub record HasNumbersBelow (sizes : Sizes) (n : PerAxis) : Type 0 where
   pub y : n.y < sizes Y
   pub z : n.z < sizes Z
 
+-- the numbers that are kept of a cell of the box are below its sizes
 pub numbers_below : (sizes : Sizes) (n : PerAxis) → IsTrue (is_within sizes (cell_of n)) → HasNumbersBelow sizes n
 numbers_below sizes n within = record {
   x = place-below (sizes X) (pos n.x) (within-below sizes (cell_of n) within X);

@@ -38,6 +38,7 @@ edge_where_parting false true true e = refl
 edge_where_parting false true false e = refl
 edge_where_parting false false z e = absurd (false≢true e)
 
+-- where two truth values don't differ they are one
 pub same_from_agree : (x y : Bool) → not (agree x y) ≡ false → x ≡ y
 same_from_agree true true e = refl
 same_from_agree true false e = absurd (false≢true (sym e))

@@ -66,12 +66,15 @@ within_product (suc j) (suc k) i m p q = let rest = within_product j k i m (omeg
 
 -- what a function gives for all triples of members of three lists, the third one slowest and the first one fastest
 module _ {A B C D : Type 0} (f : A → B → C → D) (xs : List A) (ys : List B) (zs : List C) where
+  -- what it gives for the members of the first list, and these of the two others,
   abbrev pub line : C → B → List D
   line z y = map (λ x. f x y z) xs
 
+  -- of the second list too,
   abbrev pub layer : C → List D
   layer z = flat_map (line z) ys
 
+  -- and of all three
   abbrev pub over_triples : List D
   over_triples = flat_map layer zs
 

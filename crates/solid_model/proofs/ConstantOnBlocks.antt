@@ -120,15 +120,18 @@ module _ (drawing : Segment → Style) (g : GridParts) (grid : IsGridOf drawing 
   unfolding full_here
   counts_here = is_grid_fullness drawing g grid s matches
 
+  -- the solid can be counted in grid cells
   pub some_fullness : (full : Cell → Bool) × IsGridFullness g s full
   some_fullness = (full_here, counts_here)
 
+  -- cells that are joined are full together or empty together
   pub same_in_joined : (n m c d : Cell) → IsTrue (is_within (grid_sizes g) n) → IsTrue (is_within (grid_sizes g) m) → Joined g n m
       → LiesInGridCell (coordinates_of g) (grid_cell_of n) c → LiesInGridCell (coordinates_of g) (grid_cell_of m) d → is_full s c ≡ is_full s d
   same_in_joined n m c d at_n at_m chain in_n in_m =
       sym (counts_here.inside n c at_n in_n) ∙ same_in_block drawing g grid s matches full_here counts_here n m chain
       ∙ counts_here.inside m d at_m in_m
 
+  -- a cell outside is empty
   pub empty_in_outside : (n c : Cell) → IsTrue (is_within (grid_sizes g) n) → IsOutside g n
       → LiesInGridCell (coordinates_of g) (grid_cell_of n) c → is_full s c ≡ false
   empty_in_outside n c at_n out in_n = sym (counts_here.inside n c at_n in_n) ∙ empty_outside drawing g grid s matches full_here counts_here n out

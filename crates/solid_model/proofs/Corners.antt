@@ -23,6 +23,7 @@ use Rattle.solid_model.proofs.Unions.{cells_over, length-cells_over}
 
 -- ---- where gaps begin
 
+-- there are as many of these as gaps, one fewer than members
 pub length-starts_of : (zs : List ℤ) → length (starts_of zs) ≡ length zs - 1
 length-starts_of zs = length-take-le (length zs - 1) zs (omega arith)
 
@@ -81,6 +82,7 @@ ascends-starts_of (a ∷ b ∷ zs) ascends =
 
 -- ---- cells in order
 
+-- the cells over three ascending lists are in order
 pub ascends-cells_over : (xs ys zs : List ℤ) → Ascends ◌<ℤ◌ xs → Ascends ◌<ℤ◌ ys → Ascends ◌<ℤ◌ zs → Ascends ComesBefore (cells_over xs ys zs)
 ascends-cells_over xs ys zs in_x in_y in_z = ascends-flat_map ◌<ℤ◌ ComesBefore layer zs in_z layers_ascend layers_across
   where
@@ -131,6 +133,7 @@ module _ (coordinates : Coordinates) (ascends : (a : Axis) → Ascends ◌<ℤ�
   abbrev pub IsGridCell : GridCell → Type 0
   IsGridCell n = (a : Axis) → BeginsGap (coordinates a) (n a)
 
+  -- what a unit cell lies in is one
   pub lying-is_grid_cell : (n : GridCell) (c : Cell) → LiesInGridCell coordinates n c → IsGridCell n
   lying-is_grid_cell n c at a = gap_begins (coordinates a) (n a) (coordinate a c) (at a)
 
@@ -139,6 +142,7 @@ module _ (coordinates : Coordinates) (ascends : (a : Axis) → Ascends ◌<ℤ�
   within-is_grid_cell n within a = numbered_gap (coordinates a) (ascends a) (grid_cell_of n a)
       (place-below (gaps_along coordinates a) (coordinate a n) (within-below (gaps_along coordinates) n within a))
 
+  -- its corner lies in it
   pub corner_lies : (n : GridCell) → IsGridCell n → LiesInGridCell coordinates n (corner_of n)
   corner_lies n is X = (is X).in_gap
   corner_lies n is Y = (is Y).in_gap
@@ -149,11 +153,13 @@ module _ (coordinates : Coordinates) (ascends : (a : Axis) → Ascends ◌<ℤ�
       ≡ (n Z * length (starts_of (coordinates Y)) + n Y) * length (starts_of (coordinates X)) + n X
   place_is n = λ t. (n Z * sym (length-starts_of (coordinates Y)) t + n Y) * sym (length-starts_of (coordinates X)) t + n X
 
+  -- so the corner of a grid cell stands at its place
   pub corner_at_place : (n : GridCell) (d : Cell) → IsGridCell n → get_or corners (grid_cell_place coordinates n) d ≡ corner_of n
   corner_at_place n d is = ap (λ p. get_or corners p d) (place_is n)
       ∙ get_or-over_triples (λ x y z. record { x = x; y = y; z = z }) (starts_of (coordinates X)) (starts_of (coordinates Y)) (starts_of (coordinates Z))
       (n X) (n Y) (n Z) (pos 0) (pos 0) (pos 0) d (is X).within (is Y).within (is Z).within
 
+  -- there are as many corners as grid cells
   pub length-corners : length corners ≡ grid_cell_count coordinates
   length-corners =
       let p = length-starts_of (coordinates X) in let q = length-starts_of (coordinates Y) in let r = length-starts_of (coordinates Z) in
@@ -163,6 +169,7 @@ module _ (coordinates : Coordinates) (ascends : (a : Axis) → Ascends ◌<ℤ�
       regrouped : (x y z : ℕ) → z * (y * x) ≡ z * y * x
       regrouped x y z = omega arith
 
+  -- the place of a grid cell is one of them
   pub place_within : (n : GridCell) → IsGridCell n → grid_cell_place coordinates n < length corners
   place_within n is =
       let x = (is X).within in let y = (is Y).within in let z = (is Z).within in
@@ -171,5 +178,6 @@ module _ (coordinates : Coordinates) (ascends : (a : Axis) → Ascends ◌<ℤ�
       (within_product (n Z) (length (starts_of (coordinates Z))) (n Y) (length (starts_of (coordinates Y))) z y) x in
       omega arith
 
+  -- the corners are in order
   pub ascends-corners : Ascends ComesBefore corners
   ascends-corners = ascends-cells_over _ _ _ (ascends-starts_of (coordinates X) (ascends X)) (ascends-starts_of (coordinates Y) (ascends Y)) (ascends-starts_of (coordinates Z) (ascends Z))

@@ -21,6 +21,7 @@ pub record LiesIn (zs : List ℤ) (n : ℕ) (z : ℤ) : Type 0 where
   pub low : member zs n ≤ℤ z
   pub high : z <ℤ member zs (suc n)
 
+-- what lies in a gap of a list lies between two of its members,
 pub lies_in : (zs : List ℤ) (n : ℕ) (z : ℤ) → is_in_gap zs n z ≡ true → LiesIn zs n z
 lies_in [] n z e = absurd (false≢true e)
 lies_in (a ∷ []) n z e = absurd (false≢true e)
@@ -31,6 +32,7 @@ lies_in (a ∷ b ∷ zs) (suc n) z e =
     let rest = lies_in (b ∷ zs) n z e in
     record { within = omega (arith, rest.within); low = rest.low; high = rest.high }
 
+-- and what lies between them lies in the gap
 pub in_gap : (zs : List ℤ) (n : ℕ) (z : ℤ) → suc n < length zs → member zs n ≤ℤ z → z <ℤ member zs (suc n) → is_in_gap zs n z ≡ true
 in_gap [] n z l low high = absurd (omega arith)
 in_gap (a ∷ []) n z l low high = absurd (omega arith)

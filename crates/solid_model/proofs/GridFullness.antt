@@ -83,6 +83,7 @@ module _ (drawing : Segment → Style) (g : GridParts) (grid : IsGridOf drawing 
   pub grid_fullness : Cell → Bool
   grid_fullness n = is_within (grid_sizes g) n && is_full s (least_cell n)
 
+  -- it is the fullness of the solid, counted in grid cells
   pub is_grid_fullness : IsGridFullness g s grid_fullness
   unfolding grid_fullness
   is_grid_fullness = record {

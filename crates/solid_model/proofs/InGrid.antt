@@ -83,6 +83,7 @@ pub record Gap (zs : List ℤ) (n : ℕ) : Type 0 where
   pub low_member : Member zs low
   pub none_between : (z : ℤ) → low <ℤ z → z <ℤ high → Member zs z → ⊥
 
+-- a gap in which something lies has such ends
 pub gap_at : (zs : List ℤ) → Ascends ◌<ℤ◌ zs → (n : ℕ) (z : ℤ) → is_in_gap zs n z ≡ true → Gap zs n
 gap_at [] ascends n z e = absurd (false≢true e)
 gap_at (a ∷ []) ascends n z e = absurd (false≢true e)
@@ -174,6 +175,7 @@ before_placed X z c = refl
 before_placed Y z c = refl
 before_placed Z z c = refl
 
+-- a cell that is placed along an axis has this coordinate there
 pub placed_at : (a : Axis) (z : ℤ) (c : Cell) → coordinate a (placed a z c) ≡ z
 placed_at X z c = refl
 placed_at Y z c = refl

@@ -26,6 +26,7 @@ use Rattle.solid_model.proofs.Views.{each_axis, views_are_frames}
 
 -- ---- axes
 
+-- what the test takes for one axis is one
 pub same_axis-true : (a b : Axis) → same_axis a b ≡ true → a ≡ b
 same_axis-true X X e = refl
 same_axis-true Y Y e = refl

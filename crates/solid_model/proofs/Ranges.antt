@@ -13,6 +13,7 @@ member-range (suc n) a k from to = elim (cases_lt a k) as (λ _. Member (range_w
   | inr l ↦ inl (omega arith)
 ]
 
+-- and no others
 pub member-from_range : (n a k : ℕ) → Member (range_with_len a n) k → (a ≤ k) × (k < a + n)
 member-from_range zero a k m = absurd m
 member-from_range (suc n) a k (inl e) = (omega arith, omega arith)

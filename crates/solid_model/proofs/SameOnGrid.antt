@@ -56,6 +56,7 @@ same_parts f g long (y ∷ xs) same x k = ⊎_elim {C = f x ≡ g x} (λ e. subs
 
 -- ---- where grid segments begin
 
+-- with one coordinate more before the others one segment more begins, at it
 pub starts_more : (a b : ℤ) (zs : List ℤ) → starts_of (a ∷ b ∷ zs) ≡ a ∷ starts_of (b ∷ zs)
 starts_more a b zs =
     let p : length (a ∷ b ∷ zs) - 1 ≡ suc (length zs) = omega arith in
@@ -112,6 +113,7 @@ module _ (coordinates : Coordinates) (ascends : (a : Axis) → Ascends ◌<ℤ�
       on_line : Member (coordinates (across (frame_of v) upright).axis) line → drawing (segment_at v upright start line) ≡ other (segment_at v upright start line)
       on_line at_line = ⊎_elim (in_gap at_line) in_no_gap (gap_or_none (coordinates (along (frame_of v) upright).axis) (ascends (along (frame_of v) upright).axis) start)
 
+  -- so the drawings are the same everywhere
   pub same_everywhere : (g : Segment) → drawing g ≡ other g
   same_everywhere g = by g.view g.upright g.right g.up
     where

@@ -27,6 +27,7 @@ least_below (a ∷ zs) z k =
     let bounds = fold-int_min_bounds a zs (fold int_min a zs) refl in
     each-at (λ x. fold int_min a zs ≤ℤ x) (a ∷ zs) z (bounds.0, all-each (λ x. fold int_min a zs ≤ℤ x) zs bounds.1) k
 
+-- the least of a list that has a member is a member
 pub least_member_of : (zs : List ℤ) (z : ℤ) → Member zs z → Member zs (extreme int_min zs)
 least_member_of [] z k = absurd k
 least_member_of (a ∷ zs) z k = ⊎_elim {C = Member (a ∷ zs) (fold int_min a zs)} (λ e. inl (sym e)) (λ c. inr (contains-member zs (fold int_min a zs) c))
@@ -34,6 +35,7 @@ least_member_of (a ∷ zs) z k = ⊎_elim {C = Member (a ∷ zs) (fold int_min a
 
 -- ---- tests of views and styles
 
+-- what the test takes for one view is one,
 pub same_view-true : (a b : View) → same_view a b ≡ true → a ≡ b
 same_view-true Front Front e = refl
 same_view-true Front Top e = absurd (false≢true e)
@@ -45,16 +47,19 @@ same_view-true Side Side e = refl
 same_view-true Side Front e = absurd (false≢true e)
 same_view-true Side Top e = absurd (false≢true e)
 
+-- and each view is itself
 pub same_view-itself : (v : View) → same_view v v ≡ true
 same_view-itself Front = refl
 same_view-itself Top = refl
 same_view-itself Side = refl
 
+-- each style is itself,
 pub same_style-itself : (style : Style) → same_style style style ≡ true
 same_style-itself Blank = refl
 same_style-itself Dashed = refl
 same_style-itself Solid = refl
 
+-- and what the test takes for one style is one
 pub same_style-one : (a b : Style) → same_style a b ≡ true → a ≡ b
 same_style-one Solid Solid e = refl
 same_style-one Solid Dashed e = absurd (false≢true e)

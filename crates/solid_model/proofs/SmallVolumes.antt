@@ -33,6 +33,7 @@ abs_at_most : (z : ℤ) (n : ℕ) → neg_ℤ (pos n) ≤ℤ z → z ≤ℤ pos 
 abs_at_most (pos a) n low high = omega (arith, ints)
 abs_at_most (negsuc a) n low high = omega (arith, ints)
 
+-- no gap of a grid is wider than 2,000,000,000
 pub width_small : (g : GridParts) → IsGrid g → (a : Axis) (n : ℕ) → gap_width (coordinates_of g a) n ≤ 2000000000
 width_small g is a n =
     let near : (z : ℤ) → Member (coordinates_of g a) z → LiesNear z = λ z m. coordinate_near is.0 is.1 a z (((is.2.coordinates a).exact z).0 m) in

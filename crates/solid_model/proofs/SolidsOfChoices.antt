@@ -135,6 +135,7 @@ module _ (coordinates : Coordinates) (ascends : (a : Axis) → Ascends ◌<ℤ�
   at_corners choice s union =
       chosen_at_corners coordinates ascends (cells_of_choice items choice) (is_full s) union (length-map items (is_chosen choice) ∙ listed)
 
+  -- they are one list
   pub choices_of_solids : (choices others : List (List Bool)) (ss : List (List Cell))
       → AreSolidsOfChoices coordinates items n choices ss → AreSolidsOfChoices coordinates items n others ss → choices ≡ others
   choices_of_solids [] [] [] h k = refl

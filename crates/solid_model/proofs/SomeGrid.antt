@@ -75,6 +75,7 @@ module _ (drawing : Segment → Style) (is : IsDrawing drawing) where
             (λ m. let same : pos n ≡ z = omega (arith, ints) in subst (Member (zs ++ pos n ∷ [])) same (member-push_last zs (pos n)));
       }
 
+  -- it can't be that an axis has no list of grid coordinates
   pub some_coordinates : (a : Axis) → ((zs : List ℤ) → AreGridCoordinates drawing a zs → ⊥) → ⊥
   some_coordinates a never = some_below a 2000000001 (λ zs below. never zs (record {
     ordered = below.ordered;

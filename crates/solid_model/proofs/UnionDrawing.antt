@@ -27,6 +27,7 @@ use Rattle.solid_model.proofs.Views.{across_along, views_are_frames, each_axis, 
 abbrev pub LieInSameGaps : List ℤ → ℤ → ℤ → Type 0
 LieInSameGaps zs y z = (n : ℕ) → IsTrue (is_in_gap zs n y) ↔ IsTrue (is_in_gap zs n z)
 
+-- each coordinate lies in the gaps in which it lies
 pub same_gaps-itself : (zs : List ℤ) (z : ℤ) → LieInSameGaps zs z z
 same_gaps-itself zs z n = (λ e. e, λ e. e)
 

@@ -20,6 +20,7 @@ use Rattle.solid_model.proofs.UnionDrawing.{one_gap, in_grid_or_not}
 abbrev pub cells_over : List ℤ → List ℤ → List ℤ → List Cell
 cells_over = over_triples (λ x y z. record { x = x; y = y; z = z })
 
+-- a cell whose coordinates are members is there
 pub member-cells_over : (xs ys zs : List ℤ) (c : Cell) → Member xs c.x → Member ys c.y → Member zs c.z → Member (cells_over xs ys zs) c
 member-cells_over xs ys zs c = member-over_triples (λ x y z. record { x = x; y = y; z = z }) xs ys zs c.x c.y c.z
 
@@ -32,6 +33,7 @@ member-from_cells_over xs ys zs c k =
       subst (Member zs) (ap (λ (d : Cell). d.z) e) at_z,
     )
 
+-- they are as many as there are triples of members
 pub length-cells_over : (xs ys zs : List ℤ) → length (cells_over xs ys zs) ≡ length zs * (length ys * length xs)
 length-cells_over = length-over_triples (λ x y z. record { x = x; y = y; z = z })
 
@@ -42,6 +44,7 @@ abbrev pub range_from : ℤ → ℕ → List ℤ
 range_from z zero = []
 range_from z (suc n) = z ∷ range_from (z +ℤ pos 1) n
 
+-- they are those from the first one to before the n-th next one
 pub member-range_from : (n : ℕ) (z w : ℤ) → z ≤ℤ w → w <ℤ (z +ℤ pos n) → Member (range_from z n) w
 member-range_from zero z w from to = absurd (omega (arith, ints))
 member-range_from (suc n) z w from to = by_lt_z z w

@@ -89,6 +89,7 @@ each_axis P = across_each (λ a b c. P a → P b → P c → (x : Axis) → P x)
 pub across_turned : (a b c : Axis) → AreAcross a b c → AreAcross a c b
 across_turned a b c across = ⊎_elim {C = AreAcross a c b} (λ h. inr (h.1, h.0)) (λ h. inl (h.1, h.0)) across
 
+-- of three axes across each other the first and the second may change places
 pub across_next : (a b c : Axis) → AreAcross a b c → AreAcross b a c
 across_next = across_each (λ a b c. AreAcross b a c) at_second at_third
   where
@@ -122,6 +123,7 @@ runs_forward Top false = refl
 runs_forward Side true = refl
 runs_forward Side false = refl
 
+-- across them its columns stand forward too
 pub stands_forward : (v : View) (upright : Bool) → (across (frame_of v) upright).forward ≡ true
 stands_forward v true = runs_forward v false
 stands_forward v false = runs_forward v true
@@ -130,6 +132,7 @@ stands_forward v false = runs_forward v true
 pub forward_cell : (d : Direction) (z : ℤ) → d.forward ≡ true → cell_on d z ≡ z
 forward_cell d z e = ap (λ b. if b then z else (neg_ℤ z -ℤ pos 1)) e
 
+-- forward, a point is at its own coordinate
 pub forward_point : (d : Direction) (z : ℤ) → d.forward ≡ true → point_on d z ≡ z
 forward_point d z e = ap (λ b. if b then z else neg_ℤ z) e
 
@@ -210,6 +213,7 @@ cell_on_turned : (forward : Bool) (axis : Axis) (z : ℤ)
 cell_on_turned true axis z = refl
 cell_on_turned false axis z = omega (arith, ints)
 
+-- along any direction
 pub cell_on_twice : (d : Direction) (z : ℤ) → cell_on d (cell_on d z) ≡ z
 cell_on_twice d z = cell_on_turned d.forward d.axis z
 
@@ -233,6 +237,7 @@ pub record HasCoordinates (a b c : Axis) (i j k : ℤ) (cell : Cell) : Type 0 wh
   pub second : coordinate b cell ≡ j
   pub third : coordinate c cell ≡ k
 
+-- a cell that is placed along three axes has these coordinates there
 pub coordinates_at : (i j k : ℤ) (a b c : Axis) → AreAcross a b c → HasCoordinates a b c i j k (at_places a i b j c k)
 coordinates_at i j k = across_each (λ a b c. HasCoordinates a b c i j k (at_places a i b j c k)) inorder turned
   where
@@ -262,6 +267,7 @@ pub record HasPlaces (f : Frame) (upright : Bool) (i j k : ℤ) (c : Cell) : Typ
   pub across_is : place_of (across f upright) c ≡ j
   pub away_is : place_of f.away c ≡ k
 
+-- a cell that is told by its places in a view has them
 pub places_of_cell_in : (f : Frame) → IsFrame f → (upright : Bool) (i j k : ℤ) → HasPlaces f upright i j k (cell_in f upright i j k)
 places_of_cell_in f is upright i j k =
     let at = coordinates_at (cell_on (along f upright) i) (cell_on (across f upright) j) (cell_on f.away k) _ _ _ (across_along f is upright) in

@@ -225,6 +225,7 @@ module _ (coordinates : Coordinates) (ascends : (a : Axis) → Ascends ◌<ℤ�
               (lying-cells_in (grid_cell_at coordinates p) c (lies_at_place n c lies)))
           by (inr none) = absurd (both_ways (is_full s c) (union.outside c none) (member-is_full s c k))
 
+      -- so the volume is the number of unit cells
       pub volume_counts : IsInStatedForm s → length s ≡ volume_of coordinates chosen
       volume_counts stated = equally_long s placed_cells
           (ascends-weaker ComesBefore ◌≢◌ s before_differs stated)
