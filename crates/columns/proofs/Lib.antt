@@ -9,3 +9,4 @@ pub mod AllLines
 pub mod SettledColumns
 pub mod SightLines
 pub mod MetLines
+pub mod LiveTree

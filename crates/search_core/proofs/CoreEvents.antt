@@ -10,10 +10,10 @@ use Rattle.std.proofs.lemmas.Grind.{flat_map-append}
 use Rattle.solid_model.specs.declared.ended.EndKind.TheVariants.{Whole, CutNodes, CutSolids}
 use Rattle.solid_model.specs.Lists.{Member}
 use Rattle.solid_model.specs.Search.{SearchLimits}
-use Rattle.solid_model.specs.Tree.{Word, IsAllowed, live_count, live_below}
+use Rattle.solid_model.specs.Tree.{Word, IsAllowed, live_count, live_below, IsClosed}
 use Rattle.solid_model.proofs.Lists.{each-from, ascends-append_left, member-append_left}
 use Rattle.solid_model.proofs.PrefixTree.{live_count_none, live_below_none}
-use Rattle.search_core.specs.Conserves.{IsClosed, IsWholeTree, EndsRightly, IsConserved}
+use Rattle.search_core.specs.Conserves.{IsWholeTree, EndsRightly, IsConserved}
 use Rattle.search_core.specs.Core.{Core, Event, IsEvent, IsRun, start_of, same_prefix, without, end_at, after_event, after_events}
 use Rattle.search_core.proofs.Lists.{sum-append, each-take, ascends-take, member-permutation, put_apart, once-permutation}
 use Rattle.search_core.proofs.OnceBelow.{once_below}

@@ -9,9 +9,9 @@ use Rattle.solid_model.specs.Demands.{is_live}
 use Rattle.solid_model.specs.Lists.{Member, Each}
 use Rattle.solid_model.specs.Reports.{Report}
 use Rattle.solid_model.specs.Search.{SearchLimits}
-use Rattle.solid_model.specs.Tree.{Word, live_count}
+use Rattle.solid_model.specs.Tree.{Word, live_count, IsClosed}
 use Rattle.solid_model.proofs.Lists.{each-at, each-append}
-use Rattle.search_core.specs.Conserves.{IsClosed, IsConserved}
+use Rattle.search_core.specs.Conserves.{IsConserved}
 use Rattle.search_core.specs.Core.{Core, Event, IsEvent, IsRun, start_of, without, end_at, after_event, after_events}
 use Rattle.search_core.specs.Desk.{DeskParts, IsDesk, IsTaken, state_of, event_of}
 use Rattle.search_core.proofs.CoreEvents.{conserved}

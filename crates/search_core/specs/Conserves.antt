@@ -8,10 +8,6 @@ use Rattle.solid_model.specs.Search.{SearchLimits}
 use Rattle.solid_model.specs.Tree.{Word, live_count, live_below}
 use Rattle.search_core.specs.Core.{Core}
 
--- what a live prefix begins with is live
-abbrev pub IsClosed : Word → Type 0
-IsClosed live = (prefix rest : List Bool) → IsTrue (live (prefix ++ rest)) → IsTrue (live prefix)
-
 -- all live prefixes are those that were opened and those that begin with one of the frontier; all choices are those that were
 -- found and those below the frontier
 pub record IsWholeTree (live : Word) (n : ℕ) (c : Core) : Type 0 where

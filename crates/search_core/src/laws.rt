@@ -7,9 +7,9 @@ ghost use Rattle.solid_model.specs.declared.segment.Style.{Style};
 ghost use Rattle.solid_model.specs.Choices.{AreChoicesThat, IsMatchingChoice};
 ghost use Rattle.solid_model.specs.Panels.{GridParts, coordinates_of, IsGridOf};
 ghost use Rattle.solid_model.specs.Search.{SearchLimits};
-ghost use Rattle.solid_model.specs.Tree.{Word, KeepsMatching, live_count};
+ghost use Rattle.solid_model.specs.Tree.{Word, IsClosed, KeepsMatching, live_count};
 ghost use Rattle.solid_model.specs.SmallTree.{not_both_empty};
-ghost use Rattle.search_core.specs.Conserves.{IsClosed, IsConserved};
+ghost use Rattle.search_core.specs.Conserves.{IsConserved};
 ghost use Rattle.search_core.specs.Core.{Event, IsRun, start_of, after_events};
 ghost use Rattle.search_core.specs.SmallCore.{roomy, few_nodes, few_solids, few_of_both, first_event, second_event, third_event, at_start, after_first, after_second, after_third, cut_at_nodes, cut_at_solids, nothing_live, whole_at_start};
 

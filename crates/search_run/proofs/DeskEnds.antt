@@ -10,10 +10,10 @@ use Rattle.solid_model.specs.Demands.{is_live}
 use Rattle.solid_model.specs.Lists.{Member, Each, Ascends}
 use Rattle.solid_model.specs.Search.{SearchLimits}
 use Rattle.solid_model.specs.SearchEnds.{AreSomeOf, EndsAs}
-use Rattle.solid_model.specs.Tree.{Word, live_from, is_whole, live_below}
+use Rattle.solid_model.specs.Tree.{Word, live_from, is_whole, live_below, IsClosed}
 use Rattle.solid_model.proofs.ComparedChoices.{precedes_one_way}
 use Rattle.solid_model.proofs.Lists.{each-at, each-from, member-from_filter, same_ascending}
-use Rattle.search_core.specs.Conserves.{IsClosed, EndsRightly, IsConserved}
+use Rattle.search_core.specs.Conserves.{EndsRightly, IsConserved}
 use Rattle.search_core.specs.Core.{Core}
 use Rattle.search_core.specs.Desk.{DeskParts, IsDesk}
 use Rattle.search_core.proofs.Desks.{desk_conserved}

@@ -4,7 +4,7 @@ ghost use Rattle.std.specs.Prelude.{◌≡◌, ◌<◌, None, Some, [], IfOk, On
 ghost use Rattle.std.specs.Arc.{arc_value};
 ghost use Rattle.solid_model.specs.Demands.{is_live};
 ghost use Rattle.solid_model.specs.SearchEnds.{EndsSearch};
-ghost use Rattle.search_core.specs.Conserves.{IsClosed};
+ghost use Rattle.solid_model.specs.Tree.{IsClosed};
 ghost use Rattle.search_core.specs.Desk.{IsDesk};
 
 use crate::sorted::sort_choices;

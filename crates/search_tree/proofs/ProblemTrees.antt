@@ -1,41 +1,15 @@
--- The live prefixes of a problem make a tree, and what decisions on the first blocks say is what the prefix says.
+-- What decisions on the first blocks say is what the prefix says.
 use Rattle.std.proofs.Common.{◌≡◌, Bool, true, false, ℕ, zero, suc, ◌+◌, ◌<◌, ◌≤◌, ◌==◌, List, [], ◌∷◌, ◌++◌, length, ℤ, pos, ◌-ℤ◌, Option, Some, None, is_some, is_none, not, IsTrue, ◌↔◌, refl, sym, ◌∙◌, ap, ap₂, subst, add-zero, zero-add, length-append, arith}
 use Rattle.std.proofs.lemmas.Bool.{false_from_ne_true, eq-eqb, ne_eqb}
 use Rattle.std.proofs.lemmas.List.{same_from_push}
 use Rattle.std.proofs.lemmas.Option.{none-some}
 use Rattle.line_demands.specs.declared.partial.Decision.{Decision}
 use Rattle.line_demands.specs.Decisions.{decided_by, PartialParts}
-use Rattle.line_demands.proofs.Prefixes.{known_more}
 use Rattle.solid_model.specs.declared.line_id.LineId.{LineId}
 use Rattle.solid_model.specs.Blocks.{ProblemParts}
 use Rattle.solid_model.specs.Demands.{has_line, said_by, known_cell, known_column, AgreesWith, CanBeMet, IsLive, is_live}
 use Rattle.columns.proofs.MetLines.{AreSized, live_computed}
 use Rattle.search_tree.specs.BlockPaths.{decisions_of, IsPath}
-use Rattle.search_tree.specs.Walk.{IsTree}
-
-module _ (p : ProblemParts) where
-  -- what is known of fewer blocks, more columns agree with
-  agrees_less : (prefix rest : List Bool) (l : LineId) (j : ℤ) (column : ℤ → Bool)
-      → AgreesWith (known_column p.grid (known_cell p.blocks (said_by (prefix ++ rest))) l j) column
-      → AgreesWith (known_column p.grid (known_cell p.blocks (said_by prefix)) l j) column
-  agrees_less prefix rest l j column agrees k value e = agrees k value (known_more p.blocks prefix rest _ value e)
-
-  met_less : (prefix rest : List Bool) (l : LineId) → CanBeMet p (said_by (prefix ++ rest)) l → CanBeMet p (said_by prefix) l
-  met_less prefix rest l (after, before, agrees, agrees_too, draws) =
-      (after, before, agrees_less prefix rest l (pos l.at) after agrees, agrees_less prefix rest l (pos l.at -ℤ pos 1) before agrees_too, draws)
-
-  -- so what a live prefix begins with is live
-  begins_live : (prefix rest : List Bool) → IsLive p (prefix ++ rest) → IsLive p prefix
-  begins_live prefix rest live = record {
-    short = omega (arith, live.short, length-append prefix rest);
-    met = λ l has. met_less prefix rest l (live.met l has);
-  }
-
-  pub problem_tree : AreSized p → IsTree (is_live p) p.blocks.count
-  problem_tree sized = record {
-    short = λ prefix live. ((live_computed p sized prefix).0 live).short;
-    downwards = λ prefix rest live. (live_computed p sized prefix).1 (begins_live prefix rest ((live_computed p sized (prefix ++ rest)).0 live));
-  }
 
 -- ---- decisions
 

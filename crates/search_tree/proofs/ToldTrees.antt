@@ -1,7 +1,7 @@
 -- Words that a text tells make trees.
 use Rattle.std.proofs.Common.{◌≡◌, Bool, true, false, ℕ, ◌+◌, ◌*◌, ◌==◌, List, [], ◌∷◌, ◌++◌, length, slice_index_or, nat_le, IsTrue, sym, length-append, arith}
 use Rattle.std.proofs.lemmas.Bool.{and_parts, and_from, and_left, leb-true, le-leb}
-use Rattle.search_tree.specs.Walk.{IsTree}
+use Rattle.solid_model.specs.Tree.{IsTree}
 use Rattle.search_tree.specs.Words.{lets, is_let}
 
 lets_beginning : (text : List ℕ) (place : ℕ) (values rest : List Bool) → IsTrue (lets text place (values ++ rest)) → IsTrue (lets text place values)
@@ -14,7 +14,7 @@ lets_beginning text place (false ∷ values) rest h = let p = and_parts _ _ h in
 pub told_tree : (n : ℕ) (text : List ℕ) → IsTree (is_let n text) n
 told_tree n text = record {
   short = λ prefix h. leb-true (length prefix) n (and_parts (nat_le (length prefix) n) (lets text 0 prefix) h).0;
-  downwards = λ prefix rest h.
+  closed = λ prefix rest h.
       let p = and_parts (nat_le (length (prefix ++ rest)) n) (lets text 0 (prefix ++ rest)) h in
       and_from (nat_le (length prefix) n) (lets text 0 prefix)
       (le-leb (length prefix) n (omega (arith, leb-true (length (prefix ++ rest)) n p.0, length-append prefix rest)))

@@ -2,11 +2,6 @@
 use Rattle.std.specs.Prelude.{◌≡◌, Bool, true, false, ℕ, ◌≤◌, List, [], ◌∷◌, ◌++◌, length, take, drop, IsTrue}
 use Rattle.solid_model.specs.Tree.{Word, live_from}
 
--- what the walk asks of the word: no live prefix is too long, and what a live prefix begins with is live
-pub record IsTree (live : Word) (n : ℕ) : Type 0 where
-  pub short : (prefix : List Bool) → IsTrue (live prefix) → length prefix ≤ n
-  pub downwards : (prefix rest : List Bool) → IsTrue (live (prefix ++ rest)) → IsTrue (live prefix)
-
 -- From a piece with these values more: the live prefixes that begin with the piece and come after whatever begins with the
 -- present prefix, those below its empty sides.
 abbrev pub after : Word → ℕ → List Bool → List Bool → List (List Bool)

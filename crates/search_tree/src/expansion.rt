@@ -3,8 +3,7 @@
 ghost use Rattle.std.specs.Prelude.{◌≡◌, ◌≤◌, false, [], length, IsTrue, IfOk, IfSome, MatchOption};
 ghost use Rattle.std.specs.Arc.{arc_value};
 ghost use Rattle.solid_model.specs.Demands.{is_live};
-ghost use Rattle.solid_model.specs.Tree.{opened_of, found_of, rest_of, IsAllowed};
-ghost use Rattle.search_tree.specs.Walk.{IsTree};
+ghost use Rattle.solid_model.specs.Tree.{opened_of, found_of, rest_of, IsAllowed, IsTree};
 
 use crate::block_path::BlockPath;
 use crate::opened::open_first;

@@ -1,7 +1,7 @@
 //! Ways down the tree of prefixes.
 
 ghost use Rattle.std.specs.Prelude.{◌≡◌, Bool, List, [], ◌∷◌, ◌++◌, ℕ, ◌<◌, length, MatchOption};
-ghost use Rattle.search_tree.specs.Walk.{IsTree};
+ghost use Rattle.solid_model.specs.Tree.{IsTree};
 
 /// A way down the tree of prefixes: it stands at one prefix, goes down to one with a value more, and
 /// up again. Which prefixes are live, and how many blocks there are, stays the same on the way.

@@ -20,7 +20,7 @@ module _ (matches : List Bool → Type 0) (live : Word) (n : ℕ) (keeps : Keeps
 
   -- with a dead prefix no matching choice begins
   complete-dead : (prefix : List Bool) → live prefix ≡ false → IsComplete prefix
-  complete-dead prefix dead = rw (live_below_none live n prefix dead keeps.downwards) (record {
+  complete-dead prefix dead = rw (live_below_none live n prefix dead keeps.tree.closed) (record {
     each = tt;
     ordered = tt;
     complete = λ choice long from.

@@ -9,11 +9,19 @@ use Rattle.solid_model.specs.Lists.{Each}
 abbrev pub Word : Type 0
 Word = List Bool → Bool
 
--- What the tree asks of the word, where these choices of n blocks match: no live prefix is too long; what a live prefix begins
--- with is live; so is whatever a matching choice begins with; and a live prefix of full length is a matching choice.
-pub record KeepsMatching (live : Word) (n : ℕ) (matches : List Bool → Type 0) : Type 0 where
+-- what a live prefix begins with is live
+abbrev pub IsClosed : Word → Type 0
+IsClosed live = (prefix rest : List Bool) → IsTrue (live (prefix ++ rest)) → IsTrue (live prefix)
+
+-- the live prefixes of n blocks are a tree: none is too long, and they are closed
+pub record IsTree (live : Word) (n : ℕ) : Type 0 where
   pub short : (prefix : List Bool) → IsTrue (live prefix) → length prefix ≤ n
-  pub downwards : (prefix rest : List Bool) → IsTrue (live (prefix ++ rest)) → IsTrue (live prefix)
+  pub closed : IsClosed live
+
+-- And the tree is one of these choices, which match: whatever one of them begins with is live, and a live prefix of full length is
+-- one of them.
+pub record KeepsMatching (live : Word) (n : ℕ) (matches : List Bool → Type 0) : Type 0 where
+  pub tree : IsTree live n
   pub reached : (prefix rest : List Bool) → length (prefix ++ rest) ≡ n → matches (prefix ++ rest) → IsTrue (live prefix)
   pub ends : (choice : List Bool) → length choice ≡ n → IsTrue (live choice) → matches choice
 

@@ -16,5 +16,5 @@ pub returns-clause-whole : goal.returns-clause-whole
 returns-clause-whole c = λ drawing g grid blocks count live keeps limits events run whole. (
   live_below live count [],
   complete_tree (IsMatchingChoice drawing (coordinates_of g) blocks) live count keeps,
-  all_found live count limits keeps.downwards events run whole,
+  all_found live count limits keeps.tree.closed events run whole,
 )

@@ -3,22 +3,21 @@ use Rattle.std.proofs.Common.{◌≡◌, ◌≤◌, [], sym, ◌∙◌, subst, a
 use Rattle.std.specs.Arc.{arc_value}
 use Rattle.solid_model.specs.Blocks.{ProblemParts}
 use Rattle.solid_model.specs.Demands.{is_live}
-use Rattle.solid_model.specs.Tree.{live_count}
-use Rattle.search_core.specs.Conserves.{IsClosed}
+use Rattle.solid_model.specs.Tree.{live_count, IsClosed}
 use Rattle.search_core.proofs.Desks.{few_opened}
-use Rattle.search_tree.proofs.ProblemTrees.{problem_tree}
+use Rattle.columns.proofs.LiveTree.{problem_tree}
 use Rattle.search_run.proofs.desk_search.search_by_desk.Goals as goal
 
 pub ended-requires-clause-closed : goal.ended-requires-clause-closed
 ended-requires-clause-closed c =
     let same : c.deref.result.now ≡ c.loop-kind.desk.problem = c.deref.ensures ∙ sym c.loop-kind.invariant.problem in
-    subst (λ p. IsClosed (is_live p)) same (problem_tree c.deref.result.now c.grid-grid.ensures.kept.sized).downwards
+    subst (λ p. IsClosed (is_live p)) same (problem_tree c.deref.result.now c.grid-grid.ensures.kept.sized).closed
 
 pub loop-kind-smaller : goal.loop-kind-smaller
 loop-kind-smaller c =
     let now = c.step.new.desk in
     let same : now.problem ≡ arc_value c.args.problem.now = c.in_ok-step.ensures.problem ∙ c.loop-kind.invariant.problem in
-    let closed = subst (λ p. IsClosed (is_live p)) (c.deref.ensures ∙ sym same) (problem_tree c.deref.result.now c.grid-grid.ensures.kept.sized).downwards in
+    let closed = subst (λ p. IsClosed (is_live p)) (c.deref.ensures ∙ sym same) (problem_tree c.deref.result.now c.grid-grid.ensures.kept.sized).closed in
     let few : now.opened ≤ live_count (is_live (arc_value c.args.problem.now)) (arc_value c.args.problem.now).blocks.count [] =
     subst (λ (p : ProblemParts). now.opened ≤ live_count (is_live p) p.blocks.count []) same (few_opened now c.in_ok-step.ensures.kept closed) in
     omega (arith, c.in_ok-step.ensures.opened, few)

@@ -13,7 +13,7 @@ loop-more-init g c =
     let asked : c.is_live-more.result ≡ word [] = c.is_live-more.ensures.live ∙ ap word c.requires in record {
       live = refl;
       blocks = refl;
-      searches = rw c.new-solids.ensures.items (search_begins word n c.args.limits c.is_live-more.result asked c.is_live-more.ensures.tree.downwards prefix c.requires);
+      searches = rw c.new-solids.ensures.items (search_begins word n c.args.limits c.is_live-more.result asked c.is_live-more.ensures.tree.closed prefix c.requires);
     }
 
 pub returns-then-opened-limits : goal.returns-then-opened-limits

@@ -25,7 +25,7 @@ returns-clause-rest g c =
           c.new-rest.ensures.items
           ∙ ap (λ live. live_sides live last ++ besides live (length c.values-floor.result.now) last) c.in_ok-opened.ensures.live
           ∙ ap left (ap length c.values-floor.ensures) in
-          ap (λ rest. rest.items) w.rest-is ∙ kept ∙ sym (rest_roots word n c.requires.tree.downwards c.requires.tree.short piece quantum last stands))
+          ap (λ rest. rest.items) w.rest-is ∙ kept ∙ sym (rest_roots word n c.requires.tree.closed c.requires.tree.short piece quantum last stands))
       | else-opened-quantum w ↦ (
           let none = none_behind quantum (live_from word n piece) (λ e. w.if-opened-quantum.false (c.in_ok-opened.ensures.opened ∙ e)) in
           ap (λ rest. rest.items) w.rest-is ∙ c.new-rest.ensures.items ∙ sym (ap (filter (is_next_to (opened_of word n piece quantum))) none))
@@ -39,4 +39,4 @@ returns-clause-allowed g c =
     let found : c.open_first.new.found.items ≡ found_of word n piece c.args.quantum =
     c.in_ok-opened.ensures.found ∙ ap (λ xs. xs ++ found_of word n piece c.args.quantum) c.new-found.ensures.items in
     rw (c.in_ok-opened.ensures.opened, found, returns-clause-rest g c)
-    (report_is_allowed word n c.requires.tree.short c.requires.tree.downwards piece c.requires.live c.args.quantum c.requires.quantum)
+    (report_is_allowed word n c.requires.tree.short c.requires.tree.closed piece c.requires.live c.args.quantum c.requires.quantum)

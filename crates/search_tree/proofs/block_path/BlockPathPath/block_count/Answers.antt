@@ -1,8 +1,8 @@
 -- The live prefixes of the problem make a tree.
 use Rattle.std.proofs.Common.{ap, subst}
 use Rattle.solid_model.specs.Demands.{is_live}
-use Rattle.search_tree.specs.Walk.{IsTree}
-use Rattle.search_tree.proofs.ProblemTrees.{problem_tree}
+use Rattle.solid_model.specs.Tree.{IsTree}
+use Rattle.columns.proofs.LiveTree.{problem_tree}
 use Rattle.search_tree.proofs.block_path.BlockPathPath.block_count.Goals as goal
 
 pub returns-clause-tree : goal.returns-clause-tree

@@ -1,8 +1,9 @@
 -- No line is broken, and the live prefixes of the problem make a tree.
 use Rattle.std.proofs.Common.{◌≤◌, length, ap, ◌∙◌, subst, arith}
 use Rattle.solid_model.specs.Demands.{is_live}
-use Rattle.search_tree.specs.Walk.{IsTree}
-use Rattle.search_tree.proofs.ProblemTrees.{problem_tree, path_live, none_by}
+use Rattle.solid_model.specs.Tree.{IsTree}
+use Rattle.search_tree.proofs.ProblemTrees.{path_live, none_by}
+use Rattle.columns.proofs.LiveTree.{problem_tree}
 use Rattle.search_tree.proofs.block_path.BlockPathPath.is_live.Goals as goal
 
 pub returns-clause-live : goal.returns-clause-live
