@@ -11,6 +11,7 @@ ghost use Rattle.solid_model.specs.Limits.{most_blocks};
 ghost use Rattle.solid_model.specs.Matching.{AreSolidsOf};
 ghost use Rattle.solid_model.specs.Panels.{GridParts, IsGridOf};
 ghost use Rattle.solid_model.specs.Tree.{live_count};
+ghost use Rattle.solid_model.specs.Search.{default_limits};
 ghost use Rattle.redraw.specs.Files.{IsFileOf};
 ghost use Rattle.read_back.specs.ReadBack.{ReadsBack};
 ghost use Rattle.drawing_maker.specs.Made.{made_solid};
@@ -31,7 +32,9 @@ pub fn made_drawings_stay_within_the_limits()
         → (numbers : List (Option ℕ)) (count : ℕ) → AreBlocksOf g numbers count
         → count ≤ most_blocks }
     ensures nodes { (n : ℕ) (p : ProblemParts) → IsGridOf (solid_drawing (made_solid n)) p.grid
-        → IsBlocksOf p.grid p.blocks → live_count (is_live p) p.blocks.count [] ≤ 1000000 }
+        → IsBlocksOf p.grid p.blocks → live_count (is_live p) p.blocks.count []
+        ≤ default_limits.nodes }
     ensures solids { (n : ℕ) (solids : List (List Cell))
-        → AreSolidsOf (solid_drawing (made_solid n)) solids → length solids ≤ 4096 }
+        → AreSolidsOf (solid_drawing (made_solid n)) solids
+        → length solids ≤ default_limits.solids }
 {}

@@ -7,7 +7,7 @@ use Rattle.dxf_entities.proofs.KeptLines.{read_lines_are_kept}
 use Rattle.recon_run.specs.declared.status.Answer.{Answer}
 use Rattle.recon_run.specs.declared.status.Answer.TheVariants.{Solve, Redraw, NoSolid, Make, Trial, Usage}
 use Rattle.recon_run.specs.declared.status.Found.TheVariants.{Ended, Faulty}
-use Rattle.recon_run.specs.Answers.{usage_text, IsFaultAfter, IsFileFault, HasProblem, IsSolved, IsTried, default_limits, head_of}
+use Rattle.recon_run.specs.Answers.{usage_text, IsFaultAfter, IsFileFault, HasProblem, IsSolved, IsTried, head_of}
 use Rattle.recon_run.specs.Endings.{Answers, AnswersJob, AnswersSaid, ReadsAllOrPast, Redraws}
 use Rattle.recon_run.proofs.Redrawn.{each_get}
 use Rattle.recon_run.proofs.Faults.{file_fault}
@@ -34,7 +34,7 @@ use Rattle.solid_model.specs.Lists.{Member, Each, Ascends}
 use Rattle.solid_model.specs.Panels.{PanelStyles, GridParts, coordinates_of, grid_styles, AreGridStyles, IsGridOf}
 use Rattle.solid_model.specs.PerAxis.{numbers_of}
 use Rattle.solid_model.specs.Runs.{IsDrawing}
-use Rattle.solid_model.specs.Search.{SearchLimits}
+use Rattle.solid_model.specs.Search.{SearchLimits, default_limits}
 use Rattle.solid_model.specs.SearchEnds.{EndsAs}
 use Rattle.solid_model.specs.Tree.{Word, live_count, live_below}
 use Rattle.solid_model.specs.VirtualFaces.{IsVirtual}

@@ -7,7 +7,7 @@ use Rattle.made_laws.proofs.MadeFiles.{made_file_reads_back}
 use Rattle.made_laws.proofs.MadeLimits.{few_made_blocks, few_made_choices, few_made_nodes, made_blocks_are, made_problem}
 use Rattle.made_laws.proofs.SomeMadeGrid.{made_grid_is}
 use Rattle.redraw.specs.Files.{IsFileOf}
-use Rattle.recon_run.specs.Answers.{HasNoFault, HasProblem, IsTried, default_limits, made_drawing, node_count}
+use Rattle.recon_run.specs.Answers.{HasNoFault, HasProblem, IsTried, made_drawing, node_count}
 use Rattle.recon_run.specs.Findings.{figures_text}
 use Rattle.recon_run.proofs.Faults.{no_fault}
 use Rattle.recon_run.proofs.Redrawn.{first_counts}
@@ -26,6 +26,7 @@ use Rattle.solid_model.specs.Line.{Line}
 use Rattle.solid_model.specs.Matching.{AreSolidsOf}
 use Rattle.solid_model.specs.Panels.{coordinates_of, IsGridOf}
 use Rattle.solid_model.specs.SearchEnds.{EndsAs}
+use Rattle.solid_model.specs.Search.{default_limits}
 
 module _ (n : ℕ) (t : List ℕ) (file : IsFileOf (made_solid n) t) where
   -- the lines that are read draw the made drawing

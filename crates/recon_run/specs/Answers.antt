@@ -28,7 +28,7 @@ use Rattle.solid_model.specs.Limits.{most_blocks, most_file_bytes}
 use Rattle.solid_model.specs.Line.{Line}
 use Rattle.solid_model.specs.Matching.{AreSolidsOf, AreSomeSolidsOf}
 use Rattle.solid_model.specs.Panels.{GridParts, coordinates_of, IsGridOf}
-use Rattle.solid_model.specs.Search.{SearchLimits}
+use Rattle.solid_model.specs.Search.{SearchLimits, default_limits}
 use Rattle.solid_model.specs.Tree.{live_count}
 
 -- ---- the faults of an input
@@ -166,10 +166,6 @@ abbrev pub LacksSolid : SearchLimits → ℕ → List ℕ → List ℕ → Type 
 LacksSolid limits which t text = (c : CanEnd limits t Whole) × (length c.solids < which) × (text ≡ no_solid_text which (length c.solids))
 
 -- ---- `trial`
-
--- the limits of a search where none are asked for
-abbrev pub default_limits : SearchLimits
-default_limits = record { nodes = 1000000; solids = 4096 }
 
 -- the drawing that is made from a number
 abbrev pub made_drawing : ℕ → Segment → Style

@@ -10,13 +10,13 @@ use Rattle.recon_run.specs.declared.status.Status.{Status}
 use Rattle.recon_run.specs.declared.status.Status.TheVariants.{Answered, Stopped}
 use Rattle.recon_run.specs.declared.status.Stop.{Stop}
 use Rattle.recon_run.specs.declared.status.Stop.TheVariants.{ReadFault, WriteFault, Memory}
-use Rattle.recon_run.specs.Answers.{CanEnd, IsSolved, IsBegun, IsRedrawn, LacksSolid, IsTried, default_limits, usage_text}
+use Rattle.recon_run.specs.Answers.{CanEnd, IsSolved, IsBegun, IsRedrawn, LacksSolid, IsTried, usage_text}
 use Rattle.recon_run.specs.Status.{status_code}
 use Rattle.redraw.specs.Files.{IsFileOf}
 use Rattle.solid_model.specs.declared.ended.EndKind.{EndKind}
 use Rattle.solid_model.specs.declared.ended.EndKind.TheVariants.{Whole, CutNodes, CutSolids}
 use Rattle.solid_model.specs.Limits.{most_file_bytes}
-use Rattle.solid_model.specs.Search.{SearchLimits}
+use Rattle.solid_model.specs.Search.{SearchLimits, default_limits}
 use Rattle.tv_base.specs.Pieces.{AppendsPrefix, ReadsPast}
 use Rattle.words.specs.declared.job.Job.{Job}
 use Rattle.words.specs.declared.job.Job.TheVariants as job

@@ -5,3 +5,7 @@ use Rattle.std.specs.Prelude.{ℕ}
 pub record SearchLimits : Type 0 where
   pub nodes : ℕ
   pub solids : ℕ
+
+-- those where none are asked for
+abbrev pub default_limits : SearchLimits
+default_limits = record { nodes = 1000000; solids = 4096 }

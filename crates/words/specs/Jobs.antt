@@ -2,7 +2,7 @@
 use Rattle.std.specs.Prelude.{ℕ, ◌≤◌, List, [], ◌∷◌, Option, Some, None, if◌then◌else◌, codes, option_map}
 use Rattle.std.specs.Str.{bytes_eq}
 use Rattle.solid_model.specs.Limits.{most_node_limit, most_solid_limit}
-use Rattle.solid_model.specs.Search.{SearchLimits}
+use Rattle.solid_model.specs.Search.{SearchLimits, default_limits}
 use Rattle.words.specs.declared.job.Job.{Job}
 use Rattle.words.specs.declared.job.Job.TheVariants as job
 use Rattle.words.specs.Words.{Field, Table, Text, Use, number_name, number_or, taken}
@@ -37,7 +37,7 @@ seed_table = record { options = []; number = Some (record { least = 0; most = 18
 
 -- a search within 1,000,000 live prefixes and 4,096 solids, where the words say nothing else
 abbrev pub limits_in : List Use → SearchLimits
-limits_in us = record { nodes = number_or us (codes "nodes") 1000000; solids = number_or us (codes "solids") 4096 }
+limits_in us = record { nodes = number_or us (codes "nodes") default_limits.nodes; solids = number_or us (codes "solids") default_limits.solids }
 
 -- the number that stands there
 abbrev pub number_in : List Use → ℕ
