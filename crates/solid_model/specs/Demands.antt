@@ -101,13 +101,17 @@ CanDraw known other style = (after before : ℤ → Bool) × AgreesWith known af
 abbrev pub CanBeMet : ProblemParts → (ℕ → Option Bool) → LineId → Type 0
 CanBeMet p known l = CanDraw (known_after p.grid (known_cell p.blocks known) l) (known_before p.grid (known_cell p.blocks known) l) (line_style p.grid l)
 
--- the line is the first of all lines that can't be met
-pub record IsFirstBroken (p : ProblemParts) (known : ℕ → Option Bool) (l : LineId) : Type 0 where
+-- the line is the first of these lines that can't be met
+pub record IsFirstBrokenOf (p : ProblemParts) (known : ℕ → Option Bool) (lines : List LineId) (l : LineId) : Type 0 where
   pub earlier : List LineId
   pub later : List LineId
-  pub place : lines_of p.grid ≡ earlier ++ l ∷ later
+  pub place : lines ≡ earlier ++ l ∷ later
   pub met : (m : LineId) → Member earlier m → CanBeMet p known m
   pub broken : CanBeMet p known l → ⊥
+
+-- and of all lines
+abbrev pub IsFirstBroken : ProblemParts → (ℕ → Option Bool) → LineId → Type 0
+IsFirstBroken p known = IsFirstBrokenOf p known (lines_of p.grid)
 
 -- A prefix says for some of the first blocks whether they are full. It is live where every line can still be met.
 pub record IsLive (p : ProblemParts) (prefix : List Bool) : Type 0 where
