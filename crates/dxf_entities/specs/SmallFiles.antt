@@ -18,14 +18,14 @@ line_from n more x y =
 abbrev pub section_at : ℕ → List ℕ → List TextPair
 section_at n name = pair_on n (pos 0) (codes "SECTION") ∷ pair_on (n + 2) (pos 2) name ∷ []
 
-abbrev pub end_at : ℕ → List TextPair
-end_at n = pair_on n (pos 0) (codes "endsec") ∷ []
+abbrev pub end_of_section : ℕ → List TextPair
+end_of_section n = pair_on n (pos 0) (codes "endsec") ∷ []
 
 -- a table with one layer FRONT, whose linetype is HIDDEN
 abbrev pub hidden_layer : ℕ → List TextPair
 hidden_layer n = section_at n (codes "TABLES")
     ++ (pair_on (n + 4) (pos 0) (codes "LAYER") ∷ pair_on (n + 6) (pos 2) (codes "FRONT")
-    ∷ pair_on (n + 8) (pos 6) (codes "Hidden") ∷ end_at (n + 10))
+    ∷ pair_on (n + 8) (pos 6) (codes "Hidden") ∷ end_of_section (n + 10))
 
 -- the line from (0, 0) to (1, 0) that begins at the line n
 abbrev pub unit_line : ℕ → Style → Line

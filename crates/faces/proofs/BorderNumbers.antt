@@ -7,11 +7,11 @@ use Rattle.faces.specs.Points.{spot_of}
 use Rattle.faces.specs.Ways.{heading_of, heading_at}
 use Rattle.faces.proofs.Sides.{end_of-side_to, side_to-end, border_end}
 use Rattle.faces.proofs.SideNumbers.{there, heading-below, before-less, side-number, number-side, side-below}
-use Rattle.rounds.specs.Succession.{IsInside, IsOneToOne, further, run}
-use Rattle.rounds.proofs.Runs.{further-next}
+use Rattle.rounds.specs.Succession.{IsInside, IsOneToOne, node_ahead, run}
+use Rattle.rounds.proofs.Runs.{node_ahead-next}
 use Rattle.solid_model.specs.Orders.{ComesBefore}
 use Rattle.solid_model.specs.Rounds.{Side, end_of, is_border, following, sides_from}
-use Rattle.solid_model.specs.Rounds.{further as further_side}
+use Rattle.solid_model.specs.Rounds.{further}
 use Rattle.face_laws.proofs.Turns.{following_border, following_one}
 
 -- the number of a side that is told by its end
@@ -70,16 +70,16 @@ module _ (t : SquareTable) (up_first : Bool) where
 
   -- so many sides later
   pub further_at : (n a : ℕ) → IsBorderAt a
-      → side_at t up_first (further (following_number t up_first) n a) ≡ further_side (is_there t) n (side_at t up_first a)
+      → side_at t up_first (node_ahead (following_number t up_first) n a) ≡ further (is_there t) n (side_at t up_first a)
   further_at zero a on = refl
   further_at (suc n) a on =
       let next = following_number t up_first in
-      ap (side_at t up_first) (sym (further-next next n a)) ∙ further_at n (next a) (following_inside a on)
-      ∙ ap (further_side (is_there t) n) (following_at a on)
+      ap (side_at t up_first) (sym (node_ahead-next next n a)) ∙ further_at n (next a) (following_inside a on)
+      ∙ ap (further (is_there t) n) (following_at a on)
 
-  pub further_inside : (n a : ℕ) → IsBorderAt a → IsBorderAt (further (following_number t up_first) n a)
+  pub further_inside : (n a : ℕ) → IsBorderAt a → IsBorderAt (node_ahead (following_number t up_first) n a)
   further_inside zero a on = on
-  further_inside (suc n) a on = following_inside (further (following_number t up_first) n a) (further_inside n a on)
+  further_inside (suc n) a on = following_inside (node_ahead (following_number t up_first) n a) (further_inside n a on)
 
   -- so many sides, from a side on
   pub run_at : (n a : ℕ) → IsBorderAt a

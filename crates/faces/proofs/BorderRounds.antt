@@ -6,13 +6,13 @@ use Rattle.faces.specs.PlaneSquares.{SquareTable, is_there}
 use Rattle.faces.proofs.BorderNumbers.{number_of, IsBorderAt, side-of_number, border_number, one_number, further_at, further_inside, run_at, ends_less}
 use Rattle.faces.proofs.LeastEnds.{EndsLeast, one_least_end}
 use Rattle.faces.proofs.SideNumbers.{out_of, there, same_order}
-use Rattle.rounds.specs.Succession.{further, run, first, IsRound, AreRounds}
-use Rattle.rounds.proofs.Runs.{member-further, further-apart}
+use Rattle.rounds.specs.Succession.{node_ahead, run, first, IsInsideRound, AreRounds}
+use Rattle.rounds.proofs.Runs.{member-node_ahead, node_ahead-apart}
 use Rattle.solid_model.specs.Faces.{BeginsLeast}
 use Rattle.solid_model.specs.Lists.{Member, Each, Ascends}
 use Rattle.solid_model.specs.Orders.{ComesBefore}
 use Rattle.solid_model.specs.Rounds.{Spot, Side, end_of, left_square, following, sides_from, round_sides, corners, round_corners}
-use Rattle.solid_model.specs.Rounds.{further as further_side, IsRound as IsSideRound}
+use Rattle.solid_model.specs.Rounds.{further, IsRound}
 use Rattle.solid_model.proofs.CellOrder.{one_or_before}
 use Rattle.face_laws.proofs.FacePlaces.{place_keeps}
 use Rattle.face_laws.proofs.LeastSides.{KeepsOrder, corners_from, least_begins}
@@ -56,26 +56,26 @@ module _ (t : SquareTable) (up_first : Bool) where
     others : ℕ
     on : IsBorderAt t up_first a
     sides : map side round ≡ round_sides (is_there t) (side a) others
-    is : IsSideRound (is_there t) (side a) others
+    is : IsRound (is_there t) (side a) others
     begins : BeginsLeast (map (there up_first) (round_corners (is_there t) (side a) others))
     least : (s : Side) → Member (round_sides (is_there t) (side a) others) s → ComesBefore (there up_first (end_of s)) (there up_first (end_of (side a))) → ⊥
 
-  module _ (a n : ℕ) (on : IsBorderAt t up_first a) (back : further next (suc n) a ≡ a) (once : Ascends ◌≢◌ (run next (suc n) a))
+  module _ (a n : ℕ) (on : IsBorderAt t up_first a) (back : node_ahead next (suc n) a ≡ a) (once : Ascends ◌≢◌ (run next (suc n) a))
       (least : Each (λ b. a ≤ b) (run next (suc n) a)) where
-    comes_back : further_side (is_there t) n (following (is_there t) (side a)) ≡ side a
+    comes_back : further (is_there t) n (following (is_there t) (side a)) ≡ side a
     comes_back = sym (further_at t up_first (suc n) a on) ∙ ap side back
 
     passes_once : Member (sides_from (is_there t) n (following (is_there t) (side a))) (side a) → ⊥
     passes_once m =
         let (k, less, e) = member-earlier (is_there t) n (following (is_there t) (side a)) (side a) m in
-        further-apart next (suc n) 0 (suc k) a once (omega arith) (omega (arith, less))
-        (sym (one_number t up_first (further next (suc k) a) a (further_at t up_first (suc k) a on ∙ e)))
+        node_ahead-apart next (suc n) 0 (suc k) a once (omega arith) (omega (arith, less))
+        (sym (one_number t up_first (node_ahead next (suc k) a) a (further_at t up_first (suc k) a on ∙ e)))
 
     ends_least : (s : Side) → Member (round_sides (is_there t) (side a) n) s → ComesBefore (there up_first (end_of s)) (there up_first (end_of (side a))) → ⊥
     ends_least s m l =
         let (k, less, e) = member-earlier (is_there t) (suc n) (side a) s m in
-        let b = further next k a in
-        let no_less = each-at (λ c. a ≤ c) (run next (suc n) a) b least (member-further next (suc n) k a less) in
+        let b = node_ahead next k a in
+        let no_less = each-at (λ c. a ≤ c) (run next (suc n) a) b least (member-node_ahead next (suc n) k a less) in
         let is : s ≡ side b = sym e ∙ sym (further_at t up_first k a on) in
         let earlier = ends_less t up_first b a (further_inside t up_first k a on) on
         (subst (λ (x : Side). ComesBefore (there up_first (end_of x)) (there up_first (end_of (side a)))) is l) in
@@ -93,7 +93,7 @@ module _ (t : SquareTable) (up_first : Bool) where
         }
 
   -- each round of numbers is one of sides
-  gone_round : (round : List ℕ) → IsRound (side_count t) (is_border_at t up_first) next round → IsGone (first round) round
+  gone_round : (round : List ℕ) → IsInsideRound (side_count t) (is_border_at t up_first) next round → IsGone (first round) round
   gone_round [] is = absurd (omega (arith, is.from.some))
   gone_round (a ∷ rest) is =
       let steps : a ∷ rest ≡ run next (suc (length rest)) a = is.from.steps in
@@ -148,14 +148,14 @@ module _ (t : SquareTable) (up_first : Bool) where
 
   -- ---- all rounds
 
-  loops_each : (rounds : List (List ℕ)) → Each (IsRound (side_count t) (is_border_at t up_first) next) rounds
+  loops_each : (rounds : List (List ℕ)) → Each (IsInsideRound (side_count t) (is_border_at t up_first) next) rounds
       → Each (IsLoopRound (is_there t) up_first) (map (loop_along t up_first) rounds)
   loops_each rounds each =
       each-map (loop_along t up_first) (IsLoopRound (is_there t) up_first) rounds
-      (each-weaker (IsRound (side_count t) (is_border_at t up_first) next) (λ r. IsLoopRound (is_there t) up_first (loop_along t up_first r)) rounds
+      (each-weaker (IsInsideRound (side_count t) (is_border_at t up_first) next) (λ r. IsLoopRound (is_there t) up_first (loop_along t up_first r)) rounds
       (λ r is. gone_loop r (gone_round r is)) each)
 
-  loops_in_order : (rounds : List (List ℕ)) → Each (IsRound (side_count t) (is_border_at t up_first) next) rounds
+  loops_in_order : (rounds : List (List ℕ)) → Each (IsInsideRound (side_count t) (is_border_at t up_first) next) rounds
       → Ascends (λ r s. first r < first s) rounds
       → Ascends (λ (l m : PlaneLoop). IsTrue (first_corner_before up_first l.corners m.corners)) (map (loop_along t up_first) rounds)
   loops_in_order [] each ordered = tt
@@ -163,7 +163,7 @@ module _ (t : SquareTable) (up_first : Bool) where
     each-map (loop_along t up_first) (λ (m : PlaneLoop). IsTrue (first_corner_before up_first (loop_along t up_first r).corners m.corners)) rounds
         (each-from (λ s. IsTrue (first_corner_before up_first (loop_along t up_first r).corners (loop_along t up_first s).corners)) rounds
         (λ s m. loop_before (first r) (first s) r s (gone_round r each.0)
-        (gone_round s (each-at (IsRound (side_count t) (is_border_at t up_first) next) rounds s each.1 m))
+        (gone_round s (each-at (IsInsideRound (side_count t) (is_border_at t up_first) next) rounds s each.1 m))
         (each-at (λ x. first r < first x) rounds s ordered.0 m))),
     loops_in_order rounds each.1 ordered.1,
   )
@@ -172,7 +172,7 @@ module _ (t : SquareTable) (up_first : Bool) where
       → (l : PlaneLoop) → IsLoopRound (is_there t) up_first l → Member (map (loop_along t up_first) rounds) l
   loops_complete rounds are l (s, n, is, square, corner, begins) =
       let (r, among, on) = are.complete (number_of t up_first s) (border_number t up_first s is.border) in
-      let gone = gone_round r (each-at (IsRound (side_count t) (is_border_at t up_first) next) rounds r are.each among) in
+      let gone = gone_round r (each-at (IsInsideRound (side_count t) (is_border_at t up_first) next) rounds r are.each among) in
       let start = side (first r) in
       let on_side : Member (round_sides (is_there t) start gone.others) s =
       subst (Member (round_sides (is_there t) start gone.others)) (side-of_number t up_first s is.border)

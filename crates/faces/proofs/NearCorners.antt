@@ -11,7 +11,7 @@ use Rattle.face_laws.proofs.LeastSides.{corners_each}
 use Rattle.solid_model.proofs.Lists.{each-at, each-from}
 use Rattle.face_laws.proofs.SidesInOrder.{member-border}
 use Rattle.faces.specs.Groups.{IsGroup, AreGroups}
-use Rattle.faces.specs.PlaneFaces.{IsNear, IsNearLoop}
+use Rattle.faces.specs.PlaneFaces.{IsNearSpot, IsNearLoop}
 use Rattle.faces.specs.PlaneLoops.{PlaneLoop, IsLoopRound}
 use Rattle.faces.specs.PlaneSquares.{SquareTable, IsTable, is_there}
 use Rattle.faces.proofs.Grouping.{with_key-member}
@@ -39,14 +39,14 @@ module _ (t : SquareTable) (few : IsTable t) where
       (omega (arith, ints, few.narrow), omega (arith, ints, few.low))
 
   -- and so are those of the point where a side on whose left it lies ends
-  end_near : (s : Side) → is_there t (left_square s) ≡ true → IsNear (end_of s)
+  end_near : (s : Side) → is_there t (left_square s) ≡ true → IsNearSpot (end_of s)
   end_near s there =
       let l = less (left_square s) there in let beside = ends_beside s.heading s.start in
       (omega (arith, ints, beside.u_high), omega (arith, ints, beside.v_high))
 
   loop_near : (up_first : Bool) (l : PlaneLoop) → IsLoopRound (is_there t) up_first l → IsNearLoop l
   loop_near up_first l (s, n, is, left, corners, begins) =
-      subst (Each IsNear) (sym corners) (corners_each (is_there t) IsNear (round_sides (is_there t) s n) (λ r on.
+      subst (Each IsNearSpot) (sym corners) (corners_each (is_there t) IsNearSpot (round_sides (is_there t) s n) (λ r on.
       end_near r (border_left (is_there t) r (member-border (is_there t) (suc n) s r is.border on))))
 
   -- so are those of each loop of some groups

@@ -33,9 +33,9 @@ pub record AreFacesInPlane (full : Cell → Bool) (out : Out) (at : ℤ) (faces 
   pub complete : (q : Spot) → IsTrue (is_boundary full out at q) → (f : FaceParts) × Member faces f × IsFaceAt full q f
 
 -- a point whose coordinates are small
-abbrev pub IsNear : Spot → Type 0
-IsNear p = (p.u ≤ℤ pos 1024) × (p.v ≤ℤ pos 1024)
+abbrev pub IsNearSpot : Spot → Type 0
+IsNearSpot p = (p.u ≤ℤ pos 1024) × (p.v ≤ℤ pos 1024)
 
 -- a loop all of whose corners are
 abbrev pub IsNearLoop : PlaneLoop → Type 0
-IsNearLoop l = Each IsNear l.corners
+IsNearLoop l = Each IsNearSpot l.corners

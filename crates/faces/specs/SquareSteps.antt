@@ -18,17 +18,17 @@ pub record IsSquareStep (t : SquareTable) (a b : ℕ) : Type 0 where
   pub neighbours : AreNeighbours (is_there t) (square_at_place t.width a) (square_at_place t.width b)
 
 -- four ways lead from each square
-abbrev pub heading_of : ℕ → Heading
-heading_of zero = East
-heading_of (suc zero) = North
-heading_of (suc (suc zero)) = West
-heading_of (suc (suc (suc way))) = South
+abbrev pub numbered_heading : ℕ → Heading
+numbered_heading zero = East
+numbered_heading (suc zero) = North
+numbered_heading (suc (suc zero)) = West
+numbered_heading (suc (suc (suc way))) = South
 
 -- the place of the neighbour to which a way leads, where both are there
 abbrev pub next_square : SquareTable → ℕ → ℕ → Option ℕ
 next_square t a way =
-    if is_there t (square_at_place t.width a) && is_there t (spot_after (heading_of way) (square_at_place t.width a))
-    then Some (square_place t (spot_after (heading_of way) (square_at_place t.width a))) else None
+    if is_there t (square_at_place t.width a) && is_there t (spot_after (numbered_heading way) (square_at_place t.width a))
+    then Some (square_place t (spot_after (numbered_heading way) (square_at_place t.width a))) else None
 
 -- the number that a list has for a square
 abbrev pub number_of : SquareTable → List ℕ → Spot → ℕ

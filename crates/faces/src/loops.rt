@@ -5,7 +5,7 @@ ghost use Rattle.faces.specs.Border.{side_at, side_count, is_border_at, followin
 ghost use Rattle.faces.specs.PlaneLoops.{ArePlaneLoops};
 ghost use Rattle.faces.specs.PlaneSquares.{is_there};
 ghost use Rattle.faces.specs.Points.{spot_of};
-ghost use Rattle.rounds.specs.Succession.{IsRound};
+ghost use Rattle.rounds.specs.Succession.{IsInsideRound};
 ghost use Rattle.solid_model.specs.Lists.{Each};
 ghost use Rattle.solid_model.specs.Rounds.{corners};
 
@@ -45,7 +45,7 @@ fn corners_of(alloc: Global, border: &Border, round: &[usize]) -> Result<Vec<Poi
 
 /// The loop that goes along a round of the border.
 fn loop_along(alloc: Global, border: &Border, round: &[usize]) -> Result<PlaneLoop, Memory>
-    requires { IsRound (side_count border.now.squares.now)
+    requires { IsInsideRound (side_count border.now.squares.now)
         (is_border_at border.now.squares.now border.now.up_first)
         (following_number border.now.squares.now border.now.up_first) round.now }
     ensures { IfOk result (λ along.
@@ -63,7 +63,7 @@ fn loops_along(
     border: &Border,
     rounds: &[Vec<usize>],
 ) -> Result<Vec<PlaneLoop>, Memory>
-    requires { Each (IsRound (side_count border.now.squares.now)
+    requires { Each (IsInsideRound (side_count border.now.squares.now)
         (is_border_at border.now.squares.now border.now.up_first)
         (following_number border.now.squares.now border.now.up_first))
         (map (λ r. r.items) rounds.now) }

@@ -1,7 +1,7 @@
 //! Faces of a plane, in space.
 
 ghost use Rattle.std.specs.Prelude.{◌≡◌, ◌++◌, ◌≤◌, pos, map, IfOk};
-ghost use Rattle.faces.specs.PlaneFaces.{IsNear, IsNearLoop, loop_in_space, face_of};
+ghost use Rattle.faces.specs.PlaneFaces.{IsNearSpot, IsNearLoop, loop_in_space, face_of};
 ghost use Rattle.faces.specs.Points.{spot_of};
 ghost use Rattle.solid_model.specs.Faces.{place};
 ghost use Rattle.solid_model.specs.Lists.{Each};
@@ -14,7 +14,7 @@ use std::alloc::Global;
 /// The point of space at a point of a plane.
 fn corner(out: Out, at: usize, point: Point) -> Cell
     requires at { at ≤ 1024 }
-    requires near { IsNear (spot_of point) }
+    requires near { IsNearSpot (spot_of point) }
     ensures { result ≡ place out (pos at) (spot_of point) }
 {
     let at = at as i64;
@@ -38,7 +38,7 @@ fn corners_in_space(
     points: &[Point],
 ) -> Result<Vec<Cell>, Memory>
     requires at { at ≤ 1024 }
-    requires near { Each IsNear (map spot_of points.now) }
+    requires near { Each IsNearSpot (map spot_of points.now) }
     ensures { IfOk result (λ corners. corners.items
         ≡ map (place out (pos at)) (map spot_of points.now)) }
 {

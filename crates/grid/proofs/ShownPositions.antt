@@ -19,7 +19,7 @@ use Rattle.solid_model.proofs.InGrid.{blank_or_drawn}
 use Rattle.solid_model.proofs.Lists.{each-at, member-append, member-append_left, member-append_right, member-push, member-push_last, member-map, member-from_map}
 use Rattle.solid_model.proofs.RunStyles.{covers_parts, covers_from, covering_run, run_stretch, in_runs}
 use Rattle.solid_model.proofs.Sheets.{same_style-one}
-use Rattle.grid.specs.Positions.{ends_of, lines_of, ShowsByKind, ShowsInView, ShowsInSomeView}
+use Rattle.grid.specs.Positions.{ends_of, run_lines, ShowsByKind, ShowsInView, ShowsInSomeView}
 
 -- ---- the ends of runs
 
@@ -107,8 +107,8 @@ module _ (d : DrawingRuns) (v : View) (upright : Bool) (own : AreRuns (runs_alon
   Shows z = IsDrawnAcross (style_in d) v upright z ⊎ ChangesAt (style_in d) v upright z
 
   -- it shows something at the ends of the one, and at the lines of the other
-  runs_show : (z : ℤ) → Member (ends_of rs ++ lines_of ss) z → Shows z
-  runs_show z k = ⊎_elim at_end on_line (member-append (ends_of rs) (lines_of ss) z k)
+  runs_show : (z : ℤ) → Member (ends_of rs ++ run_lines ss) z → Shows z
+  runs_show z k = ⊎_elim at_end on_line (member-append (ends_of rs) (run_lines ss) z k)
     where
       at_end : Member (ends_of rs) z → Shows z
       at_end l =
@@ -119,7 +119,7 @@ module _ (d : DrawingRuns) (v : View) (upright : Bool) (own : AreRuns (runs_alon
                 (sym (in_runs d v upright (z -ℤ pos 1) m.0.at) ∙ same ∙ in_runs d v upright z m.0.at),
           )
 
-      on_line : Member (lines_of ss) z → Shows z
+      on_line : Member (run_lines ss) z → Shows z
       on_line l =
           let m = member-from_map (λ (r : Run). r.at) ss z l in
           inl (
@@ -129,24 +129,24 @@ module _ (d : DrawingRuns) (v : View) (upright : Bool) (own : AreRuns (runs_alon
           )
 
   -- and nowhere else
-  shown_by_runs : (z : ℤ) → Shows z → Member (ends_of rs ++ lines_of ss) z
+  shown_by_runs : (z : ℤ) → Shows z → Member (ends_of rs ++ run_lines ss) z
   shown_by_runs z (inl (start, drawn)) =
       let m = covering_run ss z start (λ none. drawn (in_runs d v (not upright) start z ∙ none)) in
-      member-append_right (ends_of rs) (lines_of ss) z
-      (subst (Member (lines_of ss)) (covers_parts z start m.0 m.2).0 (member-map (λ (r : Run). r.at) ss m.0 m.1))
+      member-append_right (ends_of rs) (run_lines ss) z
+      (subst (Member (run_lines ss)) (covers_parts z start m.0 m.2).0 (member-map (λ (r : Run). r.at) ss m.0 m.1))
   shown_by_runs z (inr (line, changes)) =
       let m = change-is_end rs own line z (λ same. changes (in_runs d v upright (z -ℤ pos 1) line ∙ same ∙ sym (in_runs d v upright z line))) in
-      member-append_left (ends_of rs) (lines_of ss) z (member-ends rs m.0 z m.1 m.2)
+      member-append_left (ends_of rs) (run_lines ss) z (member-ends rs m.0 z m.1 m.2)
 
   -- positions, with those that the view shows along segments that run along the axis
   pub with_shown : (a : Axis) → (along (frame_of v) upright).axis ≡ a → (before more : List ℤ)
-      → more ≡ (before ++ ends_of (runs_along upright (view_runs v d))) ++ lines_of (runs_along (not upright) (view_runs v d))
+      → more ≡ (before ++ ends_of (runs_along upright (view_runs v d))) ++ run_lines (runs_along (not upright) (view_runs v d))
       → (z : ℤ) → Member more z ↔ (Member before z ⊎ ShowsByKind (style_in d) a v upright z)
   with_shown a on before more e z =
-      let same = e ∙ append_assoc before (ends_of rs) (lines_of ss) in (
-        λ k. ⊎_elim inl (λ l. inr (on, runs_show z l)) (member-append before (ends_of rs ++ lines_of ss) z (subst (λ ys. Member ys z) same k)),
+      let same = e ∙ append_assoc before (ends_of rs) (run_lines ss) in (
+        λ k. ⊎_elim inl (λ l. inr (on, runs_show z l)) (member-append before (ends_of rs ++ run_lines ss) z (subst (λ ys. Member ys z) same k)),
         λ k. subst (λ ys. Member ys z) (sym same)
-            (⊎_elim (member-append_left before (ends_of rs ++ lines_of ss) z) (λ s. member-append_right before (ends_of rs ++ lines_of ss) z (shown_by_runs z s.1)) k),
+            (⊎_elim (member-append_left before (ends_of rs ++ run_lines ss) z) (λ s. member-append_right before (ends_of rs ++ run_lines ss) z (shown_by_runs z s.1)) k),
       )
 
 -- positions with those of the one kind and then of the other are those with the view's

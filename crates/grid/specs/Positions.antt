@@ -16,8 +16,8 @@ abbrev pub ends_of : List Run → List ℤ
 ends_of rs = flat_map (λ r. r.from ∷ r.to ∷ []) rs
 
 -- on which lines they lie
-abbrev pub lines_of : List Run → List ℤ
-lines_of rs = map (λ r. r.at) rs
+abbrev pub run_lines : List Run → List ℤ
+run_lines rs = map (λ r. r.at) rs
 
 -- the run lies on an earlier line, or begins no later than the place z on the line j
 abbrev pub begins_by : ℤ → ℤ → Run → Bool

@@ -4,7 +4,7 @@ ghost use Rattle.std.specs.Prelude.{◌≡◌, ◌⊎◌, ◌↔◌, ◌++◌, �
 ghost use Rattle.solid_model.specs.Grid.{IsGridCoordinate, AreGridCoordinates};
 ghost use Rattle.solid_model.specs.Lists.{Member, Ascends};
 ghost use Rattle.solid_model.specs.Runs.{IsDrawing, style_in};
-ghost use Rattle.grid.specs.Positions.{ends_of, lines_of, ShowsByKind, ShowsInView};
+ghost use Rattle.grid.specs.Positions.{ends_of, run_lines, ShowsByKind, ShowsInView};
 
 use solid_model::{Axis, Drawing, Run, View};
 use std::alloc::{AllocError, Global};
@@ -21,7 +21,7 @@ fn with_ends(mut positions: Vec<i64>, runs: &[Run]) -> Result<Vec<i64>, AllocErr
 
 /// The positions, and on which lines the runs lie.
 fn with_lines(mut positions: Vec<i64>, runs: &[Run]) -> Result<Vec<i64>, AllocError>
-    ensures { IfOk result (λ more. more.items ≡ positions.items ++ lines_of runs.now) }
+    ensures { IfOk result (λ more. more.items ≡ positions.items ++ run_lines runs.now) }
 {
     for run in runs {
         positions.push(run.at)?;

@@ -21,7 +21,7 @@ use Rattle.solid_model.specs.Panels.{GridParts, coordinates_of, IsGridOf}
 use Rattle.solid_model.specs.Rooms.{is_below, is_within, place_of_number}
 use Rattle.solid_model.specs.Runs.{IsDrawing}
 use Rattle.solid_model.specs.Segments.{segment_at}
-use Rattle.solid_model.specs.Wire.{is_blank, is_drawn_from}
+use Rattle.solid_model.specs.Wire.{is_blank_style, is_drawn_from}
 use Rattle.solid_model.specs.GridBox.{grid_sizes, grid_cell_of, axis_along, axis_across, grid_style, IsGridFullness}
 use Rattle.solid_model.proofs.BoxCells.{within-below, below-within}
 use Rattle.solid_model.proofs.ColumnRule.{equal_columns}
@@ -215,4 +215,4 @@ module _ (ps : List Cube) (row : IsRow ps) where
 
       -- A grid segment with equal columns of grid cells beside it isn't drawn.
       pub undrawn : (v : View) (upright : Bool) (n : Cell) → HasEqualColumns v upright n → is_drawn_from g v upright n ≡ false
-      undrawn v upright n equal = ap (λ style. not (is_blank style)) (blank_style v upright n equal _ _ refl refl)
+      undrawn v upright n equal = ap (λ style. not (is_blank_style style)) (blank_style v upright n equal _ _ refl refl)

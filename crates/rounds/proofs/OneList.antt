@@ -3,36 +3,36 @@ use Rattle.std.proofs.Common.{◌≡◌, ◌≢◌, inl, inr, ℕ, zero, suc, �
 use Rattle.std.proofs.lemmas.Bool.{cases_lt}
 use Rattle.solid_model.specs.Lists.{Member, Ascends}
 use Rattle.solid_model.proofs.Lists.{IsWithin, each-at, same_ascending}
-use Rattle.rounds.specs.Succession.{IsInside, further, run, first, IsRoundFrom, IsRound, AreRounds}
-use Rattle.rounds.proofs.Runs.{member-further, member-run, further-apart}
+use Rattle.rounds.specs.Succession.{IsInside, node_ahead, run, first, IsRoundFrom, IsInsideRound, AreRounds}
+use Rattle.rounds.proofs.Runs.{member-node_ahead, member-run, node_ahead-apart}
 use Rattle.rounds.proofs.Traced.{member_start}
 
 module _ (next : ℕ → ℕ) where
   -- some steps on from so many, and as many on together
-  pub further-further : (j k n a : ℕ) → j + k ≡ n → further next j (further next k a) ≡ further next n a
-  further-further zero k n a e = ap (λ i. further next i a) (let q : k ≡ n = omega arith in q)
-  further-further (suc j) k n a e =
-      ap next (further-further j k (j + k) a refl) ∙ ap (λ i. further next i a) (let q : suc (j + k) ≡ n = omega arith in q)
+  pub node_ahead-further : (j k n a : ℕ) → j + k ≡ n → node_ahead next j (node_ahead next k a) ≡ node_ahead next n a
+  node_ahead-further zero k n a e = ap (λ i. node_ahead next i a) (let q : k ≡ n = omega arith in q)
+  node_ahead-further (suc j) k n a e =
+      ap next (node_ahead-further j k (j + k) a refl) ∙ ap (λ i. node_ahead next i a) (let q : suc (j + k) ≡ n = omega arith in q)
 
   -- a round is closed under steps
   pub stays_on : (start : ℕ) (round : List ℕ) → IsRoundFrom next start round → (a : ℕ) → Member round a → Member round (next a)
   stays_on start round h a m =
       let n = length round in
       let (k, l, e) = member-run next n start a (subst (λ r. Member r a) h.steps m) in
-      let leads : further next (suc k) start ≡ next a = ap next e in
+      let leads : node_ahead next (suc k) start ≡ next a = ap next e in
       elim (cases_lt (suc k) n) as (λ _. Member round (next a)) [
-        | inl before ↦ (let on = member-further next n (suc k) start before in
-            subst (Member round) leads (subst (λ r. Member r (further next (suc k) start)) (sym h.steps) on))
+        | inl before ↦ (let on = member-node_ahead next n (suc k) start before in
+            subst (Member round) leads (subst (λ r. Member r (node_ahead next (suc k) start)) (sym h.steps) on))
         | inr last ↦ (let same : n ≡ suc k = omega arith in
-            let it : start ≡ next a = sym h.back ∙ ap (λ i. further next i start) same ∙ leads in
+            let it : start ≡ next a = sym h.back ∙ ap (λ i. node_ahead next i start) same ∙ leads in
             subst (Member round) it (member_start next start round h))
       ]
 
   -- and under more of them
   pub further_on : (start : ℕ) (round : List ℕ) → IsRoundFrom next start round → (k a : ℕ) → Member round a
-      → Member round (further next k a)
+      → Member round (node_ahead next k a)
   further_on start round h zero a m = m
-  further_on start round h (suc k) a m = stays_on start round h (further next k a) (further_on start round h k a m)
+  further_on start round h (suc k) a m = stays_on start round h (node_ahead next k a) (further_on start round h k a m)
 
   -- a round on which a node of another stands has the start of the other
   pub has_start : (start : ℕ) (round : List ℕ) → IsRoundFrom next start round
@@ -41,8 +41,8 @@ module _ (next : ℕ → ℕ) where
   has_start start round h other others k a m on =
       let n = length round in
       let (i, l, e) = member-run next n start a (subst (λ r. Member r a) h.steps m) in
-      let back : further next (n - i) a ≡ start =
-      ap (further next (n - i)) (sym e) ∙ further-further (n - i) i n start (omega arith) ∙ h.back in
+      let back : node_ahead next (n - i) a ≡ start =
+      ap (node_ahead next (n - i)) (sym e) ∙ node_ahead-further (n - i) i n start (omega arith) ∙ h.back in
       subst (Member others) back (further_on other others k (n - i) a on)
 
   -- a round from a start is no longer than another from there
@@ -50,7 +50,7 @@ module _ (next : ℕ → ℕ) where
       → length others ≤ length round
   no_longer_round start round others h k = elim (cases_lt (length round) (length others)) as (λ _. length others ≤ length round) [
     | inl shorter ↦ absurd
-        (further-apart next (length others) 0 (length round) start (subst (Ascends ◌≢◌) k.steps k.once) h.some shorter
+        (node_ahead-apart next (length others) 0 (length round) start (subst (Ascends ◌≢◌) k.steps k.once) h.some shorter
         (sym h.back))
     | inr l ↦ l
   ]
@@ -66,13 +66,13 @@ module _ (next : ℕ → ℕ) where
 
 module _ (nodes : ℕ) (inside : ℕ → Bool) (next : ℕ → ℕ) where
   -- no round that shares a node with another begins later
-  no_later : (r s : List ℕ) → IsRound nodes inside next r → IsRound nodes inside next s → (a : ℕ) → Member r a → Member s a
+  no_later : (r s : List ℕ) → IsInsideRound nodes inside next r → IsInsideRound nodes inside next s → (a : ℕ) → Member r a → Member s a
       → first s ≤ first r
   no_later r s h k a m on =
       each-at (λ b. first s ≤ b) s (first r) k.least (has_start next (first r) r h.from (first s) s k.from a m on)
 
   -- rounds that share a node are one
-  pub one_round : (r s : List ℕ) → IsRound nodes inside next r → IsRound nodes inside next s → (a : ℕ) → Member r a → Member s a
+  pub one_round : (r s : List ℕ) → IsInsideRound nodes inside next r → IsInsideRound nodes inside next s → (a : ℕ) → Member r a → Member s a
       → r ≡ s
   one_round r s h k a m on =
       let p = no_later r s h k a m on in
@@ -84,10 +84,10 @@ module _ (nodes : ℕ) (inside : ℕ → Bool) (next : ℕ → ℕ) where
   listed_too : (rounds others : List (List ℕ)) → AreRounds nodes inside next rounds → AreRounds nodes inside next others
       → IsWithin rounds others
   listed_too rounds others h k r m =
-      let it = each-at (IsRound nodes inside next) rounds r h.each m in
+      let it = each-at (IsInsideRound nodes inside next) rounds r h.each m in
       let begins = member_start next (first r) r it.from in
       let (s, listed, on) = k.complete (first r) (each-at (IsInside nodes inside) r (first r) it.within begins) in
-      let same = one_round r s it (each-at (IsRound nodes inside next) others s k.each listed) (first r) begins on in
+      let same = one_round r s it (each-at (IsInsideRound nodes inside next) others s k.each listed) (first r) begins on in
       subst (Member others) (sym same) listed
 
   -- two lists of rounds are one

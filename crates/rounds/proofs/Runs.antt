@@ -2,18 +2,18 @@
 use Rattle.std.proofs.Common.{◌≡◌, ◌≢◌, inl, inr, ℕ, zero, suc, ◌<◌, [], ◌∷◌, ◌++◌, length, refl, sym, ap, subst, ◌∙◌, arith}
 use Rattle.solid_model.specs.Lists.{Member, Ascends}
 use Rattle.solid_model.proofs.Lists.{each-at}
-use Rattle.rounds.specs.Succession.{further, run}
+use Rattle.rounds.specs.Succession.{node_ahead, run}
 
 -- so many steps on from the next node are one more from the node
-pub further-next : (next : ℕ → ℕ) (n a : ℕ) → further next n (next a) ≡ further next (suc n) a
-further-next next zero a = refl
-further-next next (suc n) a = ap next (further-next next n a)
+pub node_ahead-next : (next : ℕ → ℕ) (n a : ℕ) → node_ahead next n (next a) ≡ node_ahead next (suc n) a
+node_ahead-next next zero a = refl
+node_ahead-next next (suc n) a = ap next (node_ahead-next next n a)
 
 -- one node more
-pub run-push : (next : ℕ → ℕ) (n a : ℕ) → run next (suc n) a ≡ run next n a ++ further next n a ∷ []
+pub run-push : (next : ℕ → ℕ) (n a : ℕ) → run next (suc n) a ≡ run next n a ++ node_ahead next n a ∷ []
 run-push next zero a = refl
 run-push next (suc n) a =
-    ap (λ rest. a ∷ rest) (run-push next n (next a) ∙ ap (λ b. run next n (next a) ++ b ∷ []) (further-next next n a))
+    ap (λ rest. a ∷ rest) (run-push next n (next a) ∙ ap (λ b. run next n (next a) ++ b ∷ []) (node_ahead-next next n a))
 
 -- there are so many
 pub length-run : (next : ℕ → ℕ) (n a : ℕ) → length (run next n a) ≡ n
@@ -21,27 +21,27 @@ length-run next zero a = refl
 length-run next (suc n) a = ap suc (length-run next n (next a))
 
 -- what stands fewer steps on is a member
-pub member-further : (next : ℕ → ℕ) (n k a : ℕ) → k < n → Member (run next n a) (further next k a)
-member-further next zero k a l = absurd (omega arith)
-member-further next (suc n) zero a l = inl refl
-member-further next (suc n) (suc k) a l =
-    let later = member-further next n k (next a) (omega arith) in
-    inr (subst (Member (run next n (next a))) (further-next next k a) later)
+pub member-node_ahead : (next : ℕ → ℕ) (n k a : ℕ) → k < n → Member (run next n a) (node_ahead next k a)
+member-node_ahead next zero k a l = absurd (omega arith)
+member-node_ahead next (suc n) zero a l = inl refl
+member-node_ahead next (suc n) (suc k) a l =
+    let later = member-node_ahead next n k (next a) (omega arith) in
+    inr (subst (Member (run next n (next a))) (node_ahead-next next k a) later)
 
 -- and each member stands fewer steps on
-pub member-run : (next : ℕ → ℕ) (n a b : ℕ) → Member (run next n a) b → (k : ℕ) × (k < n) × (further next k a ≡ b)
+pub member-run : (next : ℕ → ℕ) (n a b : ℕ) → Member (run next n a) b → (k : ℕ) × (k < n) × (node_ahead next k a ≡ b)
 member-run next zero a b m = absurd m
 member-run next (suc n) a b (inl e) = (0, omega arith, e)
 member-run next (suc n) a b (inr m) =
-    let p = member-run next n (next a) b m in (suc p.0, omega arith, sym (further-next next p.0 a) ∙ p.2)
+    let p = member-run next n (next a) b m in (suc p.0, omega arith, sym (node_ahead-next next p.0 a) ∙ p.2)
 
 -- where no node stands on a run twice, fewer steps lead to another node
-pub further-apart : (next : ℕ → ℕ) (n j k a : ℕ) → Ascends ◌≢◌ (run next n a) → j < k → k < n
-    → further next j a ≢ further next k a
-further-apart next zero j k a once l m = absurd (omega arith)
-further-apart next (suc n) j zero a once l m = absurd (omega arith)
-further-apart next (suc n) zero (suc k) a once l m = λ e.
-    let later = member-further next n k (next a) (omega arith) in
-    each-at (λ b. a ≢ b) (run next n (next a)) (further next k (next a)) once.0 later (e ∙ sym (further-next next k a))
-further-apart next (suc n) (suc j) (suc k) a once l m = λ e.
-    further-apart next n j k (next a) once.1 (omega arith) (omega arith) (further-next next j a ∙ e ∙ sym (further-next next k a))
+pub node_ahead-apart : (next : ℕ → ℕ) (n j k a : ℕ) → Ascends ◌≢◌ (run next n a) → j < k → k < n
+    → node_ahead next j a ≢ node_ahead next k a
+node_ahead-apart next zero j k a once l m = absurd (omega arith)
+node_ahead-apart next (suc n) j zero a once l m = absurd (omega arith)
+node_ahead-apart next (suc n) zero (suc k) a once l m = λ e.
+    let later = member-node_ahead next n k (next a) (omega arith) in
+    each-at (λ b. a ≢ b) (run next n (next a)) (node_ahead next k (next a)) once.0 later (e ∙ sym (node_ahead-next next k a))
+node_ahead-apart next (suc n) (suc j) (suc k) a once l m = λ e.
+    node_ahead-apart next n j k (next a) once.1 (omega arith) (omega arith) (node_ahead-next next j a ∙ e ∙ sym (node_ahead-next next k a))

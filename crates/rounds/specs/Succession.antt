@@ -16,9 +16,9 @@ pub record IsSuccession (nodes : ℕ) (inside : ℕ → Bool) (next : ℕ → �
   pub one_to_one : IsOneToOne nodes inside next
 
 -- the node that stands n steps on from a
-abbrev pub further : (ℕ → ℕ) → ℕ → ℕ → ℕ
-further next zero a = a
-further next (suc n) a = next (further next n a)
+abbrev pub node_ahead : (ℕ → ℕ) → ℕ → ℕ → ℕ
+node_ahead next zero a = a
+node_ahead next (suc n) a = next (node_ahead next n a)
 
 -- n nodes from a on, each the next of the one before
 abbrev pub run : (ℕ → ℕ) → ℕ → ℕ → List ℕ
@@ -30,7 +30,7 @@ run next (suc n) a = a ∷ run next n (next a)
 pub record IsRoundFrom (next : ℕ → ℕ) (start : ℕ) (round : List ℕ) : Type 0 where
   pub some : 0 < length round
   pub steps : round ≡ run next (length round) start
-  pub back : further next (length round) start ≡ start
+  pub back : node_ahead next (length round) start ≡ start
   pub once : Ascends ◌≢◌ round
 
 -- the first of a list
@@ -39,14 +39,14 @@ first [] = 0
 first (a ∷ round) = a
 
 -- a round of inside nodes, told from its least node on
-pub record IsRound (nodes : ℕ) (inside : ℕ → Bool) (next : ℕ → ℕ) (round : List ℕ) : Type 0 where
+pub record IsInsideRound (nodes : ℕ) (inside : ℕ → Bool) (next : ℕ → ℕ) (round : List ℕ) : Type 0 where
   pub from : IsRoundFrom next (first round) round
   pub within : Each (IsInside nodes inside) round
   pub least : Each (λ a. first round ≤ a) round
 
 -- All rounds of a succession, by their least nodes: each inside node stands on one of them, and on no other.
 pub record AreRounds (nodes : ℕ) (inside : ℕ → Bool) (next : ℕ → ℕ) (rounds : List (List ℕ)) : Type 0 where
-  pub each : Each (IsRound nodes inside next) rounds
+  pub each : Each (IsInsideRound nodes inside next) rounds
   pub ordered : Ascends (λ r s. first r < first s) rounds
   pub complete : (a : ℕ) → IsInside nodes inside a → (r : List ℕ) × Member rounds r × Member r a
   pub apart : Ascends (λ r s. (a : ℕ) → Member r a → Member s a → ⊥) rounds

@@ -1,7 +1,7 @@
 //! Tracing rounds.
 
 ghost use Rattle.std.specs.Prelude.{◌≡◌, ◌++◌, [], ◌∷◌, ◌+◌, ◌<◌, true, false, length, map, replicate, slice_set, IfOk};
-ghost use Rattle.rounds.specs.NodeMarks.{is_marked, unmarked, AreClosed, IsTraced, AreTraced};
+ghost use Rattle.rounds.specs.NodeMarks.{has_mark, unmarked_nodes, AreClosedBack, IsTraced, AreTraced};
 ghost use Rattle.rounds.specs.Succession.{IsInside, AreRounds};
 
 use crate::succession::Succession;
@@ -11,9 +11,9 @@ use std::alloc::Global;
 /// Gives a node that has no mark one, and puts it at the end of the round.
 fn mark(node: usize, marks: &mut [bool], round: &mut Vec<usize>) -> Result<(), Memory>
     requires node { node < length marks.old }
-    requires none { is_marked marks.old node ≡ false }
+    requires none { has_mark marks.old node ≡ false }
     ensures marks { IfOk result (λ done. marks.new ≡ slice_set marks.old node true) }
-    ensures few { IfOk result (λ done. unmarked marks.new + 1 ≡ unmarked marks.old) }
+    ensures few { IfOk result (λ done. unmarked_nodes marks.new + 1 ≡ unmarked_nodes marks.old) }
     ensures round { IfOk result (λ done. round.new.items ≡ round.old.items ++ node ∷ []) }
 {
     round.push(node)?;
@@ -31,8 +31,8 @@ fn trace<S: Succession>(
 ) -> Result<Vec<usize>, Memory>
     requires start { IsInside (S.nodes succession.now) (S.inside succession.now) start }
     requires size { length marks.old ≡ S.nodes succession.now }
-    requires none { is_marked marks.old start ≡ false }
-    requires closed { AreClosed (S.nodes succession.now) (S.inside succession.now)
+    requires none { has_mark marks.old start ≡ false }
+    requires closed { AreClosedBack (S.nodes succession.now) (S.inside succession.now)
         (S.next succession.now) marks.old }
     ensures { IfOk result (λ round. IsTraced (S.nodes succession.now) (S.inside succession.now)
         (S.next succession.now) start marks.old marks.new round.items) }

@@ -13,10 +13,10 @@ use solid_model::{Choice, Expansion, Memory, Prefix, Problem};
 use std::alloc::Global;
 use std::sync::Arc;
 
-/// What is reported of a piece: how many live prefixes were opened, the choices among them, and the
+/// What expanding a piece gave: how many live prefixes were opened, the choices among them, and the
 /// rest.
 #[derive(Debug, Drop)]
-pub struct Parts {
+pub struct Expanded {
     pub opened: u32,
     pub found: Vec<Choice>,
     pub rest: Vec<Prefix>,
@@ -24,7 +24,7 @@ pub struct Parts {
 
 /// Opens the first live prefixes that begin with the present one, a live one: as many as the quantum
 /// says, or all if they are fewer. An `Err` is out of memory.
-pub fn expand_path<P: Path>(alloc: Global, path: &mut P, quantum: u32) -> Result<Parts, Memory>
+pub fn expand_path<P: Path>(alloc: Global, path: &mut P, quantum: u32) -> Result<Expanded, Memory>
     requires live { IsTrue (P.live path.old (P.prefix path.old)) }
     requires tree { IsTree (P.live path.old) (P.blocks path.old) }
     requires quantum { 1 ≤ quantum }
@@ -44,7 +44,7 @@ pub fn expand_path<P: Path>(alloc: Global, path: &mut P, quantum: u32) -> Result
     if opened == quantum {
         keep_rest(path, floor, &mut rest)?;
     }
-    Ok(Parts {
+    Ok(Expanded {
         opened,
         found,
         rest,

@@ -12,7 +12,7 @@ use Rattle.solid_model.specs.Frames.{frame_of, point_on, at_places}
 use Rattle.solid_model.specs.Matching.{Matches}
 use Rattle.solid_model.specs.Panels.{GridParts, coordinates_of, IsGridOf}
 use Rattle.solid_model.specs.Segments.{segment_at}
-use Rattle.solid_model.specs.Wire.{is_blank, is_drawn_from}
+use Rattle.solid_model.specs.Wire.{is_blank_style, is_drawn_from}
 use Rattle.solid_model.specs.GridBox.{axis_along, axis_across, IsGridFullness}
 use Rattle.solid_model.proofs.Gaps.{member_of}
 use Rattle.solid_model.proofs.GridFullness.{IsEdgeWithin, edge_within, unit_edge}
@@ -20,7 +20,7 @@ use Rattle.solid_model.proofs.GridStyle.{grid_style-at}
 use Rattle.solid_model.proofs.Styles.{edge_not_blank}
 use Rattle.solid_model.proofs.Views.{views_are_frames, across_along, at_own_coordinates, has_edge_from}
 
-not_blank : (style : Style) → style ≢ Blank → not (is_blank style) ≡ true
+not_blank : (style : Style) → style ≢ Blank → not (is_blank_style style) ≡ true
 not_blank Blank drawn = absurd (drawn refl)
 not_blank Dashed drawn = refl
 not_blank Solid drawn = refl
@@ -39,7 +39,7 @@ module _ (drawing : Segment → Style) (g : GridParts) (grid : IsGridOf drawing 
   -- so the grid segment on which a grid edge projects isn't blank, by its first unit segment
   pub edge_drawn : (v : View) (upright : Bool) (n : Cell) → is_edge full (axis_along v upright) n ≡ true → is_drawn_from g v upright n ≡ true
   edge_drawn v upright n edge =
-      ap (λ style. not (is_blank style)) (grid_style-at drawing g grid.styles v upright j i within.at_second within.at_first)
+      ap (λ style. not (is_blank_style style)) (grid_style-at drawing g grid.styles v upright j i within.at_second within.at_first)
       ∙ not_blank _ (unit_drawn drawing s matches v upright (at a i) (at b j) (at c k)
       (unit_edge drawing g grid s matches full counts a b c across i j k placed))
     where

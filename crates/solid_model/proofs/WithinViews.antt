@@ -9,7 +9,7 @@ use Rattle.solid_model.specs.declared.frame.Frame.{Frame}
 use Rattle.solid_model.specs.declared.frame.View.{View}
 use Rattle.solid_model.specs.declared.segment.Segment.{Segment}
 use Rattle.solid_model.specs.declared.segment.Style.{Style}
-use Rattle.solid_model.specs.Boxes.{place_of, LiesWithin, FitsIn, StandsBetween}
+use Rattle.solid_model.specs.Boxes.{place_of, LiesInRectangle, FitsIn, StandsBetween}
 use Rattle.solid_model.specs.Cells.{is_full}
 use Rattle.solid_model.specs.Columns.{cell_in}
 use Rattle.solid_model.specs.Draws.{has_edge, DrawsView}
@@ -174,7 +174,7 @@ lies_in_rectangle f is drawing s v draws width height fits c full =
     ((omega (arith, ints, left.left), omega (arith, ints, right.right)), (omega (arith, ints, bottom.bottom), omega (arith, ints, top.top)))
   where
     -- the segment of an outermost edge lies in the rectangle
-    within : (upright : Bool) (end : End) (o : IsOutermost f s v upright end) → LiesWithin width height (segment_at v upright o.start o.line)
+    within : (upright : Bool) (end : End) (o : IsOutermost f s v upright end) → LiesInRectangle width height (segment_at v upright o.start o.line)
     within upright end o =
         let g : Segment = segment_at v upright o.start o.line in
         fits g refl (edge_not_blank f (is_full s) g (drawing g) (draws g refl) o.depth o.edge)

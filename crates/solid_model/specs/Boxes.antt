@@ -16,7 +16,7 @@ abbrev pub place_of : Direction → Cell → ℤ
 place_of d c = cell_on d (coordinate d.axis c)
 
 -- the segment lies in the rectangle from (0, 0) to (width, height)
-pub record LiesWithin (width height : ℤ) (g : Segment) : Type 0 where
+pub record LiesInRectangle (width height : ℤ) (g : Segment) : Type 0 where
   pub left : pos 0 ≤ℤ g.right
   pub right : far_right g ≤ℤ width
   pub bottom : pos 0 ≤ℤ g.up
@@ -24,7 +24,7 @@ pub record LiesWithin (width height : ℤ) (g : Segment) : Type 0 where
 
 -- all that a drawing shows in a view lies in the rectangle from (0, 0) to (width, height)
 abbrev pub FitsIn : (Segment → Style) → View → ℤ → ℤ → Type 0
-FitsIn drawing view width height = (g : Segment) → g.view ≡ view → drawing g ≢ Blank → LiesWithin width height g
+FitsIn drawing view width height = (g : Segment) → g.view ≡ view → drawing g ≢ Blank → LiesInRectangle width height g
 
 -- a cell stands between two places along a direction, the second left out
 abbrev pub StandsBetween : ℤ → ℤ → Direction → Cell → Type 0

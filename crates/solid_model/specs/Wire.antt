@@ -14,15 +14,15 @@ use Rattle.solid_model.specs.GridBox.{axis_along, axis_across, grid_style}
 
 -- ---- grid segments
 
-abbrev pub is_blank : Style → Bool
-is_blank Blank = true
-is_blank Dashed = false
-is_blank Solid = false
+abbrev pub is_blank_style : Style → Bool
+is_blank_style Blank = true
+is_blank_style Dashed = false
+is_blank_style Solid = false
 
 -- the view shows something on the level, or the upright, grid segment that begins where the grid point n projects
 abbrev pub is_drawn_from : GridParts → View → Bool → Cell → Bool
 is_drawn_from g v upright n =
-    not (is_blank (grid_style g v upright (coordinate (axis_across v upright) n) (coordinate (axis_along v upright) n)))
+    not (is_blank_style (grid_style g v upright (coordinate (axis_across v upright) n) (coordinate (axis_along v upright) n)))
 
 -- ---- the wire frame
 

@@ -49,5 +49,5 @@ pub record KeepsRuns (s : Sweep) : Type 0 where
   pub end_by : EndBy s.at s.from s.runs.items
 
 -- it stands at that place
-abbrev pub StandsAt : ℤ → ℤ → Sweep → Type 0
-StandsAt at from s = (s.at ≡ at) × (s.from ≡ from)
+abbrev pub IsSweepAt : ℤ → ℤ → Sweep → Type 0
+IsSweepAt at from s = (s.at ≡ at) × (s.from ≡ from)

@@ -26,12 +26,12 @@ impl Sweep {
     ghost use Rattle.solid_model.specs.Runs.{AreRuns, run_style};
     ghost use Rattle.views.specs.Strokes.{BeginsFrom};
     ghost use Rattle.views.specs.Sweeps.{solid_piece, dashed_piece, seen_style};
-    ghost use Rattle.views.specs.Sweeps.{HasSeen, HasSeenAs, HasSeenWith, KeepsRuns, StandsAt};
+    ghost use Rattle.views.specs.Sweeps.{HasSeen, HasSeenAs, HasSeenWith, KeepsRuns, IsSweepAt};
 
     /// A sweep that stands where the first stroke begins, and has seen nothing.
     fn before(alloc: Global, first: &Stroke) -> Sweep
         ensures sweep { KeepsRuns result }
-        ensures place { StandsAt first.now.at first.now.from result }
+        ensures place { IsSweepAt first.now.at first.now.from result }
         ensures drawn { HasSeen [] result }
     {
         Sweep {
@@ -72,7 +72,7 @@ impl Sweep {
         requires sweep { KeepsRuns self }
         requires until { self.from ≤ℤ until }
         ensures sweep { IfOk result KeepsRuns }
-        ensures place { IfOk result (StandsAt self.at until) }
+        ensures place { IfOk result (IsSweepAt self.at until) }
         ensures solid { IfOk result (λ settled. settled.solid_to ≡ self.solid_to) }
         ensures dashed { IfOk result (λ settled. settled.dashed_to ≡ self.dashed_to) }
         ensures drawn { IfOk result (HasSeenAs self) }
@@ -96,7 +96,7 @@ impl Sweep {
         requires solid { self.solid_to ≤ℤ self.from }
         requires dashed { self.dashed_to ≤ℤ self.from }
         ensures sweep { KeepsRuns result }
-        ensures place { StandsAt at from result }
+        ensures place { IsSweepAt at from result }
         ensures drawn { HasSeenAs self result }
     {
         Sweep {
@@ -111,9 +111,9 @@ impl Sweep {
     /// With the stroke, which begins where the sweep stands.
     fn reaching(self, stroke: &Stroke) -> Sweep
         requires sweep { KeepsRuns self }
-        requires place { StandsAt stroke.now.at stroke.now.from self }
+        requires place { IsSweepAt stroke.now.at stroke.now.from self }
         ensures sweep { KeepsRuns result }
-        ensures place { StandsAt stroke.now.at stroke.now.from result }
+        ensures place { IsSweepAt stroke.now.at stroke.now.from result }
         ensures drawn { HasSeenWith stroke.now self result }
     {
         let mut reaching = self;
@@ -130,7 +130,7 @@ impl Sweep {
         requires sweep { KeepsRuns self }
         requires next { BeginsFrom self.at self.from stroke.now }
         ensures sweep { IfOk result KeepsRuns }
-        ensures place { IfOk result (StandsAt stroke.now.at stroke.now.from) }
+        ensures place { IfOk result (IsSweepAt stroke.now.at stroke.now.from) }
         ensures drawn { IfOk result (HasSeenWith stroke.now self) }
     {
         let sweep = if stroke.at == self.at {

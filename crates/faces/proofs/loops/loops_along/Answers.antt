@@ -1,7 +1,7 @@
 -- One loop more.
 use Rattle.std.proofs.Common.{◌∙◌, ◌++◌, [], ◌∷◌, ap, ap₂, sym, subst}
 use Rattle.faces.specs.Border.{loop_along, side_count, is_border_at, following_number}
-use Rattle.rounds.specs.Succession.{IsRound}
+use Rattle.rounds.specs.Succession.{IsInsideRound}
 use Rattle.faces.proofs.LoopParts.{map-twice_next, each-place}
 use Rattle.faces.proofs.loops.loops_along.Goals as goal
 
@@ -9,7 +9,7 @@ pub loop_along-requires : goal.loop_along-requires
 loop_along-requires c =
     let t = c.args.border.now.squares.now in
     let up_first = c.args.border.now.up_first in
-    let P = IsRound (side_count t) (is_border_at t up_first) (following_number t up_first) in
+    let P = IsInsideRound (side_count t) (is_border_at t up_first) (following_number t up_first) in
     subst P (sym (c.as_slice.ensures.value ∙ ap (λ r. r.items) c.round-item.is))
     (each-place (λ r. r.items) P c.args.rounds.now c.loop-round.round-index c.round-item.result c.loop-round-test.true c.requires)
 

@@ -4,7 +4,7 @@ use Rattle.solid_model.specs.declared.frame.Direction.{Direction}
 use Rattle.solid_model.specs.Frames.{along}
 use Rattle.solid_model.specs.Lists.{Member}
 use Rattle.solid_model.specs.Runs.{AreRuns, style_in, runs_along, view_runs}
-use Rattle.grid.specs.Positions.{ends_of, lines_of, ShowsByKind}
+use Rattle.grid.specs.Positions.{ends_of, run_lines, ShowsByKind}
 use Rattle.grid.proofs.ShownPositions.{with_shown}
 use Rattle.grid.proofs.positions.with_kind.Goals as goal
 
@@ -21,5 +21,5 @@ returns-clause-shown c =
     (λ more e. with_shown d v upright (subst AreRuns own c.as_slice.ensures.kept) (subst AreRuns other c.as_slice-2.ensures.kept)
     c.args.axis on c.args.positions.items more.items
     (e ∙ ap₂ ◌++◌ (c.in_ok-positions.ensures ∙ ap (λ rs. c.args.positions.items ++ ends_of rs) (c.as_slice.ensures.same ∙ own))
-    (ap lines_of (c.as_slice-2.ensures.same ∙ other))))
+    (ap run_lines (c.as_slice-2.ensures.same ∙ other))))
     c.with_lines.ensures

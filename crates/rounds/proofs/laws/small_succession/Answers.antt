@@ -1,11 +1,11 @@
 -- Each round is written out; each inside node stands on one.
 use Rattle.std.proofs.Common.{◌≡◌, inl, inr, ℕ, zero, suc, List, [], ◌∷◌, refl, arith, rules}
 use Rattle.solid_model.specs.Lists.{Member}
-use Rattle.rounds.specs.Succession.{IsInside, IsRound}
+use Rattle.rounds.specs.Succession.{IsInside, IsInsideRound}
 use Rattle.rounds.specs.SmallRounds.{small_inside, small_next, small_rounds}
 use Rattle.rounds.proofs.laws.small_succession.Goals as goal
 
-three : IsRound 6 small_inside small_next (0 ∷ 4 ∷ 2 ∷ [])
+three : IsInsideRound 6 small_inside small_next (0 ∷ 4 ∷ 2 ∷ [])
 three = record {
   from = record {
     some = omega arith;
@@ -17,7 +17,7 @@ three = record {
   least = (omega arith, (omega arith, (omega arith, tt)));
 }
 
-alone : (a : ℕ) → IsInside 6 small_inside a → small_next a ≡ a → IsRound 6 small_inside small_next (a ∷ [])
+alone : (a : ℕ) → IsInside 6 small_inside a → small_next a ≡ a → IsInsideRound 6 small_inside small_next (a ∷ [])
 alone a on e = record {
   from = record { some = omega arith; steps = refl; back = e; once = (tt, tt) };
   within = (on, tt);

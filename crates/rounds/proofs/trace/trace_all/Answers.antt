@@ -2,7 +2,7 @@
 use Rattle.std.proofs.Common.{◌≡◌, map, IsTrue, ◌∙◌, sym, subst, arith}
 use Rattle.std.proofs.lemmas.Bool.{both_ways}
 use Rattle.std.proofs.lemmas.List.{map-append}
-use Rattle.rounds.specs.NodeMarks.{is_marked, AreTraced}
+use Rattle.rounds.specs.NodeMarks.{has_mark, AreTraced}
 use Rattle.rounds.proofs.Traced.{traced_begin, traced_skip, traced_more}
 use Rattle.rounds.proofs.trace.trace_all.Goals as goal
 use Rattle.rounds.proofs.trace.trace_all.Goals.{then-has+then-not-marks-node+in_ok-trace+in_ok-push, else-has, else-has-via-then-has+else-not-marks-node, else-has-via-else-has}
@@ -34,7 +34,7 @@ loop-node-preserved g c =
           w.if-not-marks-node.true
           w.in_ok-trace.ensures))
       | else-has w ↦ rw (w.marks-is, w.rounds-is) (traced_skip nodes inside next marks rounds node so_far
-          (λ on. elim w.else-has.branch as (λ _. IsTrue (is_marked marks node)) [
+          (λ on. elim w.else-has.branch as (λ _. IsTrue (has_mark marks node)) [
             | else-has-via-then-has+else-not-marks-node v ↦ v.if-not-marks-node.false
             | else-has-via-else-has v ↦ absurd (both_ways c.has.result v.if-has.false (c.has.ensures ∙ on))
           ]))
