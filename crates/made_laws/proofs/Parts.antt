@@ -4,7 +4,7 @@ use Rattle.std.proofs.Common.{◌≡◌, Bool, true, false, ◌&&◌, ℕ, zero,
 use Rattle.std.proofs.Math.Seq.{take-append_seam, drop-append_seam}
 use Rattle.std.proofs.lemmas.Bool.{both_ways, and_parts, eqb-true}
 use Rattle.std.proofs.lemmas.List.Elements.{filter-append}
-use Rattle.solid_model.specs.Tree.{Word, extensions, live_count, is_whole, live_below}
+use Rattle.solid_model.specs.Tree.{PrefixTest, extensions, live_count, is_whole, live_below}
 
 -- ---- parts
 
@@ -145,7 +145,7 @@ module _ (test : List Bool → Bool) where
 
 -- ---- live prefixes
 
-module _ (live : Word) (qs : List PartRule) (n : ℕ) (whole : all_sizes qs ≡ n) (fit : (x : List Bool) → IsTrue (live x) → Fits qs x) where
+module _ (live : PrefixTest) (qs : List PartRule) (n : ℕ) (whole : all_sizes qs ≡ n) (fit : (x : List Bool) → IsTrue (live x) → Fits qs x) where
   all_left : all_sizes qs ≡ n - 0
   all_left = omega arith
 

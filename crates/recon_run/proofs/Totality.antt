@@ -36,7 +36,7 @@ use Rattle.solid_model.specs.PerAxis.{numbers_of}
 use Rattle.solid_model.specs.Runs.{IsDrawing}
 use Rattle.solid_model.specs.Search.{SearchLimits, default_limits}
 use Rattle.solid_model.specs.SearchEnds.{EndsAs}
-use Rattle.solid_model.specs.Tree.{Word, live_count, live_below}
+use Rattle.solid_model.specs.Tree.{PrefixTest, live_count, live_below}
 use Rattle.solid_model.specs.VirtualFaces.{IsVirtual}
 use Rattle.solid_model.specs.GridBox.{grid_sizes}
 use Rattle.solid_model.proofs.KeptDrawings.{lines_are_drawing}
@@ -89,7 +89,7 @@ grid_with drawing xs ys zs = record { xs = xs; ys = ys; zs = zs; panels = record
     panel v = record { level = grid_styles drawing (along xs ys zs) v false; upright = grid_styles drawing (along xs ys zs) v true }
 
 -- a search of whatever is live ends somehow, where the live prefixes of full length stand in the stated order
-some_end : (live : Word) (n : ℕ) (limits : SearchLimits) → Ascends ChoicePrecedes (live_below live n [])
+some_end : (live : PrefixTest) (n : ℕ) (limits : SearchLimits) → Ascends ChoicePrecedes (live_below live n [])
     → (kind : EndKind) × (opened : ℕ) × (choices : List (List Bool)) × EndsAs live n limits kind opened choices
 some_end live n limits ordered = ⊎_elim
     (λ many. (CutNodes, live_count live n [], [], (many, omega arith, record { listed = tt; ordered = tt }, omega arith)))

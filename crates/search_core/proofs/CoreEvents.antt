@@ -10,7 +10,7 @@ use Rattle.std.proofs.lemmas.Grind.{flat_map-append}
 use Rattle.solid_model.specs.declared.ended.EndKind.TheVariants.{Whole, CutNodes, CutSolids}
 use Rattle.solid_model.specs.Lists.{Member}
 use Rattle.solid_model.specs.Search.{SearchLimits}
-use Rattle.solid_model.specs.Tree.{Word, IsAllowed, live_count, live_below, IsClosed}
+use Rattle.solid_model.specs.Tree.{PrefixTest, IsAllowed, live_count, live_below, IsClosed}
 use Rattle.solid_model.proofs.Lists.{each-from, ascends-append_left, member-append_left}
 use Rattle.solid_model.proofs.PrefixTree.{live_count_none, live_below_none}
 use Rattle.search_core.specs.Conserves.{IsWholeTree, EndsRightly, IsConserved}
@@ -23,7 +23,7 @@ use Rattle.search_core.proofs.TakenOut.{Decides-same_prefix, StandsBetween, stan
 abbrev with_all_found : SearchLimits → Core → Event → Core
 with_all_found limits c e = record (after_event limits c e) { found = c.found ++ e.found }
 
-module _ (live : Word) (n : ℕ) where
+module _ (live : PrefixTest) (n : ℕ) where
   -- what is counted below prefixes
   abbrev count_of : List (List Bool) → ℕ
   count_of prefixes = sum (map (live_count live n) prefixes)

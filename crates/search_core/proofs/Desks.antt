@@ -9,7 +9,7 @@ use Rattle.solid_model.specs.Demands.{is_live}
 use Rattle.solid_model.specs.Lists.{Member, Each}
 use Rattle.solid_model.specs.Reports.{Report}
 use Rattle.solid_model.specs.Search.{SearchLimits}
-use Rattle.solid_model.specs.Tree.{Word, live_count, IsClosed}
+use Rattle.solid_model.specs.Tree.{PrefixTest, live_count, IsClosed}
 use Rattle.solid_model.proofs.Lists.{each-at, each-append}
 use Rattle.search_core.specs.Conserves.{IsConserved}
 use Rattle.search_core.specs.Core.{Core, Event, IsEvent, IsRun, start_of, without, end_at, after_event, after_events}
@@ -25,7 +25,7 @@ some_left false true frontier going none = none-some CutNodes (sym going)
 some_left false false [] going none = none-some Whole (sym going)
 some_left false false (p ∷ ps) going none = omega (arith, ap length none)
 
-module _ (live : Word) (n : ℕ) (limits : SearchLimits) where
+module _ (live : PrefixTest) (n : ℕ) (limits : SearchLimits) where
   -- before the end something is left to be expanded, and all that is left is live
   record IsOpen (c : Core) : Type 0 where
     waits : c.end ≡ None → c.frontier ≡ [] → ⊥

@@ -3,7 +3,7 @@ use Rattle.std.proofs.Common.{◌≡◌, ◌≢◌, Bool, true, false, true≢fa
 use Rattle.std.proofs.lemmas.List.{append_cancel_left}
 use Rattle.solid_model.proofs.PrefixTree.{BeginsWith, live_from_begins, live_below_none, live_below_more, live_below_whole}
 use Rattle.solid_model.specs.Lists.{Each, Ascends}
-use Rattle.solid_model.specs.Tree.{Word, live_from, is_whole, live_below, IsClosed}
+use Rattle.solid_model.specs.Tree.{PrefixTest, live_from, is_whole, live_below, IsClosed}
 use Rattle.solid_model.proofs.Lists.{each-weaker, each-filter, ascends-append}
 
 -- what begins with a list and a full block is not what begins with it and an empty one
@@ -14,7 +14,7 @@ sides_differ prefix choice other (rest, e) (rest_too, f) same =
     let heads : true ≡ false = cc in
     true≢false heads
 
-module _ (live : Word) (n : ℕ) (closed : IsClosed live) where
+module _ (live : PrefixTest) (n : ℕ) (closed : IsClosed live) where
   -- those of full length begin with the prefix
   below_begins : (prefix : List Bool) → Each (BeginsWith prefix) (live_below live n prefix)
   below_begins prefix = each-filter (is_whole n) (BeginsWith prefix) (live_from live n prefix)

@@ -3,7 +3,7 @@ use Rattle.std.proofs.Common.{◌≡◌, ℕ, ◌<◌, Bool, List, [], ◌∷◌
 use Rattle.std.proofs.lemmas.List.{length-append, take-append-drop, take-append-le, drop-append-le, get_or_append_left, take_all, drop_all}
 use Rattle.solid_model.specs.Lists.{Each}
 use Rattle.solid_model.specs.Search.{SearchLimits}
-use Rattle.solid_model.specs.Tree.{Word}
+use Rattle.solid_model.specs.Tree.{PrefixTest}
 use Rattle.solid_model.proofs.Lists.{each-append_left, each-append_right}
 use Rattle.search_core.specs.declared.note.Note.{Note}
 use Rattle.search_core.specs.Core.{Core, Event, IsEvent, IsRun, after_event, after_events}
@@ -18,7 +18,7 @@ after-push limits c [] e = refl
 after-push limits c (x ∷ es) e = after-push limits (after_event limits c x) es e
 
 -- a run and an event of the state to which it leads are a run
-pub run-push : (live : Word) (n : ℕ) (limits : SearchLimits) (c : Core) (es : List Event) (e : Event) → IsRun live n limits c es
+pub run-push : (live : PrefixTest) (n : ℕ) (limits : SearchLimits) (c : Core) (es : List Event) (e : Event) → IsRun live n limits c es
     → IsEvent live n (after_events limits c es) e → IsRun live n limits c (es ++ e ∷ [])
 run-push live n limits c [] e run event = (event, tt)
 run-push live n limits c (x ∷ es) e run event = (run.0, run-push live n limits (after_event limits c x) es e run.1 event)

@@ -5,18 +5,18 @@ use Rattle.solid_model.specs.declared.ended.EndKind.{EndKind}
 use Rattle.solid_model.specs.declared.ended.EndKind.TheVariants.{Whole, CutNodes, CutSolids}
 use Rattle.solid_model.specs.Lists.{Member, Each, Ascends}
 use Rattle.solid_model.specs.Search.{SearchLimits}
-use Rattle.solid_model.specs.Tree.{Word, live_count, live_below}
+use Rattle.solid_model.specs.Tree.{PrefixTest, live_count, live_below}
 use Rattle.search_core.specs.Core.{Core}
 
 -- all live prefixes are those that were opened and those that begin with one of the frontier; all choices are those that were
 -- found and those below the frontier
-pub record IsWholeTree (live : Word) (n : ℕ) (c : Core) : Type 0 where
+pub record IsWholeTree (live : PrefixTest) (n : ℕ) (c : Core) : Type 0 where
   pub counted : live_count live n [] ≡ c.opened + sum (map (live_count live n) c.frontier)
   pub shared : IsPermutation (live_below live n []) (c.found ++ flat_map (live_below live n) c.frontier)
 
 -- What holds at an end, or before it. Before it, at a cut at nodes and at a whole search the tree is kept; a whole search has
 -- found all and opened all; at a cut its limit is passed.
-abbrev pub EndsRightly : Word → ℕ → SearchLimits → Core → Option EndKind → Type 0
+abbrev pub EndsRightly : PrefixTest → ℕ → SearchLimits → Core → Option EndKind → Type 0
 EndsRightly live n limits c None = IsWholeTree live n c × (c.opened ≤ limits.nodes)
 EndsRightly live n limits c (Some Whole) = IsWholeTree live n c × (c.opened ≡ live_count live n [])
     × IsPermutation (live_below live n []) c.found × (c.opened ≤ limits.nodes)
@@ -25,7 +25,7 @@ EndsRightly live n limits c (Some CutSolids) = (length c.found ≡ limits.solids
 
 -- what every state keeps: how it ends; what is found has no repeat, is live and of full length, and is within the limit; no more
 -- prefixes are opened than are live
-pub record IsConserved (live : Word) (n : ℕ) (limits : SearchLimits) (c : Core) : Type 0 where
+pub record IsConserved (live : PrefixTest) (n : ℕ) (limits : SearchLimits) (c : Core) : Type 0 where
   pub ends : EndsRightly live n limits c c.end
   pub once : Ascends ◌≢◌ c.found
   pub listed : Each (Member (live_below live n [])) c.found

@@ -1,12 +1,12 @@
 -- The core of a search that several may work at: which prefixes are still to be expanded, which choices were found, and how many
--- prefixes were opened. It is told as a list of events, whoever makes them, over any word live.
+-- prefixes were opened. It is told as a list of events, whoever makes them, over any test live.
 use Rattle.std.specs.Prelude.{◌≡◌, ◌&&◌, Bool, true, false, ℕ, ◌+◌, nat_lt, List, [], ◌∷◌, ◌++◌, length, take, Option, Some, None, if◌then◌else◌}
 use Rattle.solid_model.specs.declared.ended.EndKind.{EndKind}
 use Rattle.solid_model.specs.declared.ended.EndKind.TheVariants.{Whole, CutNodes, CutSolids}
 use Rattle.solid_model.specs.Edges.{agree}
 use Rattle.solid_model.specs.Lists.{Member}
 use Rattle.solid_model.specs.Search.{SearchLimits}
-use Rattle.solid_model.specs.Tree.{Word, IsAllowed}
+use Rattle.solid_model.specs.Tree.{PrefixTest, IsAllowed}
 
 -- two prefixes are the same
 abbrev pub same_prefix : List Bool → List Bool → Bool
@@ -34,12 +34,12 @@ pub record Event : Type 0 where
   pub rest : List (List Bool)
 
 -- the start: the empty prefix is to be expanded, if it is live
-abbrev pub start_of : Word → Core
+abbrev pub start_of : PrefixTest → Core
 start_of live = if live [] then record { frontier = [] ∷ []; found = []; opened = 0; end = None }
     else record { frontier = []; found = []; opened = 0; end = Some Whole }
 
 -- a report is an event of a state that has no end, where it is allowed and its piece is still to be expanded
-pub record IsEvent (live : Word) (n : ℕ) (c : Core) (e : Event) : Type 0 where
+pub record IsEvent (live : PrefixTest) (n : ℕ) (c : Core) (e : Event) : Type 0 where
   pub going : c.end ≡ None
   pub waiting : Member c.frontier e.piece
   pub allowed : IsAllowed live n e.piece e.opened e.found e.rest
@@ -71,6 +71,6 @@ after_events limits c [] = c
 after_events limits c (e ∷ es) = after_events limits (after_event limits c e) es
 
 -- each is an event of the state in which it comes
-abbrev pub IsRun : Word → ℕ → SearchLimits → Core → List Event → Type 0
+abbrev pub IsRun : PrefixTest → ℕ → SearchLimits → Core → List Event → Type 0
 IsRun live n limits c [] = Unit {0}
 IsRun live n limits c (e ∷ es) = IsEvent live n c e × IsRun live n limits (after_event limits c e) es

@@ -4,7 +4,7 @@ use Rattle.std.specs.Prelude.{false, [], ◌∷◌, Some, None}
 use Rattle.solid_model.specs.declared.ended.EndKind.TheVariants.{Whole, CutNodes, CutSolids}
 use Rattle.solid_model.specs.Search.{SearchLimits}
 use Rattle.solid_model.specs.SmallTree.{nothing_said, both_full, only_first_full, first_empty, only_second_full}
-use Rattle.solid_model.specs.Tree.{Word}
+use Rattle.solid_model.specs.Tree.{PrefixTest}
 use Rattle.search_core.specs.Core.{Core, Event}
 
 -- ---- events
@@ -62,7 +62,7 @@ cut_at_solids = record { frontier = only_first_full ∷ []; found = both_full �
 
 -- ---- nothing is live
 
-abbrev pub nothing_live : Word
+abbrev pub nothing_live : PrefixTest
 nothing_live prefix = false
 
 abbrev pub whole_at_start : Core

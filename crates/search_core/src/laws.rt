@@ -7,7 +7,7 @@ ghost use Rattle.solid_model.specs.declared.segment.Style.{Style};
 ghost use Rattle.solid_model.specs.Choices.{AreChoicesThat, IsMatchingChoice};
 ghost use Rattle.solid_model.specs.Panels.{GridParts, coordinates_of, IsGridOf};
 ghost use Rattle.solid_model.specs.Search.{SearchLimits};
-ghost use Rattle.solid_model.specs.Tree.{Word, IsClosed, KeepsMatching, live_count};
+ghost use Rattle.solid_model.specs.Tree.{PrefixTest, IsClosed, KeepsMatching, live_count};
 ghost use Rattle.solid_model.specs.SmallTree.{not_both_empty};
 ghost use Rattle.search_core.specs.Conserves.{IsConserved};
 ghost use Rattle.search_core.specs.Core.{Event, IsRun, start_of, after_events};
@@ -18,14 +18,14 @@ ghost use Rattle.search_core.specs.SmallCore.{roomy, few_nodes, few_solids, few_
 /// (`short`). A whole search has found all matching choices, each once (`whole`), which are the
 /// matching solids (`the_tree_is_complete`).
 pub fn the_core_conserves()
-    ensures states { (live : Word) (n : ℕ) → IsClosed live → (limits : SearchLimits)
+    ensures states { (live : PrefixTest) (n : ℕ) → IsClosed live → (limits : SearchLimits)
         (events : List Event) → IsRun live n limits (start_of live) events
         → IsConserved live n limits (after_events limits (start_of live) events) }
-    ensures short { (live : Word) (n : ℕ) → IsClosed live → (limits : SearchLimits)
+    ensures short { (live : PrefixTest) (n : ℕ) → IsClosed live → (limits : SearchLimits)
         (events : List Event) → IsRun live n limits (start_of live) events
         → length events ≤ live_count live n [] }
     ensures whole { (drawing : Segment → Style) (g : GridParts) → IsGridOf drawing g
-        → (blocks : List (Option ℕ)) (count : ℕ) (live : Word)
+        → (blocks : List (Option ℕ)) (count : ℕ) (live : PrefixTest)
         → KeepsMatching live count (IsMatchingChoice drawing (coordinates_of g) blocks)
         → (limits : SearchLimits) (events : List Event)
         → IsRun live count limits (start_of live) events

@@ -10,7 +10,7 @@ use Rattle.solid_model.specs.Demands.{is_live}
 use Rattle.solid_model.specs.Lists.{Member, Each, Ascends}
 use Rattle.solid_model.specs.Search.{SearchLimits}
 use Rattle.solid_model.specs.SearchEnds.{AreSomeOf, EndsAs}
-use Rattle.solid_model.specs.Tree.{Word, live_from, is_whole, live_below, IsClosed}
+use Rattle.solid_model.specs.Tree.{PrefixTest, live_from, is_whole, live_below, IsClosed}
 use Rattle.solid_model.proofs.ComparedChoices.{precedes_one_way}
 use Rattle.solid_model.proofs.Lists.{each-at, each-from, member-from_filter, same_ascending}
 use Rattle.search_core.specs.Conserves.{EndsRightly, IsConserved}
@@ -20,7 +20,7 @@ use Rattle.search_core.proofs.Desks.{desk_conserved}
 use Rattle.search_core.proofs.Lists.{member-permutation}
 use Rattle.search_tree.proofs.SearchEnds.{some_found}
 
-module _ (live : Word) (n : ℕ) where
+module _ (live : PrefixTest) (n : ℕ) where
   -- all choices are in the stated order
   all_ascend : Ascends ChoicePrecedes (live_below live n [])
   all_ascend = subst (λ xs. Ascends ChoicePrecedes (filter (is_whole n) xs)) (take_all (length (live_from live n [])) (live_from live n []) (omega arith))
@@ -57,7 +57,7 @@ module _ (live : Word) (n : ℕ) where
       sorted_end CutSolids (many, past) = (past, kept.opened, some, length_permutation c.found sorted moved ∙ many)
 
 module _ (d : DeskParts) (desk : IsDesk d) (closed : IsClosed (is_live d.problem)) where
-  abbrev live : Word
+  abbrev live : PrefixTest
   live = is_live d.problem
 
   abbrev n : ℕ

@@ -7,7 +7,7 @@ use Rattle.std.proofs.lemmas.Bool.{cases_lt, false_from_ne_true}
 use Rattle.std.proofs.lemmas.Grind.{flat_map-append}
 use Rattle.solid_model.proofs.PrefixTree.{BeginsWith, live_from_none, live_from_more, live_from_whole, live_from_begins}
 use Rattle.solid_model.specs.Lists.{Member, Each, Ascends}
-use Rattle.solid_model.specs.Tree.{Word, extensions, live_from, is_next_to, opened_of, rest_of}
+use Rattle.solid_model.specs.Tree.{PrefixTest, extensions, live_from, is_next_to, opened_of, rest_of}
 use Rattle.solid_model.proofs.Concatenations.{member-flat_map}
 use Rattle.solid_model.proofs.AllowedReports.{filter_none, last_of, next_there, next_of}
 use Rattle.solid_model.proofs.Lists.{each-at, each-from, each-append, each-weaker, each-filter, member-append, member-append_left, member-append_right, member-push_last, member-filter, ascends-append_across}
@@ -20,7 +20,7 @@ use Rattle.search_tree.specs.Rest.{live_side, live_sides, live_besides, besides}
 -- ---- one value more at the end
 
 -- with a full value more the empty side comes first
-besides_full : (live : Word) (piece values : List Bool) → live_besides live piece (values ++ true ∷ [])
+besides_full : (live : PrefixTest) (piece values : List Bool) → live_besides live piece (values ++ true ∷ [])
     ≡ live_side live (piece ++ values) false ++ live_besides live piece values
 besides_full live piece [] = rw (append-nil piece) (sym (append-nil (live_side live piece false)))
 besides_full live piece (true ∷ values) =
@@ -32,12 +32,12 @@ besides_full live piece (false ∷ values) =
     ∙ ap (λ p. live_side live p false ++ live_besides live (piece ++ false ∷ []) values) (append_assoc piece (false ∷ []) values)
 
 -- with an empty one there is none more
-besides_empty : (live : Word) (piece values : List Bool) → live_besides live piece (values ++ false ∷ []) ≡ live_besides live piece values
+besides_empty : (live : PrefixTest) (piece values : List Bool) → live_besides live piece (values ++ false ∷ []) ≡ live_besides live piece values
 besides_empty live piece [] = refl
 besides_empty live piece (true ∷ values) = ap (λ xs. xs ++ live_side live piece false) (besides_empty live (piece ++ true ∷ []) values)
 besides_empty live piece (false ∷ values) = besides_empty live (piece ++ false ∷ []) values
 
-module _ (live : Word) (floor : ℕ) (prefix : List Bool) (below : floor ≤ length prefix) where
+module _ (live : PrefixTest) (floor : ℕ) (prefix : List Bool) (below : floor ≤ length prefix) where
   pub back_over_full : besides live floor (prefix ++ true ∷ []) ≡ live_side live prefix false ++ besides live floor prefix
   back_over_full =
       ap (λ piece. live_besides live piece (drop floor (prefix ++ true ∷ []))) (take-append-le floor prefix (true ∷ []) below)
@@ -73,7 +73,7 @@ each_longer P (suc more) prefix h =
     let below = λ (value : Bool). each_extension P more (prefix ++ value ∷ []) (λ rest. subst P (sym (append_assoc prefix (value ∷ []) rest)) (h value rest)) in
     each-append P (extensions more (prefix ++ true ∷ [])) (extensions more (prefix ++ false ∷ [])) (below true) (below false)
 
-module _ (live : Word) (n : ℕ) (closed : (prefix rest : List Bool) → IsTrue (live (prefix ++ rest)) → IsTrue (live prefix))
+module _ (live : PrefixTest) (n : ℕ) (closed : (prefix rest : List Bool) → IsTrue (live (prefix ++ rest)) → IsTrue (live prefix))
     (short : (prefix : List Bool) → IsTrue (live prefix) → length prefix ≤ n) where
   -- a live prefix is one of those that begin with what it begins with
   live_member : (prefix rest : List Bool) → IsTrue (live (prefix ++ rest)) → Member (live_from live n prefix) (prefix ++ rest)
@@ -132,7 +132,7 @@ module _ (live : Word) (n : ℕ) (closed : (prefix rest : List Bool) → IsTrue 
 
   -- ---- a test that passes some prefixes and none that begin with them and are longer
 
-  module _ (next : Word) where
+  module _ (next : PrefixTest) where
     record Stops (root : List Bool) : Type 0 where
       lives : IsTrue (live root)
       passes : IsTrue (next root)

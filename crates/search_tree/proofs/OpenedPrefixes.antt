@@ -2,7 +2,7 @@
 use Rattle.std.proofs.Common.{◌≡◌, Bool, ℕ, zero, suc, ◌+◌, ◌≤◌, List, [], ◌∷◌, ◌++◌, length, take, drop, filter, IsTrue, sym, ◌∙◌, ap, append-nil, length-append, add-one, arith}
 use Rattle.std.proofs.lemmas.List.{take-append-drop, drop_all, length-take}
 use Rattle.std.proofs.lemmas.List.Elements.{filter-append}
-use Rattle.solid_model.specs.Tree.{Word, live_from, is_whole, opened_of, found_of}
+use Rattle.solid_model.specs.Tree.{PrefixTest, live_from, is_whole, opened_of, found_of}
 use Rattle.search_tree.specs.Walk.{coming, StandsAtFirst}
 use Rattle.search_tree.specs.Opened.{StandsAtLast}
 use Rattle.search_tree.proofs.Walks.{live_from_head, none_later}
@@ -45,7 +45,7 @@ module _ {A : Type 0} where
 
 -- ---- the walk over them
 
-module _ (live : Word) (n : ℕ) (piece : List Bool) where
+module _ (live : PrefixTest) (n : ℕ) (piece : List Bool) where
   -- the piece is the first
   pub first_opened : IsTrue (live piece) → length piece ≤ n → StandsAtLast live n piece 1 piece
   first_opened lives within =

@@ -8,7 +8,7 @@ use Rattle.solid_model.specs.Choices.{ChoicePrecedes}
 use Rattle.solid_model.specs.Lists.{Member, Each, Ascends}
 use Rattle.solid_model.specs.Search.{SearchLimits}
 use Rattle.solid_model.specs.SearchEnds.{AreSomeOf, EndsAs}
-use Rattle.solid_model.specs.Tree.{Word, live_from, live_count, is_whole, live_below, found_of, opened_of}
+use Rattle.solid_model.specs.Tree.{PrefixTest, live_from, live_count, is_whole, live_below, found_of, opened_of}
 use Rattle.solid_model.proofs.Lists.{each-at, each-from, member-append_left, member-from_filter, ascends-filter, ascends-append_left}
 use Rattle.solid_model.proofs.PrefixTree.{live_from_none}
 use Rattle.search_tree.specs.Walk.{coming, StandsAtFirst}
@@ -22,7 +22,7 @@ ascends_among P R S [] weaken each h = tt
 ascends_among P R S (x ∷ xs) weaken each h =
     (each-from (S x) xs (λ y k. weaken x y each.0 (each-at P xs y each.1 k) (each-at (R x) xs y h.0 k)), ascends_among P R S xs weaken each.1 h.1)
 
-module _ (live : Word) (n : ℕ) where
+module _ (live : PrefixTest) (n : ℕ) where
   -- those of full length among them are choices in the stated order
   ascending_choices : (xs : List (List Bool)) → Ascends Before xs → Ascends ChoicePrecedes (filter (is_whole n) xs)
   ascending_choices xs h =
@@ -47,7 +47,7 @@ module _ (live : Word) (n : ℕ) where
 
 -- So many live prefixes are opened, within the limits, and these choices are found; where there are more, the path stands at
 -- the first of them.
-pub record Searches (live : Word) (n : ℕ) (limits : SearchLimits) (more : Bool) (prefix : List Bool) (opened : ℕ) (found : List (List Bool)) : Type 0 where
+pub record Searches (live : PrefixTest) (n : ℕ) (limits : SearchLimits) (more : Bool) (prefix : List Bool) (opened : ℕ) (found : List (List Bool)) : Type 0 where
   pub count : length (opened_of live n [] opened) ≡ opened
   pub found_so_far : found ≡ found_of live n [] opened
   pub nodes : opened ≤ limits.nodes
@@ -55,7 +55,7 @@ pub record Searches (live : Word) (n : ℕ) (limits : SearchLimits) (more : Bool
   pub some_left : more ≡ true → StandsAtFirst live n 0 (drop opened (live_from live n [])) prefix
   pub none_left : more ≡ false → drop opened (live_from live n []) ≡ []
 
-module _ (live : Word) (n : ℕ) (limits : SearchLimits) where
+module _ (live : PrefixTest) (n : ℕ) (limits : SearchLimits) where
   -- the beginning: nothing is opened
   pub search_begins : (more : Bool) → more ≡ live [] → ((prefix rest : List Bool) → IsTrue (live (prefix ++ rest)) → IsTrue (live prefix))
       → (prefix : List Bool) → prefix ≡ [] → Searches live n limits more prefix 0 []

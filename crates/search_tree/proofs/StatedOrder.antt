@@ -3,7 +3,7 @@ use Rattle.std.proofs.Common.{◌≡◌, ◌⊎◌, inl, inr, Bool, true, false,
 use Rattle.std.proofs.lemmas.Bool.{both_ways}
 use Rattle.solid_model.specs.Choices.{ChoicePrecedes}
 use Rattle.solid_model.specs.Lists.{Each, Ascends}
-use Rattle.solid_model.specs.Tree.{Word, extensions, live_from}
+use Rattle.solid_model.specs.Tree.{PrefixTest, extensions, live_from}
 use Rattle.solid_model.proofs.Lists.{each-append, ascends-append, ascends-filter}
 
 -- a prefix comes before another: it is its beginning, or is full where they first differ
@@ -83,5 +83,5 @@ ascending_extensions (suc more) prefix = (
         (subst (Before (prefix ++ true ∷ rest)) (sym (append_assoc prefix (false ∷ []) other)) (before_sides prefix rest other))))
 
 -- and so are the live ones
-pub ascending_tree : (live : Word) (n : ℕ) (prefix : List Bool) → Ascends Before (live_from live n prefix)
+pub ascending_tree : (live : PrefixTest) (n : ℕ) (prefix : List Bool) → Ascends Before (live_from live n prefix)
 ascending_tree live n prefix = ascends-filter live Before (extensions _ prefix) (ascending_extensions _ prefix)

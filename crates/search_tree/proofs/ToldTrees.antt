@@ -1,4 +1,4 @@
--- Words that a text tells make trees.
+-- Tests that a text tells make trees.
 use Rattle.std.proofs.Common.{◌≡◌, Bool, true, false, ℕ, ◌+◌, ◌*◌, ◌==◌, List, [], ◌∷◌, ◌++◌, length, slice_index_or, nat_le, IsTrue, sym, length-append, arith}
 use Rattle.std.proofs.lemmas.Bool.{and_parts, and_from, and_left, leb-true, le-leb}
 use Rattle.solid_model.specs.Tree.{IsTree}

@@ -1,19 +1,19 @@
 -- What is still to come, one step further.
 use Rattle.std.proofs.Common.{◌≡◌, Bool, true, false, ℕ, zero, suc, ◌-◌, ◌<◌, ◌≤◌, List, [], ◌∷◌, ◌++◌, length, take, drop, filter, IsTrue, refl, sym, ◌∙◌, ap, append-nil, append_assoc, length-append, arith}
 use Rattle.std.proofs.lemmas.List.{take-append-drop, take-append-le, drop-append-le, drop_all}
-use Rattle.solid_model.specs.Tree.{Word, extensions, live_from}
+use Rattle.solid_model.specs.Tree.{PrefixTest, extensions, live_from}
 use Rattle.solid_model.proofs.PrefixTree.{live_from_more}
 use Rattle.search_tree.specs.Walk.{after, later, coming, StandsAtFirst}
 
 -- a live prefix is the first of those that begin with it
-pub live_from_head : (live : Word) (n : ℕ) (prefix : List Bool) → IsTrue (live prefix) → live_from live n prefix ≡ prefix ∷ drop 1 (live_from live n prefix)
+pub live_from_head : (live : PrefixTest) (n : ℕ) (prefix : List Bool) → IsTrue (live prefix) → live_from live n prefix ≡ prefix ∷ drop 1 (live_from live n prefix)
 live_from_head live n prefix lives = at (n - length prefix)
   where
     at : (more : ℕ) → filter live (extensions more prefix) ≡ prefix ∷ drop 1 (filter live (extensions more prefix))
     at zero = rw lives refl
     at (suc more) = rw lives refl
 
-module _ (live : Word) (n : ℕ) where
+module _ (live : PrefixTest) (n : ℕ) where
   -- ---- one value more at the end
 
   -- with a full value more those below the empty one come first

@@ -1,5 +1,5 @@
--- Words that a text tells, for trees that are written out: a '#' for each prefix that is live, first for the empty prefix, then
--- level by level, in each level in the stated order.
+-- Tests of prefixes that a text tells, for trees that are written out: a '#' for each prefix that is live, first for the empty
+-- prefix, then level by level, in each level in the stated order.
 use Rattle.std.specs.Prelude.{Bool, true, false, ◌&&◌, ℕ, ◌+◌, ◌*◌, ◌==◌, List, [], ◌∷◌, length, nat_le, slice_index_or}
 
 -- From a place in the text: each prefix on the way along these values has a '#'.

@@ -12,7 +12,7 @@ use Rattle.std.proofs.lemmas.Grind.{flat_map-append}
 use Rattle.solid_model.proofs.PrefixTree.{BeginsWith, begins_itself, begins_without, live_from_begins, live_from_none, live_count_none, live_below_none, live_from_more, live_count_more, not_whole, live_below_more, live_from_whole, live_count_whole, live_below_whole}
 use Rattle.solid_model.specs.Edges.{agree}
 use Rattle.solid_model.specs.Lists.{Member, Each}
-use Rattle.solid_model.specs.Tree.{Word, live_from, live_count, is_whole, live_below, IsAllowed, is_one_more, is_next_to, opened_of, found_of, rest_of}
+use Rattle.solid_model.specs.Tree.{PrefixTest, live_from, live_count, is_whole, live_below, IsAllowed, is_one_more, is_next_to, opened_of, found_of, rest_of}
 use Rattle.solid_model.proofs.ColumnRule.{same_from_agree}
 use Rattle.solid_model.proofs.Lists.{member-append, member-append_left, member-append_right, each-at, each-from, each-weaker, each-append_right, each-filter}
 use Rattle.solid_model.proofs.Styles.{passing_member, any_from_member}
@@ -100,7 +100,7 @@ last_of value (next ∷ rest) = let (front, last, e) = last_of next rest in (val
 
 -- ---- the part of a report below one prefix
 
-module _ (live : Word) (n : ℕ) where
+module _ (live : PrefixTest) (n : ℕ) where
   -- Those opened below a prefix, and those that are the rest there: they count what is live below it, and the choices below it
   -- are those of full length among the opened ones, and those below the rest.
   record Splits (prefix : List Bool) (opened rest : List (List Bool)) : Type 0 where
@@ -144,7 +144,7 @@ module _ (live : Word) (n : ℕ) where
 
   -- ---- down the tree
 
-  module _ (closed : (prefix rest : List Bool) → IsTrue (live (prefix ++ rest)) → IsTrue (live prefix)) (next : Word) where
+  module _ (closed : (prefix rest : List Bool) → IsTrue (live (prefix ++ rest)) → IsTrue (live prefix)) (next : PrefixTest) where
     -- The test passes, of what properly begins with a prefix, just what is one of the opened ones with one value more.
     record FindsNext (opened : List (List Bool)) (prefix : List Bool) : Type 0 where
       there : (other : List Bool) (value : Bool) → BeginsWith prefix other → Member opened other → IsTrue (next (other ++ value ∷ []))
@@ -315,7 +315,7 @@ next_of prefixes prefix value h =
     let (found, k, e) = passing_member (λ p. is_one_more p (prefix ++ value ∷ [])) prefixes h in
     subst (Member prefixes) (one_more_of found prefix value e) k
 
-module _ (live : Word) (n : ℕ) (short : (prefix : List Bool) → IsTrue (live prefix) → length prefix ≤ n)
+module _ (live : PrefixTest) (n : ℕ) (short : (prefix : List Bool) → IsTrue (live prefix) → length prefix ≤ n)
     (closed : (prefix rest : List Bool) → IsTrue (live (prefix ++ rest)) → IsTrue (live prefix))
     (piece : List Bool) (lives : IsTrue (live piece)) (quantum : ℕ) (some : 1 ≤ quantum) where
   -- the piece itself is opened first

@@ -8,12 +8,12 @@ use Rattle.solid_model.specs.Blocks.{AreBlocksOf}
 use Rattle.solid_model.specs.Choices.{AreChoicesThat, IsMatchingChoice, AreSolidsOfChoices}
 use Rattle.solid_model.specs.Matching.{AreSolidsOf}
 use Rattle.solid_model.specs.Panels.{GridParts, coordinates_of, IsGridOf}
-use Rattle.solid_model.specs.Tree.{Word, KeepsMatching, live_below}
+use Rattle.solid_model.specs.Tree.{PrefixTest, KeepsMatching, live_below}
 use Rattle.solid_model.proofs.BlockChoices.{all_solids_of_blocks}
 use Rattle.solid_model.proofs.ChoicesInOrder.{From, choices-both, choices-one, choices-all}
 use Rattle.solid_model.proofs.PrefixTree.{live_below_none, live_below_more, live_below_whole}
 
-module _ (matches : List Bool → Type 0) (live : Word) (n : ℕ) (keeps : KeepsMatching live n matches) where
+module _ (matches : List Bool → Type 0) (live : PrefixTest) (n : ℕ) (keeps : KeepsMatching live n matches) where
   -- those of full length below a prefix are all matching choices that begin with it
   abbrev IsComplete : List Bool → Type 0
   IsComplete prefix = AreChoicesThat (From matches prefix) n (live_below live n prefix)
@@ -64,7 +64,7 @@ module _ (matches : List Bool → Type 0) (live : Word) (n : ℕ) (keeps : Keeps
 
 -- and so, choice by choice, all matching solids
 pub complete_solids : (drawing : Segment → Style) (g : GridParts) → IsGridOf drawing g → (blocks : List (Option ℕ)) (count : ℕ) → AreBlocksOf g blocks count
-    → (live : Word) → KeepsMatching live count (IsMatchingChoice drawing (coordinates_of g) blocks)
+    → (live : PrefixTest) → KeepsMatching live count (IsMatchingChoice drawing (coordinates_of g) blocks)
     → (ss : List (List Cell)) × AreSolidsOf drawing ss × AreSolidsOfChoices (coordinates_of g) blocks count (live_below live count []) ss
 complete_solids drawing g grid blocks count are live keeps =
     all_solids_of_blocks drawing g grid blocks count are (live_below live count [])

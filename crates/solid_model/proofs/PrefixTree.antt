@@ -4,7 +4,7 @@ use Rattle.std.proofs.lemmas.Bool.{both_ways}
 use Rattle.std.proofs.lemmas.Bool.Decides.{nat_tests}
 use Rattle.std.proofs.lemmas.List.Elements.{filter-append}
 use Rattle.solid_model.specs.Lists.{Each}
-use Rattle.solid_model.specs.Tree.{Word, extensions, live_from, live_count, is_whole, live_below}
+use Rattle.solid_model.specs.Tree.{PrefixTest, extensions, live_from, live_count, is_whole, live_below}
 use Rattle.solid_model.proofs.Lists.{each-weaker, each-append, each-from, each-at, member-from_filter}
 
 -- the choice begins with these values
@@ -31,7 +31,7 @@ extensions_begin (suc more) prefix =
     (begins_without prefix (value ∷ [])) (extensions_begin more (prefix ++ value ∷ [])) in
     (begins_itself prefix, each-append (BeginsWith prefix) (extensions more (prefix ++ true ∷ [])) (extensions more (prefix ++ false ∷ [])) (below true) (below false))
 
-module _ (live : Word) (n : ℕ) (prefix : List Bool) where
+module _ (live : PrefixTest) (n : ℕ) (prefix : List Bool) where
   -- every member of the tree below a prefix begins with it and is live
   pub live_from_begins : Each (λ p. BeginsWith prefix p × IsTrue (live p)) (live_from live n prefix)
   live_from_begins = each-from (λ p. BeginsWith prefix p × IsTrue (live p)) (live_from live n prefix) (λ p k.
@@ -41,7 +41,7 @@ module _ (live : Word) (n : ℕ) (prefix : List Bool) where
 -- ---- a dead prefix
 
 -- what begins with a dead prefix is dead
-pub dead_below : (live : Word) → ((prefix rest : List Bool) → IsTrue (live (prefix ++ rest)) → IsTrue (live prefix))
+pub dead_below : (live : PrefixTest) → ((prefix rest : List Bool) → IsTrue (live (prefix ++ rest)) → IsTrue (live prefix))
     → (prefix rest : List Bool) → live prefix ≡ false → live (prefix ++ rest) ≡ false
 dead_below live closed prefix rest dead = at (live (prefix ++ rest)) refl
   where
@@ -50,7 +50,7 @@ dead_below live closed prefix rest dead = at (live (prefix ++ rest)) refl
     at false e = e
 
 -- so no extension of it is live
-none_of_extensions : (live : Word) → ((prefix rest : List Bool) → IsTrue (live (prefix ++ rest)) → IsTrue (live prefix))
+none_of_extensions : (live : PrefixTest) → ((prefix rest : List Bool) → IsTrue (live (prefix ++ rest)) → IsTrue (live prefix))
     → (more : ℕ) (prefix : List Bool) → live prefix ≡ false → filter live (extensions more prefix) ≡ []
 none_of_extensions live closed zero prefix dead = rw dead refl
 none_of_extensions live closed (suc more) prefix dead =
@@ -58,7 +58,7 @@ none_of_extensions live closed (suc more) prefix dead =
     let empty = none_of_extensions live closed more (prefix ++ false ∷ []) (dead_below live closed prefix (false ∷ []) dead) in
     rw (dead, filter-append live (extensions more (prefix ++ true ∷ [])) (extensions more (prefix ++ false ∷ [])), full, empty) refl
 
-module _ (live : Word) (n : ℕ) (prefix : List Bool) (dead : live prefix ≡ false)
+module _ (live : PrefixTest) (n : ℕ) (prefix : List Bool) (dead : live prefix ≡ false)
     (closed : (prefix rest : List Bool) → IsTrue (live (prefix ++ rest)) → IsTrue (live prefix)) where
   -- nothing live begins with a dead prefix,
   pub live_from_none : live_from live n prefix ≡ []
@@ -74,7 +74,7 @@ module _ (live : Word) (n : ℕ) (prefix : List Bool) (dead : live prefix ≡ fa
 
 -- ---- a live prefix with values left
 
-module _ (live : Word) (n : ℕ) (prefix : List Bool) (lives : IsTrue (live prefix)) (more : length prefix < n) where
+module _ (live : PrefixTest) (n : ℕ) (prefix : List Bool) (lives : IsTrue (live prefix)) (more : length prefix < n) where
   -- with a value more it has one value less left
   one_less : (value : Bool) → n - length prefix ≡ suc (n - length (prefix ++ value ∷ []))
   one_less value = omega (arith, length-append prefix (value ∷ []))
@@ -106,7 +106,7 @@ module _ (live : Word) (n : ℕ) (prefix : List Bool) (lives : IsTrue (live pref
 
 -- ---- a live prefix of full length
 
-module _ (live : Word) (n : ℕ) (prefix : List Bool) (lives : IsTrue (live prefix)) (whole : length prefix ≡ n) where
+module _ (live : PrefixTest) (n : ℕ) (prefix : List Bool) (lives : IsTrue (live prefix)) (whole : length prefix ≡ n) where
   -- below it stands it alone,
   pub live_from_whole : live_from live n prefix ≡ prefix ∷ []
   live_from_whole =

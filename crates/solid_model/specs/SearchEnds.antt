@@ -5,7 +5,7 @@ use Rattle.solid_model.specs.declared.ended.EndKind.TheVariants.{Whole, CutNodes
 use Rattle.solid_model.specs.Choices.{ChoicePrecedes}
 use Rattle.solid_model.specs.Limits.{most_node_limit, most_solid_limit}
 use Rattle.solid_model.specs.Lists.{Member, Each, Ascends}
-use Rattle.solid_model.specs.Tree.{Word, live_count, live_below}
+use Rattle.solid_model.specs.Tree.{PrefixTest, live_count, live_below}
 use Rattle.solid_model.specs.Search.{SearchLimits}
 
 -- limits that may be asked for
@@ -22,13 +22,13 @@ pub record SearchEnd : Type 0 where
   pub solids : List (List Bool)
 
 -- these choices are some of the live ones of n blocks, each once, in the stated order
-pub record AreSomeOf (live : Word) (n : ℕ) (choices : List (List Bool)) : Type 0 where
+pub record AreSomeOf (live : PrefixTest) (n : ℕ) (choices : List (List Bool)) : Type 0 where
   pub listed : Each (Member (live_below live n [])) choices
   pub ordered : Ascends ChoicePrecedes choices
 
 -- Whole: both limits are kept, and the solids are all. Cut at nodes, or at solids: that limit is passed, and the solids are
 -- some, at a cut at solids as many as the limit has. No more live prefixes are opened than there are.
-abbrev pub EndsAs : Word → ℕ → SearchLimits → EndKind → ℕ → List (List Bool) → Type 0
+abbrev pub EndsAs : PrefixTest → ℕ → SearchLimits → EndKind → ℕ → List (List Bool) → Type 0
 EndsAs live n limits Whole opened solids = (live_count live n [] ≤ limits.nodes) × (length (live_below live n []) ≤ limits.solids)
     × (opened ≡ live_count live n []) × (solids ≡ live_below live n [])
 EndsAs live n limits CutNodes opened solids = (limits.nodes < opened) × (opened ≤ live_count live n [])
@@ -37,5 +37,5 @@ EndsAs live n limits CutSolids opened solids = (limits.solids < length (live_bel
     × AreSomeOf live n solids × (length solids ≡ limits.solids)
 
 -- the end of a search of all prefixes of n blocks within limits
-abbrev pub EndsSearch : Word → ℕ → SearchLimits → SearchEnd → Type 0
+abbrev pub EndsSearch : PrefixTest → ℕ → SearchLimits → SearchEnd → Type 0
 EndsSearch live n limits e = EndsAs live n limits e.kind e.opened e.solids

@@ -1,9 +1,9 @@
 -- A small tree, to check the words on trees of prefixes by hand: of two blocks not both may be empty.
 use Rattle.std.specs.Prelude.{Bool, true, false, List, [], ◌∷◌}
-use Rattle.solid_model.specs.Tree.{Word}
+use Rattle.solid_model.specs.Tree.{PrefixTest}
 
--- the word that refuses whatever begins with two empty blocks
-abbrev pub not_both_empty : Word
+-- the test that refuses whatever begins with two empty blocks
+abbrev pub not_both_empty : PrefixTest
 not_both_empty (false ∷ false ∷ _) = false
 not_both_empty _ = true
 

@@ -1,26 +1,26 @@
--- The tree of prefixes, over any word "live" that tells some lists of truth values from others. A prefix says for each of the
+-- The tree of prefixes, over any test "live" that tells some lists of truth values from others. A prefix says for each of the
 -- first blocks whether it is full; below it stand those that say so for one block more, the full one first.
 use Rattle.std.specs.Prelude.{◌≡◌, Bool, true, false, ◌&&◌, ℕ, zero, suc, ◌+◌, ◌-◌, ◌≤◌, ◌==◌, List, [], ◌∷◌, ◌++◌, length, take, drop, filter, map, sum, IsPermutation, IsTrue}
 use Rattle.std.specs.List.{flat_map, list_any}
 use Rattle.solid_model.specs.Edges.{agree}
 use Rattle.solid_model.specs.Lists.{Each}
 
--- which prefixes are live
-abbrev pub Word : Type 0
-Word = List Bool → Bool
+-- a test of prefixes: which are live
+abbrev pub PrefixTest : Type 0
+PrefixTest = List Bool → Bool
 
 -- what a live prefix begins with is live
-abbrev pub IsClosed : Word → Type 0
+abbrev pub IsClosed : PrefixTest → Type 0
 IsClosed live = (prefix rest : List Bool) → IsTrue (live (prefix ++ rest)) → IsTrue (live prefix)
 
 -- the live prefixes of n blocks are a tree: none is too long, and they are closed
-pub record IsTree (live : Word) (n : ℕ) : Type 0 where
+pub record IsTree (live : PrefixTest) (n : ℕ) : Type 0 where
   pub short : (prefix : List Bool) → IsTrue (live prefix) → length prefix ≤ n
   pub closed : IsClosed live
 
 -- And the tree is one of these choices, which match: whatever one of them begins with is live, and a live prefix of full length is
 -- one of them.
-pub record KeepsMatching (live : Word) (n : ℕ) (matches : List Bool → Type 0) : Type 0 where
+pub record KeepsMatching (live : PrefixTest) (n : ℕ) (matches : List Bool → Type 0) : Type 0 where
   pub tree : IsTree live n
   pub reached : (prefix rest : List Bool) → length (prefix ++ rest) ≡ n → matches (prefix ++ rest) → IsTrue (live prefix)
   pub ends : (choice : List Bool) → length choice ≡ n → IsTrue (live choice) → matches choice
@@ -34,11 +34,11 @@ extensions zero prefix = prefix ∷ []
 extensions (suc more) prefix = prefix ∷ extensions more (prefix ++ true ∷ []) ++ extensions more (prefix ++ false ∷ [])
 
 -- the live prefixes of n blocks that begin with this one, itself included
-abbrev pub live_from : Word → ℕ → List Bool → List (List Bool)
+abbrev pub live_from : PrefixTest → ℕ → List Bool → List (List Bool)
 live_from live n prefix = filter live (extensions (n - length prefix) prefix)
 
 -- their number
-abbrev pub live_count : Word → ℕ → List Bool → ℕ
+abbrev pub live_count : PrefixTest → ℕ → List Bool → ℕ
 live_count live n prefix = length (live_from live n prefix)
 
 -- it says of each of n blocks whether it is full
@@ -46,7 +46,7 @@ abbrev pub is_whole : ℕ → List Bool → Bool
 is_whole n prefix = length prefix == n
 
 -- those of full length
-abbrev pub live_below : Word → ℕ → List Bool → List (List Bool)
+abbrev pub live_below : PrefixTest → ℕ → List Bool → List (List Bool)
 live_below live n prefix = filter (is_whole n) (live_from live n prefix)
 
 -- ---- reports
@@ -54,7 +54,7 @@ live_below live n prefix = filter (is_whole n) (live_from live n prefix)
 -- An allowed report of a piece, which is a prefix: so many prefixes were opened, these choices were found, and these prefixes
 -- are the rest. The live prefixes that begin with the piece are those that were opened and those that begin with one of the
 -- rest; and so are the choices among them.
-pub record IsAllowed (live : Word) (n : ℕ) (piece : List Bool) (opened : ℕ) (found rest : List (List Bool)) : Type 0 where
+pub record IsAllowed (live : PrefixTest) (n : ℕ) (piece : List Bool) (opened : ℕ) (found rest : List (List Bool)) : Type 0 where
   pub some : 1 ≤ opened
   pub rest_live : Each (λ prefix. IsTrue (live prefix)) rest
   pub counted : live_count live n piece ≡ opened + sum (map (live_count live n) rest)
@@ -71,13 +71,13 @@ abbrev pub is_next_to : List (List Bool) → List Bool → Bool
 is_next_to prefixes other = list_any (λ prefix. is_one_more prefix other) prefixes
 
 -- the first live prefixes that begin with a piece, so many of them
-abbrev pub opened_of : Word → ℕ → List Bool → ℕ → List (List Bool)
+abbrev pub opened_of : PrefixTest → ℕ → List Bool → ℕ → List (List Bool)
 opened_of live n piece quantum = take quantum (live_from live n piece)
 
 -- those of full length
-abbrev pub found_of : Word → ℕ → List Bool → ℕ → List (List Bool)
+abbrev pub found_of : PrefixTest → ℕ → List Bool → ℕ → List (List Bool)
 found_of live n piece quantum = filter (is_whole n) (opened_of live n piece quantum)
 
 -- the live prefixes behind them that are one of them with one value more
-abbrev pub rest_of : Word → ℕ → List Bool → ℕ → List (List Bool)
+abbrev pub rest_of : PrefixTest → ℕ → List Bool → ℕ → List (List Bool)
 rest_of live n piece quantum = filter (is_next_to (opened_of live n piece quantum)) (drop quantum (live_from live n piece))

@@ -11,7 +11,7 @@ ghost use Rattle.solid_model.specs.Panels.{GridParts, coordinates_of, IsGridOf};
 ghost use Rattle.solid_model.specs.SmallTree.{not_both_empty, nothing_said, first_full, both_full, only_first_full, first_empty, only_second_full};
 ghost use Rattle.solid_model.specs.Tree.{KeepsMatching, live_from, live_count, live_below, opened_of, found_of, rest_of};
 
-/// The tree is complete, whatever word "live" keeps to what matches: the live prefixes of full
+/// The tree is complete, whatever test "live" keeps to what matches: the live prefixes of full
 /// length that begin with the empty prefix are exactly all matching solids, choice by choice, in
 /// order.
 pub fn the_tree_is_complete()
