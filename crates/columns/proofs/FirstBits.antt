@@ -1,14 +1,15 @@
 -- The first full depth of a column is the number of zeros below its lowest bit.
-use Rattle.std.proofs.Common.{◌≡◌, ◌≢◌, ◌⊎◌, inl, inr, Bool, true, false, ◌==◌, ℕ, ◌<◌, ◌^◌, ℤ, pos, negsuc, ◌<ℤ◌, w64, refl, ap, sym, subst, ◌∙◌, arith}
+use Rattle.std.proofs.Common.{◌≡◌, ◌≢◌, ◌⊎◌, inl, inr, true, false, ◌==◌, ℕ, ◌<◌, ◌^◌, ℤ, pos, negsuc, ◌<ℤ◌, w64, refl, ap, sym, subst, ◌∙◌, arith}
 use Rattle.std.specs.Int.{bit_at, trailing_zeros}
 use Rattle.std.specs.Int.Count.{trailing_of_zero}
 use Rattle.std.specs.Int.RustNames.{bit_xor}
-use Rattle.std.proofs.lemmas.Bool.{false≢true, both_ways, cases_lt, eq-eqb}
-use Rattle.std.proofs.lemmas.Int.{ints, by_lt_z}
+use Rattle.std.proofs.lemmas.Bool.{false≢true, cases_lt, eq-eqb}
+use Rattle.std.proofs.lemmas.Int.{ints}
 use Rattle.std.proofs.lemmas.Nat.Bits.{bit_at-zero, bit_at-lt, bit_at_xor, bit_at-trailing_zeros, same_from_bits}
 use Rattle.solid_model.specs.declared.segment.Style.TheVariants.{Dashed, Solid}
 use Rattle.solid_model.specs.Columns.{IsFirstFull, HaveSameFirstFull, ColumnsDraw}
 use Rattle.columns.specs.Bits.{bits}
+use Rattle.solid_model.proofs.ColumnRule.{one_first}
 
 -- the number of zeros below the lowest bit of a number of 64 bits
 abbrev zeros : ℕ → ℕ
@@ -36,12 +37,6 @@ first_at_zeros n some l =
 never_first : (n : ℕ) (k : ℤ) → n ≡ 0 → bits n k ≡ true → ⊥
 never_first n (pos i) e set = false≢true (sym (ap (λ b. b == 1) (ap (λ m. bit_at m i) e ∙ bit_at-zero i)) ∙ set)
 never_first n (negsuc i) e set = false≢true set
-
--- of two first full depths neither is before the other
-one_first : (column : ℤ → Bool) (j k : ℤ) → IsFirstFull column j → IsFirstFull column k → j ≡ k
-one_first column j k first other = by_lt_z j k
-    (λ l. absurd (both_ways (column j) (other.1 j l) first.0))
-    (λ at_most. by_lt_z k j (λ l. absurd (both_ways (column k) (first.1 k l) other.0)) (λ at_least. omega (arith, ints)))
 
 module _ (a b : ℕ) (a_fits : a < 2 ^ 64) (b_fits : b < 2 ^ 64) where
   -- with as many zeros, the first full depth of the one is that of the other

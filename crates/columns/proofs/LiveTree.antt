@@ -1,5 +1,5 @@
 -- The live prefixes of a problem are a tree.
-use Rattle.std.proofs.Common.{◌≡◌, ◌≤◌, Bool, ℕ, zero, suc, List, [], ◌∷◌, ◌++◌, length, length-append, ℤ, pos, ◌-ℤ◌, Option, Some, None, IsTrue, arith}
+use Rattle.std.proofs.Common.{◌≡◌, Bool, ℕ, zero, suc, List, [], ◌∷◌, ◌++◌, length-append, ℤ, pos, ◌-ℤ◌, Option, Some, None, arith}
 use Rattle.std.proofs.lemmas.Option.{none-some}
 use Rattle.solid_model.specs.declared.cell.Cell.{Cell}
 use Rattle.solid_model.specs.declared.line_id.LineId.{LineId}

@@ -1,6 +1,5 @@
 -- Whether a line can still be met, and whether a prefix is live, is computed, where the blocks are numbered in the grid's own box.
-use Rattle.std.proofs.Common.{◌≡◌, ◌↔◌, Bool, true, false, nat_le, ℕ, List, [], ◌∷◌, length, ℤ, pos, negsuc, ◌-ℤ◌, ◌≤ℤ◌, ◌<ℤ◌, Option, Some, None, IsTrue, if◌then◌else◌, inl, inr, refl, ap, sym, subst, arith}
-use Rattle.std.specs.List.{list_all}
+use Rattle.std.proofs.Common.{◌≡◌, ◌↔◌, Bool, true, false, nat_le, ℕ, List, length, ℤ, pos, negsuc, ◌-ℤ◌, ◌≤ℤ◌, ◌<ℤ◌, Option, Some, None, IsTrue, if◌then◌else◌, ap, sym, subst, arith}
 use Rattle.std.proofs.lemmas.Bool.{and_parts, and_from, false_from_ne_true, le-leb, leb-true}
 use Rattle.std.proofs.lemmas.Int.{ints}
 use Rattle.solid_model.specs.declared.cell.Axis.{Axis}
@@ -11,7 +10,6 @@ use Rattle.solid_model.specs.declared.line_id.LineId.{LineId}
 use Rattle.solid_model.specs.Blocks.{BlockNumbers, ProblemParts}
 use Rattle.solid_model.specs.Demands.{line_style, lines_of, said_by, known_in, known_cell, coordinate_on, box_cell_in, known_column, known_after, known_before, CanBeMet, IsLive, can_be_met, is_live}
 use Rattle.solid_model.specs.Frames.{IsFrame, frame_of, along, across}
-use Rattle.solid_model.specs.Lists.{Member}
 use Rattle.solid_model.specs.PerAxis.{numbers_of}
 use Rattle.solid_model.specs.Rooms.{Sizes, is_below, is_within, number_at}
 use Rattle.solid_model.specs.GridBox.{grid_sizes}
@@ -20,6 +18,7 @@ use Rattle.solid_model.proofs.BoxCells.{below-bounds, within-below}
 use Rattle.columns.proofs.SettledColumns.{IsEmptyBeyond}
 use Rattle.columns.proofs.SightLines.{drawing_computed}
 use Rattle.solid_model.proofs.Views.{views_are_frames, across_along, coordinates_at}
+use Rattle.solid_model.proofs.Tests.{passes_all, all_passing}
 
 -- ---- depths of a box
 
@@ -75,15 +74,6 @@ module _ (p : ProblemParts) (sized : AreSized p) (known : ℕ → Option Bool) (
       (column_beyond (pos l.at)) (column_beyond (pos l.at -ℤ pos 1)) (line_style p.grid l)
 
 -- ---- all lines
-
-passes_all : {A : Type 0} (test : A → Bool) (xs : List A) (x : A) → list_all test xs ≡ true → Member xs x → test x ≡ true
-passes_all test [] x e m = absurd m
-passes_all test (y ∷ xs) x e (inl h) = subst (λ z. test z ≡ true) h (and_parts _ _ e).0
-passes_all test (y ∷ xs) x e (inr m) = passes_all test xs x (and_parts _ _ e).1 m
-
-all_passing : {A : Type 0} (test : A → Bool) (xs : List A) → ((x : A) → Member xs x → test x ≡ true) → list_all test xs ≡ true
-all_passing test [] each = refl
-all_passing test (x ∷ xs) each = and_from _ _ (each x (inl refl)) (all_passing test xs (λ y m. each y (inr m)))
 
 -- a prefix is live exactly where the test says so
 pub live_computed : (p : ProblemParts) → AreSized p → (prefix : List Bool) → IsTrue (is_live p prefix) ↔ IsLive p prefix

@@ -7,6 +7,7 @@ use Rattle.solid_model.specs.declared.segment.Style.{Style}
 use Rattle.solid_model.specs.declared.segment.Style.TheVariants.{Blank, Dashed, Solid}
 use Rattle.solid_model.specs.Columns.{IsFirstFull, HaveSameFirstFull, ColumnsDraw}
 use Rattle.solid_model.specs.Demands.{AgreesWith, CellsBeside, can_be, can_both_be, can_agree, can_differ, can_draw}
+use Rattle.solid_model.proofs.ColumnRule.{one_first}
 
 -- ---- what is known of a cell
 
@@ -73,11 +74,6 @@ module _ (x y : Option Bool) where
       (or_cases _ _ e)
 
 -- ---- first full depths
-
--- a column has one first full depth
-one_first : (column : ℤ → Bool) (k m : ℤ) → IsFirstFull column k → IsFirstFull column m → k ≡ m
-one_first column k m first here = by_lt_z k m (λ l. absurd (both_ways (column k) (here.1 k l) first.0))
-    (λ l. by_lt_z m k (λ l'. absurd (both_ways (column m) (first.1 m l') here.0)) (λ l'. omega (arith, ints)))
 
 -- two columns with one first full depth
 pub same_first_at : (a b : ℤ → Bool) (m : ℤ) → IsFirstFull a m → IsFirstFull b m → HaveSameFirstFull a b

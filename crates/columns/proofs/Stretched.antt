@@ -5,6 +5,7 @@ use Rattle.std.proofs.lemmas.Int.{ints, by_lt_z}
 use Rattle.solid_model.specs.declared.segment.Style.{Style}
 use Rattle.solid_model.specs.declared.segment.Style.TheVariants.{Blank, Dashed, Solid}
 use Rattle.solid_model.specs.Columns.{IsFirstFull, HaveSameFirstFull, ColumnsDraw}
+use Rattle.solid_model.proofs.Tests.{same_tests}
 
 -- farther depths come from farther ones
 abbrev pub KeepsOrder : (ℤ → ℤ → Type 0) → Type 0
@@ -65,12 +66,6 @@ module _ (comes : ℤ → ℤ → Type 0) (keeps : KeepsOrder comes) where
     differ_too d full differ =
         let k = is_a.first d full in
         (k.0, λ same. differ (sym (is_a.same k.0 d k.1) ∙ same ∙ is_b.same k.0 d k.1))
-
--- two tests are equal where each implies the other
-same_tests : (x y : Bool) → (x ≡ true → y ≡ true) → (y ≡ true → x ≡ true) → x ≡ y
-same_tests true y to from = sym (to refl)
-same_tests false true to from = from refl
-same_tests false false to from = refl
 
 -- so they draw what they draw before
 pub stretched_draw : (comes : ℤ → ℤ → Type 0) → KeepsOrder comes → (a b a_long b_long : ℤ → Bool)

@@ -1,10 +1,10 @@
 -- At a side of a boundary square there is an edge of the solid exactly where the face doesn't go on beyond it.
-use Rattle.std.proofs.Common.{◌≡◌, Bool, true, false, not, ◌&&◌, ◌||◌, ℤ, IsTrue, refl, ◌∙◌, ap, ap₂}
+use Rattle.std.proofs.Common.{◌≡◌, Bool, true, false, not, ◌&&◌, ℤ, IsTrue, refl, ◌∙◌}
 use Rattle.std.proofs.lemmas.Bool.{false≢true}
 use Rattle.solid_model.specs.declared.cell.Cell.{Cell}
 use Rattle.solid_model.specs.declared.face.Out.{Out}
 use Rattle.solid_model.specs.declared.face.Out.TheVariants.{MinusX, PlusX, MinusY, PlusY, MinusZ, PlusZ}
-use Rattle.solid_model.specs.Edges.{agree, is_edge_of, is_edge}
+use Rattle.solid_model.specs.Edges.{is_edge_of, is_edge}
 use Rattle.solid_model.specs.Faces.{right_axis, up_axis, place, inner_cell, outer_cell, is_boundary}
 use Rattle.solid_model.specs.Rounds.{Spot, West, South, spot_after}
 use Rattle.solid_model.proofs.Views.{is_edge_of_turned, is_edge_of_flipped, is_edge_of_mirrored}

@@ -1,10 +1,9 @@
 -- The faces of a solid of grid cells are those of the solid of their numbers, as they stand in space.
-use Rattle.std.proofs.Common.{◌≡◌, inl, inr, Bool, true, ℕ, zero, suc, List, [], ◌∷◌, map, ℤ, ◌<ℤ◌, IsTrue, refl, sym, ◌∙◌, ap, ap₂, subst}
+use Rattle.std.proofs.Common.{◌≡◌, inl, inr, Bool, true, ℕ, List, [], ◌∷◌, map, ℤ, ◌<ℤ◌, IsTrue, refl, sym, ◌∙◌, ap, ap₂, subst}
 use Rattle.std.proofs.lemmas.Bool.{false≢true}
 use Rattle.solid_model.specs.declared.cell.Axis.{Axis}
 use Rattle.solid_model.specs.declared.cell.Cell.{Cell}
 use Rattle.solid_model.specs.declared.face.Out.{Out}
-use Rattle.solid_model.specs.declared.face.Out.TheVariants.{MinusX, PlusX, MinusY, PlusY, MinusZ, PlusZ}
 use Rattle.solid_model.specs.Faces.{outward, right_axis, up_axis, place, is_boundary, BeginsLeast, IsLoopOf, StartsBefore, AreLoopsOf, FaceParts, IsFaceAt, out_number, first_loop, FaceBefore, AreFacesOf}
 use Rattle.face_laws.specs.GridFaces.{Planes, point_of_numbers, AreCellsOf, face_in_space}
 use Rattle.face_laws.specs.GridRounds.{Rises, grid_point, last_side}

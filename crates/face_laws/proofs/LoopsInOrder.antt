@@ -6,7 +6,7 @@ use Rattle.solid_model.specs.declared.cell.Cell.{Cell}
 use Rattle.solid_model.specs.Faces.{BeginsLeast, IsLoopOf, StartsBefore, AreLoopsOf, first_loop}
 use Rattle.solid_model.specs.Lists.{Member, Each}
 use Rattle.solid_model.specs.Orders.{ComesBefore}
-use Rattle.solid_model.specs.Rounds.{Spot, South, West, spot_after, Side, end_of, left_square, right_square, is_border, following, sides_from, round_sides, IsRound, corners, round_corners, AreNeighbours, AreJoined}
+use Rattle.solid_model.specs.Rounds.{Spot, South, West, spot_after, Side, end_of, left_square, right_square, is_border, following, sides_from, IsRound, corners, round_corners, AreNeighbours, AreJoined}
 use Rattle.solid_model.proofs.CellOrder.{before_onward, one_or_before}
 use Rattle.solid_model.proofs.Chains.{reaches-itself, reaches-onward, reaches-step_then}
 use Rattle.solid_model.proofs.Integers.{natural}

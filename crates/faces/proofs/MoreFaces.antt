@@ -1,12 +1,11 @@
 -- The faces of one plane more, and of one side more.
-use Rattle.std.proofs.Common.{◌≡◌, inl, inr, Bool, true, false, ◌&&◌, ◌||◌, nat_eq, nat_lt, ℕ, zero, suc, ◌+◌, ◌<◌, List, [], ◌++◌, ℤ, pos, ◌<ℤ◌, int_lt, IsTrue, refl, sym, ◌∙◌, ap, subst, arith}
+use Rattle.std.proofs.Common.{◌≡◌, inl, inr, Bool, true, false, ◌&&◌, ◌||◌, nat_eq, nat_lt, ℕ, ◌+◌, ◌<◌, List, [], ◌++◌, ℤ, pos, ◌<ℤ◌, int_lt, IsTrue, refl, sym, ◌∙◌, ap, subst, arith}
 use Rattle.std.specs.Ordering.{int_eq}
 use Rattle.std.proofs.lemmas.Bool.{cases_lt}
 use Rattle.std.proofs.lemmas.Bool.Decides.{Decides-ltb, Decides-eqb}
 use Rattle.std.proofs.lemmas.Int.{ints, by_lt_z}
 use Rattle.solid_model.specs.declared.cell.Cell.{Cell}
 use Rattle.solid_model.specs.declared.face.Out.{Out}
-use Rattle.solid_model.specs.declared.face.Out.TheVariants.{MinusX, PlusX, MinusY, PlusY, MinusZ, PlusZ}
 use Rattle.solid_model.specs.Faces.{outward, is_boundary, starts_before, FaceParts, IsFaceAt, out_number, first_loop, FaceBefore, AreFacesOf}
 use Rattle.solid_model.specs.Lists.{Member, Each}
 use Rattle.solid_model.specs.Marks.{BoxMarks, is_marked}

@@ -9,13 +9,13 @@ use Rattle.solid_model.specs.declared.cell.Cell.{Cell}
 use Rattle.solid_model.specs.Cells.{coordinate, cell_before}
 use Rattle.solid_model.specs.Marks.{AxisMarks, marks_along, AreMarksOf}
 use Rattle.solid_model.specs.PerAxis.{numbers_of}
-use Rattle.solid_model.specs.Rooms.{Sizes, is_below, is_within, box_place, Walls}
-use Rattle.solid_model.proofs.BoxCells.{bounds-below, below-within}
+use Rattle.solid_model.specs.Rooms.{Sizes, is_within, box_place, Walls}
 use Rattle.solid_model.proofs.InGrid.{placed_at}
+use Rattle.solid_model.proofs.Tests.{same_tests}
 use Rattle.flood.specs.Graph.{GoesBack}
 use Rattle.flood.specs.Passages.{PassageParts, has_bar, LeadsBack, StepsAlong}
 use Rattle.flood.specs.Ring.{ringed, inner, outer, IsRinged, IsRingedNumber, ring_count, ring_place, ring_cell, ring_stride, OwnWalls, RingStep, touches_box, has_bar_before, ArePassages}
-use Rattle.flood.proofs.RingPlaces.{ring_cell-ringed, ring_place-ring_cell, ring_cell-ring_place, ring_place-before}
+use Rattle.flood.proofs.RingPlaces.{ring_cell-ringed, ring_place-ring_cell, ring_cell-ring_place, ring_place-before, outer-within}
 
 -- steps go back
 pub steps_back : (g : PassageParts) → GoesBack g.count (StepsAlong g)
@@ -176,18 +176,6 @@ module _ (sizes : Sizes) (stands : Axis → Cell → Bool) (g : PassageParts) (a
 
 -- ---- the bars, as they are marked
 
--- a ringed cell, counted from the ring, is one of the box with its ring
-pub outer-within : (sizes : Sizes) (n : Cell) → IsRinged sizes n → is_within (ringed sizes) (outer n) ≡ true
-outer-within sizes n ring = below-within (ringed sizes) (outer n) at
-  where
-    one_more : (size : ℕ) (z : ℤ) → IsRingedNumber size z → is_below (size + 2) (z +ℤ pos 1) ≡ true
-    one_more size z h = bounds-below (size + 2) (z +ℤ pos 1) (omega (arith, ints, h.0)) (omega (arith, ints, h.1))
-
-    at : (a : Axis) → IsTrue (is_below (ringed sizes a) (coordinate a (outer n)))
-    at X = one_more (sizes X) n.x (ring X)
-    at Y = one_more (sizes Y) n.y (ring Y)
-    at Z = one_more (sizes Z) n.z (ring Z)
-
 -- counted from the ring and back it is the same
 pub inner-outer : (n : Cell) → inner (outer n) ≡ n
 inner-outer n = λ t. record { x = back n.x t; y = back n.y t; z = back n.z t }
@@ -206,13 +194,8 @@ bars_marked sizes stands bars are a n ring =
     let barred : has_bar_before sizes stands a (inner (outer n)) ≡ has_bar_before sizes stands a n = ap (has_bar_before sizes stands a) (inner-outer n) in
     let there = box_place (numbers_of marks.sizes) (outer n) in
     let ringed_box : is_within (numbers_of marks.sizes) (outer n) ≡ true = (λ t. is_within (λ b. (are a).sized b t) (outer n)) ∙ outer-within sizes n ring in
-    same_truth (slice_index_or marks.values (ring_place sizes n) false) (has_bar_before sizes stands a n)
+    same_tests (slice_index_or marks.values (ring_place sizes n) false) (has_bar_before sizes stands a n)
     (λ has. sym barred ∙ exact.0 (and_from (is_within (numbers_of marks.sizes) (outer n)) (slice_index_or marks.values there false) ringed_box
     (ap (λ p. slice_index_or marks.values p false) place ∙ has)))
     (λ is. ap (λ p. slice_index_or marks.values p false) (sym place)
     ∙ (and_parts (is_within (numbers_of marks.sizes) (outer n)) (slice_index_or marks.values there false) (exact.1 (barred ∙ is))).1)
-  where
-    same_truth : (b c : Bool) → (b ≡ true → c ≡ true) → (c ≡ true → b ≡ true) → b ≡ c
-    same_truth true c there back = sym (there refl)
-    same_truth false true there back = back refl
-    same_truth false false there back = refl

@@ -22,7 +22,7 @@ within-ringed sizes n within a =
 -- ---- with its ring a box is a box once more
 
 -- which has the cells of the box and of its ring,
-outer-within : (sizes : Sizes) (n : Cell) → IsRinged sizes n → is_within (ringed sizes) (outer n) ≡ true
+pub outer-within : (sizes : Sizes) (n : Cell) → IsRinged sizes n → is_within (ringed sizes) (outer n) ≡ true
 outer-within sizes n ring = below-within (ringed sizes) (outer n) at
   where
     from_ring : (size : ℕ) (z : ℤ) → IsRingedNumber size z → is_below (size + 2) (z +ℤ pos 1) ≡ true

@@ -12,7 +12,7 @@ use Rattle.solid_model.specs.Grid.{IsDrawnAcross, ChangesAt, IsGridCoordinate, A
 use Rattle.solid_model.specs.Runs.{IsDrawing}
 use Rattle.solid_model.specs.Segments.{segment_at}
 use Rattle.solid_model.proofs.InGrid.{blank_or_drawn}
-use Rattle.grid.proofs.CoordinateBounds.{drawn_near}
+use Rattle.solid_model.proofs.SomeGrid.{drawn_near}
 
 module _ (drawing : Segment → Style) (is : IsDrawing drawing) where
   -- nothing is drawn just before 0

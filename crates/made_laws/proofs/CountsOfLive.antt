@@ -19,9 +19,10 @@ use Rattle.made_laws.proofs.CountsOfRows.{most_in_row, few_prefixes_of_made, few
 use Rattle.made_laws.proofs.DemandedBlocks.{sum_with}
 use Rattle.made_laws.proofs.DemandedCells.{first_not_empty, voids_not_full}
 use Rattle.made_laws.proofs.DemandedColumns.{IsProblemOf}
-use Rattle.made_laws.proofs.DemandedCubes.{CubeletColumn, cubelet_in, column_blocks, void_columns, says_full, allowed_values, rule_of, passes, all_images_pass, places_in, no_void_in, last_is_solid, each_void_column}
+use Rattle.made_laws.proofs.DemandedCubes.{CubeletColumn, cubelet_in, column_blocks, void_columns, says_full, allowed_values, rule_of, all_images_pass, places_in, no_void_in, last_is_solid, each_void_column}
 use Rattle.made_laws.proofs.DemandedPlaces.{around}
 use Rattle.solid_model.proofs.Ranges.{member-range}
+use Rattle.solid_model.proofs.Tests.{passes_all}
 use Rattle.drawing_maker.proofs.RowUnion.{has_side}
 use Rattle.made_laws.proofs.Parts.{Fits, all_sizes, live_in_parts, whole_in_parts}
 
@@ -81,7 +82,7 @@ module _ (before : List Cube) (p : Cube) (behind : List Cube) (q : ProblemParts)
       (λ m l. no_void_in p.kind c.view c.right (suc c.up) m is_column.beside l)
       (said_own 0 (omega arith) ∙ ap Some first_is_full)
       (λ m l. said_full prefix (row_block_count before) (block_count p.kind) decided (cubelet_block p.kind (cubelet_in c.view c.right c.up m))
-      (passes (says_full own_values) (column_blocks p.kind c) (cubelet_block p.kind (cubelet_in c.view c.right c.up m)) full
+      (passes_all (says_full own_values) (column_blocks p.kind c) (cubelet_block p.kind (cubelet_in c.view c.right c.up m)) full
       (member-map (λ m. cubelet_block p.kind (cubelet_in c.view c.right c.up m)) (places_in p.kind) m (member-range (cube_side p.kind) 0 m (omega arith) (omega arith)))))))
 
   pub values_allowed : allowed_values p.kind own_values ≡ true

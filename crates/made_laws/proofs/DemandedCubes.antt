@@ -1,6 +1,6 @@
 -- Which values the blocks of a cube may have in a live prefix that decides all of them: the block of its full cells is full, and
 -- of the voids that lie behind one another in a view not all are full.
-use Rattle.std.proofs.Common.{◌≡◌, Bool, true, false, ◌&&◌, not, nat_lt, inl, inr, ℕ, suc, ◌-◌, ◌<◌, List, [], ◌∷◌, map, get_or, IsTrue, refl, ap, subst, ◌∙◌, arith}
+use Rattle.std.proofs.Common.{◌≡◌, Bool, true, false, ◌&&◌, not, nat_lt, inl, inr, ℕ, suc, ◌-◌, ◌<◌, List, [], ◌∷◌, map, get_or, IsTrue, refl, ap, ◌∙◌, arith}
 use Rattle.std.proofs.lemmas.Bool.{and_parts, and_from, not-true, ltb-true}
 use Rattle.std.specs.List.{list_all, flat_map, range_with_len}
 use Rattle.solid_model.specs.Lists.{Member}
@@ -12,6 +12,7 @@ use Rattle.drawing_maker.specs.declared.cube.Cube.{Cube}
 use Rattle.drawing_maker.specs.Cubes.{Cubelet, cube_side, is_void}
 use Rattle.made_laws.specs.RowBlocks.{block_count, cubelet_block}
 use Rattle.solid_model.proofs.Ranges.{member-range}
+use Rattle.solid_model.proofs.Tests.{passes_all}
 use Rattle.made_laws.proofs.Parts.{PartRule, passing}
 
 -- ---- columns of cubelets
@@ -81,11 +82,6 @@ few_of_eight_voids = ap (λ columns. passing 9 (allows_by columns)) eight_column
 
 -- ---- tests on lists
 
-pub passes : {A : Type 0} (test : A → Bool) (xs : List A) (x : A) → list_all test xs ≡ true → Member xs x → test x ≡ true
-passes test [] x e k = absurd k
-passes test (y ∷ xs) x e (inl h) = subst (λ z. test z ≡ true) h (and_parts (test y) (list_all test xs) e).0
-passes test (y ∷ xs) x e (inr k) = passes test xs x (and_parts (test y) (list_all test xs) e).1 k
-
 pub all_images_pass : {A B : Type 0} (f : A → B) (test : B → Bool) (xs : List A) → ((x : A) → Member xs x → test (f x) ≡ true) → list_all test (map f xs) ≡ true
 all_images_pass f test [] each = refl
 all_images_pass f test (x ∷ xs) each = and_from _ _ (each x (inl refl)) (all_images_pass f test xs (λ y k. each y (inr k)))
@@ -102,7 +98,7 @@ is_solid_column kind v right up = list_all (λ k. not (is_void kind (cubelet_in 
 
 pub no_void_in : (kind : Kind) (v : View) (right up m : ℕ) → is_solid_column kind v right up ≡ true → m < cube_side kind → is_void kind (cubelet_in v right up m) ≡ false
 no_void_in kind v right up m e l = not-true (is_void kind (cubelet_in v right up m))
-    (passes (λ k. not (is_void kind (cubelet_in v right up k))) (places_in kind) m e (member-range (cube_side kind) 0 m (omega arith) (omega arith)))
+    (passes_all (λ k. not (is_void kind (cubelet_in v right up k))) (places_in kind) m e (member-range (cube_side kind) 0 m (omega arith) (omega arith)))
 
 -- the last column of the lowest row is one
 pub last_is_solid : (kind : Kind) → is_solid_column kind Front 0 (cube_side kind - 1) ≡ true
@@ -132,7 +128,7 @@ each_void_column kind q k =
     let in_up = nat_lt (suc q.up) (cube_side kind) in
     let void = is_void kind (cubelet_in q.view q.right q.up 1) in
     let beside = is_solid_column kind q.view q.right (suc q.up) in
-    let both = and_parts (in_right && in_up) (void && beside) (passes (is_void_column kind) (void_columns kind) q (are_void_columns kind) k) in
+    let both = and_parts (in_right && in_up) (void && beside) (passes_all (is_void_column kind) (void_columns kind) q (are_void_columns kind) k) in
     let places = and_parts in_right in_up both.0 in
     let kinds = and_parts void beside both.1 in
     record { right = ltb-true q.right (cube_side kind) places.0; up = ltb-true (suc q.up) (cube_side kind) places.1; void = kinds.0; beside = kinds.1 }

@@ -21,12 +21,11 @@ use Rattle.solid_model.specs.Runs.{IsRun, IsDrawing, DrawingRuns, view_runs, run
 use Rattle.solid_model.specs.Segments.{segment_at}
 use Rattle.solid_model.proofs.InGrid.{between_members, gap_or_none}
 use Rattle.solid_model.proofs.Lists.{each-at, each-from}
-use Rattle.solid_model.proofs.RunStyles.{run_stretch}
+use Rattle.solid_model.proofs.RunStyles.{run_stretch, in_runs}
 use Rattle.solid_model.proofs.Sheets.{same_style-one}
 use Rattle.solid_model.proofs.UnionDrawing.{in_grid_or_not, union_on_grid}
 use Rattle.redraw.specs.Files.{IsFarEnd, IsSheetOf, IsFileOf, right_on_sheet, up_on_sheet, run_line, sheet_lines}
 use Rattle.redraw.proofs.RunsOnGrid.{begins_on_grid}
-use Rattle.redraw.proofs.SheetDrawing.{style_at}
 use Rattle.redraw.proofs.SheetLines.{run_of_line}
 use Rattle.read_back.specs.ReadBack.{IsInReach, ReadsBack}
 use Rattle.read_back.proofs.Written.{written_reads_back, drawing_as_it_is}
@@ -79,7 +78,7 @@ module _ (coordinates : Coordinates) (ascends : (a : Axis) → Ascends ◌<ℤ�
 
       -- the runs show what the solid draws
       shows : (j z : ℤ) → run_style rs j z ≡ solid_drawing s (segment_at v upright z j)
-      shows j z = sym (style_at d v upright z j) ∙ sheet.runs.show (segment_at v upright z j)
+      shows j z = sym (in_runs d v upright z j) ∙ sheet.runs.show (segment_at v upright z j)
 
       module _ (r : Run) (k : Member rs r) where
         is_run : IsRun r

@@ -1,6 +1,6 @@
 -- Made drawings stay within the limits of a search: the blocks of their grids are those of their rows, which are few, and so are
 -- their live prefixes and the solids that match them.
-use Rattle.std.proofs.Common.{◌≡◌, ℕ, zero, suc, ◌*◌, ◌≤◌, List, [], ◌∷◌, Bool, true, not, ◌&&◌, length, Option, refl, ap, subst, drop, arith}
+use Rattle.std.proofs.Common.{◌≡◌, ℕ, zero, suc, ◌*◌, ◌≤◌, List, [], Bool, true, not, ◌&&◌, length, Option, refl, subst, drop, arith}
 use Rattle.drawing_maker.specs.declared.cube.Kind.{Kind}
 use Rattle.drawing_maker.specs.declared.cube.Kind.TheVariants.{UnitCube, HollowCube, EightVoids}
 use Rattle.drawing_maker.specs.Made.{generator_of, has_eight_voids, later_cubes, made_cubes, made_solid}
@@ -21,10 +21,9 @@ use Rattle.solid_model.specs.declared.cell.Axis.{Axis}
 use Rattle.solid_model.specs.declared.cell.Axis.TheVariants.{X, Y, Z}
 use Rattle.solid_model.specs.declared.cell.Cell.{Cell}
 use Rattle.solid_model.specs.Blocks.{AreBlocksOf, IsBlocksOf, ProblemParts}
-use Rattle.solid_model.specs.Choices.{AreSolidsOfChoices, IsMatchingChoice}
+use Rattle.solid_model.specs.Choices.{IsMatchingChoice}
 use Rattle.solid_model.specs.Demands.{is_live}
 use Rattle.solid_model.specs.DrawnStyle.{solid_drawing}
-use Rattle.solid_model.specs.Grid.{Coordinates}
 use Rattle.solid_model.specs.Limits.{most_blocks}
 use Rattle.solid_model.specs.Matching.{AreSolidsOf}
 use Rattle.solid_model.specs.Panels.{GridParts, coordinates_of, IsGridOf}

@@ -1,6 +1,6 @@
 -- Where the cubes of a row stand among its parts, counted by number along an axis, and where their blocks begin: each where
 -- those before it end, so that what two cubes have doesn't overlap.
-use Rattle.std.proofs.Common.{◌≡◌, inl, inr, true, false, nat_lt, ℕ, suc, ◌+◌, ◌-◌, ◌<◌, ◌≤◌, List, [], ◌∷◌, ◌++◌, map, drop, get_or, Option, Some, None, ℤ, pos, negsuc, if◌then◌else◌, refl, ap, sym, subst, ◌∙◌, arith}
+use Rattle.std.proofs.Common.{◌≡◌, inl, inr, true, false, nat_lt, ℕ, suc, ◌+◌, ◌-◌, ◌<◌, ◌≤◌, List, [], ◌∷◌, ◌++◌, map, drop, get_or, Some, None, if◌then◌else◌, refl, ap, sym, subst, ◌∙◌, arith}
 use Rattle.std.specs.List.{range_with_len}
 use Rattle.std.proofs.lemmas.Bool.{cases_lt}
 use Rattle.std.proofs.lemmas.List.{get_or_append_left, get_or-append-add}
@@ -17,7 +17,7 @@ use Rattle.drawing_maker.specs.Cubes.{cube_side}
 use Rattle.made_laws.specs.RowBlocks.{block_count, blocks_before, row_block_count}
 use Rattle.drawing_maker.specs.Rows.{tick_after, row_ticks}
 use Rattle.drawing_maker.proofs.Rows.{EndsBefore, IsRow, row_behind}
-use Rattle.drawing_maker.proofs.RowTicks.{before_at, part_at, no_tick}
+use Rattle.drawing_maker.proofs.RowTicks.{before_at, no_tick}
 
 -- ---- sums over the cubes that begin before a coordinate
 

@@ -1,5 +1,5 @@
 -- From the end of a search, and what is told of it, to what is answered.
-use Rattle.std.proofs.Common.{◌≡◌, ℕ, zero, suc, ◌+◌, ◌<◌, ◌≤◌, List, [], ◌∷◌, ◌++◌, Bool, length, take, Option, refl, sym, ap, subst, ◌∙◌, arith}
+use Rattle.std.proofs.Common.{◌≡◌, ℕ, zero, suc, ◌+◌, ◌<◌, ◌≤◌, List, [], ◌∷◌, ◌++◌, Bool, length, take, refl, sym, ap, subst, ◌∙◌, arith}
 use Rattle.line_demands.proofs.LivePrefixes.{live_keeps_matching}
 use Rattle.recon_run.specs.declared.status.Found.TheVariants.{Ended}
 use Rattle.recon_run.specs.Answers.{node_count, HasProblem, CanEnd, AreListed, ListedSolids, TellsSolids, IsSolved, IsBegun}
@@ -16,7 +16,6 @@ use Rattle.solid_model.specs.Cells.{is_full}
 use Rattle.solid_model.specs.Choices.{AreChoicesThat, cells_of_choice, IsMatchingChoice, AreSolidsOfChoices}
 use Rattle.solid_model.specs.Demands.{is_live}
 use Rattle.solid_model.specs.Drawings.{drawing_of}
-use Rattle.solid_model.specs.Grid.{Coordinates}
 use Rattle.solid_model.specs.Lists.{Member, Each}
 use Rattle.solid_model.specs.Matching.{Matches, AreSolidsOf, AreSomeSolidsOf}
 use Rattle.solid_model.specs.Orders.{IsInStatedForm}

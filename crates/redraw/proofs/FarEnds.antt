@@ -1,5 +1,5 @@
 -- How far a solid reaches is seen in a view: an outermost full cell draws an outermost edge.
-use Rattle.std.proofs.Common.{◌≡◌, ◌≢◌, ◌⊎◌, inl, inr, ⊎_elim, Bool, true, false, suc, ◌-◌, ◌<◌, List, [], ◌∷◌, length, get_or, ℤ, pos, ◌-ℤ◌, ◌≤ℤ◌, ◌<ℤ◌, IsTrue, refl, sym, ap, subst, ◌∙◌, arith}
+use Rattle.std.proofs.Common.{◌≡◌, ◌≢◌, ◌⊎◌, inl, inr, ⊎_elim, Bool, suc, ◌-◌, ◌<◌, List, [], ◌∷◌, length, get_or, ℤ, pos, ◌-ℤ◌, ◌≤ℤ◌, ◌<ℤ◌, IsTrue, refl, sym, ap, subst, ◌∙◌, arith}
 use Rattle.std.proofs.lemmas.Int.{ints}
 use Rattle.solid_model.specs.declared.cell.Axis.{Axis}
 use Rattle.solid_model.specs.declared.cell.Cell.{Cell}
@@ -15,11 +15,11 @@ use Rattle.solid_model.specs.DrawnStyle.{solid_drawing}
 use Rattle.solid_model.specs.Frames.{frame_of, across}
 use Rattle.solid_model.specs.Lists.{Member}
 use Rattle.solid_model.specs.Runs.{run_style, IsRun, AreRuns}
-use Rattle.solid_model.specs.Segments.{line_of, segment_at}
+use Rattle.solid_model.specs.Segments.{segment_at}
 use Rattle.solid_model.proofs.Lists.{each-at}
 use Rattle.solid_model.proofs.RunStyles.{covers_parts, covering_run}
 use Rattle.solid_model.proofs.Styles.{edge_not_blank, drawn_style_drawn, cell_beside_drawn}
-use Rattle.solid_model.proofs.Views.{views_are_frames, stands_forward, forward_cell}
+use Rattle.solid_model.proofs.Views.{views_are_frames, stands_forward, forward_cell, line_at}
 use Rattle.solid_model.proofs.WithinViews.{Greatest, IsOutermost, outermost}
 use Rattle.redraw.specs.Files.{IsFarEnd}
 use Rattle.redraw.specs.GridRuns.{last_line}
@@ -46,11 +46,6 @@ one_far_end full a far too h k =
     let there = k.within h.reached.0 h.reached.1 in
     let back = h.within k.reached.0 k.reached.1 in
     omega (arith, ints, h.reached.2, k.reached.2)
-
--- the line of a segment is the one on which it was put
-line_at : (v : View) (upright : Bool) (start line : ℤ) → line_of (segment_at v upright start line) ≡ line
-line_at v true start line = refl
-line_at v false start line = refl
 
 module _ (v : View) (upright : Bool) (s : List Cell) where
   abbrev frame : Frame

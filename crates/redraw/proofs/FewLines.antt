@@ -21,10 +21,10 @@ use Rattle.solid_model.proofs.InGrid.{between_members}
 use Rattle.solid_model.proofs.Lists.{each-at, each-from}
 use Rattle.solid_model.proofs.SomeGrid.{coordinate_near}
 use Rattle.solid_model.proofs.UnionDrawing.{in_grid_or_not, union_on_grid}
+use Rattle.solid_model.proofs.RunStyles.{in_runs}
 use Rattle.redraw.specs.Files.{IsFarEnd, IsSheetOf, right_on_sheet, up_on_sheet, run_line, placed_lines, sheet_lines}
 use Rattle.redraw.specs.Sheets.{IsNotNegative, IsDrawnLine}
 use Rattle.redraw.proofs.RunsOnGrid.{begins_on_grid, few_runs}
-use Rattle.redraw.proofs.SheetDrawing.{style_at}
 use Rattle.redraw.proofs.SheetLines.{run_of_line}
 
 -- ---- each line is straight and drawn
@@ -80,7 +80,7 @@ module _ (coordinates : Coordinates) (are : AreFewCoordinates coordinates) (chos
     (far_x far_z : ℤ) (d : DrawingRuns) (sheet : IsSheetOf s far_x far_z d) where
   -- a list of runs shows what the solid draws
   shows : (v : View) (upright : Bool) (j z : ℤ) → run_style (runs_along upright (view_runs v d)) j z ≡ solid_drawing s (segment_at v upright z j)
-  shows v upright j z = sym (style_at d v upright z j) ∙ sheet.runs.show (segment_at v upright z j)
+  shows v upright j z = sym (in_runs d v upright z j) ∙ sheet.runs.show (segment_at v upright z j)
 
   few_along : (v : View) (upright : Bool) → length (runs_along upright (view_runs v d)) ≤ 4096
   few_along v upright = few_runs coordinates are.ascends (solid_drawing s) (union_on_grid coordinates are.ascends chosen s union)

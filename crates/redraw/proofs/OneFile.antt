@@ -1,5 +1,5 @@
 -- A drawing has one written file.
-use Rattle.std.proofs.Common.{◌≡◌, Bool, true, false, ℕ, List, ℤ, refl, sym, ◌∙◌}
+use Rattle.std.proofs.Common.{◌≡◌, Bool, true, false, ℕ, List, sym, ◌∙◌}
 use Rattle.solid_model.specs.declared.cell.Cell.{Cell}
 use Rattle.solid_model.specs.declared.frame.View.{View}
 use Rattle.solid_model.specs.declared.frame.View.TheVariants.{Front, Top, Side}
@@ -9,8 +9,7 @@ use Rattle.solid_model.specs.Cells.{is_full, SameCells}
 use Rattle.solid_model.specs.DrawnStyle.{solid_drawing}
 use Rattle.solid_model.specs.Frames.{frame_of}
 use Rattle.solid_model.specs.Matching.{Matches}
-use Rattle.solid_model.specs.Runs.{run_style, DrawingRuns, view_runs, runs_along, style_in}
-use Rattle.solid_model.specs.Segments.{segment_at}
+use Rattle.solid_model.specs.Runs.{DrawingRuns, view_runs, runs_along}
 use Rattle.solid_model.proofs.GridMatching.{matching_draws_it}
 use Rattle.solid_model.proofs.RunStyles.{same_styles_one_list, in_runs}
 use Rattle.solid_model.proofs.Styles.{one_style, same_drawing, drawn_style_drawn}

@@ -12,19 +12,13 @@ use Rattle.solid_model.specs.Drawings.{same_view, has_length, covering_lines, ex
 use Rattle.solid_model.specs.Line.{Line}
 use Rattle.solid_model.specs.Lists.{Member}
 use Rattle.solid_model.specs.Moved.{BeginsAt, IsMovedToZero}
-use Rattle.solid_model.specs.Runs.{run_style, DrawingRuns, view_runs, runs_along, style_in}
+use Rattle.solid_model.specs.Runs.{DrawingRuns, view_runs, runs_along}
 use Rattle.solid_model.specs.Segments.{segment_at, along_of, across_of, farther}
 use Rattle.solid_model.proofs.Lists.{each-at, member-map, member-from_map, member-from_filter}
-use Rattle.solid_model.proofs.RunStyles.{covers_from}
+use Rattle.solid_model.proofs.RunStyles.{covers_from, in_runs}
 use Rattle.solid_model.proofs.Sheets.{least_member_of, same_view-true, drawn_line, covered_from_style, sheet_stands_from}
 use Rattle.redraw.specs.Files.{AreRunsOf, right_on_sheet, up_on_sheet, sheet_lines}
 use Rattle.redraw.proofs.SheetLines.{run_of_line, style_of_run, sheet_shows}
-
--- the style that runs give the segment at which one of them begins
-pub style_at : (d : DrawingRuns) (v : View) (upright : Bool) (start line : ℤ)
-    → style_in d (segment_at v upright start line) ≡ run_style (runs_along upright (view_runs v d)) line start
-style_at d v true start line = refl
-style_at d v false start line = refl
 
 -- the ends of a line that begins at a place or beyond, moved from it
 ends_from : (upright : Bool) (at from to right up far high x y : ℤ) → from <ℤ to → right ≡ far → up ≡ high
@@ -54,7 +48,7 @@ module _ (far_x far_z : ℤ) (d : DrawingRuns) (drawing : Segment → Style) (ar
   pub run_drawn : (v : View) (upright : Bool) (r : Run) → Member (runs_along upright (view_runs v d)) r → drawing (segment_at v upright r.from r.at) ≡ r.style
   run_drawn v upright r k =
       let is_run = each-at _ _ r (are.runs v upright).0 k in
-      sym (are.show (segment_at v upright r.from r.at)) ∙ style_at d v upright r.from r.at
+      sym (are.show (segment_at v upright r.from r.at)) ∙ in_runs d v upright r.from r.at
       ∙ sym (style_of_run (runs_along upright (view_runs v d)) (are.runs v upright) r k r.at r.from refl
       (covers_from r r.from (omega (arith, ints)) is_run.0))
 

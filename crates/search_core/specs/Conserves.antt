@@ -1,5 +1,5 @@
 -- What a search conserves: no live prefix and no choice is lost, and none counts twice.
-use Rattle.std.specs.Prelude.{◌≡◌, ◌≢◌, ◌≤◌, ◌<◌, ◌+◌, Bool, ℕ, List, [], ◌++◌, length, map, sum, Option, Some, None, IsPermutation, IsTrue}
+use Rattle.std.specs.Prelude.{◌≡◌, ◌≢◌, ◌≤◌, ◌<◌, ◌+◌, ℕ, [], ◌++◌, length, map, sum, Option, Some, None, IsPermutation}
 use Rattle.std.specs.List.{flat_map}
 use Rattle.solid_model.specs.declared.ended.EndKind.{EndKind}
 use Rattle.solid_model.specs.declared.ended.EndKind.TheVariants.{Whole, CutNodes, CutSolids}

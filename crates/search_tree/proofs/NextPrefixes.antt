@@ -1,7 +1,7 @@
 -- What is left where a walk stands, and what is next to the opened prefixes.
-use Rattle.std.proofs.Common.{◌≡◌, ◌⊎◌, inl, inr, ⊎_elim, Bool, true, false, ℕ, zero, suc, ◌-◌, ◌<◌, ◌≤◌, List, [], ◌∷◌, ◌++◌, length, take, drop, filter, map, cond, IsTrue, refl, sym, ◌∙◌, ap, ap₂, subst, append-nil, append_assoc, length-append, take-append-drop, arith}
+use Rattle.std.proofs.Common.{◌≡◌, ◌⊎◌, inl, inr, ⊎_elim, Bool, true, false, ℕ, zero, suc, ◌-◌, ◌<◌, ◌≤◌, List, [], ◌∷◌, ◌++◌, length, take, drop, filter, cond, IsTrue, refl, sym, ◌∙◌, ap, ap₂, subst, append-nil, append_assoc, length-append, take-append-drop, arith}
 use Rattle.std.specs.List.{flat_map}
-use Rattle.std.proofs.lemmas.List.{take-append-le, drop-append-le, take_at, map-append}
+use Rattle.std.proofs.lemmas.List.{take-append-le, drop-append-le, take_at}
 use Rattle.std.proofs.lemmas.List.Elements.{filter-append}
 use Rattle.std.proofs.lemmas.Bool.{cases_lt, false_from_ne_true}
 use Rattle.std.proofs.lemmas.Grind.{flat_map-append}

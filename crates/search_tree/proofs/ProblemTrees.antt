@@ -1,5 +1,5 @@
 -- What decisions on the first blocks say is what the prefix says.
-use Rattle.std.proofs.Common.{◌≡◌, Bool, true, false, ℕ, zero, suc, ◌+◌, ◌<◌, ◌≤◌, ◌==◌, List, [], ◌∷◌, ◌++◌, length, ℤ, pos, ◌-ℤ◌, Option, Some, None, is_some, is_none, not, IsTrue, ◌↔◌, refl, sym, ◌∙◌, ap, ap₂, subst, add-zero, zero-add, length-append, arith}
+use Rattle.std.proofs.Common.{◌≡◌, Bool, true, false, ℕ, zero, suc, ◌+◌, ◌<◌, ◌≤◌, ◌==◌, List, [], ◌∷◌, ◌++◌, length, Option, Some, None, is_some, is_none, not, IsTrue, ◌↔◌, refl, sym, ◌∙◌, ap, ap₂, subst, add-zero, zero-add, length-append, arith}
 use Rattle.std.proofs.lemmas.Bool.{false_from_ne_true, eq-eqb, ne_eqb}
 use Rattle.std.proofs.lemmas.List.{same_from_push}
 use Rattle.std.proofs.lemmas.Option.{none-some}
@@ -7,7 +7,7 @@ use Rattle.line_demands.specs.declared.partial.Decision.{Decision}
 use Rattle.line_demands.specs.Decisions.{decided_by, PartialParts}
 use Rattle.solid_model.specs.declared.line_id.LineId.{LineId}
 use Rattle.solid_model.specs.Blocks.{ProblemParts}
-use Rattle.solid_model.specs.Demands.{has_line, said_by, known_cell, known_column, AgreesWith, CanBeMet, IsLive, is_live}
+use Rattle.solid_model.specs.Demands.{has_line, said_by, CanBeMet, is_live}
 use Rattle.columns.proofs.MetLines.{AreSized, live_computed}
 use Rattle.search_tree.specs.BlockPaths.{decisions_of, IsPath}
 

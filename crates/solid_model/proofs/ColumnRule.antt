@@ -72,6 +72,11 @@ equal_columns f is full g same k edge =
     ∙ no_edge_between (column_after f full g k) (column_after f full g (k -ℤ pos 1)))
     (sym (has_edge_is f is full g k) ∙ edge)
 
+-- a column has one first full depth
+pub one_first : (column : ℤ → Bool) (k m : ℤ) → IsFirstFull column k → IsFirstFull column m → k ≡ m
+one_first column k m first here = by_lt_z k m (λ l. absurd (both_ways (column k) (here.1 k l) first.0))
+    (λ l. by_lt_z m k (λ l'. absurd (both_ways (column m) (first.1 m l') here.0)) (λ l'. omega (arith, ints)))
+
 module _ (f : Frame) (is : IsFrame f) (s : List Cell) (g : Segment) where
   abbrev after : ℤ → Bool
   after = column_after f (is_full s) g

@@ -1,5 +1,6 @@
 pub mod Integers
 pub mod Lists
+pub mod Tests
 pub mod ListPlaces
 pub mod Ranges
 pub mod Concatenations

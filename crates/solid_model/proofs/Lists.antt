@@ -1,5 +1,5 @@
 -- Facts of lists: members, what holds of each, ascending lists, and a least member.
-use Rattle.std.proofs.Common.{◌≡◌, ◌⊎◌, inl, inr, ℕ, zero, suc, ◌<◌, ◌*◌, Bool, true, false, cond, List, [], ◌∷◌, ◌++◌, map, filter, ℤ, ◌≤ℤ◌, length, length-append, refl, sym, ◌∙◌, ap, ap₂, subst, arith}
+use Rattle.std.proofs.Common.{◌≡◌, ◌⊎◌, inl, inr, ℕ, zero, suc, ◌<◌, Bool, true, false, cond, List, [], ◌∷◌, ◌++◌, map, filter, ℤ, ◌≤ℤ◌, refl, sym, ◌∙◌, ap, ap₂, subst, arith}
 use Rattle.std.proofs.lemmas.Int.{ints, by_lt_z}
 use Rattle.std.proofs.lemmas.Bool.{both_ways, cases_lt}
 use Rattle.solid_model.specs.Lists.{Member, Each, Ascends}

@@ -15,21 +15,22 @@ use Rattle.solid_model.proofs.Lists.{each-from, ascends-append, member-append_le
 
 module _ (drawing : Segment → Style) (is : IsDrawing drawing) where
   -- where a segment is drawn, its line and its beginning lie between 0 and the farthest coordinate
-  record LiesNear (start line : ℤ) : Type 0 where
-    start_from : pos 0 ≤ℤ start
-    start_to : start <ℤ pos 2000000000
-    line_from : pos 0 ≤ℤ line
-    line_to : line ≤ℤ pos 2000000000
+  pub record LiesNear (start line : ℤ) : Type 0 where
+    pub from : pos 0 ≤ℤ start
+    pub to : start <ℤ pos 2000000000
+    pub line_from : pos 0 ≤ℤ line
+    pub line_to : line ≤ℤ pos 2000000000
 
-  drawn_near : (v : View) (upright : Bool) (start line : ℤ) → drawing (segment_at v upright start line) ≢ Blank → LiesNear start line
+  -- what is drawn lies near
+  pub drawn_near : (v : View) (upright : Bool) (start line : ℤ) → drawing (segment_at v upright start line) ≢ Blank → LiesNear start line
   drawn_near v true start line drawn =
       let begins = (is.begins v).stands_from (segment_at v true start line) refl drawn in
       let ends = is.near (segment_at v true start line) drawn in
-      record { start_from = begins.1; start_to = omega (arith, ints, ends.1); line_from = begins.0; line_to = ends.0 }
+      record { from = begins.1; to = omega (arith, ints, ends.1); line_from = begins.0; line_to = ends.0 }
   drawn_near v false start line drawn =
       let begins = (is.begins v).stands_from (segment_at v false start line) refl drawn in
       let ends = is.near (segment_at v false start line) drawn in
-      record { start_from = begins.0; start_to = omega (arith, ints, ends.0); line_from = begins.1; line_to = ends.1 }
+      record { from = begins.0; to = omega (arith, ints, ends.0); line_from = begins.1; line_to = ends.1 }
 
   -- a grid coordinate lies there too
   pub coordinate_near : (a : Axis) (z : ℤ) → IsGridCoordinate drawing a z → (pos 0 ≤ℤ z) × (z ≤ℤ pos 2000000000)
@@ -41,8 +42,8 @@ module _ (drawing : Segment → Style) (is : IsDrawing drawing) where
       changes : ChangesAt drawing v upright z → (pos 0 ≤ℤ z) × (z ≤ℤ pos 2000000000)
       changes (line, differ) = ⊎_elim
           (λ blank. ⊎_elim (λ blank_too. absurd (differ (blank ∙ sym blank_too)))
-          (λ drawn. let near = drawn_near v upright z line drawn in (near.start_from, omega (arith, ints, near.start_to))) (blank_or_drawn (drawing (segment_at v upright z line))))
-          (λ drawn. let near = drawn_near v upright (z -ℤ pos 1) line drawn in (omega (arith, ints, near.start_from), omega (arith, ints, near.start_to)))
+          (λ drawn. let near = drawn_near v upright z line drawn in (near.from, omega (arith, ints, near.to))) (blank_or_drawn (drawing (segment_at v upright z line))))
+          (λ drawn. let near = drawn_near v upright (z -ℤ pos 1) line drawn in (omega (arith, ints, near.from), omega (arith, ints, near.to)))
           (blank_or_drawn (drawing (segment_at v upright (z -ℤ pos 1) line)))
 
   -- the grid coordinates below n

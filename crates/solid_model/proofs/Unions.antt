@@ -1,8 +1,7 @@
 -- Unions of grid cells: their unit cells in a list, and each matching solid as such a union.
-use Rattle.std.proofs.Common.{◌≡◌, ◌⊎◌, inl, inr, ⊎_elim, Bool, true, false, ℕ, zero, suc, ◌+◌, ◌*◌, ◌<◌, List, [], ◌∷◌, ◌++◌, length, map, filter, get_or, slice_index_or, ℤ, pos, negsuc, ◌+ℤ◌, ◌-ℤ◌, ◌≤ℤ◌, ◌<ℤ◌, int_lt, int_le, IsTrue, refl, ap, ap₂, sym, subst, ◌∙◌, arith}
+use Rattle.std.proofs.Common.{◌≡◌, ◌⊎◌, inl, inr, ⊎_elim, Bool, true, false, ℕ, zero, suc, ◌+◌, ◌*◌, ◌<◌, List, [], ◌∷◌, ◌++◌, length, filter, slice_index_or, ℤ, pos, negsuc, ◌+ℤ◌, ◌-ℤ◌, ◌≤ℤ◌, ◌<ℤ◌, int_lt, int_le, IsTrue, refl, ap, sym, subst, ◌∙◌, arith}
 use Rattle.std.proofs.lemmas.Bool.{false≢true, both_ways, and_parts, false_from_ne_true}
 use Rattle.std.proofs.lemmas.Int.{ints, by_lt_z}
-use Rattle.std.proofs.lemmas.List.{length-append, length-map, get_or_append_left, get_or-append-add, get_or-map}
 use Rattle.solid_model.specs.declared.cell.Axis.{Axis}
 use Rattle.solid_model.specs.declared.cell.Axis.TheVariants.{X, Y, Z}
 use Rattle.solid_model.specs.declared.cell.Cell.{Cell}
@@ -11,7 +10,7 @@ use Rattle.solid_model.specs.Grid.{Coordinates, GridCell, is_in_gap, LiesInGridC
 use Rattle.solid_model.specs.Lists.{Member, Ascends}
 use Rattle.solid_model.proofs.Concatenations.{over_triples, member-over_triples, member-from_over_triples, length-over_triples}
 use Rattle.solid_model.proofs.Fullness.{is_full-member, member-is_full}
-use Rattle.solid_model.proofs.Lists.{member-append_left, member-append_right, member-map, member-filter, member-from_filter}
+use Rattle.solid_model.proofs.Lists.{member-append_left, member-append_right, member-filter, member-from_filter}
 use Rattle.solid_model.proofs.UnionDrawing.{one_gap, in_grid_or_not}
 
 -- ---- lists over three axes

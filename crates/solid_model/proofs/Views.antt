@@ -184,12 +184,13 @@ point_on_twice d z = turned d.forward
     turned true = refl
     turned false = omega (arith, ints)
 
--- the segment that begins at i along its way, on the line j across it
+-- the segment that begins at i along its way, on the line j across it, begins there
 start_at : (v : View) (upright : Bool) (i j : ℤ) → start_of (segment_at v upright i j) ≡ i
 start_at v true i j = refl
 start_at v false i j = refl
 
-line_at : (v : View) (upright : Bool) (i j : ℤ) → line_of (segment_at v upright i j) ≡ j
+-- and lies on that line
+pub line_at : (v : View) (upright : Bool) (i j : ℤ) → line_of (segment_at v upright i j) ≡ j
 line_at v true i j = refl
 line_at v false i j = refl
 

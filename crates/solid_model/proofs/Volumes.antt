@@ -1,5 +1,5 @@
 -- The unit cells of a union of grid cells, grid cell by grid cell: as many as its volume.
-use Rattle.std.proofs.Common.{◌≡◌, ◌≢◌, ◌⊎◌, inl, inr, Bool, true, false, if◌then◌else◌, ℕ, zero, suc, ◌+◌, ◌*◌, ◌<◌, List, [], ◌∷◌, length, length-append, map, slice_index_or, ℤ, pos, ◌+ℤ◌, ◌-ℤ◌, ◌≤ℤ◌, ◌<ℤ◌, unsigned_abs, IsTrue, refl, ap, ap₂, sym, subst, ◌∙◌, arith}
+use Rattle.std.proofs.Common.{◌≡◌, ◌≢◌, ◌⊎◌, inl, inr, Bool, true, false, if◌then◌else◌, ℕ, zero, suc, ◌+◌, ◌*◌, ◌<◌, List, [], length, length-append, slice_index_or, ℤ, pos, ◌+ℤ◌, ◌-ℤ◌, ◌≤ℤ◌, ◌<ℤ◌, unsigned_abs, IsTrue, refl, ap, ap₂, sym, subst, ◌∙◌, arith}
 use Rattle.std.proofs.lemmas.Bool.{both_ways}
 use Rattle.std.proofs.lemmas.Int.{ints}
 use Rattle.solid_model.specs.declared.cell.Axis.{Axis}
@@ -8,7 +8,7 @@ use Rattle.solid_model.specs.declared.cell.Cell.{Cell}
 use Rattle.solid_model.specs.Cells.{coordinate, cell_at, is_full}
 use Rattle.solid_model.specs.Grid.{Coordinates, GridCell, is_in_gap, LiesInGridCell, LiesInGrid, gaps_along, grid_cell_count, grid_cell_place, IsUnionOf}
 use Rattle.solid_model.specs.Lists.{Member, Ascends}
-use Rattle.solid_model.proofs.Lists.{appended, member-append, member-from_map, each-from, member-appended, member-from_appended, ascends-appended}
+use Rattle.solid_model.proofs.Lists.{appended, each-from, member-appended, member-from_appended, ascends-appended}
 use Rattle.solid_model.specs.Orders.{ComesBefore, IsInStatedForm}
 use Rattle.solid_model.specs.Rooms.{place_of_number, box_place}
 use Rattle.solid_model.specs.Volumes.{gap_width, grid_cell_volume, grid_cell_at, volume_below, volume_of}

@@ -3,7 +3,7 @@ use Rattle.std.proofs.Common.{◌∙◌, arith}
 use Rattle.solid_model.specs.PerAxis.{numbers_of, cell_of}
 use Rattle.solid_model.specs.Rooms.{is_within, box_place}
 use Rattle.solid_model.proofs.BoxPlaces.{few_numbers}
-use Rattle.flood.proofs.RingPassages.{outer-within}
+use Rattle.flood.proofs.RingPlaces.{outer-within}
 use Rattle.flood.proofs.RingPlaces.{within-ringed}
 use Rattle.flood.proofs.rooms.node_of.Goals as goal
 

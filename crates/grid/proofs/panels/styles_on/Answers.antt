@@ -1,4 +1,4 @@
-use Rattle.std.proofs.Common.{◌++◌, [], ◌∷◌, map, take, get_or, w64, ℤ, pos, sym, ap, ap₂, ◌∙◌, rules}
+use Rattle.std.proofs.Common.{◌++◌, [], map, take, get_or, w64, ℤ, pos, sym, ap, ap₂, ◌∙◌, rules}
 use Rattle.std.specs.List.{flat_map}
 use Rattle.std.proofs.lemmas.Int.{to_z-of_z}
 use Rattle.std.proofs.lemmas.List.{flat_map_more, take_more}

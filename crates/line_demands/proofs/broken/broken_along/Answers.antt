@@ -1,5 +1,5 @@
 -- A position more at which all can be met, or the first broken line.
-use Rattle.std.proofs.Common.{◌≡◌, ◌<◌, suc, map, None, ap, subst, ◌∙◌, arith}
+use Rattle.std.proofs.Common.{◌≡◌, ◌<◌, suc, None, ap, subst, ◌∙◌, arith}
 use Rattle.std.specs.List.{flat_map, range_with_len}
 use Rattle.line_demands.specs.Broken.{TellsBroken}
 use Rattle.line_demands.specs.Decisions.{decided_by}

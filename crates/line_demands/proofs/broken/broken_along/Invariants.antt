@@ -1,5 +1,5 @@
 -- All lines at the positions so far can be met.
-use Rattle.std.proofs.Common.{map, None}
+use Rattle.std.proofs.Common.{None}
 use Rattle.std.specs.List.{flat_map, range_with_len}
 use Rattle.line_demands.specs.Broken.{TellsBroken}
 use Rattle.line_demands.specs.Decisions.{decided_by}
