@@ -1,7 +1,7 @@
 //! `recon`: solids from three-view drawings.
 #![tactic(auto)]
 
-use recon_run::{Stop, run};
+use recon_run::{Failure, run};
 use std::process::ExitCode;
 use std::rt::Env;
 use std::{env, io};
@@ -21,7 +21,7 @@ fn main(rt: HostRuntime) -> ExitCode {
         Ok(words) => words,
         // An argument that isn't text is none that is taken, and none at all gives the same answer.
         Err(error) if error.kind() == io::ErrorKind::InvalidData => Vec::new(rt.alloc()),
-        Err(_) => return ExitCode::from(Stop::Memory.code()),
+        Err(_) => return ExitCode::from(Failure::Memory.code()),
     };
     let mut source = StdSource::new(rt.stdin());
     let mut sink = StdSink::new(rt.stdout());

@@ -3,8 +3,8 @@ use Rattle.std.proofs.Common.{◌≡◌, refl, inl, inr, ℕ, List, Option, Some
 use Rattle.std.specs.Io.KnownBytes.{Keeps}
 use Rattle.recon_run.specs.declared.solve.Finding.{Finding}
 use Rattle.recon_run.specs.declared.status.Answer.{Answer}
-use Rattle.recon_run.specs.declared.status.Stop.{Stop}
-use Rattle.recon_run.specs.declared.status.Stop.TheVariants.{ReadFault, WriteFault, Memory}
+use Rattle.recon_run.specs.declared.status.Failure.{Failure}
+use Rattle.recon_run.specs.declared.status.Failure.TheVariants.{ReadFault, WriteFault, Memory}
 use Rattle.recon_run.specs.Endings.{Ends}
 use Rattle.recon_run.specs.Findings.{AnswersFinding, EndsWriting, IsReply}
 use Rattle.recon_run.specs.Owed.{AnswersOwed, Owed, Search, beginning, begun, searched}
@@ -53,7 +53,7 @@ module _ (s : Search) (left rest : Option (List ℕ)) (source_rose sink_rose : T
 -- ---- faults
 
 -- a writing doesn't fail by the source
-pub never_unread : {A : Type 0} (tells begins : A → List ℕ → Type 0) (held now : Option (List ℕ)) (rose : Type 0) (r : Result A Stop)
+pub never_unread : {A : Type 0} (tells begins : A → List ℕ → Type 0) (held now : Option (List ℕ)) (rose : Type 0) (r : Result A Failure)
     → EndsWriting tells begins held now rose r → r ≡ Err ReadFault → ⊥
 never_unread tells begins held now rose (Ok given) ends e = cc
 never_unread tells begins held now rose (Err ReadFault) ends e = ends

@@ -4,8 +4,8 @@ use Rattle.std.proofs.Math.Seq.{take-append-add}
 use Rattle.std.proofs.Math.Seq.{take-length}
 use Rattle.std.proofs.lemmas.List.{append-nil}
 use Rattle.std.specs.Io.KnownBytes.{Appends, Keeps}
-use Rattle.recon_run.specs.declared.status.Stop.{Stop}
-use Rattle.recon_run.specs.declared.status.Stop.TheVariants.{ReadFault, WriteFault, Memory}
+use Rattle.recon_run.specs.declared.status.Failure.{Failure}
+use Rattle.recon_run.specs.declared.status.Failure.TheVariants.{ReadFault, WriteFault, Memory}
 use Rattle.recon_run.specs.Findings.{TellsChoice, TellsChoices, EndsText, EndsWriting}
 use Rattle.solid_model.specs.Blocks.{ProblemParts}
 use Rattle.tv_base.proofs.Told.{appends_both}
@@ -45,7 +45,7 @@ rose_since before mid now later (inr most) = inr most
 -- a writing that was refused was so whatever it should have told
 pub refused : (A B : Type 0) (tells begins : A → List ℕ → Type 0) (others starts : B → List ℕ → Type 0) (held now : Option (List ℕ)) (rose : Type 0)
     → ((a : A) (text : List ℕ) → begins a text → (b : B) × starts b text)
-    → (stop : Stop) → EndsWriting tells begins held now rose (Err stop) → EndsWriting others starts held now rose (Err stop)
+    → (failure : Failure) → EndsWriting tells begins held now rose (Err failure) → EndsWriting others starts held now rose (Err failure)
 refused A B tells begins others starts held now rose weaker ReadFault ends = ends
 refused A B tells begins others starts held now rose weaker WriteFault (rises, a, text, begun, prefix) =
     let (b, starts_it) = weaker a text begun in (rises, b, text, starts_it, prefix)
@@ -56,7 +56,7 @@ refused A B tells begins others starts held now rose weaker Memory (inr (a, text
 module _ (tells others begins starts : List ℕ → Type 0) (first : List ℕ) (held mid now : Option (List ℕ)) (rose rises : Type 0)
     (appends : Appends held mid first) (since : rose → rises) (both : (text : List ℕ) → begins text → starts (first ++ text)) (alone : starts first) where
   -- after a text that was written whole, a writing is refused as one of both together
-  pub refused_after : (stop : Stop) → EndsText tells begins mid now rose (Err stop) → EndsText others starts held now rises (Err stop)
+  pub refused_after : (failure : Failure) → EndsText tells begins mid now rose (Err failure) → EndsText others starts held now rises (Err failure)
   refused_after ReadFault ends = ends
   refused_after WriteFault (rising, given, text, begun, prefix) =
       (since rising, given, first ++ text, both text begun, prefix_after held mid now first text appends prefix)
@@ -65,10 +65,10 @@ module _ (tells others begins starts : List ℕ → Type 0) (first : List ℕ) (
       inr (given, first ++ text, both text begun, prefix_after held mid now first text appends prefix)
 
   -- and ends as one of both together
-  pub ends_after : ((text : List ℕ) → tells text → others (first ++ text)) → (r : Result (Unit {0}) Stop)
+  pub ends_after : ((text : List ℕ) → tells text → others (first ++ text)) → (r : Result (Unit {0}) Failure)
       → EndsText tells begins mid now rose r → EndsText others starts held now rises r
   ends_after told (Ok given) (text, tells_it, more) = (first ++ text, told text tells_it, appends_both held mid now first text appends more)
-  ends_after told (Err stop) ends = refused_after stop ends
+  ends_after told (Err failure) ends = refused_after failure ends
 
 -- ---- solids
 

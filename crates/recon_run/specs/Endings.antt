@@ -3,11 +3,11 @@ use Rattle.std.specs.Prelude.{◌≡◌, ◌⊎◌, ℕ, List, length, Option, I
 use Rattle.std.specs.Io.KnownBytes.{Appends, Keeps}
 use Rattle.recon_run.specs.declared.status.Answer.{Answer}
 use Rattle.recon_run.specs.declared.status.Answer.TheVariants as answers
-use Rattle.recon_run.specs.declared.status.Stop.{Stop}
-use Rattle.recon_run.specs.declared.status.Stop.TheVariants.{ReadFault, WriteFault, Memory}
+use Rattle.recon_run.specs.declared.status.Failure.{Failure}
+use Rattle.recon_run.specs.declared.status.Failure.TheVariants.{ReadFault, WriteFault, Memory}
 use Rattle.recon_run.specs.Answers.{CanEnd}
-use Rattle.recon_run.specs.Owed.{alone, AnswersOwed, Owed, Search, answer_at, begun, owed, reads_source, searched}
-use Rattle.recon_run.specs.Status.{Status, answer_code, stop_code}
+use Rattle.recon_run.specs.Owed.{AnswersOwed, Owed, Search, answer_at, begun, owed, reads_source, alone, searched}
+use Rattle.recon_run.specs.Status.{Status, answer_code, failure_code}
 use Rattle.solid_model.specs.declared.ended.EndKind.{EndKind}
 use Rattle.tv_base.specs.Pieces.{AppendsPrefix}
 use Rattle.words.specs.Jobs.{job_said}
@@ -39,14 +39,14 @@ Ends o left rest held now source_rose sink_rose (Err Memory) = Keeps held now �
 
 -- ---- which answer is due
 
--- the number is that of this answer, or of a stop, to which every answer yields
-abbrev pub AnswersOrStops : Answer → ℕ → Type 0
-AnswersOrStops answer code = (code ≡ answer_code answer) ⊎ ((stop : Stop) × (code ≡ stop_code stop))
+-- the number is that of this answer, or of a failure, to which every answer yields
+abbrev pub AnswersOrFails : Answer → ℕ → Type 0
+AnswersOrFails answer code = (code ≡ answer_code answer) ⊎ ((failure : Failure) × (code ≡ failure_code failure))
 
--- the number is that of an end whose limits the text keeps or passes so, or of a stop
-abbrev pub EndsOrStops : Search → List ℕ → ℕ → Type 0
-EndsOrStops s t code = ((kind : EndKind) × (c : CanEnd s.limits t kind) × (code ≡ answer_code (answer_at s.whole kind (length c.solids))))
-    ⊎ ((stop : Stop) × (code ≡ stop_code stop))
+-- the number is that of an end whose limits the text keeps or passes so, or of a failure
+abbrev pub EndsOrFails : Search → List ℕ → ℕ → Type 0
+EndsOrFails s t code = ((kind : EndKind) × (c : CanEnd s.limits t kind) × (code ≡ answer_code (answer_at s.whole kind (length c.solids))))
+    ⊎ ((failure : Failure) × (code ≡ failure_code failure))
 
 -- where a search is owed, and the source tells what it had left, this holds of them
 abbrev pub OfSearch : Owed → Option (List ℕ) → (Search → List ℕ → Type 0) → Type 0
@@ -62,4 +62,7 @@ OfAlone (alone answer tells) P = P answer
 abbrev pub IsCut : Answer → Type 0
 IsCut answers.CutNodes = Unit {0}
 IsCut answers.CutSolids = Unit {0}
-IsCut _ = ⊥
+IsCut answers.Done = ⊥
+IsCut answers.Faulty = ⊥
+IsCut answers.Usage = ⊥
+IsCut answers.NoSolid = ⊥

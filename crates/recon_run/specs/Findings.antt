@@ -5,8 +5,8 @@ use Rattle.recon_run.specs.declared.solve.Finding.{Finding}
 use Rattle.recon_run.specs.declared.solve.Finding.TheVariants.{Solids, Fault}
 use Rattle.recon_run.specs.declared.status.Answer.{Answer}
 use Rattle.recon_run.specs.declared.status.Answer.TheVariants as answers
-use Rattle.recon_run.specs.declared.status.Stop.{Stop}
-use Rattle.recon_run.specs.declared.status.Stop.TheVariants.{ReadFault, WriteFault, Memory}
+use Rattle.recon_run.specs.declared.status.Failure.{Failure}
+use Rattle.recon_run.specs.declared.status.Failure.TheVariants.{ReadFault, WriteFault, Memory}
 use Rattle.recon_run.specs.Answers.{IsFileFault, HasProblem}
 use Rattle.recon_run.specs.Owed.{answer_at}
 use Rattle.recon_run.specs.Searched.{SearchedParts}
@@ -126,7 +126,7 @@ IsReply answer text told other = (told ≡ answer) × (other ≡ text)
 
 -- How the writing of a text ends that goes with what is given back: such a text was written; the sink failed, its count rose,
 -- and a prefix of a text that begins so was written; or memory ran out, and such a prefix was written, or nothing.
-abbrev pub EndsWriting : {A : Type 0} → (A → List ℕ → Type 0) → (A → List ℕ → Type 0) → Option (List ℕ) → Option (List ℕ) → Type 0 → Result A Stop → Type 0
+abbrev pub EndsWriting : {A : Type 0} → (A → List ℕ → Type 0) → (A → List ℕ → Type 0) → Option (List ℕ) → Option (List ℕ) → Type 0 → Result A Failure → Type 0
 EndsWriting tells begins held now rose (Ok given) = (text : List ℕ) × tells given text × Appends held now text
 EndsWriting tells begins held now rose (Err ReadFault) = ⊥
 EndsWriting {A} tells begins held now rose (Err WriteFault) = rose × (given : A) × (text : List ℕ) × begins given text × AppendsPrefix held now text
@@ -134,5 +134,5 @@ EndsWriting {A} tells begins held now rose (Err Memory) =
     Keeps held now ⊎ ((given : A) × (text : List ℕ) × begins given text × AppendsPrefix held now text)
 
 -- the same where nothing is given back, and these are the texts
-abbrev pub EndsText : (List ℕ → Type 0) → (List ℕ → Type 0) → Option (List ℕ) → Option (List ℕ) → Type 0 → Result (Unit {0}) Stop → Type 0
+abbrev pub EndsText : (List ℕ → Type 0) → (List ℕ → Type 0) → Option (List ℕ) → Option (List ℕ) → Type 0 → Result (Unit {0}) Failure → Type 0
 EndsText tells begins = EndsWriting (λ _. tells) (λ _. begins)

@@ -2,11 +2,11 @@
 
 ghost use Rattle.std.specs.Prelude.{◌≡◌, ◌≤◌, ◌+◌, false, length, map, string_bytes, Err, Some};
 ghost use Rattle.recon_run.specs.declared.status.Answer.TheVariants as answers;
-ghost use Rattle.recon_run.specs.declared.status.Stop.TheVariants.{ReadFault, WriteFault};
+ghost use Rattle.recon_run.specs.declared.status.Failure.TheVariants.{ReadFault, WriteFault};
 ghost use Rattle.recon_run.specs.Answers.{CanEnd, HasNoFault, IsFileFault};
-ghost use Rattle.recon_run.specs.Endings.{AnswersOrStops, Ends, EndsOrStops, OfAlone, OfSearch, owed_to};
+ghost use Rattle.recon_run.specs.Endings.{AnswersOrFails, Ends, EndsOrFails, OfAlone, OfSearch, owed_to};
 ghost use Rattle.recon_run.specs.Owed.{owed_for, reads_source, search_for_all, search_for_one, searched};
-ghost use Rattle.recon_run.specs.Status.{Status, status_code, stop_code};
+ghost use Rattle.recon_run.specs.Status.{Status, status_code, failure_code};
 ghost use Rattle.redraw.specs.Files.{IsFileOf};
 ghost use Rattle.solid_model.specs.declared.ended.EndKind.TheVariants.{Whole};
 ghost use Rattle.solid_model.specs.declared.fault.Fault.{Fault};
@@ -17,7 +17,7 @@ ghost use Rattle.words.specs.Jobs.{IsCounted};
 
 use crate::reply::redrawn;
 use crate::solve::find;
-use crate::status::{Answer, Status, Stop, code};
+use crate::status::{Answer, Failure, Status, code};
 use crate::trial::{made_file, trial};
 use crate::writing::{write_finding, write_reply};
 use solid_model::Limits;
@@ -102,7 +102,7 @@ fn answer<S: Source, K: Sink>(
     match job_of(alloc, words) {
         Ok(job) => do_job(alloc, job, source, sink),
         Err(WordFault::Usage) => write_reply(Answer::Usage, USAGE.as_bytes(), sink),
-        Err(WordFault::Memory) => Err(Stop::Memory),
+        Err(WordFault::Memory) => Err(Failure::Memory),
     }
 }
 
@@ -117,7 +117,6 @@ fn answer<S: Source, K: Sink>(
 /// 1 where what is searched has a fault, 2 where the arguments aren't taken, 3 or 4 where there are
 /// more live prefixes, or more solids, than their limit, 5 or 6 where the source or the sink failed,
 /// 7 where it ran out of memory, and 8 where there is no solid of the number that `redraw` is given.
-/// The gate isn't passed.
 pub fn run<S: Source, K: Sink, G: Gate>(
     alloc: Global,
     words: &[String],
@@ -132,21 +131,21 @@ pub fn run<S: Source, K: Sink, G: Gate>(
 
     ensures whole { OfSearch (owed_to (map string_bytes words.now)) (S.left source.old)
         (λ s input. (c : CanEnd s.limits input Whole)
-        → AnswersOrStops (s.whole (length c.solids)) result) }
+        → AnswersOrFails (s.whole (length c.solids)) result) }
     ensures ended { OfSearch (owed_to (map string_bytes words.now)) (S.left source.old)
-        (λ s input. HasNoFault input → EndsOrStops s input result) }
+        (λ s input. HasNoFault input → EndsOrFails s input result) }
     ensures fault { OfSearch (owed_to (map string_bytes words.now)) (S.left source.old)
         (λ s input. (fault : Fault) → IsFileFault input fault
-        → AnswersOrStops answers.Faulty result) }
+        → AnswersOrFails answers.Faulty result) }
     ensures alone { OfAlone (owed_to (map string_bytes words.now))
-        (λ answer. AnswersOrStops answer result) }
+        (λ answer. AnswersOrFails answer result) }
 
     ensures unread { reads_source (owed_to (map string_bytes words.now)) ≡ false
         → source.new ≡ source.old }
     ensures within { ReadsWithin (S.left source.old) (S.left source.new) (most_file_bytes + 1) }
-    ensures read_fault { result ≡ stop_code ReadFault
+    ensures read_fault { result ≡ failure_code ReadFault
         → Rose (S.faults source.old) (S.faults source.new) × (sink.new ≡ sink.old) }
-    ensures write_fault { result ≡ stop_code WriteFault
+    ensures write_fault { result ≡ failure_code WriteFault
         → Rose (K.faults sink.old) (K.faults sink.new) }
 {
     code(answer(alloc, words, source, sink))

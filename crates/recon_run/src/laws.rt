@@ -3,7 +3,7 @@
 ghost use Rattle.std.specs.Prelude.{◌≡◌, ◌⊎◌, ℕ, List, Option, Some, Ok, Err};
 ghost use Rattle.recon_run.specs.declared.status.Answer.{Answer};
 ghost use Rattle.recon_run.specs.declared.status.Answer.TheVariants as answers;
-ghost use Rattle.recon_run.specs.declared.status.Stop.TheVariants as stops;
+ghost use Rattle.recon_run.specs.declared.status.Failure.TheVariants as failures;
 ghost use Rattle.recon_run.specs.Answers.{HasNoFault, IsFileFault};
 ghost use Rattle.recon_run.specs.Endings.{Answers, IsCut};
 ghost use Rattle.recon_run.specs.Owed.{AnswersOwed, owed_for};
@@ -18,9 +18,9 @@ pub fn status_numbers()
     ensures usage { status_code (Ok answers.Usage) ≡ 2 }
     ensures cut_nodes { status_code (Ok answers.CutNodes) ≡ 3 }
     ensures cut_solids { status_code (Ok answers.CutSolids) ≡ 4 }
-    ensures read_fault { status_code (Err stops.ReadFault) ≡ 5 }
-    ensures write_fault { status_code (Err stops.WriteFault) ≡ 6 }
-    ensures memory { status_code (Err stops.Memory) ≡ 7 }
+    ensures read_fault { status_code (Err failures.ReadFault) ≡ 5 }
+    ensures write_fault { status_code (Err failures.WriteFault) ≡ 6 }
+    ensures memory { status_code (Err failures.Memory) ≡ 7 }
     ensures no_solid { status_code (Ok answers.NoSolid) ≡ 8 }
 {}
 

@@ -16,5 +16,5 @@ pub use laws::{
     made_files_have_no_fault, one_answer, one_first_fault, some_answer, status_numbers,
 };
 pub use problem::problem_of;
-pub use status::{Answer, Status, Stop};
+pub use status::{Answer, Failure, Status};
 pub use words::{Job, WordFault, job_of};

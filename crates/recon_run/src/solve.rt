@@ -1,7 +1,7 @@
 //! From a source to the solids that its file shows.
 
 ghost use Rattle.std.specs.Prelude.{◌≤◌, ◌+◌, length, IfOk, IfSome, IsErrOf};
-ghost use Rattle.recon_run.specs.declared.status.Stop.TheVariants as stop;
+ghost use Rattle.recon_run.specs.declared.status.Failure.TheVariants as failure;
 ghost use Rattle.recon_run.specs.Owed.{ReadsAllOrPast};
 ghost use Rattle.recon_run.specs.Findings.{IsFinding};
 ghost use Rattle.solid_model.specs.Limits.{most_file_bytes};
@@ -10,7 +10,7 @@ ghost use Rattle.tv_base.specs.Pieces.{ReadsWithin};
 
 use crate::problem::problem_of;
 use crate::searched::{Searched, search};
-use crate::status::Stop;
+use crate::status::Failure;
 use solid_model::{Fault, Limits, Memory, Refused};
 use std::alloc::Global;
 use tv_base::{ReadEnd, Source, read_all};
@@ -40,19 +40,19 @@ fn find_in(alloc: Global, file: Vec<u8>, limits: Limits) -> Result<Finding, Memo
 }
 
 /// The same for what a source has left.
-pub fn find<S: Source>(alloc: Global, source: &mut S, limits: Limits) -> Result<Finding, Stop>
+pub fn find<S: Source>(alloc: Global, source: &mut S, limits: Limits) -> Result<Finding, Failure>
     ensures later { S.faults source.old ≤ S.faults source.new }
     ensures within { ReadsWithin (S.left source.old) (S.left source.new) (most_file_bytes + 1) }
     ensures found { IfOk result (λ finding. IfSome (S.left source.old) (λ t.
         ReadsAllOrPast t (S.left source.new) × IsFinding limits t finding)) }
-    ensures read_fault { IsErrOf result stop.ReadFault
+    ensures read_fault { IsErrOf result failure.ReadFault
         → Rose (S.faults source.old) (S.faults source.new) }
-    ensures no_write_fault { IsErrOf result stop.WriteFault → ⊥ }
+    ensures no_write_fault { IsErrOf result failure.WriteFault → ⊥ }
 {
     match read_all(alloc, source, MOST_BYTES) {
         Ok(file) => Ok(find_in(alloc, file, limits)?),
         Err(ReadEnd::TooLong) => Ok(Finding::Fault(Fault::TooLong)),
-        Err(ReadEnd::Failed) => Err(Stop::ReadFault),
-        Err(ReadEnd::Memory) => Err(Stop::Memory),
+        Err(ReadEnd::Failed) => Err(Failure::ReadFault),
+        Err(ReadEnd::Memory) => Err(Failure::Memory),
     }
 }

@@ -1,9 +1,9 @@
 //! How a run ends.
 
 ghost use Rattle.std.specs.Prelude.{◌≡◌};
-ghost use Rattle.recon_run.specs.declared.status.Stop.TheVariants as stop;
+ghost use Rattle.recon_run.specs.declared.status.Failure.TheVariants as failure;
 ghost use Rattle.recon_run.specs.Answers.{end_answer};
-ghost use Rattle.recon_run.specs.Status.{answer_code, status_code, stop_code};
+ghost use Rattle.recon_run.specs.Status.{answer_code, status_code, failure_code};
 
 use solid_model::{EndKind, Memory};
 
@@ -24,9 +24,9 @@ pub enum Answer {
     NoSolid,
 }
 
-/// Why a run stops before its answer is written.
+/// Why a run fails before its answer is written.
 #[derive(Clone, Copy, Debug, PartialEq, Eq)]
-pub enum Stop {
+pub enum Failure {
     /// The source failed.
     ReadFault,
     /// The sink failed.
@@ -35,8 +35,8 @@ pub enum Stop {
     Memory,
 }
 
-/// How a run ends: its answer is written, or it stops before.
-pub type Status = Result<Answer, Stop>;
+/// How a run ends: its answer is written, or it fails before.
+pub type Status = Result<Answer, Failure>;
 
 impl Answer {
     /// Its number.
@@ -65,24 +65,24 @@ impl Answer {
     }
 }
 
-impl Stop {
+impl Failure {
     /// Its number.
     pub fn code(self) -> u8
-        ensures { result ≡ stop_code self }
+        ensures { result ≡ failure_code self }
     {
         match self {
-            Stop::ReadFault => 5,
-            Stop::WriteFault => 6,
-            Stop::Memory => 7,
+            Failure::ReadFault => 5,
+            Failure::WriteFault => 6,
+            Failure::Memory => 7,
         }
     }
 }
 
-impl From<Memory> for Stop {
-    ghost from_gives = { λ _ e. e ≡ stop.Memory };
+impl From<Memory> for Failure {
+    ghost from_gives = { λ _ e. e ≡ failure.Memory };
 
-    fn from(_error: Memory) -> Stop {
-        Stop::Memory
+    fn from(_error: Memory) -> Failure {
+        Failure::Memory
     }
 }
 
@@ -92,6 +92,6 @@ pub fn code(status: Status) -> u8
 {
     match status {
         Ok(answer) => answer.code(),
-        Err(stop) => stop.code(),
+        Err(failure) => failure.code(),
     }
 }

@@ -9,22 +9,22 @@ ghost use Rattle.tv_base.specs.Faults.{Rose};
 use crate::reply::faulty;
 use crate::searched::Searched;
 use crate::solve::Finding;
-use crate::status::{Answer, Status, Stop};
+use crate::status::{Answer, Failure, Status};
 use report::solid_text;
 use solid_model::{Choice, Limits, Problem};
 use std::alloc::Global;
 use tv_base::{Sink, SinkError};
 
 /// Writes a text in one piece.
-fn write_text<K: Sink>(sink: &mut K, text: &[u8]) -> Result<(), Stop>
+fn write_text<K: Sink>(sink: &mut K, text: &[u8]) -> Result<(), Failure>
     ensures later { K.faults sink.old ≤ K.faults sink.new }
     ensures ends { EndsText (λ told. told ≡ text.now) (λ told. told ≡ text.now)
         (K.held sink.old) (K.held sink.new) (Rose (K.faults sink.old) (K.faults sink.new)) result }
 {
     match sink.write_all(text) {
         Ok(()) => Ok(()),
-        Err(SinkError::Failed) => Err(Stop::WriteFault),
-        Err(SinkError::Memory) => Err(Stop::Memory),
+        Err(SinkError::Failed) => Err(Failure::WriteFault),
+        Err(SinkError::Memory) => Err(Failure::Memory),
     }
 }
 
@@ -44,7 +44,7 @@ fn write_solid<K: Sink>(
     number: u32,
     choice: &Choice,
     sink: &mut K,
-) -> Result<(), Stop>
+) -> Result<(), Failure>
     ensures later { K.faults sink.old ≤ K.faults sink.new }
     ensures ends { EndsText (TellsChoice problem.now number choice.now)
         (TellsChoice problem.now number choice.now)
@@ -60,7 +60,7 @@ fn write_solids<K: Sink>(
     problem: &Problem,
     choices: &[Choice],
     sink: &mut K,
-) -> Result<(), Stop>
+) -> Result<(), Failure>
     requires few { length choices.now ≤ most_solid_limit }
     ensures later { K.faults sink.old ≤ K.faults sink.new }
     ensures ends { EndsText (TellsChoices problem.now 1 choices.now)
@@ -79,7 +79,7 @@ fn write_searched<K: Sink>(
     searched: &Searched,
     limits: Limits,
     sink: &mut K,
-) -> Result<(), Stop>
+) -> Result<(), Failure>
     ensures later { K.faults sink.old ≤ K.faults sink.new }
     ensures ends { EndsText (TellsAll limits searched.now) (BeginsAll limits searched.now)
         (K.held sink.old) (K.held sink.new) (Rose (K.faults sink.old) (K.faults sink.new)) result }

@@ -2,7 +2,7 @@ use Rattle.std.proofs.Common.{sym, subst, map, length}
 use Rattle.std.specs.Prelude.{string_bytes}
 use Rattle.recon_run.specs.declared.status.Answer.TheVariants as answers
 use Rattle.recon_run.specs.Answers.{CanEnd, HasNoFault, IsFileFault}
-use Rattle.recon_run.specs.Endings.{AnswersOrStops, EndsOrStops, OfAlone, OfSearch, owed_to}
+use Rattle.recon_run.specs.Endings.{AnswersOrFails, EndsOrFails, OfAlone, OfSearch, owed_to}
 use Rattle.recon_run.proofs.DueAnswers.{faultless_ends, faulty_ends, reply_is_due, whole_ends}
 use Rattle.solid_model.specs.declared.ended.EndKind.TheVariants.{Whole}
 use Rattle.solid_model.specs.declared.fault.Fault.{Fault}
@@ -12,7 +12,7 @@ use Rattle.recon_run.proofs.command.run.Goals as goal
 pub returns-clause-whole : goal.returns-clause-whole
 returns-clause-whole g c =
     let o = owed_to (map string_bytes c.args.words.now) in let left = g.S.Source.left c.args.source.now in
-    subst (λ code. OfSearch o left (λ s input. (c : CanEnd s.limits input Whole) → AnswersOrStops (s.whole (length c.solids)) code)) (sym c.code.ensures)
+    subst (λ code. OfSearch o left (λ s input. (c : CanEnd s.limits input Whole) → AnswersOrFails (s.whole (length c.solids)) code)) (sym c.code.ensures)
     (whole_ends o left (g.S.Source.left c.answer.new.source) (g.K.Sink.held c.args.sink.now) (g.K.Sink.held c.answer.new.sink)
     (Rose (g.S.Source.faults c.args.source.now) (g.S.Source.faults c.answer.new.source))
     (Rose (g.K.Sink.faults c.args.sink.now) (g.K.Sink.faults c.answer.new.sink)) c.answer.result c.answer.ensures.ends)
@@ -20,7 +20,7 @@ returns-clause-whole g c =
 pub returns-clause-ended : goal.returns-clause-ended
 returns-clause-ended g c =
     let o = owed_to (map string_bytes c.args.words.now) in let left = g.S.Source.left c.args.source.now in
-    subst (λ code. OfSearch o left (λ s input. HasNoFault input → EndsOrStops s input code)) (sym c.code.ensures)
+    subst (λ code. OfSearch o left (λ s input. HasNoFault input → EndsOrFails s input code)) (sym c.code.ensures)
     (faultless_ends o left (g.S.Source.left c.answer.new.source) (g.K.Sink.held c.args.sink.now) (g.K.Sink.held c.answer.new.sink)
     (Rose (g.S.Source.faults c.args.source.now) (g.S.Source.faults c.answer.new.source))
     (Rose (g.K.Sink.faults c.args.sink.now) (g.K.Sink.faults c.answer.new.sink)) c.answer.result c.answer.ensures.ends)
@@ -28,7 +28,7 @@ returns-clause-ended g c =
 pub returns-clause-fault : goal.returns-clause-fault
 returns-clause-fault g c =
     let o = owed_to (map string_bytes c.args.words.now) in let left = g.S.Source.left c.args.source.now in
-    subst (λ code. OfSearch o left (λ s input. (fault : Fault) → IsFileFault input fault → AnswersOrStops answers.Faulty code)) (sym c.code.ensures)
+    subst (λ code. OfSearch o left (λ s input. (fault : Fault) → IsFileFault input fault → AnswersOrFails answers.Faulty code)) (sym c.code.ensures)
     (faulty_ends o left (g.S.Source.left c.answer.new.source) (g.K.Sink.held c.args.sink.now) (g.K.Sink.held c.answer.new.sink)
     (Rose (g.S.Source.faults c.args.source.now) (g.S.Source.faults c.answer.new.source))
     (Rose (g.K.Sink.faults c.args.sink.now) (g.K.Sink.faults c.answer.new.sink)) c.answer.result c.answer.ensures.ends)
@@ -36,7 +36,7 @@ returns-clause-fault g c =
 pub returns-clause-alone : goal.returns-clause-alone
 returns-clause-alone g c =
     let o = owed_to (map string_bytes c.args.words.now) in
-    subst (λ code. OfAlone o (λ answer. AnswersOrStops answer code)) (sym c.code.ensures)
+    subst (λ code. OfAlone o (λ answer. AnswersOrFails answer code)) (sym c.code.ensures)
     (reply_is_due o (g.S.Source.left c.args.source.now) (g.S.Source.left c.answer.new.source) (g.K.Sink.held c.args.sink.now) (g.K.Sink.held c.answer.new.sink)
     (Rose (g.S.Source.faults c.args.source.now) (g.S.Source.faults c.answer.new.source))
     (Rose (g.K.Sink.faults c.args.sink.now) (g.K.Sink.faults c.answer.new.sink)) c.answer.result c.answer.ensures.ends)
