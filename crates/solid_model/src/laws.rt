@@ -21,8 +21,8 @@ pub use drawings::{
     views_are_seen_from_their_sides,
 };
 pub use grid::{
-    each_axis_has_a_coordinate, matching_is_seen_on_the_grid, matching_solids_lie_in_the_grid, one_drawing_of_a_grid,
-    one_list_of_grid_coordinates,
+    each_axis_has_a_coordinate, matching_is_seen_on_the_grid, matching_solids_lie_in_the_grid,
+    one_drawing_of_a_grid, one_list_of_grid_coordinates,
 };
 pub use orders::{
     all_matching_solids_are_one_list, one_stated_form, small_orders, solids_are_ordered,

@@ -44,8 +44,8 @@ pub use frame::{Direction, Frame, View};
 pub use grid::Grid;
 pub use laws::{
     all_matching_choices_are_all_matching_solids, all_matching_solids_are_one_list, column_rule,
-    each_axis_has_a_coordinate, each_segment_has_one_style, fillings_round_an_edge, lines_have_a_drawing,
-    matching_is_seen_on_the_grid, matching_solids_are_constant_on_blocks,
+    each_axis_has_a_coordinate, each_segment_has_one_style, fillings_round_an_edge,
+    lines_have_a_drawing, matching_is_seen_on_the_grid, matching_solids_are_constant_on_blocks,
     matching_solids_begin_at_zero, matching_solids_lie_in_the_grid, maximal_stretches,
     moved_drawings_begin_at_zero, one_drawing_of_a_grid, one_list_of_grid_coordinates,
     one_list_of_runs, one_numbering_of_rooms, one_stated_form, order_and_repeats_do_not_matter,
