@@ -143,3 +143,23 @@ fn numbers_make_grids_of_so_many_cells(rt: HostRuntime) -> Result<(), Fail> {
     }
     Ok(())
 }
+
+/// A row a trial: its words, and the status and the line that it writes, with the figures that another
+/// program found.
+const TRIALS: &str = "\
+trial|11| -> 0 trial 11 pieces 14 blocks 27 solids 35 nodes 739 volume 108471
+trial|7| -> 0 trial 7 pieces 14 blocks 34 solids 1225 nodes 22299 volume 24245";
+
+/// Whether a row's trial writes its line.
+fn tries_so(alloc: Global, row: Row<'_>) -> Result<bool, AllocError> {
+    let wrote = run_words(alloc, row.told, String::new(alloc))?;
+    Ok(wrote.as_str().strip_suffix("\n") == Some(row.wanted))
+}
+
+#[test]
+fn trials_find_their_figures(rt: HostRuntime) -> Result<(), Fail> {
+    for line in TRIALS.lines() {
+        assert!(rt; tries_so(rt.alloc(), row_of(line))?, "{line}");
+    }
+    Ok(())
+}

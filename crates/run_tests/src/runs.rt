@@ -108,19 +108,21 @@ fn other_words_are_not_taken(rt: HostRuntime) -> Result<(), Fail> {
     Ok(())
 }
 
-/// A row a run of `solve` in which a call fails: the number of the source's call, or else of the sink's;
-/// and the status and the text, with `|` for the end of a line.
+/// A row a run in which a call fails, or would fail if it were made: the number of the source's call,
+/// or else of the sink's; the words; and the status and the text, with `|` for the end of a line. What
+/// `redraw` answers goes to the sink in one call.
 const FAULTS: &str = "\
-2; 0 -> 5 \n\
-0; 1 -> 6 whole 1 no\n\
-0; 2 -> 6 whole 1 nodes 2 blocks 1|solid 1 ch";
+2; 0; solve| -> 5 \n\
+0; 1; solve| -> 6 whole 1 no\n\
+0; 2; solve| -> 6 whole 1 nodes 2 blocks 1|solid 1 ch\n\
+0; 2; redraw|2| -> 8 none 2 of 1|";
 
 /// Whether a run ends as its row has it, and leaves nothing of the source.
 fn ends_so(alloc: Global, row: Row<'_>) -> Result<bool, AllocError> {
-    let [read, write, ..] = row.parts;
+    let [read, write, words, ..] = row.parts;
     let calls = [read.parse().unwrap_or(0), write.parse().unwrap_or(0)];
     let wanted = row.wanted.replace(alloc, "|", "\n")?;
-    writes(alloc, "solve|", calls, [wanted.as_str(), NOTHING_LEFT])
+    writes(alloc, words, calls, [wanted.as_str(), NOTHING_LEFT])
 }
 
 #[test]

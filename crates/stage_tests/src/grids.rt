@@ -83,6 +83,10 @@ rect S 0 0 3 1, line D 1 0 1 1, line D 2 0 2 1; rect S 0 0 3 3, rect S 1 1 2 2; 
     rect S 0 0 3 1, line D 1 0 1 1, line D 2 0 2 1 -> 16 16 16 8 8 18
 rect S 0 0 2 1, line S 1 0 1 1; rect S 0 0 1 1, rect S 1 1 2 2; rect S 0 0 2 1, line S 1 0 1 1 -> \
     8 8 7 4 4 4
+rect S 0 0 1 2, line S 0 1 1 1; rect S 0 0 1 2, line S 0 1 1 1; rect S 0 0 1 1, rect S 1 1 2 2 -> \
+    7 8 8 4 4 4
+rect S 0 0 1 1, rect S 1 1 2 2; rect S 0 0 2 1, line S 1 0 1 1; rect S 0 0 1 2, line S 0 1 1 1 -> \
+    8 7 8 4 4 4
 rect S 0 0 2 1; rect S 0 0 1 1; rect S 0 0 1 1 -> 4 4 2 1 0 2
 line S 0 0 1 0; line S 0 0 1 0; line S 0 0 1 0 -> 1 0 0 0 0 0
 lattice 2 2; rect S 0 0 5 4, rect D 1 1 2 2, rect D 3 1 4 2, rect D 1 3 2 4, rect D 3 3 4 4; \
