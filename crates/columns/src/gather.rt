@@ -74,6 +74,7 @@ fn block_at_depth(
     ensures block { result ≡ block_of_place problem.now place depth }
     ensures below { IfSome result (λ b. b < problem.now.blocks.count) }
 {
+    // A look at the problem tells that its blocks are those of its grid.
     let _grid = problem.grid();
     let cell = cell_in(place.view.frame(), sizes, place.right, place.up, depth);
     problem.blocks().of(cell)
@@ -141,6 +142,7 @@ pub fn gather_columns(
     ensures { IfOk result (λ columns. AreGatheredTo problem.now (column_count (grid_sizes problem.now.grid))
         spans.new columns.items on.new.items) }
 {
+    // A look at the problem tells that its blocks are those of its grid.
     let _grid = problem.grid();
     let count = all_columns(problem.grid().sizes());
     let mut columns = Vec::with_capacity(alloc, count + 1)?;

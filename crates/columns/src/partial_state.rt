@@ -74,6 +74,7 @@ impl<'p> PartialState<'p> {
           decisions = [];
         }) }
     {
+        // A look at the problem tells that its blocks are those of its grid.
         let _grid = problem.grid();
         let count = usize::from(problem.blocks().count());
         let decisions = Vec::with_capacity(alloc, count)?;
@@ -112,6 +113,7 @@ impl<'p> PartialState<'p> {
         requires { block < self.now.problem.blocks.count }
         ensures { result ≡ touching self.now.problem block }
     {
+        // A look at the problem tells that its blocks are those of its grid.
         let _grid = self.problem.grid();
         self.touched[usize::from(block)].as_slice().len() as u32
     }
@@ -126,6 +128,7 @@ impl<'p> PartialState<'p> {
         } }
         ensures steps { steps.new ≤ steps.old + touching self.old.problem block }
     {
+        // A look at the problem tells that its blocks are those of its grid.
         let _grid = self.problem.grid();
         let number = usize::from(block);
         set_spans(
@@ -152,6 +155,7 @@ impl<'p> PartialState<'p> {
             × (self.old.decisions ≡ self.new.decisions ++ last ∷ []) }
         ensures none { result ≡ false → (self.old.decisions ≡ []) × (self.new ≡ self.old) }
     {
+        // A look at the problem tells that its blocks are those of its grid.
         let _grid = self.problem.grid();
         match self.decisions.pop() {
             Some(last) => {
@@ -276,6 +280,7 @@ fn decide_with<L: Ledger>(state: &mut PartialState, block: u16, full: bool, blan
 fn first_broken(state: &PartialState) -> Option<LineId>
     ensures { TellsBroken state.now.problem (decided_by state.now.decisions) result }
 {
+    // A look at the problem tells that its blocks are those of its grid.
     let _grid = state.problem.grid();
     match least(state.broken.as_slice()) {
         Some(number) => Some(state.sides[number as usize].line),

@@ -63,6 +63,7 @@ fn draw_first(generator: &mut Lcg64Xsh32) -> Cube
     ensures next { generator.new ≡ (pcg32 (pcg32 generator.old).1).1 }
     ensures few { result.scale ≤ 9 }
 {
+    // Its word is drawn and has no effect.
     let _kind = generator.next_word();
     let scale = scale_by(generator.next_word());
     Cube {

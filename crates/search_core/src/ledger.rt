@@ -99,6 +99,7 @@ impl Ledger {
             (λ k. StandsAt self.now.prefixes piece.now k
             × (0 < count_of self.now.frontier.counts k)) }
     {
+        // A look at the prefixes tells that each is stored once.
         let _count = self.prefixes.len();
         let place = self.prefixes.place(piece)?;
         if self.frontier.holds(place) {

@@ -137,6 +137,7 @@ impl Trie {
         ensures inside { IfOk result (λ at. at < length self.new) }
         ensures there { IfOk result (λ at. walk self.new 0 prefix.now ≡ Some at) }
     {
+        // A look at the nodes tells what is kept of them.
         let _nodes = &self.nodes;
         let mut at = 0;
         for block in 0..prefix.len() {

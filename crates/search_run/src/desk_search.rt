@@ -70,6 +70,7 @@ fn step(alloc: Global, path: &mut BlockPath, desk: &mut Desk) -> Result<(), Memo
     ensures opened { OnOk result (desk.old.opened < desk.new.opened) }
     ensures kept { OnOk result (IsDesk desk.new) }
 {
+    // A look at the desk tells that it stands as its history leaves it.
     let _end = desk.end();
     let Some(piece) = desk.first_piece() else {
         unreachable!()
@@ -110,6 +111,7 @@ pub fn search_by_desk(
     ensures { IfOk result (EndsSearch (is_live (arc_value problem.now))
         (arc_value problem.now).blocks.count limits) }
 {
+    // A look at the problem tells that its blocks are those of its grid.
     let _grid = problem.grid();
     let mut path = BlockPath::new(alloc, problem)?;
     let mut desk = begin_from(alloc, &mut path, problem, limits)?;
