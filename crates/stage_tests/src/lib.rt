@@ -2,9 +2,11 @@
 #![tactic(auto)]
 
 #[cfg(test)]
-mod columns;
+mod arguments;
 #[cfg(test)]
-mod faces;
+mod drawn_columns;
+#[cfg(test)]
+mod face_lists;
 #[cfg(test)]
 mod graphs;
 #[cfg(test)]
@@ -18,6 +20,4 @@ mod successions;
 #[cfg(test)]
 mod texts;
 #[cfg(test)]
-mod views;
-#[cfg(test)]
-mod words;
+mod view_runs;
