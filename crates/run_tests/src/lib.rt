@@ -3,6 +3,8 @@
 #![tactic(auto)]
 
 #[cfg(test)]
+mod demands;
+#[cfg(test)]
 mod drawings;
 #[cfg(test)]
 mod entities;

@@ -109,20 +109,28 @@ fn other_words_are_not_taken(rt: HostRuntime) -> Result<(), Fail> {
 }
 
 /// A row a run in which a call fails, or would fail if it were made: the number of the source's call,
-/// or else of the sink's; the words; and the status and the text, with `|` for the end of a line. What
-/// `redraw` answers goes to the sink in one call.
+/// or else of the sink's; the words; whether all of the source is left; and the status and the text, with
+/// `|` for the end of a line. After a read that fails nothing is read; and an answer in one piece goes to
+/// the sink in one call.
 const FAULTS: &str = "\
+1; 0; solve|; all -> 5 \n\
 2; 0; solve| -> 5 \n\
 0; 1; solve| -> 6 whole 1 no\n\
 0; 2; solve| -> 6 whole 1 nodes 2 blocks 1|solid 1 ch\n\
-0; 2; redraw|2| -> 8 none 2 of 1|";
+0; 2; redraw|2| -> 8 none 2 of 1|\n\
+0; 2; trial|11|; all -> 0 trial 11 pieces 14 blocks 27 solids 35 nodes 739 volume 108471|";
 
-/// Whether a run ends as its row has it, and leaves nothing of the source.
+/// Whether a run ends as its row has it, and leaves of the source what the row says.
 fn ends_so(alloc: Global, row: Row<'_>) -> Result<bool, AllocError> {
-    let [read, write, words, ..] = row.parts;
+    let [read, write, words, left, _] = row.parts;
     let calls = [read.parse().unwrap_or(0), write.parse().unwrap_or(0)];
     let wanted = row.wanted.replace(alloc, "|", "\n")?;
-    writes(alloc, words, calls, [wanted.as_str(), NOTHING_LEFT])
+    let after = if left == "all" {
+        UNIT_CUBE
+    } else {
+        NOTHING_LEFT
+    };
+    writes(alloc, words, calls, [wanted.as_str(), after])
 }
 
 #[test]
