@@ -22,6 +22,15 @@ unit_cube_faces =
     ∷ record { out = PlusZ; at = pos 1; loops = (cell_at 0 0 1 ∷ cell_at 1 0 1 ∷ cell_at 1 1 1 ∷ cell_at 0 1 1 ∷ []) ∷ [] }
     ∷ []
 
+-- of two unit cubes in a row, with a gap of 1 between them, the faces to the left, and then those in front
+abbrev pub faces_apart : List FaceParts
+faces_apart =
+    record { out = MinusX; at = pos 0; loops = (cell_at 0 0 0 ∷ cell_at 0 0 1 ∷ cell_at 0 1 1 ∷ cell_at 0 1 0 ∷ []) ∷ [] }
+    ∷ record { out = MinusX; at = pos 2; loops = (cell_at 2 0 0 ∷ cell_at 2 0 1 ∷ cell_at 2 1 1 ∷ cell_at 2 1 0 ∷ []) ∷ [] }
+    ∷ record { out = MinusY; at = pos 0; loops = (cell_at 0 0 0 ∷ cell_at 1 0 0 ∷ cell_at 1 0 1 ∷ cell_at 0 0 1 ∷ []) ∷ [] }
+    ∷ record { out = MinusY; at = pos 0; loops = (cell_at 2 0 0 ∷ cell_at 3 0 0 ∷ cell_at 3 0 1 ∷ cell_at 2 0 1 ∷ []) ∷ [] }
+    ∷ []
+
 -- a square plate of height 1, so many cells wide
 abbrev pub plate : ℕ → Cell → Bool
 plate wide c = int_eq c.z (pos 0)

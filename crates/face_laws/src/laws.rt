@@ -7,14 +7,14 @@ ghost use Rattle.solid_model.specs.declared.face.Out.{Out};
 ghost use Rattle.solid_model.specs.declared.face.Out.TheVariants.{PlusX, PlusZ};
 ghost use Rattle.solid_model.specs.Cells.{is_full};
 ghost use Rattle.solid_model.specs.Edges.{is_edge};
-ghost use Rattle.solid_model.specs.Faces.{outward, right_axis, up_axis, place, is_boundary, BeginsLeast, AreLoopsOf, FaceParts, AreFacesOf};
+ghost use Rattle.solid_model.specs.Faces.{outward, right_axis, up_axis, place, is_boundary, BeginsLeast, AreLoopsOf, FaceParts, FaceBefore, AreFacesOf};
 ghost use Rattle.solid_model.specs.Grid.{Coordinates, IsUnionOf};
 ghost use Rattle.face_laws.specs.GridFaces.{Planes, AreCellsOf, face_in_space, grid_planes, numbered_fullness};
 ghost use Rattle.face_laws.specs.GridRounds.{Rises, grid_point, AreSquaresOf, last_side};
 ghost use Rattle.solid_model.specs.Lists.{Member, Ascends};
 ghost use Rattle.solid_model.specs.Orders.{ComesBefore};
 ghost use Rattle.solid_model.specs.Rounds.{Spot, West, South, spot_after, Side, end_of, left_square, is_border, following, turns, further, sides_from, IsRound, round_sides, round_corners, AreJoined};
-ghost use Rattle.face_laws.specs.SmallFaces.{first_square, unit_cube_faces, hollow_cube, middle_square, void_loops, pierced_plate, pierced_loops, twice_pierced_plate, twice_pierced_loops};
+ghost use Rattle.face_laws.specs.SmallFaces.{faces_apart, first_square, unit_cube_faces, hollow_cube, middle_square, void_loops, pierced_plate, pierced_loops, twice_pierced_plate, twice_pierced_loops};
 ghost use Rattle.solid_model.specs.SmallSolids.{unit_cube};
 
 /// A face goes on across its squares' sides exactly where no edge of the solid is, whichever of the
@@ -149,12 +149,14 @@ pub fn faces_of_grid_cells()
 {}
 
 /// Small face lists, written out by hand. The unit cube has six faces of one square each, gone
-/// round to the left as seen from outside. A void has faces too, seen from within it. From above, a
-/// plate with a square hole shows its outline and, the other way round, its hole. Where two holes
-/// touch at a corner, two ways go on, and the loop turns left: so both holes are in one loop, which
-/// passes that corner twice.
+/// round to the left as seen from outside. Of two cubes in a row those of one side come by their
+/// planes, and those of one plane by their first corners. A void has faces too, seen from within it.
+/// From above, a plate with a square hole shows its outline and, the other way round, its hole.
+/// Where two holes touch at a corner, two ways go on, and the loop turns left: so both holes are in
+/// one loop, which passes that corner twice.
 pub fn small_faces()
     ensures cube { AreFacesOf (is_full unit_cube) unit_cube_faces }
+    ensures order { Ascends FaceBefore faces_apart }
     ensures void { AreLoopsOf (is_boundary hollow_cube PlusX (pos 1)) (place PlusX (pos 1))
         middle_square void_loops }
     ensures hole { AreLoopsOf (is_boundary pierced_plate PlusZ (pos 1)) (place PlusZ (pos 1))
