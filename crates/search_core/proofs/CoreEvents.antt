@@ -1,5 +1,5 @@
 -- What a state of a search conserves: the start does, and each event keeps it.
-use Rattle.std.proofs.Common.{◌≡◌, ◌≢◌, Bool, true, false, ℕ, ◌+◌, ◌≤◌, ◌<◌, nat_lt, List, [], ◌∷◌, ◌++◌, length, map, sum, Some, IsPermutation, if◌then◌else◌, refl, sym, ◌∙◌, ap, subst, append-nil, length-append, length-take, arith}
+use Rattle.std.proofs.Common.{◌≡◌, ◌≢◌, Bool, true, false, ℕ, ◌+◌, ◌≤◌, ◌<◌, nat_lt, List, [], ◌∷◌, ◌++◌, length, map, sum, Some, IsPermutation, IsTrue, if◌then◌else◌, refl, sym, ◌∙◌, ap, subst, append-nil, length-append, length-take, arith}
 use Rattle.std.specs.List.{flat_map}
 use Rattle.std.proofs.lemmas.Bool.{ltb-false}
 use Rattle.std.proofs.lemmas.Bool.Decides.{Decides-ltb}
@@ -8,12 +8,12 @@ use Rattle.std.proofs.lemmas.List.Sorted.{IsPermutation-refl, IsPermutation-tran
 use Rattle.std.proofs.lemmas.List.Sums.{sum_by-cons}
 use Rattle.std.proofs.lemmas.Grind.{flat_map-append}
 use Rattle.solid_model.specs.declared.ended.EndKind.TheVariants.{Whole, CutNodes, CutSolids}
-use Rattle.solid_model.specs.Lists.{Member}
+use Rattle.solid_model.specs.Lists.{Member, Each}
 use Rattle.solid_model.specs.Search.{SearchLimits}
 use Rattle.solid_model.specs.Tree.{PrefixTest, IsAllowed, live_count, live_below, IsClosed}
-use Rattle.solid_model.proofs.Lists.{each-from, ascends-append_left, member-append_left}
+use Rattle.solid_model.proofs.Lists.{each-from, each-append, each-append_left, each-append_right, ascends-append_left, member-append_left}
 use Rattle.solid_model.proofs.PrefixTree.{live_count_none, live_below_none}
-use Rattle.search_core.specs.Conserves.{IsWholeTree, EndsRightly, IsConserved}
+use Rattle.search_core.specs.Conserves.{IsWholeTree, EndsRightly, LeavesRightly, IsConserved}
 use Rattle.search_core.specs.Core.{Core, Event, IsEvent, IsRun, start_of, same_prefix, without, end_at, after_event, after_events}
 use Rattle.search_core.proofs.Lists.{sum-append, each-take, ascends-take, member-permutation, put_apart, once-permutation}
 use Rattle.search_core.proofs.OnceBelow.{once_below}
@@ -49,6 +49,14 @@ module _ (live : PrefixTest) (n : ℕ) where
       (tree, all, subst (IsPermutation (live_below live n [])) (append-nil c.found) shared, few)
   ends_within limits c (p ∷ ps) e tree few = (tree, few)
 
+  -- a search that isn't cut goes on where something is left
+  left_at : (frontier : List (List Bool)) → LeavesRightly frontier (end_at frontier)
+  left_at [] = refl
+  left_at (p ∷ ps) = λ e. cc
+
+  abbrev AreLive : List (List Bool) → Type 0
+  AreLive = Each (λ prefix. IsTrue (live prefix))
+
   -- ---- an event
 
   module _ (limits : SearchLimits) (c : Core) (e : Event) where
@@ -76,6 +84,21 @@ module _ (live : PrefixTest) (n : ℕ) where
               (subst (λ l. IsPermutation (c.found ++ (choices_of f ++ (live_below live n e.piece ++ choices_of b))) ((c.found ++ e.found) ++ l)) (sym is) moved);
         }
 
+    -- what is left is told by the end
+    left_after : (t u : Bool) → LeavesRightly frontier_after (if t then Some CutSolids else (if u then Some CutNodes else end_at frontier_after))
+    left_after true u = tt
+    left_after false true = tt
+    left_after false false = left_at frontier_after
+
+    -- and each of it is live
+    live_after : AreLive c.frontier → StandsBetween e.piece c.frontier → AreLive e.rest → AreLive frontier_after
+    live_after each stands rest =
+        let all = subst AreLive stands.is each in
+        let front = each-append_left (λ prefix. IsTrue (live prefix)) stands.front (e.piece ∷ stands.back) all in
+        let back = (each-append_right (λ prefix. IsTrue (live prefix)) stands.front (e.piece ∷ stands.back) all).1 in
+        each-append (λ prefix. IsTrue (live prefix)) (without e.piece c.frontier) e.rest
+        (subst AreLive (sym stands.left) (each-append (λ prefix. IsTrue (live prefix)) stands.front stands.back front back)) rest
+
     module _ (tree : IsWholeTree live n (with_all_found limits c e)) where
       -- where there was room for all, the tree is kept
       tree_kept : length c.found + length e.found ≤ limits.solids → IsWholeTree live n (after_event limits c e)
@@ -102,8 +125,8 @@ module _ (live : PrefixTest) (n : ℕ) where
           (ltb-false limits.nodes (c.opened + e.opened) few)
 
       -- so what every state keeps is kept
-      conserved_after : IsClosed live → IsConserved live n limits (after_event limits c e)
-      conserved_after closed =
+      conserved_after : IsClosed live → AreLive frontier_after → IsConserved live n limits (after_event limits c e)
+      conserved_after closed frontier =
           let all = c.found ++ e.found in
           let once = ascends-append_left ◌≢◌ all (choices_of frontier_after)
           (once-permutation same_prefix Decides-same_prefix (live_below live n []) (all ++ choices_of frontier_after) tree.shared (once_below live n closed)) in
@@ -112,6 +135,8 @@ module _ (live : PrefixTest) (n : ℕ) where
           (member-append_left all (choices_of frontier_after) x k)) in
           record {
             ends = ends_after (nat_lt limits.solids (length c.found + length e.found)) (nat_lt limits.nodes (c.opened + e.opened)) refl refl;
+            left = left_after (nat_lt limits.solids (length c.found + length e.found)) (nat_lt limits.nodes (c.opened + e.opened));
+            frontier = frontier;
             once = ascends-take ◌≢◌ limits.solids all once;
             listed = each-take (Member (live_below live n [])) limits.solids all listed;
             few = omega (arith, length-take limits.solids all);
@@ -122,7 +147,8 @@ module _ (live : PrefixTest) (n : ℕ) where
   kept : (limits : SearchLimits) → IsClosed live → (c : Core) (e : Event) → IsConserved live n limits c → IsEvent live n c e → IsConserved live n limits (after_event limits c e)
   kept limits closed c e h event =
       let going = subst (EndsRightly live n limits c) event.going h.ends in
-      conserved_after limits c e (tree_after limits c e going.0 (stands_between e.piece c.frontier event.in_frontier) event.allowed) closed
+      let stands = stands_between e.piece c.frontier event.in_frontier in
+      conserved_after limits c e (tree_after limits c e going.0 stands event.allowed) closed (live_after limits c e h.frontier stands event.allowed.rest_live)
 
   -- ---- the start
 
@@ -136,6 +162,8 @@ module _ (live : PrefixTest) (n : ℕ) where
       },
       omega arith,
     );
+    left = λ e. cc;
+    frontier = (lives, tt);
     once = tt;
     listed = tt;
     few = omega arith;
@@ -146,6 +174,8 @@ module _ (live : PrefixTest) (n : ℕ) where
       let nothing = live_below_none live n [] dead closed in
       rw dead (record {
         ends = (record { counted = none; shared = rw nothing (IsPermutation-refl []) }, sym none, rw nothing (IsPermutation-refl []), omega arith);
+        left = refl;
+        frontier = tt;
         once = tt;
         listed = tt;
         few = omega arith;

@@ -1,5 +1,5 @@
 -- What a search conserves: no live prefix and no choice is lost, and none counts twice.
-use Rattle.std.specs.Prelude.{◌≡◌, ◌≢◌, ◌≤◌, ◌<◌, ◌+◌, ℕ, [], ◌++◌, length, map, sum, Option, Some, None, IsPermutation}
+use Rattle.std.specs.Prelude.{◌≡◌, ◌≢◌, ◌≤◌, ◌<◌, ◌+◌, Bool, ℕ, List, [], ◌++◌, length, map, sum, Option, Some, None, IsPermutation, IsTrue}
 use Rattle.std.specs.List.{flat_map}
 use Rattle.solid_model.specs.declared.ended.EndKind.{EndKind}
 use Rattle.solid_model.specs.declared.ended.EndKind.TheVariants.{Whole, CutNodes, CutSolids}
@@ -23,10 +23,19 @@ EndsRightly live n limits c (Some Whole) = IsWholeTree live n c × (c.opened ≡
 EndsRightly live n limits c (Some CutNodes) = IsWholeTree live n c × (limits.nodes < c.opened)
 EndsRightly live n limits c (Some CutSolids) = (length c.found ≡ limits.solids) × (limits.solids < length (live_below live n []))
 
--- what every state keeps: how it ends; what is found has no repeat, is live and of full length, and is within the limit; no more
--- prefixes are opened than are live
+-- something is left to be expanded where the search goes on, and nothing where it is whole
+abbrev pub LeavesRightly : List (List Bool) → Option EndKind → Type 0
+LeavesRightly frontier None = frontier ≢ []
+LeavesRightly frontier (Some Whole) = frontier ≡ []
+LeavesRightly frontier (Some CutNodes) = Unit {0}
+LeavesRightly frontier (Some CutSolids) = Unit {0}
+
+-- what every state keeps: how it ends; what is left, and that each of it is live; what is found has no repeat, is live and of full
+-- length, and is within the limit; no more prefixes are opened than are live
 pub record IsConserved (live : PrefixTest) (n : ℕ) (limits : SearchLimits) (c : Core) : Type 0 where
   pub ends : EndsRightly live n limits c c.end
+  pub left : LeavesRightly c.frontier c.end
+  pub frontier : Each (λ prefix. IsTrue (live prefix)) c.frontier
   pub once : Ascends ◌≢◌ c.found
   pub listed : Each (Member (live_below live n [])) c.found
   pub few : length c.found ≤ limits.solids
