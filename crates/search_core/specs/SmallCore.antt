@@ -17,6 +17,10 @@ first_event = record { piece = nothing_said; opened = 3; found = both_full ∷ [
 abbrev pub second_event : Event
 second_event = record { piece = first_empty; opened = 2; found = only_second_full ∷ []; rest = [] }
 
+-- or of it only empty is opened, and empty full is left
+abbrev pub short_event : Event
+short_event = record { piece = first_empty; opened = 1; found = []; rest = only_second_full ∷ [] }
+
 -- and then the earlier one
 abbrev pub third_event : Event
 third_event = record { piece = only_first_full; opened = 1; found = only_first_full ∷ []; rest = [] }
@@ -34,6 +38,10 @@ after_first = record { frontier = only_first_full ∷ first_empty ∷ []; found 
 
 abbrev pub after_second : Core
 after_second = record { frontier = only_first_full ∷ []; found = both_full ∷ only_second_full ∷ []; opened = 5; end = None }
+
+-- a rest comes behind what was left already
+abbrev pub after_short : Core
+after_short = record { frontier = only_first_full ∷ only_second_full ∷ []; found = both_full ∷ []; opened = 4; end = None }
 
 abbrev pub after_third : Core
 after_third = record { frontier = []; found = both_full ∷ only_second_full ∷ only_first_full ∷ []; opened = 6; end = Some Whole }

@@ -11,7 +11,7 @@ ghost use Rattle.solid_model.specs.Tree.{PrefixTest, IsClosed, KeepsMatching, li
 ghost use Rattle.solid_model.specs.SmallTree.{not_both_empty};
 ghost use Rattle.search_core.specs.Conserves.{IsConserved};
 ghost use Rattle.search_core.specs.Core.{Event, IsRun, start_of, after_events};
-ghost use Rattle.search_core.specs.SmallCore.{roomy, few_nodes, few_solids, few_of_both, first_event, second_event, third_event, at_start, after_first, after_second, after_third, cut_at_nodes, cut_at_solids, nothing_live, whole_at_start};
+ghost use Rattle.search_core.specs.SmallCore.{roomy, few_nodes, few_solids, few_of_both, first_event, second_event, short_event, third_event, at_start, after_first, after_second, after_short, after_third, cut_at_nodes, cut_at_solids, nothing_live, whole_at_start};
 
 /// Whatever is reported, in whatever order, the core loses no live prefix and no choice and counts
 /// none twice, up to its end; while it goes on something live is left to be expanded, and at a whole
@@ -38,8 +38,8 @@ pub fn the_core_conserves()
 
 /// A search that can be checked by hand, of two blocks that may not both be empty: its start, and
 /// how it stands after each of three events, which are a run (`run`), up to the end at which it is
-/// whole. Then what the second event makes of it where fewer nodes, fewer solids or fewer of both
-/// are allowed, and the start where no prefix is live.
+/// whole; and with an event that leaves a rest. Then what the second event makes of it where fewer
+/// nodes, fewer solids or fewer of both are allowed, and the start where no prefix is live.
 pub fn small_core()
     ensures run { IsRun not_both_empty 2 roomy (start_of not_both_empty)
         (first_event ∷ second_event ∷ third_event ∷ []) }
@@ -48,6 +48,8 @@ pub fn small_core()
         ≡ after_first }
     ensures second { after_events roomy (start_of not_both_empty)
         (first_event ∷ second_event ∷ []) ≡ after_second }
+    ensures rest { after_events roomy (start_of not_both_empty) (first_event ∷ short_event ∷ [])
+        ≡ after_short }
     ensures third { after_events roomy (start_of not_both_empty)
         (first_event ∷ second_event ∷ third_event ∷ []) ≡ after_third }
     ensures cut_nodes { after_events few_nodes (start_of not_both_empty)
