@@ -12,7 +12,7 @@ use Rattle.columns.specs.declared.gather.ColumnPlace.{ColumnPlace}
 use Rattle.columns.specs.declared.spans.Span.{Span}
 use Rattle.columns.specs.Touching.{is_of, shown_cell}
 use Rattle.columns.specs.Decisions.{decided_by}
-use Rattle.columns.specs.Lines.{times}
+use Rattle.columns.specs.Lines.{times_listed}
 use Rattle.columns.specs.Gathered.{block_of_place, block_of_column, place_numbered, IsGathered, AreGatheredTo}
 use Rattle.columns.specs.Spans.{is_on, no_column, column_there, known_there}
 use Rattle.columns.proofs.BoxSight.{shown_within}
@@ -101,13 +101,13 @@ module _ (p : ProblemParts) (blocks : IsBlocksOf p.grid p.blocks) where
               ∙ ap (λ t. (nat_lt c n && is_of b (block_of_column p c k)) || (t && is_of b (block_of_column p c k))) (sym e)
               ∙ grown (nat_lt c n) (n == c) (is_of b (block_of_column p c k)) ∙ ap (λ x. x && is_of b (block_of_column p c k)) (sym (no_more c n))
 
-      which : (c b : ℕ) (ls : List ℕ) → c < n + 1 → (times b (get_or (on ++ now ∷ []) c ls) ≡ 0) ↔ ((k : ℕ) → is_of b (block_of_column p c k) ≡ false)
-      which c b ls l = elim (cases_lt c n) as (λ _. (times b (get_or (on ++ now ∷ []) c ls) ≡ 0) ↔ ((k : ℕ) → is_of b (block_of_column p c k) ≡ false)) [
-        | inl m ↦ subst (λ xs. (times b xs ≡ 0) ↔ ((k : ℕ) → is_of b (block_of_column p c k) ≡ false)) (sym (get_or_append_left on (now ∷ []) ls c (let e = so_far.count_on in omega arith))) (so_far.which c b ls m)
+      which : (c b : ℕ) (ls : List ℕ) → c < n + 1 → (times_listed b (get_or (on ++ now ∷ []) c ls) ≡ 0) ↔ ((k : ℕ) → is_of b (block_of_column p c k) ≡ false)
+      which c b ls l = elim (cases_lt c n) as (λ _. (times_listed b (get_or (on ++ now ∷ []) c ls) ≡ 0) ↔ ((k : ℕ) → is_of b (block_of_column p c k) ≡ false)) [
+        | inl m ↦ subst (λ xs. (times_listed b xs ≡ 0) ↔ ((k : ℕ) → is_of b (block_of_column p c k) ≡ false)) (sym (get_or_append_left on (now ∷ []) ls c (let e = so_far.count_on in omega arith))) (so_far.which c b ls m)
         | inr m ↦ (let e : length on ≡ c = (let f = so_far.count_on in omega arith) in
-            subst (λ d. (times b (get_or (on ++ now ∷ []) d ls) ≡ 0) ↔ ((k : ℕ) → is_of b (block_of_column p d k) ≡ false)) e
-            (subst (λ xs. (times b xs ≡ 0) ↔ ((k : ℕ) → is_of b (block_of_column p (length on) k) ≡ false)) (sym (get_or-append_seam on now [] ls))
-            (subst (λ d. (times b now ≡ 0) ↔ ((k : ℕ) → is_of b (block_of_column p d k) ≡ false)) (sym so_far.count_on) (
+            subst (λ d. (times_listed b (get_or (on ++ now ∷ []) d ls) ≡ 0) ↔ ((k : ℕ) → is_of b (block_of_column p d k) ≡ false)) e
+            (subst (λ xs. (times_listed b xs ≡ 0) ↔ ((k : ℕ) → is_of b (block_of_column p (length on) k) ≡ false)) (sym (get_or-append_seam on now [] ls))
+            (subst (λ d. (times_listed b now ≡ 0) ↔ ((k : ℕ) → is_of b (block_of_column p d k) ≡ false)) (sym so_far.count_on) (
               (λ none k. sym (cut (is_of b) refl (place_numbered (grid_sizes p.grid) n) k) ∙ far k ((is.all.which b).0 none)),
               (λ off. (is.all.which b).1 (λ k _. off k)),
             ))))

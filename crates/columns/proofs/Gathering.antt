@@ -11,7 +11,7 @@ use Rattle.columns.specs.Touching.{is_of}
 use Rattle.columns.specs.Gathered.{block_of_place, AreAddedTo, IsListed, IsGatheredTo}
 use Rattle.columns.specs.Spans.{is_on}
 use Rattle.solid_model.specs.Bits.{is_set}
-use Rattle.columns.specs.Lines.{one_if, times, IsMetBy, AreBrokenTo}
+use Rattle.columns.specs.Lines.{one_if, times_listed, IsMetBy, AreBrokenTo}
 use Rattle.columns.specs.Plans.{IsAddedOnce}
 use Rattle.columns.proofs.MarkedLines.{last_there, last_other}
 use Rattle.solid_model.specs.declared.cell.Cell.{Cell}
@@ -23,20 +23,20 @@ use Rattle.solid_model.specs.GridBox.{grid_sizes}
 -- ---- lists
 
 -- what stands at a place is there
-pub times_at : (xs : List ℕ) (i d x : ℕ) → i < length xs → get_or xs i d ≡ x → 0 < times x xs
+pub times_at : (xs : List ℕ) (i d x : ℕ) → i < length xs → get_or xs i d ≡ x → 0 < times_listed x xs
 times_at [] i d x l e = absurd (omega arith)
-times_at (y ∷ ys) zero d x l e = let f : times x (y ∷ ys) ≡ 0 + one_if (y == x) + times x ys = sum_by-append (λ z. one_if (z == x)) (y ∷ []) ys in
+times_at (y ∷ ys) zero d x l e = let f : times_listed x (y ∷ ys) ≡ 0 + one_if (y == x) + times_listed x ys = sum_by-append (λ z. one_if (z == x)) (y ∷ []) ys in
     let g : one_if (y == x) ≡ 1 = ap one_if (eq-eqb y x e) in omega arith
-times_at (y ∷ ys) (suc i) d x l e = let f : times x (y ∷ ys) ≡ 0 + one_if (y == x) + times x ys = sum_by-append (λ z. one_if (z == x)) (y ∷ []) ys in
+times_at (y ∷ ys) (suc i) d x l e = let f : times_listed x (y ∷ ys) ≡ 0 + one_if (y == x) + times_listed x ys = sum_by-append (λ z. one_if (z == x)) (y ∷ []) ys in
     let g = times_at ys i d x (omega arith) e in omega arith
 
 -- a number that is there isn't added
-pub once_there : (x : ℕ) (old : List ℕ) → 0 < times x old → IsAddedOnce x old old
+pub once_there : (x : ℕ) (old : List ℕ) → 0 < times_listed x old → IsAddedOnce x old old
 once_there x old some n = (
   (λ none. (
     none,
     elim (cases_Bool (x == n)) as (λ _. (x == n) ≡ false) [
-      | inl is ↦ absurd (let e : x ≡ n = eqb-true x n is in let f = ap (λ m. times m old) e in omega arith)
+      | inl is ↦ absurd (let e : x ≡ n = eqb-true x n is in let f = ap (λ m. times_listed m old) e in omega arith)
       | inr off ↦ off
     ],
   )),
@@ -46,8 +46,8 @@ once_there x old some n = (
 -- one that isn't is
 pub once_new : (x : ℕ) (old : List ℕ) → IsAddedOnce x old (old ++ x ∷ [])
 once_new x old n = (
-  (λ none. elim (cases_Bool (x == n)) as (λ _. (times n old ≡ 0) × ((x == n) ≡ false)) [
-    | inl is ↦ absurd (let e : x ≡ n = eqb-true x n is in let f = ap (λ m. times m (old ++ x ∷ [])) e in let g = last_there old x in omega arith)
+  (λ none. elim (cases_Bool (x == n)) as (λ _. (times_listed n old ≡ 0) × ((x == n) ≡ false)) [
+    | inl is ↦ absurd (let e : x ≡ n = eqb-true x n is in let f = ap (λ m. times_listed m (old ++ x ∷ [])) e in let g = last_there old x in omega arith)
     | inr off ↦ (sym (last_other old x n off) ∙ none, off)
   ]),
   (λ both. last_other old x n both.1 ∙ both.0),
@@ -78,7 +78,7 @@ module _ (columns : List KnownColumn) (sides : List Beside) where
 
   pub one_met : (n : ℕ) (broken : List ℕ) → AreBrokenTo columns sides n broken → ((e : Beside) → n < length sides → IsMetBy columns (get_or sides n e)) → AreBrokenTo columns sides (n + 1) broken
   one_met n broken so_far met = record {
-    before = λ i e l m. elim (cases_lt i n) as (λ _. (times i broken ≡ 0) ↔ IsMetBy columns (get_or sides i e)) [
+    before = λ i e l m. elim (cases_lt i n) as (λ _. (times_listed i broken ≡ 0) ↔ IsMetBy columns (get_or sides i e)) [
       | inl k ↦ so_far.before i e k m
       | inr k ↦ (let f : n ≡ i = omega arith in ((λ none. subst (λ j. IsMetBy columns (get_or sides j e)) f (met e (omega arith))), (λ can. so_far.after i (omega arith))))
     ];
@@ -87,10 +87,10 @@ module _ (columns : List KnownColumn) (sides : List Beside) where
 
   pub one_broken : (n : ℕ) (broken : List ℕ) → AreBrokenTo columns sides n broken → ((e : Beside) → n < length sides → IsMetBy columns (get_or sides n e) → ⊥) → AreBrokenTo columns sides (n + 1) (broken ++ n ∷ [])
   one_broken n broken so_far lost = record {
-    before = λ i e l m. elim (cases_lt i n) as (λ _. (times i (broken ++ n ∷ []) ≡ 0) ↔ IsMetBy columns (get_or sides i e)) [
+    before = λ i e l m. elim (cases_lt i n) as (λ _. (times_listed i (broken ++ n ∷ []) ≡ 0) ↔ IsMetBy columns (get_or sides i e)) [
       | inl k ↦ (let other = last_other broken n i (off n i (omega arith)) in let was = so_far.before i e k m in ((λ none. was.0 (sym other ∙ none)), (λ can. other ∙ was.1 can)))
       | inr k ↦ (let f : n ≡ i = omega arith in (
-        (λ none. absurd (let g = ap (λ j. times j (broken ++ n ∷ [])) f in let h = last_there broken n in omega arith)),
+        (λ none. absurd (let g = ap (λ j. times_listed j (broken ++ n ∷ [])) f in let h = last_there broken n in omega arith)),
         (λ can. absurd (lost e (omega arith) (subst (λ j. IsMetBy columns (get_or sides j e)) (sym f) can))),
       ))
     ];
@@ -180,19 +180,19 @@ module _ (p : ProblemParts) (at : ColumnPlace) (number : ℕ) (old : List (List 
         | inr e ↦ subst (All (λ (x : Span). x.column < m)) (sym (more.1 j d (subst (λ i. j < i) more.0 lj) (eqb-false j b e))) (all j d (subst (λ i. j < i) more.0 lj))
       ]
 
-      which : (b : ℕ) (s : Option ℕ) → s ≡ block_of_place p at n → IsListed s on now → (times b now ≡ 0) ↔ ((k : ℕ) → k < n + 1 → is_of b (block_of_place p at k) ≡ false)
+      which : (b : ℕ) (s : Option ℕ) → s ≡ block_of_place p at n → IsListed s on now → (times_listed b now ≡ 0) ↔ ((k : ℕ) → k < n + 1 → is_of b (block_of_place p at k) ≡ false)
       which b s told once = (to s told once, from s told once)
         where
-          last : (s : Option ℕ) → s ≡ block_of_place p at n → is_of b s ≡ false → times b on ≡ 0 → (k : ℕ) → k < n + 1 → is_of b (block_of_place p at k) ≡ false
+          last : (s : Option ℕ) → s ≡ block_of_place p at n → is_of b s ≡ false → times_listed b on ≡ 0 → (k : ℕ) → k < n + 1 → is_of b (block_of_place p at k) ≡ false
           last s told none so k l = elim (cases_lt k n) as (λ _. is_of b (block_of_place p at k) ≡ false) [
             | inl m ↦ (so_far.which b).0 so k m
             | inr m ↦ (let e : n ≡ k = omega arith in subst (λ j. is_of b (block_of_place p at j) ≡ false) e (ap (is_of b) (sym told) ∙ none))
           ]
 
-          to : (s : Option ℕ) → s ≡ block_of_place p at n → IsListed s on now → times b now ≡ 0 → (k : ℕ) → k < n + 1 → is_of b (block_of_place p at k) ≡ false
-          to None told same none = last None told refl (ap (times b) (sym same) ∙ none)
+          to : (s : Option ℕ) → s ≡ block_of_place p at n → IsListed s on now → times_listed b now ≡ 0 → (k : ℕ) → k < n + 1 → is_of b (block_of_place p at k) ≡ false
+          to None told same none = last None told refl (ap (times_listed b) (sym same) ∙ none)
           to (Some x) told once none = let both = (once b).0 none in last (Some x) told both.1 both.0
 
-          from : (s : Option ℕ) → s ≡ block_of_place p at n → IsListed s on now → ((k : ℕ) → k < n + 1 → is_of b (block_of_place p at k) ≡ false) → times b now ≡ 0
-          from None told same off = ap (times b) same ∙ (so_far.which b).1 (λ k l. off k (omega arith))
+          from : (s : Option ℕ) → s ≡ block_of_place p at n → IsListed s on now → ((k : ℕ) → k < n + 1 → is_of b (block_of_place p at k) ≡ false) → times_listed b now ≡ 0
+          from None told same off = ap (times_listed b) same ∙ (so_far.which b).1 (λ k l. off k (omega arith))
           from (Some x) told once off = (once b).1 ((so_far.which b).1 (λ k l. off k (omega arith)), ap (is_of b) told ∙ off n (omega arith))

@@ -11,7 +11,7 @@ use Rattle.columns.specs.declared.decision.Decision.{Decision}
 use Rattle.columns.specs.declared.spans.Span.{Span}
 use Rattle.columns.specs.Touching.{is_of, view_width, view_height, shown_cell}
 use Rattle.columns.specs.Decisions.{decided_by}
-use Rattle.columns.specs.Lines.{times, IsMetBy, AreTried}
+use Rattle.columns.specs.Lines.{times_listed, IsMetBy, AreTried}
 use Rattle.columns.specs.Spans.{is_on, is_in_span, column_there, known_there, AreWithin}
 use Rattle.columns.specs.KeptColumns.{column_count, column_number, AreKnownColumns, AreSpans, IsColumnOf, IsBeside, IsPlanOf}
 use Rattle.columns.proofs.BoxSight.{shown_within}
@@ -167,10 +167,10 @@ module _ (p : ProblemParts) (sized : numbers_of p.blocks.sizes ≡ grid_sizes p.
     (plan : IsPlanOf p spans touched sides) (decisions : List Decision) (d : Decision) (there : d.block < p.blocks.count) (untaken : decided_by decisions d.block ≡ None)
     (old new : List KnownColumn) (before : AreKnownColumns p (decided_by decisions) old) (after : AreKnownColumns p (decided_by (decisions ++ d ∷ [])) new)
     (s : List Span) (set : (c k : ℕ) → known_there new c k ≡ (if is_on (get_or spans d.block s) c k then Some d.full else known_there old c k))
-    (broken now : List ℕ) (so_far : (i : ℕ) (e : Beside) → i < length sides → (times i broken ≡ 0) ↔ CanBeMet p (decided_by decisions) (get_or sides i e).line)
+    (broken now : List ℕ) (so_far : (i : ℕ) (e : Beside) → i < length sides → (times_listed i broken ≡ 0) ↔ CanBeMet p (decided_by decisions) (get_or sides i e).line)
     (ls : List ℕ) (tried : AreTried new sides (get_or touched d.block ls) broken now) where
   -- the lines that are broken now are those that can't be met with the decision
-  pub broken_more : (i : ℕ) (e : Beside) → i < length sides → (times i now ≡ 0) ↔ CanBeMet p (decided_by (decisions ++ d ∷ [])) (get_or sides i e).line
+  pub broken_more : (i : ℕ) (e : Beside) → i < length sides → (times_listed i now ≡ 0) ↔ CanBeMet p (decided_by (decisions ++ d ∷ [])) (get_or sides i e).line
   broken_more i e l = (to, from)
     where
       b : Beside
@@ -185,15 +185,15 @@ module _ (p : ProblemParts) (sized : numbers_of p.blocks.sizes ≡ grid_sizes p.
       new_met : IsMetBy new b ↔ CanBeMet p (decided_by (decisions ++ d ∷ [])) b.line
       new_met = side_met p sized (decided_by (decisions ++ d ∷ [])) new after b is
 
-      was : (times i broken ≡ 0) ↔ CanBeMet p (decided_by decisions) b.line
+      was : (times_listed i broken ≡ 0) ↔ CanBeMet p (decided_by decisions) b.line
       was = so_far i e l
 
-      to : times i now ≡ 0 → CanBeMet p (decided_by (decisions ++ d ∷ [])) b.line
-      to none = let both = (tried.each i e l).0 none in elim (cases_lt 0 (times i (get_or touched d.block ls))) as (λ _. CanBeMet p (decided_by (decisions ++ d ∷ [])) b.line) [
+      to : times_listed i now ≡ 0 → CanBeMet p (decided_by (decisions ++ d ∷ [])) b.line
+      to none = let both = (tried.each i e l).0 none in elim (cases_lt 0 (times_listed i (get_or touched d.block ls))) as (λ _. CanBeMet p (decided_by (decisions ++ d ∷ [])) b.line) [
         | inl some ↦ new_met.0 (both.1 some)
         | inr off ↦ (let untouched = (plan.beside.each d.block i s ls e (let a = plan.cells.count in omega arith) l) (omega arith) in
             new_met.0 ((same_met old new (get_or spans d.block s) (Some d.full) b set untouched).0 (old_met.1 (was.0 both.0))))
       ]
 
-      from : CanBeMet p (decided_by (decisions ++ d ∷ [])) b.line → times i now ≡ 0
+      from : CanBeMet p (decided_by (decisions ++ d ∷ [])) b.line → times_listed i now ≡ 0
       from can = (tried.each i e l).1 (was.1 (met_less p decisions d untaken b.line can), λ some. new_met.1 can)

@@ -11,7 +11,7 @@ use Rattle.columns.specs.declared.decision.Decision.{Decision}
 use Rattle.columns.specs.declared.spans.Span.{Span}
 use Rattle.columns.specs.Decisions.{decided_by}
 use Rattle.columns.specs.Broken.{TellsBroken}
-use Rattle.columns.specs.Lines.{one_if, times, AreMarked, AreBeside, AreTried, IsMetBy, IsLeast}
+use Rattle.columns.specs.Lines.{one_if, times_listed, AreMarked, AreBeside, AreTried, IsMetBy, IsLeast}
 use Rattle.columns.specs.Spans.{is_on, known_there, AreWithin}
 use Rattle.columns.specs.KeptColumns.{column_count, IsColumnOf, IsBeside, IsKeptBy}
 use Rattle.columns.specs.Touching.{touches}
@@ -100,11 +100,11 @@ module _ (p : ProblemParts) (blocks : IsBlocksOf p.grid p.blocks) (spans : List 
       subst (λ n. ((get_or sides i d).after < n) × ((get_or sides i d).before < n)) (sym (long ∙ kept.state.known.count)) is.inside
 
 -- a number of a list is below what all are below
-pub times_below : (xs : List ℕ) (x n : ℕ) → All (λ y. y < n) xs → 0 < times x xs → x < n
+pub times_below : (xs : List ℕ) (x n : ℕ) → All (λ y. y < n) xs → 0 < times_listed x xs → x < n
 times_below [] x n below some = absurd (omega arith)
 times_below (y ∷ ys) x n below some = elim (cases_Bool (y == x)) as (λ _. x < n) [
   | inl is ↦ subst (λ z. z < n) (eqb-true y x is) (below 0 0 (omega arith))
-  | inr off ↦ times_below ys x n (λ k d l. below (suc k) d (omega arith)) (let e : one_if (y == x) ≡ 0 = ap one_if off in let f : times x (y ∷ ys) ≡ 0 + one_if (y == x) + times x ys = sum_by-append (λ z. one_if (z == x)) (y ∷ []) ys in omega arith)
+  | inr off ↦ times_below ys x n (λ k d l. below (suc k) d (omega arith)) (let e : one_if (y == x) ≡ 0 = ap one_if off in let f : times_listed x (y ∷ ys) ≡ 0 + one_if (y == x) + times_listed x ys = sum_by-append (λ z. one_if (z == x)) (y ∷ []) ys in omega arith)
 ]
 
 -- what is known of a line that the grid has
@@ -128,7 +128,7 @@ module _ (p : ProblemParts) (blocks : IsBlocksOf p.grid p.blocks) (spans : List 
       subst (λ (x : LineId). IsTrue r ↔ CanBeMet p (decided_by decisions) x) e ((λ true. met.0 (told.0 true)), (λ can. told.1 (met.1 can)))
 
   -- a broken line is one of all
-  pub broken_there : (x : ℕ) → 0 < times x broken → x < length sides
+  pub broken_there : (x : ℕ) → 0 < times_listed x broken → x < length sides
   broken_there x some = subst (λ n. x < n) kept.state.count (times_below broken x (length met) kept.state.marked.below some)
 
   pub first_none : IsLeast broken None → TellsBroken p (decided_by decisions) None

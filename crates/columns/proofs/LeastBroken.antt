@@ -7,7 +7,7 @@ use Rattle.std.proofs.lemmas.List.Sums.{sum_by_push}
 use Rattle.std.proofs.lemmas.Grind.{take_at_read}
 use Rattle.columns.specs.declared.lines.Beside.{Beside}
 use Rattle.columns.specs.Broken.{TellsBroken}
-use Rattle.columns.specs.Lines.{one_if, times, IsLeastOf, IsLeast, lesser_of}
+use Rattle.columns.specs.Lines.{one_if, times_listed, IsLeastNumber, IsLeast, lesser_of}
 use Rattle.solid_model.specs.declared.line_id.LineId.{LineId}
 use Rattle.solid_model.specs.declared.segment.Style.TheVariants.{Blank}
 use Rattle.solid_model.specs.Blocks.{ProblemParts}
@@ -21,14 +21,14 @@ use Rattle.std.proofs.lemmas.Option.{none-some}
 -- ---- the least of some numbers
 
 module _ (numbers : List ℕ) (n : ℕ) (d : ℕ) (l : n < length numbers) where
-  more : (i : ℕ) → times i (take (n + 1) numbers) ≡ times i (take n numbers) + one_if (get_or numbers n d == i)
-  more i = ap (times i) (take_at_read numbers n d l).1 ∙ sum_by_push (λ x. one_if (x == i)) (take n numbers) (get_or numbers n d)
+  more : (i : ℕ) → times_listed i (take (n + 1) numbers) ≡ times_listed i (take n numbers) + one_if (get_or numbers n d == i)
+  more i = ap (times_listed i) (take_at_read numbers n d l).1 ∙ sum_by_push (λ x. one_if (x == i)) (take n numbers) (get_or numbers n d)
 
-  here : times (get_or numbers n d) (take (n + 1) numbers) ≡ times (get_or numbers n d) (take n numbers) + 1
-  here = more (get_or numbers n d) ∙ ap (λ b. times (get_or numbers n d) (take n numbers) + one_if b) (eq-eqb (get_or numbers n d) (get_or numbers n d) refl)
+  here : times_listed (get_or numbers n d) (take (n + 1) numbers) ≡ times_listed (get_or numbers n d) (take n numbers) + 1
+  here = more (get_or numbers n d) ∙ ap (λ b. times_listed (get_or numbers n d) (take n numbers) + one_if b) (eq-eqb (get_or numbers n d) (get_or numbers n d) refl)
 
-  other : (i : ℕ) → i < get_or numbers n d → times i (take (n + 1) numbers) ≡ times i (take n numbers)
-  other i m = elim (cases_Bool (get_or numbers n d == i)) as (λ _. times i (take (n + 1) numbers) ≡ times i (take n numbers)) [
+  other : (i : ℕ) → i < get_or numbers n d → times_listed i (take (n + 1) numbers) ≡ times_listed i (take n numbers)
+  other i m = elim (cases_Bool (get_or numbers n d == i)) as (λ _. times_listed i (take (n + 1) numbers) ≡ times_listed i (take n numbers)) [
     | inl is ↦ absurd (let e = eqb-true (get_or numbers n d) i is in omega arith)
     | inr off ↦ (let a = more i in let b = ap one_if off in omega arith)
   ]
@@ -36,10 +36,10 @@ module _ (numbers : List ℕ) (n : ℕ) (d : ℕ) (l : n < length numbers) where
   pub least_first : IsLeast (take n numbers) None → IsLeast (take (n + 1) numbers) (Some (get_or numbers n d))
   least_first none = record { there = (let e = here in omega arith); least = λ i m. other i m ∙ none i }
 
-  pub least_new : (x : ℕ) → IsLeastOf (take n numbers) x → get_or numbers n d < x → IsLeast (take (n + 1) numbers) (Some (get_or numbers n d))
+  pub least_new : (x : ℕ) → IsLeastNumber (take n numbers) x → get_or numbers n d < x → IsLeast (take (n + 1) numbers) (Some (get_or numbers n d))
   least_new x so_far m = record { there = (let e = here in omega arith); least = λ i k. other i k ∙ so_far.least i (omega arith) }
 
-  pub least_old : (x : ℕ) → IsLeastOf (take n numbers) x → x ≤ get_or numbers n d → IsLeast (take (n + 1) numbers) (Some x)
+  pub least_old : (x : ℕ) → IsLeastNumber (take n numbers) x → x ≤ get_or numbers n d → IsLeast (take (n + 1) numbers) (Some x)
   least_old x so_far m = record { there = (let e = more x in let f = so_far.there in omega arith); least = λ i k. other i (omega arith) ∙ so_far.least i k }
 
 -- ---- lists
@@ -52,7 +52,7 @@ split_at (x ∷ xs) (suc i) d l = ap (λ ys. x ∷ ys) (split_at xs i d (omega a
 -- ---- lines
 
 module _ (p : ProblemParts) (known : ℕ → Option Bool) (sides : List Beside) (listed : map (λ b. b.line) sides ≡ lines_of p.grid) (broken : List ℕ)
-    (told : (i : ℕ) (d : Beside) → i < length sides → (times i broken ≡ 0) ↔ CanBeMet p known (get_or sides i d).line) where
+    (told : (i : ℕ) (d : Beside) → i < length sides → (times_listed i broken ≡ 0) ↔ CanBeMet p known (get_or sides i d).line) where
   abbrev lines : List LineId
   lines = lines_of p.grid
 
@@ -69,7 +69,7 @@ module _ (p : ProblemParts) (known : ℕ → Option Bool) (sides : List Beside) 
       let d : Beside = record { line = m; after = 0; before = 0; style = Blank } in
       subst (CanBeMet p known) (sym (line_at at.0 d m l) ∙ at.2 m) ((told at.0 d l).0 (none at.0))
 
-  pub some_broken : (x : ℕ) (d : Beside) → x < length sides → IsLeastOf broken x → TellsBroken p known (Some (get_or sides x d).line)
+  pub some_broken : (x : ℕ) (d : Beside) → x < length sides → IsLeastNumber broken x → TellsBroken p known (Some (get_or sides x d).line)
   some_broken x d l is = record {
     earlier = take x lines;
     later = drop (suc x) lines;

@@ -12,7 +12,7 @@ use Rattle.std.proofs.Math.Seq.{get_or-append_seam}
 use Rattle.columns.specs.declared.lines.Beside.{Beside}
 use Rattle.columns.specs.Gathered.{AreMoreSides, AllMet}
 use Rattle.columns.specs.KeptColumns.{IsBeside, AreSides}
-use Rattle.columns.specs.Lines.{one_if, times}
+use Rattle.columns.specs.Lines.{one_if, times_listed}
 use Rattle.columns.proofs.ListParts.{range_more}
 use Rattle.solid_model.specs.declared.line_id.LineId.{LineId}
 use Rattle.solid_model.specs.Blocks.{ProblemParts}
@@ -60,9 +60,9 @@ pub met_more : (n : ℕ) (met : List Bool) → AllMet n met → AllMet (n + 1) (
 met_more n met so_far = (
   (let e = length_push met true in let f = so_far.0 in omega arith),
   record {
-    once = λ i l. elim (cases_lt i (length met)) as (λ _. times i [] + one_if (get_or (met ++ true ∷ []) i false) ≡ 1) [
-      | inl m ↦ ap (λ b. times i [] + one_if b) (get_or_append_left met (true ∷ []) false i m) ∙ so_far.1.once i m
-      | inr m ↦ (let e : length met ≡ i = (let f = length_push met true in omega arith) in ap (λ j. times i [] + one_if (get_or (met ++ true ∷ []) j false)) (sym e) ∙ ap (λ b. times i [] + one_if b) (get_or-append_seam met true [] false))
+    once = λ i l. elim (cases_lt i (length met)) as (λ _. times_listed i [] + one_if (get_or (met ++ true ∷ []) i false) ≡ 1) [
+      | inl m ↦ ap (λ b. times_listed i [] + one_if b) (get_or_append_left met (true ∷ []) false i m) ∙ so_far.1.once i m
+      | inr m ↦ (let e : length met ≡ i = (let f = length_push met true in omega arith) in ap (λ j. times_listed i [] + one_if (get_or (met ++ true ∷ []) j false)) (sym e) ∙ ap (λ b. times_listed i [] + one_if b) (get_or-append_seam met true [] false))
     ];
     below = λ k d l. absurd (omega arith);
     counted = (let e = sum_by_push one_if met true in let f = so_far.1.counted in let g = length_push met true in omega arith);

@@ -19,7 +19,7 @@ use Rattle.columns.specs.Touching.{is_of, view_width, view_height, touching}
 use Rattle.columns.specs.Decisions.{decided_by}
 use Rattle.columns.specs.Gathered.{place_in_view, place_numbered, block_of_place, block_of_column, AreGatheredTo, AreTouchedTo}
 use Rattle.columns.specs.KeptColumns.{columns_before, column_count, column_number, AreKnownColumns, AreSpans, AreSides, IsTrail, IsKeptBy}
-use Rattle.columns.specs.Lines.{times, AreMarked, AreBrokenTo, AreBeside}
+use Rattle.columns.specs.Lines.{times_listed, AreMarked, AreBrokenTo, AreBeside}
 use Rattle.columns.specs.Spans.{is_on, no_column, column_there, known_there}
 use Rattle.columns.proofs.Deciding.{none_taken}
 use Rattle.columns.proofs.ColumnPlaces.{in_view, number_inside}
@@ -118,13 +118,13 @@ module _ (p : ProblemParts) (blocks : IsBlocksOf p.grid p.blocks) (spans : List 
   -- ---- touched lines
 
   module _ (sides : List Beside) (touched : List (List ℕ)) (listed : AreTouchedTo sides (on ++ [] ∷ []) p.blocks.count (length sides) touched) (inside : AreBeside (count + 1) sides) where
-    off : (b c k : ℕ) (s : List Span) → b < p.blocks.count → c < count + 1 → times b (get_or (on ++ [] ∷ []) c []) ≡ 0 → is_on (get_or spans b s) c k ≡ false
+    off : (b c k : ℕ) (s : List Span) → b < p.blocks.count → c < count + 1 → times_listed b (get_or (on ++ [] ∷ []) c []) ≡ 0 → is_on (get_or spans b s) c k ≡ false
     off b c k s l m none = gathered.each b s c k l ∙ (elim (cases_lt c count) as (λ _. (nat_lt c count && is_of b (block_of_column p c k)) ≡ false) [
-      | inl n ↦ and_right (nat_lt c count) _ ((gathered.which c b [] n).0 (ap (times b) (sym (get_or_append_left on ([] ∷ []) [] c (let f = gathered.count_on in omega arith))) ∙ none) k)
+      | inl n ↦ and_right (nat_lt c count) _ ((gathered.which c b [] n).0 (ap (times_listed b) (sym (get_or_append_left on ([] ∷ []) [] c (let f = gathered.count_on in omega arith))) ∙ none) k)
       | inr n ↦ and_left (nat_lt c count) _ (le-ltb c count n)
     ])
 
-    pub planned_each : (b i : ℕ) (s : List Span) (ls : List ℕ) (d : Beside) → b < length spans → i < length sides → times i (get_or touched b ls) ≡ 0
+    pub planned_each : (b i : ℕ) (s : List Span) (ls : List ℕ) (d : Beside) → b < length spans → i < length sides → times_listed i (get_or touched b ls) ≡ 0
         → (k : ℕ) → (is_on (get_or spans b s) (get_or sides i d).after k ≡ false) × (is_on (get_or spans b s) (get_or sides i d).before k ≡ false)
     planned_each b i s ls d l m none k =
         let there : b < p.blocks.count = (let e = gathered.count in omega arith) in
@@ -141,14 +141,14 @@ module _ (p : ProblemParts) (blocks : IsBlocksOf p.grid p.blocks) (spans : List 
 
 -- ---- no decisions yet
 
-pub planned_trail : (p : ProblemParts) (sides : List Beside) (broken : List ℕ) → ((i : ℕ) (d : Beside) → i < length sides → (times i broken ≡ 0) ↔ CanBeMet p (decided_by []) (get_or sides i d).line)
+pub planned_trail : (p : ProblemParts) (sides : List Beside) (broken : List ℕ) → ((i : ℕ) (d : Beside) → i < length sides → (times_listed i broken ≡ 0) ↔ CanBeMet p (decided_by []) (get_or sides i d).line)
     → IsTrail p sides [] [] broken
 planned_trail p sides broken told = record {
   count = refl;
   ordered = λ m n l. (omega arith);
   each = λ n i d l m. let e : n ≡ 0 = omega arith in
-      subst (λ (ds : List Decision). (times i (take (length broken) broken) ≡ 0) ↔ CanBeMet p (decided_by ds) (get_or sides i d).line) (sym (ap (λ j. take j []) e))
-      (subst (λ bs. (times i bs ≡ 0) ↔ CanBeMet p (decided_by []) (get_or sides i d).line) (sym (take_all (length broken) broken (omega arith))) (told i d m));
+      subst (λ (ds : List Decision). (times_listed i (take (length broken) broken) ≡ 0) ↔ CanBeMet p (decided_by ds) (get_or sides i d).line) (sym (ap (λ j. take j []) e))
+      (subst (λ bs. (times_listed i bs ≡ 0) ↔ CanBeMet p (decided_by []) (get_or sides i d).line) (sym (take_all (length broken) broken (omega arith))) (told i d m));
 }
 
 -- all of it

@@ -11,11 +11,11 @@ use Rattle.columns.specs.declared.known.KnownColumn.{KnownColumn}
 use Rattle.columns.specs.declared.lines.Beside.{Beside}
 use Rattle.columns.specs.declared.spans.Span.{Span}
 use Rattle.columns.specs.Touching.{is_of}
-use Rattle.columns.specs.Plans.{is_there}
+use Rattle.columns.specs.Plans.{is_listed}
 use Rattle.columns.specs.Gathered.{block_of_column, AreGatheredTo, AreTouchedTo, no_side, hits}
 use Rattle.columns.specs.KeptColumns.{column_count, IsColumnOf, AreSides}
 use Rattle.columns.specs.Touching.{block_beside, touches, touching}
-use Rattle.columns.specs.Lines.{one_if, times}
+use Rattle.columns.specs.Lines.{one_if, times_listed}
 use Rattle.columns.proofs.BoxSight.{shown_within}
 use Rattle.columns.proofs.ColumnPlaces.{number_inside}
 use Rattle.columns.proofs.KeptColumns.{same_shown, in_width, in_height}
@@ -30,20 +30,20 @@ use Rattle.solid_model.specs.GridBox.{grid_sizes, axis_along, axis_across}
 
 -- ---- lists
 
-not_there : (b : ℕ) (xs : List ℕ) → times b xs ≡ 0 → is_there b xs ≡ false
+not_there : (b : ℕ) (xs : List ℕ) → times_listed b xs ≡ 0 → is_listed b xs ≡ false
 not_there b [] none = refl
 not_there b (x ∷ xs) none =
-    let e : times b (x ∷ xs) ≡ 0 + one_if (x == b) + times b xs = sum_by-append (λ z. one_if (z == b)) (x ∷ []) xs in
-    elim (cases_Bool (x == b)) as (λ _. ((x == b) || is_there b xs) ≡ false) [
+    let e : times_listed b (x ∷ xs) ≡ 0 + one_if (x == b) + times_listed b xs = sum_by-append (λ z. one_if (z == b)) (x ∷ []) xs in
+    elim (cases_Bool (x == b)) as (λ _. ((x == b) || is_listed b xs) ≡ false) [
       | inl is ↦ absurd (let f = ap one_if is in omega arith)
-      | inr off ↦ ap (λ t. t || is_there b xs) off ∙ not_there b xs (let f = ap one_if off in omega arith)
+      | inr off ↦ ap (λ t. t || is_listed b xs) off ∙ not_there b xs (let f = ap one_if off in omega arith)
     ]
 
-no_times : (b : ℕ) (xs : List ℕ) → is_there b xs ≡ false → times b xs ≡ 0
+no_times : (b : ℕ) (xs : List ℕ) → is_listed b xs ≡ false → times_listed b xs ≡ 0
 no_times b [] off = refl
 no_times b (x ∷ xs) off =
-    let e : times b (x ∷ xs) ≡ 0 + one_if (x == b) + times b xs = sum_by-append (λ z. one_if (z == b)) (x ∷ []) xs in
-    let parts = both_off (x == b) (is_there b xs) off in
+    let e : times_listed b (x ∷ xs) ≡ 0 + one_if (x == b) + times_listed b xs = sum_by-append (λ z. one_if (z == b)) (x ∷ []) xs in
+    let parts = both_off (x == b) (is_listed b xs) off in
     let f = ap one_if parts.0 in let g = no_times b xs parts.1 in omega arith
   where
     both_off : (s t : Bool) → (s || t) ≡ false → (s ≡ false) × (t ≡ false)
@@ -83,15 +83,15 @@ module _ (p : ProblemParts) (blocks : IsBlocksOf p.grid p.blocks) (spans : List 
 
   -- the blocks of a column beside a line
   there_beside : (b : ℕ) (l : LineId) (j : ℤ) (c : ℕ) → l.cell < grid_sizes p.grid (axis_along l.view l.upright) → IsColumnOf (grid_sizes p.grid) l j c
-      → is_there b (get_or (on ++ [] ∷ []) c []) ≡ list_any (λ k. is_of b (block_beside p l j k)) (range_with_len 0 (grid_sizes p.grid (frame_of l.view).away.axis))
+      → is_listed b (get_or (on ++ [] ∷ []) c []) ≡ list_any (λ k. is_of b (block_beside p l j k)) (range_with_len 0 (grid_sizes p.grid (frame_of l.view).away.axis))
   there_beside b l j c cell (inr beyond) =
-      ap (is_there b) (ap (λ n. get_or (on ++ [] ∷ []) n []) (beyond.1 ∙ sym gathered.count_on) ∙ get_or-append_seam on [] [] [])
+      ap (is_listed b) (ap (λ n. get_or (on ++ [] ∷ []) n []) (beyond.1 ∙ sym gathered.count_on) ∙ get_or-append_seam on [] [] [])
       ∙ sym (list_any_none (λ k. is_of b (block_beside p l j k)) (range_with_len 0 (grid_sizes p.grid (frame_of l.view).away.axis))
       (λ i d m. ap (is_of b) (none_beside l j _ (and_left (is_below (grid_sizes p.grid (axis_across l.view l.upright)) j) _ beyond.0))))
-  there_beside b l j c cell (inl at) = elim (cases_Bool (is_there b (get_or on c []))) as (λ _. is_there b (get_or (on ++ [] ∷ []) c []) ≡ list_any f depths) [
+  there_beside b l j c cell (inl at) = elim (cases_Bool (is_listed b (get_or on c []))) as (λ _. is_listed b (get_or (on ++ [] ∷ []) c []) ≡ list_any f depths) [
     | inl some ↦ listed ∙ some ∙ sym (elim (cases_Bool (list_any f depths)) as (λ _. list_any f depths ≡ true) [
       | inl any ↦ any
-      | inr none ↦ absurd (both_ways (is_there b (get_or on c [])) (not_there b (get_or on c []) ((gathered.which c b [] inside).1 (λ k. same k ∙ each none k))) some)
+      | inr none ↦ absurd (both_ways (is_listed b (get_or on c [])) (not_there b (get_or on c []) ((gathered.which c b [] inside).1 (λ k. same k ∙ each none k))) some)
     ])
     | inr off ↦ listed ∙ off ∙ sym (list_any_none f depths (λ i d m. sym (same _) ∙ (gathered.which c b [] inside).0 (zero off) _))
   ]
@@ -106,8 +106,8 @@ module _ (p : ProblemParts) (blocks : IsBlocksOf p.grid p.blocks) (spans : List 
       inside = subst (λ n. n < column_count (grid_sizes p.grid)) (sym at.3) (number_inside (grid_sizes p.grid) l.view _ _
           (in_width (grid_sizes p.grid) l.view l.upright at.0 l.cell at.2 cell) (in_height (grid_sizes p.grid) l.view l.upright at.0 l.cell at.2 cell))
 
-      listed : is_there b (get_or (on ++ [] ∷ []) c []) ≡ is_there b (get_or on c [])
-      listed = ap (is_there b) (get_or_append_left on ([] ∷ []) [] c (let e = gathered.count_on in let g : c < column_count (grid_sizes p.grid) = inside in omega arith))
+      listed : is_listed b (get_or (on ++ [] ∷ []) c []) ≡ is_listed b (get_or on c [])
+      listed = ap (is_listed b) (get_or_append_left on ([] ∷ []) [] c (let e = gathered.count_on in let g : c < column_count (grid_sizes p.grid) = inside in omega arith))
 
       same : (k : ℕ) → is_of b (block_of_column p c k) ≡ f k
       same k = ap (λ n. is_of b (block_of_column p n k)) at.3
@@ -125,7 +125,7 @@ module _ (p : ProblemParts) (blocks : IsBlocksOf p.grid p.blocks) (spans : List 
         | inr far ↦ ap (is_of b) (none_beside l j k (and_right (is_below (grid_sizes p.grid (axis_across l.view l.upright)) j) _ (le-ltb k (grid_sizes p.grid (frame_of l.view).away.axis) far)))
       ]
 
-      zero : is_there b (get_or on c []) ≡ false → times b (get_or on c []) ≡ 0
+      zero : is_listed b (get_or on c []) ≡ false → times_listed b (get_or on c []) ≡ 0
       zero off = no_times b (get_or on c []) off
 
   module _ (sides : List Beside) (lines : AreSides p sides) (touched : List (List ℕ)) (listed : AreTouchedTo sides (on ++ [] ∷ []) p.blocks.count (length sides) touched) where
@@ -141,7 +141,7 @@ module _ (p : ProblemParts) (blocks : IsBlocksOf p.grid p.blocks) (spans : List 
             let same = get_or_default sides i no_side d m in
             let zero_in : 0 + i ≡ i = omega arith in
             ap (hits sides (on ++ [] ∷ []) b) zero_in
-            ∙ ap (λ (x : Beside). is_there b (get_or (on ++ [] ∷ []) x.after []) || is_there b (get_or (on ++ [] ∷ []) x.before [])) same
+            ∙ ap (λ (x : Beside). is_listed b (get_or (on ++ [] ∷ []) x.after []) || is_listed b (get_or (on ++ [] ∷ []) x.before [])) same
             ∙ ap₂ ◌||◌ (there_beside b s.line (pos s.line.at) s.after is.cell is.after) (there_beside b s.line (pos s.line.at -ℤ pos 1) s.before is.cell is.before)
             ∙ sym (either_any (λ k. is_of b (block_beside p s.line (pos s.line.at) k)) (λ k. is_of b (block_beside p s.line (pos s.line.at -ℤ pos 1) k)) (range_with_len 0 (grid_sizes p.grid (frame_of s.line.view).away.axis)))
 

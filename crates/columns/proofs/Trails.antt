@@ -7,7 +7,7 @@ use Rattle.std.proofs.Math.Seq.{get_or-append_seam}
 use Rattle.columns.specs.declared.lines.Beside.{Beside}
 use Rattle.columns.specs.declared.decision.Decision.{Decision}
 use Rattle.columns.specs.Decisions.{decided_by}
-use Rattle.columns.specs.Lines.{times, BeginsWith}
+use Rattle.columns.specs.Lines.{times_listed, BeginsWith}
 use Rattle.columns.specs.KeptColumns.{IsTrail}
 use Rattle.solid_model.specs.Blocks.{ProblemParts}
 use Rattle.solid_model.specs.Demands.{CanBeMet}
@@ -15,11 +15,11 @@ use Rattle.solid_model.specs.Demands.{CanBeMet}
 module _ (p : ProblemParts) (sides : List Beside) where
   -- all of them are those of all decisions
   pub all_broken : (decisions : List Decision) (heights broken : List ℕ) → IsTrail p sides decisions heights broken → (i : ℕ) (d : Beside) → i < length sides
-      → (times i broken ≡ 0) ↔ CanBeMet p (decided_by decisions) (get_or sides i d).line
+      → (times_listed i broken ≡ 0) ↔ CanBeMet p (decided_by decisions) (get_or sides i d).line
   all_broken decisions heights broken trail i d l =
       let at : get_or heights (length decisions) (length broken) ≡ length broken = get_or-eq_default heights (length broken) (let e = trail.count in omega arith) in
-      subst (λ (ds : List Decision). (times i broken ≡ 0) ↔ CanBeMet p (decided_by ds) (get_or sides i d).line) (take_all (length decisions) decisions (omega arith))
-      (subst (λ bs. (times i bs ≡ 0) ↔ CanBeMet p (decided_by (take (length decisions) decisions)) (get_or sides i d).line)
+      subst (λ (ds : List Decision). (times_listed i broken ≡ 0) ↔ CanBeMet p (decided_by ds) (get_or sides i d).line) (take_all (length decisions) decisions (omega arith))
+      (subst (λ bs. (times_listed i bs ≡ 0) ↔ CanBeMet p (decided_by (take (length decisions) decisions)) (get_or sides i d).line)
       (ap (λ n. take n broken) at ∙ take_all (length broken) broken (omega arith))
       (trail.each (length decisions) i d (omega arith) l))
 
@@ -53,9 +53,9 @@ module _ (p : ProblemParts) (sides : List Beside) where
       count = counted;
       ordered = λ m n l. ordered m n l;
       each = λ n i d l m.
-          subst (λ (ds : List Decision). (times i (take (get_or heights n (length (take height broken))) (take height broken)) ≡ 0) ↔ CanBeMet p (decided_by ds) (get_or sides i d).line)
+          subst (λ (ds : List Decision). (times_listed i (take (get_or heights n (length (take height broken))) (take height broken)) ≡ 0) ↔ CanBeMet p (decided_by ds) (get_or sides i d).line)
           (take-append-le n decisions (last ∷ []) l)
-          (subst (λ bs. (times i bs ≡ 0) ↔ CanBeMet p (decided_by (take n (decisions ++ last ∷ []))) (get_or sides i d).line)
+          (subst (λ bs. (times_listed i bs ≡ 0) ↔ CanBeMet p (decided_by (take n (decisions ++ last ∷ []))) (get_or sides i d).line)
           (ap (λ h. take h broken) (sym (same_height n l)) ∙ sym (take-take (get_or heights n (length (take height broken))) height broken (under n l)))
           (trail.each n i d (let e = length_push decisions last in omega arith) m));
     }
@@ -78,7 +78,7 @@ module _ (p : ProblemParts) (sides : List Beside) where
 
   -- one decision more
   pub trail_more : (decisions : List Decision) (last : Decision) (heights broken new : List ℕ) → IsTrail p sides decisions heights broken → BeginsWith broken new
-      → ((i : ℕ) (d : Beside) → i < length sides → (times i new ≡ 0) ↔ CanBeMet p (decided_by (decisions ++ last ∷ [])) (get_or sides i d).line)
+      → ((i : ℕ) (d : Beside) → i < length sides → (times_listed i new ≡ 0) ↔ CanBeMet p (decided_by (decisions ++ last ∷ [])) (get_or sides i d).line)
       → IsTrail p sides (decisions ++ last ∷ []) (heights ++ length broken ∷ []) new
   trail_more decisions last heights broken new trail begins told = record {
     count = (let a = trail.count in let b = length_push heights (length broken) in let c = length_push decisions last in omega arith);
@@ -114,15 +114,15 @@ module _ (p : ProblemParts) (sides : List Beside) where
       ]
 
       each : (n i : ℕ) (d : Beside) → n ≤ length (decisions ++ last ∷ []) → i < length sides
-          → (times i (take (get_or (heights ++ length broken ∷ []) n (length new)) new) ≡ 0) ↔ CanBeMet p (decided_by (take n (decisions ++ last ∷ []))) (get_or sides i d).line
-      each n i d l m = elim (cases_lt (length heights) n) as (λ _. (times i (take (get_or (heights ++ length broken ∷ []) n (length new)) new) ≡ 0) ↔ CanBeMet p (decided_by (take n (decisions ++ last ∷ []))) (get_or sides i d).line) [
-        | inl k ↦ subst (λ (ds : List Decision). (times i (take (get_or (heights ++ length broken ∷ []) n (length new)) new) ≡ 0) ↔ CanBeMet p (decided_by ds) (get_or sides i d).line)
+          → (times_listed i (take (get_or (heights ++ length broken ∷ []) n (length new)) new) ≡ 0) ↔ CanBeMet p (decided_by (take n (decisions ++ last ∷ []))) (get_or sides i d).line
+      each n i d l m = elim (cases_lt (length heights) n) as (λ _. (times_listed i (take (get_or (heights ++ length broken ∷ []) n (length new)) new) ≡ 0) ↔ CanBeMet p (decided_by (take n (decisions ++ last ∷ []))) (get_or sides i d).line) [
+        | inl k ↦ subst (λ (ds : List Decision). (times_listed i (take (get_or (heights ++ length broken ∷ []) n (length new)) new) ≡ 0) ↔ CanBeMet p (decided_by ds) (get_or sides i d).line)
             (sym (take_all n (decisions ++ last ∷ []) (let a = trail.count in let b = length_push decisions last in omega arith)))
-            (subst (λ bs. (times i bs ≡ 0) ↔ CanBeMet p (decided_by (decisions ++ last ∷ [])) (get_or sides i d).line)
+            (subst (λ bs. (times_listed i bs ≡ 0) ↔ CanBeMet p (decided_by (decisions ++ last ∷ [])) (get_or sides i d).line)
             (sym (ap (λ h. take h new) (top n (omega arith)) ∙ take_all (length new) new (omega arith))) (told i d m))
-        | inr k ↦ subst (λ (ds : List Decision). (times i (take (get_or (heights ++ length broken ∷ []) n (length new)) new) ≡ 0) ↔ CanBeMet p (decided_by ds) (get_or sides i d).line)
+        | inr k ↦ subst (λ (ds : List Decision). (times_listed i (take (get_or (heights ++ length broken ∷ []) n (length new)) new) ≡ 0) ↔ CanBeMet p (decided_by ds) (get_or sides i d).line)
             (sym (take-append-le n decisions (last ∷ []) (let a = trail.count in omega arith)))
-            (subst (λ bs. (times i bs ≡ 0) ↔ CanBeMet p (decided_by (take n decisions)) (get_or sides i d).line)
+            (subst (λ bs. (times_listed i bs ≡ 0) ↔ CanBeMet p (decided_by (take n decisions)) (get_or sides i d).line)
             (ap (take (get_or heights n (length broken))) (sym begins.same) ∙ take-take (get_or heights n (length broken)) (length broken) new (low n) ∙ ap (λ h. take h new) (sym (same_height n k)))
             (trail.each n i d (let a = trail.count in omega arith) m))
       ]

@@ -6,14 +6,14 @@ use Rattle.std.proofs.lemmas.List.Sums.{sum_by_push}
 use Rattle.std.proofs.lemmas.Grind.{take_at_read}
 use Rattle.columns.specs.declared.known.KnownColumn.{KnownColumn}
 use Rattle.columns.specs.declared.lines.Beside.{Beside}
-use Rattle.columns.specs.Lines.{one_if, times, AreMarked, IsMetBy, BeginsWith, AreTried}
+use Rattle.columns.specs.Lines.{one_if, times_listed, AreMarked, IsMetBy, BeginsWith, AreTried}
 
 -- a number that is one of a list, or isn't
-pub is_not_there : (met : List Bool) (broken : List ℕ) (i : ℕ) → AreMarked met broken → i < length met → get_or met i false ≡ true → times i broken ≡ 0
+pub is_not_there : (met : List Bool) (broken : List ℕ) (i : ℕ) → AreMarked met broken → i < length met → get_or met i false ≡ true → times_listed i broken ≡ 0
 is_not_there met broken i marked l is = let a = marked.once i l in let b = ap one_if is in omega arith
 
-pub is_there : (met : List Bool) (broken : List ℕ) (i : ℕ) → AreMarked met broken → i < length met → get_or met i false ≡ false → times i broken ≡ 1
-is_there met broken i marked l is = let a = marked.once i l in let b = ap one_if is in omega arith
+pub is_listed : (met : List Bool) (broken : List ℕ) (i : ℕ) → AreMarked met broken → i < length met → get_or met i false ≡ false → times_listed i broken ≡ 1
+is_listed met broken i marked l is = let a = marked.once i l in let b = ap one_if is in omega arith
 
 all_taken : (xs : List ℕ) → take (length xs) xs ≡ xs
 all_taken xs = take_all (length xs) xs (omega arith)
@@ -42,8 +42,8 @@ module _ (columns : List KnownColumn) (sides : List Beside) (lines old : List �
 
   pub one_tried : (n line e : ℕ) (before after : List ℕ) → AreTried columns sides (take n lines) old before → n < length lines → get_or lines n e ≡ line
       → BeginsWith before after
-      → ((i : ℕ) → (line == i) ≡ false → times i after ≡ times i before)
-      → ((d : Beside) → (times line after ≡ 0) ↔ ((times line before ≡ 0) × IsMetBy columns (get_or sides line d)))
+      → ((i : ℕ) → (line == i) ≡ false → times_listed i after ≡ times_listed i before)
+      → ((d : Beside) → (times_listed line after ≡ 0) ↔ ((times_listed line before ≡ 0) × IsMetBy columns (get_or sides line d)))
       → AreTried columns sides (take (n + 1) lines) old after
   one_tried n line e before after so_far l at begins others tried = record {
     begins = begins_more old before after so_far.begins begins;
@@ -51,11 +51,11 @@ module _ (columns : List KnownColumn) (sides : List Beside) (lines old : List �
   }
     where
       Goal : ℕ → Beside → Type 0
-      Goal i d = (times i after ≡ 0) ↔ ((times i old ≡ 0) × (0 < times i (take (n + 1) lines) → IsMetBy columns (get_or sides i d)))
+      Goal i d = (times_listed i after ≡ 0) ↔ ((times_listed i old ≡ 0) × (0 < times_listed i (take (n + 1) lines) → IsMetBy columns (get_or sides i d)))
 
-      more : (i : ℕ) → times i (take (n + 1) lines) ≡ times i (take n lines) + one_if (line == i)
-      more i = ap (times i) (take_at_read lines n e l).1 ∙ sum_by_push (λ x. one_if (x == i)) (take n lines) (get_or lines n e)
-          ∙ ap (λ x. times i (take n lines) + one_if (x == i)) at
+      more : (i : ℕ) → times_listed i (take (n + 1) lines) ≡ times_listed i (take n lines) + one_if (line == i)
+      more i = ap (times_listed i) (take_at_read lines n e l).1 ∙ sum_by_push (λ x. one_if (x == i)) (take n lines) (get_or lines n e)
+          ∙ ap (λ x. times_listed i (take n lines) + one_if (x == i)) at
 
       here : (d : Beside) → line < length sides → one_if (line == line) ≡ 1 → Goal line d
       here d m one = let old_each = so_far.each line d m in (

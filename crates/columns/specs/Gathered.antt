@@ -6,11 +6,11 @@ use Rattle.solid_model.specs.declared.segment.Style.TheVariants.{Blank}
 use Rattle.columns.specs.declared.lines.Beside.{Beside}
 use Rattle.columns.specs.declared.spans.Span.{Span}
 use Rattle.columns.specs.Touching.{is_of, view_width, shown_cell}
-use Rattle.columns.specs.Lines.{times, AreMarked}
+use Rattle.columns.specs.Lines.{times_listed, AreMarked}
 use Rattle.columns.specs.Spans.{is_on, known_there, AreWithin, AreAdded}
 use Rattle.columns.specs.Decisions.{decided_by}
 use Rattle.solid_model.specs.Demands.{known_in}
-use Rattle.columns.specs.Plans.{IsAddedOnce, with_hit, is_there}
+use Rattle.columns.specs.Plans.{IsAddedOnce, with_hit, is_listed}
 use Rattle.columns.specs.declared.known.KnownColumn.{KnownColumn}
 use Rattle.solid_model.specs.Frames.{frame_of}
 use Rattle.columns.specs.KeptColumns.{columns_before, IsBeside}
@@ -56,7 +56,7 @@ pub record IsGatheredTo (p : ProblemParts) (at : ColumnPlace) (number n : ℕ) (
   pub each : (b : ℕ) (d : List Span) (c k : ℕ) → b < length old → is_on (slice_index_or spans b d) c k
       ≡ (is_on (slice_index_or old b d) c k || ((number == c) && (nat_lt k n && is_of b (block_of_place p at k))))
   pub inside : (m : ℕ) → All (λ ss. All (λ s. s.column < m) ss) old → number < m → All (λ ss. All (λ s. s.column < m) ss) spans
-  pub which : (b : ℕ) → (times b on ≡ 0) ↔ ((k : ℕ) → k < n → is_of b (block_of_place p at k) ≡ false)
+  pub which : (b : ℕ) → (times_listed b on ≡ 0) ↔ ((k : ℕ) → k < n → is_of b (block_of_place p at k) ≡ false)
 
 -- All of the column of that number. None of its cells is decided.
 pub record IsGatheredAt (p : ProblemParts) (at : ColumnPlace) (number : ℕ) (old spans : List (List Span)) (on : List ℕ) (column : KnownColumn) : Type 0 where
@@ -79,30 +79,30 @@ pub record AreGatheredTo (p : ProblemParts) (n : ℕ) (spans : List (List Span))
   pub known : (c k : ℕ) → c < n → known_there columns c k ≡ known_in (decided_by []) (block_of_column p c k)
   pub each : (b : ℕ) (d : List Span) (c k : ℕ) → b < p.blocks.count → is_on (slice_index_or spans b d) c k ≡ (nat_lt c n && is_of b (block_of_column p c k))
   pub inside : (m : ℕ) → n ≤ m → All (λ ss. All (λ s. s.column < m) ss) spans
-  pub which : (c b : ℕ) (ls : List ℕ) → c < n → (times b (slice_index_or on c ls) ≡ 0) ↔ ((k : ℕ) → is_of b (block_of_column p c k) ≡ false)
+  pub which : (c b : ℕ) (ls : List ℕ) → c < n → (times_listed b (slice_index_or on c ls) ≡ 0) ↔ ((k : ℕ) → is_of b (block_of_column p c k) ≡ false)
 
 -- A line is listed with some blocks, and nothing else is.
 pub record AreTouchedBy (line : ℕ) (blocks : List ℕ) (old new : List (List ℕ)) : Type 0 where
   pub count : length new ≡ length old
   pub each : (b n : ℕ) (ls : List ℕ) → b < length old
-      → (times n (slice_index_or new b ls) ≡ 0) ↔ ((times n (slice_index_or old b ls) ≡ 0) × ((line == n) ≡ true → times b blocks ≡ 0))
+      → (times_listed n (slice_index_or new b ls) ≡ 0) ↔ ((times_listed n (slice_index_or old b ls) ≡ 0) × ((line == n) ≡ true → times_listed b blocks ≡ 0))
   pub lists : (b : ℕ) (ls base : List ℕ) (hit : Bool) → b < length old → All (λ x. x < line) base → slice_index_or old b ls ≡ with_hit base hit line
-      → slice_index_or new b ls ≡ with_hit base (hit || is_there b blocks) line
+      → slice_index_or new b ls ≡ with_hit base (hit || is_listed b blocks) line
 
 abbrev pub no_side : Beside
 no_side = record { line = record { view = Front; upright = false; at = 0; cell = 0 }; after = 0; before = 0; style = Blank }
 
 -- a column beside a line has cells of a block
 abbrev pub hits : List Beside → List (List ℕ) → ℕ → ℕ → Bool
-hits sides on b i = is_there b (slice_index_or on (slice_index_or sides i no_side).after []) || is_there b (slice_index_or on (slice_index_or sides i no_side).before [])
+hits sides on b i = is_listed b (slice_index_or on (slice_index_or sides i no_side).after []) || is_listed b (slice_index_or on (slice_index_or sides i no_side).before [])
 
 -- The first lines are listed with the blocks of the columns beside them.
 pub record AreTouchedTo (sides : List Beside) (on : List (List ℕ)) (blocks n : ℕ) (touched : List (List ℕ)) : Type 0 where
   pub count : length touched ≡ blocks
   pub each : (b i : ℕ) (ls xs : List ℕ) (d : Beside) → b < blocks → i < n → i < length sides
-      → (times i (slice_index_or touched b ls) ≡ 0)
-      ↔ ((times b (slice_index_or on (slice_index_or sides i d).after xs) ≡ 0) × (times b (slice_index_or on (slice_index_or sides i d).before xs) ≡ 0))
-  pub later : (b i : ℕ) (ls : List ℕ) → b < blocks → n ≤ i → times i (slice_index_or touched b ls) ≡ 0
+      → (times_listed i (slice_index_or touched b ls) ≡ 0)
+      ↔ ((times_listed b (slice_index_or on (slice_index_or sides i d).after xs) ≡ 0) × (times_listed b (slice_index_or on (slice_index_or sides i d).before xs) ≡ 0))
+  pub later : (b i : ℕ) (ls : List ℕ) → b < blocks → n ≤ i → times_listed i (slice_index_or touched b ls) ≡ 0
   pub lists : (b : ℕ) (ls : List ℕ) → b < blocks → slice_index_or touched b ls ≡ filter (hits sides on b) (range_with_len 0 n)
 
 -- so many lists with nothing in them

@@ -8,7 +8,7 @@ use Rattle.columns.specs.declared.spans.Span.{Span}
 use Rattle.columns.specs.Touching.{is_of, view_width, view_height, shown_cell, touching}
 use Rattle.columns.specs.declared.decision.Decision.{Decision}
 use Rattle.columns.specs.Decisions.{decided_by, AreDecisions}
-use Rattle.columns.specs.Lines.{times, AreMarked}
+use Rattle.columns.specs.Lines.{times_listed, AreMarked}
 use Rattle.columns.specs.Spans.{is_on, known_there, AreWithin}
 use Rattle.solid_model.specs.declared.cell.Cell.{Cell}
 use Rattle.solid_model.specs.declared.frame.View.{View}
@@ -74,7 +74,7 @@ pub record AreTouched (p : ProblemParts) (sides : List Beside) (spans : List (Li
   pub count : length touched ≡ length spans
   pub there : All (λ ls. All (λ i. i < length sides) ls) touched
   pub each : (b i : ℕ) (s : List Span) (ls : List ℕ) (d : Beside) → b < length spans → i < length sides
-      → times i (slice_index_or touched b ls) ≡ 0
+      → times_listed i (slice_index_or touched b ls) ≡ 0
       → (k : ℕ) → (is_on (slice_index_or spans b s) (slice_index_or sides i d).after k ≡ false) × (is_on (slice_index_or spans b s) (slice_index_or sides i d).before k ≡ false)
   pub exact : (b : ℕ) (ls : List ℕ) → b < length spans → length (slice_index_or touched b ls) ≡ touching p b
 
@@ -84,7 +84,7 @@ pub record IsTrail (p : ProblemParts) (sides : List Beside) (decisions : List De
   pub count : length heights ≡ length decisions
   pub ordered : (m n : ℕ) → m ≤ n → slice_index_or heights m (length broken) ≤ slice_index_or heights n (length broken)
   pub each : (n i : ℕ) (d : Beside) → n ≤ length decisions → i < length sides
-      → (times i (take (slice_index_or heights n (length broken)) broken) ≡ 0) ↔ CanBeMet p (decided_by (take n decisions)) (slice_index_or sides i d).line
+      → (times_listed i (take (slice_index_or heights n (length broken)) broken) ≡ 0) ↔ CanBeMet p (decided_by (take n decisions)) (slice_index_or sides i d).line
 
 -- what doesn't change while blocks are decided
 pub record IsPlanOf (p : ProblemParts) (spans : List (List Span)) (touched : List (List ℕ)) (sides : List Beside) : Type 0 where

@@ -12,12 +12,12 @@ abbrev pub one_if : Bool → ℕ
 one_if b = if b then 1 else 0
 
 -- how often a number stands in a list
-abbrev pub times : ℕ → List ℕ → ℕ
-times i xs = sum_by (λ x. one_if (x == i)) xs
+abbrev pub times_listed : ℕ → List ℕ → ℕ
+times_listed i xs = sum_by (λ x. one_if (x == i)) xs
 
 -- The marks of lines say which can be met; each other line is listed once.
 pub record AreMarked (met : List Bool) (broken : List ℕ) : Type 0 where
-  pub once : (i : ℕ) → i < length met → times i broken + one_if (slice_index_or met i false) ≡ 1
+  pub once : (i : ℕ) → i < length met → times_listed i broken + one_if (slice_index_or met i false) ≡ 1
   pub below : All (λ i. i < length met) broken
   pub counted : length broken + sum_by one_if met ≡ length met
 
@@ -39,16 +39,16 @@ pub record BeginsWith (first whole : List ℕ) : Type 0 where
 pub record AreTried (columns : List KnownColumn) (sides : List Beside) (lines old new : List ℕ) : Type 0 where
   pub begins : BeginsWith old new
   pub each : (i : ℕ) (d : Beside) → i < length sides
-      → (times i new ≡ 0) ↔ ((times i old ≡ 0) × (0 < times i lines → IsMetBy columns (slice_index_or sides i d)))
+      → (times_listed i new ≡ 0) ↔ ((times_listed i old ≡ 0) × (0 < times_listed i lines → IsMetBy columns (slice_index_or sides i d)))
 
 -- it is one of them, and each that is less isn't
-pub record IsLeastOf (numbers : List ℕ) (x : ℕ) : Type 0 where
-  pub there : 0 < times x numbers
-  pub least : (i : ℕ) → i < x → times i numbers ≡ 0
+pub record IsLeastNumber (numbers : List ℕ) (x : ℕ) : Type 0 where
+  pub there : 0 < times_listed x numbers
+  pub least : (i : ℕ) → i < x → times_listed i numbers ≡ 0
 
 abbrev pub IsLeast : List ℕ → Option ℕ → Type 0
-IsLeast numbers None = (i : ℕ) → times i numbers ≡ 0
-IsLeast numbers (Some x) = IsLeastOf numbers x
+IsLeast numbers None = (i : ℕ) → times_listed i numbers ≡ 0
+IsLeast numbers (Some x) = IsLeastNumber numbers x
 
 -- the lesser of two numbers, of which the first may be none
 abbrev pub lesser_of : Option ℕ → ℕ → ℕ
@@ -57,5 +57,5 @@ lesser_of (Some x) n = if nat_lt n x then n else x
 
 -- of the first lines those are listed that can't be met, and none of the others
 pub record AreBrokenTo (columns : List KnownColumn) (sides : List Beside) (n : ℕ) (broken : List ℕ) : Type 0 where
-  pub before : (i : ℕ) (d : Beside) → i < n → i < length sides → (times i broken ≡ 0) ↔ IsMetBy columns (slice_index_or sides i d)
-  pub after : (i : ℕ) → n ≤ i → times i broken ≡ 0
+  pub before : (i : ℕ) (d : Beside) → i < n → i < length sides → (times_listed i broken ≡ 0) ↔ IsMetBy columns (slice_index_or sides i d)
+  pub after : (i : ℕ) → n ≤ i → times_listed i broken ≡ 0

@@ -1,11 +1,11 @@
 -- Lists that a plan of a problem is made of.
 use Rattle.std.specs.Prelude.{◌≡◌, ◌↔◌, ◌==◌, ◌&&◌, ◌-◌, Bool, false, ℕ, nat_lt, List, [], ◌∷◌, ◌++◌, length, slice_index_or, if◌then◌else◌}
 use Rattle.std.specs.List.{list_any}
-use Rattle.columns.specs.Lines.{times}
+use Rattle.columns.specs.Lines.{times_listed}
 
 -- a number more, if it isn't there
 abbrev pub IsAddedOnce : ℕ → List ℕ → List ℕ → Type 0
-IsAddedOnce x old new = (n : ℕ) → (times n new ≡ 0) ↔ ((times n old ≡ 0) × ((x == n) ≡ false))
+IsAddedOnce x old new = (n : ℕ) → (times_listed n new ≡ 0) ↔ ((times_listed n old ≡ 0) × ((x == n) ≡ false))
 
 -- the number is the last of a list
 abbrev pub ends_with : List ℕ → ℕ → Bool
@@ -20,5 +20,5 @@ abbrev pub with_hit : List ℕ → Bool → ℕ → List ℕ
 with_hit base hit n = if hit then base ++ n ∷ [] else base
 
 -- the number is in the list
-abbrev pub is_there : ℕ → List ℕ → Bool
-is_there b xs = list_any (λ x. x == b) xs
+abbrev pub is_listed : ℕ → List ℕ → Bool
+is_listed b xs = list_any (λ x. x == b) xs

@@ -1,7 +1,7 @@
 //! The lines that can't be met, in the order in which they were found.
 
 ghost use Rattle.std.specs.Prelude.{◌≡◌, ◌↔◌, ◌<◌, ◌≤◌, ◌+◌, ◌++◌, ◌∷◌, [], ◌==◌, ℕ, true, false, length, take, All, slice_index_or, slice_set, vec_capacity, IsTrue};
-ghost use Rattle.columns.specs.Lines.{times, AreMarked, IsMetBy, AreBeside, BeginsWith, AreTried, IsLeast, lesser_of};
+ghost use Rattle.columns.specs.Lines.{times_listed, AreMarked, IsMetBy, AreBeside, BeginsWith, AreTried, IsLeast, lesser_of};
 ghost use Rattle.columns.specs.Spans.{AreWithin};
 
 use crate::known::{KnownColumn, can_draw, meets};
@@ -84,9 +84,9 @@ fn try_line<L: Ledger>(
     ensures marked { AreMarked met.new broken.new.items }
     ensures room { vec_capacity broken.new ≡ vec_capacity broken.old }
     ensures begins { BeginsWith broken.old.items broken.new.items }
-    ensures others { (i : ℕ) → (line == i) ≡ false → times i broken.new.items ≡ times i broken.old.items }
-    ensures tried { (d : Beside) → (times line broken.new.items ≡ 0)
-        ↔ ((times line broken.old.items ≡ 0) × IsMetBy columns.now (slice_index_or sides.now line d)) }
+    ensures others { (i : ℕ) → (line == i) ≡ false → times_listed i broken.new.items ≡ times_listed i broken.old.items }
+    ensures tried { (d : Beside) → (times_listed line broken.new.items ≡ 0)
+        ↔ ((times_listed line broken.old.items ≡ 0) × IsMetBy columns.now (slice_index_or sides.now line d)) }
     ensures steps { steps.new ≤ steps.old + 1 }
 {
     if !met[line as usize] {

@@ -2,7 +2,7 @@
 
 ghost use Rattle.std.specs.Prelude.{◌≡◌, ◌<◌, IsTrue};
 ghost use Rattle.columns.specs.Plans.{ends_with};
-ghost use Rattle.columns.specs.Lines.{times};
+ghost use Rattle.columns.specs.Lines.{times_listed};
 
 use crate::spans::Span;
 use solid_model::Memory;
@@ -115,7 +115,7 @@ impl LineList {
 
 /// The number is the last of some.
 fn ends_in(numbers: &[u32], number: u32) -> bool
-    ensures there { IsTrue result → 0 < times number numbers.now }
+    ensures there { IsTrue result → 0 < times_listed number numbers.now }
     ensures last { result ≡ ends_with numbers.now number }
 {
     !numbers.is_empty() && numbers[numbers.len() - 1] == number

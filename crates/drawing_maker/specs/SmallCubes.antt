@@ -5,10 +5,10 @@ use Rattle.drawing_maker.specs.declared.cube.Kind.{Kind}
 use Rattle.drawing_maker.specs.declared.cube.Kind.TheVariants.{UnitCube, HollowCube, EightVoids}
 use Rattle.drawing_maker.specs.Made.{made_cubes}
 
-abbrev pub letter_of : Kind → List ℕ
-letter_of UnitCube = codes " U"
-letter_of HollowCube = codes " H"
-letter_of EightVoids = codes " E"
+abbrev pub cube_letter : Kind → List ℕ
+cube_letter UnitCube = codes " U"
+cube_letter HollowCube = codes " H"
+cube_letter EightVoids = codes " E"
 
 abbrev pub cubes_text : ℕ → List ℕ
-cubes_text n = flat_map (λ p. letter_of p.kind ++ decimal p.scale) (made_cubes n)
+cubes_text n = flat_map (λ p. cube_letter p.kind ++ decimal p.scale) (made_cubes n)

@@ -5,8 +5,8 @@ use Rattle.solid_model.specs.declared.face.Out.{Out}
 use Rattle.solid_model.specs.Faces.{FaceParts}
 
 -- the point with these coordinates, none of them negative
-abbrev pub point_at : ℕ → ℕ → ℕ → Cell
-point_at x y z = record { x = pos x; y = pos y; z = pos z }
+abbrev pub corner_at : ℕ → ℕ → ℕ → Cell
+corner_at x y z = record { x = pos x; y = pos y; z = pos z }
 
 -- the face on an outward side, at a coordinate, with these loops
 abbrev pub face_on : Out → ℤ → List (List Cell) → FaceParts

@@ -14,7 +14,7 @@ use Rattle.solid_model.specs.Tree.{PrefixTest, IsAllowed, live_count, live_below
 use Rattle.solid_model.proofs.Lists.{each-from, each-append, each-append_left, each-append_right, ascends-append_left, member-append_left}
 use Rattle.solid_model.proofs.PrefixTree.{live_count_none, live_below_none}
 use Rattle.search_core.specs.Conserves.{IsWholeTree, EndsRightly, LeavesRightly, IsConserved}
-use Rattle.search_core.specs.Core.{Core, Event, IsEvent, IsRun, start_of, same_prefix, without, end_at, after_event, after_events}
+use Rattle.search_core.specs.Core.{Core, Event, IsEvent, IsCoreRun, core_start, same_prefix, without, end_at, after_event, after_events}
 use Rattle.search_core.proofs.Lists.{sum-append, each-take, ascends-take, member-permutation, put_apart, once-permutation}
 use Rattle.search_core.proofs.OnceBelow.{once_below}
 use Rattle.search_core.proofs.TakenOut.{Decides-same_prefix, StandsBetween, stands_between}
@@ -153,7 +153,7 @@ module _ (live : PrefixTest) (n : ℕ) where
   -- ---- the start
 
   -- it keeps all, whether the empty prefix is live or not
-  started : (limits : SearchLimits) → IsClosed live → (t : Bool) → live [] ≡ t → IsConserved live n limits (start_of live)
+  started : (limits : SearchLimits) → IsClosed live → (t : Bool) → live [] ≡ t → IsConserved live n limits (core_start live)
   started limits closed true lives = rw lives (record {
     ends = (
       record {
@@ -185,27 +185,27 @@ module _ (live : PrefixTest) (n : ℕ) where
   -- ---- many events
 
   -- one after another they keep it
-  all_kept : (limits : SearchLimits) → IsClosed live → (events : List Event) (c : Core) → IsConserved live n limits c → IsRun live n limits c events
+  all_kept : (limits : SearchLimits) → IsClosed live → (events : List Event) (c : Core) → IsConserved live n limits c → IsCoreRun live n limits c events
       → IsConserved live n limits (after_events limits c events)
   all_kept limits closed [] c h run = h
   all_kept limits closed (e ∷ es) c h run = all_kept limits closed es (after_event limits c e) (kept limits closed c e h run.0) run.1
 
   -- from the start on
-  pub conserved : (limits : SearchLimits) → IsClosed live → (events : List Event) → IsRun live n limits (start_of live) events
-      → IsConserved live n limits (after_events limits (start_of live) events)
-  conserved limits closed events run = all_kept limits closed events (start_of live) (started limits closed (live []) refl) run
+  pub conserved : (limits : SearchLimits) → IsClosed live → (events : List Event) → IsCoreRun live n limits (core_start live) events
+      → IsConserved live n limits (after_events limits (core_start live) events)
+  conserved limits closed events run = all_kept limits closed events (core_start live) (started limits closed (live []) refl) run
 
   -- each opens a prefix at least
-  opened_each : (limits : SearchLimits) (events : List Event) (c : Core) → IsRun live n limits c events → length events + c.opened ≤ (after_events limits c events).opened
+  opened_each : (limits : SearchLimits) (events : List Event) (c : Core) → IsCoreRun live n limits c events → length events + c.opened ≤ (after_events limits c events).opened
   opened_each limits [] c run = omega arith
   opened_each limits (e ∷ es) c run = omega (arith, run.0.allowed.some, opened_each limits es (after_event limits c e) run.1)
 
   -- so there are no more events than live prefixes
-  pub few_events : (limits : SearchLimits) → IsClosed live → (events : List Event) → IsRun live n limits (start_of live) events → length events ≤ live_count live n []
-  few_events limits closed events run = omega (arith, opened_each limits events (start_of live) run, (conserved limits closed events run).opened)
+  pub few_events : (limits : SearchLimits) → IsClosed live → (events : List Event) → IsCoreRun live n limits (core_start live) events → length events ≤ live_count live n []
+  few_events limits closed events run = omega (arith, opened_each limits events (core_start live) run, (conserved limits closed events run).opened)
 
   -- a whole search has found all
-  pub all_found : (limits : SearchLimits) → IsClosed live → (events : List Event) → IsRun live n limits (start_of live) events
-      → (after_events limits (start_of live) events).end ≡ Some Whole → IsPermutation (live_below live n []) (after_events limits (start_of live) events).found
+  pub all_found : (limits : SearchLimits) → IsClosed live → (events : List Event) → IsCoreRun live n limits (core_start live) events
+      → (after_events limits (core_start live) events).end ≡ Some Whole → IsPermutation (live_below live n []) (after_events limits (core_start live) events).found
   all_found limits closed events run whole =
-      (subst (EndsRightly live n limits (after_events limits (start_of live) events)) whole (conserved limits closed events run).ends).2
+      (subst (EndsRightly live n limits (after_events limits (core_start live) events)) whole (conserved limits closed events run).ends).2

@@ -16,8 +16,8 @@ use Rattle.solid_model.specs.Tree.{IsAllowed}
 use Rattle.solid_model.proofs.Lists.{each-append, each-push, each-weaker}
 use Rattle.search_core.specs.declared.note.Note.{Note}
 use Rattle.search_core.specs.Ledger.{LedgerParts, history_of, desk_of, IsBegun, HasGrown, HasPosted, IsLedger, KeepsFrontier, IsLedgerOf}
-use Rattle.search_core.specs.Core.{Core, Event, IsRun, without, start_of, end_at, end_after, after_event}
-use Rattle.search_core.specs.Desk.{state_of, event_of, IsDesk}
+use Rattle.search_core.specs.Core.{Core, Event, IsCoreRun, without, core_start, end_at, end_after, after_event}
+use Rattle.search_core.specs.Desk.{desk_state, event_of, IsDesk}
 use Rattle.search_core.specs.Notes.{prefix_at, told, StandsAt, AreDistinct, AreShared}
 use Rattle.search_core.specs.Frontier.{count_of, times_in}
 use Rattle.search_core.proofs.KeptFrontiers.{frontier-posted, frontier-grown, frontier-begun, counted-member, member-counted}
@@ -56,13 +56,13 @@ desk-grown p limits b after opened end g h =
     let same = history-grown b after g h.ledger in
     record {
       ledger = ledger-grown b after g h.ledger;
-      run = subst (IsRun (is_live p) p.blocks.count limits (start_of (is_live p))) (sym same) h.run;
-      frontier = subst (λ (es : List Event). KeepsFrontier after.stored after.counts (state_of p limits es).frontier) (sym same)
-          (subst (λ (stored : List (List Bool)). KeepsFrontier stored after.counts (state_of p limits (history_of b)).frontier) (sym g.grown.1)
-          (frontier-grown b.stored g.grown.0 b.counts after.counts (state_of p limits (history_of b)).frontier (subst AreDistinct g.grown.1 g.distinct) g.counts h.frontier));
-      found = ap (λ (es : List Event). (state_of p limits es).found) same ∙ h.found ∙ ap (take limits.solids) (sym g.found);
-      opened = h.opened ∙ ap (λ (es : List Event). (state_of p limits es).opened) (sym same);
-      end = h.end ∙ ap (λ (es : List Event). (state_of p limits es).end) (sym same);
+      run = subst (IsCoreRun (is_live p) p.blocks.count limits (core_start (is_live p))) (sym same) h.run;
+      frontier = subst (λ (es : List Event). KeepsFrontier after.stored after.counts (desk_state p limits es).frontier) (sym same)
+          (subst (λ (stored : List (List Bool)). KeepsFrontier stored after.counts (desk_state p limits (history_of b)).frontier) (sym g.grown.1)
+          (frontier-grown b.stored g.grown.0 b.counts after.counts (desk_state p limits (history_of b)).frontier (subst AreDistinct g.grown.1 g.distinct) g.counts h.frontier));
+      found = ap (λ (es : List Event). (desk_state p limits es).found) same ∙ h.found ∙ ap (take limits.solids) (sym g.found);
+      opened = h.opened ∙ ap (λ (es : List Event). (desk_state p limits es).opened) (sym same);
+      end = h.end ∙ ap (λ (es : List Event). (desk_state p limits es).end) (sym same);
       few_found = λ e. subst (λ (found : List (List Bool)). length found ≤ limits.solids) (sym g.found) (h.few_found e);
       few_opened = h.few_opened;
     }
@@ -89,7 +89,7 @@ no-end limits found opened frontier e = at (nat_lt limits.solids found) (nat_lt 
 
 module _ (p : ProblemParts) (limits : SearchLimits) (b after : LedgerParts) (opened : ℕ) (end : Option EndKind) (h : IsLedgerOf p limits b opened end) where
   abbrev state : Core
-  state = state_of p limits (history_of b)
+  state = desk_state p limits (history_of b)
 
   module _ (piece more : ℕ) (choices rest : List (List Bool)) (places : List ℕ) (e : HasPosted b after piece more choices places) (going : end ≡ None)
       (there : 0 < count_of b.counts piece) (inside : piece < length b.stored) (below : Each (λ k. k < length b.stored) places)
@@ -127,8 +127,8 @@ module _ (p : ProblemParts) (limits : SearchLimits) (b after : LedgerParts) (ope
         }
 
     -- the state after the event
-    pub state-entered : state_of p limits (history_of after) ≡ after_event limits state event
-    state-entered = ap (state_of p limits) history-entered ∙ after-push limits (start_of (is_live p)) (history_of b) event
+    pub state-entered : desk_state p limits (history_of after) ≡ after_event limits state event
+    state-entered = ap (desk_state p limits) history-entered ∙ after-push limits (core_start (is_live p)) (history_of b) event
 
     -- the frontier after the event is kept
     pub keeps-entered : Member state.frontier (prefix_at b.stored piece) → KeepsFrontier after.stored after.counts (after_event limits state event).frontier
@@ -155,8 +155,8 @@ module _ (p : ProblemParts) (limits : SearchLimits) (b after : LedgerParts) (ope
         let limited = λ (f : kind ≡ None). no-end limits (length after.found) (opened + more) (after_event limits state event).frontier (sym is ∙ f) in
         record {
           ledger = ledger-entered;
-          run = subst (IsRun (is_live p) p.blocks.count limits (start_of (is_live p))) (sym history-entered)
-              (run-push (is_live p) p.blocks.count limits (start_of (is_live p)) (history_of b) event h.run (record { going = sym h.end ∙ going; in_frontier = member; allowed = allowed }));
+          run = subst (IsCoreRun (is_live p) p.blocks.count limits (core_start (is_live p))) (sym history-entered)
+              (run-push (is_live p) p.blocks.count limits (core_start (is_live p)) (history_of b) event h.run (record { going = sym h.end ∙ going; in_frontier = member; allowed = allowed }));
           frontier = subst (λ (c : Core). KeepsFrontier after.stored after.counts c.frontier) (sym state-entered) keeps;
           found = ap (λ (c : Core). c.found) state-entered ∙ ap (λ (found : List (List Bool)). take limits.solids (found ++ choices)) h.found
               ∙ take-first limits.solids b.found choices ∙ ap (take limits.solids) (sym e.found);
@@ -186,13 +186,13 @@ module _ (p : ProblemParts) (limits : SearchLimits) (b : LedgerParts) (live : Bo
   }
 
   -- and those of the desk, where the search begins like this
-  begins_so : (end : Option EndKind) (c : Core) → start_of (is_live p) ≡ c → KeepsFrontier b.stored b.counts c.frontier → c.found ≡ [] → c.opened ≡ 0 → end ≡ c.end
+  begins_so : (end : Option EndKind) (c : Core) → core_start (is_live p) ≡ c → KeepsFrontier b.stored b.counts c.frontier → c.found ≡ [] → c.opened ≡ 0 → end ≡ c.end
       → IsLedgerOf p limits b 0 end
   begins_so end c start keeps none zero_opened ended =
-      let state : state_of p limits (history_of b) ≡ c = ap (state_of p limits) history-begun ∙ start in
+      let state : desk_state p limits (history_of b) ≡ c = ap (desk_state p limits) history-begun ∙ start in
       record {
         ledger = ledger-begun;
-        run = subst (IsRun (is_live p) p.blocks.count limits (start_of (is_live p))) (sym history-begun) tt;
+        run = subst (IsCoreRun (is_live p) p.blocks.count limits (core_start (is_live p))) (sym history-begun) tt;
         frontier = subst (λ (d : Core). KeepsFrontier b.stored b.counts d.frontier) (sym state) keeps;
         found = ap (λ (d : Core). d.found) state ∙ none ∙ sym (ap (take limits.solids) begun.found ∙ take_all limits.solids [] (omega arith));
         opened = sym (ap (λ (d : Core). d.opened) state ∙ zero_opened);
@@ -208,7 +208,7 @@ module _ (p : ProblemParts) (limits : SearchLimits) (b : LedgerParts) (live : Bo
       frontier_at : (t : Bool) → live ≡ t → KeepsFrontier b.stored b.counts (if t then [] ∷ [] else [])
       frontier_at t f = frontier-begun b.stored b.counts begun.root t begun.distinct begun.stands (λ k. begun.counts k ∙ ap (λ (u : Bool). if u then times_in k (begun.root ∷ []) else 0) f)
 
-      start_at : (t : Bool) → live ≡ t → start_of (is_live p) ≡ (if t then record { frontier = [] ∷ []; found = []; opened = 0; end = None } else record { frontier = []; found = []; opened = 0; end = Some Whole })
+      start_at : (t : Bool) → live ≡ t → core_start (is_live p) ≡ (if t then record { frontier = [] ∷ []; found = []; opened = 0; end = None } else record { frontier = []; found = []; opened = 0; end = Some Whole })
       start_at t f = ap (λ (u : Bool). if u then record { frontier = [] ∷ []; found = []; opened = 0; end = None } else record { frontier = []; found = []; opened = 0; end = Some Whole }) (sym is ∙ f)
 
       end_at_live : (t : Bool) → live ≡ t → end ≡ (if t then None else Some Whole)
@@ -224,7 +224,7 @@ module _ (p : ProblemParts) (limits : SearchLimits) (b : LedgerParts) (live : Bo
 pub desk-is : (p : ProblemParts) (limits : SearchLimits) (b : LedgerParts) (opened : ℕ) (end : Option EndKind) → IsLedgerOf p limits b opened end → IsDesk (desk_of p limits (history_of b))
 desk-is p limits b opened end h = record {
   run = h.run;
-  frontier = IsPermutation-refl (state_of p limits (history_of b)).frontier;
+  frontier = IsPermutation-refl (desk_state p limits (history_of b)).frontier;
   found = refl;
   opened = refl;
   end = refl;
@@ -232,18 +232,18 @@ desk-is p limits b opened end h = record {
 
 -- a piece that has no place which is counted is not in the frontier
 pub desk-gone : (p : ProblemParts) (limits : SearchLimits) (b : LedgerParts) (opened : ℕ) (end : Option EndKind) → IsLedgerOf p limits b opened end → (piece : List Bool)
-    → ((k : ℕ) → StandsAt b.stored piece k → count_of b.counts k ≡ 0) → Member (state_of p limits (history_of b)).frontier piece → ⊥
+    → ((k : ℕ) → StandsAt b.stored piece k → count_of b.counts k ≡ 0) → Member (desk_state p limits (history_of b)).frontier piece → ⊥
 desk-gone p limits b opened end h piece none m =
-    let w = member-counted b.stored b.counts (state_of p limits (history_of b)).frontier h.frontier piece m in
+    let w = member-counted b.stored b.counts (desk_state p limits (history_of b)).frontier h.frontier piece m in
     let e : count_of b.counts w.0 ≡ 0 = none w.0 w.1 in
     let l : 0 < count_of b.counts w.0 = w.2 in
     omega arith
 
 -- a piece that has such a place is in the frontier
 pub desk-counted : (p : ProblemParts) (limits : SearchLimits) (b : LedgerParts) (opened : ℕ) (end : Option EndKind) → IsLedgerOf p limits b opened end → (piece : List Bool) (k : ℕ)
-    → StandsAt b.stored piece k → 0 < count_of b.counts k → Member (state_of p limits (history_of b)).frontier piece
+    → StandsAt b.stored piece k → 0 < count_of b.counts k → Member (desk_state p limits (history_of b)).frontier piece
 desk-counted p limits b opened end h piece k stands there =
-    subst (Member (state_of p limits (history_of b)).frontier) stands.there (counted-member b.stored b.counts (state_of p limits (history_of b)).frontier h.frontier k there)
+    subst (Member (desk_state p limits (history_of b)).frontier) stands.there (counted-member b.stored b.counts (desk_state p limits (history_of b)).frontier h.frontier k there)
 
 -- what is no value is none
 pub none-from : {A : Type 0} (o : Option A) → is_some o ≡ false → o ≡ None
@@ -266,12 +266,12 @@ desk-reported p limits b ready after opened total more place end kind r choices 
     let h1 = desk-grown p limits b ready opened end grown h in
     let s1 : StandsAt ready.stored r.piece place = subst (λ (stored : List (List Bool)). StandsAt stored r.piece place) (sym grown.grown.1) (stands-grown b.stored grown.grown.0 r.piece place stands) in
     let w1 : 0 < count_of ready.counts place = subst (λ (n : ℕ). 0 < n) (sym (grown.counts place)) there in
-    let member : Member (state_of p limits (history_of ready)).frontier (prefix_at ready.stored place) = counted-member ready.stored ready.counts (state_of p limits (history_of ready)).frontier h1.frontier place w1 in
+    let member : Member (desk_state p limits (history_of ready)).frontier (prefix_at ready.stored place) = counted-member ready.stored ready.counts (desk_state p limits (history_of ready)).frontier h1.frontier place w1 in
     let of_desk : IsAllowed (is_live p) p.blocks.count r.piece r.opened r.found r.rest = subst (λ (q : ProblemParts). IsAllowed (is_live q) q.blocks.count r.piece r.opened r.found r.rest) same allowed in
     let of_event : IsAllowed (is_live p) p.blocks.count (prefix_at ready.stored place) more choices r.rest =
     subst (λ (q : List Bool). IsAllowed (is_live p) p.blocks.count q more choices r.rest) (sym s1.there)
     (subst (λ (n : ℕ). IsAllowed (is_live p) p.blocks.count r.piece n choices r.rest) (sym count) (subst (λ (f : List (List Bool)). IsAllowed (is_live p) p.blocks.count r.piece r.opened f r.rest) (sym found) of_desk)) in
-    let frontier : List (List Bool) = without (prefix_at ready.stored place) (state_of p limits (history_of ready)).frontier ++ r.rest in
+    let frontier : List (List Bool) = without (prefix_at ready.stored place) (desk_state p limits (history_of ready)).frontier ++ r.rest in
     record {
       ledger = subst (λ (n : ℕ). IsLedgerOf p limits after n kind) (sym sum_is)
           (desk-entered p limits ready after opened end h1 place more choices r.rest places entered going w1 s1.below below rest kind member of_event

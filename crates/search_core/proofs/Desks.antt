@@ -12,8 +12,8 @@ use Rattle.solid_model.specs.Search.{SearchLimits}
 use Rattle.solid_model.specs.Tree.{PrefixTest, live_count, IsClosed}
 use Rattle.solid_model.proofs.Lists.{each-at, each-append}
 use Rattle.search_core.specs.Conserves.{IsConserved}
-use Rattle.search_core.specs.Core.{Core, Event, IsEvent, IsRun, start_of, without, end_at, after_event, after_events}
-use Rattle.search_core.specs.Desk.{DeskParts, IsDesk, IsTaken, state_of, event_of}
+use Rattle.search_core.specs.Core.{Core, Event, IsEvent, IsCoreRun, core_start, without, end_at, after_event, after_events}
+use Rattle.search_core.specs.Desk.{DeskParts, IsDesk, IsTaken, desk_state, event_of}
 use Rattle.search_core.proofs.CoreEvents.{conserved}
 use Rattle.search_core.proofs.KeptFrontiers.{each-without}
 use Rattle.search_core.proofs.Lists.{member-permutation}
@@ -31,7 +31,7 @@ module _ (live : PrefixTest) (n : ℕ) (limits : SearchLimits) where
     goes_on : c.end ≡ None → c.frontier ≡ [] → ⊥
     lives : Each (λ p. IsTrue (live p)) c.frontier
 
-  open_at_start : (t : Bool) → live [] ≡ t → IsOpen (start_of live)
+  open_at_start : (t : Bool) → live [] ≡ t → IsOpen (core_start live)
   open_at_start true e = rw e (record { goes_on = λ going none. omega (arith, ap length none); lives = (e, tt) })
   open_at_start false e = rw e (record { goes_on = λ going none. none-some Whole (sym going); lives = tt })
 
@@ -41,21 +41,21 @@ module _ (live : PrefixTest) (n : ℕ) (limits : SearchLimits) where
     lives = each-append (λ p. IsTrue (live p)) (without e.piece c.frontier) e.rest (each-without (λ p. IsTrue (live p)) e.piece c.frontier event.in_frontier h.lives) event.allowed.rest_live;
   }
 
-  open_all : (es : List Event) (c : Core) → IsOpen c → IsRun live n limits c es → IsOpen (after_events limits c es)
+  open_all : (es : List Event) (c : Core) → IsOpen c → IsCoreRun live n limits c es → IsOpen (after_events limits c es)
   open_all [] c h run = h
   open_all (e ∷ es) c h run = open_all es (after_event limits c e) (open_after c e h run.0) run.1
 
   -- the last event opens a prefix at least
-  last_opens : (es : List Event) (c : Core) (e : Event) → IsRun live n limits c (es ++ e ∷ []) → (after_events limits c es).opened < (after_events limits c (es ++ e ∷ [])).opened
+  last_opens : (es : List Event) (c : Core) (e : Event) → IsCoreRun live n limits c (es ++ e ∷ []) → (after_events limits c es).opened < (after_events limits c (es ++ e ∷ [])).opened
   last_opens [] c e run = omega (arith, run.0.allowed.some)
   last_opens (x ∷ es) c e run = last_opens es (after_event limits c x) e run.1
 
 module _ (d : DeskParts) (desk : IsDesk d) where
   abbrev state : Core
-  state = state_of d.problem d.limits d.history
+  state = desk_state d.problem d.limits d.history
 
   state_open : IsOpen (is_live d.problem) d.problem.blocks.count d.limits state
-  state_open = open_all (is_live d.problem) d.problem.blocks.count d.limits d.history (start_of (is_live d.problem))
+  state_open = open_all (is_live d.problem) d.problem.blocks.count d.limits d.history (core_start (is_live d.problem))
       (open_at_start (is_live d.problem) d.problem.blocks.count d.limits (is_live d.problem []) refl) desk.run
 
   -- before its end a desk has a piece
@@ -78,16 +78,16 @@ module _ (d : DeskParts) (desk : IsDesk d) where
 
 -- what a desk for this problem and these limits with this history keeps
 at_history : (p : ProblemParts) (limits : SearchLimits) (history : List Event) (d : DeskParts) → d.problem ≡ p → d.limits ≡ limits → d.history ≡ history → IsDesk d
-    → IsRun (is_live p) p.blocks.count limits (start_of (is_live p)) history × (d.opened ≡ (state_of p limits history).opened)
+    → IsCoreRun (is_live p) p.blocks.count limits (core_start (is_live p)) history × (d.opened ≡ (desk_state p limits history).opened)
 at_history p limits history d same_problem same_limits same_history desk =
     subst (Keeps p limits) same_history (subst (λ l. Keeps p l d.history) same_limits (subst (λ q. Keeps q d.limits d.history) same_problem (desk.run, desk.opened)))
   where
     Keeps : ProblemParts → SearchLimits → List Event → Type 0
-    Keeps q l h = IsRun (is_live q) q.blocks.count l (start_of (is_live q)) h × (d.opened ≡ (state_of q l h).opened)
+    Keeps q l h = IsCoreRun (is_live q) q.blocks.count l (core_start (is_live q)) h × (d.opened ≡ (desk_state q l h).opened)
 
 -- a report that is taken opens a prefix at least
 pub report_opens : (before after : DeskParts) (r : Report) → IsDesk before → IsDesk after → IsTaken before r after → before.opened < after.opened
 report_opens before after r was is taken =
     let p = before.problem in
     let now = at_history p before.limits (before.history ++ event_of r ∷ []) after taken.problem taken.limits taken.history is in
-    omega (arith, was.opened, now.1, last_opens (is_live p) p.blocks.count before.limits before.history (start_of (is_live p)) (event_of r) now.0)
+    omega (arith, was.opened, now.1, last_opens (is_live p) p.blocks.count before.limits before.history (core_start (is_live p)) (event_of r) now.0)

@@ -6,7 +6,7 @@ use Rattle.solid_model.specs.Search.{SearchLimits}
 use Rattle.solid_model.specs.Tree.{PrefixTest}
 use Rattle.solid_model.proofs.Lists.{each-append_left, each-append_right}
 use Rattle.search_core.specs.declared.note.Note.{Note}
-use Rattle.search_core.specs.Core.{Core, Event, IsEvent, IsRun, after_event, after_events}
+use Rattle.search_core.specs.Core.{Core, Event, IsEvent, IsCoreRun, after_event, after_events}
 use Rattle.search_core.specs.Notes.{prefix_at, told, AreShared}
 use Rattle.search_core.proofs.Stored.{named-grown}
 
@@ -18,8 +18,8 @@ after-push limits c [] e = refl
 after-push limits c (x ∷ es) e = after-push limits (after_event limits c x) es e
 
 -- a run and an event of the state to which it leads are a run
-pub run-push : (live : PrefixTest) (n : ℕ) (limits : SearchLimits) (c : Core) (es : List Event) (e : Event) → IsRun live n limits c es
-    → IsEvent live n (after_events limits c es) e → IsRun live n limits c (es ++ e ∷ [])
+pub run-push : (live : PrefixTest) (n : ℕ) (limits : SearchLimits) (c : Core) (es : List Event) (e : Event) → IsCoreRun live n limits c es
+    → IsEvent live n (after_events limits c es) e → IsCoreRun live n limits c (es ++ e ∷ [])
 run-push live n limits c [] e run event = (event, tt)
 run-push live n limits c (x ∷ es) e run event = (run.0, run-push live n limits (after_event limits c x) es e run.1 event)
 

@@ -6,7 +6,7 @@ use Rattle.std.proofs.lemmas.Option.{none-some, same_Some}
 use Rattle.std.specs.Prelude.{Option, if◌then◌else◌}
 use Rattle.search_core.specs.declared.trie.Node.{Node}
 use Rattle.search_core.specs.Core.{same_prefix}
-use Rattle.search_core.specs.Trie.{bare_node, node_at, child, with_child, with_place, lead, walk, place_of, IsTree}
+use Rattle.search_core.specs.Trie.{bare_node, node_at, child, with_child, with_place, lead, walk, trie_place, IsTrie}
 use Rattle.search_core.proofs.TakenOut.{Decides-same_prefix}
 
 -- ---- ways
@@ -34,7 +34,7 @@ pub walk-push : (nodes : List Node) (i at : ℕ) (p : List Bool) (b : Bool) → 
 walk-push nodes i at p b e = walk-append nodes i p (b ∷ []) ∙ ap (λ o. lead o (λ j. walk nodes j (b ∷ []))) e ∙ walk-one nodes at b
 
 -- a way stays within the nodes
-pub walk-inside : (nodes : List Node) → IsTree nodes → (p : List Bool) (i at : ℕ) → i < length nodes → walk nodes i p ≡ Some at → at < length nodes
+pub walk-inside : (nodes : List Node) → IsTrie nodes → (p : List Bool) (i at : ℕ) → i < length nodes → walk nodes i p ≡ Some at → at < length nodes
 walk-inside nodes t [] i at l e = subst (λ k. k < length nodes) (same_Some i at e) l
 walk-inside nodes t (b ∷ p) i at l e = on (child (node_at nodes i) b) refl e (λ n. walk-inside nodes t p n at)
   where
@@ -56,11 +56,11 @@ walk-stops nodes p k at l e f =
     ap (walk nodes 0) (sym (take-append-drop (k + 1) p)) ∙ walk-append nodes 0 (take (k + 1) p) (drop (k + 1) p) ∙ ap (λ o. lead o (λ j. walk nodes j (drop (k + 1) p))) here
 
 -- the place of a list, from where it leads
-pub place-there : (nodes : List Node) (p : List Bool) (at : ℕ) → walk nodes 0 p ≡ Some at → place_of nodes p ≡ (node_at nodes at).place
+pub place-there : (nodes : List Node) (p : List Bool) (at : ℕ) → walk nodes 0 p ≡ Some at → trie_place nodes p ≡ (node_at nodes at).place
 place-there nodes p at e = ap (λ o. lead o (λ k. (node_at nodes k).place)) e
 
 -- it has none if it leads nowhere
-pub place-nowhere : (nodes : List Node) (p : List Bool) → walk nodes 0 p ≡ None → place_of nodes p ≡ None
+pub place-nowhere : (nodes : List Node) (p : List Bool) → walk nodes 0 p ≡ None → trie_place nodes p ≡ None
 place-nowhere nodes p e = ap (λ o. lead o (λ k. (node_at nodes k).place)) e
 
 -- ---- a tree of one node
@@ -82,14 +82,14 @@ walk-bare nodes i at bare (b ∷ p) e =
     let none : child (node_at nodes i) b ≡ None = ap (λ n. child n b) bare ∙ bare-child b in
     absurd (none-some at (sym (ap (λ o. lead o (λ n. walk nodes n p)) none) ∙ e))
 
-pub one_node : IsTree (bare_node ∷ [])
+pub one_node : IsTrie (bare_node ∷ [])
 one_node = record {
   some = omega arith;
   inside = λ at b next e. absurd (none-some next (sym (ap (λ n. child n b) (bare-nodes at) ∙ bare-child b) ∙ e));
   one_way = λ p q at e f. (walk-bare (bare_node ∷ []) 0 at refl p e).0 ∙ sym (walk-bare (bare_node ∷ []) 0 at refl q f).0;
 }
 
-pub no_places : (p : List Bool) → place_of (bare_node ∷ []) p ≡ None
+pub no_places : (p : List Bool) → trie_place (bare_node ∷ []) p ≡ None
 no_places p = on (walk (bare_node ∷ []) 0 p)
   where
     on : (o : Option ℕ) → lead o (λ at. (node_at (bare_node ∷ []) at).place) ≡ None
@@ -131,7 +131,7 @@ node-pushed (n ∷ nodes) (suc i) = node-pushed nodes i
 abbrev pub with_node : List Node → ℕ → Bool → List Node
 with_node nodes at b = set (nodes ++ bare_node ∷ []) at (with_child (node_at nodes at) b (length nodes))
 
-module _ (nodes : List Node) (t : IsTree nodes) (at : ℕ) (b : Bool) (l : at < length nodes) (none : child (node_at nodes at) b ≡ None) where
+module _ (nodes : List Node) (t : IsTrie nodes) (at : ℕ) (b : Bool) (l : at < length nodes) (none : child (node_at nodes at) b ≡ None) where
   -- the others stay as they were
   node-other : (i : ℕ) → i ≢ at → node_at (with_node nodes at b) i ≡ node_at nodes i
   node-other i ne = get_or-set_other (nodes ++ bare_node ∷ []) at i (with_child (node_at nodes at) b (length nodes)) bare_node ne ∙ node-pushed nodes i
@@ -202,7 +202,7 @@ module _ (nodes : List Node) (t : IsTree nodes) (at : ℕ) (b : Bool) (l : at < 
       ]
 
   -- the nodes are a tree again
-  pub tree_with_node : IsTree (with_node nodes at b)
+  pub tree_with_node : IsTrie (with_node nodes at b)
   tree_with_node = record {
     some = omega (arith, longer);
     inside = λ i c next e. elim (leads i next c e) as (λ _. next < length (with_node nodes at b)) [
@@ -225,7 +225,7 @@ module _ (nodes : List Node) (t : IsTree nodes) (at : ℕ) (b : Bool) (l : at < 
       one p q j (inr e) (inr f) = e.1.2 ∙ ap (λ r. r ++ b ∷ []) (t.one_way e.1.0 f.1.0 at e.1.1 f.1.1) ∙ sym f.1.2
 
   -- no list's place changes
-  pub places_with_node : (p : List Bool) → place_of (with_node nodes at b) p ≡ place_of nodes p
+  pub places_with_node : (p : List Bool) → trie_place (with_node nodes at b) p ≡ trie_place nodes p
   places_with_node p = on (walk nodes 0 p) refl
     where
       unless : (o : Option ℕ) → walk (with_node nodes at b) 0 p ≡ o → walk nodes 0 p ≡ None → lead o (λ k. (node_at (with_node nodes at b) k).place) ≡ None
@@ -235,7 +235,7 @@ module _ (nodes : List Node) (t : IsTree nodes) (at : ℕ) (b : Bool) (l : at < 
         | inr made ↦ ap (λ k. (node_at (with_node nodes at b) k).place) made.0 ∙ ap (λ (n : Node). n.place) node-new
       ]
 
-      on : (o : Option ℕ) → walk nodes 0 p ≡ o → place_of (with_node nodes at b) p ≡ place_of nodes p
+      on : (o : Option ℕ) → walk nodes 0 p ≡ o → trie_place (with_node nodes at b) p ≡ trie_place nodes p
       on None is = unless (walk (with_node nodes at b) 0 p) refl is ∙ sym (place-nowhere nodes p is)
       on (Some j) is = place-there (with_node nodes at b) p j (walk-kept p 0 j is) ∙ places-kept j ∙ sym (place-there nodes p j is)
 
@@ -246,7 +246,7 @@ module _ (nodes : List Node) (t : IsTree nodes) (at : ℕ) (b : Bool) (l : at < 
 
 -- ---- a place more
 
-module _ (nodes : List Node) (t : IsTree nodes) (at k : ℕ) (l : at < length nodes) where
+module _ (nodes : List Node) (t : IsTrie nodes) (at k : ℕ) (l : at < length nodes) where
   abbrev placed : List Node
   placed = set nodes at (with_place (node_at nodes at) k)
 
@@ -277,7 +277,7 @@ module _ (nodes : List Node) (t : IsTree nodes) (at k : ℕ) (l : at < length no
       on (Some n) further = further n
 
   -- the nodes are a tree still
-  pub tree_placed : IsTree placed
+  pub tree_placed : IsTrie placed
   tree_placed = record {
     some = omega (arith, t.some, length-set nodes at (with_place (node_at nodes at) k));
     inside = λ i b next e. (let h = t.inside i b next (sym (leads-placed i b) ∙ e) in omega (arith, h, length-set nodes at (with_place (node_at nodes at) k)));
@@ -285,8 +285,8 @@ module _ (nodes : List Node) (t : IsTree nodes) (at k : ℕ) (l : at < length no
   }
 
   -- the list that leads to the node has the place, the others have what they had
-  pub places_placed : (p : List Bool) → walk nodes 0 p ≡ Some at → (q : List Bool) → place_of placed q ≡ (if same_prefix p q then Some k else place_of nodes q)
-  places_placed p e q = cond_both (same_prefix p q) (Some k) (place_of nodes q) (λ o. place_of placed q ≡ o)
+  pub places_placed : (p : List Bool) → walk nodes 0 p ≡ Some at → (q : List Bool) → trie_place placed q ≡ (if same_prefix p q then Some k else trie_place nodes q)
+  places_placed p e q = cond_both (same_prefix p q) (Some k) (trie_place nodes q) (λ o. trie_place placed q ≡ o)
       (λ same. place-there placed q at (walk-placed q 0 ∙ ap (walk nodes 0) (sym ((Decides-same_prefix p q).0 same)) ∙ e) ∙ ap (λ (n : Node). n.place) placed-same)
       (λ other. ap (λ o. lead o (λ j. (node_at placed j).place)) (walk-placed q 0) ∙ on other (walk nodes 0 q) refl)
     where

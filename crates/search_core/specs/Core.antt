@@ -34,8 +34,8 @@ pub record Event : Type 0 where
   pub rest : List (List Bool)
 
 -- the start: the empty prefix is to be expanded, if it is live
-abbrev pub start_of : PrefixTest → Core
-start_of live = if live [] then record { frontier = [] ∷ []; found = []; opened = 0; end = None }
+abbrev pub core_start : PrefixTest → Core
+core_start live = if live [] then record { frontier = [] ∷ []; found = []; opened = 0; end = None }
     else record { frontier = []; found = []; opened = 0; end = Some Whole }
 
 -- a report is an event of a state that has no end, where it is allowed and its piece is still to be expanded
@@ -71,6 +71,6 @@ after_events limits c [] = c
 after_events limits c (e ∷ es) = after_events limits (after_event limits c e) es
 
 -- each is an event of the state in which it comes
-abbrev pub IsRun : PrefixTest → ℕ → SearchLimits → Core → List Event → Type 0
-IsRun live n limits c [] = Unit {0}
-IsRun live n limits c (e ∷ es) = IsEvent live n c e × IsRun live n limits (after_event limits c e) es
+abbrev pub IsCoreRun : PrefixTest → ℕ → SearchLimits → Core → List Event → Type 0
+IsCoreRun live n limits c [] = Unit {0}
+IsCoreRun live n limits c (e ∷ es) = IsEvent live n c e × IsCoreRun live n limits (after_event limits c e) es

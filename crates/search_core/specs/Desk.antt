@@ -6,7 +6,7 @@ use Rattle.solid_model.specs.Demands.{is_live}
 use Rattle.solid_model.specs.Lists.{Member}
 use Rattle.solid_model.specs.Reports.{Report}
 use Rattle.solid_model.specs.Search.{SearchLimits}
-use Rattle.search_core.specs.Core.{Core, Event, IsRun, start_of, after_events}
+use Rattle.search_core.specs.Core.{Core, Event, IsCoreRun, core_start, after_events}
 
 -- a desk: for which problem and limits, what has happened, and how the search stands
 pub record DeskParts : Type 0 where
@@ -19,17 +19,17 @@ pub record DeskParts : Type 0 where
   pub end : Option EndKind
 
 -- the state that a history leads to
-abbrev pub state_of : ProblemParts → SearchLimits → List Event → Core
-state_of p limits history = after_events limits (start_of (is_live p)) history
+abbrev pub desk_state : ProblemParts → SearchLimits → List Event → Core
+desk_state p limits history = after_events limits (core_start (is_live p)) history
 
 -- Every event of the history came in a state that took it, and the search stands as the history leaves it. The order of the
 -- frontier is free.
 pub record IsDesk (d : DeskParts) : Type 0 where
-  pub run : IsRun (is_live d.problem) d.problem.blocks.count d.limits (start_of (is_live d.problem)) d.history
-  pub frontier : IsPermutation d.frontier (state_of d.problem d.limits d.history).frontier
-  pub found : d.found ≡ (state_of d.problem d.limits d.history).found
-  pub opened : d.opened ≡ (state_of d.problem d.limits d.history).opened
-  pub end : d.end ≡ (state_of d.problem d.limits d.history).end
+  pub run : IsCoreRun (is_live d.problem) d.problem.blocks.count d.limits (core_start (is_live d.problem)) d.history
+  pub frontier : IsPermutation d.frontier (desk_state d.problem d.limits d.history).frontier
+  pub found : d.found ≡ (desk_state d.problem d.limits d.history).found
+  pub opened : d.opened ≡ (desk_state d.problem d.limits d.history).opened
+  pub end : d.end ≡ (desk_state d.problem d.limits d.history).end
 
 -- ---- reports
 

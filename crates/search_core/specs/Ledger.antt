@@ -7,8 +7,8 @@ use Rattle.solid_model.specs.Lists.{Member, Each}
 use Rattle.solid_model.specs.Search.{SearchLimits}
 use Rattle.search_core.specs.declared.ledger.Ledger.{Ledger}
 use Rattle.search_core.specs.declared.note.Note.{Note}
-use Rattle.search_core.specs.Core.{Event, IsRun, same_prefix, start_of}
-use Rattle.search_core.specs.Desk.{DeskParts, state_of}
+use Rattle.search_core.specs.Core.{Event, IsCoreRun, same_prefix, core_start}
+use Rattle.search_core.specs.Desk.{DeskParts, desk_state}
 use Rattle.search_core.specs.Notes.{prefix_at, told, StandsAt, AreDistinct, AreShared}
 use Rattle.search_core.specs.Frontier.{count_of, times_in}
 
@@ -87,20 +87,20 @@ desk_of p limits history = record {
   problem = p;
   limits = limits;
   history = history;
-  frontier = (state_of p limits history).frontier;
-  found = (state_of p limits history).found;
-  opened = (state_of p limits history).opened;
-  end = (state_of p limits history).end;
+  frontier = (desk_state p limits history).frontier;
+  found = (desk_state p limits history).found;
+  opened = (desk_state p limits history).opened;
+  end = (desk_state p limits history).end;
 }
 
 -- The ledger of a desk is in order, its history is a run, and what the desk keeps stands as the history leaves it. Before its
 -- end both limits are kept.
 pub record IsLedgerOf (p : ProblemParts) (limits : SearchLimits) (b : LedgerParts) (count : ℕ) (kind : Option EndKind) : Type 0 where
   pub ledger : IsLedger b
-  pub run : IsRun (is_live p) p.blocks.count limits (start_of (is_live p)) (history_of b)
-  pub frontier : KeepsFrontier b.stored b.counts (state_of p limits (history_of b)).frontier
-  pub found : (state_of p limits (history_of b)).found ≡ take limits.solids b.found
-  pub opened : count ≡ (state_of p limits (history_of b)).opened
-  pub end : kind ≡ (state_of p limits (history_of b)).end
+  pub run : IsCoreRun (is_live p) p.blocks.count limits (core_start (is_live p)) (history_of b)
+  pub frontier : KeepsFrontier b.stored b.counts (desk_state p limits (history_of b)).frontier
+  pub found : (desk_state p limits (history_of b)).found ≡ take limits.solids b.found
+  pub opened : count ≡ (desk_state p limits (history_of b)).opened
+  pub end : kind ≡ (desk_state p limits (history_of b)).end
   pub few_found : kind ≡ None → length b.found ≤ limits.solids
   pub few_opened : kind ≡ None → count ≤ limits.nodes

@@ -36,15 +36,15 @@ walk nodes at [] = Some at
 walk nodes at (b ∷ p) = lead (child (node_at nodes at) b) (λ next. walk nodes next p)
 
 -- the place of the node to which it leads from the first one
-abbrev pub place_of : List Node → List Bool → Option ℕ
-place_of nodes p = lead (walk nodes 0 p) (λ at. (node_at nodes at).place)
+abbrev pub trie_place : List Node → List Bool → Option ℕ
+trie_place nodes p = lead (walk nodes 0 p) (λ at. (node_at nodes at).place)
 
 -- the nodes are a tree: none leads beyond them, and no two lists lead to one
-pub record IsTree (nodes : List Node) : Type 0 where
+pub record IsTrie (nodes : List Node) : Type 0 where
   pub some : 0 < length nodes
   pub inside : (at : ℕ) (b : Bool) (next : ℕ) → child (node_at nodes at) b ≡ Some next → next < length nodes
   pub one_way : (p q : List Bool) (at : ℕ) → walk nodes 0 p ≡ Some at → walk nodes 0 q ≡ Some at → p ≡ q
 
 -- the places of a tree are those of the lists that are stored
 abbrev pub ArePlaces : List Node → List (List Bool) → Type 0
-ArePlaces nodes stored = (p : List Bool) (k : ℕ) → (place_of nodes p ≡ Some k) ↔ StandsAt stored p k
+ArePlaces nodes stored = (p : List Bool) (k : ℕ) → (trie_place nodes p ≡ Some k) ↔ StandsAt stored p k

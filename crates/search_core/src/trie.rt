@@ -72,23 +72,23 @@ pub struct Trie {
 impl Model for Trie {
     ghost use Rattle.std.specs.Prelude.{List};
     ghost use Rattle.search_core.specs.declared.trie.Node.{Node};
-    ghost use Rattle.search_core.specs.Trie.{IsTree};
+    ghost use Rattle.search_core.specs.Trie.{IsTrie};
 
     ghost Value = { List Node };
 
     ghost view = { λ s. s.nodes.items };
 
-    ghost invariant = { λ s. IsTree s.nodes.items };
+    ghost invariant = { λ s. IsTrie s.nodes.items };
 }
 
 impl Trie {
     ghost use Rattle.std.specs.Prelude.{◌≡◌, ◌<◌, ◌++◌, ◌∷◌, [], Bool, List, ℕ, Some, None, length, if◌then◌else◌, IfOk};
     ghost use Rattle.search_core.specs.Core.{same_prefix};
-    ghost use Rattle.search_core.specs.Trie.{IsTree, walk, place_of};
+    ghost use Rattle.search_core.specs.Trie.{IsTrie, walk, trie_place};
 
     /// A tree with no places. An `Err` is out of memory.
     pub fn new(alloc: Global) -> Result<Trie, Memory>
-        ensures { IfOk result (λ trie. (p : List Bool) → place_of trie p ≡ None) }
+        ensures { IfOk result (λ trie. (p : List Bool) → trie_place trie p ≡ None) }
     {
         let mut nodes = Vec::new(alloc);
         nodes.push(Node::new())?;
@@ -97,7 +97,7 @@ impl Trie {
 
     /// The place of a prefix, if it has one.
     pub fn place(&self, prefix: &Prefix) -> Option<u32>
-        ensures { result ≡ place_of self.now prefix.now }
+        ensures { result ≡ trie_place self.now prefix.now }
     {
         let mut at: u32 = 0;
         for block in 0..prefix.len() {
@@ -113,7 +113,7 @@ impl Trie {
     /// An `Err` is out of memory, or of 32-bit numbers for nodes.
     fn step(&mut self, at: u32, full: bool) -> Result<u32, Memory>
         requires { at < length self.old }
-        ensures places { (q : List Bool) → place_of self.new q ≡ place_of self.old q }
+        ensures places { (q : List Bool) → trie_place self.new q ≡ trie_place self.old q }
         ensures inside { IfOk result (λ next. next < length self.new) }
         ensures onward { IfOk result (λ next. (p : List Bool) → walk self.old 0 p ≡ Some at
             → walk self.new 0 (p ++ full ∷ []) ≡ Some next) }
@@ -133,7 +133,7 @@ impl Trie {
     /// The node to which a prefix leads; what is missing on the way is made. No place changes. An
     /// `Err` is out of memory, or of 32-bit numbers for nodes.
     pub fn reach(&mut self, prefix: &Prefix) -> Result<u32, Memory>
-        ensures places { (q : List Bool) → place_of self.new q ≡ place_of self.old q }
+        ensures places { (q : List Bool) → trie_place self.new q ≡ trie_place self.old q }
         ensures inside { IfOk result (λ at. at < length self.new) }
         ensures there { IfOk result (λ at. walk self.new 0 prefix.now ≡ Some at) }
     {
@@ -150,8 +150,8 @@ impl Trie {
     pub fn put(&mut self, at: u32, place: u32)
         requires { at < length self.old }
         ensures { (p : List Bool) → walk self.old 0 p ≡ Some at → (q : List Bool)
-            → place_of self.new q
-            ≡ (if same_prefix p q then Some place else place_of self.old q) }
+            → trie_place self.new q
+            ≡ (if same_prefix p q then Some place else trie_place self.old q) }
     {
         self.nodes[at as usize] = self.nodes[at as usize].with_place(place);
     }

@@ -9,7 +9,7 @@ use Rattle.clap.specs.Lexer.{long_of}
 use Rattle.words.specs.declared.table.Range.{Range}
 use Rattle.words.specs.Barred.{is_barred}
 use Rattle.words.specs.Jobs.{Command, command_said, commands, job_said, said_among}
-use Rattle.words.specs.Words.{Field, Table, Text, Use, Word, after_word, field_word, fits_after, has_number, is_within, number_word, opens, option_of, option_word, put, says, stray, suits, taken, uses, where_fit, word_as, word_of}
+use Rattle.words.specs.Words.{Field, Table, Text, Use, Word, after_word, field_word, fits_after, has_number, lies_in_range, number_word, opens, option_of, option_word, put, says, stray, suits, taken, uses, where_fit, word_as, word_of}
 use Rattle.clap.proofs.WalkLemmas.{both}
 use Rattle.words.proofs.Fits.{joined, joined_put, joined_unfit, unsuited}
 use Rattle.words.proofs.OneUse.{use_row}
@@ -58,7 +58,7 @@ module _ (t : Table) where
   value_unsuited : (f : Field) (x : Text) → is_some f.range ≡ true → is_barred x ≡ true → suits (f, x) ≡ false
   value_unsuited f x ranged barred = go f.range ranged
     where
-      go : (n : Option Range) → is_some n ≡ true → option_map_or (λ r. is_within r x) n true ≡ false
+      go : (n : Option Range) → is_some n ≡ true → option_map_or (λ r. lies_in_range r x) n true ≡ false
       go None e = absurd (true≢false (sym e))
       go (Some r) e = not_within r x (barred_no_number x barred)
 

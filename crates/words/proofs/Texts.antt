@@ -13,7 +13,7 @@ use Rattle.clap.specs.ValueTests.{is_numeral, is_unsigned_in}
 use Rattle.clap.proofs.WalkLemmas.{both}
 use Rattle.words.specs.declared.table.Range.{Range}
 use Rattle.words.specs.Barred.{begins_with_plus, has_equals_plus, is_barred}
-use Rattle.words.specs.Words.{Text, is_digits, is_within}
+use Rattle.words.specs.Words.{Text, is_digits, lies_in_range}
 
 -- ---- digits
 
@@ -49,7 +49,7 @@ drop_middle true false false m h = refl
 
 -- `clap` takes the numbers of the range, where no `+` stands first
 pub within_same : (r : Range) (x : Text) → begins_with_plus x ≡ false → nat_lt r.most (2 ^ 64) ≡ true
-    → is_unsigned_in r.least r.most x ≡ is_within r x
+    → is_unsigned_in r.least r.most x ≡ lies_in_range r x
 within_same r x plain small =
     let n = digits_value 10 x in
     ap (λ ds. is_numeral ds && (nat_lt (digits_value 10 ds) (2 ^ 64)
@@ -78,7 +78,7 @@ no_digits (c ∷ cs) e = go (c == 43) refl e (λ h. no_digits cs h)
 pub no_number : (x : Text) → has_byte 43 x ≡ true → is_digits x ≡ false
 no_number x e = ap (λ b. nat_lt 0 (length x) && b) (no_digits x e) ∙ and_false (nat_lt 0 (length x))
 
-pub not_within : (r : Range) (x : Text) → is_digits x ≡ false → is_within r x ≡ false
+pub not_within : (r : Range) (x : Text) → is_digits x ≡ false → lies_in_range r x ≡ false
 not_within r x e = ap (λ b. b && (nat_le r.least (digits_value 10 x) && nat_le (digits_value 10 x) r.most)) e
 
 -- a text that begins with a hyphen is no number

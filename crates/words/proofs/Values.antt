@@ -15,7 +15,7 @@ use Rattle.words.specs.Barred.{begins_with_plus}
 use Rattle.clap.specs.Words.{found_of, one_text}
 use Rattle.clap.specs.declared.parser.matches.ArgMatches.{ArgMatches}
 use Rattle.words.specs.Rows.{IsRead, has_flag, is_sound}
-use Rattle.words.specs.Words.{Field, Table, Text, Use, Word, after_word, field_word, fits_after, flag_text, has_number, is_digits, is_within, number_field, number_name, number_word, opens, option_of, option_word, put, says, stray, suits, taken, text_in, uses, where_fit, word_as, word_of}
+use Rattle.words.specs.Words.{Field, Table, Text, Use, Word, after_word, field_word, fits_after, flag_text, has_number, is_digits, lies_in_range, number_field, number_name, number_word, opens, option_of, option_word, put, says, stray, suits, taken, text_in, uses, where_fit, word_as, word_of}
 use Rattle.words.proofs.Built.{no_number_option}
 use Rattle.words.proofs.Fits.{found_named}
 use Rattle.words.proofs.Texts.{digit_same, plus_kept}
@@ -129,16 +129,16 @@ module _ (t : Table) (sound : is_sound t ≡ true) where
 
   -- the value of an option or of the number, where the words are taken
   pub value_within : (words : List Text) (us : List Use) (name : Text) (r : Range) → taken t words ≡ Some us
-      → called t name ≡ Some (record { name = name; range = Some r }) → IfSome (text_in name us) (λ x. is_within r x ≡ true)
+      → called t name ≡ Some (record { name = name; range = Some r }) → IfSome (text_in name us) (λ x. lies_in_range r x ≡ true)
   value_within words us name r e found =
       let parts = taken_uses words us e in
       go (find (λ u. bytes_eq u.0.name name) us) (found_use [] us name (record { name = name; range = Some r }) found parts.1
       parts.0)
     where
       go : (o : Option Use) → IfSome o (IsUseOf (record { name = name; range = Some r }))
-          → IfSome (option_map (λ (u : Use). u.1) o) (λ x. is_within r x ≡ true)
+          → IfSome (option_map (λ (u : Use). u.1) o) (λ x. lies_in_range r x ≡ true)
       go None h = tt
-      go (Some u) h = subst (λ (f : Field). option_map_or (λ q. is_within q u.1) f.range true ≡ true) h.0 h.1
+      go (Some u) h = subst (λ (f : Field). option_map_or (λ q. lies_in_range q u.1) f.range true ≡ true) h.0 h.1
 
   -- the value of a flag
   pub flag_within : (words : List Text) (us : List Use) (name : Text) → taken t words ≡ Some us
@@ -156,10 +156,10 @@ module _ (t : Table) (sound : is_sound t ≡ true) where
 -- what is read of an option of a table, or of its number, lies in the range, where the words are taken
 pub given_within : (t u : Table) (words : List Text) (m : ArgMatches) (name : Text) (r : Range) → u ≡ t → is_sound t ≡ true
     → IsRead u words m → called t name ≡ Some (record { name = name; range = Some r }) → has_flag t.options name ≡ false
-    → IfSome (one_text (found_of m) name) (λ text. is_within r text ≡ true)
+    → IfSome (one_text (found_of m) name) (λ text. lies_in_range r text ≡ true)
 given_within t u words m name r is sound read found plain =
     let got = subst (λ (s : Table). IsRead s words m) is read in
-    subst (λ (o : Option Text). IfSome o (λ text. is_within r text ≡ true))
+    subst (λ (o : Option Text). IfSome o (λ text. lies_in_range r text ≡ true))
     (sym (got.2 name ∙ ap (λ b. cond b (Some (unwrap_or (text_in name got.0) (codes "false"))) (text_in name got.0)) plain))
     (value_within t sound words got.0 name r got.1 found)
 
@@ -181,7 +181,7 @@ no_plus (c ∷ cs) e = go (c == 43) refl
 pub number_read : {E : Type 0} (gives : List ℕ → Result ℕ E → Type 0)
     → ((u : List ℕ) (x : Result ℕ E) → gives u x → ParsesUnsigned 64 10 u x)
     → (least most : ℕ) (text : Option Text) (got : Option ℕ) → most < 2 ^ 64
-    → IfSome text (λ x. is_within (record { least = least; most = most }) x ≡ true)
+    → IfSome text (λ x. lies_in_range (record { least = least; most = most }) x ≡ true)
     → (text ≡ None → got ≡ None) → ((t : List ℕ) → text ≡ Some t → ReadsOne gives t got) → got ≡ option_map (digits_value 10) text
 number_read gives parses least most None got small within none some = none refl
 number_read gives parses least most (Some x) got small within none some = go got (some x refl)
@@ -207,7 +207,7 @@ number_read gives parses least most (Some x) got small within none some = go got
 
 -- what is read lies in the range, where what stands for nothing does
 pub read_within : (least most otherwise : ℕ) (text : Option Text)
-    → IfSome text (λ x. is_within (record { least = least; most = most }) x ≡ true)
+    → IfSome text (λ x. lies_in_range (record { least = least; most = most }) x ≡ true)
     → least ≤ otherwise → otherwise ≤ most
     → (least ≤ unwrap_or (option_map (digits_value 10) text) otherwise)
     × (unwrap_or (option_map (digits_value 10) text) otherwise ≤ most)

@@ -95,12 +95,12 @@ abbrev pub is_digits : Text → Bool
 is_digits text = nat_lt 0 (length text) && list_all is_ascii_digit text
 
 -- digits whose number is in the range
-abbrev pub is_within : Range → Text → Bool
-is_within range text = is_digits text && (nat_le range.least (digits_value 10 text) && nat_le (digits_value 10 text) range.most)
+abbrev pub lies_in_range : Range → Text → Bool
+lies_in_range range text = is_digits text && (nat_le range.least (digits_value 10 text) && nat_le (digits_value 10 text) range.most)
 
 -- the value is one that the option takes
 abbrev pub suits : Use → Bool
-suits u = option_map_or (λ range. is_within range u.1) u.0.range true
+suits u = option_map_or (λ range. lies_in_range range u.1) u.0.range true
 
 -- the name is used
 abbrev pub is_used : Text → List Use → Bool

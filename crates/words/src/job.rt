@@ -9,7 +9,7 @@ ghost use Rattle.words.specs.declared.job.WordFault.TheVariants as word_fault;
 ghost use Rattle.words.specs.Barred.{is_barred};
 ghost use Rattle.words.specs.Jobs.{job_said, limits_in, number_in, redraw_table, seed_table, solve_table};
 ghost use Rattle.words.specs.Rows.{table_of};
-ghost use Rattle.words.specs.Words.{is_within, number_name, taken};
+ghost use Rattle.words.specs.Words.{lies_in_range, number_name, taken};
 
 use crate::barred::some_barred;
 use crate::parse::{number_or, parse};
@@ -99,9 +99,9 @@ fn seed_rows() -> Rows<'static>
 /// The limits of a search, by its options.
 fn limits_of(matches: &ArgMatches<'_>) -> Limits
     requires nodes { IfSome (one_text (found_of matches.now) (codes "nodes"))
-        (λ text. is_within (record { least = 1; most = 4000000 }) text ≡ true) }
+        (λ text. lies_in_range (record { least = 1; most = 4000000 }) text ≡ true) }
     requires solids { IfSome (one_text (found_of matches.now) (codes "solids"))
-        (λ text. is_within (record { least = 1; most = 65536 }) text ≡ true) }
+        (λ text. lies_in_range (record { least = 1; most = 65536 }) text ≡ true) }
     ensures { result ≡ record {
       nodes = unwrap_or (option_map (digits_value 10)
           (one_text (found_of matches.now) (codes "nodes"))) 1000000;

@@ -9,7 +9,7 @@ ghost use Rattle.words.specs.declared.job.WordFault.TheVariants as word_fault;
 ghost use Rattle.words.specs.Barred.{is_barred};
 ghost use Rattle.words.specs.Rows.{IsRead, field_of, is_sound, table_of};
 ghost use Rattle.words.specs.Rules.{app_by, number_rule, option_rule, rules_of};
-ghost use Rattle.words.specs.Words.{is_within, taken};
+ghost use Rattle.words.specs.Words.{lies_in_range, taken};
 
 use crate::job::WordFault;
 use crate::table::{Range, Row, Rows};
@@ -102,7 +102,7 @@ pub fn parse<'a>(
 /// The number that a name is given, or where it isn't used this one.
 pub fn number_or(matches: &ArgMatches<'_>, name: &str, least: u64, most: u64, otherwise: u64) -> u64
     requires given { IfSome (one_text (found_of matches.now) name.now)
-        (λ text. is_within (record { least = least; most = most }) text ≡ true) }
+        (λ text. lies_in_range (record { least = least; most = most }) text ≡ true) }
     requires least { least ≤ otherwise }
     requires most { otherwise ≤ most }
     ensures value { result ≡ unwrap_or (option_map (digits_value 10)

@@ -2,7 +2,7 @@
 use Rattle.std.proofs.Common.{ap, subst, ◌∙◌, arith}
 use Rattle.std.proofs.lemmas.Bool.{both_ways}
 use Rattle.std.proofs.lemmas.List.{get_or_default}
-use Rattle.columns.specs.Lines.{times, IsMetBy}
+use Rattle.columns.specs.Lines.{times_listed, IsMetBy}
 use Rattle.columns.proofs.MarkedLines.{last_there}
 use Rattle.columns.proofs.lines.try_line.Goals as goal
 
@@ -14,6 +14,6 @@ returns-then-is_met-clause-tried g c = λ d. (
 
 pub returns-clause-tried : goal.returns-clause-tried
 returns-clause-tried g c = λ d. (
-  λ none. absurd (let e = ap (times c.args.line) c.break_line.ensures.broken ∙ last_there c.args.broken.now.items c.args.line in omega arith),
+  λ none. absurd (let e = ap (times_listed c.args.line) c.break_line.ensures.broken ∙ last_there c.args.broken.now.items c.args.line in omega arith),
   λ both. absurd (both_ways c.is_met.result c.if-is_met.false (c.is_met.ensures.met.1 (subst (IsMetBy c.args.columns.now) (get_or_default c.args.sides.now c.args.line d _ c.requires.there) both.1))),
 )

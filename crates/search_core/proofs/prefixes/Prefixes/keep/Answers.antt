@@ -3,7 +3,7 @@ use Rattle.std.proofs.Common.{◌≡◌, List, [], Bool, Some, None, ◌++◌, �
 use Rattle.std.specs.Prelude.{if◌then◌else◌}
 use Rattle.search_core.specs.Core.{same_prefix}
 use Rattle.search_core.specs.Notes.{StandsAt}
-use Rattle.search_core.specs.Trie.{place_of, ArePlaces}
+use Rattle.search_core.specs.Trie.{trie_place, ArePlaces}
 use Rattle.search_core.proofs.Stored.{places_same, places_push}
 use Rattle.search_core.proofs.prefixes.Prefixes.keep.Goals as goal
 
@@ -28,8 +28,8 @@ invariant_of-self-2 c =
     let p = c.args.prefix.now in
     let items : c.push.new.self.items ≡ stored ++ p ∷ [] = c.in_ok-push.ensures.items ∙ ap (λ (q : List Bool). stored ++ q ∷ []) c.in_ok-try_clone.ensures in
     let place : c.len-place.result ≡ length stored = omega arith in
-    let none : place_of c.reach.new.self p ≡ None = c.reach.ensures.places p ∙ sym c.place.ensures ∙ c.in_default.is in
-    let given : (q : List Bool) → place_of c.put.new.self q ≡ (if same_prefix p q then Some (length stored) else place_of c.reach.new.self q) =
-    λ q. c.put.ensures p c.in_ok-at.ensures.there q ∙ ap (λ k. if same_prefix p q then Some k else place_of c.reach.new.self q) place in
+    let none : trie_place c.reach.new.self p ≡ None = c.reach.ensures.places p ∙ sym c.place.ensures ∙ c.in_default.is in
+    let given : (q : List Bool) → trie_place c.put.new.self q ≡ (if same_prefix p q then Some (length stored) else trie_place c.reach.new.self q) =
+    λ q. c.put.ensures p c.in_ok-at.ensures.there q ∙ ap (λ k. if same_prefix p q then Some k else trie_place c.reach.new.self q) place in
     subst (ArePlaces c.put.new.self) (sym items)
     (places_push c.reach.new.self c.put.new.self stored p none given (places_same c.self.inside.trie c.reach.new.self stored c.reach.ensures.places c.self.invariant))

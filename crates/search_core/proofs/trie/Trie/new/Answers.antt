@@ -1,16 +1,16 @@
 -- A tree of one node.
 use Rattle.std.proofs.Common.{◌≡◌, ◌++◌, ◌∷◌, [], List, sym, ◌∙◌, ap, subst}
 use Rattle.search_core.specs.declared.trie.Node.{Node}
-use Rattle.search_core.specs.Trie.{bare_node, place_of, IsTree}
+use Rattle.search_core.specs.Trie.{bare_node, trie_place, IsTrie}
 use Rattle.search_core.proofs.Tries.{one_node, no_places}
 use Rattle.search_core.proofs.trie.Trie.new.Goals as goal
 
 pub invariant_of-result : goal.invariant_of-result
 invariant_of-result c =
     let nodes : c.push.new.self.items ≡ bare_node ∷ [] = c.in_ok-push.ensures.items ∙ ap (λ (l : List Node). l ++ c.new.result ∷ []) c.new-nodes.ensures.items ∙ ap (λ (n : Node). n ∷ []) c.new.ensures in
-    subst IsTree (sym nodes) one_node
+    subst IsTrie (sym nodes) one_node
 
 pub returns : goal.returns
 returns c =
     let nodes : c.push.new.self.items ≡ bare_node ∷ [] = c.in_ok-push.ensures.items ∙ ap (λ (l : List Node). l ++ c.new.result ∷ []) c.new-nodes.ensures.items ∙ ap (λ (n : Node). n ∷ []) c.new.ensures in
-    λ p. ap (λ (l : List Node). place_of l p) nodes ∙ no_places p
+    λ p. ap (λ (l : List Node). trie_place l p) nodes ∙ no_places p

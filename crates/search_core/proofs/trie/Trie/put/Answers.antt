@@ -4,7 +4,7 @@ use Rattle.std.proofs.lemmas.List.{get_or_read}
 use Rattle.std.specs.Prelude.{if◌then◌else◌}
 use Rattle.search_core.specs.declared.trie.Node.{Node}
 use Rattle.search_core.specs.Core.{same_prefix}
-use Rattle.search_core.specs.Trie.{bare_node, node_at, with_place, walk, place_of, IsTree}
+use Rattle.search_core.specs.Trie.{bare_node, node_at, with_place, walk, trie_place, IsTrie}
 use Rattle.search_core.proofs.Tries.{tree_placed, places_placed}
 use Rattle.search_core.proofs.trie.Trie.put.Goals as goal
 
@@ -14,7 +14,7 @@ invariant_of-self c =
     let l : c.args.at < length nodes = rw c.self.view_is c.requires in
     let node : c.with_place.result ≡ with_place (node_at nodes c.args.at) c.args.place =
     c.with_place.ensures ∙ ap (λ (n : Node). with_place n c.args.place) (get_or_read nodes c.args.at c.index.result.now l c.index.ensures bare_node) in
-    subst (λ (n : Node). IsTree (set nodes c.args.at n)) (sym node) (tree_placed nodes c.self.invariant c.args.at c.args.place l)
+    subst (λ (n : Node). IsTrie (set nodes c.args.at n)) (sym node) (tree_placed nodes c.self.invariant c.args.at c.args.place l)
 
 pub returns : goal.returns
 returns c =
@@ -23,5 +23,5 @@ returns c =
     let node : c.with_place.result ≡ with_place (node_at nodes c.args.at) c.args.place =
     c.with_place.ensures ∙ ap (λ (n : Node). with_place n c.args.place) (get_or_read nodes c.args.at c.index.result.now l c.index.ensures bare_node) in
     subst (λ (v : List Node). (p : List Bool) → walk v 0 p ≡ Some c.args.at → (q : List Bool)
-    → place_of (set nodes c.args.at c.with_place.result) q ≡ (if same_prefix p q then Some c.args.place else place_of v q)) c.self.view_is
-    (λ p e q. ap (λ (n : Node). place_of (set nodes c.args.at n) q) node ∙ places_placed nodes c.self.invariant c.args.at c.args.place l p e q)
+    → trie_place (set nodes c.args.at c.with_place.result) q ≡ (if same_prefix p q then Some c.args.place else trie_place v q)) c.self.view_is
+    (λ p e q. ap (λ (n : Node). trie_place (set nodes c.args.at n) q) node ∙ places_placed nodes c.self.invariant c.args.at c.args.place l p e q)

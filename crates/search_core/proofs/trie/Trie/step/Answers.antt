@@ -3,7 +3,7 @@ use Rattle.std.proofs.Common.{◌≡◌, ◌<◌, ◌+◌, Some, ℕ, List, [], 
 use Rattle.std.proofs.lemmas.List.{get_or_read, get_or_read_under, get_or_append_left, length_push}
 use Rattle.std.specs.Prelude.{Option}
 use Rattle.search_core.specs.declared.trie.Node.{Node}
-use Rattle.search_core.specs.Trie.{bare_node, node_at, child, with_child, walk, place_of, IsTree}
+use Rattle.search_core.specs.Trie.{bare_node, node_at, child, with_child, walk, trie_place, IsTrie}
 use Rattle.search_core.proofs.Tries.{walk-push, with_node, tree_with_node, places_with_node, way_to_new}
 use Rattle.search_core.proofs.trie.Trie.step.Goals as goal
 
@@ -40,7 +40,7 @@ invariant_of-self-2 c =
     let nodes = c.self.inside.nodes.items in
     let l : c.args.at < length nodes = rw c.self.view_is c.requires in
     let none = has nodes c.args.at c.args.full l c.index.result.now c.child.result c.index.ensures c.child.ensures ∙ c.in_default.is in
-    subst IsTree (sym (written nodes c.push.new.self.items c.args.at c.len-next.result c.args.full c.with_child.result c.index-2.result.now c.new.result l c.new.ensures c.in_ok-push.ensures.items (omega arith) c.index-2.ensures c.with_child.ensures))
+    subst IsTrie (sym (written nodes c.push.new.self.items c.args.at c.len-next.result c.args.full c.with_child.result c.index-2.result.now c.new.result l c.new.ensures c.in_ok-push.ensures.items (omega arith) c.index-2.ensures c.with_child.ensures))
     (tree_with_node nodes c.self.invariant c.args.at c.args.full l none)
 
 pub returns-clause-places : goal.returns-clause-places
@@ -49,7 +49,7 @@ returns-clause-places c =
     let l : c.args.at < length nodes = rw c.self.view_is c.requires in
     let none = has nodes c.args.at c.args.full l c.index.result.now c.child.result c.index.ensures c.child.ensures ∙ c.in_default.is in
     let is = written nodes c.push.new.self.items c.args.at c.len-next.result c.args.full c.with_child.result c.index-2.result.now c.new.result l c.new.ensures c.in_ok-push.ensures.items (omega arith) c.index-2.ensures c.with_child.ensures in
-    λ q. ap (λ (v : List Node). place_of v q) is ∙ places_with_node nodes c.self.invariant c.args.at c.args.full l none q ∙ ap (λ (v : List Node). place_of v q) c.self.view_is
+    λ q. ap (λ (v : List Node). trie_place v q) is ∙ places_with_node nodes c.self.invariant c.args.at c.args.full l none q ∙ ap (λ (v : List Node). trie_place v q) c.self.view_is
 
 pub returns-clause-onward : goal.returns-clause-onward
 returns-clause-onward c =
