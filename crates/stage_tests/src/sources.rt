@@ -1,7 +1,8 @@
 //! What std's readers give and its writers hold, and that pieces are flushed.
 
+use std::alloc::Global;
 use std::io;
-use std::io::Write;
+use std::io::{Read, Write};
 use std::test::Fail;
 use tv_base::{MemSink, Sink, SinkError, StdSink, StdSource, read_all};
 
@@ -48,5 +49,37 @@ fn each_piece_is_written_and_flushed(rt: HostRuntime) -> Result<(), Fail> {
     assert_eq!(rt; sink.write_all(b"abc"), Ok(()));
     assert_eq!(rt; sink.write_all(b"de"), Err(SinkError::Failed));
     assert_eq!(rt; choppy.taken.as_slice(), b"abcde".as_slice());
+    Ok(())
+}
+
+/// A reader that has nothing, and keeps how much room each call gave it.
+#[derive(Drop)]
+struct Roomy {
+    rooms: Vec<usize>,
+}
+
+impl Read for Roomy {
+    fn read(&mut self, room: &mut [u8]) -> io::Result<usize> {
+        self.rooms.push(room.len())?;
+        Ok(0)
+    }
+}
+
+/// How much room `read_all` gives a reader that has nothing, where so many bytes are the most.
+fn rooms_for(alloc: Global, most: usize) -> Result<Vec<usize>, Fail> {
+    let mut roomy = Roomy {
+        rooms: Vec::new(alloc),
+    };
+    read_all(alloc, &mut StdSource::new(&mut roomy), most)?;
+    Ok(roomy.rooms)
+}
+
+#[test]
+fn reads_have_room_for_so_many_bytes(rt: HostRuntime) -> Result<(), Fail> {
+    assert_eq!(rt;
+        rooms_for(rt.alloc(), 16_777_216)?.as_slice(),
+        [65_536usize].as_slice()
+    );
+    assert_eq!(rt; rooms_for(rt.alloc(), 4)?.as_slice(), [5usize].as_slice());
     Ok(())
 }
