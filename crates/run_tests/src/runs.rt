@@ -120,17 +120,20 @@ const FAULTS: &str = "\
 0; 2; redraw|2| -> 8 none 2 of 1|\n\
 0; 2; trial|11|; all -> 0 trial 11 pieces 14 blocks 27 solids 35 nodes 739 volume 108471|";
 
+/// What `solve` writes for what is left of the source: all of it, or nothing.
+fn text_of_left(left: &str) -> &'static str {
+    match left {
+        "all" => UNIT_CUBE,
+        _ => NOTHING_LEFT,
+    }
+}
+
 /// Whether a run ends as its row has it, and leaves of the source what the row says.
 fn ends_so(alloc: Global, row: Row<'_>) -> Result<bool, AllocError> {
     let [read, write, words, left, _] = row.parts;
     let calls = [read.parse().unwrap_or(0), write.parse().unwrap_or(0)];
     let wanted = row.wanted.replace(alloc, "|", "\n")?;
-    let after = if left == "all" {
-        UNIT_CUBE
-    } else {
-        NOTHING_LEFT
-    };
-    writes(alloc, words, calls, [wanted.as_str(), after])
+    writes(alloc, words, calls, [wanted.as_str(), text_of_left(left)])
 }
 
 #[test]
