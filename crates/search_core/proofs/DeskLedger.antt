@@ -17,7 +17,7 @@ use Rattle.solid_model.proofs.Lists.{each-append, each-push, each-weaker}
 use Rattle.search_core.specs.declared.note.Note.{Note}
 use Rattle.search_core.specs.Ledger.{LedgerParts, history_of, desk_of, IsBegun, HasGrown, HasPosted, IsLedger, KeepsFrontier, IsLedgerOf}
 use Rattle.search_core.specs.Core.{Core, Event, IsCoreRun, times_among, without, core_start, end_at, end_after, after_event}
-use Rattle.search_core.specs.Desk.{desk_state, event_of, pieces_put, IsDesk, IsFirstPiece}
+use Rattle.search_core.specs.Desk.{desk_state, event_of, pieces_put, IsDesk, IsFirstPiece, IsTaken}
 use Rattle.search_core.specs.Notes.{prefix_at, told, StandsAt, AreDistinct, AreShared}
 use Rattle.search_core.specs.Frontier.{count_of, times_in, IsFirstPut}
 use Rattle.search_core.proofs.KeptFrontiers.{frontier-posted, frontier-grown, frontier-begun, counted-member, member-counted, left-among}
@@ -287,6 +287,19 @@ desk-reported p limits b ready after opened total more place end kind r choices 
           ∙ ap₂ (λ (es : List Event) (e : Event). es ++ e ∷ []) (history-grown b ready grown h.ledger)
           (ap₂ (λ (q : List Bool) (n : ℕ). record { piece = q; opened = n; found = choices; rest = r.rest }) s1.there count
           ∙ ap (λ (f : List (List Bool)). record { piece = r.piece; opened = r.opened; found = f; rest = r.rest }) found);
+    }
+
+-- a report that is taken tells what was found and opened too
+pub taken_on : (p : ProblemParts) (limits : SearchLimits) (before after : List Event) (r : Report) → after ≡ before ++ event_of r ∷ []
+    → IsTaken (desk_of p limits before) r (desk_of p limits after)
+taken_on p limits before after r history =
+    let state = ap (desk_state p limits) history ∙ after-push limits (core_start (is_live p)) before (event_of r) in
+    record {
+      problem = refl;
+      limits = refl;
+      history = history;
+      found = ap (λ (c : Core). c.found) state;
+      opened = ap (λ (c : Core). c.opened) state;
     }
 
 -- ---- the first piece

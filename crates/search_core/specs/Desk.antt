@@ -1,5 +1,5 @@
 -- The desk of a search: the core as a value that keeps its history.
-use Rattle.std.specs.Prelude.{◌≡◌, ◌≤◌, Bool, ℕ, List, [], ◌∷◌, ◌++◌, Option, None, IsPermutation}
+use Rattle.std.specs.Prelude.{◌≡◌, ◌≤◌, ◌+◌, Bool, ℕ, List, [], ◌∷◌, ◌++◌, take, Option, None, IsPermutation}
 use Rattle.std.specs.List.{flat_map}
 use Rattle.solid_model.specs.declared.ended.EndKind.{EndKind}
 use Rattle.solid_model.specs.Blocks.{ProblemParts}
@@ -56,8 +56,11 @@ pub record Takes (d : DeskParts) (r : Report) : Type 0 where
   pub going : d.end ≡ None
   pub in_frontier : Member d.frontier r.piece
 
--- after a report its event stands behind the history
+-- after a report its event stands behind the history: its choices are found too, as far as the limit of solids has room, and so
+-- many more prefixes are opened
 pub record IsTaken (before : DeskParts) (r : Report) (after : DeskParts) : Type 0 where
   pub problem : after.problem ≡ before.problem
   pub limits : after.limits ≡ before.limits
   pub history : after.history ≡ before.history ++ event_of r ∷ []
+  pub found : after.found ≡ take before.limits.solids (before.found ++ r.found)
+  pub opened : after.opened ≡ before.opened + r.opened
