@@ -1,0 +1,12 @@
+pub mod Sums
+pub mod CellSides
+pub mod RectangleOrder
+pub mod EdgeCounts
+pub mod Closing
+pub mod Covering
+pub mod Walked
+pub mod OnGrid
+pub mod Corners
+pub mod WrittenPieces
+pub mod Texts
+pub mod SomeRectangles

@@ -1,0 +1,48 @@
+-- Texts that are put together line by line.
+use Rattle.std.proofs.Common.{◌≡◌, List, [], ◌∷◌, ◌++◌, ℕ, refl, sym, ◌∙◌, ap, append_assoc, codes}
+use Rattle.std.specs.Fmt.{signed_decimal}
+use Rattle.std.specs.List.{flat_map}
+use Rattle.std.proofs.lemmas.Grind.{flat_map-append}
+use Rattle.face_laws.specs.GridFaces.{Planes}
+use Rattle.solid_model.specs.declared.cell.Cell.{Cell}
+use Rattle.stl_out.specs.declared.rectangle.Rectangle.{Rectangle}
+use Rattle.stl_out.specs.declared.triangle.Triangle.{Triangle}
+use Rattle.stl_out.specs.Pieces.{rectangle_text}
+use Rattle.stl_out.specs.Rectangles.{triangles_of, all_triangles}
+use Rattle.stl_out.specs.StlText.{outward_step, numbers_text, facet_text, stl_text}
+
+-- six parts, one behind another
+in_order : (t a b c d e f : List ℕ) → (((((t ++ a) ++ b) ++ c) ++ d) ++ e) ++ f ≡ t ++ (a ++ b ++ c ++ d ++ e ++ f)
+in_order t a b c d e f = simp append_assoc
+
+-- a line of a word and three numbers
+pub numbers_pushed : (word : List ℕ) (c : Cell) (t0 t1 t2 t3 t4 t5 : List ℕ) → t1 ≡ t0 ++ word → t2 ≡ t1 ++ (codes " " ++ signed_decimal c.x)
+    → t3 ≡ t2 ++ (codes " " ++ signed_decimal c.y) → t4 ≡ t3 ++ (codes " " ++ signed_decimal c.z) → t5 ≡ t4 ++ codes "\n" → t5 ≡ t0 ++ numbers_text word c
+unfolding numbers_text
+numbers_pushed word c t0 t1 t2 t3 t4 t5 e1 e2 e3 e4 e5 =
+    e5 ∙ ap (λ t. t ++ codes "\n") (e4 ∙ ap (λ t. t ++ (codes " " ++ signed_decimal c.z)) (e3 ∙ ap (λ t. t ++ (codes " " ++ signed_decimal c.y))
+    (e2 ∙ ap (λ t. t ++ (codes " " ++ signed_decimal c.x)) e1)))
+    ∙ simp append_assoc
+
+-- the lines of a triangle
+pub facet_pushed : (f : Triangle) (t0 t1 t2 t3 t4 t5 t6 : List ℕ) → t1 ≡ t0 ++ numbers_text (codes "facet normal") (outward_step f.out)
+    → t2 ≡ t1 ++ codes "outer loop\n" → t3 ≡ t2 ++ numbers_text (codes "vertex") f.a → t4 ≡ t3 ++ numbers_text (codes "vertex") f.b
+    → t5 ≡ t4 ++ numbers_text (codes "vertex") f.c → t6 ≡ t5 ++ codes "endloop\nendfacet\n" → t6 ≡ t0 ++ facet_text f
+unfolding facet_text
+facet_pushed f t0 t1 t2 t3 t4 t5 t6 e1 e2 e3 e4 e5 e6 =
+    e6 ∙ ap (λ t. t ++ codes "endloop\nendfacet\n") (e5 ∙ ap (λ t. t ++ numbers_text (codes "vertex") f.c) (e4 ∙ ap (λ t. t ++ numbers_text (codes "vertex") f.b)
+    (e3 ∙ ap (λ t. t ++ numbers_text (codes "vertex") f.a) (e2 ∙ ap (λ t. t ++ codes "outer loop\n") e1))))
+    ∙ in_order t0 (numbers_text (codes "facet normal") (outward_step f.out)) (codes "outer loop\n") (numbers_text (codes "vertex") f.a)
+    (numbers_text (codes "vertex") f.b) (numbers_text (codes "vertex") f.c) (codes "endloop\nendfacet\n")
+
+-- the triangles of all rectangles, rectangle by rectangle
+pub facets_by_rectangles : (planes : Planes) (rs : List Rectangle) → flat_map facet_text (all_triangles planes rs) ≡ flat_map (rectangle_text planes) rs
+unfolding rectangle_text
+facets_by_rectangles planes [] = refl
+facets_by_rectangles planes (r ∷ rs) =
+    flat_map-append facet_text (triangles_of planes r) (all_triangles planes rs) ∙ ap (λ t. flat_map facet_text (triangles_of planes r) ++ t) (facets_by_rectangles planes rs)
+
+-- the text of a solid's triangles, from its first line on
+pub whole_text : (planes : Planes) (rs : List Rectangle) (first : List ℕ) → first ≡ codes "solid recon\n"
+    → stl_text (all_triangles planes rs) ≡ (first ++ flat_map (rectangle_text planes) rs) ++ codes "endsolid recon\n"
+whole_text planes rs first is = λ i. (sym is i ++ facets_by_rectangles planes rs i) ++ codes "endsolid recon\n"

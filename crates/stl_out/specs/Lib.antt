@@ -1,0 +1,7 @@
+pub mod Rectangles
+pub mod StlText
+pub mod Closed
+pub mod Walk
+pub mod Numbered
+pub mod Pieces
+pub mod SmallStl

@@ -1,0 +1,53 @@
+//! The laws of the triangles of a solid's boundary. Each is the contract of a function that does
+//! nothing.
+
+ghost use Rattle.std.specs.Prelude.{◌≡◌, Bool, true, List, [], ◌∷◌, ℤ, codes, IsTrue, if◌then◌else◌};
+ghost use Rattle.std.specs.List.{count_by};
+ghost use Rattle.face_laws.specs.GridFaces.{Planes, AreCellsOf, numbered_fullness};
+ghost use Rattle.face_laws.specs.GridRounds.{Rises};
+ghost use Rattle.solid_model.specs.declared.cell.Axis.{Axis};
+ghost use Rattle.solid_model.specs.declared.cell.Cell.{Cell};
+ghost use Rattle.solid_model.specs.declared.face.Out.{Out};
+ghost use Rattle.solid_model.specs.Faces.{is_boundary};
+ghost use Rattle.solid_model.specs.Grid.{Coordinates};
+ghost use Rattle.solid_model.specs.Lists.{Member};
+ghost use Rattle.solid_model.specs.Rounds.{Spot};
+ghost use Rattle.stl_out.specs.declared.rectangle.Rectangle.{Rectangle};
+ghost use Rattle.stl_out.specs.Closed.{DirectedEdge, reverse, occurrences, covers};
+ghost use Rattle.stl_out.specs.Rectangles.{AreRectanglesOf, all_triangles, AreTrianglesOf};
+ghost use Rattle.stl_out.specs.SmallStl.{brick_coordinates, brick_triangles, first_triangle};
+ghost use Rattle.stl_out.specs.StlText.{facet_text};
+
+/// The triangles close: each directed edge occurs in them as often as its reverse, also where two
+/// parts of the solid touch along an edge alone.
+pub fn triangles_close()
+    ensures { (planes : Planes) (full : Cell → Bool) (list : List Cell)
+        → ((n : Cell) → IsTrue (full n) → Member list n)
+        → (rs : List Rectangle) → AreRectanglesOf full rs → (e : DirectedEdge)
+        → occurrences e (all_triangles planes rs)
+        ≡ occurrences (reverse e) (all_triangles planes rs) }
+{}
+
+/// The rectangles cover the boundary: each unit square, with its outward side, lies in one of them
+/// where it is a boundary square of the solid, and else in none.
+pub fn rectangles_cover_the_boundary()
+    ensures { (planes : Planes) → ((a : Axis) → Rises (planes a))
+        → (numbered full : Cell → Bool) → AreCellsOf planes numbered full
+        → (rs : List Rectangle) → AreRectanglesOf numbered rs → (out : Out) (at : ℤ) (p : Spot)
+        → count_by (covers planes out at p) rs ≡ (if is_boundary full out at p then 1 else 0) }
+{}
+
+/// A solid has one list of boundary rectangles, and the chosen cells of a grid have one.
+pub fn one_list_of_rectangles()
+    ensures one { (full : Cell → Bool) (rs ss : List Rectangle) → AreRectanglesOf full rs
+        → AreRectanglesOf full ss → rs ≡ ss }
+    ensures some { (coordinates : Coordinates) (chosen : List Bool)
+        → (rs : List Rectangle) × AreRectanglesOf (numbered_fullness coordinates chosen) rs }
+{}
+
+/// The triangles of a brick whose sides differ, and the text of the first one, written out by hand.
+pub fn small_stl()
+    ensures brick { AreTrianglesOf brick_coordinates (true ∷ []) brick_triangles }
+    ensures facet { facet_text first_triangle
+        ≡ codes "facet normal -1 0 0\nouter loop\nvertex -1 0 0\nvertex -1 0 5\nvertex -1 2 5\nendloop\nendfacet\n" }
+{}

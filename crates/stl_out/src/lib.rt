@@ -1,0 +1,18 @@
+//! The boundary of a solid as triangles, and as an ASCII STL text, which viewers, slicers and CAD
+//! programs open.
+#![tactic(auto)]
+
+mod halves;
+mod laws;
+mod rectangle;
+mod surface;
+mod text;
+mod triangle;
+mod walk;
+mod write;
+
+pub use laws::{one_list_of_rectangles, rectangles_cover_the_boundary, small_stl, triangles_close};
+pub use rectangle::Rectangle;
+pub use surface::triangles;
+pub use triangle::Triangle;
+pub use write::write_stl;
