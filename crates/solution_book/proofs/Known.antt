@@ -4,7 +4,7 @@ use mathlib.Core.Option.{some}
 use lib.ListN.{get_elem?}
 use Rattle.crossbeam_utils.specs.Register.{Admits, TurnsAt, Turns}
 use Rattle.atomic_table.proofs.Lists.{at_set, at_snoc}
-use Rattle.solution_book.specs.Editions.{EditionParts, Begins}
+use Rattle.solution_book.specs.Editions.{EditionParts, Begins, Looked}
 use Rattle.solution_book.specs.Rule.{Keeps, Sees}
 
 -- an edition goes on from itself
@@ -33,3 +33,12 @@ looks seat v e = grows seat v e e (begins_itself e)
 -- a new reader, which knows nothing
 pub admits : Admits Keeps None
 admits e views h seat v at = ⊎_elim (h seat v) (λ (is : None ≡ v). subst (Begins e) is tt) (at_snoc views None v seat at)
+
+-- what goes on from what is known after a look goes on from what was known before it
+pub known_before : (before after : Option EditionParts) (seen : EditionParts) → Looked before after seen → (e : EditionParts) → Begins e after → Begins e before
+known_before before after seen look e begins = begins_on e seen before (subst (Begins e) look.known begins) look.begins
+
+-- a look after others
+pub looked_since : (first before after : Option EditionParts) (seen : EditionParts) → ((e : EditionParts) → Begins e before → Begins e first) → Looked before after seen
+    → Looked first after seen
+looked_since first before after seen since look = record { known = look.known; begins = since seen look.begins; kept = look.kept }

@@ -1,11 +1,8 @@
 //! What is published, as it is after one publishing.
 
-ghost use Rattle.std.specs.Prelude.{◌≡◌, ◌≤◌, ◌++◌, ◌↔◌, IsTrue, length, take, slice_index_or};
-
 use crate::solids::Solids;
-use solid_model::{Choice, Memory, Problem, compare};
+use solid_model::{Choice, Memory, Problem};
 use std::alloc::Global;
-use std::cmp::Ordering;
 use std::marker::Model;
 use std::sync::Arc;
 
@@ -33,7 +30,7 @@ impl Edition {
     ghost use Rattle.std.specs.Arc.{arc_value};
     ghost use Rattle.solid_model.specs.Lists.{Each, Ascends};
     ghost use Rattle.solid_model.specs.Solutions.{IsSolutionOf};
-    ghost use Rattle.solution_book.specs.Editions.{EditionParts, IsEdition};
+    ghost use Rattle.solution_book.specs.Editions.{EditionParts, IsEdition, GoesOn};
 
     /// A problem, without a solid yet. An `Err` is out of memory.
     pub fn new(alloc: Global, problem: Arc<Problem>) -> Result<Edition, Memory>
@@ -57,6 +54,13 @@ impl Edition {
         ensures kept { IsEdition self.now }
     {
         &self.solids
+    }
+
+    /// Whether it goes on from another one.
+    pub fn goes_on(&self, earlier: &Edition) -> bool
+        ensures { IsTrue result ↔ GoesOn self.now earlier.now }
+    {
+        self.problem.same(&earlier.problem) && self.solids.begin_with(&earlier.solids)
     }
 
     /// The same with more solids. An `Err` is out of memory.

@@ -9,6 +9,7 @@
 mod batch;
 mod book;
 mod edition;
+mod laws;
 mod reader;
 mod receipt;
 mod rule;
@@ -18,6 +19,7 @@ mod solids;
 mod writer;
 
 pub use book::Book;
+pub use laws::{pages_are_one_list, pages_are_short_at_the_end, pages_only_grow};
 pub use reader::{BookReader, Page};
 pub use receipt::Receipt;
 pub use writer::BookWriter;

@@ -3,10 +3,11 @@
 ghost use Rattle.std.specs.Prelude.{◌≡◌, ◌↔◌, Some, IsTrue, IfOk, IfSome};
 ghost use Rattle.std.specs.Arc.{arc_value};
 ghost use Rattle.left_right.specs.Sides.{view};
-ghost use Rattle.solution_book.specs.Editions.{EditionParts, Begins, Looked};
+ghost use Rattle.solution_book.specs.Editions.{EditionParts, Begins, GoesOn, Looked};
 ghost use Rattle.solution_book.specs.Pages.{IsPageOf};
 
 use crate::edition::Edition;
+use crate::receipt::Receipt;
 use crate::rule::{Lens, Looks, OneList};
 use crate::shown::Shown;
 use core::mem::replace_with;
@@ -55,6 +56,35 @@ fn look<R: Wait>(rt: &R, lens: Lens) -> (Lens, Option<Arc<Edition>>)
     (reading.leave(), shared)
 }
 
+/// Looks at what is published, for whether it goes on from an edition.
+fn look_for<R: Wait>(rt: &R, lens: Lens, edition: &Edition) -> (Lens, bool)
+    ensures { (e : EditionParts) × Looked (view lens.place) (view result.0.place) e
+        × (IsTrue result.1 → GoesOn e edition.now) }
+{
+    let (lens, seen) = look(rt, lens);
+    let goes_on = match seen {
+        Some(seen) => seen.goes_on(edition),
+        None => false,
+    };
+    (lens, goes_on)
+}
+
+/// Looks until what is published goes on from an edition. It takes no memory.
+fn learnt<R: Wait>(rt: &R, lens: Lens, edition: &Edition) -> Lens
+    ensures { (e : EditionParts) × Looked (view lens.place) (view result.place) e
+        × GoesOn e edition.now }
+{
+    let mut lens = lens;
+    for _ in rt.forever() {
+        let (back, goes_on) = look_for(rt, lens, edition);
+        if goes_on {
+            return back;
+        }
+        lens = back;
+    }
+    unreachable!()
+}
+
 /// Looks at what is published, for its problem.
 fn look_for_problem<R: Wait>(rt: &R, lens: Lens, problem: &Problem) -> (Lens, bool)
     ensures { (e : EditionParts) × Looked (view lens.place) (view result.0.place) e
@@ -98,8 +128,20 @@ impl<R: Wait + Drop> Model for BookReader<R> {
 
 impl<R: Wait + Drop> BookReader<R> {
     ghost use Rattle.std.specs.Prelude.{◌≡◌, ◌↔◌, IsTrue, IfOk};
-    ghost use Rattle.solution_book.specs.Editions.{EditionParts, Looked};
+    ghost use Rattle.solution_book.specs.Editions.{EditionParts, GoesOn, Looked};
     ghost use Rattle.solution_book.specs.Pages.{IsPageOf};
+
+    /// Learns what was published when a receipt was given, which is spent: looks until what is
+    /// published goes on from it, as it does at once where the receipt is of this book. Where it
+    /// isn't, this may never return. It takes no memory, and may wait.
+    pub fn learn(&mut self, receipt: Receipt)
+        ensures { (e : EditionParts) × Looked self.old self.new e × GoesOn e receipt }
+    {
+        let rt = &self.rt;
+        replace_with(&mut self.lens, receipt, |lens, receipt| {
+            (learnt(rt, lens, &receipt.edition), ())
+        })
+    }
 
     /// Whether the book is of this problem. It takes no memory, and may wait.
     pub fn is_of(&mut self, problem: &Problem) -> bool

@@ -1,12 +1,13 @@
 //! The list of solids of an edition.
 
-ghost use Rattle.std.specs.Prelude.{◌≡◌, ◌∷◌, [], ◌++◌, map, IfOk};
+ghost use Rattle.std.specs.Prelude.{◌≡◌, ◌↔◌, ◌∷◌, [], ◌++◌, map, IsTrue, IfOk};
 ghost use Rattle.std.specs.Arc.{arc_value};
 
 use crate::batch::Batch;
 use crate::shared::share_all;
-use solid_model::{Choice, Memory};
+use solid_model::{Choice, Memory, compare};
 use std::alloc::Global;
+use std::cmp::Ordering;
 use std::marker::Model;
 use std::sync::Arc;
 
@@ -36,6 +37,19 @@ impl Model for Solids {
         AreBatches (map (λ b. arc_value b) (arc_value s.full).items) s.last s.count };
 }
 
+/// Whether two choices are the same.
+fn is_same(a: &Choice, b: &Choice) -> bool
+    ensures { IsTrue result ↔ (a.now ≡ b.now) }
+{
+    if a.len() != b.len() {
+        return false;
+    }
+    match compare(a, b) {
+        Ordering::Equal => true,
+        _ => false,
+    }
+}
+
 /// Full batches, shared, and one more. An `Err` is out of memory.
 fn with_batch(
     alloc: Global,
@@ -51,7 +65,8 @@ fn with_batch(
 }
 
 impl Solids {
-    ghost use Rattle.std.specs.Prelude.{◌≡◌, ◌<◌, ◌∷◌, [], ◌++◌, length, take, drop, slice_index_or, IfOk};
+    ghost use Rattle.std.specs.Prelude.{◌≡◌, ◌<◌, ◌↔◌, ◌∷◌, [], ◌++◌, length, take, drop, slice_index_or, IsTrue, IfOk};
+    ghost use Rattle.solution_book.specs.Editions.{StartsWith};
 
     /// No choices. An `Err` is out of memory.
     pub fn new(alloc: Global) -> Result<Solids, Memory>
@@ -92,6 +107,21 @@ impl Solids {
             part.push(self.get(place).try_clone()?)?;
         }
         Ok(part)
+    }
+
+    /// Whether they begin with all of these, which are compared choice by choice.
+    pub fn begin_with(&self, earlier: &Solids) -> bool
+        ensures { IsTrue result ↔ StartsWith self.now earlier.now }
+    {
+        if self.count < earlier.count {
+            return false;
+        }
+        for place in 0..earlier.count {
+            if !is_same(self.get(place), earlier.get(place)) {
+                return false;
+            }
+        }
+        true
     }
 
     /// The same choices, shared. An `Err` is out of memory.

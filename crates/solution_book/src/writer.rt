@@ -61,6 +61,7 @@ impl<R: Wait + Drop> BookWriter<R> {
     ghost use Rattle.std.specs.Prelude.{◌≡◌, ◌≢◌, ◌↔◌, ◌++◌, true, false, length, MatchResult, IsTrue};
     ghost use Rattle.solid_model.specs.Lists.{Each, Ascends};
     ghost use Rattle.solid_model.specs.Solutions.{IsSolutionOf};
+    ghost use Rattle.solution_book.specs.Editions.{IsEdition};
 
     /// Publishes more solids, all at one step, in their order. It may wait for readers. At an `Err`,
     /// which is out of memory, nothing is published, and the writer is shut: it publishes nothing
@@ -98,7 +99,8 @@ impl<R: Wait + Drop> BookWriter<R> {
 
     /// How many solids are published.
     pub fn published(&self) -> usize
-        ensures { result ≡ length self.now.edition.solids }
+        ensures published { result ≡ length self.now.edition.solids }
+        ensures kept { IsEdition self.now.edition }
     {
         self.pen.published().edition().solids().len()
     }
