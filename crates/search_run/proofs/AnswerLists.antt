@@ -1,9 +1,10 @@
 -- What was handed out, with what was found besides, is listed as an answer.
-use Rattle.std.proofs.Common.{◌≡◌, ◌≢◌, ◌⊎◌, inl, inr, Bool, true, false, ℕ, zero, suc, ◌+◌, ◌-◌, ◌≤◌, ◌<◌, ◌||◌, List, [], ◌∷◌, ◌++◌, length, take, filter, not, Some, IsPermutation, refl, sym, ◌∙◌, ap, subst, length-append, length-take, arith}
+use Rattle.std.proofs.Common.{◌≡◌, ◌≢◌, ◌⊎◌, inl, inr, Bool, true, false, ℕ, zero, suc, ◌+◌, ◌-◌, ◌≤◌, ◌<◌, ◌||◌, List, [], ◌∷◌, ◌++◌, length, take, drop, filter, not, Some, IsPermutation, refl, sym, ◌∙◌, ap, subst, length-append, length-take, length-drop, arith}
 use Rattle.std.specs.List.{list_any}
 use Rattle.std.proofs.lemmas.Bool.{both_ways, cases_lt}
 use Rattle.std.proofs.lemmas.List.{take_all}
-use Rattle.std.proofs.Math.Seq.{take-append-add}
+use Rattle.std.proofs.lemmas.List.Elements.{filter-append}
+use Rattle.std.proofs.Math.Seq.{take-append-add, drop-append_seam}
 use Rattle.std.proofs.lemmas.List.Sorted.{length_permutation, IsPermutation-sym}
 use Rattle.solid_model.specs.declared.ended.EndKind.{EndKind}
 use Rattle.solid_model.specs.declared.ended.EndKind.TheVariants.{Whole, CutNodes, CutSolids}
@@ -12,8 +13,9 @@ use Rattle.solid_model.specs.Lists.{Member, Each, Ascends}
 use Rattle.solid_model.specs.Search.{SearchLimits}
 use Rattle.solid_model.specs.SearchEnds.{AreSomeOf, EndsAs}
 use Rattle.solid_model.specs.Tree.{PrefixTest, live_from, is_whole, live_below}
-use Rattle.solid_model.proofs.Lists.{each-at, each-from, each-append, each-filter, ascends-append, ascends-filter, member-filter, member-from_filter, member-append, member-append_left, member-append_right, same_ascending}
+use Rattle.solid_model.proofs.Lists.{each-at, each-from, each-append, each-filter, ascends-append, ascends-append_across, ascends-filter, member-filter, member-from_filter, member-append, member-append_left, member-append_right, same_ascending}
 use Rattle.solid_model.proofs.Styles.{any_from_member}
+use Rattle.solid_model.proofs.AllowedReports.{filter_none}
 use Rattle.solid_model.proofs.ComparedChoices.{precedes_one_way}
 use Rattle.solid_model.proofs.WithoutRepeats.{no_longer}
 use Rattle.search_core.specs.Conserves.{EndsRightly, IsConserved}
@@ -21,13 +23,8 @@ use Rattle.search_core.specs.Core.{Core, same_prefix}
 use Rattle.search_core.proofs.Lists.{each-take, ascends-take, member-permutation}
 use Rattle.search_core.proofs.TakenOut.{Decides-same_prefix}
 use Rattle.search_tree.proofs.SearchEnds.{some_found}
+use Rattle.solution_book.specs.Editions.{StartsWith}
 use Rattle.search_run.specs.Answers.{is_new, new_ones}
-
--- one that is new isn't among those
-new_not : (handed : List (List Bool)) (x : List Bool) → is_new handed x ≡ true → Member handed x → ⊥
-new_not handed x new k =
-    let among : list_any (same_prefix x) handed ≡ true = any_from_member (same_prefix x) handed x k ((Decides-same_prefix x x).1 refl) in
-    both_ways (is_new handed x) (ap not among) new
 
 -- one that isn't new is
 not_new : (handed : List (List Bool)) (x : List Bool) → list_any (same_prefix x) handed ≡ true → Member handed x
@@ -37,6 +34,36 @@ not_new (y ∷ handed) x e = at (same_prefix x y) refl (not_new handed x)
     at : (t : Bool) → same_prefix x y ≡ t → (list_any (same_prefix x) handed ≡ true → Member handed x) → Member (y ∷ handed) x
     at true s later = inl (sym ((Decides-same_prefix x y).0 s))
     at false s later = inr (later (subst (λ (b : Bool). (b || list_any (same_prefix x) handed) ≡ true) s e))
+
+-- one that is among those isn't new, and one that isn't is
+old_one : (handed : List (List Bool)) (x : List Bool) → Member handed x → is_new handed x ≡ false
+old_one handed x k = ap not (any_from_member (same_prefix x) handed x k ((Decides-same_prefix x x).1 refl))
+
+new_one : (handed : List (List Bool)) (x : List Bool) → (Member handed x → ⊥) → is_new handed x ≡ true
+new_one handed x none = at (list_any (same_prefix x) handed) refl
+  where
+    at : (t : Bool) → list_any (same_prefix x) handed ≡ t → is_new handed x ≡ true
+    at true e = absurd (none (not_new handed x e))
+    at false e = ap not e
+
+-- where all pass the test, all are kept
+filter_all : {A : Type 0} (p : A → Bool) (xs : List A) → Each (λ x. p x ≡ true) xs → filter p xs ≡ xs
+filter_all p [] h = refl
+filter_all p (x ∷ xs) h = rw (h.0, filter_all p xs h.1) refl
+
+-- of a list without repeats what follows its beginning is new to that
+pub new_behind : (handed found : List (List Bool)) → Ascends ◌≢◌ found → StartsWith found handed → new_ones handed found ≡ drop (length handed) found
+new_behind handed found once (rest, e) =
+    let across : Each (λ x. Each (λ y. x ≢ y) rest) handed = ascends-append_across ◌≢◌ handed rest (subst (Ascends ◌≢◌) e once) in
+    let old : filter (is_new handed) handed ≡ [] = filter_none (is_new handed) handed (each-from (λ x. is_new handed x ≡ false) handed (old_one handed)) in
+    let new : filter (is_new handed) rest ≡ rest = filter_all (is_new handed) rest (each-from (λ x. is_new handed x ≡ true) rest (λ x k.
+    new_one handed x (λ m. each-at (λ y. x ≢ y) rest x (each-at (λ y. Each (λ z. y ≢ z) rest) handed x across m) k refl))) in
+    ap (new_ones handed) e ∙ filter-append (is_new handed) handed rest ∙ ap (λ l. l ++ filter (is_new handed) rest) old ∙ new
+    ∙ sym (ap (drop (length handed)) e ∙ drop-append_seam handed rest)
+
+-- a part that goes on to the end is all that follows
+pub part_whole : (n : ℕ) (xs : List (List Bool)) → take (length xs - n) (drop n xs) ≡ drop n xs
+part_whole n xs = take_all _ (drop n xs) (omega (arith, length-drop n xs))
 
 -- the first of two lists, as many as there is room for
 pub take_behind : {A : Type 0} (n : ℕ) (xs ys : List A) → length xs ≤ n → xs ++ take (n - length xs) ys ≡ take n (xs ++ ys)
@@ -62,7 +89,7 @@ module _ (live : PrefixTest) (n : ℕ) (limits : SearchLimits) (c : Core) (kept 
   whole_once : Ascends ◌≢◌ whole
   whole_once = ascends-append ◌≢◌ handed (new_ones handed c.found) once (ascends-filter (is_new handed) ◌≢◌ c.found kept.once)
       (each-from (λ x. Each (λ y. x ≢ y) (new_ones handed c.found)) handed (λ x k. each-from (λ y. x ≢ y) (new_ones handed c.found) (λ y m e.
-      new_not handed y (member-from_filter (is_new handed) c.found y m).1 (subst (Member handed) e k))))
+      both_ways (is_new handed y) (old_one handed y (subst (Member handed) e k)) (member-from_filter (is_new handed) c.found y m).1)))
 
   found_in : (x : List Bool) → Member c.found x → Member whole x
   found_in x k = at (list_any (same_prefix x) handed) refl

@@ -3,3 +3,5 @@ mod SameChoices
 mod PageCalls
 mod AnswerLists
 mod DeskAnswers
+mod Published
+mod ReadPages

@@ -2,3 +2,5 @@ pub mod Sorting
 pub mod Pages
 pub mod Handed
 pub mod Answers
+pub mod Shared
+pub mod Reading

@@ -13,7 +13,7 @@ use std::alloc::Global;
 use std::sync::Arc;
 
 /// How many live prefixes a piece is expanded into at most, before it is reported.
-const QUANTUM: u32 = 64;
+pub const QUANTUM: u32 = 64;
 
 /// Whether any prefix of a problem is live: whether the empty one is. An `Err` is out of memory.
 fn is_any_live(alloc: Global, path: &mut BlockPath, problem: &Arc<Problem>) -> Result<bool, Memory>

@@ -6,8 +6,12 @@ mod desk_search;
 mod handed;
 mod left;
 mod page_out;
+mod paging;
+mod room;
 mod running;
+mod shared;
 mod sorted;
+mod working;
 
 pub use desk_search::begin;
 pub use page_out::{NoPages, PageOut, RunFault};

@@ -13,13 +13,21 @@ use crate::closing::finish;
 use crate::desk_search::begin_from;
 use crate::handed::Handed;
 use crate::page_out::{NoPages, PageOut, RunFault};
+use crate::paging::search_together;
+use crate::room::Room;
+use crate::shared::Shared;
 use search_core::Desk;
 use search_tree::BlockPath;
 use solid_model::{Ended, Limits, Memory, Problem};
+use solution_book::{Book, BookReader};
 use std::alloc::Global;
 use std::sync::{Arc, Wait};
 use std::thread::Threads;
+use steal_pool::{Pool, WorkerSeat};
 use tv_base::Gate;
+
+/// How many pieces each worker is sure to put into its deque.
+const PIECES: usize = 1024;
 
 /// A way down the tree of a problem's prefixes, and the desk of a search of it that begins. An `Err`
 /// is out of memory.
@@ -29,6 +37,7 @@ fn set_up<'a>(
     limits: Limits,
 ) -> Result<(BlockPath<'a>, Desk), Memory>
     ensures way { IfOk result (λ r. IsWayOf (arc_value problem.now) r.0) }
+    ensures problem { IfOk result (λ r. r.1.problem ≡ arc_value problem.now) }
 {
     let mut path = BlockPath::new(alloc, problem)?;
     let desk = begin_from(alloc, &mut path, problem, limits)?;
@@ -78,17 +87,51 @@ pub fn search_by_desk(
     }
 }
 
+/// The seats of so many workers in a pool that holds the desk's first piece, if it has one, in the
+/// first deque. An `Err` is out of memory.
+fn seats_for(alloc: Global, workers: u32, desk: &Desk) -> Result<Vec<WorkerSeat>, Memory>
+    requires some { 1 ≤ workers }
+    requires few { workers ≤ 64 }
+{
+    let (_, mut seats) = Pool::open(alloc, workers, PIECES)?;
+    if let Some(piece) = desk.first_piece() {
+        let piece = piece.try_clone()?;
+        if let Some(first) = seats.first_mut() {
+            let _back = first.owner.put(piece);
+        }
+    }
+    Ok(seats)
+}
+
+/// A room for so many workers at a desk, with its book, and the book's reader. An `Err` is out of
+/// memory.
+fn room_for<'a, R: Wait>(
+    rt: &'a R,
+    alloc: Global,
+    problem: &Arc<Problem>,
+    workers: u32,
+    desk: Desk,
+) -> Result<(Room<&'a R>, BookReader<&'a R>), Memory>
+    requires { desk.problem ≡ arc_value problem.now }
+{
+    let (book, mut readers) = Book::begin(rt, alloc, Arc::try_clone(problem)?, 1)?;
+    let Some(reader) = readers.pop() else {
+        return Err(Memory);
+    };
+    Ok((Room::new(Shared::new(desk, book, workers)), reader))
+}
+
 /// The search of all prefixes of a problem within limits by so many workers, which pass the gate at
 /// their points. Hands the choices out in pages, each choice once and each page as soon as it may,
 /// and answers how the search ended, with all choices in the stated order, and the desk at which it
 /// did. `PageFault` comes only where the count of faults of `pages` rose in this call.
 pub fn run_search<R: Threads + Wait + Sync, G: Gate, P: PageOut>(
-    _rt: &R,
+    rt: &R,
     alloc: Global,
     problem: Arc<Problem>,
     limits: Limits,
     workers: u32,
-    _gate: &G,
+    gate: &G,
     pages: &mut P,
 ) -> Result<(Ended, Desk), RunFault>
     requires some { 1 ≤ workers }
@@ -103,5 +146,22 @@ pub fn run_search<R: Threads + Wait + Sync, G: Gate, P: PageOut>(
     ensures failed { IsErrOf result RunFault.PageFault
         → Rose (P.faults pages.old) (P.faults pages.new) }
 {
-    search_alone(alloc, &problem, limits, pages)
+    let Ok((mut path, desk)) = set_up(alloc, &problem, limits) else {
+        return Err(RunFault::Memory);
+    };
+    let Ok(seats) = seats_for(alloc, workers, &desk) else {
+        return Err(RunFault::Memory);
+    };
+    let Ok((room, reader)) = room_for(rt, alloc, &problem, workers, desk) else {
+        return Err(RunFault::Memory);
+    };
+    match search_together(
+        rt, alloc, &problem, limits, &room, gate, workers, seats, reader, pages,
+    ) {
+        Ok(handed) => match room.into_desk() {
+            Some(desk) => finish(alloc, &mut path, &problem, limits, desk, handed, pages),
+            None => Err(RunFault::Memory),
+        },
+        Err(fault) => Err(fault),
+    }
 }

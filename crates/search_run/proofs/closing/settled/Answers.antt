@@ -1,10 +1,12 @@
 -- What is listed are solutions of the problem.
-use Rattle.std.proofs.Common.{◌≡◌, ◌++◌, ◌-◌, List, Bool, length, take, sym, ◌∙◌, ap, subst, rules}
+use Rattle.std.proofs.Common.{◌≡◌, ◌≢◌, ◌++◌, ◌-◌, List, Bool, length, take, sym, ◌∙◌, ap, subst, rules}
 use Rattle.std.specs.Arc.{arc_value}
 use Rattle.solid_model.specs.Blocks.{ProblemParts, IsBlocksOf}
+use Rattle.solid_model.specs.Lists.{Ascends}
 use Rattle.solid_model.specs.Panels.{IsGrid}
 use Rattle.search_run.specs.Answers.{IsAnswerList, new_ones}
 use Rattle.search_run.proofs.DeskAnswers.{answer_solutions}
+use Rattle.search_run.proofs.Published.{found_once}
 use Rattle.search_run.proofs.closing.settled.Goals as goal
 
 pub returns-clause-solutions : goal.returns-clause-solutions
@@ -20,3 +22,10 @@ returns-clause-solutions c =
     let left : c.in_ok-left.left.items ≡ take (c.args.limits.solids - length handed) (new_ones handed d.found) = search rules in
     let h : IsAnswerList p c.args.limits d.found all = record { handed = handed; solutions = c.requires.handed; few = c.requires.few; is = ap (λ (l : List (List Bool)). handed ++ l) left } in
     answer_solutions p c.args.limits blocks grid d same within c.in_ok-desk-2.ensures.kept all h
+
+pub left_over-requires : goal.left_over-requires
+left_over-requires c =
+    let d = c.in_ok-desk-2.desk in
+    let same : d.problem ≡ arc_value c.args.problem.now = c.in_ok-desk-2.ensures.problem ∙ c.deref-2.ensures in
+    let blocks = subst (λ (q : ProblemParts). IsBlocksOf q.grid q.blocks) (c.deref.ensures ∙ sym same) c.grid.ensures.kept in
+    record { once = subst (Ascends ◌≢◌) (sym c.found.ensures.found) (found_once d c.found.ensures.kept blocks) }

@@ -1,0 +1,85 @@
+-- What a desk has found only grows, and what is published of it are solutions.
+use Rattle.std.proofs.Common.{◌≡◌, ◌≢◌, Bool, ℕ, ◌≤◌, List, [], ◌-◌, ◌++◌, append_assoc, append-nil, length, take, drop, sym, ◌∙◌, ap, subst, arith}
+use Rattle.std.proofs.Math.Seq.{drop-append_seam}
+use Rattle.solid_model.specs.Blocks.{ProblemParts, IsBlocksOf}
+use Rattle.solid_model.specs.Demands.{is_live}
+use Rattle.solid_model.specs.Lists.{Member, Each, Ascends}
+use Rattle.solid_model.specs.Reports.{Report}
+use Rattle.solid_model.specs.Solutions.{IsSolutionOf}
+use Rattle.solid_model.specs.Tree.{live_below, IsClosed}
+use Rattle.solid_model.proofs.Lists.{each-from, each-at, each-append_right}
+use Rattle.columns.proofs.LiveTree.{problem_tree}
+use Rattle.search_core.specs.declared.desk.Reported.{Reported}
+use Rattle.search_core.specs.declared.desk.Reported.TheVariants.{Taken, Stranger, Stop, Gone}
+use Rattle.search_core.specs.Conserves.{IsConserved}
+use Rattle.search_core.specs.Desk.{DeskParts, IsDesk, IsTaken, desk_state}
+use Rattle.search_core.specs.Reported.{IsReported}
+use Rattle.search_core.proofs.Desks.{desk_conserved}
+use Rattle.solution_book.specs.Editions.{EditionParts, StartsWith}
+use Rattle.search_run.specs.Shared.{IsShared}
+use Rattle.search_run.proofs.AnswerLists.{take_behind, part_whole}
+use Rattle.search_run.proofs.DeskAnswers.{solution_of}
+
+-- a list that begins with one that begins with a third begins with that
+pub starts_on : (xs ys zs : List (List Bool)) → StartsWith xs ys → StartsWith ys zs → StartsWith xs zs
+starts_on xs ys zs (more, e) (rest, f) = (rest ++ more, e ∙ ap (λ l. l ++ more) f ∙ append_assoc zs rest more)
+
+-- and goes on with what follows its beginning
+starts_split : (xs ys : List (List Bool)) → StartsWith xs ys → (n : ℕ) → n ≡ length ys → xs ≡ ys ++ drop n xs
+starts_split xs ys (rest, e) n same =
+    let left : drop n xs ≡ rest = ap (λ (k : ℕ). drop k xs) same ∙ ap (drop (length ys)) e ∙ drop-append_seam ys rest in
+    e ∙ ap (λ l. ys ++ l) (sym left)
+
+module _ (d : DeskParts) (desk : IsDesk d) (blocks : IsBlocksOf d.problem.grid d.problem.blocks) where
+  kept : IsConserved (is_live d.problem) d.problem.blocks.count d.limits (desk_state d.problem d.limits d.history)
+  kept = desk_conserved d desk (problem_tree d.problem blocks.sized).closed
+
+  -- what is found are solutions
+  found_solutions : Each (IsSolutionOf d.problem) d.found
+  found_solutions = subst (Each (IsSolutionOf d.problem)) (sym desk.found)
+      (each-from (IsSolutionOf d.problem) _ (λ x k. solution_of d.problem blocks x (each-at (Member (live_below (is_live d.problem) d.problem.blocks.count [])) _ x kept.listed k)))
+
+  -- none stands twice
+  pub found_once : Ascends ◌≢◌ d.found
+  found_once = subst (Ascends ◌≢◌) (sym desk.found) kept.once
+
+  -- and they are within the limit
+  found_few : length d.found ≤ d.limits.solids
+  found_few = omega (arith, ap length desk.found, kept.few)
+
+  -- a report leaves them, and more may follow
+  found_grows : (after : DeskParts) (r : Report) → IsTaken d r after → StartsWith after.found d.found
+  found_grows after r taken =
+      (take (d.limits.solids - length d.found) r.found, taken.found ∙ sym (take_behind d.limits.solids d.found r.found found_few))
+
+  -- so a report leaves what is published a beginning of what is found
+  pub noted : (after : DeskParts) (r : Report) (e : EditionParts) (answer : Reported) → IsReported d r after answer
+      → IsShared record { desk = d; edition = e } → IsShared record { desk = after; edition = e }
+  noted after r e (Taken rest) (takes, taken, handed) h = record {
+    problem = h.problem ∙ sym taken.problem;
+    begins = starts_on after.found d.found e.solids (found_grows after r taken) h.begins;
+  }
+  noted after r e Stranger (a, same) h = subst (λ (x : DeskParts). IsShared record { desk = x; edition = e }) (sym same) h
+  noted after r e Stop (a, b, same) h = subst (λ (x : DeskParts). IsShared record { desk = x; edition = e }) (sym same) h
+  noted after r e Gone (a, b, c, same) h = subst (λ (x : DeskParts). IsShared record { desk = x; edition = e }) (sym same) h
+
+-- of what is found, where so many are published, the others aren't
+module _ (d : DeskParts) (e : EditionParts) (h : IsShared record { desk = d; edition = e }) (n : ℕ) (count : n ≡ length e.solids) where
+  abbrev pub others : List (List Bool)
+  others = take (length d.found - n) (drop n d.found)
+
+  split : d.found ≡ e.solids ++ others
+  split = starts_split d.found e.solids h.begins n count ∙ ap (λ l. e.solids ++ l) (sym (part_whole n d.found))
+
+  module _ (desk : IsDesk d) (blocks : IsBlocksOf d.problem.grid d.problem.blocks) where
+    pub others_each : Each (IsSolutionOf e.problem) others
+    others_each = each-append_right (IsSolutionOf e.problem) e.solids others (subst (Each (IsSolutionOf e.problem)) split
+        (subst (λ p. Each (IsSolutionOf p) d.found) (sym h.problem) (found_solutions d desk blocks)))
+
+    pub others_once : Ascends ◌≢◌ (e.solids ++ others)
+    others_once = subst (Ascends ◌≢◌) split (found_once d desk blocks)
+
+  -- once they are, all is published
+  pub others_shared : (f : EditionParts) → f ≡ record { problem = e.problem; solids = e.solids ++ others } → IsShared record { desk = d; edition = f }
+  others_shared f same = subst (λ (x : EditionParts). IsShared record { desk = d; edition = x }) (sym same)
+      (record { problem = h.problem; begins = ([], split ∙ sym (append-nil (e.solids ++ others))) })

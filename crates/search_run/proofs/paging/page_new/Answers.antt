@@ -1,0 +1,27 @@
+-- The next page is a part of what is published, behind what was handed out.
+use Rattle.std.proofs.Common.{◌≡◌, ◌++◌, ℕ, List, Bool, [], length, sym, ap, subst, append-nil}
+use Rattle.std.specs.Arc.{arc_value}
+use Rattle.solid_model.specs.Solutions.{AreSolutions}
+use Rattle.search_run.specs.Reading.{IsRead}
+use Rattle.search_run.proofs.PageCalls.{paged}
+use Rattle.search_run.proofs.ReadPages.{read_solutions, read_on}
+use Rattle.search_run.proofs.paging.page_new.Goals as goal
+
+pub returns-in_default-clause-out : goal.returns-in_default-clause-out
+returns-in_default-clause-out g c before out =
+    paged before (g.P.PageOut.calls c.args.pages.now) (g.P.PageOut.calls c.args.pages.now) c.args.handed.now [] out (arc_value c.args.problem.now)
+    (subst (AreSolutions (arc_value c.args.problem.now)) (sym (append-nil c.args.handed.now.choices))
+    (read_solutions (arc_value c.args.problem.now) c.args.reader.now c.args.handed.now.choices c.requires.read))
+
+pub returns-in-Ok-hand_out-clause-read : goal.returns-in-Ok-hand_out-clause-read
+returns-in-Ok-hand_out-clause-read g c =
+    subst (IsRead (arc_value c.args.problem.now) c.page.new.self) (sym c.in-Ok-hand_out.ensures.choices)
+    (read_on (arc_value c.args.problem.now) c.args.reader.now c.page.new.self c.args.handed.now.choices c.in-Ok.page.solids.items c.in-Ok.ensures.0 _ c.min-most.result c.requires.read c.in-Ok.ensures.1
+    (ap length c.choices-from.ensures) c.in-Ok.ensures.2.part)
+
+pub returns-in-Err-clause-out : goal.returns-in-Err-clause-out
+returns-in-Err-clause-out g c before out =
+    c.in-Err.ensures.out before out (arc_value c.args.problem.now)
+    (read_solutions (arc_value c.args.problem.now) c.page.new.self _
+    (read_on (arc_value c.args.problem.now) c.args.reader.now c.page.new.self c.args.handed.now.choices c.in-Ok.page.solids.items c.in-Ok.ensures.0 _ c.min-most.result c.requires.read c.in-Ok.ensures.1
+    (ap length c.choices-from.ensures) c.in-Ok.ensures.2.part))

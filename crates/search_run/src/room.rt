@@ -1,0 +1,127 @@
+//! Where the workers of a search meet: the lock, and where they wait for a change.
+
+use crate::shared::Shared;
+use search_core::Desk;
+use solid_model::{Expansion, Prefix};
+use std::alloc::Global;
+use std::sync::{Condvar, Mutex, Wait};
+
+/// What the workers share, under its lock; where they wait for a change; and where the caller waits
+/// for solids. Nothing is known of the value but what its type keeps.
+#[derive(Drop)]
+pub struct Room<B: Wait + Drop> {
+    shared: Mutex<Shared<B>>,
+    changed: Condvar,
+    news: Condvar,
+}
+
+/// What the caller is told of a search: how many solids are published, and whether there will be no
+/// more.
+#[derive(Clone, Copy, Drop)]
+pub struct News {
+    pub published: usize,
+    pub last: bool,
+}
+
+impl<B: Wait + Drop> Room<B> {
+    /// A room for what is shared.
+    pub fn new(shared: Shared<B>) -> Room<B> {
+        Room {
+            shared: Mutex::new(shared),
+            changed: Condvar::new(),
+            news: Condvar::new(),
+        }
+    }
+
+    /// How many changes were signalled.
+    pub fn changes<R: Wait>(&self, rt: &R) -> u64 {
+        self.shared.lock(rt).changes()
+    }
+
+    /// Signals a change.
+    pub fn signal<R: Wait>(&self, rt: &R) {
+        self.shared.lock(rt).change();
+        self.changed.notify_all();
+    }
+
+    /// A worker without a piece stops counting, and waits while no more changes are signalled than it
+    /// has seen. False: nothing is left to be done or nobody is at work, and it leaves.
+    pub fn wait<R: Wait>(&self, rt: &R, seen: u64) -> bool {
+        let mut shared = self.shared.lock(rt);
+        shared.rest();
+        if shared.is_still() {
+            shared.change();
+            drop(shared);
+            self.wake_all();
+            return false;
+        }
+        let mut shared = self
+            .changed
+            .wait_while(rt, shared, |shared| shared.changes() == seen);
+        shared.resume();
+        true
+    }
+
+    /// A worker that is at work stops counting and leaves.
+    pub fn leave<R: Wait>(&self, rt: &R) {
+        let mut shared = self.shared.lock(rt);
+        shared.rest();
+        shared.change();
+        drop(shared);
+        self.wake_all();
+    }
+
+    /// All are to stop.
+    pub fn halt<R: Wait>(&self, rt: &R) {
+        let mut shared = self.shared.lock(rt);
+        shared.halt();
+        shared.change();
+        drop(shared);
+        self.wake_all();
+    }
+
+    /// Reports. The rest is handed over; `None`: the worker is to leave.
+    pub fn report<R: Wait>(
+        &self,
+        rt: &R,
+        alloc: Global,
+        expansion: Expansion,
+    ) -> Option<Vec<Prefix>> {
+        let mut shared = self.shared.lock(rt);
+        let before = shared.published();
+        let rest = shared.report(alloc, expansion);
+        let now = shared.published();
+        drop(shared);
+        self.changed.notify_all();
+        if now != before {
+            self.news.notify_all();
+        }
+        rest
+    }
+
+    /// The caller waits while no more solids are published than it has seen, and more may come.
+    pub fn wait_for_news<R: Wait>(&self, rt: &R, seen: usize) -> News {
+        let shared = self.shared.lock(rt);
+        let shared = self.news.wait_while(rt, shared, |shared| {
+            shared.published() == seen && !shared.is_still()
+        });
+        News {
+            published: shared.published(),
+            last: shared.is_still(),
+        }
+    }
+
+    /// Wakes all that wait.
+    fn wake_all(&self) {
+        self.changed.notify_all();
+        self.news.notify_all();
+    }
+
+    /// The desk, once all workers have left. `None`: all were to stop.
+    pub fn into_desk(self) -> Option<Desk> {
+        let Room { shared, .. } = self;
+        let (desk, book, stop) = shared.into_inner().into_parts();
+        book.end();
+        if stop { None } else { Some(desk) }
+    }
+}

@@ -1,0 +1,153 @@
+//! What the workers of a search share, under their lock.
+
+use search_core::{Desk, Reported};
+use solid_model::{Expansion, Memory, Prefix};
+use solution_book::BookWriter;
+use std::alloc::Global;
+use std::marker::Model;
+use std::sync::Wait;
+
+/// The value under the lock: the desk, the writer of its book, how many workers are at work, whether
+/// all are to stop, and how many changes were signalled, which goes on from 0 after the greatest
+/// `u64`. One hold of the lock makes one report at most. Contracts see it as the desk and the edition
+/// that is published.
+#[derive(Drop)]
+pub struct Shared<B: Wait + Drop> {
+    desk: Desk,
+    book: BookWriter<B>,
+    at_work: u32,
+    stop: bool,
+    changes: u64,
+}
+
+impl<B: Wait + Drop> Model for Shared<B> {
+    ghost use Rattle.search_run.specs.Shared.{SharedParts, IsShared};
+
+    ghost Value = { SharedParts };
+
+    ghost view = { λ s. record { desk = s.desk; edition = s.book.edition } };
+
+    ghost invariant = { λ s. IsShared record { desk = s.desk; edition = s.book.edition } };
+}
+
+impl<B: Wait + Drop> Shared<B> {
+    ghost use Rattle.std.specs.Prelude.{◌≡◌};
+    ghost use Rattle.search_run.specs.Shared.{IsShared};
+
+    /// What so many workers share when they start, all of whom count as at work.
+    pub fn new(desk: Desk, book: BookWriter<B>, workers: u32) -> Shared<B>
+        requires { IsShared record { desk = desk; edition = book.edition } }
+        ensures { result ≡ record { desk = desk; edition = book.edition } }
+    {
+        Shared {
+            desk,
+            book,
+            at_work: workers,
+            stop: false,
+            changes: 0,
+        }
+    }
+
+    /// How many changes were signalled.
+    pub fn changes(&self) -> u64 {
+        self.changes
+    }
+
+    /// Signals a change.
+    pub fn change(&mut self) {
+        self.changes = self.changes.wrapping_add(1);
+    }
+
+    /// How many solids are published.
+    pub fn published(&self) -> usize {
+        self.book.published()
+    }
+
+    /// Whether workers are to leave: the desk has ended, or all are to stop.
+    fn is_over(&self) -> bool {
+        self.stop || self.desk.end().is_some()
+    }
+
+    /// Whether nothing more will be published: it is over, or nobody is at work, who could find some.
+    pub fn is_still(&self) -> bool {
+        self.at_work == 0 || self.is_over()
+    }
+
+    /// A worker stops counting.
+    pub fn rest(&mut self) {
+        self.at_work = self.at_work.saturating_sub(1);
+    }
+
+    /// A worker counts again.
+    pub fn resume(&mut self) {
+        self.at_work = self.at_work.saturating_add(1);
+    }
+
+    /// All are to stop.
+    pub fn halt(&mut self) {
+        self.stop = true;
+    }
+
+    /// Takes a report. An `Err` is out of memory.
+    fn note(&mut self, expansion: Expansion) -> Result<Reported, Memory> {
+        // Looks at the problem and the desk tell that the desk stands as its history leaves it.
+        let _grid = self.desk.problem().grid();
+        let _end = self.desk.end();
+        match self.desk.report(expansion) {
+            Ok(answer) => Ok(answer),
+            Err(_) => Err(Memory),
+        }
+    }
+
+    /// Publishes what is found and not yet published. An `Err` is out of memory.
+    fn publish_new(&mut self, alloc: Global) -> Result<(), Memory> {
+        // A look at the problem tells that its blocks are those of its grid.
+        let _grid = self.desk.problem().grid();
+        let published = self.book.published();
+        let found = self.desk.found();
+        if published < found.len() {
+            self.book.publish(alloc, &found[published..])?;
+        }
+        Ok(())
+    }
+
+    /// Takes a report and publishes what is new. The rest is handed over, of a report that is taken.
+    /// An `Err` is out of memory.
+    fn take_in(&mut self, alloc: Global, expansion: Expansion) -> Result<Vec<Prefix>, Memory> {
+        let answer = self.note(expansion)?;
+        self.publish_new(alloc)?;
+        match answer {
+            Reported::Taken { rest } => Ok(rest),
+            _ => Ok(Vec::new(alloc)),
+        }
+    }
+
+    /// Takes a report, publishes what is new and signals a change. The rest is handed over, of a
+    /// report that is taken. `None`: the worker is to leave, since the desk has ended or all are to
+    /// stop, as they are where memory runs out.
+    pub fn report(&mut self, alloc: Global, expansion: Expansion) -> Option<Vec<Prefix>> {
+        self.change();
+        match self.take_in(alloc, expansion) {
+            Ok(_) if self.is_over() => None,
+            Ok(rest) => Some(rest),
+            Err(Memory) => {
+                self.stop = true;
+                None
+            }
+        }
+    }
+
+    /// The desk and its book, and whether all were to stop.
+    pub fn into_parts(self) -> (Desk, BookWriter<B>, bool)
+        ensures desk { result.0 ≡ self.desk }
+        ensures book { result.1.edition ≡ self.edition }
+    {
+        let Shared {
+            desk,
+            book,
+            stop,
+            ..
+        } = self;
+        (desk, book, stop)
+    }
+}
