@@ -1,9 +1,8 @@
 -- The cells of rows.
-use Rattle.std.proofs.Common.{◌≡◌, inl, inr, Bool, true, false, ◌&&◌, ℕ, ◌<◌, ◌≤◌, List, length, get_or, slice_index_or, ℤ, pos, refl, ap, sym, subst, ◌∙◌, arith}
-use Rattle.std.proofs.lemmas.Bool.{false_from_ne_true, both_ways, and_parts, cases_Bool}
+use Rattle.std.proofs.Common.{◌≡◌, true, false, ℕ, ◌<◌, ◌≤◌, List, length, slice_index_or, pos, refl, ap, sym, subst, ◌∙◌, arith}
+use Rattle.std.proofs.lemmas.Bool.{false_from_ne_true, both_ways, and_parts}
 use Rattle.solid_model.specs.declared.cell.Axis.{Axis}
 use Rattle.solid_model.specs.declared.cell.Axis.TheVariants.{X, Y, Z}
-use Rattle.solid_model.specs.declared.cell.Cell.{Cell}
 use Rattle.solid_model.specs.declared.per_axis.PerAxis.{PerAxis}
 use Rattle.solid_model.specs.Bits.{is_set}
 use Rattle.solid_model.specs.Cells.{coordinate, cell_at}
