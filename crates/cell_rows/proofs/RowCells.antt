@@ -1,9 +1,8 @@
 -- The cells of rows.
-use Rattle.std.proofs.Common.{◌≡◌, inl, inr, Bool, true, false, ◌&&◌, ℕ, ◌<◌, ◌≤◌, List, length, get_or, slice_index_or, ℤ, pos, refl, ap, sym, subst, ◌∙◌, arith}
-use Rattle.std.proofs.lemmas.Bool.{false_from_ne_true, both_ways, and_parts, cases_Bool}
+use Rattle.std.proofs.Common.{◌≡◌, true, false, ◌&&◌, ℕ, ◌+◌, ◌*◌, ◌<◌, ◌≤◌, List, length, slice_index_or, pos, refl, ap, sym, subst, ◌∙◌, arith}
+use Rattle.std.proofs.lemmas.Bool.{false_from_ne_true, both_ways, and_parts}
 use Rattle.solid_model.specs.declared.cell.Axis.{Axis}
 use Rattle.solid_model.specs.declared.cell.Axis.TheVariants.{X, Y, Z}
-use Rattle.solid_model.specs.declared.cell.Cell.{Cell}
 use Rattle.solid_model.specs.declared.per_axis.PerAxis.{PerAxis}
 use Rattle.solid_model.specs.Bits.{is_set}
 use Rattle.solid_model.specs.Cells.{coordinate, cell_at}
@@ -11,9 +10,9 @@ use Rattle.solid_model.specs.Marks.{BoxMarks, is_marked}
 use Rattle.solid_model.specs.PerAxis.{numbers_of, cell_of, numbered, AreFew}
 use Rattle.solid_model.specs.Rooms.{Sizes, is_below, is_within, box_place, box_count}
 use Rattle.solid_model.proofs.BoxCells.{place-below, within-below, below-within}
-use Rattle.solid_model.proofs.BoxPlaces.{one_cell, cell_there}
+use Rattle.solid_model.proofs.BoxPlaces.{below_number, one_cell, cell_there}
 use Rattle.solid_model.proofs.Pushed.{HoldsSoFar}
-use Rattle.cell_rows.specs.Rows.{cell_numbered, is_marked_at, row_sizes, AreRows}
+use Rattle.cell_rows.specs.Rows.{cell_numbered, is_marked_at, stride_along, row_sizes, AreRows}
 
 -- numbers with another one along an axis are those of the cell
 pub numbered_cell : (a : Axis) (k : ℕ) (n r : PerAxis) → numbers_of r ≡ numbered a k (numbers_of n) → cell_of r ≡ cell_numbered a k n
@@ -35,6 +34,81 @@ none_beyond m a n k beyond = false_from_ne_true (is_marked_at m a n k) (λ marke
     let below = subst (λ z. is_below (sizes a) z ≡ true) (coordinate_numbered a k n) (within-below sizes (cell_numbered a k n) within a) in
     let less = place-below (sizes a) (pos k) below in
     omega arith)
+
+-- ---- places along a row
+
+-- the first cell of a row stands in the box where another one does
+within_first : (sizes : Sizes) (a : Axis) (k : ℕ) (n : PerAxis) → is_within sizes (cell_numbered a k n) ≡ true
+    → is_within sizes (cell_numbered a 0 n) ≡ true
+within_first sizes a k n within = below-within sizes (cell_numbered a 0 n) (by a (within-below sizes (cell_numbered a k n) within))
+  where
+    first : (size : ℕ) → is_below size (pos k) ≡ true → is_below size (pos 0) ≡ true
+    first size below = let l = place-below size (pos k) below in below_number size 0 (omega arith)
+
+    by : (a : Axis) → ((b : Axis) → is_below (sizes b) (coordinate b (cell_numbered a k n)) ≡ true)
+        → (b : Axis) → is_below (sizes b) (coordinate b (cell_numbered a 0 n)) ≡ true
+    by X h X = first (sizes X) (h X)
+    by X h Y = h Y
+    by X h Z = h Z
+    by Y h X = h X
+    by Y h Y = first (sizes Y) (h Y)
+    by Y h Z = h Z
+    by Z h X = h X
+    by Z h Y = h Y
+    by Z h Z = first (sizes Z) (h Z)
+
+-- so where it doesn't none has a mark
+pub none_outside : (m : BoxMarks) (a : Axis) (n : PerAxis) → is_within (numbers_of m.sizes) (cell_numbered a 0 n) ≡ false
+    → (k : ℕ) → is_marked_at m a n k ≡ false
+none_outside m a n none k = false_from_ne_true (is_marked_at m a n k) (λ marked.
+    let sizes = numbers_of m.sizes in
+    let within = (and_parts (is_within sizes (cell_numbered a k n)) (slice_index_or m.values (box_place sizes (cell_numbered a k n)) false) marked).0 in
+    both_ways (is_within sizes (cell_numbered a 0 n)) none (within_first sizes a k n within))
+
+-- and all cells of its row stand there too,
+within_along : (sizes : Sizes) (a : Axis) (k : ℕ) (n : PerAxis) → is_within sizes (cell_numbered a 0 n) ≡ true → k < sizes a
+    → is_within sizes (cell_numbered a k n) ≡ true
+within_along sizes a k n within l = below-within sizes (cell_numbered a k n) (by a l (within-below sizes (cell_numbered a 0 n) within))
+  where
+    by : (a : Axis) → k < sizes a → ((b : Axis) → is_below (sizes b) (coordinate b (cell_numbered a 0 n)) ≡ true)
+        → (b : Axis) → is_below (sizes b) (coordinate b (cell_numbered a k n)) ≡ true
+    by X m h X = below_number (sizes X) k m
+    by X m h Y = h Y
+    by X m h Z = h Z
+    by Y m h X = h X
+    by Y m h Y = below_number (sizes Y) k m
+    by Y m h Z = h Z
+    by Z m h X = h X
+    by Z m h Y = h Y
+    by Z m h Z = below_number (sizes Z) k m
+
+-- a stride apart
+place_along : (sizes : Sizes) (a : Axis) (k : ℕ) (n : PerAxis)
+    → box_place sizes (cell_numbered a 0 n) + k * stride_along sizes a ≡ box_place sizes (cell_numbered a k n)
+place_along sizes X k n = omega arith
+place_along sizes Y k n = sym (mul_in (n.z * sizes Y) k (sizes X) n.x)
+  where
+    mul_in : (a k s x : ℕ) → (a + k) * s + x ≡ (a + 0) * s + x + k * s
+    mul_in a k s x = omega arith
+place_along sizes Z k n = sym (mul_in k n.y (sizes Y) (sizes X) n.x)
+  where
+    mul_in : (k y h s x : ℕ) → (k * h + y) * s + x ≡ (0 * h + y) * s + x + k * (h * s)
+    mul_in k y h s x = omega arith
+
+-- the value at such a place tells whether the cell has a mark
+pub mark_along : (m : BoxMarks) (a : Axis) (k : ℕ) (n first : PerAxis) (start stride : ℕ) → cell_of first ≡ cell_numbered a 0 n
+    → is_within (numbers_of m.sizes) (cell_of first) ≡ true → k < numbers_of m.sizes a → start ≡ box_place (numbers_of m.sizes) (cell_of first)
+    → stride ≡ stride_along (numbers_of m.sizes) a → (start + k * stride < box_count (numbers_of m.sizes))
+    × (slice_index_or m.values (start + k * stride) false ≡ is_marked_at m a n k)
+mark_along m a k n first start stride at within l begins apart =
+    let sizes = numbers_of m.sizes in
+    let here = within_along sizes a k n (ap (is_within sizes) (sym at) ∙ within) l in
+    let place : start + k * stride ≡ box_place sizes (cell_numbered a k n) =
+    (λ i. (begins ∙ ap (box_place sizes) at) i + k * apart i) ∙ place_along sizes a k n in (
+      subst (λ p. p < box_count sizes) (sym place) (cell_there sizes (cell_numbered a k n) here),
+      ap (λ p. slice_index_or m.values p false) place
+          ∙ ap (λ b. b && slice_index_or m.values (box_place sizes (cell_numbered a k n)) false) (sym here),
+    )
 
 -- ---- rows
 

@@ -1,5 +1,5 @@
 -- The rows of a box of marked cells, as numbers whose bits are the cells.
-use Rattle.std.specs.Prelude.{◌≡◌, ◌≤◌, ◌<◌, Bool, ℕ, List, length, slice_index_or, IsTrue}
+use Rattle.std.specs.Prelude.{◌≡◌, ◌≤◌, ◌<◌, ◌*◌, Bool, ℕ, List, length, slice_index_or, IsTrue}
 use Rattle.solid_model.specs.declared.cell.Axis.{Axis}
 use Rattle.solid_model.specs.declared.cell.Axis.TheVariants.{X, Y, Z}
 use Rattle.solid_model.specs.declared.cell.Cell.{Cell}
@@ -19,6 +19,12 @@ cell_numbered Z k n = cell_at n.x n.y k
 -- of the row of a cell along an axis, that of number k has a mark
 abbrev pub is_marked_at : BoxMarks → Axis → PerAxis → ℕ → Bool
 is_marked_at m a n k = is_marked m (cell_numbered a k n)
+
+-- how far apart neighbours along an axis stand in a list of all cells
+abbrev pub stride_along : Sizes → Axis → ℕ
+stride_along sizes X = 1
+stride_along sizes Y = sizes X
+stride_along sizes Z = sizes Y * sizes X
 
 -- a box of one cell along the axis: each of its cells stands for a row
 abbrev pub row_sizes : BoxMarks → Axis → Sizes

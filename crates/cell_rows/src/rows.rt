@@ -1,9 +1,9 @@
 //! The rows of a box of marked cells.
 
 ghost use Rattle.std.specs.Prelude.{◌≡◌, ◌≤◌, ◌<◌, ℕ, IfOk};
-ghost use Rattle.cell_rows.specs.Rows.{is_marked_at, AreRows};
+ghost use Rattle.cell_rows.specs.Rows.{is_marked_at, stride_along, AreRows};
 ghost use Rattle.solid_model.specs.Bits.{is_set};
-ghost use Rattle.solid_model.specs.PerAxis.{numbers_of};
+ghost use Rattle.solid_model.specs.PerAxis.{numbers_of, AreFew};
 
 use solid_model::{Axis, Marks, Memory, PerAxis};
 use std::alloc::Global;
@@ -30,14 +30,34 @@ impl Model for CellRows {
     ghost invariant = { λ s. AreAllRows s.marks s.x.items s.y.items s.z.items };
 }
 
+/// How far apart neighbours along an axis stand in a list of all cells of a box of these sizes.
+fn stride(sizes: PerAxis, axis: Axis) -> usize
+    requires { AreFew (numbers_of sizes) }
+    ensures { result ≡ stride_along (numbers_of sizes) axis }
+{
+    match axis {
+        Axis::X => 1,
+        Axis::Y => sizes.x,
+        Axis::Z => sizes.y * sizes.x,
+    }
+}
+
 /// The row of a cell along an axis.
 fn row_of(marks: &Marks, axis: Axis, cell: PerAxis) -> u64
     requires { numbers_of marks.now.sizes axis ≤ 63 }
     ensures { (k : ℕ) → k < 64 → is_set result k ≡ is_marked_at marks.now axis cell k }
 {
+    let sizes = marks.sizes();
+    let first = cell.numbered(axis, 0);
+    if !sizes.has(first) {
+        return 0;
+    }
+    let start = sizes.place(first);
+    let stride = stride(sizes, axis);
+    let values = marks.values();
     let mut row: u64 = 0;
-    for number in 0..marks.sizes().along(axis) {
-        if marks.has(cell.numbered(axis, number)) {
+    for number in 0..sizes.along(axis) {
+        if values[start + number * stride] {
             row |= 1 << number;
         }
     }

@@ -1,20 +1,15 @@
 -- The rows of cells on both sides of a plane.
-use Rattle.std.proofs.Common.{◌≡◌, Bool, ℕ, true, false, ◌&&◌, not, ℤ, pos, ◌-ℤ◌, ap, ap₂, sym, subst, ◌∙◌, refl}
-use Rattle.std.proofs.lemmas.Bool.{false≢true, false_from_ne_true}
-use Rattle.solid_model.specs.declared.cell.Axis.{Axis}
-use Rattle.solid_model.specs.declared.cell.Axis.TheVariants.{X, Y, Z}
+use Rattle.std.proofs.Common.{◌≡◌, Bool, ℕ, true, false, ◌&&◌, not, ℤ, pos, sym, refl}
+use Rattle.std.proofs.lemmas.Bool.{false≢true}
 use Rattle.solid_model.specs.declared.cell.Cell.{Cell}
 use Rattle.solid_model.specs.declared.face.Out.{Out}
 use Rattle.solid_model.specs.declared.face.Out.TheVariants.{MinusX, PlusX, MinusY, PlusY, MinusZ, PlusZ}
 use Rattle.solid_model.specs.declared.per_axis.PerAxis.{PerAxis}
-use Rattle.solid_model.specs.Cells.{coordinate, cell_before}
+use Rattle.solid_model.specs.Cells.{cell_before}
 use Rattle.solid_model.specs.Faces.{outward, right_axis, place, is_boundary}
-use Rattle.solid_model.specs.Marks.{BoxMarks, is_marked}
-use Rattle.solid_model.specs.PerAxis.{numbers_of, cell_of}
-use Rattle.solid_model.specs.Rooms.{is_below}
+use Rattle.solid_model.specs.PerAxis.{cell_of}
 use Rattle.solid_model.specs.Rounds.{Spot}
 use Rattle.cell_rows.specs.Rows.{cell_numbered}
-use Rattle.faces.proofs.PlaneBoundary.{marked_below}
 
 -- the cell at a spot of a plane, by the first one of its row
 pub along_right : (out : Out) (k : ℕ) (n : PerAxis) (at v : ℤ) → cell_of n ≡ place out at (record { u = pos 0; v = v })

@@ -1,31 +1,30 @@
 -- The points where sides of the border of squares may end.
-use Rattle.std.proofs.Common.{◌≡◌, inl, inr, Bool, true, false, not, ◌&&◌, ◌||◌, ◌==◌, ℕ, zero, suc, ◌+◌, ◌*◌, ◌/◌, ◌%◌, ◌^◌, ◌<◌, ◌≤◌, List, length, bit_or, get_or, slice_index_or, ℤ, pos, negsuc, ◌-ℤ◌, refl, ap, ap₂, sym, subst, ◌∙◌, arith}
+use Rattle.std.proofs.Common.{◌≡◌, inl, inr, Bool, true, false, not, ◌&&◌, ◌||◌, ◌==◌, ℕ, zero, suc, ◌+◌, ◌*◌, ◌/◌, ◌%◌, ◌^◌, ◌<◌, ◌≤◌, List, bit_or, slice_index_or, pos, negsuc, ◌-ℤ◌, refl, ap, sym, subst, ◌∙◌, arith}
 use Rattle.std.specs.Int.RustNames.{bit_xor}
 use Rattle.std.proofs.Math.Bool.{and-not_self}
-use Rattle.std.proofs.lemmas.Bool.{cases_lt, cases_Bool, false≢true, both_ways, and_from, or_cases, false_from_ne_true}
+use Rattle.std.proofs.lemmas.Bool.{cases_lt, cases_Bool, false≢true, both_ways, and_from, false_from_ne_true}
 use Rattle.std.proofs.lemmas.Int.{ints}
 use Rattle.std.proofs.lemmas.List.{get_or_past}
 use Rattle.std.proofs.lemmas.Nat.{mod_below, mod-mul-add, div-mul-add}
 use Rattle.std.proofs.lemmas.Nat.Bits.{bit_at-zero}
-use Rattle.solid_model.specs.Bits.{is_set, bit_of}
+use Rattle.solid_model.specs.Bits.{is_set}
 use Rattle.solid_model.specs.Rooms.{is_below}
 use Rattle.solid_model.specs.Rounds.{Spot, Heading, East, North, West, South, left_of, square_at, is_border}
 use Rattle.solid_model.proofs.BoxPlaces.{below_number}
 use Rattle.solid_model.proofs.Pushed.{HoldsSoFar}
 use Rattle.cell_rows.proofs.WordBits.{set_either, same_where_clear, moved_up_first, moved_up}
-use Rattle.faces.specs.Border.{side_to, side_at, is_border_at, side_count, TellEnds}
+use Rattle.faces.specs.Border.{side_to, is_border_at, TellEnds}
 use Rattle.faces.specs.Ends.{is_set_before, TellRowEnds, AreTurned}
 use Rattle.faces.specs.PlaneSquares.{SquareTable, IsTable, is_in_table, is_there}
 use Rattle.faces.specs.Ways.{heading_at}
 use Rattle.face_laws.specs.GridRounds.{back_of}
 use Rattle.face_laws.proofs.Turns.{round, arrives, border_at_end}
 use Rattle.faces.proofs.Sides.{end_of-side_to}
-use Rattle.faces.proofs.SquarePlaces.{bit_there}
 
 -- ---- the points of a row
 
 -- what is either of two isn't where neither is
-or_clear : (x y : Bool) → (x || y) ≡ false → (x ≡ false) × (y ≡ false)
+pub or_clear : (x y : Bool) → (x || y) ≡ false → (x ≡ false) × (y ≡ false)
 or_clear true y e = absurd (false≢true (sym e))
 or_clear false y e = (refl, e)
 

@@ -1,11 +1,10 @@
 -- The numbers of points and of sides.
 use Rattle.std.proofs.Common.{◌≡◌, Bool, true, false, inl, inr, ℕ, zero, suc, ◌+◌, ◌*◌, ◌/◌, ◌%◌, ◌<◌, pos, refl, ◌∙◌, ap, ap₂, subst, arith}
 use Rattle.std.proofs.lemmas.Int.{ints}
-use Rattle.std.proofs.lemmas.Nat.{div-mul-add, mod-mul-add, div-add-mod', mod_below, mul-add-lt, row_fits}
+use Rattle.std.proofs.lemmas.Nat.{div-mul-add, mod-mul-add, div-add-mod', mod_below, row_fits}
 use Rattle.faces.specs.declared.point.Point.{Point}
 use Rattle.faces.specs.Border.{IsTablePoint, point_number, point_at, side_to, side_number, side_at, side_count}
 use Rattle.faces.specs.PlaneLoops.{is_spot_before}
-use Rattle.faces.specs.PlaneSquares.{SquareTable}
 use Rattle.faces.specs.Points.{spot_of}
 use Rattle.faces.specs.Ways.{heading_number, heading_at}
 use Rattle.solid_model.specs.declared.cell.Cell.{Cell}

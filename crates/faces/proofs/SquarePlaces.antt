@@ -1,16 +1,15 @@
 -- The places of squares in a table.
-use Rattle.std.proofs.Common.{◌≡◌, inl, inr, Bool, true, ℕ, zero, suc, ◌+◌, ◌*◌, ◌/◌, ◌%◌, ◌<◌, List, [], ◌∷◌, map, ℤ, pos, ◌≤ℤ◌, slice_index_or, false, refl, ap, ap₂, sym, subst, ◌∙◌, arith}
-use Rattle.std.proofs.lemmas.Bool.{and_parts, and_from, cases_lt}
-use Rattle.std.proofs.lemmas.Nat.{mod-mul-add, div-mul-add, div-add-mod', div_below, mod_below}
+use Rattle.std.proofs.Common.{◌≡◌, inl, inr, Bool, true, ℕ, zero, suc, ◌+◌, ◌*◌, ◌<◌, List, [], ◌∷◌, map, ℤ, pos, ◌≤ℤ◌, slice_index_or, ap, ap₂, sym, subst, ◌∙◌, arith}
+use Rattle.std.proofs.lemmas.Bool.{and_parts, cases_lt}
+use Rattle.std.proofs.lemmas.Nat.{mod-mul-add, div-mul-add, div-add-mod'}
 use Rattle.solid_model.specs.Bits.{is_set}
 use Rattle.solid_model.specs.Lists.{Member}
 use Rattle.solid_model.specs.Rooms.{is_below, place_of_number}
 use Rattle.solid_model.specs.Rounds.{Spot}
 use Rattle.solid_model.proofs.BoxCells.{below-bounds}
 use Rattle.solid_model.proofs.Lists.{member-map}
-use Rattle.solid_model.proofs.BoxPlaces.{IsNumber, number_below, below_number}
+use Rattle.solid_model.proofs.BoxPlaces.{IsNumber, number_below}
 use Rattle.face_laws.proofs.Turns.{same_spot}
-use Rattle.solid_model.proofs.Concatenations.{within_product}
 use Rattle.faces.specs.PlaneSquares.{SquareTable, is_in_table, square_place, is_there}
 use Rattle.faces.specs.SquareSteps.{square_count, square_at_place}
 

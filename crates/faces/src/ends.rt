@@ -1,6 +1,6 @@
 //! The points where sides of the border of squares may end.
 
-ghost use Rattle.std.specs.Prelude.{◌≡◌, ◌<◌, ℕ, true, length, slice_index_or, IfOk};
+ghost use Rattle.std.specs.Prelude.{◌≡◌, ◌<◌, ℕ, true, false, length, slice_index_or, IfOk};
 ghost use Rattle.faces.specs.Border.{TellEnds};
 ghost use Rattle.faces.specs.Ends.{TellRowEnds, AreTurned};
 ghost use Rattle.solid_model.specs.Bits.{is_set};
@@ -48,14 +48,42 @@ fn column(rows: &[u64], number: usize) -> u64
     found
 }
 
+/// The bits that are set in some row.
+fn all_bits(rows: &[u64]) -> u64
+    ensures { (v k : ℕ) → is_set result k ≡ false
+        → is_set (slice_index_or rows.now v 0) k ≡ false }
+{
+    let mut all = 0;
+    for row in rows {
+        all |= *row;
+    }
+    all
+}
+
+/// A column of rows of which these are the bits that are set in some row.
+fn some_column(rows: &[u64], all: u64, number: usize) -> u64
+    requires number { number < 64 }
+    requires count { length rows.now ≡ 64 }
+    requires all { (v k : ℕ) → is_set all k ≡ false
+        → is_set (slice_index_or rows.now v 0) k ≡ false }
+    ensures { (k : ℕ) → k < 64 → is_set result k ≡ is_set (slice_index_or rows.now k 0) number }
+{
+    if has_bit(all, number) {
+        column(rows, number)
+    } else {
+        0
+    }
+}
+
 /// The columns of rows, as rows.
 fn turned(alloc: Global, rows: &[u64]) -> Result<Vec<u64>, Memory>
     requires { length rows.now ≡ 64 }
     ensures { IfOk result (λ columns. AreTurned rows.now columns.items) }
 {
+    let all = all_bits(rows);
     let mut columns = Vec::with_capacity(alloc, 64)?;
     for number in 0..64 {
-        columns.push(column(rows, number))?;
+        columns.push(some_column(rows, all, number))?;
     }
     Ok(columns)
 }

@@ -1,5 +1,5 @@
 -- With the right bars, the ways between nodes are the steps of the ringed box.
-use Rattle.std.proofs.Common.{◌≡◌, ◌↔◌, ◌⊎◌, inl, inr, Bool, true, false, ◌&&◌, ◌||◌, ℕ, zero, suc, ◌<◌, ℤ, pos, negsuc, ◌-ℤ◌, ◌≤ℤ◌, slice_index_or, IsTrue, refl, ap, sym, subst, ◌∙◌, arith, ◌+◌, ◌+ℤ◌}
+use Rattle.std.proofs.Common.{◌≡◌, ◌↔◌, ◌⊎◌, inl, inr, Bool, true, false, ◌&&◌, ◌||◌, ℕ, zero, suc, ◌<◌, ℤ, pos, negsuc, ◌-ℤ◌, ◌≤ℤ◌, slice_index_or, IsTrue, refl, ap, sym, subst, ◌∙◌, arith, ◌+ℤ◌}
 use Rattle.std.proofs.lemmas.Bool.{false≢true, and_parts, and_from, both_ways, false_from_ne_true}
 use Rattle.std.proofs.lemmas.Int.{ints}
 use Rattle.std.specs.Ordering.{int_eq}

@@ -1,5 +1,5 @@
 -- The place of the lowest bit.
-use Rattle.std.proofs.Common.{◌≡◌, ◌<◌, true, inl, inr, ◌^◌, w64, ap, ◌∙◌, arith}
+use Rattle.std.proofs.Common.{◌≡◌, true, inl, inr, w64, ap, ◌∙◌, arith}
 use Rattle.std.specs.Int.{trailing_zeros}
 use Rattle.std.specs.Int.Count.{trailing_of_zero}
 use Rattle.std.proofs.lemmas.Bool.{cases_lt}

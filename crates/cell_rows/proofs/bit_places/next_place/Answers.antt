@@ -1,5 +1,5 @@
 -- A bit of the same word, or of a later one.
-use Rattle.std.proofs.Common.{◌≡◌, ◌+◌, ◌-◌, ◌*◌, ◌/◌, ◌%◌, ◌<◌, ◌≤◌, ◌^◌, length, get_or, refl, arith}
+use Rattle.std.proofs.Common.{◌+◌, ◌-◌, ◌*◌, ◌/◌, ◌%◌, ◌<◌, ◌≤◌, length, get_or, refl, arith}
 use Rattle.std.proofs.lemmas.Nat.{div-add-mod', mod_below}
 use Rattle.cell_rows.proofs.BitPlaces.{none_in_word, bit_fits, none_onward}
 use Rattle.cell_rows.proofs.bit_places.next_place.Goals as goal

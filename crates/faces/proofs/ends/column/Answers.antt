@@ -1,5 +1,5 @@
 -- One bit more; and all of them.
-use Rattle.std.proofs.Common.{◌≡◌, ◌+◌, Bool, ℕ, get_or, sym, subst, ◌∙◌, arith}
+use Rattle.std.proofs.Common.{◌+◌, ℕ, get_or, sym, subst, ◌∙◌, arith}
 use Rattle.solid_model.specs.Bits.{is_set}
 use Rattle.cell_rows.proofs.FilledRows.{IsFilledBy, filled_none, fill_clear, fill_set, filled_whole}
 use Rattle.faces.proofs.ends.column.Goals as goal

@@ -1,8 +1,7 @@
 -- One row more; and all of them.
-use Rattle.std.proofs.Common.{◌≡◌, ◌+◌, ℕ, suc, length, refl, ap, sym, subst, ◌∙◌, arith}
+use Rattle.std.proofs.Common.{◌≡◌, ◌+◌, ℕ, suc, length, refl, ap, subst, ◌∙◌, arith}
 use Rattle.solid_model.proofs.Pushed.{HoldsSoFar, holds_more}
 use Rattle.faces.specs.Ends.{TellRowEnds}
-use Rattle.faces.specs.PlaneSquares.{IsTable}
 use Rattle.faces.proofs.PointEnds.{IsEndRow, row_below, ends_told}
 use Rattle.faces.proofs.ends.ends_by_rows.Goals as goal
 

@@ -9,7 +9,7 @@ loop-number-init c = record { count = ap length c.in_ok-columns.ensures.items; e
 
 pub loop-number-preserved : goal.loop-number-preserved
 loop-number-preserved c =
-    holds_more (IsColumnAt c.args.rows.now) c.loop-number.columns.items _ _ c.column.result c.loop-number.invariant c.column.ensures
+    holds_more (IsColumnAt c.args.rows.now) c.loop-number.columns.items _ _ c.some_column.result c.loop-number.invariant c.some_column.ensures
     c.in_ok-push.ensures.items
 
 pub returns : goal.returns

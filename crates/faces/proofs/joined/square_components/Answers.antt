@@ -1,7 +1,6 @@
 -- The components are the joined squares.
-use Rattle.std.proofs.Common.{◌≤◌, ◌*◌, length, ap, subst, sym, arith}
+use Rattle.std.proofs.Common.{length, ap, arith}
 use Rattle.std.proofs.lemmas.Result.{IfOk-weaker}
-use Rattle.faces.specs.SquareSteps.{square_count, AreSquareComponents}
 use Rattle.faces.proofs.SquareGraph.{joined_components, steps_back}
 use Rattle.faces.proofs.joined.square_components.Goals as goal
 

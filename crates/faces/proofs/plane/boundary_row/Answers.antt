@@ -1,5 +1,5 @@
 -- The cells on both sides of the plane.
-use Rattle.std.proofs.Common.{◌≡◌, true, false, ◌&&◌, not, ◌^◌, ◌<◌, pos, ap, sym, ◌∙◌, arith}
+use Rattle.std.proofs.Common.{◌&&◌, not, pos, ap, sym, ◌∙◌, arith}
 use Rattle.solid_model.specs.declared.frame.Direction.{Direction}
 use Rattle.solid_model.specs.Cells.{cell_before}
 use Rattle.solid_model.specs.Faces.{outward}

@@ -1,12 +1,12 @@
 -- One row more; and all of them.
 use Rattle.std.proofs.Common.{◌≡◌, ◌≤◌, length, ◌∙◌, ap, sym, subst, pos, arith}
 use Rattle.solid_model.specs.declared.cell.Axis.{Axis}
-use Rattle.solid_model.specs.Faces.{is_boundary, up_axis}
+use Rattle.solid_model.specs.Faces.{is_boundary}
 use Rattle.solid_model.specs.Marks.{is_marked}
 use Rattle.solid_model.specs.PerAxis.{numbers_of}
 use Rattle.solid_model.specs.Rounds.{Spot}
-use Rattle.solid_model.proofs.Pushed.{HoldsSoFar, holds_more}
-use Rattle.faces.specs.PlaneSquares.{SquareTable, IsTable, is_there}
+use Rattle.solid_model.proofs.Pushed.{holds_more}
+use Rattle.faces.specs.PlaneSquares.{SquareTable, is_there}
 use Rattle.faces.proofs.PlaneBoundary.{IsBoundaryRow, boundary_rows, boundary_table}
 use Rattle.faces.proofs.plane.plane_squares.Goals as goal
 

@@ -7,7 +7,7 @@ use Rattle.solid_model.proofs.Lists.{each-from}
 use Rattle.faces.specs.declared.plane_loop.PlaneLoop.{PlaneLoop}
 use Rattle.faces.specs.PlaneFaces.{is_up_first}
 use Rattle.faces.specs.PlaneLoops.{ArePlaneLoops}
-use Rattle.faces.specs.PlaneSquares.{SquareTable, IsTable, is_there}
+use Rattle.faces.specs.PlaneSquares.{SquareTable, is_there}
 use Rattle.faces.specs.SquareSteps.{number_of}
 use Rattle.faces.proofs.FacesInPlane.{loop_there, faces_in_plane}
 use Rattle.faces.proofs.NearCorners.{groups_near}

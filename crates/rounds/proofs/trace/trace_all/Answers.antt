@@ -41,18 +41,18 @@ loop-node-preserved g c =
     traced_onward nodes inside next after found (node + 1) c.onward-node-in-loop-node.result is later.later later.none in
     record {
       traced = elim c.if-has.branch [
-          | then-has+then-not-marks-node+in_ok-trace+in_ok-push w ↦ (
-              let on : IsTrue (inside node) = sym {b = inside node} w.if-has.ensures in
-              rw (w.marks-is, w.rounds-is, w.in_ok-push.ensures.items, map-append)
-              (onward _ _ (traced_more nodes inside next marks rounds node so_far w.trace.new.marks w.in_ok-trace.field-0.items on
-              w.if-not-marks-node.true
-              w.in_ok-trace.ensures)))
-          | else-has w ↦ rw (w.marks-is, w.rounds-is) (onward _ _ (traced_skip nodes inside next marks rounds node so_far
-              (λ on. elim w.else-has.branch as (λ _. IsTrue (has_mark marks node)) [
-                | else-has-via-then-has+else-not-marks-node v ↦ v.if-not-marks-node.false
-                | else-has-via-else-has v ↦ absurd (both_ways c.has.result v.if-has.false (c.has.ensures ∙ on))
-              ])))
-        ];
+        | then-has+then-not-marks-node+in_ok-trace+in_ok-push w ↦ (
+            let on : IsTrue (inside node) = sym {b = inside node} w.if-has.ensures in
+            rw (w.marks-is, w.rounds-is, w.in_ok-push.ensures.items, map-append)
+            (onward _ _ (traced_more nodes inside next marks rounds node so_far w.trace.new.marks w.in_ok-trace.field-0.items on
+            w.if-not-marks-node.true
+            w.in_ok-trace.ensures)))
+        | else-has w ↦ rw (w.marks-is, w.rounds-is) (onward _ _ (traced_skip nodes inside next marks rounds node so_far
+            (λ on. elim w.else-has.branch as (λ _. IsTrue (has_mark marks node)) [
+              | else-has-via-then-has+else-not-marks-node v ↦ v.if-not-marks-node.false
+              | else-has-via-else-has v ↦ absurd (both_ways c.has.result v.if-has.false (c.has.ensures ∙ on))
+            ])))
+      ];
       within = later.within;
     }
 
