@@ -4,7 +4,7 @@ use Rattle.solid_model.specs.Blocks.{ProblemParts}
 use Rattle.solution_book.specs.Editions.{EditionParts, IsEdition, StartsWith}
 
 -- the edition that a reader knows is of the problem, and its list begins with what was handed out
-pub record IsRead (p : ProblemParts) (known : Option EditionParts) (handed : List (List Bool)) : Type 0 where
+pub record IsReadUpTo (p : ProblemParts) (known : Option EditionParts) (handed : List (List Bool)) : Type 0 where
   pub edition : EditionParts
   pub seen : known ≡ Some edition
   pub problem : edition.problem ≡ p

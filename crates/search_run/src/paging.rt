@@ -7,7 +7,7 @@ ghost use Rattle.solid_model.specs.Solutions.{AreSolutions};
 ghost use Rattle.tv_base.specs.Faults.{Rose};
 ghost use Rattle.search_run.specs.Handed.{IsHandedOut};
 ghost use Rattle.search_run.specs.Pages.{Call, HasPaged};
-ghost use Rattle.search_run.specs.Reading.{IsRead};
+ghost use Rattle.search_run.specs.Reading.{IsReadUpTo};
 
 use crate::handed::{Handed, PAGE};
 use crate::page_out::{PageOut, RunFault};
@@ -24,7 +24,7 @@ use tv_base::{Gate, Point};
 
 /// Whether a book is of this problem.
 fn is_book_of<B: Wait + Drop>(reader: &mut BookReader<B>, problem: &Problem) -> bool
-    ensures { IsTrue result → IsRead problem.now reader.new [] }
+    ensures { IsTrue result → IsReadUpTo problem.now reader.new [] }
 {
     reader.is_of(problem)
 }
@@ -39,9 +39,9 @@ fn page_new<B: Wait + Drop, P: PageOut>(
     handed: &mut Handed,
     pages: &mut P,
 ) -> Result<bool, RunFault>
-    requires read { IsRead (arc_value problem.now) reader.old handed.old.choices }
+    requires read { IsReadUpTo (arc_value problem.now) reader.old handed.old.choices }
     requires few { length handed.old.choices ≤ limits.solids }
-    ensures read { OnOk result (IsRead (arc_value problem.now) reader.new handed.new.choices) }
+    ensures read { OnOk result (IsReadUpTo (arc_value problem.now) reader.new handed.new.choices) }
     ensures few { OnOk result (length handed.new.choices ≤ limits.solids) }
     ensures out { (before : Option (List Call))
         → IsHandedOut before (P.calls pages.old) handed.old
@@ -81,7 +81,7 @@ fn page_on<B: Wait + Drop, R: Wait, G: Gate, P: PageOut>(
     handed: Handed,
     pages: &mut P,
 ) -> Result<Handed, RunFault>
-    requires read { IsRead (arc_value problem.now) reader handed.choices }
+    requires read { IsReadUpTo (arc_value problem.now) reader handed.choices }
     requires few { length handed.choices ≤ limits.solids }
     ensures handed { IfOk result (λ all. AreSolutions (arc_value problem.now) all.choices) }
     ensures few { IfOk result (λ all. length all.choices ≤ limits.solids) }

@@ -2,7 +2,7 @@
 use Rattle.std.proofs.Common.{◌≡◌, ◌++◌, ℕ, List, Bool, [], length, sym, ap, subst, append-nil}
 use Rattle.std.specs.Arc.{arc_value}
 use Rattle.solid_model.specs.Solutions.{AreSolutions}
-use Rattle.search_run.specs.Reading.{IsRead}
+use Rattle.search_run.specs.Reading.{IsReadUpTo}
 use Rattle.search_run.proofs.PageCalls.{paged}
 use Rattle.search_run.proofs.ReadPages.{read_solutions, read_on}
 use Rattle.search_run.proofs.paging.page_new.Goals as goal
@@ -15,7 +15,7 @@ returns-in_default-clause-out g c before out =
 
 pub returns-in-Ok-hand_out-clause-read : goal.returns-in-Ok-hand_out-clause-read
 returns-in-Ok-hand_out-clause-read g c =
-    subst (IsRead (arc_value c.args.problem.now) c.page.new.self) (sym c.in-Ok-hand_out.ensures.choices)
+    subst (IsReadUpTo (arc_value c.args.problem.now) c.page.new.self) (sym c.in-Ok-hand_out.ensures.choices)
     (read_on (arc_value c.args.problem.now) c.args.reader.now c.page.new.self c.args.handed.now.choices c.in-Ok.page.solids.items c.in-Ok.ensures.0 _ c.min-most.result c.requires.read c.in-Ok.ensures.1
     (ap length c.choices-from.ensures) c.in-Ok.ensures.2.part)
 
