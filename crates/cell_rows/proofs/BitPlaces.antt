@@ -63,6 +63,14 @@ module _ (words : List ℕ) (from : ℕ) where
         ∙ sym (moved_down word (from % 64) bit) ∙ set))
   ]
 
+  -- and is the bit at its place
+  pub set_in_word : (word bit : ℕ) → get_or words (from / 64) 0 ≡ word → from % 64 + bit < 64
+      → is_set (word / 2 ^ (from % 64)) bit ≡ true → bit_of words (from + bit) ≡ true
+  set_in_word word bit e few set =
+      let at : from / 64 * 64 + (from % 64 + bit) ≡ from + bit = omega (arith, place_is) in
+      ap (bit_of words) (sym at) ∙ bit_there words (from / 64) (from % 64 + bit) few
+      ∙ ap (λ w. is_set w (from % 64 + bit)) e ∙ sym (moved_down word (from % 64) bit) ∙ set
+
   -- no bit of the rest of the word, and none of the words after it
   pub none_onward : (to : ℕ) → NoneFrom words from (from + (64 - from % 64)) → NoneFrom words ((from / 64 + 1) * 64) to → NoneFrom words from to
   none_onward to here after k l m = elim (cases_lt k ((from / 64 + 1) * 64)) as (λ _. bit_of words k ≡ false) [

@@ -27,6 +27,7 @@ fn next_from_word(words: &[u64], from: usize) -> usize
     ensures later { from * 64 ≤ result }
     ensures within { result ≤ length words.now * 64 }
     ensures none { (k : ℕ) → from * 64 ≤ k → k < result → bit_of words.now k ≡ false }
+    ensures found { result < length words.now * 64 → IsTrue (bit_of words.now result) }
 {
     for number in from..words.len() {
         let bit = lowest(words[number]);
@@ -45,6 +46,7 @@ pub fn next_place(words: &[u64], from: usize) -> usize
     ensures later { from ≤ result }
     ensures within { result ≤ length words.now * 64 }
     ensures none { (k : ℕ) → from ≤ k → k < result → bit_of words.now k ≡ false }
+    ensures found { result < length words.now * 64 → IsTrue (bit_of words.now result) }
 {
     let number = from / 64;
     if number >= words.len() {

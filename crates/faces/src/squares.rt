@@ -55,7 +55,7 @@ impl Squares {
         self.rows.get(v).copied().unwrap_or(0)
     }
 
-    /// No square is there.
+    /// Surely no square is there, since each row is 0.
     pub fn is_empty(&self) -> bool
         ensures { IsTrue result → (q : Spot) → is_there self.now q ≡ false }
     {

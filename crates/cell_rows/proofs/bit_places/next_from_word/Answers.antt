@@ -1,6 +1,6 @@
 -- One word more, or the place of the bit; and the end.
-use Rattle.std.proofs.Common.{◌≡◌, ◌+◌, ◌*◌, length, subst, arith}
-use Rattle.cell_rows.proofs.BitPlaces.{NoneFrom, none_more}
+use Rattle.std.proofs.Common.{◌≡◌, ◌+◌, ◌*◌, length, subst, ◌∙◌, arith}
+use Rattle.cell_rows.proofs.BitPlaces.{NoneFrom, none_more, bit_there}
 use Rattle.cell_rows.proofs.bit_places.next_from_word.Goals as goal
 
 pub loop-number-init : goal.loop-number-init
@@ -32,3 +32,7 @@ pub returns-clause-none : goal.returns-clause-none
 returns-clause-none c =
     let end : c.loop-number.number ≡ length c.args.words.now = omega (arith, c.loop-number-test.false, c.loop-number.auto.number-end, c.requires.from) in
     subst (λ n. NoneFrom c.args.words.now (c.args.from * 64) (n * 64)) end c.loop-number.invariant
+
+pub returns-then-bit-lt64-clause-found : goal.returns-then-bit-lt64-clause-found
+returns-then-bit-lt64-clause-found c _ =
+    bit_there c.args.words.now c.loop-number.number c.lowest-bit.result c.if-bit-lt64.true ∙ c.lowest-bit.ensures.found c.if-bit-lt64.true

@@ -1,7 +1,7 @@
 -- A bit of the same word, or of a later one.
 use Rattle.std.proofs.Common.{◌+◌, ◌-◌, ◌*◌, ◌/◌, ◌%◌, ◌<◌, ◌≤◌, length, get_or, refl, arith}
 use Rattle.std.proofs.lemmas.Nat.{div-add-mod', mod_below}
-use Rattle.cell_rows.proofs.BitPlaces.{none_in_word, bit_fits, none_onward}
+use Rattle.cell_rows.proofs.BitPlaces.{none_in_word, bit_fits, set_in_word, none_onward}
 use Rattle.cell_rows.proofs.bit_places.next_place.Goals as goal
 
 module _ (c : goal.Then-bit-lt64) where
@@ -32,3 +32,8 @@ returns-clause-none c =
     (none_in_word words from (get_or words (from / 64) 0) (64 - from % 64) refl (omega (arith, rest))
     (λ k l. c.lowest-bit.ensures.none k (omega (arith, l, c.if-bit-lt64.false))))
     c.next_from_word.ensures.none
+
+pub returns-then-bit-lt64-clause-found : goal.returns-then-bit-lt64-clause-found
+returns-then-bit-lt64-clause-found c _ =
+    set_in_word c.args.words.now c.args.from (get_or c.args.words.now (c.args.from / 64) 0) c.lowest-bit.result refl (fits c)
+    (c.lowest-bit.ensures.found c.if-bit-lt64.true)
