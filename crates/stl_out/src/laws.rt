@@ -1,7 +1,7 @@
 //! The laws of the triangles of a solid's boundary. Each is the contract of a function that does
 //! nothing.
 
-ghost use Rattle.std.specs.Prelude.{◌≡◌, Bool, true, List, [], ◌∷◌, ℤ, codes, IsTrue, if◌then◌else◌};
+ghost use Rattle.std.specs.Prelude.{◌≡◌, Bool, true, List, [], ◌∷◌, ◌++◌, ℤ, codes, IsTrue, if◌then◌else◌};
 ghost use Rattle.std.specs.List.{count_by};
 ghost use Rattle.face_laws.specs.GridFaces.{Planes, AreCellsOf, numbered_fullness};
 ghost use Rattle.face_laws.specs.GridRounds.{Rises};
@@ -48,6 +48,6 @@ pub fn one_list_of_rectangles()
 /// The triangles of a brick whose sides differ, and the text of the first one, written out by hand.
 pub fn small_stl()
     ensures brick { AreTrianglesOf brick_coordinates (true ∷ []) brick_triangles }
-    ensures facet { facet_text first_triangle
-        ≡ codes "facet normal -1 0 0\nouter loop\nvertex -1 0 0\nvertex -1 0 5\nvertex -1 2 5\nendloop\nendfacet\n" }
+    ensures facet { facet_text first_triangle ≡ codes "facet normal -1 0 0\nouter loop\n"
+        ++ codes "vertex -1 0 0\nvertex -1 0 5\nvertex -1 2 5\nendloop\nendfacet\n" }
 {}
