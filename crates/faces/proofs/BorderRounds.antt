@@ -45,7 +45,7 @@ module _ (t : SquareTable) (up_first : Bool) where
 
   -- the side with a number
   abbrev side : ℕ → Side
-  side = side_at t up_first
+  side = side_at up_first
 
   -- the number that follows
   abbrev next : ℕ → ℕ
@@ -93,7 +93,7 @@ module _ (t : SquareTable) (up_first : Bool) where
         }
 
   -- each round of numbers is one of sides
-  gone_round : (round : List ℕ) → IsInsideRound (side_count t) (is_border_at t up_first) next round → IsGone (first round) round
+  gone_round : (round : List ℕ) → IsInsideRound (side_count) (is_border_at t up_first) next round → IsGone (first round) round
   gone_round [] is = absurd (omega (arith, is.from.some))
   gone_round (a ∷ rest) is =
       let steps : a ∷ rest ≡ run next (suc (length rest)) a = is.from.steps in
@@ -148,14 +148,14 @@ module _ (t : SquareTable) (up_first : Bool) where
 
   -- ---- all rounds
 
-  loops_each : (rounds : List (List ℕ)) → Each (IsInsideRound (side_count t) (is_border_at t up_first) next) rounds
+  loops_each : (rounds : List (List ℕ)) → Each (IsInsideRound (side_count) (is_border_at t up_first) next) rounds
       → Each (IsLoopRound (is_there t) up_first) (map (loop_along t up_first) rounds)
   loops_each rounds each =
       each-map (loop_along t up_first) (IsLoopRound (is_there t) up_first) rounds
-      (each-weaker (IsInsideRound (side_count t) (is_border_at t up_first) next) (λ r. IsLoopRound (is_there t) up_first (loop_along t up_first r)) rounds
+      (each-weaker (IsInsideRound (side_count) (is_border_at t up_first) next) (λ r. IsLoopRound (is_there t) up_first (loop_along t up_first r)) rounds
       (λ r is. gone_loop r (gone_round r is)) each)
 
-  loops_in_order : (rounds : List (List ℕ)) → Each (IsInsideRound (side_count t) (is_border_at t up_first) next) rounds
+  loops_in_order : (rounds : List (List ℕ)) → Each (IsInsideRound (side_count) (is_border_at t up_first) next) rounds
       → Ascends (λ r s. first r < first s) rounds
       → Ascends (λ (l m : PlaneLoop). IsTrue (first_corner_before up_first l.corners m.corners)) (map (loop_along t up_first) rounds)
   loops_in_order [] each ordered = tt
@@ -163,16 +163,16 @@ module _ (t : SquareTable) (up_first : Bool) where
     each-map (loop_along t up_first) (λ (m : PlaneLoop). IsTrue (first_corner_before up_first (loop_along t up_first r).corners m.corners)) rounds
         (each-from (λ s. IsTrue (first_corner_before up_first (loop_along t up_first r).corners (loop_along t up_first s).corners)) rounds
         (λ s m. loop_before (first r) (first s) r s (gone_round r each.0)
-        (gone_round s (each-at (IsInsideRound (side_count t) (is_border_at t up_first) next) rounds s each.1 m))
+        (gone_round s (each-at (IsInsideRound (side_count) (is_border_at t up_first) next) rounds s each.1 m))
         (each-at (λ x. first r < first x) rounds s ordered.0 m))),
     loops_in_order rounds each.1 ordered.1,
   )
 
-  loops_complete : (rounds : List (List ℕ)) → AreRounds (side_count t) (is_border_at t up_first) next rounds
+  loops_complete : (rounds : List (List ℕ)) → AreRounds side_count (is_border_at t up_first) next rounds
       → (l : PlaneLoop) → IsLoopRound (is_there t) up_first l → Member (map (loop_along t up_first) rounds) l
   loops_complete rounds are l (s, n, is, square, corner, begins) =
       let (r, among, on) = are.complete (number_of t up_first s) (border_number t up_first s is.border) in
-      let gone = gone_round r (each-at (IsInsideRound (side_count t) (is_border_at t up_first) next) rounds r are.each among) in
+      let gone = gone_round r (each-at (IsInsideRound (side_count) (is_border_at t up_first) next) rounds r are.each among) in
       let start = side (first r) in
       let on_side : Member (round_sides (is_there t) start gone.others) s =
       subst (Member (round_sides (is_there t) start gone.others)) (side-of_number t up_first s is.border)
@@ -187,7 +187,7 @@ module _ (t : SquareTable) (up_first : Bool) where
       subst (Member (map (loop_along t up_first) rounds)) same (member-map (loop_along t up_first) rounds r among)
 
   -- the loops along all rounds are all loops
-  pub loops_along : (rounds : List (List ℕ)) → AreRounds (side_count t) (is_border_at t up_first) next rounds
+  pub loops_along : (rounds : List (List ℕ)) → AreRounds side_count (is_border_at t up_first) next rounds
       → ArePlaneLoops (is_there t) up_first (map (loop_along t up_first) rounds)
   loops_along rounds are = record {
     each = loops_each rounds are.each;
@@ -197,7 +197,7 @@ module _ (t : SquareTable) (up_first : Bool) where
 
 -- the same of a table and an order that are told twice
 pub loops_listed : (t s : SquareTable) (up_first order : Bool) (rounds others : List (List ℕ)) (loops : List PlaneLoop) → s ≡ t → order ≡ up_first
-    → AreRounds (side_count s) (is_border_at s order) (following_number s order) rounds → others ≡ rounds
+    → AreRounds side_count (is_border_at s order) (following_number s order) rounds → others ≡ rounds
     → loops ≡ map (loop_along s order) others → ArePlaneLoops (is_there t) up_first loops
 loops_listed t s up_first order rounds others loops e f are same is =
     subst (λ (x : SquareTable × Bool). ArePlaneLoops (is_there x.0) x.1 loops) (λ i. (e i, f i))

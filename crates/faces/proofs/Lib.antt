@@ -15,3 +15,5 @@ pub mod MoreFaces
 pub mod MappedSoFar
 pub mod GridNumbers
 pub mod FacesOnGrid
+pub mod PlaneRows
+pub mod PointEnds

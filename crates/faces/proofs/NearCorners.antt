@@ -13,7 +13,7 @@ use Rattle.face_laws.proofs.SidesInOrder.{member-border}
 use Rattle.faces.specs.Groups.{IsGroup, AreGroups}
 use Rattle.faces.specs.PlaneFaces.{IsNearSpot, IsNearLoop}
 use Rattle.faces.specs.PlaneLoops.{PlaneLoop, IsLoopRound}
-use Rattle.faces.specs.PlaneSquares.{SquareTable, IsTable, is_there}
+use Rattle.faces.specs.PlaneSquares.{SquareTable, is_there}
 use Rattle.faces.proofs.Grouping.{with_key-member}
 use Rattle.faces.proofs.SquarePlaces.{there-parts}
 
@@ -30,13 +30,13 @@ ends_beside North p = record { u_low = omega (arith, ints); u_high = omega (arit
 ends_beside West p = record { u_low = omega (arith, ints); u_high = omega (arith, ints); v_low = omega (arith, ints); v_high = omega (arith, ints) }
 ends_beside South p = record { u_low = omega (arith, ints); u_high = omega (arith, ints); v_low = omega (arith, ints); v_high = omega (arith, ints) }
 
-module _ (t : SquareTable) (few : IsTable t) where
+module _ (t : SquareTable) where
   -- a square's coordinates are less
   less : (q : Spot) → is_there t q ≡ true → (q.u <ℤ pos 1024) × (q.v <ℤ pos 1024)
   less q there =
-      let parts = and_parts (is_below t.width q.u) (is_below t.height q.v) (there-parts t q there).0 in
-      let u = below-bounds t.width q.u parts.0 in let v = below-bounds t.height q.v parts.1 in
-      (omega (arith, ints, few.narrow), omega (arith, ints, few.low))
+      let parts = and_parts (is_below 63 q.u) (is_below 63 q.v) (there-parts t q there).0 in
+      let u = below-bounds 63 q.u parts.0 in let v = below-bounds 63 q.v parts.1 in
+      (omega (arith, ints), omega (arith, ints))
 
   -- and so are those of the point where a side on whose left it lies ends
   end_near : (s : Side) → is_there t (left_square s) ≡ true → IsNearSpot (end_of s)

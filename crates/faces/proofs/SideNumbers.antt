@@ -61,69 +61,65 @@ heading-below South = omega arith
 further_row : (a b x y w : ℕ) → a < b → x < w → a * w + x < b * w + y
 further_row a b x y w l m = omega (arith, row_fits a w b w l (omega arith))
 
-module _ (t : SquareTable) where
-  -- ---- numbers of points
+-- ---- numbers of points
 
-  -- the point with a point's number is the point
-  pub point-number : (up_first : Bool) (p : Point) → IsTablePoint t p → point_at t up_first (point_number t up_first p) ≡ p
-  point-number true p is =
-      let less : p.u < t.width + 1 = omega (arith, is.across) in
-      same_point _ p (mod-mul-add p.v (t.width + 1) p.u less) (div-mul-add p.v (t.width + 1) p.u less)
-  point-number false p is =
-      let less : p.v < t.height + 1 = omega (arith, is.up) in
-      same_point _ p (div-mul-add p.u (t.height + 1) p.v less) (mod-mul-add p.u (t.height + 1) p.v less)
+-- the point with a point's number is the point
+pub point-number : (up_first : Bool) (p : Point) → IsTablePoint p → point_at up_first (point_number up_first p) ≡ p
+point-number true p is =
+    let less : p.u < 64 = omega (arith, is.across) in
+    same_point _ p (mod-mul-add p.v 64 p.u less) (div-mul-add p.v 64 p.u less)
+point-number false p is =
+    let less : p.v < 64 = omega (arith, is.up) in
+    same_point _ p (div-mul-add p.u 64 p.v less) (mod-mul-add p.u 64 p.v less)
 
-  -- a number is that of its point
-  pub number-point : (up_first : Bool) (k : ℕ) → point_number t up_first (point_at t up_first k) ≡ k
-  number-point true k = div-add-mod' k (t.width + 1)
-  number-point false k = div-add-mod' k (t.height + 1)
+-- a number is that of its point
+pub number-point : (up_first : Bool) (k : ℕ) → point_number up_first (point_at up_first k) ≡ k
+number-point true k = div-add-mod' k 64
+number-point false k = div-add-mod' k 64
+
+-- there are so many
+pub number-below : (up_first : Bool) (p : Point) → IsTablePoint p → point_number up_first p < 4096
+number-below true p is = omega (arith, is.across, is.up)
+number-below false p is = omega (arith, is.across, is.up)
+
+-- what comes before has a lesser number
+pub before-less : (up_first : Bool) (p q : Point) → IsTablePoint p → IsTablePoint q
+    → ComesBefore (there up_first (spot_of p)) (there up_first (spot_of q)) → point_number up_first p < point_number up_first q
+before-less true p q is is_too l = by (before-lies (there true (spot_of p)) (there true (spot_of q)) l)
+  where
+    by : LiesBefore (there true (spot_of p)) (there true (spot_of q)) → p.v * 64 + p.u < q.v * 64 + q.u
+    by (inl m) = absurd (omega (arith, ints))
+    by (inr (e, inl m)) = further_row p.v q.v p.u q.u 64 (omega (arith, ints)) (omega (arith, is.across))
+    by (inr (e, inr (f, m))) =
+        let rows : p.v ≡ q.v = omega (arith, ints) in
+        let less : p.u < q.u = omega (arith, ints) in
+        subst (λ v. p.v * 64 + p.u < v * 64 + q.u) rows (omega (arith, less))
+before-less false p q is is_too l = by (before-lies (there false (spot_of p)) (there false (spot_of q)) l)
+  where
+    by : LiesBefore (there false (spot_of p)) (there false (spot_of q)) → p.u * 64 + p.v < q.u * 64 + q.v
+    by (inl m) = absurd (omega (arith, ints))
+    by (inr (e, inl m)) = further_row p.u q.u p.v q.v 64 (omega (arith, ints)) (omega (arith, is.up))
+    by (inr (e, inr (f, m))) =
+        let rows : p.u ≡ q.u = omega (arith, ints) in
+        let less : p.v < q.v = omega (arith, ints) in
+        subst (λ v. p.u * 64 + p.v < v * 64 + q.v) rows (omega (arith, less))
+
+-- ---- numbers of sides
+
+module _ (up_first : Bool) where
+  -- the side with a side's number is the side
+  pub side-number : (p : Point) (h : Heading) → IsTablePoint p → side_at up_first (side_number up_first p h) ≡ side_to (spot_of p) h
+  side-number p h is =
+      let n = point_number up_first p in
+      let whole : (n * 4 + heading_number h) / 4 ≡ n = div-mul-add n 4 (heading_number h) (heading-below h) in
+      let rest : (n * 4 + heading_number h) % 4 ≡ heading_number h = mod-mul-add n 4 (heading_number h) (heading-below h) in
+      ap₂ side_to (ap (λ k. spot_of (point_at up_first k)) whole ∙ ap spot_of (point-number up_first p is)) (ap heading_at rest ∙ heading-number h)
+
+  -- a number is that of its side
+  pub number-side : (k : ℕ) → side_number up_first (point_at up_first (k / 4)) (heading_at (k % 4)) ≡ k
+  number-side k =
+      ap₂ (λ m n. m * 4 + n) (number-point up_first (k / 4)) (number-heading (k % 4) (mod_below k 4 (omega arith))) ∙ div-add-mod' k 4
 
   -- there are so many
-  pub number-below : (up_first : Bool) (p : Point) → IsTablePoint t p → point_number t up_first p < (t.width + 1) * (t.height + 1)
-  number-below true p is = mul-add-lt p.v (t.width + 1) p.u (t.height + 1) (omega (arith, is.up)) (omega (arith, is.across))
-  number-below false p is =
-      let less : p.u * (t.height + 1) + p.v < (t.height + 1) * (t.width + 1) =
-      mul-add-lt p.u (t.height + 1) p.v (t.width + 1) (omega (arith, is.across)) (omega (arith, is.up)) in
-      omega (arith, less)
-
-  -- what comes before has a lesser number
-  pub before-less : (up_first : Bool) (p q : Point) → IsTablePoint t p → IsTablePoint t q
-      → ComesBefore (there up_first (spot_of p)) (there up_first (spot_of q)) → point_number t up_first p < point_number t up_first q
-  before-less true p q is is_too l = by (before-lies (there true (spot_of p)) (there true (spot_of q)) l)
-    where
-      by : LiesBefore (there true (spot_of p)) (there true (spot_of q)) → p.v * (t.width + 1) + p.u < q.v * (t.width + 1) + q.u
-      by (inl m) = absurd (omega (arith, ints))
-      by (inr (e, inl m)) = further_row p.v q.v p.u q.u (t.width + 1) (omega (arith, ints)) (omega (arith, is.across))
-      by (inr (e, inr (f, m))) =
-          let rows : p.v ≡ q.v = omega (arith, ints) in
-          let less : p.u < q.u = omega (arith, ints) in
-          subst (λ v. p.v * (t.width + 1) + p.u < v * (t.width + 1) + q.u) rows (omega (arith, less))
-  before-less false p q is is_too l = by (before-lies (there false (spot_of p)) (there false (spot_of q)) l)
-    where
-      by : LiesBefore (there false (spot_of p)) (there false (spot_of q)) → p.u * (t.height + 1) + p.v < q.u * (t.height + 1) + q.v
-      by (inl m) = absurd (omega (arith, ints))
-      by (inr (e, inl m)) = further_row p.u q.u p.v q.v (t.height + 1) (omega (arith, ints)) (omega (arith, is.up))
-      by (inr (e, inr (f, m))) =
-          let rows : p.u ≡ q.u = omega (arith, ints) in
-          let less : p.v < q.v = omega (arith, ints) in
-          subst (λ v. p.u * (t.height + 1) + p.v < v * (t.height + 1) + q.v) rows (omega (arith, less))
-
-  -- ---- numbers of sides
-
-  module _ (up_first : Bool) where
-    -- the side with a side's number is the side
-    pub side-number : (p : Point) (h : Heading) → IsTablePoint t p → side_at t up_first (side_number t up_first p h) ≡ side_to (spot_of p) h
-    side-number p h is =
-        let n = point_number t up_first p in
-        let whole : (n * 4 + heading_number h) / 4 ≡ n = div-mul-add n 4 (heading_number h) (heading-below h) in
-        let rest : (n * 4 + heading_number h) % 4 ≡ heading_number h = mod-mul-add n 4 (heading_number h) (heading-below h) in
-        ap₂ side_to (ap (λ k. spot_of (point_at t up_first k)) whole ∙ ap spot_of (point-number up_first p is)) (ap heading_at rest ∙ heading-number h)
-
-    -- a number is that of its side
-    pub number-side : (k : ℕ) → side_number t up_first (point_at t up_first (k / 4)) (heading_at (k % 4)) ≡ k
-    number-side k =
-        ap₂ (λ m n. m * 4 + n) (number-point up_first (k / 4)) (number-heading (k % 4) (mod_below k 4 (omega arith))) ∙ div-add-mod' k 4
-
-    -- there are so many
-    pub side-below : (p : Point) (h : Heading) → IsTablePoint t p → side_number t up_first p h < side_count t
-    side-below p h is = let l = number-below up_first p is in let m = heading-below h in omega (arith, l, m)
+  pub side-below : (p : Point) (h : Heading) → IsTablePoint p → side_number up_first p h < side_count
+  side-below p h is = let l = number-below up_first p is in let m = heading-below h in omega (arith, l, m)

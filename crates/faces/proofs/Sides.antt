@@ -4,7 +4,8 @@ use Rattle.std.proofs.lemmas.Bool.{and_parts}
 use Rattle.std.proofs.lemmas.Int.{ints}
 use Rattle.faces.specs.declared.point.Point.{Point}
 use Rattle.faces.specs.Border.{IsTablePoint, IsTableSpot, side_to}
-use Rattle.faces.specs.PlaneSquares.{SquareTable, is_in_table, square_place, is_there}
+use Rattle.faces.specs.PlaneSquares.{SquareTable, is_there}
+use Rattle.faces.proofs.SquarePlaces.{there-parts}
 use Rattle.faces.specs.Points.{spot_of}
 use Rattle.solid_model.specs.Rooms.{is_below, place_of_number}
 use Rattle.solid_model.specs.Rounds.{Spot, Heading, East, North, West, South, left_of, right_of, spot_after, square_at, Side, end_of, left_square, right_square, is_border, heading_after, following}
@@ -60,7 +61,7 @@ module _ (squares : Spot → Bool) (p : Spot) (h : Heading) where
 
 module _ (t : SquareTable) where
   -- a point at a square of the table is one of its points
-  at_square : (h : Heading) (p : Spot) → IsNumber t.width (square_at h p).u → IsNumber t.height (square_at h p).v → IsTableSpot t p
+  at_square : (h : Heading) (p : Spot) → IsNumber 63 (square_at h p).u → IsNumber 63 (square_at h p).v → IsTableSpot p
   at_square East p x y = record {
     point = record { u = x.number; v = y.number };
     is = same_spot p (spot_of (record { u = x.number; v = y.number })) x.is y.is;
@@ -87,28 +88,28 @@ module _ (t : SquareTable) where
       }
 
   -- a point that is a spot of the table lies in it
-  pub table_point : (p : Point) → IsTableSpot t (spot_of p) → IsTablePoint t p
+  pub table_point : (p : Point) → IsTableSpot (spot_of p) → IsTablePoint p
   table_point p is =
       let u : p.u ≡ is.point.u = ap (λ (q : Spot). place_of_number q.u) is.is in
       let v : p.v ≡ is.point.v = ap (λ (q : Spot). place_of_number q.v) is.is in
       record { across = omega (arith, is.within.across); up = omega (arith, is.within.up) }
 
   -- so is one at a square that is there
-  pub at_square_there : (h : Heading) (p : Spot) → is_there t (square_at h p) ≡ true → IsTableSpot t p
+  pub at_square_there : (h : Heading) (p : Spot) → is_there t (square_at h p) ≡ true → IsTableSpot p
   at_square_there h p e =
-      let in_table = (and_parts (is_in_table t (square_at h p)) (slice_index_or t.values (square_place t (square_at h p)) false) e).0 in
-      let parts = and_parts (is_below t.width (square_at h p).u) (is_below t.height (square_at h p).v) in_table in
-      at_square h p (number_below t.width (square_at h p).u parts.0) (number_below t.height (square_at h p).v parts.1)
+      let in_table = (there-parts t (square_at h p) e).0 in
+      let parts = and_parts (is_below 63 (square_at h p).u) (is_below 63 (square_at h p).v) in_table in
+      at_square h p (number_below 63 (square_at h p).u parts.0) (number_below 63 (square_at h p).v parts.1)
 
   -- and the end of a side of the border
-  pub border_end : (s : Side) → is_border (is_there t) s ≡ true → IsTableSpot t (end_of s)
+  pub border_end : (s : Side) → is_border (is_there t) s ≡ true → IsTableSpot (end_of s)
   border_end s e =
       let there = (and_parts (is_there t (left_square s)) (not (is_there t (right_square s))) e).0 in
       at_square_there (left_of s.heading) (end_of s) (subst (λ q. is_there t q ≡ true) (left_at_end s.heading s.start) there)
 
   -- and of the side that follows one
   pub border_on : (p : Spot) (h k : Heading) → is_border (is_there t) (side_to p h) ≡ true → k ≡ heading_after (is_there t) (side_to p h)
-      → IsTableSpot t (spot_after k p)
+      → IsTableSpot (spot_after k p)
   border_on p h k border e =
       let there = border_end (following (is_there t) (side_to p h)) (following_border (is_there t) (side_to p h) border) in
-      subst (IsTableSpot t) (ap₂ spot_after (sym e) (end_of-side_to p h)) there
+      subst (IsTableSpot) (ap₂ spot_after (sym e) (end_of-side_to p h)) there

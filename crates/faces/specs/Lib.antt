@@ -8,3 +8,4 @@ pub mod Ways
 pub mod Border
 pub mod FacesSoFar
 pub mod GridPoints
+pub mod Ends

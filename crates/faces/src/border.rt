@@ -1,8 +1,8 @@
 //! The border of squares in a table.
 
-ghost use Rattle.std.specs.Prelude.{◌≡◌, ◌≤◌, ◌<◌, IsTrue};
-ghost use Rattle.faces.specs.Border.{IsTablePoint, IsTableSpot, row_length, point_number, point_at, side_to, side_of, side_number, side_at, side_count, is_border_at, following_number};
-ghost use Rattle.faces.specs.PlaneSquares.{IsTable, is_there};
+ghost use Rattle.std.specs.Prelude.{◌≡◌, ◌<◌, length, IsTrue};
+ghost use Rattle.faces.specs.Border.{IsTablePoint, IsTableSpot, TellEnds, point_number, point_at, side_to, side_of, side_number, side_at, side_count, is_border_at, following_number};
+ghost use Rattle.faces.specs.PlaneSquares.{is_there};
 ghost use Rattle.faces.specs.Points.{spot_of};
 ghost use Rattle.faces.specs.Ways.{heading_of};
 ghost use Rattle.solid_model.specs.Rounds.{spot_after, square_at, left_square, is_border, heading_after, turns, following};
@@ -11,42 +11,33 @@ use crate::border_side::BorderSide;
 use crate::point::Point;
 use crate::squares::Squares;
 use crate::way::Way;
+use cell_rows::next_place;
 use rounds::Succession;
 
 /// The sides of the border of squares in a table, by their numbers: 4 for each point where they may
-/// end. The points come by v, then u, where upwards counts first, else by u, then v.
+/// end. The points come by v, then u, where upwards counts first, else by u, then v; the bits of
+/// `ends` tell which of them some side ends at.
 #[derive(Clone, Copy)]
 pub struct Border<'a> {
     pub squares: &'a Squares,
     pub up_first: bool,
-    row: usize,
-    ghost few: { IsTable squares.now },
-    ghost same: { row ≡ row_length squares.now up_first },
-}
-
-/// How many points come one after another that differ in one coordinate alone.
-fn row_of(squares: &Squares, up_first: bool) -> usize
-    ensures same { result ≡ row_length squares.now up_first }
-    ensures few { IsTable squares.now }
-{
-    if up_first {
-        squares.width() + 1
-    } else {
-        squares.height() + 1
-    }
+    ends: &'a [u64],
+    ghost few: { length ends.now ≡ 64 },
+    ghost told: { TellEnds squares.now up_first ends.now },
 }
 
 impl<'a> Border<'a> {
-    /// The border of the squares.
-    pub fn of(squares: &'a Squares, up_first: bool) -> Border<'a>
+    /// The border of the squares, of which these are the points where sides end.
+    pub fn of(squares: &'a Squares, up_first: bool, ends: &'a [u64]) -> Border<'a>
+        requires few { length ends.now ≡ 64 }
+        requires told { TellEnds squares.now up_first ends.now }
         ensures squares { result.squares.now ≡ squares.now }
         ensures order { result.up_first ≡ up_first }
     {
-        let row = row_of(squares, up_first);
         Border {
             squares,
             up_first,
-            row,
+            ends,
         }
     }
 }
@@ -54,37 +45,37 @@ impl<'a> Border<'a> {
 impl Border<'_> {
     /// The point with a number.
     fn point(&self, number: usize) -> Point
-        ensures { result ≡ point_at self.now.squares.now self.now.up_first number }
+        ensures { result ≡ point_at self.now.up_first number }
     {
         if self.up_first {
             Point {
-                u: number % self.row,
-                v: number / self.row,
+                u: number % 64,
+                v: number / 64,
             }
         } else {
             Point {
-                u: number / self.row,
-                v: number % self.row,
+                u: number / 64,
+                v: number % 64,
             }
         }
     }
 
     /// The number of a point of the table.
     fn point_number(&self, point: Point) -> usize
-        requires { IsTablePoint self.now.squares.now point }
-        ensures same { result ≡ point_number self.now.squares.now self.now.up_first point }
-        ensures few { result ≤ 1050624 }
+        requires { IsTablePoint point }
+        ensures same { result ≡ point_number self.now.up_first point }
+        ensures few { result < 4096 }
     {
         if self.up_first {
-            point.v * self.row + point.u
+            point.v * 64 + point.u
         } else {
-            point.u * self.row + point.v
+            point.u * 64 + point.v
         }
     }
 
     /// The side with a number.
     pub fn side(&self, number: usize) -> BorderSide
-        ensures { side_of result ≡ side_at self.now.squares.now self.now.up_first number }
+        ensures { side_of result ≡ side_at self.now.up_first number }
     {
         BorderSide {
             end: self.point(number / 4),
@@ -94,9 +85,8 @@ impl Border<'_> {
 
     /// The number of a side that ends at a point of the table.
     fn number(&self, side: BorderSide) -> usize
-        requires { IsTablePoint self.now.squares.now side.end }
-        ensures { result ≡ side_number self.now.squares.now self.now.up_first side.end
-            (heading_of side.way) }
+        requires { IsTablePoint side.end }
+        ensures { result ≡ side_number self.now.up_first side.end (heading_of side.way) }
     {
         self.point_number(side.end) * 4 + side.way.number()
     }
@@ -156,7 +146,7 @@ impl Border<'_> {
 
     /// The point one step on from a point, which is one of the table.
     fn step(&self, point: Point, way: Way) -> Point
-        requires { IsTableSpot self.now.squares.now (spot_after (heading_of way) (spot_of point)) }
+        requires { IsTableSpot (spot_after (heading_of way) (spot_of point)) }
         ensures { spot_of result ≡ spot_after (heading_of way) (spot_of point) }
     {
         match way {
@@ -183,7 +173,7 @@ impl Border<'_> {
     fn side_after(&self, side: BorderSide) -> BorderSide
         requires { IsTrue (is_border (is_there self.now.squares.now) (side_of side)) }
         ensures side { side_of result ≡ following (is_there self.now.squares.now) (side_of side) }
-        ensures within { IsTablePoint self.now.squares.now result.end }
+        ensures within { IsTablePoint result.end }
     {
         let way = self.way_on(side);
         BorderSide {
@@ -218,18 +208,23 @@ impl Border<'_> {
 impl Succession for Border<'_> {
     ghost use Rattle.faces.specs.Border.{side_count, is_border_at, following_number};
 
-    ghost nodes = { λ b. side_count b.squares.now };
+    ghost nodes = { λ b. side_count };
 
     ghost inside = { λ b. is_border_at b.squares.now b.up_first };
 
     ghost next = { λ b. following_number b.squares.now b.up_first };
 
     fn node_count(&self) -> usize {
-        (self.squares.width() + 1) * (self.squares.height() + 1) * 4
+        16384
     }
 
     fn has(&self, node: usize) -> bool {
         self.has_side(self.side(node))
+    }
+
+    fn onward(&self, node: usize) -> usize {
+        let point = next_place(self.ends, node / 4);
+        if point > node / 4 { point * 4 } else { node }
     }
 
     fn following(&self, node: usize) -> usize {

@@ -6,13 +6,14 @@ ghost use Rattle.solid_model.specs.Faces.{out_number, AreFacesOf};
 ghost use Rattle.solid_model.specs.Marks.{is_marked};
 
 use crate::plane_faces::add_plane_faces;
-use solid_model::{Face, Marks, Memory, Out};
+use cell_rows::CellRows;
+use solid_model::{Face, Memory, Out};
 use std::alloc::Global;
 
 /// Puts the faces with one outward side at the end of the list, plane by plane.
 fn add_side_faces(
     alloc: Global,
-    cells: &Marks,
+    cells: &CellRows,
     out: Out,
     faces: &mut Vec<Face>,
 ) -> Result<(), Memory>
@@ -29,7 +30,7 @@ fn add_side_faces(
 
 /// The faces of the solid whose cells have marks, in order, in time and memory that grow with the
 /// box of the marks. An `Err` is out of memory.
-pub fn counted_faces(alloc: Global, cells: &Marks) -> Result<Vec<Face>, Memory>
+pub fn counted_faces(alloc: Global, cells: &CellRows) -> Result<Vec<Face>, Memory>
     ensures { IfOk result (λ faces. AreFacesOf (is_marked cells.now) faces.items) }
 {
     let mut faces = Vec::new(alloc);

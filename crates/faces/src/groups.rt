@@ -51,7 +51,7 @@ pub fn grouped(
         components.now.count }
     requires there { Each (λ l. IsTrue (is_there squares.now l.square)) loops.items }
     ensures { IfOk result (λ groups. AreGroups
-        (λ l. number_of squares.now components.now.numbers.items l.square) loops.items
+        (λ l. number_of components.now.numbers.items l.square) loops.items
         (map (λ g. g.items) groups.items)) }
 {
     let mut table = vec![in alloc; None; components.count as usize]?;

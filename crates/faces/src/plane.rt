@@ -1,17 +1,20 @@
 //! The boundary squares of a plane.
 
-ghost use Rattle.std.specs.Prelude.{◌≡◌, pos, IfOk};
+ghost use Rattle.std.specs.Prelude.{◌≡◌, ◌<◌, ℕ, pos, IfOk};
+ghost use Rattle.cell_rows.specs.Rows.{cell_numbered};
 ghost use Rattle.faces.specs.PlaneSquares.{is_there};
 ghost use Rattle.faces.specs.Points.{spot_of};
+ghost use Rattle.solid_model.specs.Bits.{is_set};
 ghost use Rattle.solid_model.specs.Cells.{cell_before};
-ghost use Rattle.solid_model.specs.Faces.{place, is_boundary};
+ghost use Rattle.solid_model.specs.Faces.{place, outward, right_axis, is_boundary};
 ghost use Rattle.solid_model.specs.Marks.{is_marked};
 ghost use Rattle.solid_model.specs.PerAxis.{cell_of};
 ghost use Rattle.solid_model.specs.Rounds.{Spot};
 
 use crate::point::Point;
 use crate::squares::Squares;
-use solid_model::{Axis, Marks, Memory, Out, PerAxis};
+use cell_rows::CellRows;
+use solid_model::{Memory, Out, PerAxis};
 use std::alloc::Global;
 
 /// The cell that begins at a point of a plane.
@@ -24,46 +27,47 @@ fn place(out: Out, at: usize, point: Point) -> PerAxis
         .numbered(out.direction().axis, at)
 }
 
-/// The cell before one along an axis has a mark.
-fn has_before(cells: &Marks, axis: Axis, cell: PerAxis) -> bool
-    ensures { result ≡ is_marked cells.now (cell_before axis (cell_of cell)) }
+/// The row of the cell before one, across the planes of an outward side.
+fn row_before(cells: &CellRows, out: Out, cell: PerAxis) -> u64
+    ensures { (k : ℕ) → k < 64 → is_set result k ≡ is_marked cells.now
+        (cell_before (outward out).axis (cell_numbered (right_axis out) k cell)) }
 {
-    match cell.before(axis) {
-        Some(before) => cells.has(before),
-        None => false,
+    match cell.before(out.direction().axis) {
+        Some(before) => cells.row(out.right(), before),
+        None => 0,
     }
 }
 
-/// A square of a plane is a boundary square of the marked cells.
-fn is_boundary(cells: &Marks, out: Out, at: usize, square: Point) -> bool
-    ensures { result ≡ is_boundary (is_marked cells.now) out (pos at) (spot_of square) }
+/// The boundary squares of a row of a plane.
+fn boundary_row(cells: &CellRows, out: Out, at: usize, v: usize) -> u64
+    ensures { (k : ℕ) → k < 64 → is_set result k ≡ is_boundary (is_marked cells.now) out (pos at)
+        (record { u = pos k; v = pos v }) }
 {
-    let cell = place(out, at, square);
-    let outward = out.direction();
-    let before = has_before(cells, outward.axis, cell);
-    let behind = cells.has(cell);
-    if outward.forward {
-        before && !behind
+    let cell = place(out, at, Point { u: 0, v });
+    let before = row_before(cells, out, cell);
+    let behind = cells.row(out.right(), cell);
+    if out.direction().forward {
+        before & !behind
     } else {
-        behind && !before
+        behind & !before
     }
 }
 
 /// The boundary squares of the marked cells in the plane at a whole coordinate, for whoever looks at
 /// it from outside. An `Err` is out of memory.
-pub fn plane_squares(alloc: Global, cells: &Marks, out: Out, at: usize) -> Result<Squares, Memory>
+pub fn plane_squares(
+    alloc: Global,
+    cells: &CellRows,
+    out: Out,
+    at: usize,
+) -> Result<Squares, Memory>
     ensures { IfOk result (λ squares. (q : Spot)
         → is_there squares q ≡ is_boundary (is_marked cells.now) out (pos at) q) }
 {
-    let width = cells.sizes().along(out.right());
     let height = cells.sizes().along(out.up());
-    let mut values = Vec::with_capacity(alloc, height * width)?;
-    for number in 0..height * width {
-        let square = Point {
-            u: number % width,
-            v: number / width,
-        };
-        values.push(is_boundary(cells, out, at, square))?;
+    let mut rows = Vec::with_capacity(alloc, height)?;
+    for v in 0..height {
+        rows.push(boundary_row(cells, out, at, v))?;
     }
-    Ok(Squares::new(width, height, values))
+    Ok(Squares::new(rows))
 }

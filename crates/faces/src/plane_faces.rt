@@ -12,7 +12,8 @@ use crate::loops::plane_loops;
 use crate::plane::plane_squares;
 use crate::plane_loop::PlaneLoop;
 use crate::space::add_faces;
-use solid_model::{Face, Marks, Memory, Out};
+use cell_rows::CellRows;
+use solid_model::{Face, Memory, Out};
 use std::alloc::Global;
 
 /// The points of a plane come by their height first, and not by how far to the right they are.
@@ -25,7 +26,7 @@ fn is_up_first(out: Out) -> bool
 /// The loops of each face of the marked cells in a plane, in order. An `Err` is out of memory.
 fn loops_of_faces(
     alloc: Global,
-    cells: &Marks,
+    cells: &CellRows,
     out: Out,
     at: usize,
 ) -> Result<Vec<Vec<PlaneLoop>>, Memory>
@@ -34,6 +35,9 @@ fn loops_of_faces(
         × Each (Each IsNearLoop) (map (λ g. g.items) groups.items)) }
 {
     let squares = plane_squares(alloc, cells, out, at)?;
+    if squares.is_empty() {
+        return Ok(Vec::new(alloc));
+    }
     let components = square_components(alloc, &squares)?;
     let loops = plane_loops(alloc, &squares, is_up_first(out))?;
     grouped(alloc, &squares, &components, loops)
@@ -43,7 +47,7 @@ fn loops_of_faces(
 /// of memory.
 pub fn add_plane_faces(
     alloc: Global,
-    cells: &Marks,
+    cells: &CellRows,
     out: Out,
     at: usize,
     faces: &mut Vec<Face>,

@@ -8,6 +8,7 @@ ghost use Rattle.solid_model.specs.Panels.{coordinates_of};
 
 use crate::counted::counted_faces;
 use crate::grid_points::put_faces;
+use cell_rows::CellRows;
 use solid_model::{Axis, Face, Grid, Marks, Memory};
 use std::alloc::Global;
 
@@ -21,8 +22,8 @@ pub fn faces_of_solid(alloc: Global, grid: &Grid, cells: &[bool]) -> Result<Vec<
 {
     let mut chosen = Vec::with_capacity(alloc, cells.len())?;
     chosen.extend_from_slice(cells)?;
-    let marks = Marks::new(grid.sizes(), chosen);
-    let mut faces = counted_faces(alloc, &marks)?;
+    let rows = CellRows::of(alloc, Marks::new(grid.sizes(), chosen))?;
+    let mut faces = counted_faces(alloc, &rows)?;
     // A look at the grid tells that its coordinates are in order.
     let _ = grid.coordinates(Axis::X);
     put_faces(grid, faces.as_mut_slice());

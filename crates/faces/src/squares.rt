@@ -1,18 +1,18 @@
 //! Squares of a plane, in a table.
 
-ghost use Rattle.std.specs.Prelude.{◌≡◌, pos};
-ghost use Rattle.faces.specs.PlaneSquares.{IsTable, is_there};
+ghost use Rattle.std.specs.Prelude.{◌≡◌, ◌≤◌, pos, length, slice_index_or};
+ghost use Rattle.faces.specs.PlaneSquares.{is_there};
+ghost use Rattle.solid_model.specs.Bits.{is_set};
 
 use crate::point::Point;
+use cell_rows::has_bit;
 use std::marker::Model;
 
-/// Which squares of a plane are there, of those from (0, 0) to (width, height): a truth value each,
-/// by v, then u. Beyond them none is there.
+/// Which squares of a plane are there, of those from (0, 0) to (63, 63): a row of bits for each v,
+/// whose bit u is the square (u, v). Beyond the rows none is there.
 #[derive(Debug, Drop)]
 pub struct Squares {
-    width: usize,
-    height: usize,
-    values: Vec<bool>,
+    rows: Vec<u64>,
 }
 
 impl Model for Squares {
@@ -20,89 +20,79 @@ impl Model for Squares {
 
     ghost Value = { SquareTable };
 
-    ghost view = { λ s. record {
-      width = s.width;
-      height = s.height;
-      values = s.values.items;
-    } };
+    ghost view = { λ s. record { rows = s.rows.items } };
 
-    ghost invariant = { λ s. IsTable record {
-      width = s.width;
-      height = s.height;
-      values = s.values.items;
-    } };
+    ghost invariant = { λ s. IsTable record { rows = s.rows.items } };
 }
 
 impl Squares {
-    ghost use Rattle.std.specs.Prelude.{◌≡◌, ◌≤◌, ◌<◌, ◌*◌, length, pos, IsTrue};
-    ghost use Rattle.faces.specs.PlaneSquares.{IsTable, square_place, is_there};
+    ghost use Rattle.std.specs.Prelude.{◌≡◌, ◌≤◌, ◌<◌, ℕ, false, length, slice_index_or, pos, IsTrue};
+    ghost use Rattle.faces.specs.PlaneSquares.{IsTable, is_there, square_place};
     ghost use Rattle.faces.specs.Points.{spot_of};
     ghost use Rattle.faces.specs.SquareSteps.{square_count, square_at_place};
+    ghost use Rattle.solid_model.specs.Rounds.{Spot};
 
-    /// The squares that have these truth values.
-    pub fn new(width: usize, height: usize, values: Vec<bool>) -> Squares
-        requires { IsTable record { width = width; height = height; values = values.items } }
-        ensures { result ≡ record { width = width; height = height; values = values.items } }
+    /// The squares of these rows.
+    pub fn new(rows: Vec<u64>) -> Squares
+        requires { IsTable record { rows = rows.items } }
+        ensures { result ≡ record { rows = rows.items } }
     {
-        Squares {
-            width,
-            height,
-            values,
+        Squares { rows }
+    }
+
+    /// The rows.
+    pub fn rows(&self) -> &[u64]
+        ensures same { result.now ≡ self.now.rows }
+        ensures few { IsTable self.now }
+    {
+        self.rows.as_slice()
+    }
+
+    /// The row of a v, 0 beyond the rows.
+    pub fn row(&self, v: usize) -> u64
+        ensures { result ≡ slice_index_or self.now.rows v 0 }
+    {
+        self.rows.get(v).copied().unwrap_or(0)
+    }
+
+    /// No square is there.
+    pub fn is_empty(&self) -> bool
+        ensures { IsTrue result → (q : Spot) → is_there self.now q ≡ false }
+    {
+        for row in &self.rows {
+            if *row != 0 {
+                return false;
+            }
         }
-    }
-
-    /// How many squares stand side by side.
-    pub fn width(&self) -> usize
-        ensures same { result ≡ self.now.width }
-        ensures few { result ≤ 1024 }
-        ensures kept { IsTable self.now }
-    {
-        self.width
-    }
-
-    /// How many stand one above the other.
-    pub fn height(&self) -> usize
-        ensures same { result ≡ self.now.height }
-        ensures few { result ≤ 1024 }
-        ensures kept { IsTable self.now }
-    {
-        self.height
-    }
-
-    /// The truth values of all squares, by v, then u.
-    pub fn values(&self) -> &[bool]
-        ensures same { result.now ≡ self.now.values }
-        ensures many { length result.now ≡ self.now.height * self.now.width }
-    {
-        self.values.as_slice()
+        true
     }
 
     /// The square at (u, v) is there.
     pub fn has(&self, u: usize, v: usize) -> bool
         ensures { result ≡ is_there self.now (record { u = pos u; v = pos v }) }
     {
-        u < self.width && v < self.height && self.values[v * self.width + u]
+        u < 63 && v < 63 && has_bit(self.row(v), u)
     }
 
-    /// The square at a place of that list.
+    /// The square at a place of the table.
     pub fn square(&self, place: usize) -> Point
-        requires { place < square_count self.now }
-        ensures square { spot_of result ≡ square_at_place self.now.width place }
-        ensures u { result.u < 1024 }
-        ensures v { result.v < 1024 }
+        requires { place < square_count }
+        ensures square { spot_of result ≡ square_at_place place }
+        ensures u { result.u < 64 }
+        ensures v { result.v < 63 }
     {
         Point {
-            u: place % self.width,
-            v: place / self.width,
+            u: place % 64,
+            v: place / 64,
         }
     }
 
     /// The place of a square that is there.
     pub fn place(&self, square: Point) -> usize
         requires { IsTrue (is_there self.now (spot_of square)) }
-        ensures place { result ≡ square_place self.now (spot_of square) }
-        ensures there { result < square_count self.now }
+        ensures place { result ≡ square_place (spot_of square) }
+        ensures there { result < square_count }
     {
-        square.v * self.width + square.u
+        square.v * 64 + square.u
     }
 }

@@ -1,5 +1,5 @@
 -- Finite graphs, whose nodes are numbered from 0, and their components.
-use Rattle.std.specs.Prelude.{◌≡◌, ◌↔◌, ℕ, ◌<◌, List, length, slice_index_or, Option, Some}
+use Rattle.std.specs.Prelude.{◌≡◌, ◌↔◌, ℕ, ◌<◌, Bool, List, length, slice_index_or, Option, Some, IsTrue}
 use Rattle.solid_model.specs.Chains.{Reaches}
 
 -- one of so many ways out of a node leads from a to b
@@ -22,3 +22,11 @@ pub record AreComponents (step : ℕ → ℕ → Type 0) (size : ℕ) (numbers :
   pub below : (a : ℕ) → a < size → component numbers a < count
   pub first : (k : ℕ) → k < count → (a : ℕ) × (a < size) × (component numbers a ≡ k)
       × ((b : ℕ) → b < a → component numbers b < k)
+
+-- The components of a graph whose steps go back, as far as nodes are asked for: two of these have the same number exactly where a
+-- chain of steps leads from one to the other. So many numbers are given.
+pub record AreComponentsOf (step : ℕ → ℕ → Type 0) (size : ℕ) (asked : ℕ → Bool) (numbers : List ℕ) (count : ℕ) : Type 0 where
+  pub listed : length numbers ≡ size
+  pub joined : (a b : ℕ) → IsTrue (asked a) → IsTrue (asked b) → a < size → b < size
+      → (component numbers a ≡ component numbers b) ↔ Reaches step a b
+  pub below : (a : ℕ) → IsTrue (asked a) → a < size → component numbers a < count

@@ -1,5 +1,5 @@
 -- Marks on the nodes of a graph, and what a flood makes of them.
-use Rattle.std.specs.Prelude.{◌≡◌, ◌⊎◌, ◌==◌, ◌↔◌, Bool, nat_lt, ℕ, ◌<◌, ◌≤◌, List, length, slice_index_or}
+use Rattle.std.specs.Prelude.{◌≡◌, ◌⊎◌, ◌==◌, ◌↔◌, Bool, nat_lt, ℕ, ◌<◌, ◌≤◌, List, length, slice_index_or, IsTrue}
 use Rattle.std.specs.List.{count_by}
 use Rattle.solid_model.specs.Chains.{Reaches}
 use Rattle.solid_model.specs.Lists.{Member}
@@ -47,13 +47,14 @@ pub record Floods (step : ℕ → ℕ → Type 0) (start number : ℕ) (before m
   pub pending : (a : ℕ) → IsMarked marks a → Member stack a ⊎ ((b : ℕ) → step a b → IsMarked marks b)
   pub stacked : (a : ℕ) → Member stack a → IsMarked marks a × Reaches step start a
 
--- The first nodes have the numbers of their components, and so have all to which chains of steps lead from them. Components are
--- numbered by their first nodes.
-pub record Numbers (step : ℕ → ℕ → Type 0) (size : ℕ) (marks : List ℕ) (nodes count : ℕ) : Type 0 where
+-- Of the first nodes those that are asked for have the numbers of their components, and so have all to which chains of steps lead
+-- from them. Components are numbered by the first such nodes.
+pub record Numbers (step : ℕ → ℕ → Type 0) (size : ℕ) (asked : ℕ → Bool) (marks : List ℕ) (nodes count : ℕ) : Type 0 where
   pub listed : length marks ≡ size
   pub few : count ≤ nodes
-  pub all : (a : ℕ) → a < nodes → IsMarked marks a
+  pub all : (a : ℕ) → a < nodes → IsTrue (asked a) → IsMarked marks a
   pub closed : AreClosed step marks
   pub below : (a : ℕ) → IsMarked marks a → mark_of marks a < count
   pub joined : (a b : ℕ) → IsMarked marks a → IsMarked marks b → (mark_of marks a ≡ mark_of marks b) ↔ Reaches step a b
-  pub first : (k : ℕ) → k < count → (a : ℕ) × (a < nodes) × (mark_of marks a ≡ k) × ((b : ℕ) → b < a → mark_of marks b < k)
+  pub first : (k : ℕ) → k < count → (a : ℕ) × (a < nodes) × (mark_of marks a ≡ k)
+      × ((b : ℕ) → b < a → IsTrue (asked b) → mark_of marks b < k)

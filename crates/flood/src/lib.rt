@@ -11,6 +11,6 @@ mod walls;
 
 pub use flood::reached;
 pub use graph::Graph;
-pub use numbering::{Numbering, components};
+pub use numbering::{Numbering, components, components_of};
 pub use rooms::{RoomNumbers, leading_out, rooms_of};
 pub use walls::Walls;

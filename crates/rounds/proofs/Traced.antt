@@ -134,3 +134,21 @@ module _ (nodes : ℕ) (inside : ℕ → Bool) (next : ℕ → ℕ) where
     complete = λ a on. (h.marked a).0 (h.complete a on.0 on.1);
     apart = h.apart;
   }
+
+-- nodes that aren't inside are passed over
+pub traced_onward : (nodes : ℕ) (inside : ℕ → Bool) (next : ℕ → ℕ) (marks : List Bool) (rounds : List (List ℕ)) (node later : ℕ)
+    → AreTraced nodes inside next marks rounds node → node ≤ later → ((a : ℕ) → node ≤ a → a < later → inside a ≡ false)
+    → AreTraced nodes inside next marks rounds later
+traced_onward nodes inside next marks rounds node later h onward none = record {
+  size = h.size;
+  each = h.each;
+  ordered = h.ordered;
+  earlier = each-weaker (λ r. first r < node) (λ r. first r < later) rounds (λ r l. omega arith) h.earlier;
+  apart = h.apart;
+  complete = λ a l on. elim (cases_lt a node) as (λ _. IsTrue (has_mark marks a)) [
+    | inl before ↦ h.complete a before on
+    | inr after ↦ absurd (both_ways (inside a) (none a after l) on)
+  ];
+  marked = h.marked;
+  closed = h.closed;
+}

@@ -1,6 +1,6 @@
 //! Successions on finitely many nodes.
 
-ghost use Rattle.std.specs.Prelude.{◌≡◌, Bool, IsTrue, ℕ, ◌<◌};
+ghost use Rattle.std.specs.Prelude.{◌≡◌, Bool, false, IsTrue, ℕ, ◌<◌, ◌≤◌};
 ghost use Rattle.rounds.specs.Succession.{IsInside, IsOneToOne};
 
 /// A succession: some of finitely many nodes, numbered from 0, are inside. Each inside node is
@@ -23,6 +23,17 @@ pub trait Succession {
     fn has(&self, node: usize) -> bool
         requires { node < nodes self.now }
         ensures { result ≡ inside self.now node };
+
+    /// Of a node, or of the end, the first node from there on that may be inside, or the end: none
+    /// before it is. What a type can't pass over stays where it is.
+    fn onward(&self, node: usize) -> usize
+        requires { node ≤ nodes self.now }
+        ensures later { node ≤ result }
+        ensures within { result ≤ nodes self.now }
+        ensures none { (a : ℕ) → node ≤ a → a < result → inside self.now a ≡ false }
+    {
+        node
+    }
 
     /// The node that follows an inside node.
     fn following(&self, node: usize) -> usize

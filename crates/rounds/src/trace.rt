@@ -59,10 +59,13 @@ fn trace_all<S: Succession>(
         (S.nodes succession.now)) }
 {
     let mut rounds = Vec::new(alloc);
-    for node in 0..succession.node_count() {
+    let end = succession.node_count();
+    let mut node = succession.onward(0);
+    while node < end {
         if succession.has(node) && !marks[node] {
             rounds.push(trace(alloc, succession, node, marks)?)?;
         }
+        node = succession.onward(node + 1);
     }
     Ok(rounds)
 }

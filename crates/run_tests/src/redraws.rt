@@ -1,6 +1,6 @@
 //! Drawings that are written: redrawn, and made.
 
-use crate::runs::run_words;
+use crate::runs::{run_in_one_piece, run_words};
 use drawing_maker::make;
 use recon_run::problem_of;
 use std::alloc::{AllocError, Global};
@@ -8,7 +8,8 @@ use std::test::Fail;
 use test_files::{Row, drawing_file, file_bytes, row_of};
 
 /// A row a run: the strokes in front, from the top and from the side, and the words; and then what is
-/// written: after `0 drawing ` the strokes of a file in front, from the top and from the side.
+/// written, in one piece: after `0 drawing ` the strokes of a file in front, from the top and from the
+/// side.
 const REDRAWS: &str = "\
 rect S 100 200 101 201; line S 101 350 100 350, rect D 100 350 101 351, rect S 100 350 101 351; \
     rect S 250 200 251 201; redraw|1| -> \
@@ -45,7 +46,7 @@ fn wanted_text(alloc: Global, wanted: &str) -> Result<String, AllocError> {
 /// What a row's run writes.
 fn told_run(alloc: Global, row: Row<'_>) -> Result<String, AllocError> {
     let [_, _, _, words, _] = row.parts;
-    run_words(alloc, words, drawing_file(alloc, row.views())?)
+    run_in_one_piece(alloc, words, drawing_file(alloc, row.views())?)
 }
 
 #[test]

@@ -34,6 +34,12 @@ pub fn run_words(alloc: Global, words: &str, file: String) -> Result<String, All
     run_over(alloc, words, &mut source, Vec::new(alloc))
 }
 
+/// The same over a sink whose second call would fail: what answers in one piece calls it once.
+pub fn run_in_one_piece(alloc: Global, words: &str, file: String) -> Result<String, AllocError> {
+    let mut source = MemSource::new(file.into_bytes(), Vec::new(alloc));
+    run_over(alloc, words, &mut source, vec![in alloc; (2, 0usize)]?)
+}
+
 /// The file of the unit cube.
 fn cube_file(alloc: Global) -> Result<String, AllocError> {
     file_of(alloc, "0 SECTION, 2 ENTITIES, cube, 0 ENDSEC, 0 EOF")
@@ -95,9 +101,10 @@ face +z at 1 loop 0,0,1 1,0,1 1,1,1 0,1,1
 /// What `solve` writes where nothing is left.
 const NOTHING_LEFT: &str = "1 fault F4 NoEof line 1\n";
 
-/// Whether words aren't taken, and the source isn't read.
+/// Whether words aren't taken, the source isn't read, and the sink is called once: its second call
+/// would fail.
 fn is_usage(alloc: Global, words: &str) -> Result<bool, AllocError> {
-    writes(alloc, words, [0, 0], [USAGE, UNIT_CUBE])
+    writes(alloc, words, [0, 2], [USAGE, UNIT_CUBE])
 }
 
 #[test]

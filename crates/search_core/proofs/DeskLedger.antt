@@ -1,7 +1,7 @@
 -- The ledger of a desk: at the beginning, before a report and after it.
-use Rattle.std.proofs.Common.{◌≡◌, inl, inr, ℕ, ◌+◌, ◌<◌, ◌≤◌, Bool, true, false, List, [], ◌∷◌, ◌++◌, Some, None, map, length, take, drop, refl, sym, ◌∙◌, ap, ap₂, subst, arith}
+use Rattle.std.proofs.Common.{◌≡◌, inl, inr, ℕ, ◌+◌, ◌<◌, ◌≤◌, Bool, true, false, List, [], ◌∷◌, ◌++◌, Some, None, map, length, take, drop, get_or, refl, sym, ◌∙◌, ap, ap₂, subst, arith}
 use Rattle.std.proofs.lemmas.Bool.{cases_lt, ltb-false}
-use Rattle.std.proofs.lemmas.List.{length-append, take-append-le, take_all, length-take-le, drop-append-le}
+use Rattle.std.proofs.lemmas.List.{length-append, take-append-le, take-append-drop, take_all, length-take-le, drop-append-le, drop_more, map-append, get_or_append_left}
 use Rattle.std.proofs.lemmas.List.Sorted.{IsPermutation-refl}
 use Rattle.std.specs.Option.{is_some}
 use Rattle.std.specs.Prelude.{Option, if◌then◌else◌, nat_lt}
@@ -16,13 +16,13 @@ use Rattle.solid_model.specs.Tree.{IsAllowed}
 use Rattle.solid_model.proofs.Lists.{each-append, each-push, each-weaker}
 use Rattle.search_core.specs.declared.note.Note.{Note}
 use Rattle.search_core.specs.Ledger.{LedgerParts, history_of, desk_of, IsBegun, HasGrown, HasPosted, IsLedger, KeepsFrontier, IsLedgerOf}
-use Rattle.search_core.specs.Core.{Core, Event, IsCoreRun, without, core_start, end_at, end_after, after_event}
-use Rattle.search_core.specs.Desk.{desk_state, event_of, IsDesk}
+use Rattle.search_core.specs.Core.{Core, Event, IsCoreRun, times_among, without, core_start, end_at, end_after, after_event}
+use Rattle.search_core.specs.Desk.{desk_state, event_of, pieces_put, IsDesk, IsFirstPiece, IsTaken}
 use Rattle.search_core.specs.Notes.{prefix_at, told, StandsAt, AreDistinct, AreShared}
-use Rattle.search_core.specs.Frontier.{count_of, times_in}
-use Rattle.search_core.proofs.KeptFrontiers.{frontier-posted, frontier-grown, frontier-begun, counted-member, member-counted}
+use Rattle.search_core.specs.Frontier.{count_of, times_in, IsFirstPut}
+use Rattle.search_core.proofs.KeptFrontiers.{frontier-posted, frontier-grown, frontier-begun, counted-member, member-counted, left-among}
 use Rattle.search_core.proofs.Stored.{stands-grown}
-use Rattle.search_core.proofs.Told.{after-push, run-push, each-drop, told-grown, told-push, shared-push}
+use Rattle.search_core.proofs.Told.{after-push, run-push, each-drop, rests-told, told-grown, told-push, shared-push}
 
 -- ---- before a report
 
@@ -37,11 +37,15 @@ module _ (b after : LedgerParts) (g : HasGrown b after) (h : IsLedger b) where
   longer : length b.stored ≤ length after.stored
   longer = let e = ap length g.grown.1 in omega (arith, length-append b.stored g.grown.0)
 
+  root_stored : get_or b.put 0 0 < length b.stored
+  root_stored = (subst (Each (λ k. k < length b.stored)) (drop_more b.put 0 0 h.begun) h.put).0
+
   -- and are in order
   ledger-grown : IsLedger after
   ledger-grown = record {
     distinct = g.distinct;
     begun = subst (λ (put : List ℕ). 0 < length put) (sym g.put) h.begun;
+    root = ap₂ (λ (stored : List (List Bool)) (put : List ℕ). prefix_at stored (get_or put 0 0)) g.grown.1 g.put ∙ get_or_append_left b.stored g.grown.0 [] (get_or b.put 0 0) root_stored ∙ h.root;
     put = subst (Each (λ k. k < length after.stored)) (sym g.put) (each-weaker (λ k. k < length b.stored) (λ k. k < length after.stored) b.put (λ k l. omega (arith, longer)) h.put);
     pieces = subst (Each (λ (x : Note). x.piece < length after.stored)) (sym g.notes)
         (each-weaker (λ (x : Note). x.piece < length b.stored) (λ (x : Note). x.piece < length after.stored) b.notes (λ x l. omega (arith, longer)) h.pieces);
@@ -114,6 +118,8 @@ module _ (p : ProblemParts) (limits : SearchLimits) (b after : LedgerParts) (ope
         let note : Note = record { piece = piece; opened = more; found = length choices; rest = length places } in
         record {
           distinct = subst AreDistinct (sym e.stored) h.ledger.distinct;
+          root = ap₂ (λ (stored : List (List Bool)) (put : List ℕ). prefix_at stored (get_or put 0 0)) e.stored e.put
+              ∙ ap (prefix_at b.stored) (get_or_append_left b.put places 0 0 h.ledger.begun) ∙ h.ledger.root;
           begun = subst (λ (put : List ℕ). 0 < length put) (sym e.put) (let l = h.ledger.begun in omega (arith, length-append b.put places));
           put = subst (λ (stored : List (List Bool)). Each (λ k. k < length stored) after.put) (sym e.stored)
               (subst (Each (λ k. k < length b.stored)) (sym e.put) (each-append (λ k. k < length b.stored) b.put places h.ledger.put below));
@@ -179,6 +185,7 @@ module _ (p : ProblemParts) (limits : SearchLimits) (b : LedgerParts) (live : Bo
   ledger-begun = record {
     distinct = begun.distinct;
     begun = subst (λ (put : List ℕ). 0 < length put) (sym begun.put) (omega arith);
+    root = ap (λ (put : List ℕ). prefix_at b.stored (get_or put 0 0)) begun.put ∙ begun.stands.there;
     put = subst (Each (λ k. k < length b.stored)) (sym begun.put) (begun.stands.below, tt);
     pieces = subst (Each (λ (x : Note). x.piece < length b.stored)) (sym begun.notes) tt;
     shared = subst (λ (notes : List Note). AreShared notes b.found (drop 1 b.put)) (sym begun.notes)
@@ -281,3 +288,43 @@ desk-reported p limits b ready after opened total more place end kind r choices 
           (ap₂ (λ (q : List Bool) (n : ℕ). record { piece = q; opened = n; found = choices; rest = r.rest }) s1.there count
           ∙ ap (λ (f : List (List Bool)). record { piece = r.piece; opened = r.opened; found = f; rest = r.rest }) found);
     }
+
+-- a report that is taken tells what was found and opened too
+pub taken_on : (p : ProblemParts) (limits : SearchLimits) (before after : List Event) (r : Report) → after ≡ before ++ event_of r ∷ []
+    → IsTaken (desk_of p limits before) r (desk_of p limits after)
+taken_on p limits before after r history =
+    let state = ap (desk_state p limits) history ∙ after-push limits (core_start (is_live p)) before (event_of r) in
+    record {
+      problem = refl;
+      limits = refl;
+      history = history;
+      found = ap (λ (c : Core). c.found) state;
+      opened = ap (λ (c : Core). c.opened) state;
+    }
+
+-- ---- the first piece
+
+module _ (p : ProblemParts) (limits : SearchLimits) (b : LedgerParts) (opened : ℕ) (end : Option EndKind) (h : IsLedgerOf p limits b opened end) where
+  -- the pieces that were put have the places that were put
+  pieces-named : pieces_put (history_of b) ≡ map (prefix_at b.stored) b.put
+  pieces-named =
+      ap₂ ◌∷◌ (sym h.ledger.root) (rests-told b.stored b.notes b.found (drop 1 b.put) h.ledger.shared)
+      ∙ sym (ap (map (prefix_at b.stored)) (drop_more b.put 0 0 h.ledger.begun))
+
+  -- the place that was put first is that of the first piece
+  pub first-piece : (place : ℕ) → IsFirstPut b.put b.counts place → IsFirstPiece (desk_of p limits (history_of b)) (prefix_at b.stored place)
+  first-piece place first = record {
+    stands = counted-member b.stored b.counts frontier h.frontier place first.counted;
+    earlier = map (prefix_at b.stored) (take first.at b.put);
+    later = map (prefix_at b.stored) (drop (first.at + 1) b.put);
+    put = pieces-named ∙ sym (ap (map (prefix_at b.stored)) (take-append-drop first.at b.put)) ∙ map-append (prefix_at b.stored) (take first.at b.put) (drop first.at b.put)
+        ∙ ap (λ (ps : List (List Bool)). map (prefix_at b.stored) (take first.at b.put) ++ ps) behind;
+    left = λ q. subst (λ ps. times_among q frontier ≤ times_among q ps) behind
+        (left-among b.stored b.counts frontier h.frontier h.ledger.distinct (drop first.at b.put) (each-drop (λ k. k < length b.stored) first.at b.put h.ledger.put) first.behind q);
+  }
+    where
+      frontier : List (List Bool)
+      frontier = (desk_state p limits (history_of b)).frontier
+
+      behind : map (prefix_at b.stored) (drop first.at b.put) ≡ prefix_at b.stored place ∷ map (prefix_at b.stored) (drop (first.at + 1) b.put)
+      behind = ap (map (prefix_at b.stored)) (drop_more b.put first.at 0 first.within) ∙ ap (λ k. prefix_at b.stored k ∷ map (prefix_at b.stored) (drop (first.at + 1) b.put)) (sym first.is)

@@ -7,8 +7,8 @@ use Rattle.solid_model.specs.Lists.{Member, Each}
 use Rattle.solid_model.specs.Search.{SearchLimits}
 use Rattle.solid_model.proofs.ListPlaces.{member-at, member-place}
 use Rattle.solid_model.proofs.Lists.{member-append_left, each-at, each-append, each-append_left, each-append_right, each-weaker}
-use Rattle.search_core.specs.Ledger.{times_among, KeepsFrontier}
-use Rattle.search_core.specs.Core.{same_prefix, without, end_at, end_after}
+use Rattle.search_core.specs.Ledger.{KeepsFrontier}
+use Rattle.search_core.specs.Core.{same_prefix, times_among, without, end_at, end_after}
 use Rattle.search_core.specs.Notes.{prefix_at, StandsAt, AreDistinct}
 use Rattle.search_core.specs.Frontier.{count_of, times_in}
 use Rattle.search_core.proofs.TakenOut.{Decides-same_prefix, stands_between}
@@ -147,6 +147,18 @@ module _ (stored : List (List Bool)) (counts : List ℕ) (frontier : List (List 
       let times = times-member p frontier m in
       let counted : count_of counts place.0 ≡ times_among p frontier = keeps.counted place.0 place.1 ∙ ap (λ q. times_among q frontier) (place.2 []) in
       (place.0, record { below = place.1; there = place.2 [] }, omega arith)
+
+  -- where each place is counted at most as often as it stands among some, so stands each prefix among those of these places
+  pub left-among : AreDistinct stored → (js : List ℕ) → Each (λ j. j < length stored) js → ((k : ℕ) → count_of counts k ≤ times_in k js)
+      → (p : List Bool) → times_among p frontier ≤ times_among p (map (prefix_at stored) js)
+  left-among distinct js below behind p = elim (cases_lt 0 (times_among p frontier)) as (λ _. times_among p frontier ≤ times_among p (map (prefix_at stored) js)) [
+    | inl some ↦ (
+        let w = member-counted p (member-times p frontier some) in
+        let counted : count_of counts w.0 ≡ times_among (prefix_at stored w.0) frontier = keeps.counted w.0 w.1.below in
+        let among : times_among (prefix_at stored w.0) (map (prefix_at stored) js) ≡ times_in w.0 js = times-places stored distinct w.0 js w.1.below below in
+        subst (λ q. times_among q frontier ≤ times_among q (map (prefix_at stored) js)) w.1.there (omega (arith, behind w.0)))
+    | inr none ↦ omega arith
+  ]
 
 -- where none is counted the frontier is empty
 pub none-left : (stored : List (List Bool)) (counts : List ℕ) (frontier : List (List Bool)) → KeepsFrontier stored counts frontier → ((k : ℕ) → count_of counts k ≡ 0) → frontier ≡ []

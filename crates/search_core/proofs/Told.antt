@@ -1,6 +1,7 @@
 -- What notes tell, and runs that go on with an event.
-use Rattle.std.proofs.Common.{◌≡◌, ℕ, ◌<◌, Bool, List, [], ◌∷◌, ◌++◌, map, length, take, drop, refl, sym, ◌∙◌, ap₂, subst, arith}
-use Rattle.std.proofs.lemmas.List.{length-append, take-append-drop, take-append-le, drop-append-le, get_or_append_left, take_all, drop_all}
+use Rattle.std.proofs.Common.{◌≡◌, ℕ, ◌<◌, Bool, List, [], ◌∷◌, ◌++◌, map, length, take, drop, refl, sym, ◌∙◌, ap, ap₂, subst, arith}
+use Rattle.std.proofs.lemmas.List.{length-append, take-append-drop, take-append-le, drop-append-le, get_or_append_left, take_all, drop_all, map-append}
+use Rattle.std.specs.List.{flat_map}
 use Rattle.solid_model.specs.Lists.{Each}
 use Rattle.solid_model.specs.Search.{SearchLimits}
 use Rattle.solid_model.specs.Tree.{PrefixTest}
@@ -42,6 +43,14 @@ told-grown stored more (x ∷ notes) found rests h k =
     (get_or_append_left stored more [] x.piece h.0)
     (named-grown stored more (take x.rest rests) (each-take (λ j. j < length stored) x.rest rests k)))
     (told-grown stored more notes (drop x.found found) (drop x.rest rests) h.1 (each-drop (λ j. j < length stored) x.rest rests k))
+
+-- the rests that they tell are those that were put
+pub rests-told : (stored : List (List Bool)) (notes : List Note) (found : List (List Bool)) (rests : List ℕ) → AreShared notes found rests
+    → flat_map (λ (e : Event). e.rest) (told stored notes found rests) ≡ map (prefix_at stored) rests
+rests-told stored [] found rests h = sym (ap (map (prefix_at stored)) h.1)
+rests-told stored (x ∷ notes) found rests h =
+    ap (λ (ps : List (List Bool)). map (prefix_at stored) (take x.rest rests) ++ ps) (rests-told stored notes (drop x.found found) (drop x.rest rests) h.2)
+    ∙ sym (map-append (prefix_at stored) (take x.rest rests) (drop x.rest rests)) ∙ ap (map (prefix_at stored)) (take-append-drop x.rest rests)
 
 -- the event of a note, with its shares
 abbrev pub event_told : List (List Bool) → Note → List (List Bool) → List ℕ → Event

@@ -14,6 +14,11 @@ same_prefix [] [] = true
 same_prefix (x ∷ p) (y ∷ q) = agree x y && same_prefix p q
 same_prefix _ _ = false
 
+-- how often a prefix stands in a list
+abbrev pub times_among : List Bool → List (List Bool) → ℕ
+times_among p [] = 0
+times_among p (q ∷ qs) = (if same_prefix p q then 1 else 0) + times_among p qs
+
 -- prefixes without the first one that is this
 abbrev pub without : List Bool → List (List Bool) → List (List Bool)
 without p [] = []

@@ -1,5 +1,5 @@
 -- The frontier of a search, by the places of its prefixes.
-use Rattle.std.specs.Prelude.{◌==◌, ◌<◌, ◌≤◌, ◌+◌, ℕ, List, [], ◌∷◌, length, drop, slice_index, slice_index_or, if◌then◌else◌}
+use Rattle.std.specs.Prelude.{◌≡◌, ◌==◌, ◌<◌, ◌≤◌, ◌+◌, ℕ, List, [], ◌∷◌, length, drop, slice_index, slice_index_or, if◌then◌else◌}
 
 -- how often a number stands in a list
 abbrev pub times_in : ℕ → List ℕ → ℕ
@@ -15,6 +15,14 @@ pub record IsFrontier (put counts : List ℕ) (first : ℕ) : Type 0 where
   pub within : first ≤ length put
   pub behind : (k : ℕ) → count_of counts k ≤ times_in k (drop first put)
   pub there : first < length put → 0 < count_of counts (slice_index put first)
+
+-- A place stands in it, and what does was put no earlier.
+pub record IsFirstPut (put counts : List ℕ) (place : ℕ) : Type 0 where
+  pub at : ℕ
+  pub within : at < length put
+  pub is : place ≡ slice_index put at
+  pub counted : 0 < count_of counts place
+  pub behind : (k : ℕ) → count_of counts k ≤ times_in k (drop at put)
 
 -- a frontier: the places that were ever put into it, how often each stands in it, and how many it has room for
 pub record FrontierParts : Type 0 where

@@ -1,5 +1,5 @@
 -- The ledger of a desk.
-use Rattle.std.specs.Prelude.{◌≡◌, ◌==◌, ◌<◌, ◌≤◌, ◌+◌, ◌-◌, Bool, ℕ, List, [], ◌∷◌, ◌++◌, length, take, drop, Option, None, if◌then◌else◌}
+use Rattle.std.specs.Prelude.{◌≡◌, ◌==◌, ◌<◌, ◌≤◌, ◌+◌, ◌-◌, Bool, ℕ, List, [], ◌∷◌, ◌++◌, length, take, drop, slice_index_or, Option, None, if◌then◌else◌}
 use Rattle.solid_model.specs.declared.ended.EndKind.{EndKind}
 use Rattle.solid_model.specs.Blocks.{ProblemParts}
 use Rattle.solid_model.specs.Demands.{is_live}
@@ -7,7 +7,7 @@ use Rattle.solid_model.specs.Lists.{Member, Each}
 use Rattle.solid_model.specs.Search.{SearchLimits}
 use Rattle.search_core.specs.declared.ledger.Ledger.{Ledger}
 use Rattle.search_core.specs.declared.note.Note.{Note}
-use Rattle.search_core.specs.Core.{Event, IsCoreRun, same_prefix, core_start}
+use Rattle.search_core.specs.Core.{Event, IsCoreRun, core_start, times_among}
 use Rattle.search_core.specs.Desk.{DeskParts, desk_state}
 use Rattle.search_core.specs.Notes.{prefix_at, told, StandsAt, AreDistinct, AreShared}
 use Rattle.search_core.specs.Frontier.{count_of, times_in}
@@ -34,11 +34,12 @@ ledger_of b = record {
 abbrev pub history_of : LedgerParts → List Event
 history_of b = told b.stored b.notes b.found (drop 1 b.put)
 
--- A ledger is in order: its places are those of stored prefixes, no two of which are equal, and the notes share what was found
--- and what was put.
+-- A ledger is in order: its places are those of stored prefixes, no two of which are equal; the empty prefix was put first; and
+-- the notes share what was found and what was put.
 pub record IsLedger (b : LedgerParts) : Type 0 where
   pub distinct : AreDistinct b.stored
   pub begun : 0 < length b.put
+  pub root : prefix_at b.stored (slice_index_or b.put 0 0) ≡ []
   pub put : Each (λ k. k < length b.stored) b.put
   pub pieces : Each (λ (x : Note). x.piece < length b.stored) b.notes
   pub shared : AreShared b.notes b.found (drop 1 b.put)
@@ -69,11 +70,6 @@ pub record HasPosted (b after : LedgerParts) (piece opened : ℕ) (choices : Lis
   pub counts : (k : ℕ) → count_of after.counts k ≡ (if k == piece then count_of b.counts k - 1 else count_of b.counts k) + times_in k places
   pub notes : after.notes ≡ b.notes ++ record { piece = piece; opened = opened; found = length choices; rest = length places } ∷ []
   pub found : after.found ≡ b.found ++ choices
-
--- how often a prefix stands in a list
-abbrev pub times_among : List Bool → List (List Bool) → ℕ
-times_among p [] = 0
-times_among p (q ∷ qs) = (if same_prefix p q then 1 else 0) + times_among p qs
 
 -- counts keep a frontier: its prefixes are stored, and each stored prefix is counted as often as it stands there
 pub record KeepsFrontier (stored : List (List Bool)) (counts : List ℕ) (frontier : List (List Bool)) : Type 0 where

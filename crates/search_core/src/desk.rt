@@ -83,8 +83,7 @@ impl Desk {
     ghost use Rattle.std.specs.Prelude.{◌≡◌, ◌↔◌, [], None, MatchOption, MatchResult, IfOk};
     ghost use Rattle.std.specs.Arc.{arc_value};
     ghost use Rattle.solid_model.specs.Demands.{is_live};
-    ghost use Rattle.solid_model.specs.Lists.{Member};
-    ghost use Rattle.search_core.specs.Desk.{IsDesk, Takes};
+    ghost use Rattle.search_core.specs.Desk.{IsDesk, IsFirstPiece, Takes};
     ghost use Rattle.search_core.specs.Reported.{IsReported};
 
     /// The desk of a search that begins. It is told whether the empty prefix is live, which is then
@@ -148,10 +147,10 @@ impl Desk {
         self.end
     }
 
-    /// The first piece of the frontier, if there is one: the one that was added first.
+    /// The first piece of the frontier, if there is one: the one that was put there first.
     pub fn first_piece(&self) -> Option<&Prefix>
         ensures piece { MatchOption result (self.now.frontier ≡ [])
-            (λ piece. Member self.now.frontier piece.now) }
+            (λ piece. IsFirstPiece self.now piece.now) }
         ensures kept { IsDesk self.now }
     {
         match self.ledger.frontier.first() {

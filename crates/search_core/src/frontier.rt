@@ -59,8 +59,7 @@ impl Model for Frontier {
 
 impl Frontier {
     ghost use Rattle.std.specs.Prelude.{◌≡◌, ◌==◌, ◌<◌, ◌≤◌, ◌+◌, ◌-◌, ◌++◌, ◌∷◌, ◌↔◌, [], ℕ, length, IsTrue, IfOk, OnOk, MatchOption, if◌then◌else◌};
-    ghost use Rattle.solid_model.specs.Lists.{Member};
-    ghost use Rattle.search_core.specs.Frontier.{count_of};
+    ghost use Rattle.search_core.specs.Frontier.{count_of, IsFirstPut};
 
     /// None.
     pub fn new(alloc: Global) -> Frontier
@@ -101,7 +100,7 @@ impl Frontier {
     /// The place that was put first of those in it, if there is one.
     pub fn first(&self) -> Option<u32>
         ensures { MatchOption result ((k : ℕ) → count_of self.now.counts k ≡ 0)
-            (λ place. Member self.now.put place × (0 < count_of self.now.counts place)) }
+            (IsFirstPut self.now.put self.now.counts) }
     {
         if self.first < self.put.len() {
             Some(self.put[self.first])

@@ -1,2 +1,5 @@
 mod SortedChoices
-mod DeskEnds
+mod SameChoices
+mod PageCalls
+mod AnswerLists
+mod DeskAnswers

@@ -1,17 +1,14 @@
-//! The search of a problem by a desk.
+//! A desk, and the calling thread that works at it alone.
 
 ghost use Rattle.std.specs.Prelude.{◌≡◌, ◌<◌, None, Some, [], IfOk, OnOk};
 ghost use Rattle.std.specs.Arc.{arc_value};
 ghost use Rattle.solid_model.specs.Demands.{is_live};
-ghost use Rattle.solid_model.specs.SearchEnds.{EndsSearch};
-ghost use Rattle.solid_model.specs.Tree.{IsClosed};
 ghost use Rattle.search_core.specs.Desk.{IsDesk};
 ghost use Rattle.search_tree.specs.BlockPaths.{IsWayOf};
 
-use crate::sorted::sort_choices;
 use search_core::{Desk, Reported};
 use search_tree::{BlockPath, expand_from};
-use solid_model::{EndKind, Ended, Limits, Memory, Prefix, Problem};
+use solid_model::{EndKind, Limits, Memory, Prefix, Problem};
 use std::alloc::Global;
 use std::sync::Arc;
 
@@ -31,7 +28,7 @@ fn is_any_live(alloc: Global, path: &mut BlockPath, problem: &Arc<Problem>) -> R
 
 /// The desk of a search that begins, by a way down the tree of its problem. An `Err` is out of
 /// memory.
-fn begin_from(
+pub fn begin_from(
     alloc: Global,
     path: &mut BlockPath,
     problem: &Arc<Problem>,
@@ -85,40 +82,27 @@ fn step(alloc: Global, path: &mut BlockPath, desk: &mut Desk) -> Result<(), Memo
     }
 }
 
-/// The end of the search of a desk that has ended so.
-fn ended(desk: Desk, kind: EndKind) -> Ended
-    requires end { desk.end ≡ Some kind }
-    requires closed { IsClosed (is_live desk.problem) }
-    ensures { EndsSearch (is_live desk.problem) desk.problem.blocks.count desk.limits result }
-{
-    let opened = desk.opened();
-    let mut solids = desk.into_found();
-    sort_choices(&mut solids);
-    Ended {
-        kind,
-        opened,
-        solids,
-    }
-}
-
-/// The search of all prefixes of a problem within limits, and how it ended, by a desk on the calling
-/// thread. An `Err` is out of memory.
-pub fn search_by_desk(
+/// Expands and reports until the desk has ended, and says how. An `Err` is out of memory.
+pub fn go_on(
     alloc: Global,
-    problem: &Arc<Problem>,
-    limits: Limits,
-) -> Result<Ended, Memory>
-    ensures { IfOk result (EndsSearch (is_live (arc_value problem.now))
-        (arc_value problem.now).blocks.count limits) }
+    path: &mut BlockPath,
+    problem: &Problem,
+    desk: Desk,
+) -> Result<(Desk, EndKind), Memory>
+    requires way { IsWayOf problem.now path.old }
+    requires problem { desk.problem ≡ problem.now }
+    ensures problem { IfOk result (λ r. r.0.problem ≡ problem.now) }
+    ensures limits { IfOk result (λ r. r.0.limits ≡ desk.limits) }
+    ensures end { IfOk result (λ r. r.0.end ≡ Some r.1) }
+    ensures kept { IfOk result (λ r. IsDesk r.0) }
 {
     // A look at the problem tells that its blocks are those of its grid.
     let _grid = problem.grid();
-    let mut path = BlockPath::new(alloc, problem)?;
-    let mut desk = begin_from(alloc, &mut path, problem, limits)?;
+    let mut desk = desk;
     loop {
         if let Some(kind) = desk.end() {
-            return Ok(ended(desk, kind));
+            return Ok((desk, kind));
         }
-        step(alloc, &mut path, &mut desk)?;
+        step(alloc, path, &mut desk)?;
     }
 }

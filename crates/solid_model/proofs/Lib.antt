@@ -42,6 +42,7 @@ pub mod BoxPlaces
 pub mod MarkedCells
 pub mod Numbers
 pub mod OneNumbering
+mod OneProblem
 pub mod Passages
 pub mod Rooms
 pub mod Decisions

@@ -37,6 +37,7 @@ pub mod Tree
 pub mod Reports
 pub mod Search
 pub mod SearchEnds
+pub mod Solutions
 pub mod SmallLines
 pub mod SmallTree
 pub mod Rounds

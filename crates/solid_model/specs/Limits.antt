@@ -36,3 +36,7 @@ most_node_limit = 4000000
 -- the greatest limit of its solids
 abbrev pub most_solid_limit : ℕ
 most_solid_limit = 65536
+
+-- the most choices of a page
+abbrev pub most_page_choices : ℕ
+most_page_choices = 256

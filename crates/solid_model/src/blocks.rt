@@ -1,7 +1,5 @@
 //! The blocks of a grid.
 
-ghost use Rattle.std.specs.Prelude.{◌≡◌, ◌↔◌, IsTrue};
-
 use crate::grid::Grid;
 use crate::per_axis::PerAxis;
 use std::marker::Model;
@@ -30,15 +28,8 @@ impl Model for Blocks {
     } };
 }
 
-/// The numbers are the same.
-fn same_numbers(numbers: &[Option<u16>], others: &[Option<u16>]) -> bool
-    ensures { IsTrue result ↔ (numbers.now ≡ others.now) }
-{
-    numbers == others
-}
-
 impl Blocks {
-    ghost use Rattle.std.specs.Prelude.{◌≡◌, ◌↔◌, length, IsTrue};
+    ghost use Rattle.std.specs.Prelude.{◌≡◌, length};
     ghost use Rattle.solid_model.specs.Blocks.{block_at};
     ghost use Rattle.solid_model.specs.Kept.{IsBelow};
     ghost use Rattle.solid_model.specs.Lists.{Each};
@@ -84,12 +75,5 @@ impl Blocks {
         } else {
             None
         }
-    }
-
-    /// Both are the same.
-    pub fn same(&self, other: &Blocks) -> bool
-        ensures { IsTrue result ↔ (self.now ≡ other.now) }
-    {
-        self.sizes == other.sizes && self.count == other.count && same_numbers(&self.of, &other.of)
     }
 }

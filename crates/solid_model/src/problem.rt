@@ -55,11 +55,12 @@ impl Problem {
         &self.blocks
     }
 
-    /// Both have the same grid, and so the same blocks.
+    /// Both have the same grid, and so the same blocks, which aren't looked at: the blocks of a grid
+    /// are numbered in one way.
     pub fn same(&self, other: &Problem) -> bool
         ensures { IsTrue result ↔ (self.now ≡ other.now) }
     {
-        self.grid.same(&other.grid) && self.blocks.same(&other.blocks)
+        self.grid.same(&other.grid)
     }
 
     /// Which of the grid's cells are full, z slowest and x fastest, where these of its blocks are.

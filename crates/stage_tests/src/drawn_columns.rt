@@ -6,7 +6,10 @@ ghost use Rattle.solid_model.specs.Limits.{most_grid_coordinates};
 ghost use Rattle.solid_model.specs.PerAxis.{numbers_of};
 ghost use Rattle.columns.specs.Known.{LiesWithin};
 
-use columns::{Column, KnownColumn, can_draw, columns_in, draw_in, style_of};
+use crate::grids::grid_in;
+use columns::{
+    Column, ColumnSet, KnownColumn, can_draw, columns_in, columns_of, draw_cells, draw_in, style_of,
+};
 use solid_model::{PerAxis, Style, View};
 use std::alloc::Global;
 use std::fmt::Write;
@@ -129,6 +132,44 @@ fn chosen_cells_draw_what_was_found_by_hand(rt: HostRuntime) -> Result<(), Fail>
             row.wanted,
             "{line}"
         );
+    }
+    Ok(())
+}
+
+/// A row a solid: its drawing, by its strokes in front, from the top and from the side; its cells, as
+/// above; and its columns in the three views, nearest bit first. The hollow cube, and a slab of 5 by 5
+/// by 3 with a block of 2 by 1 by 1 on its corner.
+const SOLIDS: &str = "\
+rect S 0 0 3 3, rect D 1 1 2 2; rect S 0 0 3 3, rect D 1 1 2 2; rect S 0 0 3 3, rect D 1 1 2 2; \
+    ######### ####.#### ######### -> \
+    7 7 7 7 5 7 7 7 7; 7 7 7 7 5 7 7 7 7; 7 7 7 7 5 7 7 7 7;
+line S 0 0 5 0, line D 0 3 2 3, line S 2 3 5 3, line S 0 4 2 4, line S 0 0 0 4, line S 2 3 2 4, \
+    line S 5 0 5 3; rect S 0 0 5 5, line S 0 1 2 1, line S 2 0 2 1; \
+    rect S 0 0 5 3, line S 0 4 1 4, line S 0 3 0 4, line S 1 3 1 4; #### #... -> \
+    3 3 1 0; 3 2 2 2; 3 3 2 0;";
+
+/// Columns, view by view, behind a blank.
+fn told_columns(alloc: Global, columns: &ColumnSet) -> Result<String, Fail> {
+    let mut told = String::new(alloc);
+    for view in [View::Front, View::Top, View::Side] {
+        push_columns(&mut told, columns.view(view))?;
+    }
+    Ok(told)
+}
+
+/// Whether a row's solid has its columns, and draws its drawing.
+fn is_drawn(alloc: Global, row: Row<'_>) -> Result<bool, Fail> {
+    let grid = grid_in(alloc, row)?;
+    let cells = cells(alloc, row.parts[3])?;
+    let columns = told_columns(alloc, &columns_of(alloc, &grid, cells.as_slice())?)?;
+    let panels = draw_cells(alloc, &grid, cells.as_slice())?;
+    Ok(columns.as_str().trim_start() == row.wanted && panels.same(grid.panels()))
+}
+
+#[test]
+fn solids_have_their_columns_and_drawings(rt: HostRuntime) -> Result<(), Fail> {
+    for line in SOLIDS.lines() {
+        assert!(rt; is_drawn(rt.alloc(), row_of(line))?, "{line}");
     }
     Ok(())
 }

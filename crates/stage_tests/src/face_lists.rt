@@ -1,5 +1,6 @@
 //! Solids whose faces were found by hand.
 
+use cell_rows::CellRows;
 use faces::counted_faces;
 use solid_model::{Face, Loop, Marks, Out, PerAxis};
 use std::alloc::Global;
@@ -30,8 +31,8 @@ fn digit(byte: Option<u8>) -> Result<usize, Fail> {
     Ok(usize::from(byte.ok_or("digit")?.saturating_sub(b'0')))
 }
 
-/// The marks that a row begins with.
-fn read_marks(alloc: Global, sizes: &str, cells: &str) -> Result<Marks, Fail> {
+/// The cells that a row begins with.
+fn read_cells(alloc: Global, sizes: &str, cells: &str) -> Result<CellRows, Fail> {
     let mut digits = sizes.bytes();
     let sizes = PerAxis {
         x: digit(digits.next())?,
@@ -43,9 +44,9 @@ fn read_marks(alloc: Global, sizes: &str, cells: &str) -> Result<Marks, Fail> {
         values.push(byte == b'#')?;
     }
     if sizes.x > 9 || sizes.y > 9 || sizes.z > 9 || values.len() != sizes.count() {
-        return Err(Fail::new("no marks"));
+        return Err(Fail::new("no cells"));
     }
-    Ok(Marks::new(sizes, values))
+    Ok(CellRows::of(alloc, Marks::new(sizes, values))?)
 }
 
 /// The name of an outward side.
@@ -83,9 +84,9 @@ fn tell_face(face: &Face, told: &mut String) -> Result<(), Fail> {
 /// All faces of a row's cells, as the row has them.
 fn told_faces(alloc: Global, row: Row<'_>) -> Result<String, Fail> {
     let [sizes, cells, ..] = row.parts;
-    let marks = read_marks(alloc, sizes, cells)?;
+    let cells = read_cells(alloc, sizes, cells)?;
     let mut told = String::new(alloc);
-    for face in &counted_faces(alloc, &marks)? {
+    for face in &counted_faces(alloc, &cells)? {
         if !told.is_empty() {
             told.push_str(", ")?;
         }

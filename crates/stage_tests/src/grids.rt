@@ -28,7 +28,7 @@ line D 0 0 1 0, line S 1 0 3 0; line S 0 0 2 0; line S 0 0 1 0 \
     -> [0, 1, 2, 3] [0, 1] [0] front -==/ top ==..../.... side =/";
 
 /// The grid of a row's drawing.
-fn grid_in(alloc: Global, row: Row<'_>) -> Result<Grid, Fail> {
+pub fn grid_in(alloc: Global, row: Row<'_>) -> Result<Grid, Fail> {
     let file = file_bytes(drawing_file(alloc, row.views())?)?;
     let lines = entities(alloc, &mut Groups::new(file))?;
     Ok(grid_of(alloc, &drawing(alloc, lines.as_slice())?)?)

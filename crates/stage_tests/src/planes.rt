@@ -1,6 +1,8 @@
 //! Squares whose loops were found by hand.
 
-use faces::{PlaneLoop, Squares, plane_loops};
+use cell_rows::CellRows;
+use faces::{PlaneLoop, Squares, plane_loops, plane_squares};
+use solid_model::{Marks, Out, PerAxis};
 use std::alloc::Global;
 use std::fmt::Write;
 use std::test::Fail;
@@ -24,20 +26,24 @@ const PLANES: &str = "\
 ####/##.#/#.##/####; up -> 00: 00 40 44 04, 20: 21 22 12 13 23 22 32 31
 ####/##.#/#.##/####; right -> 00: 00 40 44 04, 11: 12 13 23 22 32 31 21 22";
 
-/// The squares that a row begins with.
+/// The squares that a row begins with: the upper sides of the cells of a plate.
 fn read_squares(alloc: Global, text: &str) -> Result<Squares, Fail> {
-    let width = text.split('/').next().ok_or("row")?.len();
-    let height = text.split('/').count();
+    let sizes = PerAxis {
+        x: text.split('/').next().ok_or("row")?.len(),
+        y: text.split('/').count(),
+        z: 1,
+    };
     let mut values = Vec::new(alloc);
     for byte in text.bytes() {
         if byte != b'/' {
             values.push(byte == b'#')?;
         }
     }
-    if width > 1024 || height > 1024 || values.len() != height * width {
+    if sizes.x > 63 || sizes.y > 63 || values.len() != sizes.count() {
         return Err(Fail::new("no table"));
     }
-    Ok(Squares::new(width, height, values))
+    let cells = CellRows::of(alloc, Marks::new(sizes, values))?;
+    Ok(plane_squares(alloc, &cells, Out::PlusZ, 1)?)
 }
 
 /// A loop, as a row has it.

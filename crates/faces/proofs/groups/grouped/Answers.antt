@@ -22,7 +22,7 @@ loop-plane_loop-preserved c =
     let numbers = c.args.components.now.numbers.items in
     let loops = c.args.loops.items in
     let l = c.in-Some.plane_loop in
-    let key = λ (p : PlaneLoop). number_of t numbers p.square in
+    let key = λ (p : PlaneLoop). number_of numbers p.square in
     let road = YieldsList-from_vec {s = c.into_iter-plane_loop-iterator.result} loops (cc) (cc) in
     let turn =
     YieldsList-turn road c.loop-plane_loop.yielded c.loop-plane_loop.plane_loop-iterator c.loop-plane_loop.yielded_by
@@ -55,7 +55,7 @@ returns c =
     let numbers = c.args.components.now.numbers.items in
     let count = c.args.components.now.count in
     let loops = c.args.loops.items in
-    let key = λ (p : PlaneLoop). number_of t numbers p.square in
+    let key = λ (p : PlaneLoop). number_of numbers p.square in
     let table = c.loop-plane_loop.table.items in
     let groups = groups_of c.loop-plane_loop.groups.items in
     let road = YieldsList-from_vec {s = c.into_iter-plane_loop-iterator.result} loops (cc) (cc) in

@@ -9,4 +9,4 @@ abbrev pub invariant-loop-plane_loop : goal.invariant-loop-plane_loop
 invariant-loop-plane_loop l =
     (goal.iterator-loop-plane_loop).can_next l.plane_loop-iterator ×
     (goal.iterator-loop-plane_loop).is_finite l.plane_loop-iterator ×
-    AreSoFar (λ (p : PlaneLoop). number_of l.squares l.components.numbers.items p.square) l.components.count l.yielded l.table.items (map (λ g. g.items) l.groups.items)
+    AreSoFar (λ (p : PlaneLoop). number_of l.components.numbers.items p.square) l.components.count l.yielded l.table.items (map (λ g. g.items) l.groups.items)

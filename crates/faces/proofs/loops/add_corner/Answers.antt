@@ -11,11 +11,11 @@ pub returns-in_ok-push : goal.returns-in_ok-push
 returns-in_ok-push c =
     let t = c.args.border.now.squares.now in
     ap (map spot_of) c.in_ok-push.ensures.items ∙ map-append spot_of c.args.found.now.items (c.side-side.result.end ∷ [])
-    ∙ corner_here (is_there t) (map spot_of c.args.found.now.items) c.side-side.result (side_at t c.args.border.now.up_first c.args.number)
+    ∙ corner_here (is_there t) (map spot_of c.args.found.now.items) c.side-side.result (side_at c.args.border.now.up_first c.args.number)
     c.side-side.ensures (sym c.turns.ensures ∙ c.if-turns.true)
 
 pub returns-else-turns : goal.returns-else-turns
 returns-else-turns c =
     let t = c.args.border.now.squares.now in
-    no_corner_here (is_there t) (map spot_of c.args.found.now.items) c.side-side.result (side_at t c.args.border.now.up_first c.args.number)
+    no_corner_here (is_there t) (map spot_of c.args.found.now.items) c.side-side.result (side_at c.args.border.now.up_first c.args.number)
     c.side-side.ensures (sym c.turns.ensures ∙ c.if-turns.false)

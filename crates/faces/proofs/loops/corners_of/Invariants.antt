@@ -8,4 +8,4 @@ use Rattle.faces.proofs.loops.corners_of.Given as goal
 
 abbrev pub invariant-loop-number : goal.invariant-loop-number
 invariant-loop-number l =
-    map spot_of l.found.items ≡ corners (is_there l.border.squares.now) (map (side_at l.border.squares.now l.border.up_first) (take l.number-index l.round))
+    map spot_of l.found.items ≡ corners (is_there l.border.squares.now) (map (side_at l.border.up_first) (take l.number-index l.round))

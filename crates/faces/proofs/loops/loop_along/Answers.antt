@@ -7,7 +7,7 @@ use Rattle.faces.proofs.loops.loop_along.Goals as goal
 
 pub returns : goal.returns
 returns c =
-    let side = side_at c.args.border.now.squares.now c.args.border.now.up_first in
+    let side = side_at c.args.border.now.up_first in
     let square = c.left_square.ensures ∙ ap left_square (c.side.ensures ∙ ap side (first-at c.args.round.now)) in
     let corners = c.in_ok-corners_of.ensures in
     λ i. record { square = square i; corners = corners i }

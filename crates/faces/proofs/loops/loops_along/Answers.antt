@@ -9,7 +9,7 @@ pub loop_along-requires : goal.loop_along-requires
 loop_along-requires c =
     let t = c.args.border.now.squares.now in
     let up_first = c.args.border.now.up_first in
-    let P = IsInsideRound (side_count t) (is_border_at t up_first) (following_number t up_first) in
+    let P = IsInsideRound (side_count) (is_border_at t up_first) (following_number t up_first) in
     subst P (sym (c.as_slice.ensures.value ∙ ap (λ r. r.items) c.round-item.is))
     (each-place (λ r. r.items) P c.args.rounds.now c.loop-round.round-index c.round-item.result c.loop-round-test.true c.requires)
 

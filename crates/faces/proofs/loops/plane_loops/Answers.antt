@@ -8,7 +8,7 @@ pub returns : goal.returns
 returns c =
     IfOk-weaker c.loops_along.result _ _
     (λ loops is. loops_listed c.args.squares.now c.of-border.result.squares.now c.args.up_first c.of-border.result.up_first
-    (map (λ r. r.items) c.in_ok-rounds.rounds.items) (map (λ r. r.items) c.as_slice.result.now) loops.items
+    (map (λ r. r.items) c.in_ok-rounds.rounds.items) (map (λ r. r.items) c.as_slice-2.result.now) loops.items
     c.of-border.ensures.squares c.of-border.ensures.order c.in_ok-rounds.ensures
-    (ap (map (λ r. r.items)) c.as_slice.ensures.value) is)
+    (ap (map (λ r. r.items)) c.as_slice-2.ensures.value) is)
     c.loops_along.ensures

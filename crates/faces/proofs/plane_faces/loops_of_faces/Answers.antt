@@ -17,7 +17,7 @@ use Rattle.faces.proofs.plane_faces.loops_of_faces.Goals as goal
 pub grouped-requires-clause-there : goal.grouped-requires-clause-there
 grouped-requires-clause-there c =
     let t : SquareTable = c.in_ok-squares.squares in
-    let number : Spot → ℕ = number_of t c.in_ok-components.components.numbers.items in
+    let number : Spot → ℕ = number_of c.in_ok-components.components.numbers.items in
     let loops = c.in_ok-loops.loops.items in
     let are : ArePlaneLoops (is_there t) (is_up_first c.args.out) loops = subst (λ up. ArePlaneLoops (is_there t) up loops) c.is_up_first.ensures c.in_ok-loops.ensures in
     each-from (λ (l : PlaneLoop). IsTrue (is_there t l.square)) loops
@@ -27,11 +27,11 @@ pub returns : goal.returns
 returns c =
     let t : SquareTable = c.in_ok-squares.squares in
     let full = is_marked c.args.cells.now in
-    let number : Spot → ℕ = number_of t c.in_ok-components.components.numbers.items in
+    let number : Spot → ℕ = number_of c.in_ok-components.components.numbers.items in
     let loops = c.in_ok-loops.loops.items in
     let are : ArePlaneLoops (is_there t) (is_up_first c.args.out) loops = subst (λ up. ArePlaneLoops (is_there t) up loops) c.is_up_first.ensures c.in_ok-loops.ensures in
     IfOk-weaker c.grouped.result _ _ (λ groups grouped. (
       faces_in_plane (is_there t) c.args.out (pos c.args.at) loops are number c.in_ok-components.ensures.joined
-          (all_squares t) (in_all_squares t) (there_right t) full (λ i q. c.in_ok-squares.ensures q i) _ grouped,
-      groups_near t (subst IsTable c.squares.view_is c.squares.invariant) (is_up_first c.args.out) loops are.each (λ (l : PlaneLoop). number l.square) _ grouped,
+          all_squares (in_all_squares t) (there_right t) full (λ i q. c.in_ok-squares.ensures q i) _ grouped,
+      groups_near t (is_up_first c.args.out) loops are.each (λ (l : PlaneLoop). number l.square) _ grouped,
     )) c.grouped.ensures

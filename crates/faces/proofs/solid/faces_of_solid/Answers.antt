@@ -1,5 +1,5 @@
 -- The faces of a union are those of its grid cells, as they stand in space.
-use Rattle.std.proofs.Common.{◌≡◌, ◌&&◌, ◌++◌, false, Bool, List, drop, length, map, slice_index_or, sym, ap, subst, ◌∙◌, arith}
+use Rattle.std.proofs.Common.{◌≡◌, ◌≤◌, ◌&&◌, ◌++◌, false, Bool, List, drop, length, map, slice_index_or, sym, ap, subst, ◌∙◌, arith}
 use Rattle.std.proofs.lemmas.List.{take_at}
 use Rattle.solid_model.specs.declared.cell.Cell.{Cell}
 use Rattle.solid_model.specs.Faces.{FaceParts, AreFacesOf}
@@ -15,19 +15,23 @@ use Rattle.faces.specs.GridPoints.{HasFace}
 use Rattle.faces.proofs.FacesOnGrid.{faces_on_grid}
 use Rattle.faces.proofs.solid.faces_of_solid.Goals as goal
 
-pub new-marks-requires : goal.new-marks-requires
-new-marks-requires c = record {
+pub new-requires : goal.new-requires
+new-requires c = record {
   few = λ a. let l = c.sizes.ensures.few a in omega arith;
   listed = ap length (c.in_ok-extend_from_slice.ensures.items ∙ ap (λ (l : List Bool). l ++ c.args.cells.now) c.in_ok-chosen.ensures.items)
       ∙ c.requires ∙ sym (ap box_count c.sizes.ensures.sizes);
 }
 
+pub of-requires : goal.of-requires
+of-requires c = λ a. subst (λ (m : BoxMarks). numbers_of m.sizes a ≤ 63) (sym c.new.ensures) (c.sizes.ensures.few a)
+
 pub put_faces-requires : goal.put_faces-requires
 put_faces-requires c =
     let coordinates = coordinates_of c.args.grid.now in
+    let is = c.in_ok-rows.ensures ∙ c.new.ensures in
     subst (Each (HasFace coordinates)) (sym c.as_mut_slice.ensures.value)
-    (faces_on_grid c.new-marks.result coordinates
-    (λ a. ap (λ (m : BoxMarks). numbers_of m.sizes a) c.new-marks.ensures ∙ (λ t. c.sizes.ensures.sizes t a)) c.in_ok-faces.faces.items c.in_ok-faces.ensures)
+    (faces_on_grid c.in_ok-rows.rows coordinates
+    (λ a. ap (λ (m : BoxMarks). numbers_of m.sizes a) is ∙ (λ t. c.sizes.ensures.sizes t a)) c.in_ok-faces.faces.items c.in_ok-faces.ensures)
 
 pub returns : goal.returns
 returns c = λ full is_union.
@@ -35,12 +39,13 @@ returns c = λ full is_union.
     let chosen = c.args.cells.now in
     let faces : List FaceParts = c.put_faces.new.faces in
     let (drawing, is_drawing, is_grid) = c.coordinates.ensures.kept in
-    let sizes : numbers_of c.new-marks.result.sizes ≡ grid_sizes c.args.grid.now =
-    ap (λ (m : BoxMarks). numbers_of m.sizes) c.new-marks.ensures ∙ c.sizes.ensures.sizes in
-    let values : c.new-marks.result.values ≡ chosen =
-    ap (λ (m : BoxMarks). m.values) c.new-marks.ensures ∙ c.in_ok-extend_from_slice.ensures.items
+    let is = c.in_ok-rows.ensures ∙ c.new.ensures in
+    let sizes : numbers_of c.in_ok-rows.rows.sizes ≡ grid_sizes c.args.grid.now =
+    ap (λ (m : BoxMarks). numbers_of m.sizes) is ∙ c.sizes.ensures.sizes in
+    let values : c.in_ok-rows.rows.values ≡ chosen =
+    ap (λ (m : BoxMarks). m.values) is ∙ c.in_ok-extend_from_slice.ensures.items
     ∙ ap (λ (l : List Bool). l ++ chosen) c.in_ok-chosen.ensures.items in
-    let same : is_marked c.new-marks.result ≡ numbered_fullness coordinates chosen =
+    let same : is_marked c.in_ok-rows.rows ≡ numbered_fullness coordinates chosen =
     λ t n. is_within (sizes t) n && slice_index_or (values t) (box_place (sizes t) n) false in
     let numbered = subst (λ (f : Cell → Bool). AreFacesOf f c.in_ok-faces.faces.items) same c.in_ok-faces.ensures in
     let put : faces ≡ map (face_in_space (grid_planes coordinates)) c.in_ok-faces.faces.items =

@@ -1,5 +1,5 @@
 -- One node more; and all of them.
-use Rattle.std.proofs.Common.{◌≡◌, ◌<◌, ◌≤◌, length, vec_len, vec_capacity, ◌∙◌, sym, ap, subst, arith}
+use Rattle.std.proofs.Common.{◌≡◌, ◌<◌, ◌≤◌, length, vec_len, vec_capacity, ◌∙◌, sym, ap, subst, true, arith}
 use Rattle.std.proofs.lemmas.Grind.{common_steps}
 use Rattle.std.proofs.lemmas.List.{get_or_default}
 use Rattle.flood.specs.NodeMarks.{no_mark, IsMarked, Numbers}
@@ -21,12 +21,12 @@ loop-node-preserved g c =
     elim c.if-marks-node.branch [
       | then-marks-node w ↦ (let none = get_or_default marks node no_mark 0 within ∙ w.if-marks-node.true in record {
         numbers = rw (w.marks-is, w.count-is)
-            (numbers_more step nodes marks w.flood.new.marks node count so_far small c.requires.back none w.flood.ensures.floods);
+            (numbers_more step nodes (λ _. true) marks w.flood.new.marks node count so_far small c.requires.back none w.flood.ensures.floods);
         empty = ap vec_len w.stack-is ∙ w.flood.ensures.empty;
         room = subst (λ n. nodes ≤ n) (sym (ap vec_capacity w.stack-is ∙ w.flood.ensures.capacity)) c.loop-node.invariant.room;
       })
       | else-marks-node w ↦ (let has : IsMarked marks node = grind (arith, common_steps) in record {
-        numbers = rw (w.marks-is, w.count-is) (numbers_skip step nodes marks node count so_far has);
+        numbers = rw (w.marks-is, w.count-is) (numbers_skip step nodes (λ _. true) marks node count so_far has);
         empty = ap vec_len w.stack-is ∙ c.loop-node.invariant.empty;
         room = subst (λ n. nodes ≤ n) (sym (ap vec_capacity w.stack-is)) c.loop-node.invariant.room;
       })
@@ -36,4 +36,4 @@ pub returns : goal.returns
 returns g c =
     let nodes = g.G.Graph.nodes c.args.graph.now in
     let end : c.loop-node.node ≡ nodes = omega (arith, c.loop-node-test.false, c.loop-node.auto.node-end, c.node_count-node-end.ensures) in
-    subst (λ n. Numbers (g.G.Graph.steps c.args.graph.now) nodes c.loop-node.marks n c.loop-node.count) end c.loop-node.invariant.numbers
+    subst (λ n. Numbers (g.G.Graph.steps c.args.graph.now) nodes (λ _. true) c.loop-node.marks n c.loop-node.count) end c.loop-node.invariant.numbers

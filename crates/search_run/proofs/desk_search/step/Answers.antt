@@ -16,7 +16,7 @@ unreachable-requires-in_default-2 c =
     let piece = c.in-Some.piece.now in
     let dead = MatchOption-at_none _ _ c.in_default-2.is c.in_ok-expansion.ensures.live in
     both_ways (is_live p piece) (ap (λ q. is_live q piece) (sym c.problem.ensures.problem) ∙ dead)
-    (piece_lives c.args.desk.now c.end-end.ensures.kept piece c.in-Some.ensures.piece)
+    (piece_lives c.args.desk.now c.end-end.ensures.kept piece c.in-Some.ensures.piece.stands)
 
 pub returns-in-Ok-Taken-clause-opened : goal.returns-in-Ok-Taken-clause-opened
 returns-in-Ok-Taken-clause-opened c =

@@ -20,5 +20,5 @@ returns-clause-side c =
 pub returns-clause-within : goal.returns-clause-within
 returns-clause-within c =
     let t = c.args.self.now.squares.now in
-    table_point t c.step.result (subst (IsTableSpot t) (sym c.step.ensures)
+    table_point t c.step.result (subst (IsTableSpot) (sym c.step.ensures)
     (border_on t (spot_of c.args.side.end) (heading_of c.args.side.way) (heading_of c.way_on-way.result) c.requires c.way_on-way.ensures))

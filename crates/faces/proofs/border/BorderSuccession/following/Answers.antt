@@ -9,7 +9,7 @@ pub returns-clause-next : goal.returns-clause-next
 returns-clause-next c =
     let b = c.args.self.now in
     c.number.ensures
-    ∙ told_number b.squares.now b.up_first c.side_after.result _ (c.side_after.ensures.side ∙ ap (following (is_there b.squares.now)) c.side.ensures)
+    ∙ told_number b.up_first c.side_after.result _ (c.side_after.ensures.side ∙ ap (following (is_there b.squares.now)) c.side.ensures)
 
 pub returns-clause-inside : goal.returns-clause-inside
 returns-clause-inside c =

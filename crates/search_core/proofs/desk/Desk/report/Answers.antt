@@ -5,7 +5,7 @@ use Rattle.solid_model.specs.Lists.{Member}
 use Rattle.search_core.specs.Ledger.{ledger_of, history_of, desk_of}
 use Rattle.search_core.specs.Desk.{DeskParts, Takes, IsTaken}
 use Rattle.search_core.specs.Notes.{StandsAt}
-use Rattle.search_core.proofs.DeskLedger.{history-grown, desk-grown, desk-reported, desk-is, desk-gone, desk-counted, none-from}
+use Rattle.search_core.proofs.DeskLedger.{history-grown, desk-grown, desk-reported, desk-is, desk-gone, desk-counted, none-from, taken_on}
 use Rattle.search_core.proofs.desk.Desk.report.Goals as goal
 
 pub returns-in_default-clause-answer : goal.returns-in_default-clause-answer
@@ -71,7 +71,7 @@ returns c =
       answer = (
         subst (λ (v : DeskParts). Takes v c.args.expansion) c.self.view_is (record { same = same; going = sym c.self.invariant.end ∙ going; in_frontier = member }),
         subst (λ (v : DeskParts). IsTaken v c.args.expansion (desk_of (arc_value self.problem) self.limits (history_of (ledger_of c.post.new.self)))) c.self.view_is
-            (record { problem = refl; limits = refl; history = reported.history }),
+            (taken_on (arc_value self.problem) self.limits (history_of (ledger_of self.ledger)) (history_of (ledger_of c.post.new.self)) c.args.expansion reported.history),
         c.take_rest.ensures,
       );
       kept = desk-is (arc_value self.problem) self.limits (ledger_of c.post.new.self) (self.opened + c.from.result) c.end_after-self-inside.result reported.ledger;

@@ -1,0 +1,4 @@
+pub mod FilledRows
+pub mod RowCells
+pub mod BitPlaces
+pub mod WordBits

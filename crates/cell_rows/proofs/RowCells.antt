@@ -1,0 +1,128 @@
+-- The cells of rows.
+use Rattle.std.proofs.Common.{◌≡◌, inl, inr, Bool, true, false, ◌&&◌, ℕ, ◌<◌, ◌≤◌, List, length, get_or, slice_index_or, ℤ, pos, refl, ap, sym, subst, ◌∙◌, arith}
+use Rattle.std.proofs.lemmas.Bool.{false_from_ne_true, both_ways, and_parts, cases_Bool}
+use Rattle.solid_model.specs.declared.cell.Axis.{Axis}
+use Rattle.solid_model.specs.declared.cell.Axis.TheVariants.{X, Y, Z}
+use Rattle.solid_model.specs.declared.cell.Cell.{Cell}
+use Rattle.solid_model.specs.declared.per_axis.PerAxis.{PerAxis}
+use Rattle.solid_model.specs.Bits.{is_set}
+use Rattle.solid_model.specs.Cells.{coordinate, cell_at}
+use Rattle.solid_model.specs.Marks.{BoxMarks, is_marked}
+use Rattle.solid_model.specs.PerAxis.{numbers_of, cell_of, numbered, AreFew}
+use Rattle.solid_model.specs.Rooms.{Sizes, is_below, is_within, box_place, box_count}
+use Rattle.solid_model.proofs.BoxCells.{place-below, within-below, below-within}
+use Rattle.solid_model.proofs.BoxPlaces.{one_cell, cell_there}
+use Rattle.solid_model.proofs.Pushed.{HoldsSoFar}
+use Rattle.cell_rows.specs.Rows.{cell_numbered, is_marked_at, row_sizes, AreRows}
+
+-- numbers with another one along an axis are those of the cell
+pub numbered_cell : (a : Axis) (k : ℕ) (n r : PerAxis) → numbers_of r ≡ numbered a k (numbers_of n) → cell_of r ≡ cell_numbered a k n
+numbered_cell X k n r e = ap (λ (f : Axis → ℕ). cell_at (f X) (f Y) (f Z)) e
+numbered_cell Y k n r e = ap (λ (f : Axis → ℕ). cell_at (f X) (f Y) (f Z)) e
+numbered_cell Z k n r e = ap (λ (f : Axis → ℕ). cell_at (f X) (f Y) (f Z)) e
+
+-- which has that number along it
+coordinate_numbered : (a : Axis) (k : ℕ) (n : PerAxis) → coordinate a (cell_numbered a k n) ≡ pos k
+coordinate_numbered X k n = refl
+coordinate_numbered Y k n = refl
+coordinate_numbered Z k n = refl
+
+-- so cells beyond a row have no marks
+pub none_beyond : (m : BoxMarks) (a : Axis) (n : PerAxis) (k : ℕ) → numbers_of m.sizes a ≤ k → is_marked_at m a n k ≡ false
+none_beyond m a n k beyond = false_from_ne_true (is_marked_at m a n k) (λ marked.
+    let sizes = numbers_of m.sizes in
+    let within = (and_parts (is_within sizes (cell_numbered a k n)) (slice_index_or m.values (box_place sizes (cell_numbered a k n)) false) marked).0 in
+    let below = subst (λ z. is_below (sizes a) z ≡ true) (coordinate_numbered a k n) (within-below sizes (cell_numbered a k n) within a) in
+    let less = place-below (sizes a) (pos k) below in
+    omega arith)
+
+-- ---- rows
+
+-- a box with one cell along an axis is small too
+pub few_rows : (sizes : Sizes) (a : Axis) → AreFew sizes → AreFew (numbered a 1 sizes)
+few_rows sizes X few X = omega arith
+few_rows sizes X few Y = few Y
+few_rows sizes X few Z = few Z
+few_rows sizes Y few X = few X
+few_rows sizes Y few Y = omega arith
+few_rows sizes Y few Z = few Z
+few_rows sizes Z few X = few X
+few_rows sizes Z few Y = few Y
+few_rows sizes Z few Z = omega arith
+
+-- a cell of the box stands in a row of it
+within_row : (sizes : Sizes) (a : Axis) (k : ℕ) (n : PerAxis) → is_within sizes (cell_numbered a k n) ≡ true
+    → is_within (numbered a 1 sizes) (cell_numbered a 0 n) ≡ true
+within_row sizes a k n within = below-within (numbered a 1 sizes) (cell_numbered a 0 n) (by a (within-below sizes (cell_numbered a k n) within))
+  where
+    by : (a : Axis) → ((b : Axis) → is_below (sizes b) (coordinate b (cell_numbered a k n)) ≡ true)
+        → (b : Axis) → is_below (numbered a 1 sizes b) (coordinate b (cell_numbered a 0 n)) ≡ true
+    by X h X = refl
+    by X h Y = h Y
+    by X h Z = h Z
+    by Y h X = h X
+    by Y h Y = refl
+    by Y h Z = h Z
+    by Z h X = h X
+    by Z h Y = h Y
+    by Z h Z = refl
+
+-- so where there is no row there is no mark
+pub none_without_row : (m : BoxMarks) (a : Axis) (n : PerAxis) → is_within (row_sizes m a) (cell_numbered a 0 n) ≡ false
+    → (k : ℕ) → is_marked_at m a n k ≡ false
+none_without_row m a n none k = false_from_ne_true (is_marked_at m a n k) (λ marked.
+    let sizes = numbers_of m.sizes in
+    let within = (and_parts (is_within sizes (cell_numbered a k n)) (slice_index_or m.values (box_place sizes (cell_numbered a k n)) false) marked).0 in
+    both_ways (is_within (row_sizes m a) (cell_numbered a 0 n)) none (within_row sizes a k n within))
+
+-- cells of one row
+same_row : (a : Axis) (k : ℕ) (c n : PerAxis) → cell_of c ≡ cell_numbered a 0 n → cell_numbered a k c ≡ cell_numbered a k n
+same_row X k c n e = λ i. record { x = pos k; y = (e i).y; z = (e i).z }
+same_row Y k c n e = λ i. record { x = (e i).x; y = pos k; z = (e i).z }
+same_row Z k c n e = λ i. record { x = (e i).x; y = (e i).y; z = pos k }
+
+-- the word at the place of a row tells its cells
+abbrev pub IsRowAt : BoxMarks → Axis → ℕ → ℕ → Type 0
+IsRowAt m a place word = (n : PerAxis) → is_within (row_sizes m a) (cell_numbered a 0 n) ≡ true
+    → box_place (row_sizes m a) (cell_numbered a 0 n) ≡ place → (k : ℕ) → k < 64 → is_set word k ≡ is_marked_at m a n k
+
+pub row_at : (m : BoxMarks) (a : Axis) (sizes : Sizes) (place word : ℕ) (c : PerAxis) → sizes ≡ row_sizes m a → place ≡ box_place sizes (cell_of c)
+    → is_within sizes (cell_of c) ≡ true → ((k : ℕ) → k < 64 → is_set word k ≡ is_marked_at m a c k) → IsRowAt m a place word
+row_at m a sizes place word c same at within row n n_within n_at k l =
+    let here = subst (λ s. is_within s (cell_of c) ≡ true) same within in
+    let there = subst (λ s. place ≡ box_place s (cell_of c)) same at in
+    let one = one_cell (row_sizes m a) (cell_of c) (cell_numbered a 0 n) here n_within (sym there ∙ sym n_at) in
+    row k l ∙ ap (is_marked m) (same_row a k c n one)
+
+-- all of them
+pub all_rows : (m : BoxMarks) (a : Axis) (rows : List ℕ) (count : ℕ) → HoldsSoFar (IsRowAt m a) rows count → count ≡ box_count (row_sizes m a)
+    → AreRows m a rows
+all_rows m a rows count held all = record {
+  listed = held.count ∙ all;
+  each = λ n within k l.
+      held.each (box_place (row_sizes m a) (cell_numbered a 0 n)) 0
+      (subst (λ c. box_place (row_sizes m a) (cell_numbered a 0 n) < c) (sym all) (cell_there (row_sizes m a) (cell_numbered a 0 n) within))
+      n within refl k l;
+}
+
+-- ---- a row that is looked up
+
+module _ (m : BoxMarks) (a : Axis) (n first ends : PerAxis) (at : numbers_of first ≡ numbered a 0 (numbers_of n))
+    (sized : numbers_of ends ≡ numbered a 1 (numbers_of m.sizes)) where
+  -- the row of a cell of the box
+  pub found_row : (rows : List ℕ) → AreRows m a rows → is_within (numbers_of ends) (cell_of first) ≡ true
+      → (k : ℕ) → k < 64 → is_set (slice_index_or rows (box_place (numbers_of ends) (cell_of first)) 0) k ≡ is_marked_at m a n k
+  found_row rows are within k l =
+      let cell = numbered_cell a 0 n first at in
+      subst (λ p. is_set (slice_index_or rows p 0) k ≡ is_marked_at m a n k)
+      (λ i. box_place (sym sized i) (sym cell i))
+      (are.each n ((λ i. is_within (sym sized i) (sym cell i)) ∙ within) k l)
+
+  -- and its place
+  pub row_there : (rows : List ℕ) → AreRows m a rows → is_within (numbers_of ends) (cell_of first) ≡ true → box_place (numbers_of ends) (cell_of first) < length rows
+  row_there rows are within = subst (λ c. box_place (numbers_of ends) (cell_of first) < c) (ap box_count sized ∙ sym are.listed)
+      (cell_there (numbers_of ends) (cell_of first) within)
+
+  -- beyond the box there is none
+  pub no_row : is_within (numbers_of ends) (cell_of first) ≡ false → (k : ℕ) → is_marked_at m a n k ≡ false
+  no_row none k = none_without_row m a n ((λ i. is_within (sym sized i) (sym (numbered_cell a 0 n first at) i)) ∙ none) k

@@ -1,0 +1,122 @@
+-- What was handed out, with what was found besides, is listed as an answer.
+use Rattle.std.proofs.Common.{◌≡◌, ◌≢◌, ◌⊎◌, inl, inr, Bool, true, false, ℕ, zero, suc, ◌+◌, ◌-◌, ◌≤◌, ◌<◌, ◌||◌, List, [], ◌∷◌, ◌++◌, length, take, filter, not, Some, IsPermutation, refl, sym, ◌∙◌, ap, subst, length-append, length-take, arith}
+use Rattle.std.specs.List.{list_any}
+use Rattle.std.proofs.lemmas.Bool.{both_ways, cases_lt}
+use Rattle.std.proofs.lemmas.List.{take_all}
+use Rattle.std.proofs.Math.Seq.{take-append-add}
+use Rattle.std.proofs.lemmas.List.Sorted.{length_permutation, IsPermutation-sym}
+use Rattle.solid_model.specs.declared.ended.EndKind.{EndKind}
+use Rattle.solid_model.specs.declared.ended.EndKind.TheVariants.{Whole, CutNodes, CutSolids}
+use Rattle.solid_model.specs.Choices.{ChoicePrecedes}
+use Rattle.solid_model.specs.Lists.{Member, Each, Ascends}
+use Rattle.solid_model.specs.Search.{SearchLimits}
+use Rattle.solid_model.specs.SearchEnds.{AreSomeOf, EndsAs}
+use Rattle.solid_model.specs.Tree.{PrefixTest, live_from, is_whole, live_below}
+use Rattle.solid_model.proofs.Lists.{each-at, each-from, each-append, each-filter, ascends-append, ascends-filter, member-filter, member-from_filter, member-append, member-append_left, member-append_right, same_ascending}
+use Rattle.solid_model.proofs.Styles.{any_from_member}
+use Rattle.solid_model.proofs.ComparedChoices.{precedes_one_way}
+use Rattle.solid_model.proofs.WithoutRepeats.{no_longer}
+use Rattle.search_core.specs.Conserves.{EndsRightly, IsConserved}
+use Rattle.search_core.specs.Core.{Core, same_prefix}
+use Rattle.search_core.proofs.Lists.{each-take, ascends-take, member-permutation}
+use Rattle.search_core.proofs.TakenOut.{Decides-same_prefix}
+use Rattle.search_tree.proofs.SearchEnds.{some_found}
+use Rattle.search_run.specs.Answers.{is_new, new_ones}
+
+-- one that is new isn't among those
+new_not : (handed : List (List Bool)) (x : List Bool) → is_new handed x ≡ true → Member handed x → ⊥
+new_not handed x new k =
+    let among : list_any (same_prefix x) handed ≡ true = any_from_member (same_prefix x) handed x k ((Decides-same_prefix x x).1 refl) in
+    both_ways (is_new handed x) (ap not among) new
+
+-- one that isn't new is
+not_new : (handed : List (List Bool)) (x : List Bool) → list_any (same_prefix x) handed ≡ true → Member handed x
+not_new [] x e = absurd (both_ways false refl e)
+not_new (y ∷ handed) x e = at (same_prefix x y) refl (not_new handed x)
+  where
+    at : (t : Bool) → same_prefix x y ≡ t → (list_any (same_prefix x) handed ≡ true → Member handed x) → Member (y ∷ handed) x
+    at true s later = inl (sym ((Decides-same_prefix x y).0 s))
+    at false s later = inr (later (subst (λ (b : Bool). (b || list_any (same_prefix x) handed) ≡ true) s e))
+
+-- the first of two lists, as many as there is room for
+pub take_behind : {A : Type 0} (n : ℕ) (xs ys : List A) → length xs ≤ n → xs ++ take (n - length xs) ys ≡ take n (xs ++ ys)
+take_behind n xs ys h = let room : length xs + (n - length xs) ≡ n = omega arith in
+    sym (take-append-add xs ys (n - length xs)) ∙ ap (λ (k : ℕ). take k (xs ++ ys)) room
+
+-- all choices of n blocks are in the stated order
+all_ascend : (live : PrefixTest) (n : ℕ) → Ascends ChoicePrecedes (live_below live n [])
+all_ascend live n = subst (λ xs. Ascends ChoicePrecedes (filter (is_whole n) xs)) (take_all (length (live_from live n [])) (live_from live n []) (omega arith))
+    (some_found live n (length (live_from live n []))).ordered
+
+module _ (live : PrefixTest) (n : ℕ) (limits : SearchLimits) (c : Core) (kept : IsConserved live n limits c)
+    (handed : List (List Bool)) (each : Each (Member (live_below live n [])) handed) (once : Ascends ◌≢◌ handed) where
+  abbrev all : List (List Bool)
+  all = live_below live n []
+
+  abbrev whole : List (List Bool)
+  whole = handed ++ new_ones handed c.found
+
+  whole_each : Each (Member all) whole
+  whole_each = each-append (Member all) handed (new_ones handed c.found) each (each-filter (is_new handed) (Member all) c.found kept.listed)
+
+  whole_once : Ascends ◌≢◌ whole
+  whole_once = ascends-append ◌≢◌ handed (new_ones handed c.found) once (ascends-filter (is_new handed) ◌≢◌ c.found kept.once)
+      (each-from (λ x. Each (λ y. x ≢ y) (new_ones handed c.found)) handed (λ x k. each-from (λ y. x ≢ y) (new_ones handed c.found) (λ y m e.
+      new_not handed y (member-from_filter (is_new handed) c.found y m).1 (subst (Member handed) e k))))
+
+  found_in : (x : List Bool) → Member c.found x → Member whole x
+  found_in x k = at (list_any (same_prefix x) handed) refl
+    where
+      at : (t : Bool) → list_any (same_prefix x) handed ≡ t → Member whole x
+      at true e = member-append_left handed (new_ones handed c.found) x (not_new handed x e)
+      at false e = member-append_right handed (new_ones handed c.found) x (member-filter (is_new handed) c.found x k (ap not e))
+
+  few_whole : length whole ≤ length all
+  few_whole = no_longer whole all whole_once (λ x k. each-at (Member all) whole x whole_each k)
+
+  many_whole : length c.found ≤ length whole
+  many_whole = no_longer c.found whole kept.once found_in
+
+  module _ (list : List (List Bool)) (is : list ≡ take limits.solids whole) where
+    pub list_each : Each (Member all) list
+    list_each = subst (Each (Member all)) (sym is) (each-take (Member all) limits.solids whole whole_each)
+
+    pub list_once : Ascends ◌≢◌ list
+    list_once = subst (Ascends ◌≢◌) (sym is) (ascends-take ◌≢◌ limits.solids whole whole_once)
+
+    pub list_few : length list ≤ limits.solids
+    list_few = omega (arith, ap length is, length-take limits.solids whole)
+
+    list_full : limits.solids ≤ length whole → length list ≡ limits.solids
+    list_full h = omega (arith, ap length is, length-take limits.solids whole, h)
+
+    list_whole : length whole ≤ limits.solids → list ≡ whole
+    list_whole h = is ∙ take_all limits.solids whole h
+
+    pub covers : Each (Member list) c.found ⊎ (length list ≡ limits.solids)
+    covers = at (cases_lt limits.solids (length whole))
+      where
+        at : (limits.solids < length whole) ⊎ (length whole ≤ limits.solids) → Each (Member list) c.found ⊎ (length list ≡ limits.solids)
+        at (inl more) = inr (list_full (omega (arith, more)))
+        at (inr few) = inl (each-from (Member list) c.found (λ x k. subst (λ l. Member l x) (sym (list_whole few)) (found_in x k)))
+
+    module _ (sorted : List (List Bool)) (moved : IsPermutation list sorted) (ordered : Ascends ChoicePrecedes sorted) where
+      some : AreSomeOf live n sorted
+      some = record {
+        listed = each-from (Member all) sorted (λ x k. each-at (Member all) list x list_each (member-permutation sorted list x (IsPermutation-sym list sorted moved) k));
+        ordered = ordered;
+      }
+
+      pub ends : (kind : EndKind) → EndsRightly live n limits c (Some kind) → EndsAs live n limits kind c.opened sorted
+      ends Whole (tree, opened, shared, few) =
+          let fits : length all ≤ limits.solids = omega (arith, length_permutation all c.found shared, kept.few) in
+          let same = list_whole (omega (arith, few_whole, fits)) in (
+            omega (arith, opened, few),
+            fits,
+            opened,
+            same_ascending ChoicePrecedes precedes_one_way sorted all ordered (all_ascend live n)
+                (λ x k. each-at (Member all) sorted x some.listed k)
+                (λ x k. member-permutation list sorted x moved (subst (λ l. Member l x) (sym same) (found_in x (member-permutation all c.found x shared k)))),
+          )
+      ends CutNodes (tree, past) = (past, kept.opened, some, omega (arith, length_permutation list sorted moved, list_few))
+      ends CutSolids (many, past) = (past, kept.opened, some, length_permutation list sorted moved ∙ list_full (omega (arith, many, many_whole)))

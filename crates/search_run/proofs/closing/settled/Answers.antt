@@ -1,0 +1,22 @@
+-- What is listed are solutions of the problem.
+use Rattle.std.proofs.Common.{◌≡◌, ◌++◌, ◌-◌, List, Bool, length, take, sym, ◌∙◌, ap, subst, rules}
+use Rattle.std.specs.Arc.{arc_value}
+use Rattle.solid_model.specs.Blocks.{ProblemParts, IsBlocksOf}
+use Rattle.solid_model.specs.Panels.{IsGrid}
+use Rattle.search_run.specs.Answers.{IsAnswerList, new_ones}
+use Rattle.search_run.proofs.DeskAnswers.{answer_solutions}
+use Rattle.search_run.proofs.closing.settled.Goals as goal
+
+pub returns-clause-solutions : goal.returns-clause-solutions
+returns-clause-solutions c =
+    let d = c.in_ok-desk-2.desk in
+    let p = arc_value c.args.problem.now in
+    let handed = c.args.handed.now.choices in
+    let all : List (List Bool) = handed ++ c.in_ok-left.left.items in
+    let same : d.problem ≡ p = c.in_ok-desk-2.ensures.problem ∙ c.deref-2.ensures in
+    let within : d.limits ≡ c.args.limits = c.in_ok-desk-2.ensures.limits ∙ c.in_ok-desk.ensures.limits in
+    let blocks = subst (λ (q : ProblemParts). IsBlocksOf q.grid q.blocks) c.deref.ensures c.grid.ensures.kept in
+    let grid = subst (λ (q : ProblemParts). IsGrid q.grid) c.deref.ensures (subst IsGrid c.grid.ensures.grid c.coordinates-coordinates.ensures.kept) in
+    let left : c.in_ok-left.left.items ≡ take (c.args.limits.solids - length handed) (new_ones handed d.found) = search rules in
+    let h : IsAnswerList p c.args.limits d.found all = record { handed = handed; solutions = c.requires.handed; few = c.requires.few; is = ap (λ (l : List (List Bool)). handed ++ l) left } in
+    answer_solutions p c.args.limits blocks grid d same within c.in_ok-desk-2.ensures.kept all h

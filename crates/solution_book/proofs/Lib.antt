@@ -1,0 +1,3 @@
+mod Known
+mod Parts
+mod Pages

@@ -1,0 +1,4 @@
+pub mod Editions
+pub mod Pages
+pub mod Rule
+pub mod Batches
