@@ -26,6 +26,7 @@ fn main(rt: HostRuntime) -> ExitCode {
     let mut source = StdSource::new(rt.stdin());
     let mut sink = StdSink::new(rt.stdout());
     let status = run(
+        &rt,
         rt.alloc(),
         words.as_slice(),
         &mut source,

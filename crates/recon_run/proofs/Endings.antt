@@ -1,12 +1,12 @@
 -- How a run ends, by what was answered and how its text was written.
 use Rattle.std.proofs.Common.{◌≡◌, refl, inl, inr, ℕ, List, Option, Some, None, Result, Ok, Err, subst₂, sym}
 use Rattle.std.specs.Io.KnownBytes.{Keeps}
-use Rattle.recon_run.specs.declared.solve.Finding.{Finding}
+use Rattle.recon_run.specs.declared.found.Found.{Found}
 use Rattle.recon_run.specs.declared.status.Answer.{Answer}
 use Rattle.recon_run.specs.declared.status.Failure.{Failure}
 use Rattle.recon_run.specs.declared.status.Failure.TheVariants.{ReadFault, WriteFault, Memory}
 use Rattle.recon_run.specs.Endings.{Ends}
-use Rattle.recon_run.specs.Findings.{AnswersFinding, EndsWriting, IsReply}
+use Rattle.recon_run.specs.Findings.{AnswersFound, EndsWriting, IsReply}
 use Rattle.recon_run.specs.Owed.{AnswersOwed, Owed, Search, beginning, begun, searched}
 use Rattle.recon_run.specs.Searched.{SearchedParts}
 use Rattle.recon_run.specs.Status.{Status}
@@ -42,13 +42,13 @@ module _ (o : Owed) (left rest held now : Option (List ℕ)) (source_rose sink_r
 module _ (s : Search) (left rest : Option (List ℕ)) (source_rose sink_rose : Type 0) where
   -- what is written of what was found ends a search
   pub found_ends : (tells begins : SearchedParts → List ℕ → Type 0) → TellsRightly s tells → TellsRightly (beginning s) begins
-      → (finding : Finding) → IsFound s.limits left rest finding → (held now : Option (List ℕ)) (status : Status)
-      → EndsWriting (AnswersFinding s.whole tells finding) (AnswersFinding s.whole begins finding) held now sink_rose status
+      → (found : Found) → IsFound left rest found → (held now : Option (List ℕ)) (status : Status)
+      → EndsWriting (AnswersFound s.limits s.whole tells found) (AnswersFound s.limits s.whole begins found) held now sink_rose status
       → Ends (searched s) left rest held now source_rose sink_rose status
-  found_ends tells begins right rightly finding found held now = written_ends (searched s) left rest held now source_rose sink_rose
-      (AnswersFinding s.whole tells finding) (AnswersFinding s.whole begins finding)
-      (λ answer text told. found_owed s tells right answer text left rest finding found told)
-      (λ answer text told. found_owed (beginning s) begins rightly answer text left rest finding found told)
+  found_ends tells begins right rightly found is held now = written_ends (searched s) left rest held now source_rose sink_rose
+      (AnswersFound s.limits s.whole tells found) (AnswersFound s.limits s.whole begins found)
+      (λ answer text told. found_owed s tells right answer text left rest found is told)
+      (λ answer text told. found_owed (beginning s) begins rightly answer text left rest found is told)
 
 -- ---- faults
 

@@ -103,10 +103,10 @@ OwesOne (searched s) = TellsOne s
 OwesOne (alone right tells) = (text other : List ℕ) → tells text → tells other → text ≡ other
 
 one_owed : (said : Option Job) → OwesOne (owed said)
-one_owed (Some (job.Solve limits)) = one_listing limits
-one_owed (Some (job.Redraw which limits)) = one_numbered IsFileOf (λ s. one_file s s (λ g. refl)) which limits
+one_owed (Some (job.Solve workers limits)) = one_listing limits
+one_owed (Some (job.Redraw which workers limits)) = one_numbered IsFileOf (λ s. one_file s s (λ g. refl)) which limits
 one_owed (Some (job.Make n)) = one_made_file n
-one_owed (Some (job.Trial n)) = one_figures n
+one_owed (Some (job.Trial n workers)) = one_figures n
 one_owed None = λ text other is is_too. is ∙ sym is_too
 
 -- ---- one answer

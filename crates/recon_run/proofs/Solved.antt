@@ -1,5 +1,5 @@
 -- From the end of a search, and what `solve` tells of it, to the solids that are listed.
-use Rattle.std.proofs.Common.{◌≡◌, ℕ, zero, suc, ◌+◌, ◌<◌, ◌≤◌, List, [], ◌∷◌, ◌++◌, Bool, length, take, Option, refl, sym, ap, subst, ◌∙◌, arith}
+use Rattle.std.proofs.Common.{◌≡◌, ℕ, zero, suc, ◌+◌, ◌<◌, ◌≤◌, List, [], ◌∷◌, ◌++◌, Bool, length, take, refl, sym, ap, subst, ◌∙◌, arith}
 use Rattle.columns.proofs.LivePrefixes.{live_keeps_matching}
 use Rattle.recon_run.specs.Answers.{node_count, HasProblem, CanEnd, AreListed, BeginsToList, ListedSolids, ListsSolids, TellsSolids, head_of}
 use Rattle.recon_run.specs.Findings.{TellsChoices}

@@ -1,10 +1,10 @@
 -- What is told of what was found in a file is a right answer to it.
 use Rattle.std.proofs.Common.{◌≡◌, inl, inr, refl, Bool, ℕ, List, length, Option, Some, None, IfSome, ap, subst, sym, ◌∙◌}
-use Rattle.recon_run.specs.declared.solve.Finding.{Finding}
-use Rattle.recon_run.specs.declared.solve.Finding.TheVariants.{Solids, Fault}
+use Rattle.recon_run.specs.declared.found.Found.{Found}
+use Rattle.recon_run.specs.declared.found.Found.TheVariants.{Problem, Fault}
 use Rattle.recon_run.specs.declared.status.Answer.{Answer}
 use Rattle.recon_run.specs.Answers.{BeginsToList, CanEnd, HasProblem, ListsSolids}
-use Rattle.recon_run.specs.Findings.{AnswersFinding, BeginsAll, IsFinding, IsSearched, TellsAll}
+use Rattle.recon_run.specs.Findings.{AnswersFound, BeginsAll, IsFoundIn, IsSearchOf, TellsAll}
 use Rattle.recon_run.specs.Owed.{AnswersInput, AnswersOwed, IsAnswerOf, ReadsAllOrPast, Search, answer_at, beginning, search_for_all, searched}
 use Rattle.recon_run.specs.Searched.{SearchedParts}
 use Rattle.recon_run.proofs.OneEnd.{one_count}
@@ -16,9 +16,13 @@ use Rattle.solid_model.specs.Blocks.{ProblemParts}
 use Rattle.solid_model.specs.Demands.{is_live}
 use Rattle.solid_model.specs.Panels.{coordinates_of}
 use Rattle.solid_model.specs.Search.{SearchLimits}
-use Rattle.solid_model.specs.SearchEnds.{EndsAs}
+use Rattle.solid_model.specs.SearchEnds.{EndsAs, EndsSearch}
 
 -- ---- texts
+
+-- a file's problem, and how its search within limits ended
+abbrev pub IsSearched : SearchLimits → List ℕ → SearchedParts → Type 0
+IsSearched limits t s = HasProblem t s.problem × EndsSearch (is_live s.problem) s.problem.blocks.count limits s.ended
 
 -- texts that are told of a search of an input go with its end
 abbrev pub TellsRightly : Search → (SearchedParts → List ℕ → Type 0) → Type 0
@@ -51,23 +55,30 @@ answer_of s t p has CutNodes opened choices ends c = refl
 answer_of s t p has CutSolids opened choices ends c = refl
 
 -- what is found in what a source had left
-abbrev pub IsFound : SearchLimits → Option (List ℕ) → Option (List ℕ) → Finding → Type 0
-IsFound limits left rest finding = IfSome left (λ t. ReadsAllOrPast t rest × IsFinding limits t finding)
+abbrev pub IsFound : Option (List ℕ) → Option (List ℕ) → Found → Type 0
+IsFound left rest found = IfSome left (λ t. ReadsAllOrPast t rest × IsFoundIn t found)
+
+-- a search of a file's problem
+searched_input : (limits : SearchLimits) (t : List ℕ) (p : ProblemParts) → HasProblem t p → (s : SearchedParts) → IsSearchOf limits p s → IsSearched limits t s
+searched_input limits t p has s (same, ends) = (
+  subst (HasProblem t) (sym same) has,
+  subst (λ (q : ProblemParts). EndsSearch (is_live q) q.blocks.count limits s.ended) (sym same) ends,
+)
 
 module _ (s : Search) (tells : SearchedParts → List ℕ → Type 0) (right : TellsRightly s tells) (answer : Answer) (text : List ℕ) where
-  found_input : (t : List ℕ) (finding : Finding) → IsFinding s.limits t finding → AnswersFinding s.whole tells finding answer text
-      → AnswersInput s t answer text
-  found_input t (Solids found) (has, ends) (is, told) =
-      let (c, rightly) = right t found (has, ends) text told in
-      inr (found.ended.kind, c, is ∙ answer_of s t found.problem has found.ended.kind found.ended.opened found.ended.solids ends c, rightly)
+  found_input : (t : List ℕ) (found : Found) → IsFoundIn t found → AnswersFound s.limits s.whole tells found answer text → AnswersInput s t answer text
+  found_input t (Problem p) has (of, is_of, is, told) =
+      let searched = searched_input s.limits t p has of is_of in
+      let (c, rightly) = right t of searched text told in
+      inr (of.ended.kind, c, is ∙ answer_of s t of.problem searched.0 of.ended.kind of.ended.opened of.ended.solids searched.1 c, rightly)
   found_input t (Fault fault) found (is, told) = inl (is, (fault, found, told))
 
-  found_answer : (finding : Finding) → AnswersFinding s.whole tells finding answer text → IsAnswerOf s answer
-  found_answer (Solids found) (is, told) = inr (found.ended.kind, length found.ended.solids, is)
+  found_answer : (found : Found) → AnswersFound s.limits s.whole tells found answer text → IsAnswerOf s answer
+  found_answer (Problem p) (of, is_of, is, told) = inr (of.ended.kind, length of.ended.solids, is)
   found_answer (Fault fault) (is, told) = inl is
 
   -- what is answered to what was found is owed
-  pub found_owed : (left rest : Option (List ℕ)) (finding : Finding) → IsFound s.limits left rest finding
-      → AnswersFinding s.whole tells finding answer text → AnswersOwed (searched s) left rest answer text
-  found_owed None rest finding found told = (found_answer finding told, tt)
-  found_owed (Some t) rest finding found told = (found_answer finding told, (found.0, found_input t finding found.1 told))
+  pub found_owed : (left rest : Option (List ℕ)) (found : Found) → IsFound left rest found
+      → AnswersFound s.limits s.whole tells found answer text → AnswersOwed (searched s) left rest answer text
+  found_owed None rest found is told = (found_answer found told, tt)
+  found_owed (Some t) rest found is told = (found_answer found told, (is.0, found_input t found is.1 told))

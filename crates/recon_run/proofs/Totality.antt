@@ -288,10 +288,10 @@ OwesSome (searched s) = TellsSome s
 OwesSome (alone right tells) = ((text : List ℕ) → tells text → ⊥) → ⊥
 
 some_owed : (j : Job) → IsCounted j → OwesSome (owed_for j)
-some_owed (job.Solve limits) counted = some_listing limits
-some_owed (job.Redraw which limits) counted = some_numbered IsFileOf some_written_file which counted limits
+some_owed (job.Solve workers limits) counted = some_listing limits
+some_owed (job.Redraw which workers limits) counted = some_numbered IsFileOf some_written_file which counted.0 limits
 some_owed (job.Make n) counted = some_written_file (made_solid n) (made_is_solid n)
-some_owed (job.Trial n) counted = tried_somehow n
+some_owed (job.Trial n workers) counted = tried_somehow n
 
 -- ---- some answer
 

@@ -1,8 +1,8 @@
 -- What is found in a file, and what is written of it.
 use Rattle.std.specs.Prelude.{◌≡◌, ◌⊎◌, Bool, ℕ, ◌+◌, ◌-◌, ◌<◌, List, [], ◌∷◌, ◌++◌, length, take, slice_get, Option, Some, Result, Ok, Err}
 use Rattle.std.specs.Io.KnownBytes.{Appends, Keeps}
-use Rattle.recon_run.specs.declared.solve.Finding.{Finding}
-use Rattle.recon_run.specs.declared.solve.Finding.TheVariants.{Solids, Fault}
+use Rattle.recon_run.specs.declared.found.Found.{Found}
+use Rattle.recon_run.specs.declared.found.Found.TheVariants.{Problem, Fault}
 use Rattle.recon_run.specs.declared.status.Answer.{Answer}
 use Rattle.recon_run.specs.declared.status.Answer.TheVariants as answers
 use Rattle.recon_run.specs.declared.status.Failure.{Failure}
@@ -30,14 +30,14 @@ use Rattle.tv_base.specs.Pieces.{AppendsPrefix}
 
 -- ---- what is found
 
--- a file's problem, and how its search within limits ended
-abbrev pub IsSearched : SearchLimits → List ℕ → SearchedParts → Type 0
-IsSearched limits t s = HasProblem t s.problem × EndsSearch (is_live s.problem) s.problem.blocks.count limits s.ended
+-- what is found in a file: its problem, or its first fault
+abbrev pub IsFoundIn : List ℕ → Found → Type 0
+IsFoundIn t (Problem p) = HasProblem t p
+IsFoundIn t (Fault fault) = IsFileFault t fault
 
--- what is found in a file: that, or its first fault
-abbrev pub IsFinding : SearchLimits → List ℕ → Finding → Type 0
-IsFinding limits t (Solids searched) = IsSearched limits t searched
-IsFinding limits t (Fault fault) = IsFileFault t fault
+-- a search of the problem within limits has ended so
+abbrev pub IsSearchOf : SearchLimits → ProblemParts → SearchedParts → Type 0
+IsSearchOf limits p s = (s.problem ≡ p) × EndsSearch (is_live p) p.blocks.count limits s.ended
 
 -- ---- what is told of it
 
@@ -112,11 +112,16 @@ figures_text n s = trial_text n s.problem.blocks.count (length s.ended.solids) s
 
 -- ---- the answer
 
--- What is answered to what was found, by the answer to a whole search and the texts that tell a search: the answer of its end and
--- such a text, or that the file is faulty.
-abbrev pub AnswersFinding : (ℕ → Answer) → (SearchedParts → List ℕ → Type 0) → Finding → Answer → List ℕ → Type 0
-AnswersFinding whole tells (Solids s) answer text = (answer ≡ answer_at whole s.ended.kind (length s.ended.solids)) × tells s text
-AnswersFinding whole tells (Fault fault) answer text = (answer ≡ answers.Faulty) × (text ≡ fault_text fault)
+-- What is answered to a problem that is searched within limits, by the answer to a whole search and the texts that tell a
+-- search: the answer of its end, and such a text.
+abbrev pub AnswersSearch : SearchLimits → (ℕ → Answer) → (SearchedParts → List ℕ → Type 0) → ProblemParts → Answer → List ℕ → Type 0
+AnswersSearch limits whole tells p answer text = (s : SearchedParts) × IsSearchOf limits p s
+    × (answer ≡ answer_at whole s.ended.kind (length s.ended.solids)) × tells s text
+
+-- the same of what was found; or that the file is faulty
+abbrev pub AnswersFound : SearchLimits → (ℕ → Answer) → (SearchedParts → List ℕ → Type 0) → Found → Answer → List ℕ → Type 0
+AnswersFound limits whole tells (Problem p) answer text = AnswersSearch limits whole tells p answer text
+AnswersFound limits whole tells (Fault fault) answer text = (answer ≡ answers.Faulty) × (text ≡ fault_text fault)
 
 -- these are this answer and this text
 abbrev pub IsReply : Answer → List ℕ → Answer → List ℕ → Type 0

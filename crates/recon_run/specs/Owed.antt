@@ -65,12 +65,12 @@ pub data Owed : Type 1 where
   searched : Search → Owed
   alone : Answer → (List ℕ → Type 0) → Owed
 
--- for each job: a command is one line
+-- for each job, however many work at it: a command is one line
 abbrev pub owed_for : Job → Owed
-owed_for (job.Solve limits) = searched (search_for_all limits)
-owed_for (job.Redraw which limits) = searched (search_for_one IsFileOf which limits)
+owed_for (job.Solve workers limits) = searched (search_for_all limits)
+owed_for (job.Redraw which workers limits) = searched (search_for_one IsFileOf which limits)
 owed_for (job.Make n) = alone answers.Done (IsFileOf (made_solid n))
-owed_for (job.Trial n) = alone answers.Done (IsTried n)
+owed_for (job.Trial n workers) = alone answers.Done (IsTried n)
 
 -- and for words that ask for none the usage line
 abbrev pub owed : Option Job → Owed

@@ -15,13 +15,16 @@ ghost use Rattle.tv_base.specs.Faults.{Rose};
 ghost use Rattle.tv_base.specs.Pieces.{ReadsWithin};
 ghost use Rattle.words.specs.Jobs.{IsCounted};
 
+use crate::crew::Crew;
+use crate::found::find;
 use crate::reply::redrawn;
-use crate::solve::find;
 use crate::status::{Answer, Failure, Status, code};
 use crate::trial::{made_file, trial};
-use crate::writing::{write_finding, write_reply};
+use crate::writing::{write_found, write_reply};
 use solid_model::Limits;
 use std::alloc::Global;
+use std::sync::Wait;
+use std::thread::Threads;
 use tv_base::{Gate, Sink, Source};
 use words::{Job, WordFault, job_of};
 
@@ -29,25 +32,32 @@ use words::{Job, WordFault, job_of};
 const USAGE: &str = "usage: recon solve|redraw|make|trial\n";
 
 /// Searches within limits for the solids of the drawing that the source has left, and writes them.
-fn solve<S: Source, K: Sink>(alloc: Global, limits: Limits, source: &mut S, sink: &mut K) -> Status
+fn solve<R: Threads + Wait + Sync, S: Source, K: Sink, G: Gate>(
+    alloc: Global,
+    limits: Limits,
+    source: &mut S,
+    sink: &mut K,
+    crew: &Crew<'_, R, G>,
+) -> Status
     ensures ends { Ends (searched (search_for_all limits)) (S.left source.old) (S.left source.new)
         (K.held sink.old) (K.held sink.new) (Rose (S.faults source.old) (S.faults source.new))
         (Rose (K.faults sink.old) (K.faults sink.new)) result }
     ensures within { ReadsWithin (S.left source.old) (S.left source.new) (most_file_bytes + 1) }
     ensures unwritten { result ≡ Err ReadFault → sink.new ≡ sink.old }
 {
-    let finding = find(alloc, source, limits)?;
-    write_finding(alloc, &finding, limits, sink)
+    let found = find(alloc, source)?;
+    write_found(alloc, found, limits, sink, crew)
 }
 
 /// Searches within limits for the solids of the drawing that the source has left, and writes the
 /// drawing of the one of this number, counted from 1.
-fn redraw<S: Source, K: Sink>(
+fn redraw<R: Threads + Wait + Sync, S: Source, K: Sink, G: Gate>(
     alloc: Global,
     which: u32,
     limits: Limits,
     source: &mut S,
     sink: &mut K,
+    crew: &Crew<'_, R, G>,
 ) -> Status
     requires { 1 ≤ which }
     ensures ends { Ends (searched (search_for_one IsFileOf which limits)) (S.left source.old)
@@ -57,14 +67,21 @@ fn redraw<S: Source, K: Sink>(
     ensures within { ReadsWithin (S.left source.old) (S.left source.new) (most_file_bytes + 1) }
     ensures unwritten { result ≡ Err ReadFault → sink.new ≡ sink.old }
 {
-    let finding = find(alloc, source, limits)?;
-    let reply = redrawn(alloc, &finding, which, limits)?;
+    let found = find(alloc, source)?;
+    let reply = redrawn(alloc, found, which, limits, crew)?;
     write_reply(reply.answer, reply.text.as_slice(), sink)
 }
 
 /// Does a job over what the source has left.
-fn do_job<S: Source, K: Sink>(alloc: Global, job: Job, source: &mut S, sink: &mut K) -> Status
-    requires { IsCounted job }
+fn do_job<R: Threads + Wait + Sync, S: Source, K: Sink, G: Gate>(
+    rt: &R,
+    alloc: Global,
+    job: Job,
+    source: &mut S,
+    sink: &mut K,
+    gate: &G,
+) -> Status
+    requires counted { IsCounted job }
     ensures ends { Ends (owed_for job) (S.left source.old) (S.left source.new) (K.held sink.old)
         (K.held sink.new) (Rose (S.faults source.old) (S.faults source.new))
         (Rose (K.faults sink.old) (K.faults sink.new)) result }
@@ -73,19 +90,34 @@ fn do_job<S: Source, K: Sink>(alloc: Global, job: Job, source: &mut S, sink: &mu
     ensures unwritten { result ≡ Err ReadFault → sink.new ≡ sink.old }
 {
     match job {
-        Job::Solve { limits } => solve(alloc, limits, source, sink),
-        Job::Redraw { which, limits } => redraw(alloc, which, limits, source, sink),
+        Job::Solve { workers, limits } => {
+            let crew = Crew { rt, workers, gate };
+            solve(alloc, limits, source, sink, &crew)
+        }
+        Job::Redraw {
+            which,
+            workers,
+            limits,
+        } => {
+            let crew = Crew { rt, workers, gate };
+            redraw(alloc, which, limits, source, sink, &crew)
+        }
         Job::Make { n } => write_reply(Answer::Done, made_file(alloc, n)?.as_slice(), sink),
-        Job::Trial { n } => write_reply(Answer::Done, trial(alloc, n)?.as_slice(), sink),
+        Job::Trial { n, workers } => {
+            let crew = Crew { rt, workers, gate };
+            write_reply(Answer::Done, trial(alloc, n, &crew)?.as_slice(), sink)
+        }
     }
 }
 
 /// Does what the arguments ask for.
-fn answer<S: Source, K: Sink>(
+fn answer<R: Threads + Wait + Sync, S: Source, K: Sink, G: Gate>(
+    rt: &R,
     alloc: Global,
     words: &[String],
     source: &mut S,
     sink: &mut K,
+    gate: &G,
 ) -> Status
     ensures ends { Ends (owed_to (map string_bytes words.now)) (S.left source.old)
         (S.left source.new) (K.held sink.old) (K.held sink.new)
@@ -100,7 +132,7 @@ fn answer<S: Source, K: Sink>(
         → Rose (K.faults sink.old) (K.faults sink.new) }
 {
     match job_of(alloc, words) {
-        Ok(job) => do_job(alloc, job, source, sink),
+        Ok(job) => do_job(rt, alloc, job, source, sink, gate),
         Err(WordFault::Usage) => write_reply(Answer::Usage, USAGE.as_bytes(), sink),
         Err(WordFault::Memory) => Err(Failure::Memory),
     }
@@ -111,18 +143,21 @@ fn answer<S: Source, K: Sink>(
 /// `solve` writes all solids of the drawing that the source's bytes show, within the limits that the
 /// options `--nodes` and `--solids` give; `redraw` writes the drawing of one of them, by its number;
 /// `make` writes a drawing that is made from a number, and `trial` what a search of that drawing
-/// finds. Other words give the usage line.
+/// finds. As many work at a search as `--workers` says, and they pass the gate at their points; the
+/// run waits for them, and what it answers doesn't depend on their number. Other words give the usage
+/// line.
 ///
 /// The status is 0 where a search was whole and lists all matching solids, or a drawing is written;
 /// 1 where what is searched has a fault, 2 where the arguments aren't taken, 3 or 4 where there are
 /// more live prefixes, or more solids, than their limit, 5 or 6 where the source or the sink failed,
 /// 7 where it ran out of memory, and 8 where there is no solid of the number that `redraw` is given.
-pub fn run<S: Source, K: Sink, G: Gate>(
+pub fn run<R: Threads + Wait + Sync, S: Source, K: Sink, G: Gate>(
+    rt: &R,
     alloc: Global,
     words: &[String],
     source: &mut S,
     sink: &mut K,
-    _gate: &G,
+    gate: &G,
 ) -> u8
     ensures ends { (status : Status) × (result ≡ status_code status)
         × Ends (owed_to (map string_bytes words.now)) (S.left source.old) (S.left source.new)
@@ -148,5 +183,5 @@ pub fn run<S: Source, K: Sink, G: Gate>(
     ensures write_fault { result ≡ failure_code WriteFault
         → Rose (K.faults sink.old) (K.faults sink.new) }
 {
-    code(answer(alloc, words, source, sink))
+    code(answer(rt, alloc, words, source, sink, gate))
 }

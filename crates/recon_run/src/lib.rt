@@ -2,11 +2,12 @@
 #![tactic(auto)]
 
 mod command;
+mod crew;
+mod found;
 mod laws;
 mod problem;
 mod reply;
 mod searched;
-mod solve;
 mod status;
 mod trial;
 mod writing;

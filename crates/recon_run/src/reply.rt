@@ -1,19 +1,23 @@
 //! Answers whose text is written in one piece.
 
 ghost use Rattle.std.specs.Prelude.{◌≡◌, ◌≤◌, length, IfOk};
-ghost use Rattle.recon_run.specs.declared.solve.Finding.TheVariants as finding;
 ghost use Rattle.recon_run.specs.declared.status.Answer.TheVariants as answers;
 ghost use Rattle.recon_run.specs.Answers.{numbered_answer};
-ghost use Rattle.recon_run.specs.Findings.{AnswersFinding, IsDrawingOf, TellsOne, TellsOneOf};
+ghost use Rattle.recon_run.specs.Findings.{AnswersFound, IsDrawingOf, TellsOne, TellsOneOf};
+ghost use Rattle.recon_run.specs.Owed.{answer_at};
 ghost use Rattle.report.specs.FaultText.{fault_text};
 
-use crate::searched::Searched;
-use crate::solve::Finding;
+use crate::crew::Crew;
+use crate::found::Found;
+use crate::searched::{Searched, search};
 use crate::status::Answer;
 use redraw::dxf_of;
 use report::{fault_text, no_solid_text};
 use solid_model::{Choice, EndKind, Fault, Limits, Memory, Problem};
 use std::alloc::Global;
+use std::sync::Wait;
+use std::thread::Threads;
+use tv_base::Gate;
 
 /// An answer and its text.
 #[derive(Drop)]
@@ -72,8 +76,9 @@ fn redrawn_search(
     limits: Limits,
 ) -> Result<Reply, Memory>
     requires { 1 ≤ which }
-    ensures { IfOk result (λ reply. AnswersFinding (numbered_answer which) (TellsOne limits which)
-        (finding.Solids searched.now) reply.answer reply.text.items) }
+    ensures answer { IfOk result (λ reply. reply.answer ≡ answer_at (numbered_answer which)
+        searched.now.ended.kind (length searched.now.ended.solids)) }
+    ensures text { IfOk result (λ reply. TellsOne limits which searched.now reply.text.items) }
 {
     match searched.ended().kind {
         EndKind::Whole => redrawn_solid(alloc, searched, which),
@@ -84,19 +89,24 @@ fn redrawn_search(
     }
 }
 
-/// What `redraw` replies, asked for the solid of this number, to what was found within limits.
-pub fn redrawn(
+/// What `redraw` replies, asked for the solid of this number, to what was found, which is searched
+/// within limits.
+pub fn redrawn<R: Threads + Wait + Sync, G: Gate>(
     alloc: Global,
-    finding: &Finding,
+    found: Found,
     which: u32,
     limits: Limits,
+    crew: &Crew<'_, R, G>,
 ) -> Result<Reply, Memory>
     requires { 1 ≤ which }
-    ensures { IfOk result (λ reply. AnswersFinding (numbered_answer which) (TellsOne limits which)
-        finding.now reply.answer reply.text.items) }
+    ensures { IfOk result (λ reply. AnswersFound limits (numbered_answer which)
+        (TellsOne limits which) found reply.answer reply.text.items) }
 {
-    match finding {
-        Finding::Solids(searched) => redrawn_search(alloc, searched, which, limits),
-        Finding::Fault(fault) => faulty(alloc, fault),
+    match found {
+        Found::Problem(problem) => {
+            let searched = search(alloc, problem, limits, crew)?;
+            redrawn_search(alloc, &searched, which, limits)
+        }
+        Found::Fault(fault) => faulty(alloc, &fault),
     }
 }

@@ -1,15 +1,17 @@
 //! Problems that are searched.
 
 ghost use Rattle.std.specs.Prelude.{◌≡◌, IfOk};
-ghost use Rattle.solid_model.specs.Demands.{is_live};
-ghost use Rattle.solid_model.specs.SearchEnds.{EndsSearch};
+ghost use Rattle.recon_run.specs.Findings.{IsSearchOf};
 
+use crate::crew::Crew;
 use report::head_text;
-use search_run::search_by_desk;
+use search_run::{NoPages, RunFault, run_search};
 use solid_model::{Ended, Limits, Memory, Problem};
 use std::alloc::Global;
 use std::marker::Model;
-use std::sync::Arc;
+use std::sync::{Arc, Wait};
+use std::thread::Threads;
+use tv_base::Gate;
 
 /// A problem, and how the search of it ended.
 #[derive(Drop)]
@@ -62,12 +64,20 @@ impl Searched {
 }
 
 /// Searches a problem within limits.
-pub fn search(alloc: Global, problem: Problem, limits: Limits) -> Result<Searched, Memory>
-    ensures problem { IfOk result (λ searched. searched.problem ≡ problem) }
-    ensures ended { IfOk result (λ searched. EndsSearch (is_live problem) problem.blocks.count
-        limits searched.ended) }
+pub fn search<R: Threads + Wait + Sync, G: Gate>(
+    alloc: Global,
+    problem: Problem,
+    limits: Limits,
+    crew: &Crew<'_, R, G>,
+) -> Result<Searched, Memory>
+    ensures { IfOk result (IsSearchOf limits problem) }
 {
     let problem = Arc::new(alloc, problem)?;
-    let ended = search_by_desk(alloc, &problem, limits)?;
-    Ok(Searched { problem, ended })
+    let shared = Arc::try_clone(&problem)?;
+    let (rt, workers, gate) = (crew.rt, crew.workers, crew.gate);
+    match run_search(rt, alloc, shared, limits, workers, gate, &mut NoPages) {
+        Ok((ended, _)) => Ok(Searched { problem, ended }),
+        Err(RunFault::Memory) => Err(Memory),
+        Err(RunFault::PageFault) => unreachable!(),
+    }
 }

@@ -6,6 +6,7 @@ ghost use Rattle.recon_run.specs.Answers.{IsTried};
 ghost use Rattle.recon_run.specs.Findings.{figures_text, first_choice_volume};
 ghost use Rattle.redraw.specs.Files.{IsFileOf};
 
+use crate::crew::Crew;
 use crate::problem::problem_of;
 use crate::searched::{Searched, search};
 use drawing_maker::make;
@@ -13,6 +14,9 @@ use redraw::dxf_of;
 use report::trial_text;
 use solid_model::{Limits, Memory, Refused};
 use std::alloc::Global;
+use std::sync::Wait;
+use std::thread::Threads;
+use tv_base::Gate;
 
 /// The written file of the solid that is made from a number.
 pub fn made_file(alloc: Global, n: u64) -> Result<Vec<u8>, Memory>
@@ -43,7 +47,11 @@ fn figures(alloc: Global, n: u64, searched: &Searched) -> Result<Vec<u8>, Memory
 
 /// What `trial` writes: that file is read, and its solids are searched for. It has no fault, and
 /// passes no limit.
-pub fn trial(alloc: Global, n: u64) -> Result<Vec<u8>, Memory>
+pub fn trial<R: Threads + Wait + Sync, G: Gate>(
+    alloc: Global,
+    n: u64,
+    crew: &Crew<'_, R, G>,
+) -> Result<Vec<u8>, Memory>
     ensures { IfOk result (λ text. IsTried n text.items) }
 {
     let file = made_file(alloc, n)?;
@@ -52,7 +60,7 @@ pub fn trial(alloc: Global, n: u64) -> Result<Vec<u8>, Memory>
         Err(Refused::Fault(_)) => unreachable!(),
         Err(Refused::Memory) => return Err(Memory),
     };
-    let searched = search(alloc, problem, Limits::DEFAULT)?;
+    let searched = search(alloc, problem, Limits::DEFAULT, crew)?;
     let text = figures(alloc, n, &searched)?;
     Ok(text)
 }

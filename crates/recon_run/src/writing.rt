@@ -2,18 +2,21 @@
 
 ghost use Rattle.std.specs.Prelude.{◌≡◌, ◌≤◌, length};
 ghost use Rattle.recon_run.specs.declared.status.Answer.TheVariants as answers;
-ghost use Rattle.recon_run.specs.Findings.{AnswersFinding, BeginsAll, BeginsChoices, EndsText, EndsWriting, IsReply, TellsAll, TellsChoice, TellsChoices};
+ghost use Rattle.recon_run.specs.Findings.{AnswersFound, AnswersSearch, BeginsAll, BeginsChoices, EndsText, EndsWriting, IsReply, TellsAll, TellsChoice, TellsChoices};
 ghost use Rattle.solid_model.specs.Limits.{most_solid_limit};
 ghost use Rattle.tv_base.specs.Faults.{Rose};
 
+use crate::crew::Crew;
+use crate::found::Found;
 use crate::reply::faulty;
-use crate::searched::Searched;
-use crate::solve::Finding;
+use crate::searched::{Searched, search};
 use crate::status::{Answer, Failure, Status};
 use report::solid_text;
 use solid_model::{Choice, Limits, Problem};
 use std::alloc::Global;
-use tv_base::{Sink, SinkError};
+use std::sync::Wait;
+use std::thread::Threads;
+use tv_base::{Gate, Sink, SinkError};
 
 /// Writes a text in one piece.
 fn write_text<K: Sink>(sink: &mut K, text: &[u8]) -> Result<(), Failure>
@@ -89,25 +92,40 @@ fn write_searched<K: Sink>(
     write_solids(alloc, searched.problem(), solids, sink)
 }
 
-/// Writes what `solve` answers to what was found within limits: the one answer that is written text
-/// by text.
-pub fn write_finding<K: Sink>(
+/// Writes what `solve` answers to a problem, which is searched within limits: the one answer that is
+/// written text by text.
+fn write_problem<R: Threads + Wait + Sync, K: Sink, G: Gate>(
     alloc: Global,
-    finding: &Finding,
+    problem: Problem,
     limits: Limits,
     sink: &mut K,
+    crew: &Crew<'_, R, G>,
 ) -> Status
-    ensures { EndsWriting (AnswersFinding (λ _. answers.Done) (TellsAll limits) finding.now)
-        (AnswersFinding (λ _. answers.Done) (BeginsAll limits) finding.now)
-        (K.held sink.old) (K.held sink.new) (Rose (K.faults sink.old) (K.faults sink.new)) result }
+    ensures { EndsWriting (AnswersSearch limits (λ _. answers.Done) (TellsAll limits) problem)
+        (AnswersSearch limits (λ _. answers.Done) (BeginsAll limits) problem) (K.held sink.old)
+        (K.held sink.new) (Rose (K.faults sink.old) (K.faults sink.new)) result }
 {
-    match finding {
-        Finding::Solids(searched) => {
-            write_searched(alloc, searched, limits, sink)?;
-            Ok(Answer::at_end(searched.ended().kind))
-        }
-        Finding::Fault(fault) => {
-            let reply = faulty(alloc, fault)?;
+    let searched = search(alloc, problem, limits, crew)?;
+    write_searched(alloc, &searched, limits, sink)?;
+    Ok(Answer::at_end(searched.ended().kind))
+}
+
+/// Writes what `solve` answers to what was found.
+pub fn write_found<R: Threads + Wait + Sync, K: Sink, G: Gate>(
+    alloc: Global,
+    found: Found,
+    limits: Limits,
+    sink: &mut K,
+    crew: &Crew<'_, R, G>,
+) -> Status
+    ensures { EndsWriting (AnswersFound limits (λ _. answers.Done) (TellsAll limits) found)
+        (AnswersFound limits (λ _. answers.Done) (BeginsAll limits) found) (K.held sink.old)
+        (K.held sink.new) (Rose (K.faults sink.old) (K.faults sink.new)) result }
+{
+    match found {
+        Found::Problem(problem) => write_problem(alloc, problem, limits, sink, crew),
+        Found::Fault(fault) => {
+            let reply = faulty(alloc, &fault)?;
             write_reply(reply.answer, reply.text.as_slice(), sink)
         }
     }

@@ -24,3 +24,5 @@ mod sets;
 mod texts;
 #[cfg(test)]
 mod values;
+#[cfg(test)]
+mod workers;

@@ -1,7 +1,7 @@
 //! Searches within limits that the words give.
 
-use crate::runs::run_words;
-use std::alloc::{AllocError, Global};
+use crate::runs::{Runtime, run_words};
+use std::alloc::AllocError;
 use std::test::Fail;
 use test_files::{Row, drawing_file, row_of};
 
@@ -14,7 +14,10 @@ rect S 0 0 3 3, rect D 1 1 2 2; solve|--nodes=2| -> 3 cut nodes 2;
 rect S 0 0 3 3, rect D 1 1 2 2; solve|--solids=1|--nodes|0003| -> 0 whole 1 nodes 3 blocks 2; 1
 lattice 2 2; solve|--solids|35| -> 0 whole 35 nodes 109 blocks 9; 35
 lattice 2 2; solve|--nodes|109|--solids=34| -> 4 cut solids 34; 34
-lattice 2 2; solve|--solids=65536|--nodes=4000000| -> 0 whole 35 nodes 109 blocks 9; 35";
+lattice 2 2; solve|--solids=65536|--nodes=4000000| -> 0 whole 35 nodes 109 blocks 9; 35
+rect S 0 0 3 3, rect D 1 1 2 2; solve|--nodes=2|--workers|3| -> 3 cut nodes 2;
+lattice 2 2; solve|--workers=3|--solids|34| -> 4 cut solids 34; 34
+lattice 2 2; solve|--workers=3|--nodes|108| -> 3 cut nodes 108;";
 
 /// How many solids a text tells.
 fn solid_count(text: &str) -> u32 {
@@ -28,11 +31,11 @@ fn solid_count(text: &str) -> u32 {
 }
 
 /// Whether a row's run writes what the row has.
-fn is_told(alloc: Global, row: Row<'_>) -> Result<bool, AllocError> {
+fn is_told<R: Runtime>(rt: &R, row: Row<'_>) -> Result<bool, AllocError> {
     let [strokes, words, ..] = row.parts;
-    let wrote = run_words(alloc, words, drawing_file(alloc, [strokes; 3])?)?;
+    let wrote = run_words(rt, words, drawing_file(rt.alloc(), [strokes; 3])?)?;
     let (head, rest) = wrote.as_str().split_once('\n').unwrap_or(("", ""));
-    let told = format!(in alloc; "{head}; {}", solid_count(rest))?;
+    let told = format!(in rt.alloc(); "{head}; {}", solid_count(rest))?;
     let is_open = row.wanted.ends_with(';') && told.starts_with(row.wanted);
     Ok(is_open || told.as_str() == row.wanted)
 }
@@ -40,7 +43,7 @@ fn is_told(alloc: Global, row: Row<'_>) -> Result<bool, AllocError> {
 #[test]
 fn limits_are_those_that_are_asked_for(rt: HostRuntime) -> Result<(), Fail> {
     for line in RUNS.lines() {
-        assert!(rt; is_told(rt.alloc(), row_of(line))?, "{line}");
+        assert!(rt; is_told(&rt, row_of(line))?, "{line}");
     }
     Ok(())
 }
@@ -51,7 +54,7 @@ const LATTICE: [&str; 3] = ["lattice 15 21", "lattice 15 13", "lattice 13 21"];
 #[test]
 fn as_many_blocks_as_may_be_are_searched(rt: HostRuntime) -> Result<(), Fail> {
     let file = drawing_file(rt.alloc(), LATTICE)?;
-    let wrote = run_words(rt.alloc(), "solve|--nodes|1|", file)?;
+    let wrote = run_words(&rt, "solve|--nodes|1|", file)?;
     assert_eq!(rt; wrote.as_str(), "3 cut nodes 1\n");
     Ok(())
 }

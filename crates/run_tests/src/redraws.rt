@@ -1,6 +1,6 @@
 //! Drawings that are written: redrawn, and made.
 
-use crate::runs::{run_in_one_piece, run_words};
+use crate::runs::{Runtime, run_in_one_piece, run_words};
 use drawing_maker::make;
 use recon_run::problem_of;
 use std::alloc::{AllocError, Global};
@@ -19,6 +19,7 @@ rect S 0 0 3 3, rect D 1 1 2 2; rect S 0 0 3 3, rect D 1 1 2 2; rect S 0 0 3 3, 
     redraw|--nodes|2|1| -> 3 cut nodes 2
 lattice 2 2; lattice 2 2; lattice 2 2; redraw|1|--solids=34| -> 4 cut solids 34
 lattice 2 2; lattice 2 2; lattice 2 2; redraw|36| -> 8 none 36 of 35
+lattice 2 2; lattice 2 2; lattice 2 2; redraw|--workers=3|36| -> 8 none 36 of 35
 rect S 0 0 2 1; rect S 0 0 1 1; rect S 0 0 1 1; redraw|1| -> 8 none 1 of 0
 rect S 0 0 1 1; rect S 0 0 1 1; line S 3 3 3 3; redraw|1| -> 1 fault F14 EmptyView view SIDE
 line S 0 0 6 0, line S 4 0 10 0, line D 2 0 9 0, line S 0 10 10 10, line S 0 0 0 10, \
@@ -44,9 +45,9 @@ fn wanted_text(alloc: Global, wanted: &str) -> Result<String, AllocError> {
 }
 
 /// What a row's run writes.
-fn told_run(alloc: Global, row: Row<'_>) -> Result<String, AllocError> {
+fn told_run<R: Runtime>(rt: &R, row: Row<'_>) -> Result<String, AllocError> {
     let [_, _, _, words, _] = row.parts;
-    run_in_one_piece(alloc, words, drawing_file(alloc, row.views())?)
+    run_in_one_piece(rt, words, drawing_file(rt.alloc(), row.views())?)
 }
 
 #[test]
@@ -54,11 +55,7 @@ fn drawings_are_redrawn(rt: HostRuntime) -> Result<(), Fail> {
     for line in REDRAWS.lines() {
         let row = row_of(line);
         let wanted = wanted_text(rt.alloc(), row.wanted)?;
-        assert_eq!(rt;
-            told_run(rt.alloc(), row)?.as_str(),
-            wanted.as_str(),
-            "{line}"
-        );
+        assert_eq!(rt; told_run(&rt, row)?.as_str(), wanted.as_str(), "{line}");
     }
     Ok(())
 }
@@ -72,49 +69,49 @@ const STEP: [&str; 3] = [
 ];
 
 /// The text of a run that ends with status 0.
-fn written(alloc: Global, words: &str, file: String) -> Result<String, Fail> {
-    let wrote = run_words(alloc, words, file)?;
+fn written<R: Runtime>(rt: &R, words: &str, file: String) -> Result<String, Fail> {
+    let wrote = run_words(rt, words, file)?;
     let text = wrote.as_str().strip_prefix("0 ").ok_or("a drawing")?;
-    Ok(String::from_str(alloc, text)?)
+    Ok(String::from_str(rt.alloc(), text)?)
 }
 
 /// The drawing of a solid that a drawing shows, redrawn by these words.
-fn redrawn(alloc: Global, words: &str, views: [&str; 3]) -> Result<String, Fail> {
-    written(alloc, words, drawing_file(alloc, views)?)
+fn redrawn<R: Runtime>(rt: &R, words: &str, views: [&str; 3]) -> Result<String, Fail> {
+    written(rt, words, drawing_file(rt.alloc(), views)?)
 }
 
 /// Whether the redrawn file of a drawing shows the same solids.
-fn shows_the_same(alloc: Global, views: [&str; 3]) -> Result<bool, Fail> {
-    let again = run_words(alloc, "solve|", redrawn(alloc, "redraw|1|", views)?)?;
-    let solids = run_words(alloc, "solve|", drawing_file(alloc, views)?)?;
+fn shows_the_same<R: Runtime>(rt: &R, views: [&str; 3]) -> Result<bool, Fail> {
+    let again = run_words(rt, "solve|", redrawn(rt, "redraw|1|", views)?)?;
+    let solids = run_words(rt, "solve|", drawing_file(rt.alloc(), views)?)?;
     Ok(again.as_str() == solids.as_str() && solids.starts_with("0 whole 1 "))
 }
 
 #[test]
 fn a_redrawn_file_shows_the_same_solids(rt: HostRuntime) -> Result<(), Fail> {
-    assert!(rt; shows_the_same(rt.alloc(), STEP)?);
+    assert!(rt; shows_the_same(&rt, STEP)?);
     Ok(())
 }
 
 #[test]
 fn solids_of_one_drawing_are_redrawn_alike(rt: HostRuntime) -> Result<(), Fail> {
-    let first = redrawn(rt.alloc(), "redraw|1|", ["lattice 2 2"; 3])?;
-    let last = redrawn(rt.alloc(), "redraw|35|", ["lattice 2 2"; 3])?;
+    let first = redrawn(&rt, "redraw|1|", ["lattice 2 2"; 3])?;
+    let last = redrawn(&rt, "redraw|35|", ["lattice 2 2"; 3])?;
     assert_eq!(rt; first.as_str(), last.as_str());
     Ok(())
 }
 
 /// How many blocks the made drawing of a number has.
-fn made_blocks(alloc: Global, words: &str) -> Result<u16, Fail> {
-    let file = file_bytes(written(alloc, words, String::new(alloc))?)?;
-    Ok(problem_of(alloc, file)?.blocks().count())
+fn made_blocks<R: Runtime>(rt: &R, words: &str) -> Result<u16, Fail> {
+    let file = file_bytes(written(rt, words, String::new(rt.alloc()))?)?;
+    Ok(problem_of(rt.alloc(), file)?.blocks().count())
 }
 
 /// The drawing of 7 has two cubes with eight voids, four with one, and eight full ones: 2 times 9, 4
 /// times 2 and 8 blocks.
 #[test]
 fn a_made_drawing_has_its_blocks(rt: HostRuntime) -> Result<(), Fail> {
-    assert_eq!(rt; made_blocks(rt.alloc(), "make|7|")?, 34);
+    assert_eq!(rt; made_blocks(&rt, "make|7|")?, 34);
     Ok(())
 }
 
@@ -149,18 +146,24 @@ fn numbers_make_grids_of_so_many_cells(rt: HostRuntime) -> Result<(), Fail> {
 /// program found.
 const TRIALS: &str = "\
 trial|11| -> 0 trial 11 pieces 14 blocks 27 solids 35 nodes 739 volume 108471
-trial|7| -> 0 trial 7 pieces 14 blocks 34 solids 1225 nodes 22299 volume 24245";
+trial|11|--workers=1| -> 0 trial 11 pieces 14 blocks 27 solids 35 nodes 739 volume 108471
+trial|--workers|2|11| -> 0 trial 11 pieces 14 blocks 27 solids 35 nodes 739 volume 108471
+trial|11|--workers=8| -> 0 trial 11 pieces 14 blocks 27 solids 35 nodes 739 volume 108471
+trial|7| -> 0 trial 7 pieces 14 blocks 34 solids 1225 nodes 22299 volume 24245
+trial|7|--workers=1| -> 0 trial 7 pieces 14 blocks 34 solids 1225 nodes 22299 volume 24245
+trial|7|--workers=2| -> 0 trial 7 pieces 14 blocks 34 solids 1225 nodes 22299 volume 24245
+trial|7|--workers|8| -> 0 trial 7 pieces 14 blocks 34 solids 1225 nodes 22299 volume 24245";
 
 /// Whether a row's trial writes its line.
-fn tries_so(alloc: Global, row: Row<'_>) -> Result<bool, AllocError> {
-    let wrote = run_words(alloc, row.told, String::new(alloc))?;
+fn tries_so<R: Runtime>(rt: &R, row: Row<'_>) -> Result<bool, AllocError> {
+    let wrote = run_words(rt, row.told, String::new(rt.alloc()))?;
     Ok(wrote.as_str().strip_suffix("\n") == Some(row.wanted))
 }
 
 #[test]
 fn trials_find_their_figures(rt: HostRuntime) -> Result<(), Fail> {
     for line in TRIALS.lines() {
-        assert!(rt; tries_so(rt.alloc(), row_of(line))?, "{line}");
+        assert!(rt; tries_so(&rt, row_of(line))?, "{line}");
     }
     Ok(())
 }

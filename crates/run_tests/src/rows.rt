@@ -10,7 +10,7 @@
 
 use crate::drawings::DRAWINGS;
 use crate::entities::ENTITIES;
-use crate::runs::{UNIT_CUBE, solve};
+use crate::runs::{Runtime, UNIT_CUBE, solve};
 use crate::texts::{SIZES, TEXTS};
 use crate::values::{LINETYPES, NUMERALS};
 use std::alloc::{AllocError, Global};
@@ -65,9 +65,9 @@ fn is_wanted(wrote: &str, wanted: &str) -> bool {
 }
 
 /// Whether a row is right.
-fn is_right(alloc: Global, frame: &str, row: Row<'_>) -> Result<bool, AllocError> {
-    let wrote = solve(alloc, told_file(alloc, frame, row)?)?;
-    let wanted = wanted_text(alloc, row.wanted)?;
+fn is_right<R: Runtime>(rt: &R, frame: &str, row: Row<'_>) -> Result<bool, AllocError> {
+    let wrote = solve(rt, told_file(rt.alloc(), frame, row)?)?;
+    let wanted = wanted_text(rt.alloc(), row.wanted)?;
     Ok(match wrote.as_str().strip_suffix('\n') {
         Some(wrote) => is_wanted(wrote, wanted.as_str()),
         None => false,
@@ -75,11 +75,11 @@ fn is_right(alloc: Global, frame: &str, row: Row<'_>) -> Result<bool, AllocError
 }
 
 /// The first row of a table that isn't right; nothing where all are.
-fn wrong_row(alloc: Global, table: &str) -> Result<&str, AllocError> {
+fn wrong_row<'a, R: Runtime>(rt: &R, table: &'a str) -> Result<&'a str, AllocError> {
     for framed in table.split("\n= ").skip(1) {
         let (frame, rows) = framed.split_once('\n').unwrap_or((framed, ""));
         for line in rows.lines() {
-            if !line.starts_with("-- ") && !is_right(alloc, frame, row_of(line))? {
+            if !line.starts_with("-- ") && !is_right(rt, frame, row_of(line))? {
                 return Ok(line);
             }
         }
@@ -90,7 +90,7 @@ fn wrong_row(alloc: Global, table: &str) -> Result<&str, AllocError> {
 #[test]
 fn files_give_their_texts(rt: HostRuntime) -> Result<(), Fail> {
     for table in [TEXTS, ENTITIES, LINETYPES, NUMERALS, DRAWINGS] {
-        let row = wrong_row(rt.alloc(), table)?;
+        let row = wrong_row(&rt, table)?;
         assert!(rt; row.is_empty(), "{row}");
     }
     Ok(())
@@ -98,7 +98,7 @@ fn files_give_their_texts(rt: HostRuntime) -> Result<(), Fail> {
 
 #[test]
 fn files_at_the_limits_give_their_texts(rt: HostRuntime) -> Result<(), Fail> {
-    let row = wrong_row(rt.alloc(), SIZES)?;
+    let row = wrong_row(&rt, SIZES)?;
     assert!(rt; row.is_empty(), "{row}");
     Ok(())
 }

@@ -2,42 +2,61 @@
 
 use recon_run::run;
 use std::alloc::{AllocError, Global};
+use std::sync::Wait;
 use std::test::Fail;
+use std::thread::Threads;
 use test_files::{Row, file_of, row_of};
 use tv_base::{MemSink, MemSource, OpenGate};
 
+/// What a run is given to run on.
+pub trait Runtime: AllocGlobal + Threads + Wait + Sync {}
+
+impl<R: AllocGlobal + Threads + Wait + Sync> Runtime for R {}
+
 /// The status and the text of a run. The sink's calls fail as `faults` says.
-fn run_over(
-    alloc: Global,
+fn run_over<R: Runtime>(
+    rt: &R,
     words: &str,
     source: &mut MemSource,
     faults: Vec<(u32, usize)>,
 ) -> Result<String, AllocError> {
-    let mut command = Vec::new(alloc);
+    let mut command = Vec::new(rt.alloc());
     for word in words.split_terminator('|') {
-        command.push(String::from_str(alloc, word)?)?;
+        command.push(String::from_str(rt.alloc(), word)?)?;
     }
     let mut sink = MemSink::new(faults);
-    let status = run(alloc, command.as_slice(), source, &mut sink, &OpenGate);
+    let status = run(
+        rt,
+        rt.alloc(),
+        command.as_slice(),
+        source,
+        &mut sink,
+        &OpenGate,
+    );
     let text = std::str::from_utf8(sink.bytes()).unwrap_or("no text");
-    format!(in alloc; "{status} {text}")
+    format!(in rt.alloc(); "{status} {text}")
 }
 
 /// The status and the text of `solve` over a file.
-pub fn solve(alloc: Global, file: String) -> Result<String, AllocError> {
-    run_words(alloc, "solve|", file)
+pub fn solve<R: Runtime>(rt: &R, file: String) -> Result<String, AllocError> {
+    run_words(rt, "solve|", file)
 }
 
 /// The status and the text of a run with these words over a file.
-pub fn run_words(alloc: Global, words: &str, file: String) -> Result<String, AllocError> {
-    let mut source = MemSource::new(file.into_bytes(), Vec::new(alloc));
-    run_over(alloc, words, &mut source, Vec::new(alloc))
+pub fn run_words<R: Runtime>(rt: &R, words: &str, file: String) -> Result<String, AllocError> {
+    let mut source = MemSource::new(file.into_bytes(), Vec::new(rt.alloc()));
+    run_over(rt, words, &mut source, Vec::new(rt.alloc()))
 }
 
 /// The same over a sink whose second call would fail: what answers in one piece calls it once.
-pub fn run_in_one_piece(alloc: Global, words: &str, file: String) -> Result<String, AllocError> {
+pub fn run_in_one_piece<R: Runtime>(
+    rt: &R,
+    words: &str,
+    file: String,
+) -> Result<String, AllocError> {
+    let alloc = rt.alloc();
     let mut source = MemSource::new(file.into_bytes(), Vec::new(alloc));
-    run_over(alloc, words, &mut source, vec![in alloc; (2, 0usize)]?)
+    run_over(rt, words, &mut source, vec![in alloc; (2, 0usize)]?)
 }
 
 /// The file of the unit cube.
@@ -48,15 +67,23 @@ fn cube_file(alloc: Global) -> Result<String, AllocError> {
 /// Whether this is what a run over the unit cube's file writes, and then `solve` for what is left of
 /// the source. The source's call of the number `read` fails, and the sink's call of the number
 /// `write`, after ten bytes; the calls count from 1.
-fn writes(
-    alloc: Global,
+fn writes<R: Runtime>(
+    rt: &R,
     words: &str,
     [read, write]: [u32; 2],
     [first, second]: [&str; 2],
 ) -> Result<bool, AllocError> {
-    let mut source = MemSource::new(cube_file(alloc)?.into_bytes(), vec![in alloc; read]?);
-    let wrote = run_over(alloc, words, &mut source, vec![in alloc; (write, 10usize)]?)?;
-    let rest = run_over(alloc, "solve|", &mut source, Vec::new(alloc))?;
+    let mut source = MemSource::new(
+        cube_file(rt.alloc())?.into_bytes(),
+        vec![in rt.alloc(); read]?,
+    );
+    let wrote = run_over(
+        rt,
+        words,
+        &mut source,
+        vec![in rt.alloc(); (write, 10usize)]?,
+    )?;
+    let rest = run_over(rt, "solve|", &mut source, Vec::new(rt.alloc()))?;
     Ok(wrote.as_str() == first && rest.as_str() == second)
 }
 
@@ -75,6 +102,10 @@ solve|--nodes=|
 solve|--nodes||
 solve|--nodes|3|--nodes|3|
 solve|--solids|65537|
+solve|--workers|0|
+solve|--workers|65|
+solve|--workers|2|--workers|2|
+make|7|--workers|2|
 solve|--node|3|
 solve|--pages|
 solve|--help|
@@ -103,14 +134,14 @@ const NOTHING_LEFT: &str = "1 fault F4 NoEof line 1\n";
 
 /// Whether words aren't taken, the source isn't read, and the sink is called once: its second call
 /// would fail.
-fn is_usage(alloc: Global, words: &str) -> Result<bool, AllocError> {
-    writes(alloc, words, [0, 2], [USAGE, UNIT_CUBE])
+fn is_usage<R: Runtime>(rt: &R, words: &str) -> Result<bool, AllocError> {
+    writes(rt, words, [0, 2], [USAGE, UNIT_CUBE])
 }
 
 #[test]
 fn other_words_are_not_taken(rt: HostRuntime) -> Result<(), Fail> {
     for words in OTHER_WORDS.lines() {
-        assert!(rt; is_usage(rt.alloc(), words)?, "{words}");
+        assert!(rt; is_usage(&rt, words)?, "{words}");
     }
     Ok(())
 }
@@ -136,17 +167,17 @@ fn text_of_left(left: &str) -> &'static str {
 }
 
 /// Whether a run ends as its row has it, and leaves of the source what the row says.
-fn ends_so(alloc: Global, row: Row<'_>) -> Result<bool, AllocError> {
+fn ends_so<R: Runtime>(rt: &R, row: Row<'_>) -> Result<bool, AllocError> {
     let [read, write, words, left, _] = row.parts;
     let calls = [read.parse().unwrap_or(0), write.parse().unwrap_or(0)];
-    let wanted = row.wanted.replace(alloc, "|", "\n")?;
-    writes(alloc, words, calls, [wanted.as_str(), text_of_left(left)])
+    let wanted = row.wanted.replace(rt.alloc(), "|", "\n")?;
+    writes(rt, words, calls, [wanted.as_str(), text_of_left(left)])
 }
 
 #[test]
 fn faulty_runs_end_so(rt: HostRuntime) -> Result<(), Fail> {
     for line in FAULTS.lines() {
-        assert!(rt; ends_so(rt.alloc(), row_of(line))?, "{line}");
+        assert!(rt; ends_so(&rt, row_of(line))?, "{line}");
     }
     Ok(())
 }

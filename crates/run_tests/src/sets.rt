@@ -1,6 +1,6 @@
 //! Small solids, drawn by their columns of cells.
 
-use crate::runs::solve;
+use crate::runs::{Runtime, solve};
 use recon_run::problem_of;
 use solid_model::{Axis, Choice, Grid, PerAxis, Problem, View};
 use std::alloc::{AllocError, Global};
@@ -132,11 +132,11 @@ fn tells(alloc: Global, problem: &Problem, line: &str, set: u8) -> Result<bool, 
 }
 
 /// Whether a set is listed for its own drawing, with its volume.
-fn is_found(alloc: Global, set: u8) -> Result<bool, Fail> {
-    let problem = problem_of(alloc, file_bytes(drawn_file(alloc, set)?)?)?;
-    let wrote = solve(alloc, drawn_file(alloc, set)?)?;
+fn is_found<R: Runtime>(rt: &R, set: u8) -> Result<bool, Fail> {
+    let problem = problem_of(rt.alloc(), file_bytes(drawn_file(rt.alloc(), set)?)?)?;
+    let wrote = solve(rt, drawn_file(rt.alloc(), set)?)?;
     for line in wrote.as_str().lines().skip(1) {
-        if tells(alloc, &problem, line, moved(set))? {
+        if tells(rt.alloc(), &problem, line, moved(set))? {
             return Ok(true);
         }
     }
@@ -146,7 +146,7 @@ fn is_found(alloc: Global, set: u8) -> Result<bool, Fail> {
 #[test]
 fn every_small_set_is_found_again(rt: HostRuntime) -> Result<(), Fail> {
     for set in 1..=255u8 {
-        assert!(rt; is_found(rt.alloc(), set)?, "the set {set}");
+        assert!(rt; is_found(&rt, set)?, "the set {set}");
     }
     Ok(())
 }

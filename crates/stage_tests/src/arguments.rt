@@ -5,17 +5,18 @@ use std::test::Fail;
 use test_files::row_of;
 use words::{Job, WordFault, job_of};
 
-/// Words, divided by commas, and what they ask for: of a search the limits of nodes and of solids.
+/// Words, divided by commas, and what they ask for: of a search how many work at it, and the limits of
+/// nodes and of solids.
 const WORDS: &str = "\
-solve -> solve 1000000 4096
+solve -> solve 1 1000000 4096
  -> usage
-solve, --nodes, 3 -> solve 3 4096
-solve, --nodes=2 -> solve 2 4096
-solve, --solids, 65536 -> solve 1000000 65536
-solve, --solids=1 -> solve 1000000 1
-solve, --nodes, 0003, --solids=0000000000000000000000000000000000000000000007 -> solve 3 7
-solve, --solids=5, --nodes=4000000 -> solve 4000000 5
-solve, --solids, 6, --nodes, 1 -> solve 1 6
+solve, --nodes, 3 -> solve 1 3 4096
+solve, --nodes=2 -> solve 1 2 4096
+solve, --solids, 65536 -> solve 1 1000000 65536
+solve, --solids=1 -> solve 1 1000000 1
+solve, --nodes, 0003, --solids=0000000000000000000000000000000000000000000007 -> solve 1 3 7
+solve, --solids=5, --nodes=4000000 -> solve 1 4000000 5
+solve, --solids, 6, --nodes, 1 -> solve 1 1 6
 solve, --nodes, 0 -> usage
 solve, --nodes=4000001 -> usage
 solve, --solids=0 -> usage
@@ -59,8 +60,26 @@ solve, --Nodes, 3 -> usage
 solve, -nodes, 3 -> usage
 solve, -n, 3 -> usage
 solve, --=3 -> usage
-solve, --workers, 2 -> usage
+solve, --workers, 1 -> solve 1 1000000 4096
+solve, --workers, 64 -> solve 64 1000000 4096
+solve, --workers=2, --nodes, 0003 -> solve 2 3 4096
+solve, --solids=5, --workers=0008 -> solve 8 1000000 5
+solve, --workers, 0 -> usage
+solve, --workers, 65 -> usage
+solve, --workers -> usage
+solve, --workers= -> usage
+solve, --workers, 2, --workers, 2 -> usage
+solve, --worker, 2 -> usage
 solve, --pages -> usage
+solve, --pages, --workers, 2 -> usage
+solve, --solids, 6, --pages, --nodes=1 -> usage
+solve, --pages= -> usage
+solve, --pages=1 -> usage
+solve, --pages=true -> usage
+solve, --pages, 1 -> usage
+solve, --pages, --pages -> usage
+solve, --nodes, --pages -> usage
+solve, --page -> usage
 solve, --number, 3 -> usage
 solve, -h -> usage
 solve, --help -> usage
@@ -72,10 +91,10 @@ solv -> usage
 Solve -> usage
 solve  -> usage
 --nodes, 3, solve -> usage
-redraw, 3 -> redraw 3 1000000 4096
-redraw, 0065536 -> redraw 65536 1000000 4096
-redraw, --nodes, 5, 1 -> redraw 1 5 4096
-redraw, 2, --solids=7, --nodes=5 -> redraw 2 5 7
+redraw, 3 -> redraw 3 1 1000000 4096
+redraw, 0065536 -> redraw 65536 1 1000000 4096
+redraw, --nodes, 5, 1 -> redraw 1 1 5 4096
+redraw, 2, --solids=7, --nodes=5 -> redraw 2 1 5 7
 redraw -> usage
 redraw, 0 -> usage
 redraw, 65537 -> usage
@@ -85,7 +104,9 @@ redraw, 1, 2 -> usage
 redraw, 1, 1 -> usage
 redraw, --nodes, 1 -> usage
 redraw, --number, 1 -> usage
-redraw, 1, --workers, 2 -> usage
+redraw, 1, --workers, 2 -> redraw 1 2 1000000 4096
+redraw, --workers=3, 4, --nodes, 5 -> redraw 4 3 5 4096
+redraw, 1, --workers, 0 -> usage
 redraw, 1, --pages -> usage
 redraw, -- , 1 -> usage
 redraw, 1, --nodes -> usage
@@ -100,12 +121,16 @@ make -> usage
 make, -7 -> usage
 make, 7, 7 -> usage
 make, 7, --nodes, 3 -> usage
+make, 7, --workers, 2 -> usage
 make, --n=7 -> usage
-trial, 7 -> trial 7
-trial, 007 -> trial 7
+trial, 7 -> trial 7 1
+trial, 007 -> trial 7 1
 trial -> usage
 trial, 7, --solids=3 -> usage
-trial, 7, --workers, 2 -> usage
+trial, 7, --workers, 2 -> trial 7 2
+trial, --workers=64, 7 -> trial 7 64
+trial, 7, --workers, 65 -> usage
+trial, 7, --pages -> usage
 trail, 7 -> usage
 +3 -> usage
 -- -> usage
@@ -125,12 +150,19 @@ fn words_of(alloc: Global, told: &str) -> Result<Vec<String>, Fail> {
 /// What a job is, as in the table.
 fn job_text(alloc: Global, job: Job) -> Result<String, Fail> {
     Ok(match job {
-        Job::Solve { limits } => { format!(in alloc; "solve {} {}", limits.nodes, limits.solids)? }
-        Job::Redraw { which, limits } => {
-            format!(in alloc; "redraw {which} {} {}", limits.nodes, limits.solids)?
+        Job::Solve { workers, limits } => {
+            format!(in alloc; "solve {workers} {} {}", limits.nodes, limits.solids)?
         }
+        Job::Redraw {
+            which,
+            workers,
+            limits,
+        } => format!(in alloc;
+            "redraw {which} {workers} {} {}",
+            limits.nodes, limits.solids
+        )?,
         Job::Make { n } => format!(in alloc; "make {n}")?,
-        Job::Trial { n } => format!(in alloc; "trial {n}")?,
+        Job::Trial { n, workers } => format!(in alloc; "trial {n} {workers}")?,
     })
 }
 

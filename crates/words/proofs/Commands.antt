@@ -1,14 +1,15 @@
 -- What words say, by the command that their first one calls.
-use Rattle.std.proofs.Common.{◌≡◌, ◌∙◌, ◌≤◌, refl, sym, ap, subst, Bool, true, false, cond, List, [], ◌∷◌, map, drop, length, slice_index_or, Option, Some, None, codes, arith}
+use Rattle.std.proofs.Common.{◌≡◌, ◌∙◌, ◌≤◌, refl, sym, ℕ, ap, subst, Bool, true, false, cond, List, [], ◌∷◌, map, drop, length, slice_index_or, Option, Some, None, codes, arith}
 use Rattle.std.specs.Prelude.{option_map}
 use Rattle.std.specs.Str.{bytes_eq}
 use Rattle.std.proofs.lemmas.Slice.Eq.{bytes_eq-Decides}
 use Rattle.solid_model.specs.Limits.{most_solid_limit}
 use Rattle.solid_model.specs.Lists.{Each}
 use Rattle.words.specs.declared.job.Job.{Job}
-use Rattle.words.specs.Jobs.{Command, IsCounted, command_said, commands, job_said, number_in, redraw_table, said_among}
-use Rattle.words.specs.Words.{Text, Use, number_name, taken, text_in}
-use Rattle.words.proofs.Values.{read_within, value_within}
+use Rattle.words.specs.Jobs.{AreWorkers, Command, IsCounted, command_said, commands, job_said, most_workers, number_in, redraw_table, said_among, solve_table, trial_table, workers_field, workers_in}
+use Rattle.words.specs.Rows.{is_sound}
+use Rattle.words.specs.Words.{Table, Text, Use, number_name, number_or, taken, text_in}
+use Rattle.words.proofs.Values.{called, read_within, value_within}
 
 -- the first of some words is the command's name
 pub said_by_name : {S : Type 0} (bytes : S → Text) (words : List S) (first : S) (name : Text) → 1 ≤ length words
@@ -17,12 +18,6 @@ pub said_by_name : {S : Type 0} (bytes : S → Text) (words : List S) (first : S
 said_by_name bytes [] first name some is named = absurd (omega arith)
 said_by_name bytes (w ∷ ws) first name some is named =
     ap (λ n. said_among commands n (map bytes ws)) (ap bytes (sym is) ∙ sym named)
-
--- what is made of a value is made of what the value comes from
-pub made_again : {A B C : Type 0} (f : A → B) (g : B → C) (o : Option A) (b : B) → option_map f o ≡ Some b
-    → option_map (λ a. g (f a)) o ≡ Some (g b)
-made_again f g None b e = cc
-made_again f g (Some a) b e = ap (option_map g) e
 
 not_called : (name wanted : Text) → (name ≡ wanted → ⊥) → bytes_eq name wanted ≡ false
 not_called name wanted other = go (bytes_eq name wanted) refl
@@ -42,20 +37,20 @@ unknown_unsaid name words not_solve not_redraw not_make not_trial =
       not_called name (codes "trial") not_trial,
     )
 
--- ---- numbers of solids
+-- ---- numbers of solids and of workers
 
--- a command asks for solids by their numbers from 1 on
-abbrev CountsSolids : Command → Type 0
-CountsSolids c = (words : List Text) (us : List Use) → taken c.table words ≡ Some us → IsCounted (c.job us)
+-- the numbers that a command's words ask for can be met
+abbrev Counts : Command → Type 0
+Counts c = (words : List Text) (us : List Use) → taken c.table words ≡ Some us → IsCounted (c.job us)
 
-counted_said : (c : Command) → CountsSolids c → (words : List Text) (j : Job) → command_said c words ≡ Some j → IsCounted j
+counted_said : (c : Command) → Counts c → (words : List Text) (j : Job) → command_said c words ≡ Some j → IsCounted j
 counted_said c counts words j said = by (taken c.table words) refl said
   where
     by : (o : Option (List Use)) → taken c.table words ≡ o → option_map c.job o ≡ Some j → IsCounted j
     by None is e = cc
     by (Some us) is e = subst IsCounted (let same : c.job us ≡ j = cc in same) (counts words us is)
 
-counted_among : (cs : List Command) → Each CountsSolids cs → (name : Text) (words : List Text) (j : Job) → said_among cs name words ≡ Some j → IsCounted j
+counted_among : (cs : List Command) → Each Counts cs → (name : Text) (words : List Text) (j : Job) → said_among cs name words ≡ Some j → IsCounted j
 counted_among [] each name words j said = cc
 counted_among (c ∷ cs) each name words j said = by (bytes_eq name c.name) (counted_among cs each.1 name words j) said
   where
@@ -64,14 +59,28 @@ counted_among (c ∷ cs) each name words j said = by (bytes_eq name c.name) (cou
     by true later e = counted_said c each.0 words j e
     by false later e = later e
 
--- `redraw` takes a number that is 1 at least
-redraw_counts : (words : List Text) (us : List Use) → taken redraw_table words ≡ Some us → 1 ≤ number_in us
-redraw_counts words us is = (read_within 1 most_solid_limit 1 (text_in number_name us)
-    (value_within redraw_table refl words us number_name (record { least = 1; most = most_solid_limit }) is refl)
-    (omega arith) (omega arith)).0
+-- what a command takes as the value of a name lies in its range, where what stands for nothing does
+within : (t : Table) (name : Text) (least most otherwise : ℕ) → is_sound t ≡ true
+    → called t name ≡ Some (record { name = name; range = Some (record { least = least; most = most }) })
+    → least ≤ otherwise → otherwise ≤ most → (words : List Text) (us : List Use) → taken t words ≡ Some us
+    → (least ≤ number_or us name otherwise) × (number_or us name otherwise ≤ most)
+within t name least most otherwise sound found low high words us is = read_within least most otherwise (text_in name us)
+    (value_within t sound words us name (record { least = least; most = most }) is found) low high
 
--- so words that ask for a solid count it from 1
+-- a command that takes it has as many workers as may be
+has_workers : (t : Table) → is_sound t ≡ true → called t (codes "workers") ≡ Some workers_field
+    → (words : List Text) (us : List Use) → taken t words ≡ Some us → AreWorkers (workers_in us)
+has_workers t sound found = within t (codes "workers") 1 most_workers 1 sound found (omega arith) (omega arith)
+
+-- `redraw` takes a number that is 1 at least
+redraw_counts : (words : List Text) (us : List Use) → taken redraw_table words ≡ Some us → (1 ≤ number_in us) × AreWorkers (workers_in us)
+redraw_counts words us is = (
+  (within redraw_table number_name 1 most_solid_limit 1 refl refl (omega arith) (omega arith) words us is).0,
+  has_workers redraw_table refl refl words us is,
+)
+
+-- so the numbers of a job that words ask for can be met
 pub said_is_counted : (words : List Text) (j : Job) → job_said words ≡ Some j → IsCounted j
 said_is_counted [] j said = cc
-said_is_counted (name ∷ words) j said =
-    counted_among commands ((λ ws us is. tt), (redraw_counts, ((λ ws us is. tt), ((λ ws us is. tt), tt)))) name words j said
+said_is_counted (name ∷ words) j said = counted_among commands
+    (has_workers solve_table refl refl, (redraw_counts, ((λ ws us is. tt), (has_workers trial_table refl refl, tt)))) name words j said

@@ -1,5 +1,5 @@
 -- The values that are read: those of uses that fit lie in their ranges, and are read as their numbers.
-use Rattle.std.proofs.Common.{◌≡◌, ◌∙◌, refl, sym, ap, ap₂, subst, ℕ, ◌<◌, ◌≤◌, ◌^◌, Bool, true, false, cond, ◌&&◌, ◌==◌, eqb-true, List, [], ◌∷◌, ◌++◌, length, Option, Some, None, IfSome, Result, Ok, Err, nat_le, arith, true≢false, ltb-true, leb-true, codes}
+use Rattle.std.proofs.Common.{◌≡◌, ◌∙◌, refl, sym, ap, ap₂, subst, ℕ, ◌<◌, ◌≤◌, ◌^◌, Bool, true, false, cond, ◌&&◌, ◌==◌, eqb-true, List, [], ◌∷◌, ◌++◌, length, Option, Some, None, IfSome, is_some, ◌||◌, Result, Ok, Err, nat_le, arith, true≢false, ltb-true, leb-true, codes}
 use Rattle.std.specs.Prelude.{⊤, if◌then◌else◌, option_map, unwrap_or}
 use Rattle.std.specs.List.{find, list_all}
 use Rattle.std.specs.Char.{digit_value, is_ascii_digit}
@@ -15,7 +15,7 @@ use Rattle.words.specs.Barred.{begins_with_plus}
 use Rattle.clap.specs.Words.{found_of, one_text}
 use Rattle.clap.specs.declared.parser.matches.ArgMatches.{ArgMatches}
 use Rattle.words.specs.Rows.{IsRead, has_flag, is_sound}
-use Rattle.words.specs.Words.{Field, Table, Text, Use, Word, after_word, field_word, fits_after, flag_text, has_number, is_digits, lies_in_range, number_field, number_name, number_word, opens, option_of, option_word, put, says, stray, suits, taken, text_in, uses, where_fit, word_as, word_of}
+use Rattle.words.specs.Words.{Field, Table, Text, Use, Word, after_word, field_word, fits_after, flag_text, has_number, is_digits, is_used, lies_in_range, number_field, number_name, number_word, opens, option_of, option_word, put, says, stray, suits, taken, text_in, uses, where_fit, word_as, word_of}
 use Rattle.words.proofs.Built.{no_number_option}
 use Rattle.words.proofs.Fits.{found_named}
 use Rattle.words.proofs.Texts.{digit_same, plus_kept}
@@ -162,6 +162,31 @@ given_within t u words m name r is sound read found plain =
     subst (λ (o : Option Text). IfSome o (λ text. lies_in_range r text ≡ true))
     (sym (got.2 name ∙ ap (λ b. cond b (Some (unwrap_or (text_in name got.0) (codes "false"))) (text_in name got.0)) plain))
     (value_within t sound words got.0 name r got.1 found)
+
+-- a name has a value where it is used
+used_text : (name : Text) (us : List Use) → is_used name us ≡ is_some (text_in name us)
+used_text name [] = refl
+used_text name (u ∷ us) = go (bytes_eq u.0.name name) (used_text name us)
+  where
+    go : (b : Bool) → is_used name us ≡ is_some (text_in name us) → (b || is_used name us)
+        ≡ is_some (option_map (λ (v : Use). v.1) (cond b (Some u) (find (λ v. bytes_eq v.0.name name) us)))
+    go true e = refl
+    go false e = e
+
+-- a flag of a table is read so, where the words are taken: whether it is used
+pub flag_read : (t : Table) (words : List Text) (m : ArgMatches) (name : Text) (flag : Bool) → is_sound t ≡ true
+    → (read : IsRead t words m) → called t name ≡ Some (record { name = name; range = None }) → has_flag t.options name ≡ true
+    → (one_text (found_of m) name ≡ Some (codes "true") → flag ≡ true)
+    → (one_text (found_of m) name ≡ Some (codes "false") → flag ≡ false) → flag ≡ is_used name read.0
+flag_read t words m name flag sound read found is_flag on off =
+    go (text_in name read.0) (flag_within t sound words read.0 name read.1 found)
+    (read.2 name ∙ ap (λ b. cond b (Some (unwrap_or (text_in name read.0) (codes "false"))) (text_in name read.0)) is_flag)
+    ∙ sym (used_text name read.0)
+  where
+    go : (o : Option Text) → IfSome o (λ x. x ≡ flag_text) → one_text (found_of m) name ≡ Some (unwrap_or o (codes "false"))
+        → flag ≡ is_some o
+    go None h is = off is
+    go (Some x) h is = on (is ∙ ap Some h)
 
 -- ---- how a value is read
 

@@ -9,6 +9,14 @@ use Rattle.words.specs.Words.{Field, Table, Text, Use, number_name, number_or, t
 
 -- ---- what commands take
 
+-- the most workers of a search
+abbrev pub most_workers : ℕ
+most_workers = 64
+
+-- `--workers`, how many work at a search
+abbrev pub workers_field : Field
+workers_field = record { name = codes "workers"; range = Some (record { least = 1; most = most_workers }) }
+
 -- `--nodes`, the limit of live prefixes
 abbrev pub nodes_field : Field
 nodes_field = record { name = codes "nodes"; range = Some (record { least = 1; most = most_node_limit }) }
@@ -18,22 +26,30 @@ abbrev pub solids_field : Field
 solids_field = record { name = codes "solids"; range = Some (record { least = 1; most = most_solid_limit }) }
 
 -- the options of a search
-abbrev pub limit_fields : List Field
-limit_fields = nodes_field ∷ solids_field ∷ []
+abbrev pub search_fields : List Field
+search_fields = workers_field ∷ nodes_field ∷ solids_field ∷ []
 
--- what `solve` takes: the options of a search, and no number
+-- what `solve` takes: these, and no number
 abbrev pub solve_table : Table
-solve_table = record { options = limit_fields; number = None }
+solve_table = record { options = search_fields; number = None }
 
 -- what `redraw` takes: these, and the number of a solid, counted from 1
 abbrev pub redraw_table : Table
-redraw_table = record { options = limit_fields; number = Some (record { least = 1; most = most_solid_limit }) }
+redraw_table = record { options = search_fields; number = Some (record { least = 1; most = most_solid_limit }) }
 
--- what `make` and `trial` take: no option, and any number of 64 bits
-abbrev pub seed_table : Table
-seed_table = record { options = []; number = Some (record { least = 0; most = 18446744073709551615 }) }
+-- what `make` takes: no option, and any number of 64 bits
+abbrev pub make_table : Table
+make_table = record { options = []; number = Some (record { least = 0; most = 18446744073709551615 }) }
+
+-- what `trial` takes: how many work at its search, and such a number
+abbrev pub trial_table : Table
+trial_table = record { options = workers_field ∷ []; number = Some (record { least = 0; most = 18446744073709551615 }) }
 
 -- ---- what they are asked
+
+-- one worker, where the words say nothing else
+abbrev pub workers_in : List Use → ℕ
+workers_in us = number_or us (codes "workers") 1
 
 -- a search within 1,000,000 live prefixes and 4,096 solids, where the words say nothing else
 abbrev pub limits_in : List Use → SearchLimits
@@ -51,10 +67,10 @@ pub record Command : Type 0 where
 
 -- all of them
 abbrev pub commands : List Command
-commands = record { name = codes "solve"; table = solve_table; job = λ us. job.Solve (limits_in us) }
-    ∷ record { name = codes "redraw"; table = redraw_table; job = λ us. job.Redraw (number_in us) (limits_in us) }
-    ∷ record { name = codes "make"; table = seed_table; job = λ us. job.Make (number_in us) }
-    ∷ record { name = codes "trial"; table = seed_table; job = λ us. job.Trial (number_in us) } ∷ []
+commands = record { name = codes "solve"; table = solve_table; job = λ us. job.Solve (workers_in us) (limits_in us) }
+    ∷ record { name = codes "redraw"; table = redraw_table; job = λ us. job.Redraw (number_in us) (workers_in us) (limits_in us) }
+    ∷ record { name = codes "make"; table = make_table; job = λ us. job.Make (number_in us) }
+    ∷ record { name = codes "trial"; table = trial_table; job = λ us. job.Trial (number_in us) (workers_in us) } ∷ []
 
 -- the job that the words after a command's name say, where the command takes them
 abbrev pub command_said : Command → List Text → Option Job
@@ -70,9 +86,13 @@ abbrev pub job_said : List Text → Option Job
 job_said [] = None
 job_said (name ∷ words) = said_among commands name words
 
--- a job that asks for a solid counts it from 1
+-- so many may work at a search
+abbrev pub AreWorkers : ℕ → Type 0
+AreWorkers workers = (1 ≤ workers) × (workers ≤ most_workers)
+
+-- the numbers that a job asks for can be met: it counts solids from 1, and as many work at it as may
 abbrev pub IsCounted : Job → Type 0
-IsCounted (job.Redraw which limits) = 1 ≤ which
-IsCounted (job.Solve limits) = Unit {0}
+IsCounted (job.Solve workers limits) = AreWorkers workers
+IsCounted (job.Redraw which workers limits) = (1 ≤ which) × AreWorkers workers
 IsCounted (job.Make n) = Unit {0}
-IsCounted (job.Trial n) = Unit {0}
+IsCounted (job.Trial n workers) = AreWorkers workers

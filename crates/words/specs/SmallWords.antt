@@ -13,11 +13,16 @@ words_in line = slice_split (λ c. c == 32) line
 abbrev pub job_in : Text → Option Job
 job_in line = job_said (words_in line)
 
-abbrev pub search_within : ℕ → ℕ → Option Job
-search_within nodes solids = Some (job.Solve (record { nodes = nodes; solids = solids }))
+-- a search by so many workers, within limits
+abbrev pub search_by : ℕ → ℕ → ℕ → Option Job
+search_by workers nodes solids = Some (job.Solve workers (record { nodes = nodes; solids = solids }))
 
-abbrev pub redrawn : ℕ → ℕ → ℕ → Option Job
-redrawn which nodes solids = Some (job.Redraw which (record { nodes = nodes; solids = solids }))
+-- by one worker
+abbrev pub search_within : ℕ → ℕ → Option Job
+search_within = search_by 1
+
+abbrev pub redrawn : ℕ → ℕ → ℕ → ℕ → Option Job
+redrawn which workers nodes solids = Some (job.Redraw which workers (record { nodes = nodes; solids = solids }))
 
 -- whether any of the lines is taken
 abbrev pub any_said : List Text → Bool

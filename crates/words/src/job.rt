@@ -1,13 +1,13 @@
 //! Jobs, and the words that ask for them.
 
-ghost use Rattle.std.specs.Prelude.{◌≡◌, true, false, None, Some, map, drop, string_bytes, IfSome, MatchResult, codes, option_map, unwrap_or};
+ghost use Rattle.std.specs.Prelude.{◌≡◌, ◌≤◌, true, false, None, Some, map, drop, string_bytes, IfSome, MatchResult, codes, option_map, unwrap_or};
 ghost use Rattle.std.specs.List.{list_any};
 ghost use Rattle.std.specs.Str.Parse.{digits_value};
 ghost use Rattle.clap.specs.Words.{found_of, one_text};
 ghost use Rattle.words.specs.declared.job.Job.TheVariants as job;
 ghost use Rattle.words.specs.declared.job.WordFault.TheVariants as word_fault;
 ghost use Rattle.words.specs.Barred.{is_barred};
-ghost use Rattle.words.specs.Jobs.{job_said, limits_in, number_in, redraw_table, seed_table, solve_table};
+ghost use Rattle.words.specs.Jobs.{job_said, limits_in, make_table, number_in, redraw_table, solve_table, trial_table, workers_in};
 ghost use Rattle.words.specs.Rows.{table_of};
 ghost use Rattle.words.specs.Words.{lies_in_range, number_name, taken};
 
@@ -21,14 +21,26 @@ use std::alloc::Global;
 /// What the words ask for.
 #[derive(Clone, Copy, Debug)]
 pub enum Job {
-    /// A search for the solids of a drawing.
-    Solve { limits: Limits },
+    /// A search for the solids of a drawing, by so many workers.
+    Solve {
+        workers: u32,
+        limits: Limits,
+    },
     /// The drawing of one of these solids, by its number, counted from 1.
-    Redraw { which: u32, limits: Limits },
+    Redraw {
+        which: u32,
+        workers: u32,
+        limits: Limits,
+    },
     /// The drawing that is made from a number.
-    Make { n: u64 },
+    Make {
+        n: u64,
+    },
     /// A search for the solids of that drawing.
-    Trial { n: u64 },
+    Trial {
+        n: u64,
+        workers: u32,
+    },
 }
 
 /// Why there is no job.
@@ -39,6 +51,8 @@ pub enum WordFault {
     /// Out of memory.
     Memory,
 }
+
+const WORKERS: Range = Range { least: 1, most: 64 };
 
 const NODES: Range = Range {
     least: 1,
@@ -55,23 +69,31 @@ const SEEDS: Range = Range {
     most: u64::MAX,
 };
 
-static LIMIT_OPTIONS: [Row<'static>; 2] = [
-    Row {
-        name: "nodes",
-        range: Some(NODES),
-    },
-    Row {
-        name: "solids",
-        range: Some(SOLIDS),
-    },
-];
+const WORKERS_ROW: Row<'static> = Row {
+    name: "workers",
+    range: Some(WORKERS),
+};
+
+const NODES_ROW: Row<'static> = Row {
+    name: "nodes",
+    range: Some(NODES),
+};
+
+const SOLIDS_ROW: Row<'static> = Row {
+    name: "solids",
+    range: Some(SOLIDS),
+};
+
+static SEARCH_ROWS: [Row<'static>; 3] = [WORKERS_ROW, NODES_ROW, SOLIDS_ROW];
+
+static TRIAL_ROWS: [Row<'static>; 1] = [WORKERS_ROW];
 
 /// What `solve` takes.
 fn solve_rows() -> Rows<'static>
     ensures { table_of result ≡ solve_table }
 {
     Rows {
-        options: LIMIT_OPTIONS.as_slice(),
+        options: SEARCH_ROWS.as_slice(),
         number: None,
     }
 }
@@ -81,19 +103,39 @@ fn redraw_rows() -> Rows<'static>
     ensures { table_of result ≡ redraw_table }
 {
     Rows {
-        options: LIMIT_OPTIONS.as_slice(),
+        options: SEARCH_ROWS.as_slice(),
         number: Some(SOLIDS),
     }
 }
 
-/// What `make` and `trial` take.
-fn seed_rows() -> Rows<'static>
-    ensures { table_of result ≡ seed_table }
+/// What `make` takes.
+fn make_rows() -> Rows<'static>
+    ensures { table_of result ≡ make_table }
 {
     Rows {
         options: &[],
         number: Some(SEEDS),
     }
+}
+
+/// What `trial` takes.
+fn trial_rows() -> Rows<'static>
+    ensures { table_of result ≡ trial_table }
+{
+    Rows {
+        options: TRIAL_ROWS.as_slice(),
+        number: Some(SEEDS),
+    }
+}
+
+/// How many workers a search has, by its option.
+fn workers_of(matches: &ArgMatches<'_>) -> u32
+    requires { IfSome (one_text (found_of matches.now) (codes "workers"))
+        (λ text. lies_in_range (record { least = 1; most = 64 }) text ≡ true) }
+    ensures { result ≡ unwrap_or (option_map (digits_value 10)
+        (one_text (found_of matches.now) (codes "workers"))) 1 }
+{
+    number_or(matches, "workers", WORKERS.least, WORKERS.most, 1) as u32
 }
 
 /// The limits of a search, by its options.
@@ -123,7 +165,7 @@ fn limits_of(matches: &ArgMatches<'_>) -> Limits
 fn solve_of(alloc: Global, words: &[String]) -> Result<Job, WordFault>
     requires { list_any is_barred (map string_bytes words.now) ≡ false }
     ensures { MatchResult result
-        (λ asked. option_map (λ us. job.Solve (limits_in us))
+        (λ asked. option_map (λ us. job.Solve (workers_in us) (limits_in us))
         (taken solve_table (drop 1 (map string_bytes words.now))) ≡ Some asked)
         (λ e. e ≡ word_fault.Usage
         → taken solve_table (drop 1 (map string_bytes words.now)) ≡ None) }
@@ -131,6 +173,7 @@ fn solve_of(alloc: Global, words: &[String]) -> Result<Job, WordFault>
     let table = solve_rows();
     let matches = parse(alloc, &table, words)?;
     Ok(Job::Solve {
+        workers: workers_of(&matches),
         limits: limits_of(&matches),
     })
 }
@@ -139,7 +182,7 @@ fn solve_of(alloc: Global, words: &[String]) -> Result<Job, WordFault>
 fn redraw_of(alloc: Global, words: &[String]) -> Result<Job, WordFault>
     requires { list_any is_barred (map string_bytes words.now) ≡ false }
     ensures { MatchResult result
-        (λ asked. option_map (λ us. job.Redraw (number_in us) (limits_in us))
+        (λ asked. option_map (λ us. job.Redraw (number_in us) (workers_in us) (limits_in us))
         (taken redraw_table (drop 1 (map string_bytes words.now))) ≡ Some asked)
         (λ e. e ≡ word_fault.Usage
         → taken redraw_table (drop 1 (map string_bytes words.now)) ≡ None) }
@@ -149,32 +192,63 @@ fn redraw_of(alloc: Global, words: &[String]) -> Result<Job, WordFault>
     let which = number_or(&matches, "number", SOLIDS.least, SOLIDS.most, 1);
     Ok(Job::Redraw {
         which: which as u32,
+        workers: workers_of(&matches),
         limits: limits_of(&matches),
     })
 }
 
-/// The number of `make` and `trial`.
-fn seed_of(alloc: Global, words: &[String]) -> Result<u64, WordFault>
+/// The number that something is made from.
+fn seed_of(matches: &ArgMatches<'_>) -> u64
+    requires { IfSome (one_text (found_of matches.now) (codes "number"))
+        (λ text. lies_in_range (record { least = 0; most = 18446744073709551615 }) text ≡ true) }
+    ensures { result ≡ unwrap_or (option_map (digits_value 10)
+        (one_text (found_of matches.now) (codes "number"))) 1 }
+{
+    number_or(matches, "number", SEEDS.least, SEEDS.most, 1)
+}
+
+/// The job of `make`.
+fn make_of(alloc: Global, words: &[String]) -> Result<Job, WordFault>
     requires { list_any is_barred (map string_bytes words.now) ≡ false }
     ensures { MatchResult result
-        (λ n. option_map number_in (taken seed_table (drop 1 (map string_bytes words.now)))
-        ≡ Some n)
+        (λ asked. option_map (λ us. job.Make (number_in us))
+        (taken make_table (drop 1 (map string_bytes words.now))) ≡ Some asked)
         (λ e. e ≡ word_fault.Usage
-        → taken seed_table (drop 1 (map string_bytes words.now)) ≡ None) }
+        → taken make_table (drop 1 (map string_bytes words.now)) ≡ None) }
 {
-    let table = seed_rows();
+    let table = make_rows();
     let matches = parse(alloc, &table, words)?;
-    Ok(number_or(&matches, "number", SEEDS.least, SEEDS.most, 1))
+    Ok(Job::Make {
+        n: seed_of(&matches),
+    })
+}
+
+/// The job of `trial`.
+fn trial_of(alloc: Global, words: &[String]) -> Result<Job, WordFault>
+    requires { list_any is_barred (map string_bytes words.now) ≡ false }
+    ensures { MatchResult result
+        (λ asked. option_map (λ us. job.Trial (number_in us) (workers_in us))
+        (taken trial_table (drop 1 (map string_bytes words.now))) ≡ Some asked)
+        (λ e. e ≡ word_fault.Usage
+        → taken trial_table (drop 1 (map string_bytes words.now)) ≡ None) }
+{
+    let table = trial_rows();
+    let matches = parse(alloc, &table, words)?;
+    Ok(Job::Trial {
+        n: seed_of(&matches),
+        workers: workers_of(&matches),
+    })
 }
 
 /// The job that the words ask for: the program's arguments, the first of which is the command.
 ///
-/// `solve` takes `--nodes` from 1 to 4,000,000, by default 1,000,000, and `--solids` from 1 to
-/// 65,536, by default 4,096. `redraw` takes these, and a number from 1 to 65,536, which must be
-/// there; `make` and `trial` take a number below 2 to the power 64, which must be there. Options and
-/// the number stand in any order, each at most once; an option is written as `--name value` or as
-/// `--name=value`. A value is one or more digits; leading zeros count for nothing. `Usage` comes
-/// exactly where the words aren't taken.
+/// `solve` takes `--workers` from 1 to 64, by default 1, `--nodes` from 1 to 4,000,000, by default
+/// 1,000,000, and `--solids` from 1 to 65,536, by default 4,096. `redraw` takes these, and a number
+/// from 1 to 65,536, which must be there. `make` and `trial` take a number below 2 to the power 64,
+/// which must be there, and `trial` takes `--workers`.
+/// Options and the number stand in any order, each at most once; an option is written as
+/// `--name value` or as `--name=value`. A value is one or more digits; leading zeros count for
+/// nothing. `Usage` comes exactly where the words aren't taken.
 pub fn job_of(alloc: Global, words: &[String]) -> Result<Job, WordFault>
     ensures { MatchResult result
         (λ job. job_said (map string_bytes words.now) ≡ Some job)
@@ -189,12 +263,8 @@ pub fn job_of(alloc: Global, words: &[String]) -> Result<Job, WordFault>
     match command.as_str() {
         "solve" => solve_of(alloc, words),
         "redraw" => redraw_of(alloc, words),
-        "make" => Ok(Job::Make {
-            n: seed_of(alloc, words)?,
-        }),
-        "trial" => Ok(Job::Trial {
-            n: seed_of(alloc, words)?,
-        }),
+        "make" => make_of(alloc, words),
+        "trial" => trial_of(alloc, words),
         _ => Err(WordFault::Usage),
     }
 }

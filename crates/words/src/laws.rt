@@ -1,9 +1,9 @@
 //! The laws over the definitions. Each is the contract of a function that does nothing.
 
-ghost use Rattle.std.specs.Prelude.{◌≡◌, ◌∷◌, [], Some, None, false, codes};
+ghost use Rattle.std.specs.Prelude.{◌≡◌, ◌∷◌, [], Some, None, true, false, codes};
 ghost use Rattle.words.specs.declared.job.Job.TheVariants as job;
 ghost use Rattle.words.specs.Jobs.{job_said};
-ghost use Rattle.words.specs.SmallWords.{any_given, any_said, given_in, job_in, redrawn, search_within};
+ghost use Rattle.words.specs.SmallWords.{any_given, any_said, given_in, job_in, redrawn, search_by, search_within};
 
 /// Words that are taken, with what they ask for, worked out by hand: both forms of an option, in
 /// either order and on either side of a number, and leading zeros.
@@ -16,11 +16,15 @@ pub fn small_jobs()
     ensures order { job_in (codes "solve --solids 65536 --nodes=4000000")
         ≡ search_within 4000000 65536 }
     ensures least { job_in (codes "solve --nodes=1 --solids 1") ≡ search_within 1 1 }
-    ensures redraw { job_in (codes "redraw 02") ≡ redrawn 2 1000000 4096 }
-    ensures between { job_in (codes "redraw --nodes 5 1 --solids=6") ≡ redrawn 1 5 6 }
+    ensures workers { job_in (codes "solve --workers=064") ≡ search_by 64 1000000 4096 }
+    ensures all { job_in (codes "solve --nodes=3 --workers 2 --solids=4") ≡ search_by 2 3 4 }
+    ensures redraw { job_in (codes "redraw 02") ≡ redrawn 2 1 1000000 4096 }
+    ensures between { job_in (codes "redraw --nodes 5 1 --solids=6 --workers=3")
+        ≡ redrawn 1 3 5 6 }
     ensures make { job_in (codes "make 18446744073709551615")
         ≡ Some (job.Make 18446744073709551615) }
-    ensures trial { job_in (codes "trial 0") ≡ Some (job.Trial 0) }
+    ensures trial { job_in (codes "trial 0") ≡ Some (job.Trial 0 1) }
+    ensures tried { job_in (codes "trial --workers 8 7") ≡ Some (job.Trial 7 8) }
 {}
 
 /// Words that no job is said by, worked out by hand.
@@ -30,8 +34,10 @@ pub fn refused_words()
         ∷ codes "--nodes 3 solve" ∷ codes "--nodes=3" ∷ codes "solve=" ∷ []) ≡ false }
     ensures numbers { any_said (codes "redraw" ∷ codes "redraw 0" ∷ codes "redraw 65537"
         ∷ codes "redraw 1 2" ∷ codes "redraw --number 1" ∷ codes "make" ∷ codes "make -1"
-        ∷ codes "make 7 --nodes 3" ∷ codes "make 18446744073709551616" ∷ codes "trial"
-        ∷ codes "trial 7 7" ∷ codes "trial --solids=3 7" ∷ []) ≡ false }
+        ∷ codes "make 7 --nodes 3" ∷ codes "make --workers 2 7"
+        ∷ codes "make 18446744073709551616" ∷ codes "trial"
+        ∷ codes "trial 7 7" ∷ codes "trial --solids=3 7" ∷ codes "trial 7 --pages"
+        ∷ []) ≡ false }
     ensures more { any_said (codes "solve 4" ∷ codes "solve solve" ∷ codes "solve "
         ∷ codes "solve --nodes 3 4" ∷ codes "solve --nodes=3 4" ∷ codes "solve -" ∷ []) ≡ false }
     ensures values { any_said (codes "solve --nodes" ∷ codes "solve --nodes="
@@ -40,9 +46,12 @@ pub fn refused_words()
         ∷ codes "solve --nodes 0x3" ∷ codes "solve --nodes  3" ∷ []) ≡ false }
     ensures ranges { any_said (codes "solve --nodes 0" ∷ codes "solve --nodes=4000001"
         ∷ codes "solve --solids=0" ∷ codes "solve --solids 65537"
-        ∷ codes "solve --nodes 18446744073709551617" ∷ []) ≡ false }
+        ∷ codes "solve --nodes 18446744073709551617" ∷ codes "solve --workers 0"
+        ∷ codes "solve --workers=65" ∷ codes "trial 7 --workers 65" ∷ []) ≡ false }
     ensures repeats { any_said (codes "solve --nodes 2 --nodes 2"
-        ∷ codes "solve --solids=3 --nodes 2 --solids 3" ∷ []) ≡ false }
+        ∷ codes "solve --solids=3 --nodes 2 --solids 3" ∷ codes "solve --workers 2 --workers 2" ∷ []) ≡ false }
+    ensures flags { any_said (codes "solve --pages=" ∷ codes "solve --pages=1"
+        ∷ codes "solve --pages" ∷ codes "redraw 1 --pages" ∷ []) ≡ false }
     ensures names { any_said (codes "solve --node 3" ∷ codes "solve --nodess 3"
         ∷ codes "solve --Nodes 3" ∷ codes "solve -nodes 3" ∷ codes "solve -n 3"
         ∷ codes "solve --=3" ∷ codes "solve --number 3" ∷ codes "solve -h" ∷ codes "solve --help"

@@ -37,7 +37,7 @@ returns-in_ok-trial-in-Trial-clause-ends g c =
     let sink_rose = Rose (g.K.Sink.faults c.args.sink.now) (g.K.Sink.faults c.write_reply-in-Trial.new.sink) in
     let told = subst (IsTried n) (sym c.as_slice-in-Trial.ensures.value) c.in_ok-trial-in-Trial.ensures in
     subst (λ j. Ends (owed_for j) left left held now source_rose sink_rose c.write_reply-in-Trial.result) (sym c.in-Trial.is)
-    (reply_ends (owed_for (job.Trial n)) left left held now source_rose sink_rose answers.Done c.as_slice-in-Trial.result.now (refl, refl, told) (refl, refl, told)
+    (reply_ends (owed_for (job.Trial n c.in-Trial.workers)) left left held now source_rose sink_rose answers.Done c.as_slice-in-Trial.result.now (refl, refl, told) (refl, refl, told)
     c.write_reply-in-Trial.result c.write_reply-in-Trial.ensures)
 
 pub returns-in_ok-trial-in-Trial-clause-unwritten : goal.returns-in_ok-trial-in-Trial-clause-unwritten

@@ -15,7 +15,7 @@ returns-clause-ends g c =
     let left = g.S.Source.left c.args.source.now in let rest = g.S.Source.left c.find.new.source in
     let right = subst (AnswersOwed (searched (search_for_one IsFileOf which limits)) left rest reply.answer) (sym c.as_slice.ensures.value)
     (found_owed (search_for_one IsFileOf which limits) (TellsOne limits which) (one_told which limits c.requires) reply.answer reply.text.items left rest
-    c.in_ok-finding.finding c.in_ok-finding.ensures.found c.in_ok-reply.ensures) in
+    c.in_ok-found.found c.in_ok-found.ensures.found c.in_ok-reply.ensures) in
     reply_ends (searched (search_for_one IsFileOf which limits)) left rest (g.K.Sink.held c.args.sink.now) (g.K.Sink.held c.write_reply.new.sink)
     (Rose (g.S.Source.faults c.args.source.now) (g.S.Source.faults c.find.new.source))
     (Rose (g.K.Sink.faults c.args.sink.now) (g.K.Sink.faults c.write_reply.new.sink)) reply.answer c.as_slice.result.now right right

@@ -10,8 +10,8 @@ pub returns-clause-ends : goal.returns-clause-ends
 returns-clause-ends g c =
     let limits = c.args.limits in
     let left = g.S.Source.left c.args.source.now in let rest = g.S.Source.left c.find.new.source in
-    let held = g.K.Sink.held c.args.sink.now in let now = g.K.Sink.held c.write_finding.new.sink in
+    let held = g.K.Sink.held c.args.sink.now in let now = g.K.Sink.held c.write_found.new.sink in
     let source_rose = Rose (g.S.Source.faults c.args.source.now) (g.S.Source.faults c.find.new.source) in
-    let sink_rose = Rose (g.K.Sink.faults c.args.sink.now) (g.K.Sink.faults c.write_finding.new.sink) in
+    let sink_rose = Rose (g.K.Sink.faults c.args.sink.now) (g.K.Sink.faults c.write_found.new.sink) in
     found_ends (search_for_all limits) left rest source_rose sink_rose (TellsAll limits) (BeginsAll limits) (all_told limits) (first_told limits)
-    c.in_ok-finding.finding c.in_ok-finding.ensures.found held now c.write_finding.result c.write_finding.ensures
+    c.in_ok-found.found c.in_ok-found.ensures.found held now c.write_found.result c.write_found.ensures

@@ -5,16 +5,16 @@ use Rattle.solid_model.specs.Blocks.{ProblemParts}
 use Rattle.recon_run.proofs.trial.trial.Goals as goal
 
 pub problem_of-requires : goal.problem_of-requires
-problem_of-requires c = made_is_short c.args.n c.in_ok-file.file.items c.in_ok-file.ensures
+problem_of-requires g c = made_is_short c.args.n c.in_ok-file.file.items c.in_ok-file.ensures
 
 pub returns : goal.returns
-returns c =
+returns g c =
     let searched = c.in_ok-searched.searched in let text = c.in_ok-text.text.items in
     figures_are c.args.n c.in_ok-file.file.items c.in_ok-file.ensures c.in-Ok.problem c.in-Ok.ensures.problem searched.ended.kind
-    searched.ended.opened searched.ended.solids c.in_ok-searched.ensures.ended text
-    (subst (λ (p : ProblemParts). text ≡ figures_text c.args.n (record { problem = p; ended = searched.ended })) c.in_ok-searched.ensures.problem
+    searched.ended.opened searched.ended.solids c.in_ok-searched.ensures.1 text
+    (subst (λ (p : ProblemParts). text ≡ figures_text c.args.n (record { problem = p; ended = searched.ended })) c.in_ok-searched.ensures.0
     c.in_ok-text.ensures)
 
 pub unreachable-requires : goal.unreachable-requires
-unreachable-requires c = made_is_faultless c.args.n c.in_ok-file.file.items c.in_ok-file.ensures c.in-Err-Fault.field-0-0
+unreachable-requires g c = made_is_faultless c.args.n c.in_ok-file.file.items c.in_ok-file.ensures c.in-Err-Fault.field-0-0
     (c.in-Err-Fault.ensures.fault c.in-Err-Fault.field-0-0 (ap Err c.in-Err-Fault.field-0-is))

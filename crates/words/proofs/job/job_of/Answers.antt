@@ -1,22 +1,11 @@
-use Rattle.std.proofs.Common.{◌∙◌, sym, ap, map, drop, string_bytes}
-use Rattle.words.specs.declared.job.Job.TheVariants as job
-use Rattle.words.specs.Jobs.{commands, number_in, said_among, seed_table}
-use Rattle.words.specs.Words.{taken}
-use Rattle.words.proofs.Commands.{made_again, said_by_name, unknown_unsaid}
+use Rattle.std.proofs.Common.{◌∙◌, sym, map, drop, string_bytes}
+use Rattle.words.proofs.Commands.{said_by_name, unknown_unsaid}
 use Rattle.words.proofs.Never.{barred_unsaid}
 use Rattle.words.proofs.job.job_of.Goals as goal
 
 pub returns-then-some_barred : goal.returns-then-some_barred
 returns-then-some_barred c = λ _. barred_unsaid (map string_bytes c.args.words.now)
     (sym c.some_barred.ensures ∙ c.if-some_barred.true)
-
-pub returns-in_ok-seed_of-in-make : goal.returns-in_ok-seed_of-in-make
-returns-in_ok-seed_of-in-make c =
-    let rest = drop 1 (map string_bytes c.args.words.now) in
-    said_by_name string_bytes c.args.words.now c.command-item.result c.as_str.result.now c.in-len1-up.len_at_least
-    c.command-item.is c.as_str.ensures.value
-    ∙ ap (λ name. said_among commands name rest) c.in-make.is
-    ∙ made_again number_in job.Make (taken seed_table rest) _ c.in_ok-seed_of-in-make.ensures
 
 pub returns-in_default-as_str : goal.returns-in_default-as_str
 returns-in_default-as_str c = λ _.

@@ -17,3 +17,8 @@ pub number_or-which-requires-clause-given : goal.number_or-which-requires-clause
 number_or-which-requires-clause-given c =
     given_within redraw_table _ (drop 1 (map string_bytes c.args.words.now)) c.in_ok-matches.matches (codes "number") _
     c.redraw_rows-table.ensures refl c.in_ok-matches.ensures refl refl
+
+pub workers_of-requires : goal.workers_of-requires
+workers_of-requires c =
+    given_within redraw_table _ (drop 1 (map string_bytes c.args.words.now)) c.in_ok-matches.matches (codes "workers") _
+    c.redraw_rows-table.ensures refl c.in_ok-matches.ensures refl refl

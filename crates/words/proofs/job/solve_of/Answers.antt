@@ -12,3 +12,8 @@ pub limits_of-requires-clause-solids : goal.limits_of-requires-clause-solids
 limits_of-requires-clause-solids c =
     given_within solve_table _ (drop 1 (map string_bytes c.args.words.now)) c.in_ok-matches.matches (codes "solids") _
     c.solve_rows-table.ensures refl c.in_ok-matches.ensures refl refl
+
+pub workers_of-requires : goal.workers_of-requires
+workers_of-requires c =
+    given_within solve_table _ (drop 1 (map string_bytes c.args.words.now)) c.in_ok-matches.matches (codes "workers") _
+    c.solve_rows-table.ensures refl c.in_ok-matches.ensures refl refl

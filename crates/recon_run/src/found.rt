@@ -1,17 +1,16 @@
-//! From a source to the solids that its file shows.
+//! What is found in a source.
 
 ghost use Rattle.std.specs.Prelude.{◌≤◌, ◌+◌, length, IfOk, IfSome, IsErrOf};
 ghost use Rattle.recon_run.specs.declared.status.Failure.TheVariants as failure;
 ghost use Rattle.recon_run.specs.Owed.{ReadsAllOrPast};
-ghost use Rattle.recon_run.specs.Findings.{IsFinding};
+ghost use Rattle.recon_run.specs.Findings.{IsFoundIn};
 ghost use Rattle.solid_model.specs.Limits.{most_file_bytes};
 ghost use Rattle.tv_base.specs.Faults.{Rose};
 ghost use Rattle.tv_base.specs.Pieces.{ReadsWithin};
 
 use crate::problem::problem_of;
-use crate::searched::{Searched, search};
 use crate::status::Failure;
-use solid_model::{Fault, Limits, Memory, Refused};
+use solid_model::{Fault, Memory, Problem, Refused};
 use std::alloc::Global;
 use tv_base::{ReadEnd, Source, read_all};
 
@@ -20,38 +19,38 @@ const MOST_BYTES: usize = 16_777_216;
 
 /// What is found in a file.
 #[derive(Drop)]
-pub enum Finding {
-    /// Its problem, searched.
-    Solids(Searched),
+pub enum Found {
+    /// Its problem.
+    Problem(Problem),
     /// Its first fault.
     Fault(Fault),
 }
 
-/// The solids that a file's drawing shows, searched for within limits, or the file's first fault.
-fn find_in(alloc: Global, file: Vec<u8>, limits: Limits) -> Result<Finding, Memory>
+/// What is found in a file.
+fn find_in(alloc: Global, file: Vec<u8>) -> Result<Found, Memory>
     requires { length file.items ≤ most_file_bytes }
-    ensures { IfOk result (IsFinding limits file.items) }
+    ensures { IfOk result (IsFoundIn file.items) }
 {
     match problem_of(alloc, file) {
-        Ok(problem) => Ok(Finding::Solids(search(alloc, problem, limits)?)),
-        Err(Refused::Fault(fault)) => Ok(Finding::Fault(fault)),
+        Ok(problem) => Ok(Found::Problem(problem)),
+        Err(Refused::Fault(fault)) => Ok(Found::Fault(fault)),
         Err(Refused::Memory) => Err(Memory),
     }
 }
 
 /// The same for what a source has left.
-pub fn find<S: Source>(alloc: Global, source: &mut S, limits: Limits) -> Result<Finding, Failure>
+pub fn find<S: Source>(alloc: Global, source: &mut S) -> Result<Found, Failure>
     ensures later { S.faults source.old ≤ S.faults source.new }
     ensures within { ReadsWithin (S.left source.old) (S.left source.new) (most_file_bytes + 1) }
-    ensures found { IfOk result (λ finding. IfSome (S.left source.old) (λ t.
-        ReadsAllOrPast t (S.left source.new) × IsFinding limits t finding)) }
+    ensures found { IfOk result (λ found. IfSome (S.left source.old) (λ t.
+        ReadsAllOrPast t (S.left source.new) × IsFoundIn t found)) }
     ensures read_fault { IsErrOf result failure.ReadFault
         → Rose (S.faults source.old) (S.faults source.new) }
     ensures no_write_fault { IsErrOf result failure.WriteFault → ⊥ }
 {
     match read_all(alloc, source, MOST_BYTES) {
-        Ok(file) => Ok(find_in(alloc, file, limits)?),
-        Err(ReadEnd::TooLong) => Ok(Finding::Fault(Fault::TooLong)),
+        Ok(file) => Ok(find_in(alloc, file)?),
+        Err(ReadEnd::TooLong) => Ok(Found::Fault(Fault::TooLong)),
         Err(ReadEnd::Failed) => Err(Failure::ReadFault),
         Err(ReadEnd::Memory) => Err(Failure::Memory),
     }
