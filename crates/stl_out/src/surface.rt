@@ -30,7 +30,8 @@ pub fn rectangles_of(
 {
     let cells = problem.cells(alloc, choice)?;
     let marks = Marks::new(problem.grid().sizes(), cells);
-    boundary_rectangles(alloc, &CellRows::of(alloc, marks)?)
+    let rows = CellRows::of(alloc, marks)?;
+    boundary_rectangles(alloc, &rows)
 }
 
 /// The triangles of the boundary of the solid that a choice of a problem's blocks fills: two for
