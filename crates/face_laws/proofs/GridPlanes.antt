@@ -118,7 +118,7 @@ module _ (coordinates : Coordinates) (ascends : (a : Axis) → Ascends ◌<ℤ�
       (record { low = (lies a).0; high = (lies a).1 })
 
   -- the unit cells of a union are those of its grid cells, by their numbers
-  union_cells : AreCellsOf (grid_planes coordinates) (numbered_fullness coordinates chosen) full
+  pub union_cells : AreCellsOf (grid_planes coordinates) (numbered_fullness coordinates chosen) full
   union_cells n c lies = by (is_within (gaps_along coordinates) n) refl
     where
       in_gap : is_within (gaps_along coordinates) n ≡ true → (a : Axis)

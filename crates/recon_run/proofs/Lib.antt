@@ -12,3 +12,4 @@ pub mod Endings
 pub mod DueAnswers
 pub mod TextByText
 pub mod Totality
+pub mod OneSolid

@@ -16,6 +16,8 @@ use Rattle.report.specs.FaultText.{fault_text}
 use Rattle.report.specs.Texts.{no_solid_text, solid_text, trial_text}
 use Rattle.redraw.specs.Files.{IsFileOf}
 use Rattle.redraw.proofs.OneFile.{one_file}
+use Rattle.stl_out.specs.SolidStl.{IsSolidStl}
+use Rattle.stl_out.proofs.SolidTexts.{one_text}
 use Rattle.solid_model.specs.declared.cell.Cell.{Cell}
 use Rattle.solid_model.specs.declared.ended.EndKind.{EndKind}
 use Rattle.solid_model.specs.declared.ended.EndKind.TheVariants.{Whole, CutNodes, CutSolids}
@@ -105,6 +107,7 @@ OwesOne (alone right tells) = (text other : List ℕ) → tells text → tells o
 one_owed : (said : Option Job) → OwesOne (owed said)
 one_owed (Some (job.Solve workers limits)) = one_listing limits
 one_owed (Some (job.Redraw which workers limits)) = one_numbered IsFileOf (λ s. one_file s s (λ g. refl)) which limits
+one_owed (Some (job.Stl which workers limits)) = one_numbered IsSolidStl one_text which limits
 one_owed (Some (job.Make n)) = one_made_file n
 one_owed (Some (job.Trial n workers)) = one_figures n
 one_owed None = λ text other is is_too. is ∙ sym is_too

@@ -1,14 +1,13 @@
--- What `redraw` and `trial` tell of what was found in a file is their answer to it.
+-- What is told of one solid that was found in a file, and what `trial` tells, is an answer to it.
 use Rattle.std.proofs.Common.{◌≡◌, ℕ, zero, suc, ◌-◌, ◌<◌, ◌≤◌, List, [], ◌∷◌, Bool, Option, Some, inl, inr, refl, sym, ap, subst, ◌∙◌, cond, lt-ltb, le-ltb}
 use Rattle.std.specs.List.{slice_get}
 use Rattle.recon_run.specs.declared.status.Answer.TheVariants as answers
 use Rattle.recon_run.specs.Answers.{CanEnd, HasProblem, first_volume, numbered_answer}
-use Rattle.recon_run.specs.Findings.{TellsOne, TellsOneAt, first_choice_volume}
+use Rattle.recon_run.specs.Findings.{IsOnGrid, TellsOne, TellsOneAt, first_choice_volume}
 use Rattle.recon_run.specs.Owed.{search_for_one}
 use Rattle.recon_run.proofs.Solved.{Fill, IsStated, listing, whole_listing}
 use Rattle.solid_model.proofs.SolidsOfChoices.{as_many}
 use Rattle.recon_run.proofs.Told.{TellsRightly}
-use Rattle.redraw.specs.Files.{IsFileOf}
 use Rattle.report.specs.Texts.{no_solid_text}
 use Rattle.solid_model.specs.declared.cell.Cell.{Cell}
 use Rattle.solid_model.specs.declared.ended.EndKind.{EndKind}
@@ -17,6 +16,7 @@ use Rattle.solid_model.specs.Blocks.{ProblemParts}
 use Rattle.solid_model.specs.Cells.{is_full}
 use Rattle.solid_model.specs.Choices.{AreSolidsOfChoices, cells_of_choice}
 use Rattle.solid_model.specs.Demands.{is_live}
+use Rattle.solid_model.specs.Drawings.{drawing_of}
 use Rattle.solid_model.specs.Grid.{Coordinates, IsUnionOf}
 use Rattle.solid_model.specs.Lists.{Each}
 use Rattle.solid_model.specs.Panels.{coordinates_of}
@@ -42,7 +42,7 @@ each_get P (y ∷ xs) zero x each at = subst P (some_is at) each.0
 each_get P (y ∷ xs) (suc k) x each at = each_get P xs k x each.1 at
 
 -- the choice at a place fills the solid there
-fills_at : (coordinates : Coordinates) (numbers : List (Option ℕ)) (count : ℕ) (choices : List (List Bool)) (solids : List (List Cell))
+pub fills_at : (coordinates : Coordinates) (numbers : List (Option ℕ)) (count : ℕ) (choices : List (List Bool)) (solids : List (List Cell))
     → AreSolidsOfChoices coordinates numbers count choices solids → (k : ℕ) (choice : List Bool) → slice_get choices k ≡ Some choice
     → (s : List Cell) × (slice_get solids k ≡ Some s) × IsUnionOf coordinates (cells_of_choice numbers choice) (is_full s)
 fills_at coordinates numbers count [] [] filled k choice at = cc
@@ -54,22 +54,27 @@ fills_at coordinates numbers count (c ∷ choices) (s ∷ solids) filled (suc k)
     fills_at coordinates numbers count choices solids filled.2 k choice at
 
 module _ (limits : SearchLimits) (t : List ℕ) (p : ProblemParts) (has : HasProblem t p) where
-  -- what `redraw` tells of a search that ended so goes with its end
-  one_told_at : (which : ℕ) → 1 ≤ which → (kind : EndKind) (opened : ℕ) (choices : List (List Bool))
+  -- the solid that a choice fills is on the grid of its drawing
+  pub on_grid : (choice : List Bool) (s : List Cell) → IsStated limits t p has s
+      → IsUnionOf (coordinates_of p.grid) (cells_of_choice p.blocks.numbers choice) (is_full s) → IsOnGrid p.grid (cells_of_choice p.blocks.numbers choice) s
+  on_grid choice s stated union = record { drawing = drawing_of has.lines; grid = has.grid; matches = stated.0; union = union }
+
+  -- what is told of one solid of a search that ended so goes with its end
+  one_told_at : (writes : List Cell → List ℕ → Type 0) (which : ℕ) → 1 ≤ which → (kind : EndKind) (opened : ℕ) (choices : List (List Bool))
       → EndsAs (is_live p) p.blocks.count limits kind opened choices → (text : List ℕ)
-      → TellsOneAt limits which kind (record { problem = p; ended = record { kind = kind; opened = opened; solids = choices } }) text
-      → (c : CanEnd limits t kind) × (search_for_one IsFileOf which limits).tells t kind c text
-  one_told_at which some Whole opened choices ends text (inl (choice, at, draws)) =
+      → TellsOneAt writes limits which kind (record { problem = p; ended = record { kind = kind; opened = opened; solids = choices } }) text
+      → (c : CanEnd limits t kind) × (search_for_one writes which limits).tells t kind c text
+  one_told_at writes which some Whole opened choices ends text (inl (choice, at, draws)) =
       let is = whole_listing limits t p has opened choices ends in let solids = is.can.solids in
       let (s, at_s, union) = fills_at (coordinates_of p.grid) p.blocks.numbers p.blocks.count choices solids is.filled (which - 1) choice at in
-      (is.can, inl (s, (some, at_s), draws s (each_get (IsStated limits t p has) solids (which - 1) s is.each at_s).0.0 union))
-  one_told_at which some Whole opened choices ends text (inr (fewer, told)) =
+      (is.can, inl (s, (some, at_s), draws s (on_grid choice s (each_get (IsStated limits t p has) solids (which - 1) s is.each at_s) union)))
+  one_told_at writes which some Whole opened choices ends text (inr (fewer, told)) =
       let is = whole_listing limits t p has opened choices ends in
       let many = as_many (coordinates_of p.grid) p.blocks.numbers p.blocks.count choices is.can.solids is.filled in
       (is.can, inr (subst (λ n. n < which) many fewer, told ∙ ap (no_solid_text which) many))
-  one_told_at which some CutNodes opened choices ends text told =
+  one_told_at writes which some CutNodes opened choices ends text told =
       let (solids, listed) = listing limits t p has CutNodes opened choices ends in (listed.can, told ∙ listed.head)
-  one_told_at which some CutSolids opened choices ends text told =
+  one_told_at writes which some CutSolids opened choices ends text told =
       let (solids, listed) = listing limits t p has CutSolids opened choices ends in (listed.can, told ∙ listed.head)
 
   -- the first choice fills the first solid
@@ -81,7 +86,8 @@ module _ (limits : SearchLimits) (t : List ℕ) (p : ProblemParts) (has : HasPro
   first_counts (choice ∷ choices) (s ∷ solids) each filled =
       sym (volume_counts (coordinates_of p.grid) (λ a. (has.grid.coordinates a).ordered) (cells_of_choice p.blocks.numbers choice) s filled.1 each.0.1)
 
--- what `redraw` tells goes with the end
-pub one_told : (which : ℕ) (limits : SearchLimits) → 1 ≤ which → TellsRightly (search_for_one IsFileOf which limits) (TellsOne limits which)
-one_told which limits some t s (has, ends) text told =
-    one_told_at limits t s.problem has which some s.ended.kind s.ended.opened s.ended.solids ends text told
+-- what is told of one solid goes with the end
+pub one_told : (writes : List Cell → List ℕ → Type 0) (which : ℕ) (limits : SearchLimits) → 1 ≤ which
+    → TellsRightly (search_for_one writes which limits) (TellsOne writes limits which)
+one_told writes which limits some t s (has, ends) text told =
+    one_told_at limits t s.problem has writes which some s.ended.kind s.ended.opened s.ended.solids ends text told

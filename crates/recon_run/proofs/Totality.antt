@@ -9,10 +9,11 @@ use Rattle.recon_run.specs.declared.status.Answer.TheVariants as answers
 use Rattle.recon_run.specs.Answers.{usage_text, CanEnd, IsFaultAfter, IsFileFault, HasProblem, IsTried, TellsNumbered, head_of, numbered_answer}
 use Rattle.solid_model.specs.Search.{default_limits, SearchLimits}
 use Rattle.recon_run.specs.Endings.{Answers}
+use Rattle.recon_run.specs.Findings.{IsOnGrid}
 use Rattle.recon_run.specs.Owed.{alone, AnswersOwed, Owed, ReadsAllOrPast, Search, answer_at, in_one_piece, search_for_one, owed, owed_for, searched}
-use Rattle.recon_run.proofs.Redrawn.{each_get}
+use Rattle.recon_run.proofs.Redrawn.{each_get, fills_at, on_grid}
 use Rattle.recon_run.proofs.Faults.{file_fault}
-use Rattle.recon_run.proofs.Solved.{listing, matching, some_listing, whole_listing}
+use Rattle.recon_run.proofs.Solved.{IsStated, IsWholeListing, listing, matching, some_listing, whole_listing}
 use Rattle.report.specs.FaultText.{fault_text}
 use Rattle.solid_model.specs.declared.cell.Axis.{Axis}
 use Rattle.solid_model.specs.declared.cell.Axis.TheVariants.{X, Y, Z}
@@ -26,7 +27,7 @@ use Rattle.solid_model.specs.declared.segment.Segment.{Segment}
 use Rattle.solid_model.specs.declared.segment.Style.{Style}
 use Rattle.solid_model.specs.Blocks.{AreBlocksOf, ProblemParts}
 use Rattle.solid_model.specs.Cells.{IsSolid}
-use Rattle.solid_model.specs.Choices.{ChoicePrecedes}
+use Rattle.solid_model.specs.Choices.{ChoicePrecedes, cells_of_choice}
 use Rattle.solid_model.specs.Demands.{is_live}
 use Rattle.solid_model.specs.Drawings.{drawing_of, IsShown, IsEmptyView, IsFirstEmptyView}
 use Rattle.solid_model.specs.Grid.{Coordinates, AreGridCoordinates, IsFineEnough, IsFirstTooFine}
@@ -44,6 +45,7 @@ use Rattle.solid_model.proofs.KeptDrawings.{lines_are_drawing}
 use Rattle.solid_model.proofs.Lists.{each-from, each-append_left, ascends-append_left}
 use Rattle.solid_model.proofs.Sheets.{without_lines-empty}
 use Rattle.solid_model.proofs.SomeGrid.{some_coordinates}
+use Rattle.solid_model.proofs.SolidsOfChoices.{as_many}
 use Rattle.solid_model.proofs.SomeNumbering.{some_numbering}
 use Rattle.words.specs.declared.job.Job.{Job}
 use Rattle.words.specs.declared.job.Job.TheVariants as job
@@ -54,6 +56,8 @@ use Rattle.made_laws.proofs.MadeSolid.{made_is_solid}
 use Rattle.redraw.specs.Files.{IsFileOf}
 use Rattle.redraw.proofs.SomeFile.{some_file}
 use Rattle.report.specs.Texts.{no_solid_text}
+use Rattle.stl_out.specs.SolidStl.{IsSolidStl}
+use Rattle.stl_out.proofs.SolidTexts.{some_text}
 use Rattle.made_laws.proofs.MadeLimits.{made_problem}
 use Rattle.recon_run.proofs.Trials.{figures_are, made_has_problem}
 use Rattle.std.specs.List.{slice_get}
@@ -243,36 +247,48 @@ TellsSome s = (t : List ℕ) (p : ProblemParts) → HasProblem t p → (kind : E
     → EndsAs (is_live p) p.blocks.count s.limits kind opened choices
     → ((c : CanEnd s.limits t kind) (text : List ℕ) → s.tells t kind c text → ⊥) → ⊥
 
--- nor one of a search that answers in one piece, if no whole one lacks its text
+-- nor one of a search that answers in one piece, if no whole one lacks its text, whose solids some choices fill
 some_in_one_piece : (limits : SearchLimits) (whole : ℕ → Answer) (tells : (t : List ℕ) → CanEnd limits t Whole → List ℕ → Type 0)
-    → ((t : List ℕ) (c : CanEnd limits t Whole) → ((text : List ℕ) → tells t c text → ⊥) → ⊥) → TellsSome (in_one_piece limits whole tells)
+    → ((t : List ℕ) (p : ProblemParts) (has : HasProblem t p) (opened : ℕ) (choices : List (List Bool)) (is : IsWholeListing limits t p has opened choices)
+    → ((text : List ℕ) → tells t is.can text → ⊥) → ⊥) → TellsSome (in_one_piece limits whole tells)
 some_in_one_piece limits whole tells some t p has Whole opened choices ends never =
-    let is = whole_listing limits t p has opened choices ends in some t is.can (never is.can)
+    let is = whole_listing limits t p has opened choices ends in some t p has opened choices is (never is.can)
 some_in_one_piece limits whole tells some t p has CutNodes opened choices ends never =
     let (solids, is) = listing limits t p has CutNodes opened choices ends in never is.can (head_of is.can) refl
 some_in_one_piece limits whole tells some t p has CutSolids opened choices ends never =
     let (solids, is) = listing limits t p has CutSolids opened choices ends in never is.can (head_of is.can) refl
 
 -- a whole search has a solid of a number, of which something is written; or there are fewer
-some_numbered : (writes : List Cell → List ℕ → Type 0) → ((s : List Cell) → IsSolid s → ((text : List ℕ) → writes s text → ⊥) → ⊥)
-    → (which : ℕ) → 1 ≤ which → (limits : SearchLimits) → TellsSome (search_for_one writes which limits)
-some_numbered writes written which some limits =
-    some_in_one_piece limits (numbered_answer which) (λ t c. TellsNumbered writes which c.solids) at_whole
-  where
-    at_whole : (t : List ℕ) (c : CanEnd limits t Whole) → ((text : List ℕ) → TellsNumbered writes which c.solids text → ⊥) → ⊥
-    at_whole t c never = ⊎_elim (λ few. never (no_solid_text which (length c.solids)) (inr (few, refl)))
-        (λ enough. by (slice_get c.solids (which - 1)) refl (let within : which - 1 < length c.solids = omega arith in within))
-        (cases_lt (length c.solids) which)
-      where
-        by : (o : Option (List Cell)) → slice_get c.solids (which - 1) ≡ o → which - 1 < length c.solids → ⊥
-        by None none within = none-some _ (sym none ∙ slice_get-get_or c.solids (which - 1) [] within)
-        by (Some s) at within =
-            let matches = each_get (λ u. Matches (drawing_of c.has.lines) u × IsInStatedForm u) c.solids (which - 1) s c.all.matching at in
-            written s matches.0.0 (λ text is. never text (inl (s, (some, at), is)))
+module _ (writes : List Cell → List ℕ → Type 0) (written : (g : GridParts) (chosen : List Bool) (s : List Cell) → IsOnGrid g chosen s → (text : List ℕ) × writes s text)
+    (which : ℕ) (some : 1 ≤ which) (limits : SearchLimits) where
+  module _ (t : List ℕ) (p : ProblemParts) (has : HasProblem t p) (opened : ℕ) (choices : List (List Bool)) (is : IsWholeListing limits t p has opened choices)
+      (never : (text : List ℕ) → TellsNumbered writes which is.can.solids text → ⊥) where
+    many : length choices ≡ length is.can.solids
+    many = as_many (coordinates_of p.grid) p.blocks.numbers p.blocks.count choices is.can.solids is.filled
 
--- no solid lacks a file
+    choice_at : (o : Option (List Bool)) → slice_get choices (which - 1) ≡ o → which - 1 < length choices → ⊥
+    choice_at None none within = none-some _ (sym none ∙ slice_get-get_or choices (which - 1) [] within)
+    choice_at (Some choice) at within =
+        let (s, at_s, union) = fills_at (coordinates_of p.grid) p.blocks.numbers p.blocks.count choices is.can.solids is.filled (which - 1) choice at in
+        let stated = each_get (IsStated limits t p has) is.can.solids (which - 1) s is.each at_s in
+        let (text, writes_it) = written p.grid (cells_of_choice p.blocks.numbers choice) s (on_grid limits t p has choice s stated union) in
+        never text (inl (s, (some, at_s), writes_it))
+
+    never_lacking : ⊥
+    never_lacking = ⊎_elim (λ few. never (no_solid_text which (length is.can.solids)) (inr (few, refl)))
+        (λ enough. choice_at (slice_get choices (which - 1)) refl (let e = many in let within : which - 1 < length choices = omega (arith, e, some, enough) in within))
+        (cases_lt (length is.can.solids) which)
+
+  some_numbered : TellsSome (search_for_one writes which limits)
+  some_numbered = some_in_one_piece limits (numbered_answer which) (λ t c. TellsNumbered writes which c.solids) never_lacking
+
+-- no solid lacks a file,
 some_written_file : (s : List Cell) → IsSolid s → ((text : List ℕ) → IsFileOf s text → ⊥) → ⊥
 some_written_file s is never = let (text, file) = some_file s is in never text file
+
+-- nor an STL text, where it is on a grid
+some_stl : (g : GridParts) (chosen : List Bool) (s : List Cell) → IsOnGrid g chosen s → (text : List ℕ) × IsSolidStl s text
+some_stl g chosen s on = some_text on.drawing (coordinates_of g) on.grid.coordinates s on.matches chosen on.union
 
 -- the search of a made file ends, and has figures
 tried_somehow : (n : ℕ) → ((text : List ℕ) → IsTried n text → ⊥) → ⊥
@@ -289,7 +305,8 @@ OwesSome (alone right tells) = ((text : List ℕ) → tells text → ⊥) → �
 
 some_owed : (j : Job) → IsCounted j → OwesSome (owed_for j)
 some_owed (job.Solve workers limits) counted = some_listing limits
-some_owed (job.Redraw which workers limits) counted = some_numbered IsFileOf some_written_file which counted.0 limits
+some_owed (job.Redraw which workers limits) counted = some_numbered IsFileOf (λ g chosen s on. some_file s on.matches.0) which counted.0 limits
+some_owed (job.Stl which workers limits) counted = some_numbered IsSolidStl some_stl which counted.0 limits
 some_owed (job.Make n) counted = some_written_file (made_solid n) (made_is_solid n)
 some_owed (job.Trial n workers) counted = tried_somehow n
 

@@ -7,22 +7,24 @@ use Rattle.recon_run.specs.declared.status.Answer.{Answer}
 use Rattle.recon_run.specs.declared.status.Answer.TheVariants as answers
 use Rattle.recon_run.specs.declared.status.Failure.{Failure}
 use Rattle.recon_run.specs.declared.status.Failure.TheVariants.{ReadFault, WriteFault, Memory}
-use Rattle.recon_run.specs.Answers.{IsFileFault, HasProblem}
+use Rattle.recon_run.specs.Answers.{IsFileFault, HasProblem, numbered_answer}
 use Rattle.recon_run.specs.Owed.{answer_at}
 use Rattle.recon_run.specs.Searched.{SearchedParts}
 use Rattle.report.specs.FaultText.{fault_text}
-use Rattle.redraw.specs.Files.{IsFileOf}
 use Rattle.report.specs.Texts.{head_text, no_solid_text, solid_text, trial_text}
 use Rattle.solid_model.specs.declared.cell.Cell.{Cell}
 use Rattle.solid_model.specs.declared.ended.EndKind.{EndKind}
 use Rattle.solid_model.specs.declared.ended.EndKind.TheVariants.{Whole, CutNodes, CutSolids}
+use Rattle.solid_model.specs.declared.segment.Segment.{Segment}
+use Rattle.solid_model.specs.declared.segment.Style.{Style}
 use Rattle.solid_model.specs.Blocks.{ProblemParts}
-use Rattle.solid_model.specs.Cells.{IsSolid, is_full}
+use Rattle.solid_model.specs.Cells.{is_full}
 use Rattle.solid_model.specs.Choices.{cells_of_choice}
 use Rattle.solid_model.specs.Demands.{is_live}
 use Rattle.solid_model.specs.Faces.{FaceParts, AreFacesOf}
 use Rattle.solid_model.specs.Grid.{IsUnionOf}
-use Rattle.solid_model.specs.Panels.{coordinates_of}
+use Rattle.solid_model.specs.Matching.{Matches}
+use Rattle.solid_model.specs.Panels.{GridParts, coordinates_of, IsGridOf}
 use Rattle.solid_model.specs.Search.{SearchLimits}
 use Rattle.solid_model.specs.SearchEnds.{EndsSearch}
 use Rattle.solid_model.specs.Volumes.{volume_of}
@@ -77,27 +79,43 @@ TellsAll limits s text = (texts : List ℕ) × TellsChoices s.problem 1 s.ended.
 abbrev pub BeginsAll : SearchLimits → SearchedParts → List ℕ → Type 0
 BeginsAll limits s text = (texts : List ℕ) × BeginsChoices s.problem 1 s.ended.solids texts × (text ≡ search_head limits s ++ texts)
 
--- ---- what `redraw` tells of it
+-- ---- what is told of one solid
 
--- the text is the written file of the solid that a choice fills
-abbrev pub IsDrawingOf : ProblemParts → List Bool → List ℕ → Type 0
-IsDrawingOf p choice text = (s : List Cell) → IsSolid s
-    → IsUnionOf (coordinates_of p.grid) (cells_of_choice p.blocks.numbers choice) (is_full s) → IsFileOf s text
+-- a solid that matches a drawing, of which this is the grid, and that consists of the chosen cells of the grid
+pub record IsOnGrid (g : GridParts) (chosen : List Bool) (s : List Cell) : Type 0 where
+  pub drawing : Segment → Style
+  pub grid : IsGridOf drawing g
+  pub matches : Matches drawing s
+  pub union : IsUnionOf (coordinates_of g) chosen (is_full s)
 
--- the text is the written file of the solid that the choice of this number fills, counted from 1; or it tells that there are
+-- the text is what is written of the solid that a choice fills
+abbrev pub IsWrittenOf : (List Cell → List ℕ → Type 0) → ProblemParts → List Bool → List ℕ → Type 0
+IsWrittenOf writes p choice text = (s : List Cell) → IsOnGrid p.grid (cells_of_choice p.blocks.numbers choice) s → writes s text
+
+-- the text is what is written of the solid that the choice of this number fills, counted from 1; or it tells that there are
 -- fewer choices
-abbrev pub TellsOneOf : ProblemParts → List (List Bool) → ℕ → List ℕ → Type 0
-TellsOneOf p choices which text = ((choice : List Bool) × (slice_get choices (which - 1) ≡ Some choice) × IsDrawingOf p choice text)
+abbrev pub TellsOneOf : (List Cell → List ℕ → Type 0) → ProblemParts → List (List Bool) → ℕ → List ℕ → Type 0
+TellsOneOf writes p choices which text = ((choice : List Bool) × (slice_get choices (which - 1) ≡ Some choice) × IsWrittenOf writes p choice text)
     ⊎ ((length choices < which) × (text ≡ no_solid_text which (length choices)))
 
 -- the same of a search that ended so; of a cut how it ended
-abbrev pub TellsOneAt : SearchLimits → ℕ → EndKind → SearchedParts → List ℕ → Type 0
-TellsOneAt limits which Whole s text = TellsOneOf s.problem s.ended.solids which text
-TellsOneAt limits which CutNodes s text = text ≡ search_head limits s
-TellsOneAt limits which CutSolids s text = text ≡ search_head limits s
+abbrev pub TellsOneAt : (List Cell → List ℕ → Type 0) → SearchLimits → ℕ → EndKind → SearchedParts → List ℕ → Type 0
+TellsOneAt writes limits which Whole s text = TellsOneOf writes s.problem s.ended.solids which text
+TellsOneAt writes limits which CutNodes s text = text ≡ search_head limits s
+TellsOneAt writes limits which CutSolids s text = text ≡ search_head limits s
 
-abbrev pub TellsOne : SearchLimits → ℕ → SearchedParts → List ℕ → Type 0
-TellsOne limits which s = TellsOneAt limits which s.ended.kind s
+abbrev pub TellsOne : (List Cell → List ℕ → Type 0) → SearchLimits → ℕ → SearchedParts → List ℕ → Type 0
+TellsOne writes limits which s = TellsOneAt writes limits which s.ended.kind s
+
+-- an answer to a whole search, where one solid is asked for, and a text that tells it
+abbrev pub AnswersNumbered : (List Cell → List ℕ → Type 0) → ℕ → SearchedParts → Answer → List ℕ → Type 0
+AnswersNumbered writes which s answer text =
+    (answer ≡ numbered_answer which (length s.ended.solids)) × TellsOneOf writes s.problem s.ended.solids which text
+
+-- an answer to a search that ended so, where one solid is asked for, and a text that tells it
+abbrev pub AnswersOne : (List Cell → List ℕ → Type 0) → SearchLimits → ℕ → SearchedParts → Answer → List ℕ → Type 0
+AnswersOne writes limits which s answer text =
+    (answer ≡ answer_at (numbered_answer which) s.ended.kind (length s.ended.solids)) × TellsOne writes limits which s text
 
 -- ---- what `trial` tells of it
 

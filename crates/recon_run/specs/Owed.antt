@@ -12,6 +12,7 @@ use Rattle.solid_model.specs.declared.ended.EndKind.TheVariants.{Whole, CutNodes
 use Rattle.solid_model.specs.declared.fault.Fault.{Fault}
 use Rattle.solid_model.specs.Limits.{most_file_bytes}
 use Rattle.solid_model.specs.Search.{SearchLimits}
+use Rattle.stl_out.specs.SolidStl.{IsSolidStl}
 use Rattle.tv_base.specs.Pieces.{ReadsPast}
 use Rattle.words.specs.declared.job.Job.{Job}
 use Rattle.words.specs.declared.job.Job.TheVariants as job
@@ -69,6 +70,7 @@ pub data Owed : Type 1 where
 abbrev pub owed_for : Job → Owed
 owed_for (job.Solve workers limits) = searched (search_for_all limits)
 owed_for (job.Redraw which workers limits) = searched (search_for_one IsFileOf which limits)
+owed_for (job.Stl which workers limits) = searched (search_for_one IsSolidStl which limits)
 owed_for (job.Make n) = alone answers.Done (IsFileOf (made_solid n))
 owed_for (job.Trial n workers) = alone answers.Done (IsTried n)
 

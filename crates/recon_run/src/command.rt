@@ -11,6 +11,7 @@ ghost use Rattle.redraw.specs.Files.{IsFileOf};
 ghost use Rattle.solid_model.specs.declared.ended.EndKind.TheVariants.{Whole};
 ghost use Rattle.solid_model.specs.declared.fault.Fault.{Fault};
 ghost use Rattle.solid_model.specs.Limits.{most_file_bytes};
+ghost use Rattle.stl_out.specs.SolidStl.{IsSolidStl};
 ghost use Rattle.tv_base.specs.Faults.{Rose};
 ghost use Rattle.tv_base.specs.Pieces.{ReadsWithin};
 ghost use Rattle.words.specs.Jobs.{IsCounted};
@@ -19,6 +20,7 @@ use crate::crew::Crew;
 use crate::found::find;
 use crate::reply::redrawn;
 use crate::status::{Answer, Failure, Status, code};
+use crate::surface::write_found_one;
 use crate::trial::{made_file, trial};
 use crate::writing::{write_found, write_reply};
 use solid_model::Limits;
@@ -72,6 +74,28 @@ fn redraw<R: Threads + Wait + Sync, S: Source, K: Sink, G: Gate>(
     write_reply(reply.answer, reply.text.as_slice(), sink)
 }
 
+/// Searches within limits for the solids of the drawing that the source has left, and writes the
+/// triangles of the one of this number, counted from 1.
+fn stl<R: Threads + Wait + Sync, S: Source, K: Sink, G: Gate>(
+    alloc: Global,
+    which: u32,
+    limits: Limits,
+    source: &mut S,
+    sink: &mut K,
+    crew: &Crew<'_, R, G>,
+) -> Status
+    requires { 1 ≤ which }
+    ensures ends { Ends (searched (search_for_one IsSolidStl which limits)) (S.left source.old)
+        (S.left source.new) (K.held sink.old) (K.held sink.new)
+        (Rose (S.faults source.old) (S.faults source.new))
+        (Rose (K.faults sink.old) (K.faults sink.new)) result }
+    ensures within { ReadsWithin (S.left source.old) (S.left source.new) (most_file_bytes + 1) }
+    ensures unwritten { result ≡ Err ReadFault → sink.new ≡ sink.old }
+{
+    let found = find(alloc, source)?;
+    write_found_one(alloc, found, which, limits, sink, crew)
+}
+
 /// Does a job over what the source has left.
 fn do_job<R: Threads + Wait + Sync, S: Source, K: Sink, G: Gate>(
     rt: &R,
@@ -101,6 +125,14 @@ fn do_job<R: Threads + Wait + Sync, S: Source, K: Sink, G: Gate>(
         } => {
             let crew = Crew { rt, workers, gate };
             redraw(alloc, which, limits, source, sink, &crew)
+        }
+        Job::Stl {
+            which,
+            workers,
+            limits,
+        } => {
+            let crew = Crew { rt, workers, gate };
+            stl(alloc, which, limits, source, sink, &crew)
         }
         Job::Make { n } => write_reply(Answer::Done, made_file(alloc, n)?.as_slice(), sink),
         Job::Trial { n, workers } => {
@@ -141,7 +173,8 @@ fn answer<R: Threads + Wait + Sync, S: Source, K: Sink, G: Gate>(
 /// Runs the command that the arguments give, the program's `words`.
 ///
 /// `solve` writes all solids of the drawing that the source's bytes show, within the limits that the
-/// options `--nodes` and `--solids` give; `redraw` writes the drawing of one of them, by its number;
+/// options `--nodes` and `--solids` give; `redraw` writes the drawing of one of them, by its number,
+/// and `stl` its boundary as triangles;
 /// `make` writes a drawing that is made from a number, and `trial` what a search of that drawing
 /// finds. As many work at a search as `--workers` says, and they pass the gate at their points; the
 /// run waits for them, and what it answers doesn't depend on their number. Other words give the usage
@@ -150,7 +183,8 @@ fn answer<R: Threads + Wait + Sync, S: Source, K: Sink, G: Gate>(
 /// The status is 0 where a search was whole and lists all matching solids, or a drawing is written;
 /// 1 where what is searched has a fault, 2 where the arguments aren't taken, 3 or 4 where there are
 /// more live prefixes, or more solids, than their limit, 5 or 6 where the source or the sink failed,
-/// 7 where it ran out of memory, and 8 where there is no solid of the number that `redraw` is given.
+/// 7 where it ran out of memory, and 8 where there is no solid of the number that `redraw` or `stl` is
+/// given.
 pub fn run<R: Threads + Wait + Sync, S: Source, K: Sink, G: Gate>(
     rt: &R,
     alloc: Global,

@@ -9,6 +9,7 @@ mod problem;
 mod reply;
 mod searched;
 mod status;
+mod surface;
 mod trial;
 mod writing;
 

@@ -3,8 +3,9 @@
 ghost use Rattle.std.specs.Prelude.{◌≡◌, ◌≤◌, length, IfOk};
 ghost use Rattle.recon_run.specs.declared.status.Answer.TheVariants as answers;
 ghost use Rattle.recon_run.specs.Answers.{numbered_answer};
-ghost use Rattle.recon_run.specs.Findings.{AnswersFound, IsDrawingOf, TellsOne, TellsOneOf};
+ghost use Rattle.recon_run.specs.Findings.{AnswersFound, IsWrittenOf, TellsOne, TellsOneOf};
 ghost use Rattle.recon_run.specs.Owed.{answer_at};
+ghost use Rattle.redraw.specs.Files.{IsFileOf};
 ghost use Rattle.report.specs.FaultText.{fault_text};
 
 use crate::crew::Crew;
@@ -39,7 +40,7 @@ pub fn faulty(alloc: Global, fault: &Fault) -> Result<Reply, Memory>
 
 /// The drawing of the solid that a choice of a problem's blocks fills.
 fn drawing_of(alloc: Global, problem: &Problem, choice: &Choice) -> Result<Vec<u8>, Memory>
-    ensures { IfOk result (λ text. IsDrawingOf problem.now choice.now text.items) }
+    ensures { IfOk result (λ text. IsWrittenOf IsFileOf problem.now choice.now text.items) }
 {
     let cells = problem.cells(alloc, choice)?;
     dxf_of(alloc, problem.grid(), cells.as_slice())
@@ -51,7 +52,8 @@ fn redrawn_solid(alloc: Global, searched: &Searched, which: u32) -> Result<Reply
     requires { 1 ≤ which }
     ensures { IfOk result (λ reply.
         (reply.answer ≡ numbered_answer which (length searched.now.ended.solids))
-        × TellsOneOf searched.now.problem searched.now.ended.solids which reply.text.items) }
+        × TellsOneOf IsFileOf searched.now.problem searched.now.ended.solids which
+        reply.text.items) }
 {
     let solids = searched.ended().solids.as_slice();
     let place = which as usize - 1;
@@ -78,7 +80,8 @@ fn redrawn_search(
     requires { 1 ≤ which }
     ensures answer { IfOk result (λ reply. reply.answer ≡ answer_at (numbered_answer which)
         searched.now.ended.kind (length searched.now.ended.solids)) }
-    ensures text { IfOk result (λ reply. TellsOne limits which searched.now reply.text.items) }
+    ensures text { IfOk result (λ reply.
+        TellsOne IsFileOf limits which searched.now reply.text.items) }
 {
     match searched.ended().kind {
         EndKind::Whole => redrawn_solid(alloc, searched, which),
@@ -100,7 +103,7 @@ pub fn redrawn<R: Threads + Wait + Sync, G: Gate>(
 ) -> Result<Reply, Memory>
     requires { 1 ≤ which }
     ensures { IfOk result (λ reply. AnswersFound limits (numbered_answer which)
-        (TellsOne limits which) found reply.answer reply.text.items) }
+        (TellsOne IsFileOf limits which) found reply.answer reply.text.items) }
 {
     match found {
         Found::Problem(problem) => {

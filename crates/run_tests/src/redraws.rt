@@ -15,8 +15,11 @@ rect S 100 200 101 201; line S 101 350 100 350, rect D 100 350 101 351, rect S 1
     rect S 250 200 251 201; redraw|1| -> \
     0 drawing rect S 0 0 1 1; rect S 0 11 1 12; rect S 11 0 12 1
 rect S 0 0 1 1; rect S 0 0 1 1; rect S 0 0 1 1; redraw|2| -> 8 none 2 of 1
+rect S 0 0 1 1; rect S 0 0 1 1; rect S 0 0 1 1; stl|2| -> 8 none 2 of 1
 rect S 0 0 3 3, rect D 1 1 2 2; rect S 0 0 3 3, rect D 1 1 2 2; rect S 0 0 3 3, rect D 1 1 2 2; \
     redraw|--nodes|2|1| -> 3 cut nodes 2
+rect S 0 0 3 3, rect D 1 1 2 2; rect S 0 0 3 3, rect D 1 1 2 2; rect S 0 0 3 3, rect D 1 1 2 2; \
+    stl|--nodes|2|1| -> 3 cut nodes 2
 lattice 2 2; lattice 2 2; lattice 2 2; redraw|1|--solids=34| -> 4 cut solids 34
 lattice 2 2; lattice 2 2; lattice 2 2; redraw|36| -> 8 none 36 of 35
 lattice 2 2; lattice 2 2; lattice 2 2; redraw|--workers=3|36| -> 8 none 36 of 35

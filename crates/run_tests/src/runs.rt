@@ -54,8 +54,9 @@ pub fn run_in_one_piece<R: Runtime>(
     words: &str,
     file: String,
 ) -> Result<String, AllocError> {
-    let mut source = MemSource::new(file.into_bytes(), Vec::new(rt.alloc()));
-    run_over(rt, words, &mut source, vec![in rt.alloc(); (2, 0usize)]?)
+    let alloc = rt.alloc();
+    let mut source = MemSource::new(file.into_bytes(), Vec::new(alloc));
+    run_over(rt, words, &mut source, vec![in alloc; (2, 0usize)]?)
 }
 
 /// The file of the unit cube.

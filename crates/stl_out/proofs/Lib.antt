@@ -10,3 +10,4 @@ pub mod Corners
 pub mod WrittenPieces
 pub mod Texts
 pub mod SomeRectangles
+pub mod SolidTexts

@@ -5,3 +5,4 @@ pub mod Walk
 pub mod Numbered
 pub mod Pieces
 pub mod SmallStl
+pub mod SolidStl

@@ -1,22 +1,27 @@
 //! The laws of the triangles of a solid's boundary. Each is the contract of a function that does
 //! nothing.
 
-ghost use Rattle.std.specs.Prelude.{◌≡◌, Bool, true, List, [], ◌∷◌, ℤ, codes, IsTrue, if◌then◌else◌};
+ghost use Rattle.std.specs.Prelude.{◌≡◌, Bool, true, List, [], ◌∷◌, ◌++◌, ℕ, ℤ, codes, IsTrue, if◌then◌else◌};
 ghost use Rattle.std.specs.List.{count_by};
 ghost use Rattle.face_laws.specs.GridFaces.{Planes, AreCellsOf, numbered_fullness};
 ghost use Rattle.face_laws.specs.GridRounds.{Rises};
 ghost use Rattle.solid_model.specs.declared.cell.Axis.{Axis};
 ghost use Rattle.solid_model.specs.declared.cell.Cell.{Cell};
 ghost use Rattle.solid_model.specs.declared.face.Out.{Out};
+ghost use Rattle.solid_model.specs.declared.segment.Segment.{Segment};
+ghost use Rattle.solid_model.specs.declared.segment.Style.{Style};
+ghost use Rattle.solid_model.specs.Cells.{is_full};
 ghost use Rattle.solid_model.specs.Faces.{is_boundary};
-ghost use Rattle.solid_model.specs.Grid.{Coordinates};
+ghost use Rattle.solid_model.specs.Grid.{Coordinates, AreGridCoordinates, IsUnionOf};
 ghost use Rattle.solid_model.specs.Lists.{Member};
+ghost use Rattle.solid_model.specs.Matching.{Matches};
 ghost use Rattle.solid_model.specs.Rounds.{Spot};
 ghost use Rattle.stl_out.specs.declared.rectangle.Rectangle.{Rectangle};
 ghost use Rattle.stl_out.specs.Closed.{DirectedEdge, reverse, occurrences, covers};
 ghost use Rattle.stl_out.specs.Rectangles.{AreRectanglesOf, all_triangles, AreTrianglesOf};
 ghost use Rattle.stl_out.specs.SmallStl.{brick_coordinates, brick_triangles, first_triangle};
-ghost use Rattle.stl_out.specs.StlText.{facet_text};
+ghost use Rattle.stl_out.specs.SolidStl.{IsSolidStl};
+ghost use Rattle.stl_out.specs.StlText.{facet_text, IsStlOf};
 
 /// The triangles close: each directed edge occurs in them as often as its reverse, also where two
 /// parts of the solid touch along an edge alone.
@@ -48,6 +53,17 @@ pub fn one_list_of_rectangles()
 /// The triangles of a brick whose sides differ, and the text of the first one, written out by hand.
 pub fn small_stl()
     ensures brick { AreTrianglesOf brick_coordinates (true ∷ []) brick_triangles }
-    ensures facet { facet_text first_triangle
-        ≡ codes "facet normal -1 0 0\nouter loop\nvertex -1 0 0\nvertex -1 0 5\nvertex -1 2 5\nendloop\nendfacet\n" }
+    ensures facet { facet_text first_triangle ≡ codes "facet normal -1 0 0\nouter loop\n"
+        ++ codes "vertex -1 0 0\nvertex -1 0 5\nvertex -1 2 5\nendloop\nendfacet\n" }
+{}
+
+/// A solid has one STL text: that between the grid coordinates of its own drawing. And the text of the
+/// grid cells that a matching solid fills, on the drawing's grid, is that text, so it isn't lacking.
+pub fn one_stl_of_a_solid()
+    ensures one { (s : List Cell) (text other : List ℕ) → IsSolidStl s text → IsSolidStl s other
+        → text ≡ other }
+    ensures own { (drawing : Segment → Style) (coordinates : Coordinates)
+        → ((a : Axis) → AreGridCoordinates drawing a (coordinates a)) → (s : List Cell)
+        → Matches drawing s → (chosen : List Bool) → IsUnionOf coordinates chosen (is_full s)
+        → (text : List ℕ) → IsStlOf coordinates chosen text → IsSolidStl s text }
 {}

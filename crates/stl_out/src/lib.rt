@@ -11,7 +11,10 @@ mod triangle;
 mod walk;
 mod write;
 
-pub use laws::{one_list_of_rectangles, rectangles_cover_the_boundary, small_stl, triangles_close};
+pub use laws::{
+    one_list_of_rectangles, one_stl_of_a_solid, rectangles_cover_the_boundary, small_stl,
+    triangles_close,
+};
 pub use rectangle::Rectangle;
 pub use surface::triangles;
 pub use triangle::Triangle;

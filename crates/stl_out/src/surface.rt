@@ -12,6 +12,7 @@ use crate::halves::halves;
 use crate::rectangle::Rectangle;
 use crate::triangle::Triangle;
 use crate::walk::boundary_rectangles;
+use cell_rows::CellRows;
 use solid_model::{Choice, Marks, Memory, Problem};
 use std::alloc::Global;
 
@@ -29,7 +30,8 @@ pub fn rectangles_of(
 {
     let cells = problem.cells(alloc, choice)?;
     let marks = Marks::new(problem.grid().sizes(), cells);
-    boundary_rectangles(alloc, &marks)
+    let rows = CellRows::of(alloc, marks)?;
+    boundary_rectangles(alloc, &rows)
 }
 
 /// The triangles of the boundary of the solid that a choice of a problem's blocks fills: two for

@@ -8,8 +8,9 @@ ghost use Rattle.stl_out.specs.Rectangles.{AreRectanglesOf};
 ghost use Rattle.stl_out.specs.Walk.{square_in, at_square, in_row, in_rows, in_plane, on_side, on_all_sides};
 
 use crate::rectangle::Rectangle;
+use cell_rows::CellRows;
 use faces::{Squares, plane_squares};
-use solid_model::{Marks, Memory, Out};
+use solid_model::{Memory, Out};
 use std::alloc::Global;
 
 /// Whether a plane's rows lie side by side upwards: the axis that runs upwards is the later one.
@@ -98,7 +99,7 @@ fn add_rows(
 /// Puts those of a plane at the end of the list.
 fn add_plane(
     alloc: Global,
-    cells: &Marks,
+    cells: &CellRows,
     out: Out,
     at: usize,
     rectangles: &mut Vec<Rectangle>,
@@ -121,7 +122,7 @@ fn add_plane(
 /// Puts the rectangles of one outward side at the end of the list, plane by plane.
 fn add_side(
     alloc: Global,
-    cells: &Marks,
+    cells: &CellRows,
     out: Out,
     rectangles: &mut Vec<Rectangle>,
 ) -> Result<(), Memory>
@@ -137,7 +138,7 @@ fn add_side(
 
 /// The boundary rectangles of the solid whose cells have marks, in order, in time that grows with
 /// the box of the marks. An `Err` is out of memory.
-pub fn boundary_rectangles(alloc: Global, cells: &Marks) -> Result<Vec<Rectangle>, Memory>
+pub fn boundary_rectangles(alloc: Global, cells: &CellRows) -> Result<Vec<Rectangle>, Memory>
     ensures walked { IfOk result (λ rectangles. rectangles.items ≡ on_all_sides cells.now) }
     ensures all { IfOk result (λ rectangles.
         AreRectanglesOf (is_marked cells.now) rectangles.items) }

@@ -27,12 +27,13 @@ not_called name wanted other = go (bytes_eq name wanted) refl
     go true is = absurd (other ((bytes_eq-Decides name wanted).0 is))
 
 -- a name that no command has says nothing
-pub unknown_unsaid : (name : Text) (words : List Text) → (name ≡ codes "solve" → ⊥) → (name ≡ codes "redraw" → ⊥)
+pub unknown_unsaid : (name : Text) (words : List Text) → (name ≡ codes "solve" → ⊥) → (name ≡ codes "redraw" → ⊥) → (name ≡ codes "stl" → ⊥)
     → (name ≡ codes "make" → ⊥) → (name ≡ codes "trial" → ⊥) → said_among commands name words ≡ None
-unknown_unsaid name words not_solve not_redraw not_make not_trial =
+unknown_unsaid name words not_solve not_redraw not_stl not_make not_trial =
     rw (
       not_called name (codes "solve") not_solve,
       not_called name (codes "redraw") not_redraw,
+      not_called name (codes "stl") not_stl,
       not_called name (codes "make") not_make,
       not_called name (codes "trial") not_trial,
     )
@@ -72,7 +73,7 @@ has_workers : (t : Table) → is_sound t ≡ true → called t (codes "workers")
     → (words : List Text) (us : List Use) → taken t words ≡ Some us → AreWorkers (workers_in us)
 has_workers t sound found = within t (codes "workers") 1 most_workers 1 sound found (omega arith) (omega arith)
 
--- `redraw` takes a number that is 1 at least
+-- `redraw` and `stl` take a number that is 1 at least
 redraw_counts : (words : List Text) (us : List Use) → taken redraw_table words ≡ Some us → (1 ≤ number_in us) × AreWorkers (workers_in us)
 redraw_counts words us is = (
   (within redraw_table number_name 1 most_solid_limit 1 refl refl (omega arith) (omega arith) words us is).0,
@@ -83,4 +84,4 @@ redraw_counts words us is = (
 pub said_is_counted : (words : List Text) (j : Job) → job_said words ≡ Some j → IsCounted j
 said_is_counted [] j said = cc
 said_is_counted (name ∷ words) j said = counted_among commands
-    (has_workers solve_table refl refl, (redraw_counts, ((λ ws us is. tt), (has_workers trial_table refl refl, tt)))) name words j said
+    (has_workers solve_table refl refl, (redraw_counts, (redraw_counts, ((λ ws us is. tt), (has_workers trial_table refl refl, tt))))) name words j said

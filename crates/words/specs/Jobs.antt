@@ -33,7 +33,7 @@ search_fields = workers_field ∷ nodes_field ∷ solids_field ∷ []
 abbrev pub solve_table : Table
 solve_table = record { options = search_fields; number = None }
 
--- what `redraw` takes: these, and the number of a solid, counted from 1
+-- what `redraw` and `stl` take: these, and the number of a solid, counted from 1
 abbrev pub redraw_table : Table
 redraw_table = record { options = search_fields; number = Some (record { least = 1; most = most_solid_limit }) }
 
@@ -69,6 +69,7 @@ pub record Command : Type 0 where
 abbrev pub commands : List Command
 commands = record { name = codes "solve"; table = solve_table; job = λ us. job.Solve (workers_in us) (limits_in us) }
     ∷ record { name = codes "redraw"; table = redraw_table; job = λ us. job.Redraw (number_in us) (workers_in us) (limits_in us) }
+    ∷ record { name = codes "stl"; table = redraw_table; job = λ us. job.Stl (number_in us) (workers_in us) (limits_in us) }
     ∷ record { name = codes "make"; table = make_table; job = λ us. job.Make (number_in us) }
     ∷ record { name = codes "trial"; table = trial_table; job = λ us. job.Trial (number_in us) (workers_in us) } ∷ []
 
@@ -94,5 +95,6 @@ AreWorkers workers = (1 ≤ workers) × (workers ≤ most_workers)
 abbrev pub IsCounted : Job → Type 0
 IsCounted (job.Solve workers limits) = AreWorkers workers
 IsCounted (job.Redraw which workers limits) = (1 ≤ which) × AreWorkers workers
+IsCounted (job.Stl which workers limits) = (1 ≤ which) × AreWorkers workers
 IsCounted (job.Make n) = Unit {0}
 IsCounted (job.Trial n workers) = AreWorkers workers

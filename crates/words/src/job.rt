@@ -32,6 +32,12 @@ pub enum Job {
         workers: u32,
         limits: Limits,
     },
+    /// The boundary of one of these solids as triangles, by its number.
+    Stl {
+        which: u32,
+        workers: u32,
+        limits: Limits,
+    },
     /// The drawing that is made from a number.
     Make {
         n: u64,
@@ -98,7 +104,7 @@ fn solve_rows() -> Rows<'static>
     }
 }
 
-/// What `redraw` takes.
+/// What `redraw` and `stl` take.
 fn redraw_rows() -> Rows<'static>
     ensures { table_of result ≡ redraw_table }
 {
@@ -197,6 +203,25 @@ fn redraw_of(alloc: Global, words: &[String]) -> Result<Job, WordFault>
     })
 }
 
+/// The job of `stl`.
+fn stl_of(alloc: Global, words: &[String]) -> Result<Job, WordFault>
+    requires { list_any is_barred (map string_bytes words.now) ≡ false }
+    ensures { MatchResult result
+        (λ asked. option_map (λ us. job.Stl (number_in us) (workers_in us) (limits_in us))
+        (taken redraw_table (drop 1 (map string_bytes words.now))) ≡ Some asked)
+        (λ e. e ≡ word_fault.Usage
+        → taken redraw_table (drop 1 (map string_bytes words.now)) ≡ None) }
+{
+    let table = redraw_rows();
+    let matches = parse(alloc, &table, words)?;
+    let which = number_or(&matches, "number", SOLIDS.least, SOLIDS.most, 1);
+    Ok(Job::Stl {
+        which: which as u32,
+        workers: workers_of(&matches),
+        limits: limits_of(&matches),
+    })
+}
+
 /// The number that something is made from.
 fn seed_of(matches: &ArgMatches<'_>) -> u64
     requires { IfSome (one_text (found_of matches.now) (codes "number"))
@@ -243,8 +268,8 @@ fn trial_of(alloc: Global, words: &[String]) -> Result<Job, WordFault>
 /// The job that the words ask for: the program's arguments, the first of which is the command.
 ///
 /// `solve` takes `--workers` from 1 to 64, by default 1, `--nodes` from 1 to 4,000,000, by default
-/// 1,000,000, and `--solids` from 1 to 65,536, by default 4,096. `redraw` takes these, and a number
-/// from 1 to 65,536, which must be there. `make` and `trial` take a number below 2 to the power 64,
+/// 1,000,000, and `--solids` from 1 to 65,536, by default 4,096. `redraw` and `stl` take these, and a
+/// number from 1 to 65,536, which must be there. `make` and `trial` take a number below 2 to the power 64,
 /// which must be there, and `trial` takes `--workers`.
 /// Options and the number stand in any order, each at most once; an option is written as
 /// `--name value` or as `--name=value`. A value is one or more digits; leading zeros count for
@@ -263,6 +288,7 @@ pub fn job_of(alloc: Global, words: &[String]) -> Result<Job, WordFault>
     match command.as_str() {
         "solve" => solve_of(alloc, words),
         "redraw" => redraw_of(alloc, words),
+        "stl" => stl_of(alloc, words),
         "make" => make_of(alloc, words),
         "trial" => trial_of(alloc, words),
         _ => Err(WordFault::Usage),

@@ -14,7 +14,7 @@ returns-clause-ends g c =
     let which = c.args.which in let limits = c.args.limits in let reply = c.in_ok-reply.reply in
     let left = g.S.Source.left c.args.source.now in let rest = g.S.Source.left c.find.new.source in
     let right = subst (AnswersOwed (searched (search_for_one IsFileOf which limits)) left rest reply.answer) (sym c.as_slice.ensures.value)
-    (found_owed (search_for_one IsFileOf which limits) (TellsOne limits which) (one_told which limits c.requires) reply.answer reply.text.items left rest
+    (found_owed (search_for_one IsFileOf which limits) (TellsOne IsFileOf limits which) (one_told IsFileOf which limits c.requires) reply.answer reply.text.items left rest
     c.in_ok-found.found c.in_ok-found.ensures.found c.in_ok-reply.ensures) in
     reply_ends (searched (search_for_one IsFileOf which limits)) left rest (g.K.Sink.held c.args.sink.now) (g.K.Sink.held c.write_reply.new.sink)
     (Rose (g.S.Source.faults c.args.source.now) (g.S.Source.faults c.find.new.source))

@@ -1,8 +1,9 @@
 use Rattle.std.proofs.Common.{◌≡◌, ◌∙◌, ap, subst, inl, inr, List, Bool, length, refl, Some, ◌-◌, ◌<◌, ◌≤◌, arith}
 use Rattle.std.specs.List.{slice_get}
 use Rattle.std.proofs.lemmas.Option.{slice_get_read}
-use Rattle.recon_run.specs.Findings.{IsDrawingOf}
+use Rattle.recon_run.specs.Findings.{IsWrittenOf}
 use Rattle.recon_run.proofs.Redrawn.{numbered_done, numbered_lacks}
+use Rattle.redraw.specs.Files.{IsFileOf}
 use Rattle.report.specs.Texts.{no_solid_text}
 use Rattle.solid_model.specs.Blocks.{ProblemParts}
 use Rattle.solid_model.specs.SearchEnds.{SearchEnd}
@@ -22,7 +23,7 @@ returns-in_ok-drawing_of c =
         subst (λ (cs : List (List Bool)). slice_get cs (c.args.which - 1) ≡ Some choice) solids
             (slice_get_read c.as_slice-solids.result.now (length c.as_slice-solids.result.now) (c.args.which - 1) choice refl
             c.if-place-solids.true c.index-solids-place.is),
-        subst (λ (p : ProblemParts). IsDrawingOf p choice c.in_ok-drawing_of.field-0.items) c.problem.ensures c.in_ok-drawing_of.ensures,
+        subst (λ (p : ProblemParts). IsWrittenOf IsFileOf p choice c.in_ok-drawing_of.field-0.items) c.problem.ensures c.in_ok-drawing_of.ensures,
       ),
     )
 

@@ -30,10 +30,11 @@ returns-clause-all c =
     let p = c.args.problem.now in
     let coordinates = coordinates_of p.grid in
     let chosen = cells_of_choice p.blocks.numbers c.args.choice.now in
-    let m : BoxMarks = c.new-marks.result in
+    let m : BoxMarks = c.in_ok-rows.rows in
+    let marks : m ≡ record { sizes = c.sizes.result; values = c.in_ok-cells.cells.items } = c.in_ok-rows.ensures ∙ c.new-marks.ensures in
     let sizes : numbers_of m.sizes ≡ grid_sizes p.grid =
-    ap (λ (n : BoxMarks). numbers_of n.sizes) c.new-marks.ensures ∙ c.sizes.ensures.sizes ∙ ap grid_sizes c.grid.ensures.grid in
-    let values : m.values ≡ chosen = ap (λ (n : BoxMarks). n.values) c.new-marks.ensures ∙ c.in_ok-cells.ensures in
+    ap (λ (n : BoxMarks). numbers_of n.sizes) marks ∙ c.sizes.ensures.sizes ∙ ap grid_sizes c.grid.ensures.grid in
+    let values : m.values ≡ chosen = ap (λ (n : BoxMarks). n.values) marks ∙ c.in_ok-cells.ensures in
     let same : is_marked m ≡ numbered_fullness coordinates chosen =
     λ t n. is_within (sizes t) n && slice_index_or (values t) (box_place (sizes t) n) false in
     subst (λ (f : Cell → Bool). IfOk c.boundary_rectangles.result (λ rs. AreRectanglesOf f rs.items)) same c.boundary_rectangles.ensures.all
@@ -42,8 +43,9 @@ pub returns-clause-numbered : goal.returns-clause-numbered
 returns-clause-numbered c =
     let p = c.args.problem.now in
     let coordinates = coordinates_of p.grid in
-    let m : BoxMarks = c.new-marks.result in
+    let m : BoxMarks = c.in_ok-rows.rows in
+    let marks : m ≡ record { sizes = c.sizes.result; values = c.in_ok-cells.cells.items } = c.in_ok-rows.ensures ∙ c.new-marks.ensures in
     let sizes : numbers_of m.sizes ≡ grid_sizes p.grid =
-    ap (λ (n : BoxMarks). numbers_of n.sizes) c.new-marks.ensures ∙ c.sizes.ensures.sizes ∙ ap grid_sizes c.grid.ensures.grid in
+    ap (λ (n : BoxMarks). numbers_of n.sizes) marks ∙ c.sizes.ensures.sizes ∙ ap grid_sizes c.grid.ensures.grid in
     IfOk-weaker c.boundary_rectangles.result (λ rs. AreRectanglesOf (is_marked m) rs.items) (λ rs. Each (IsOfGrid coordinates) rs.items)
     (λ rs are. all_of_grid m coordinates (λ a t. sizes t a) rs.items are) c.boundary_rectangles.ensures.all

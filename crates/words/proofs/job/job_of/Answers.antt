@@ -12,4 +12,4 @@ returns-in_default-as_str c = λ _.
     said_by_name string_bytes c.args.words.now c.command-item.result c.as_str.result.now c.in-len1-up.len_at_least
     c.command-item.is c.as_str.ensures.value
     ∙ unknown_unsaid c.as_str.result.now (drop 1 (map string_bytes c.args.words.now)) c.in_default-as_str.not-solve
-    c.in_default-as_str.not-redraw c.in_default-as_str.not-make c.in_default-as_str.not-trial
+    c.in_default-as_str.not-redraw c.in_default-as_str.not-stl c.in_default-as_str.not-make c.in_default-as_str.not-trial
