@@ -12,3 +12,7 @@ pub mod Endings
 pub mod DueAnswers
 pub mod TextByText
 pub mod Totality
+pub mod PossibleEnds
+pub mod Gained
+pub mod Paged
+pub mod Searching

@@ -8,7 +8,9 @@ mod laws;
 mod problem;
 mod reply;
 mod searched;
+mod sink_pages;
 mod status;
+mod telling;
 mod trial;
 mod writing;
 

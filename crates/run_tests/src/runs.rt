@@ -48,6 +48,22 @@ pub fn run_words<R: Runtime>(rt: &R, words: &str, file: String) -> Result<String
     run_over(rt, words, &mut source, Vec::new(rt.alloc()))
 }
 
+/// The same of a run whose sink fails in its call of this number, after ten bytes.
+pub fn run_failing<R: Runtime>(
+    rt: &R,
+    words: &str,
+    file: String,
+    call: u32,
+) -> Result<String, AllocError> {
+    let mut source = MemSource::new(file.into_bytes(), Vec::new(rt.alloc()));
+    run_over(
+        rt,
+        words,
+        &mut source,
+        vec![in rt.alloc(); (call, 10usize)]?,
+    )
+}
+
 /// The file of the unit cube.
 fn cube_file(alloc: Global) -> Result<String, AllocError> {
     file_of(alloc, "0 SECTION, 2 ENTITIES, cube, 0 ENDSEC, 0 EOF")
@@ -96,7 +112,8 @@ solve|--workers|65|
 solve|--workers|2|--workers|2|
 make|7|--workers|2|
 solve|--node|3|
-solve|--pages|
+solve|--pages=1|
+redraw|1|--pages|
 solve|--help|
 solve|-h|
 solve|--|
