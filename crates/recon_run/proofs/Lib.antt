@@ -13,3 +13,7 @@ pub mod DueAnswers
 pub mod TextByText
 pub mod Totality
 pub mod OneSolid
+pub mod PossibleEnds
+pub mod Gained
+pub mod Paged
+pub mod Searching

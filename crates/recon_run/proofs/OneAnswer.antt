@@ -1,13 +1,15 @@
 -- Words and an input have at most one right answer, up to the cuts.
-use Rattle.std.proofs.Common.{◌≡◌, ◌⊎◌, inl, inr, refl, Bool, ℕ, ◌+◌, ◌-◌, List, [], ◌∷◌, ◌++◌, length, Option, Some, None, sym, subst, ap, ◌∙◌, arith}
+use Rattle.std.proofs.Common.{◌≡◌, ◌⊎◌, inl, inr, refl, Bool, true, false, IsPermutation, ℕ, ◌+◌, ◌-◌, List, [], ◌∷◌, ◌++◌, length, Option, Some, None, sym, subst, ap, ◌∙◌, arith}
 use Rattle.std.proofs.Math.Path.{transport}
+use Rattle.std.proofs.lemmas.List.Sorted.{IsPermutation-refl, IsPermutation-sym, IsPermutation-trans}
 use Rattle.std.proofs.lemmas.Option.{slice_get_within}
 use Rattle.std.specs.List.{slice_get}
 use Rattle.drawing_maker.specs.Made.{made_solid}
 use Rattle.recon_run.specs.declared.status.Answer.{Answer}
-use Rattle.recon_run.specs.Answers.{node_count, CanEnd, TellsNumbered, TellsSolids, IsTried, first_volume, made_drawing}
-use Rattle.recon_run.specs.Endings.{Answers, IsCut}
-use Rattle.recon_run.specs.Owed.{alone, AnswersInput, AnswersOwed, Owed, Search, answer_at, search_for_all, search_for_one, owed, searched}
+use Rattle.recon_run.specs.Answers.{node_count, CanEnd, TellsNumbered, TellsSolids, IsTried, first_volume, head_of, made_drawing}
+use Rattle.recon_run.specs.Endings.{Answers, IsCut, SameButPages}
+use Rattle.recon_run.specs.Owed.{alone, AnswersInput, AnswersOwed, Owed, Search, answer_at, asks_pages, search_for_all, search_for_one, owed, searched}
+use Rattle.recon_run.specs.Pages.{Page, ArePagesOf, choices_on, pages_text}
 use Rattle.recon_run.proofs.Faults.{one_fault, no_fault}
 use Rattle.recon_run.proofs.Grids.{one_grid}
 use Rattle.recon_run.proofs.OneEnd.{kept_or_passed, one_count, one_head, one_solids}
@@ -36,9 +38,24 @@ use Rattle.words.specs.Jobs.{job_said}
 
 -- ---- one text of each command
 
--- a whole search of an input is told by one text
-abbrev TellsOne : Search → Type 0
-TellsOne s = (t : List ℕ) (c d : CanEnd s.limits t Whole) (text other : List ℕ) → s.tells t Whole c text → s.tells t Whole d other → text ≡ other
+-- a whole search of an input is told by one text, up to its pages, if they are asked for
+abbrev TellsOne : Bool → Search → Type 0
+TellsOne paged s = (t : List ℕ) (c d : CanEnd s.limits t Whole) (text other : List ℕ) → s.tells t Whole c text → s.tells t Whole d other → SameButPages paged text other
+
+-- texts are so where what follows their pages is one
+same_behind : (paged : Bool) (choices others : List (List Bool)) (pages more : List Page) → choices ≡ others → ArePagesOf paged choices pages → ArePagesOf paged others more
+    → (rest last : List ℕ) → rest ≡ last → (text other : List ℕ) → text ≡ pages_text 0 0 pages ++ rest → other ≡ pages_text 0 0 more ++ last → SameButPages paged text other
+same_behind false choices others pages more same are are_too rest last ends text other is is_too =
+    is ∙ (λ i. pages_text 0 0 (are i) ++ ends i) ∙ (λ i. pages_text 0 0 (sym are_too i) ++ last) ∙ sym is_too
+same_behind true choices others pages more same are are_too rest last ends text other is is_too = (
+  pages,
+  more,
+  IsPermutation-trans (choices_on pages) choices (choices_on more) are.1
+      (IsPermutation-sym (choices_on more) choices (subst (IsPermutation (choices_on more)) (sym same) are_too.1)),
+  rest,
+  is,
+  is_too ∙ ap (λ end. pages_text 0 0 more ++ end) (sym ends),
+)
 
 -- solids are told by one text
 one_telling : (number : ℕ) (choices : List (List Bool)) (solids : List (List Cell)) (text other : List ℕ)
@@ -52,8 +69,8 @@ one_telling number (choice ∷ choices) (s ∷ solids) text other (faces, are, r
     is ∙ (λ i. solid_text number choice (length s) (same i) ++ ends i) ∙ sym is_too
 
 -- an input has at most one text that lists all its solids
-one_listing : (limits : SearchLimits) → TellsOne (search_for_all limits)
-one_listing limits t c d text other (first, texts, tells, told) (second, others, tells_too, told_too) =
+one_listing : (paged : Bool) (limits : SearchLimits) → TellsOne paged (search_for_all paged limits)
+one_listing paged limits t c d text other (first, pages, are, texts, tells, told) (second, more, are_too, others, tells_too, told_too) =
     let one = one_problem first.has second.has in
     let p = first.problem in let q = second.problem in
     let drawing = drawing_of second.has.lines in
@@ -66,14 +83,15 @@ one_listing limits t c d text other (first, texts, tells, told) (second, others,
     let tells_same : TellsSolids 1 first.choices first.solids texts ≡ TellsSolids 1 second.choices second.solids texts =
     λ i. TellsSolids 1 (choices i) (solids i) texts in
     let same = one_telling 1 second.choices second.solids texts others (transport tells_same tells) tells_too in
-    told ∙ (λ i. one_head limits t c d i ++ same i) ∙ sym told_too
+    same_behind paged first.choices second.choices pages more choices are are_too (head_of c ++ texts) (head_of d ++ others)
+    (λ i. one_head limits t c d i ++ same i) text other told told_too
 
 same_place : {A : Type 0} (xs ys : List A) (k : ℕ) (x y : A) → xs ≡ ys → slice_get xs k ≡ Some x → slice_get ys k ≡ Some y → x ≡ y
 same_place xs ys k x y same at at_too = let e : Some x ≡ Some y = sym at ∙ ap (λ zs. slice_get zs k) same ∙ at_too in cc
 
 -- or one that tells the solid of a number, where one is written of each
 one_numbered : (writes : List Cell → List ℕ → Type 0) → ((s : List Cell) (text other : List ℕ) → writes s text → writes s other → text ≡ other)
-    → (which : ℕ) (limits : SearchLimits) → TellsOne (search_for_one writes which limits)
+    → (which : ℕ) (limits : SearchLimits) → TellsOne false (search_for_one writes which limits)
 one_numbered writes one which limits t c d text other = by
   where
     by : TellsNumbered writes which c.solids text → TellsNumbered writes which d.solids other → text ≡ other
@@ -99,13 +117,13 @@ one_figures n text other a b =
     a.told ∙ (λ i. trial_text n (blocks i).count (length (solids i)) (node_count (record { grid = grid i; blocks = blocks i })) (first_volume (solids i)))
     ∙ sym b.told
 
--- what is owed for a job is told by one text
-abbrev OwesOne : Owed → Type 0
-OwesOne (searched s) = TellsOne s
-OwesOne (alone right tells) = (text other : List ℕ) → tells text → tells other → text ≡ other
+-- what is owed for a job is told by one text, up to pages
+abbrev OwesOne : Bool → Owed → Type 0
+OwesOne paged (searched s) = TellsOne paged s
+OwesOne paged (alone right tells) = (text other : List ℕ) → tells text → tells other → SameButPages paged text other
 
-one_owed : (said : Option Job) → OwesOne (owed said)
-one_owed (Some (job.Solve workers limits)) = one_listing limits
+one_owed : (said : Option Job) → OwesOne (asks_pages said) (owed said)
+one_owed (Some (job.Solve workers limits pages)) = one_listing pages limits
 one_owed (Some (job.Redraw which workers limits)) = one_numbered IsFileOf (λ s. one_file s s (λ g. refl)) which limits
 one_owed (Some (job.Stl which workers limits)) = one_numbered IsSolidStl one_text which limits
 one_owed (Some (job.Make n)) = one_made_file n
@@ -114,27 +132,32 @@ one_owed None = λ text other is is_too. is ∙ sym is_too
 
 -- ---- one answer
 
--- An answer and another one, with their texts: one answer or both cuts, and one text unless the first is a cut.
-abbrev pub SameOrCuts : Answer → Answer → List ℕ → List ℕ → Type 0
-SameOrCuts a b text other = ((a ≡ b) ⊎ (IsCut a × IsCut b)) × ((IsCut a → ⊥) → text ≡ other)
+-- An answer and another one, with their texts: one answer or both cuts, and one text up to pages unless the first is a cut.
+abbrev pub SameOrCuts : Bool → Answer → Answer → List ℕ → List ℕ → Type 0
+SameOrCuts paged a b text other = ((a ≡ b) ⊎ (IsCut a × IsCut b)) × ((IsCut a → ⊥) → SameButPages paged text other)
 
-module _ (a b : Answer) (text other : List ℕ) where
+-- one text is so
+pub one_text : (paged : Bool) (text other : List ℕ) → text ≡ other → SameButPages paged text other
+one_text false text other is = is
+one_text true text other is = ([], [], IsPermutation-refl [], text, refl, sym is)
+
+module _ (paged : Bool) (a b : Answer) (text other : List ℕ) where
   -- one answer, and one text
-  same : a ≡ b → text ≡ other → SameOrCuts a b text other
+  same : a ≡ b → SameButPages paged text other → SameOrCuts paged a b text other
   same one told = (inl one, λ none. told)
 
   -- two cuts
-  cuts : IsCut a → IsCut b → SameOrCuts a b text other
+  cuts : IsCut a → IsCut b → SameOrCuts paged a b text other
   cuts cut cut_too = (inr (cut, cut_too), λ none. absurd (none cut))
 
-  module _ (s : Search) (one : TellsOne s) (t : List ℕ) where
+  module _ (s : Search) (one : TellsOne paged s) (t : List ℕ) where
     passed : (kind : EndKind) (c : CanEnd s.limits t Whole) (d : CanEnd s.limits t kind) → (kind ≡ Whole → ⊥) → ⊥
     passed kind c d cut = cut (kept_or_passed s.limits t kind c d)
 
     -- two ends
     one_end : (kind other_kind : EndKind) (c : CanEnd s.limits t kind) (d : CanEnd s.limits t other_kind)
         → a ≡ answer_at s.whole kind (length c.solids) → b ≡ answer_at s.whole other_kind (length d.solids)
-        → s.tells t kind c text → s.tells t other_kind d other → SameOrCuts a b text other
+        → s.tells t kind c text → s.tells t other_kind d other → SameOrCuts paged a b text other
     one_end Whole Whole c d is is_too tells tells_too =
         same (is ∙ ap s.whole (one_count s.limits t Whole Whole c d) ∙ sym is_too) (one t c d text other tells tells_too)
     one_end Whole CutNodes c d is is_too tells tells_too = absurd (passed CutNodes c d (λ e. cc))
@@ -146,19 +169,19 @@ module _ (a b : Answer) (text other : List ℕ) where
     one_end CutSolids CutNodes c d is is_too tells tells_too = cuts (subst IsCut (sym is) tt) (subst IsCut (sym is_too) tt)
     one_end CutSolids CutSolids c d is is_too tells tells_too = cuts (subst IsCut (sym is) tt) (subst IsCut (sym is_too) tt)
 
-    one_input : AnswersInput s t a text → AnswersInput s t b other → SameOrCuts a b text other
+    one_input : AnswersInput s t a text → AnswersInput s t b other → SameOrCuts paged a b text other
     one_input (inl (is, (fault, at, told))) (inl (is_too, (fault_too, at_too, told_too))) =
-        same (is ∙ sym is_too) (told ∙ ap fault_text (one_fault t fault fault_too at at_too) ∙ sym told_too)
+        same (is ∙ sym is_too) (one_text paged text other (told ∙ ap fault_text (one_fault t fault fault_too at at_too) ∙ sym told_too))
     one_input (inl (is, (fault, at, told))) (inr (kind, c, is_end, tells)) = absurd (no_fault c.has fault at)
     one_input (inr (kind, c, is_end, tells)) (inl (is, (fault, at, told))) = absurd (no_fault c.has fault at)
     one_input (inr (kind, c, is, tells)) (inr (other_kind, d, is_too, tells_too)) = one_end kind other_kind c d is is_too tells tells_too
 
-  one_answer_owed : (o : Owed) → OwesOne o → (t : List ℕ) (rest left : Option (List ℕ)) → AnswersOwed o (Some t) rest a text
-      → AnswersOwed o (Some t) left b other → SameOrCuts a b text other
+  one_answer_owed : (o : Owed) → OwesOne paged o → (t : List ℕ) (rest left : Option (List ℕ)) → AnswersOwed o (Some t) rest a text
+      → AnswersOwed o (Some t) left b other → SameOrCuts paged a b text other
   one_answer_owed (searched s) one t rest left first second = one_input s one t first.1.1 second.1.1
   one_answer_owed (alone right tells) one t rest left (reads, is, told) (reads_too, is_too, told_too) =
       same (is ∙ sym is_too) (one text other told told_too)
 
 pub same_answer : (words : List (List ℕ)) (t : List ℕ) (rest left : Option (List ℕ)) (a b : Answer) (text other : List ℕ)
-    → Answers words (Some t) rest a text → Answers words (Some t) left b other → SameOrCuts a b text other
-same_answer words t rest left a b text other = one_answer_owed a b text other (owed (job_said words)) (one_owed (job_said words)) t rest left
+    → Answers words (Some t) rest a text → Answers words (Some t) left b other → SameOrCuts (asks_pages (job_said words)) a b text other
+same_answer words t rest left a b text other = one_answer_owed (asks_pages (job_said words)) a b text other (owed (job_said words)) (one_owed (job_said words)) t rest left

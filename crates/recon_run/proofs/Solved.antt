@@ -1,8 +1,10 @@
 -- From the end of a search, and what `solve` tells of it, to the solids that are listed.
-use Rattle.std.proofs.Common.{◌≡◌, ℕ, zero, suc, ◌+◌, ◌<◌, ◌≤◌, List, [], ◌∷◌, ◌++◌, Bool, length, take, refl, sym, ap, subst, ◌∙◌, arith}
+use Rattle.std.proofs.Common.{◌≡◌, ℕ, zero, suc, ◌+◌, ◌<◌, ◌≤◌, List, [], ◌∷◌, ◌++◌, Bool, length, take, inl, inr, refl, sym, ap, subst, ◌∙◌, arith}
 use Rattle.columns.proofs.LivePrefixes.{live_keeps_matching}
 use Rattle.recon_run.specs.Answers.{node_count, HasProblem, CanEnd, AreListed, BeginsToList, ListedSolids, ListsSolids, TellsSolids, head_of}
 use Rattle.recon_run.specs.Findings.{TellsChoices}
+use Rattle.recon_run.specs.Pages.{Page, ArePagesOf, pages_text}
+use Rattle.recon_run.proofs.Paged.{some_pages}
 use Rattle.recon_run.proofs.Problems.{problem_drawing}
 use Rattle.report.specs.Texts.{head_text, solid_text}
 use Rattle.solid_model.specs.declared.cell.Cell.{Cell}
@@ -165,31 +167,48 @@ module _ (limits : SearchLimits) (t : List ℕ) (p : ProblemParts) (has : HasPro
   listed_solids kind opened choices solids is =
       record { problem = p; has = has; solids = solids; listed = is.listed; choices = choices; filled = is.filled }
 
-  -- how the search ended, with the texts of all its choices, lists its solids
-  pub solved : (kind : EndKind) (opened : ℕ) (choices : List (List Bool)) → EndsAs (is_live p) p.blocks.count limits kind opened choices
-      → (texts : List ℕ) → TellsChoices p 1 choices texts
-      → (c : CanEnd limits t kind) × ListsSolids limits t kind c (head_text limits kind (length choices) opened p.blocks.count ++ texts)
-  solved kind opened choices ends texts tells =
-      let (solids, is) = listing kind opened choices ends in (
-        is.can,
-        (listed_solids kind opened choices solids is, texts, tells_solids 1 choices solids is.each is.filled texts tells, ap (λ head. head ++ texts) is.head),
-      )
+  module _ (paged : Bool) (kind : EndKind) (opened : ℕ) (choices : List (List Bool)) (ends : EndsAs (is_live p) p.blocks.count limits kind opened choices)
+      (pages : List Page) (are : ArePagesOf paged choices pages) where
+    -- pages, how the search ended, and the texts of all its choices, list its solids
+    pub solved : (texts : List ℕ) → TellsChoices p 1 choices texts → (c : CanEnd limits t kind)
+        × ListsSolids paged limits t kind c (pages_text 0 0 pages ++ (head_text limits kind (length choices) opened p.blocks.count ++ texts))
+    solved texts tells =
+        let (solids, is) = listing kind opened choices ends in (
+          is.can,
+          (
+            listed_solids kind opened choices solids is,
+            pages,
+            are,
+            texts,
+            tells_solids 1 choices solids is.each is.filled texts tells,
+            ap (λ head. pages_text 0 0 pages ++ (head ++ texts)) is.head,
+          ),
+        )
 
-  -- and with the texts of the first of them it begins to be
-  pub begun : (kind : EndKind) (opened : ℕ) (choices : List (List Bool)) → EndsAs (is_live p) p.blocks.count limits kind opened choices
-      → (first : ℕ) (texts : List ℕ) → TellsChoices p 1 (take first choices) texts
-      → (c : CanEnd limits t kind) × BeginsToList limits t kind c (head_text limits kind (length choices) opened p.blocks.count ++ texts)
-  begun kind opened choices ends first texts tells =
-      let (solids, is) = listing kind opened choices ends in (
-        is.can,
-        (
-          listed_solids kind opened choices solids is,
-          first,
-          texts,
-          tells_solids 1 (take first choices) (take first solids) (each_take first solids is.each) (fill_take first choices solids is.filled) texts tells,
-          ap (λ head. head ++ texts) is.head,
-        ),
-      )
+    -- with the texts of the first of them they begin to be,
+    pub begun : (first : ℕ) (texts : List ℕ) → TellsChoices p 1 (take first choices) texts → (c : CanEnd limits t kind)
+        × BeginsToList paged limits t kind c (pages_text 0 0 pages ++ (head_text limits kind (length choices) opened p.blocks.count ++ texts))
+    begun first texts tells =
+        let (solids, is) = listing kind opened choices ends in (
+          is.can,
+          (
+            listed_solids kind opened choices solids is,
+            pages,
+            are,
+            first,
+            inr (
+              texts,
+              tells_solids 1 (take first choices) (take first solids) (each_take first solids is.each) (fill_take first choices solids is.filled) texts tells,
+              ap (λ head. pages_text 0 0 pages ++ (head ++ texts)) is.head,
+            ),
+          ),
+        )
+
+    -- and with the first pages alone
+    pub pages_begun : (first : ℕ) → (c : CanEnd limits t kind) × BeginsToList paged limits t kind c (pages_text 0 0 (take first pages))
+    pages_begun first =
+        let (solids, is) = listing kind opened choices ends in
+        (is.can, (listed_solids kind opened choices solids is, pages, are, first, inl refl))
 
   -- ---- some answer
 
@@ -204,9 +223,9 @@ module _ (limits : SearchLimits) (t : List ℕ) (p : ProblemParts) (has : HasPro
       never (solid_text number choice (length s) faces ++ rest) (faces, are, rest, tells, refl)))
 
   -- or that none lists them where the search ends so
-  pub some_listing : (kind : EndKind) (opened : ℕ) (choices : List (List Bool)) → EndsAs (is_live p) p.blocks.count limits kind opened choices
-      → ((c : CanEnd limits t kind) (text : List ℕ) → ListsSolids limits t kind c text → ⊥) → ⊥
-  some_listing kind opened choices ends never =
-      let (solids, is) = listing kind opened choices ends in
+  pub some_listing : (paged : Bool) (kind : EndKind) (opened : ℕ) (choices : List (List Bool)) → EndsAs (is_live p) p.blocks.count limits kind opened choices
+      → ((c : CanEnd limits t kind) (text : List ℕ) → ListsSolids paged limits t kind c text → ⊥) → ⊥
+  some_listing paged kind opened choices ends never =
+      let (solids, is) = listing kind opened choices ends in let (pages, are) = some_pages paged choices in
       some_telling 1 choices solids is.filled (λ texts tells.
-      never is.can (head_of is.can ++ texts) (listed_solids kind opened choices solids is, texts, tells, refl))
+      never is.can (pages_text 0 0 pages ++ (head_of is.can ++ texts)) (listed_solids kind opened choices solids is, pages, are, texts, tells, refl))

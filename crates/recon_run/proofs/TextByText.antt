@@ -7,20 +7,13 @@ use Rattle.std.specs.Io.KnownBytes.{Appends, Keeps}
 use Rattle.recon_run.specs.declared.status.Failure.{Failure}
 use Rattle.recon_run.specs.declared.status.Failure.TheVariants.{ReadFault, WriteFault, Memory}
 use Rattle.recon_run.specs.Findings.{TellsChoice, TellsChoices, EndsText, EndsWriting}
+use Rattle.recon_run.proofs.Gained.{prefix_after}
 use Rattle.solid_model.specs.Blocks.{ProblemParts}
 use Rattle.tv_base.proofs.Told.{appends_both}
 use Rattle.tv_base.specs.Faults.{Rose}
 use Rattle.tv_base.specs.Pieces.{AppendsPrefix}
 
 -- ---- bytes
-
--- a text, and then a prefix of another one, are a prefix of both together
-prefix_after : (held mid now : Option (List ℕ)) (first text : List ℕ) → Appends held mid first → AppendsPrefix mid now text → AppendsPrefix held now (first ++ text)
-prefix_after held mid now first text appends (n, few, more) = (
-  length first + n,
-  omega (arith, few, length-append first text),
-  rw (take-append-add first text n) (appends_both held mid now first (take n text) appends more),
-)
 
 -- and a text is a prefix of itself, where nothing more is written
 appends_kept : (held mid now : Option (List ℕ)) (first : List ℕ) → Appends held mid first → Keeps mid now → Appends held now first

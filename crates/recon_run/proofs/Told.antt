@@ -1,14 +1,14 @@
 -- What is told of what was found in a file is a right answer to it.
-use Rattle.std.proofs.Common.{◌≡◌, inl, inr, refl, Bool, ℕ, List, length, Option, Some, None, IfSome, ap, subst, sym, ◌∙◌}
+use Rattle.std.proofs.Common.{◌≡◌, inl, inr, refl, Bool, ℕ, List, ◌++◌, length, Option, Some, None, IfSome, ap, ap₂, subst, sym, ◌∙◌}
 use Rattle.recon_run.specs.declared.found.Found.{Found}
 use Rattle.recon_run.specs.declared.found.Found.TheVariants.{Problem, Fault}
 use Rattle.recon_run.specs.declared.status.Answer.{Answer}
 use Rattle.recon_run.specs.Answers.{BeginsToList, CanEnd, HasProblem, ListsSolids}
-use Rattle.recon_run.specs.Findings.{AnswersFound, BeginsAll, IsFoundIn, IsSearchOf, TellsAll}
+use Rattle.recon_run.specs.Findings.{AnswersFound, BeginsPaged, IsFoundIn, IsSearchOf, TellsPaged}
 use Rattle.recon_run.specs.Owed.{AnswersInput, AnswersOwed, IsAnswerOf, ReadsAllOrPast, Search, answer_at, beginning, search_for_all, searched}
 use Rattle.recon_run.specs.Searched.{SearchedParts}
 use Rattle.recon_run.proofs.OneEnd.{one_count}
-use Rattle.recon_run.proofs.Solved.{begun, solved, whole_listing}
+use Rattle.recon_run.proofs.Solved.{begun, pages_begun, solved, whole_listing}
 use Rattle.solid_model.proofs.SolidsOfChoices.{as_many}
 use Rattle.solid_model.specs.declared.ended.EndKind.{EndKind}
 use Rattle.solid_model.specs.declared.ended.EndKind.TheVariants.{Whole, CutNodes, CutSolids}
@@ -30,16 +30,19 @@ TellsRightly s tells = (t : List ℕ) (found : SearchedParts) → IsSearched s.l
     → (c : CanEnd s.limits t found.ended.kind) × s.tells t found.ended.kind c text
 
 -- so do those that `solve` writes,
-pub all_told : (limits : SearchLimits) → TellsRightly (search_for_all limits) (TellsAll limits)
-all_told limits t s (has, ends) text (texts, tells, is) =
-    subst (λ told. (c : CanEnd limits t s.ended.kind) × ListsSolids limits t s.ended.kind c told) (sym is)
-    (solved limits t s.problem has s.ended.kind s.ended.opened s.ended.solids ends texts tells)
+pub all_told : (paged : Bool) (limits : SearchLimits) → TellsRightly (search_for_all paged limits) (TellsPaged paged limits)
+all_told paged limits t s (has, ends) text (before, (pages, are, told), rest, (texts, tells, is), both) =
+    subst (λ text. (c : CanEnd limits t s.ended.kind) × ListsSolids paged limits t s.ended.kind c text) (sym (both ∙ ap₂ ◌++◌ told is))
+    (solved limits t s.problem has paged s.ended.kind s.ended.opened s.ended.solids ends pages are texts tells)
 
 -- and those that it begins
-pub first_told : (limits : SearchLimits) → TellsRightly (beginning (search_for_all limits)) (BeginsAll limits)
-first_told limits t s (has, ends) text (texts, (first, tells), is) =
-    subst (λ told. (c : CanEnd limits t s.ended.kind) × BeginsToList limits t s.ended.kind c told) (sym is)
-    (begun limits t s.problem has s.ended.kind s.ended.opened s.ended.solids ends first texts tells)
+pub first_told : (paged : Bool) (limits : SearchLimits) → TellsRightly (beginning (search_for_all paged limits)) (BeginsPaged paged limits)
+first_told paged limits t s (has, ends) text (inl (pages, are, first, told)) =
+    subst (λ text. (c : CanEnd limits t s.ended.kind) × BeginsToList paged limits t s.ended.kind c text) (sym told)
+    (pages_begun limits t s.problem has paged s.ended.kind s.ended.opened s.ended.solids ends pages are first)
+first_told paged limits t s (has, ends) text (inr (before, (pages, are, told), rest, (texts, (first, tells), is), both)) =
+    subst (λ text. (c : CanEnd limits t s.ended.kind) × BeginsToList paged limits t s.ended.kind c text) (sym (both ∙ ap₂ ◌++◌ told is))
+    (begun limits t s.problem has paged s.ended.kind s.ended.opened s.ended.solids ends pages are first texts tells)
 
 -- ---- answers
 

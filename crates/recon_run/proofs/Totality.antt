@@ -13,6 +13,7 @@ use Rattle.recon_run.specs.Findings.{IsOnGrid}
 use Rattle.recon_run.specs.Owed.{alone, AnswersOwed, Owed, ReadsAllOrPast, Search, answer_at, in_one_piece, search_for_one, owed, owed_for, searched}
 use Rattle.recon_run.proofs.Redrawn.{each_get, fills_at, on_grid}
 use Rattle.recon_run.proofs.Faults.{file_fault}
+use Rattle.recon_run.proofs.PossibleEnds.{can_list}
 use Rattle.recon_run.proofs.Solved.{IsStated, IsWholeListing, listing, matching, some_listing, whole_listing}
 use Rattle.report.specs.FaultText.{fault_text}
 use Rattle.solid_model.specs.declared.cell.Axis.{Axis}
@@ -94,41 +95,6 @@ grid_with drawing xs ys zs = record { xs = xs; ys = ys; zs = zs; panels = record
     panel : View → PanelStyles
     panel v = record { level = grid_styles drawing (along xs ys zs) v false; upright = grid_styles drawing (along xs ys zs) v true }
 
--- a search of whatever is live ends somehow, where the live prefixes of full length stand in the stated order
-some_end : (live : PrefixTest) (n : ℕ) (limits : SearchLimits) → Ascends ChoicePrecedes (live_below live n [])
-    → (kind : EndKind) × (opened : ℕ) × (choices : List (List Bool)) × EndsAs live n limits kind opened choices
-some_end live n limits ordered = ⊎_elim
-    (λ many. (CutNodes, live_count live n [], [], (many, omega arith, record { listed = tt; ordered = tt }, omega arith)))
-    (λ few. ⊎_elim
-    (λ many. (
-      CutSolids,
-      live_count live n [],
-      take limits.solids all,
-      (
-        many,
-        omega arith,
-        record { listed = first_listed; ordered = first_ordered },
-        length-take-le limits.solids all (omega (arith, many)),
-      ),
-    ))
-    (λ few_solids. (Whole, live_count live n [], all, (few, few_solids, refl, refl)))
-    (cases_lt limits.solids (length all)))
-    (cases_lt limits.nodes (live_count live n []))
-  where
-    all : List (List Bool)
-    all = live_below live n []
-
-    parts : take limits.solids all ++ drop limits.solids all ≡ all
-    parts = take-append-drop limits.solids all
-
-    first_listed : Each (Member all) (take limits.solids all)
-    first_listed = each-append_left (Member all) (take limits.solids all) (drop limits.solids all)
-        (subst (λ (xs : List (List Bool)). Each (Member all) xs) (sym parts) (each-from (Member all) all (λ x member. member)))
-
-    first_ordered : Ascends ChoicePrecedes (take limits.solids all)
-    first_ordered = ascends-append_left ChoicePrecedes (take limits.solids all) (drop limits.solids all)
-        (subst (λ (xs : List (List Bool)). Ascends ChoicePrecedes xs) (sym parts) ordered)
-
 -- no search of an input's problem ends
 abbrev EndlessSearch : SearchLimits → List ℕ → Type 0
 EndlessSearch limits t = (p : ProblemParts) → HasProblem t p → (kind : EndKind) (opened : ℕ) (choices : List (List Bool))
@@ -168,8 +134,8 @@ module _ (limits : SearchLimits) (t : List ℕ) (short : length t ≤ most_file_
     -- with this grid and few blocks, a search ends somehow
     with_blocks : (g : GridParts) → IsGridOf drawing g → (numbers : List (Option ℕ)) (count : ℕ) → AreBlocksOf g numbers count → count ≤ most_blocks → ⊥
     with_blocks g grid numbers count are few_blocks =
-        let (kind, opened, choices, ends) = some_end (is_live problem) count limits (matching limits t problem has).ordered in
-        endless problem has kind opened choices ends
+        let end = can_list (is_live problem) count limits (matching limits t problem has).ordered [] tt tt (omega arith) in
+        endless problem has end.kind end.opened end.choices end.ends
       where
         problem : ProblemParts
         problem = record {
@@ -295,8 +261,8 @@ tried_somehow : (n : ℕ) → ((text : List ℕ) → IsTried n text → ⊥) →
 tried_somehow n never =
     let (t, file) = some_file (made_solid n) (made_is_solid n) in
     let p = made_problem n in let has = made_has_problem n t file in
-    let (kind, opened, choices, ends) = some_end (is_live p) p.blocks.count default_limits (matching default_limits t p has).ordered in
-    never _ (figures_are n t file p has kind opened choices ends _ refl)
+    let end = can_list (is_live p) p.blocks.count default_limits (matching default_limits t p has).ordered [] tt tt (omega arith) in
+    never _ (figures_are n t file p has end.kind end.opened end.choices end.ends _ refl)
 
 -- what is owed for a job is told by some text
 abbrev OwesSome : Owed → Type 0
@@ -304,7 +270,7 @@ OwesSome (searched s) = TellsSome s
 OwesSome (alone right tells) = ((text : List ℕ) → tells text → ⊥) → ⊥
 
 some_owed : (j : Job) → IsCounted j → OwesSome (owed_for j)
-some_owed (job.Solve workers limits) counted = some_listing limits
+some_owed (job.Solve workers limits pages) counted = λ t p has. some_listing limits t p has pages
 some_owed (job.Redraw which workers limits) counted = some_numbered IsFileOf (λ g chosen s on. some_file s on.matches.0) which counted.0 limits
 some_owed (job.Stl which workers limits) counted = some_numbered IsSolidStl some_stl which counted.0 limits
 some_owed (job.Make n) counted = some_written_file (made_solid n) (made_is_solid n)

@@ -4,6 +4,7 @@ use Rattle.drawing_maker.specs.Made.{made_solid}
 use Rattle.dxf_entities.specs.Reading.{read_of}
 use Rattle.recon_run.specs.declared.status.Answer.{Answer}
 use Rattle.recon_run.specs.declared.status.Answer.TheVariants as answers
+use Rattle.recon_run.specs.Pages.{Page, ArePagesOf, pages_text}
 use Rattle.report.specs.Texts.{head_text, no_solid_text, solid_text, trial_text}
 use Rattle.solid_model.specs.declared.cell.Axis.{Axis}
 use Rattle.solid_model.specs.declared.cell.Cell.{Cell}
@@ -133,15 +134,19 @@ TellsSolids number (choice ∷ choices) (s ∷ solids) text = (faces : List Face
     × (rest : List ℕ) × TellsSolids (number + 1) choices solids rest × (text ≡ solid_text number choice (length s) faces ++ rest)
 TellsSolids number _ _ text = ⊥
 
--- where a search ends so, the text lists solids, as an end of this kind has it: it tells how the search ended, and then all of them
-abbrev pub ListsSolids : (limits : SearchLimits) (t : List ℕ) (kind : EndKind) → CanEnd limits t kind → List ℕ → Type 0
-ListsSolids limits t kind c text = (l : ListedSolids limits t kind) × (texts : List ℕ) × TellsSolids 1 l.choices l.solids texts
-    × (text ≡ head_of c ++ texts)
+-- Where a search ends so, the text lists solids, as an end of this kind has it: pages of them, if they are asked for; then how
+-- the search ended, and then all of them.
+abbrev pub ListsSolids : Bool → (limits : SearchLimits) (t : List ℕ) (kind : EndKind) → CanEnd limits t kind → List ℕ → Type 0
+ListsSolids paged limits t kind c text = (l : ListedSolids limits t kind) × (pages : List Page) × ArePagesOf paged l.choices pages
+    × (texts : List ℕ) × TellsSolids 1 l.choices l.solids texts × (text ≡ pages_text 0 0 pages ++ (head_of c ++ texts))
 
--- the text begins to list them: it tells how the search ended, and then the first of them
-abbrev pub BeginsToList : (limits : SearchLimits) (t : List ℕ) (kind : EndKind) → CanEnd limits t kind → List ℕ → Type 0
-BeginsToList limits t kind c text = (l : ListedSolids limits t kind) × (first : ℕ) × (texts : List ℕ)
-    × TellsSolids 1 (take first l.choices) (take first l.solids) texts × (text ≡ head_of c ++ texts)
+-- The text begins to list them: it has the first of the pages; or all pages, how the search ended, and then the first of the
+-- solids.
+abbrev pub BeginsToList : Bool → (limits : SearchLimits) (t : List ℕ) (kind : EndKind) → CanEnd limits t kind → List ℕ → Type 0
+BeginsToList paged limits t kind c text = (l : ListedSolids limits t kind) × (pages : List Page) × ArePagesOf paged l.choices pages
+    × (first : ℕ) × ((text ≡ pages_text 0 0 (take first pages))
+    ⊎ ((texts : List ℕ) × TellsSolids 1 (take first l.choices) (take first l.solids) texts
+    × (text ≡ pages_text 0 0 pages ++ (head_of c ++ texts))))
 
 -- ---- `redraw`
 

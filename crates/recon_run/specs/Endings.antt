@@ -1,5 +1,5 @@
 -- How a run ends: what it read, answered and wrote.
-use Rattle.std.specs.Prelude.{◌≡◌, ◌⊎◌, ℕ, List, length, Option, IfSome, IsTrue, Ok, Err}
+use Rattle.std.specs.Prelude.{◌≡◌, ◌⊎◌, Bool, true, false, ℕ, List, ◌++◌, length, Option, IfSome, IsTrue, Ok, Err, IsPermutation}
 use Rattle.std.specs.Io.KnownBytes.{Appends, Keeps}
 use Rattle.recon_run.specs.declared.status.Answer.{Answer}
 use Rattle.recon_run.specs.declared.status.Answer.TheVariants as answers
@@ -7,6 +7,7 @@ use Rattle.recon_run.specs.declared.status.Failure.{Failure}
 use Rattle.recon_run.specs.declared.status.Failure.TheVariants.{ReadFault, WriteFault, Memory}
 use Rattle.recon_run.specs.Answers.{CanEnd}
 use Rattle.recon_run.specs.Owed.{AnswersOwed, Owed, Search, answer_at, begun, owed, reads_source, alone, searched}
+use Rattle.recon_run.specs.Pages.{Page, choices_on, pages_text}
 use Rattle.recon_run.specs.Status.{Status, answer_code, failure_code}
 use Rattle.solid_model.specs.declared.ended.EndKind.{EndKind}
 use Rattle.tv_base.specs.Pieces.{AppendsPrefix}
@@ -21,6 +22,12 @@ owed_to words = owed (job_said words)
 -- the right answer to words and a source that had `left` and has `rest`, where told, and its text
 abbrev pub Answers : List (List ℕ) → Option (List ℕ) → Option (List ℕ) → Answer → List ℕ → Type 0
 Answers words = AnswersOwed (owed_to words)
+
+-- Two texts are one; where pages are asked for they are one behind their pages, which tell the same choices.
+abbrev pub SameButPages : Bool → List ℕ → List ℕ → Type 0
+SameButPages false text other = text ≡ other
+SameButPages true text other = (pages others : List Page) × IsPermutation (choices_on pages) (choices_on others)
+    × (rest : List ℕ) × (text ≡ pages_text 0 0 pages ++ rest) × (other ≡ pages_text 0 0 others ++ rest)
 
 -- ---- how a run ends
 

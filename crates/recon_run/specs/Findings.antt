@@ -10,6 +10,9 @@ use Rattle.recon_run.specs.declared.status.Failure.TheVariants.{ReadFault, Write
 use Rattle.recon_run.specs.Answers.{IsFileFault, HasProblem, numbered_answer}
 use Rattle.recon_run.specs.Owed.{answer_at}
 use Rattle.recon_run.specs.Searched.{SearchedParts}
+use Rattle.recon_run.specs.Pages.{Page, ArePagesOf, pages_text}
+use Rattle.search_run.specs.declared.page_out.RunFault.{RunFault}
+use Rattle.search_run.specs.declared.page_out.RunFault.TheVariants as run_fault
 use Rattle.report.specs.FaultText.{fault_text}
 use Rattle.report.specs.Texts.{head_text, no_solid_text, solid_text, trial_text}
 use Rattle.solid_model.specs.declared.cell.Cell.{Cell}
@@ -79,6 +82,29 @@ TellsAll limits s text = (texts : List ℕ) × TellsChoices s.problem 1 s.ended.
 abbrev pub BeginsAll : SearchLimits → SearchedParts → List ℕ → Type 0
 BeginsAll limits s text = (texts : List ℕ) × BeginsChoices s.problem 1 s.ended.solids texts × (text ≡ search_head limits s ++ texts)
 
+-- ---- what `solve` tells of it
+
+-- the text is pages of what a search found, if they are asked for
+abbrev pub TellsPages : Bool → SearchedParts → List ℕ → Type 0
+TellsPages paged s text = (pages : List Page) × ArePagesOf paged s.ended.solids pages × (text ≡ pages_text 0 0 pages)
+
+-- or the first of them
+abbrev pub BeginsPages : Bool → SearchedParts → List ℕ → Type 0
+BeginsPages paged s text = (pages : List Page) × ArePagesOf paged s.ended.solids pages × (first : ℕ) × (text ≡ pages_text 0 0 (take first pages))
+
+-- the text tells pages, and then a search and its solids
+abbrev pub TellsPaged : Bool → SearchLimits → SearchedParts → List ℕ → Type 0
+TellsPaged paged limits s text = (before : List ℕ) × TellsPages paged s before × (rest : List ℕ) × TellsAll limits s rest × (text ≡ before ++ rest)
+
+-- it begins to tell that
+abbrev pub BeginsPaged : Bool → SearchLimits → SearchedParts → List ℕ → Type 0
+BeginsPaged paged limits s text = BeginsPages paged s text
+    ⊎ ((before : List ℕ) × TellsPages paged s before × (rest : List ℕ) × BeginsAll limits s rest × (text ≡ before ++ rest))
+
+-- a search of the problem within limits has ended so, and these are such texts of it
+abbrev pub TellsSearch : SearchLimits → ProblemParts → (SearchedParts → List ℕ → Type 0) → SearchedParts → List ℕ → Type 0
+TellsSearch limits p tells s text = IsSearchOf limits p s × tells s text
+
 -- ---- what is told of one solid
 
 -- a solid that matches a drawing, of which this is the grid, and that consists of the chosen cells of the grid
@@ -146,6 +172,11 @@ abbrev pub IsReply : Answer → List ℕ → Answer → List ℕ → Type 0
 IsReply answer text told other = (told ≡ answer) × (other ≡ text)
 
 -- ---- how writing ends
+
+-- why a run fails whose search failed so
+abbrev pub run_failure : RunFault → Failure
+run_failure run_fault.PageFault = WriteFault
+run_failure run_fault.Memory = Memory
 
 -- How the writing of a text ends that goes with what is given back: such a text was written; the sink failed, its count rose,
 -- and a prefix of a text that begins so was written; or memory ran out, and such a prefix was written, or nothing.

@@ -1,6 +1,9 @@
 pub mod Status
+pub mod Pages
 pub mod Answers
 pub mod Owed
 pub mod Endings
 pub mod Searched
 pub mod Findings
+pub mod SinkPages
+pub mod KeptCalls

@@ -33,10 +33,10 @@ answer_at whole Whole solids = whole solids
 answer_at whole CutNodes solids = answers.CutNodes
 answer_at whole CutSolids solids = answers.CutSolids
 
--- a search for all solids, which are listed
-abbrev pub search_for_all : SearchLimits → Search
-search_for_all limits =
-    record { limits = limits; whole = λ solids. answers.Done; tells = ListsSolids limits; begins = BeginsToList limits }
+-- a search for all solids, which are listed, after pages of them or without
+abbrev pub search_for_all : Bool → SearchLimits → Search
+search_for_all paged limits =
+    record { limits = limits; whole = λ solids. answers.Done; tells = ListsSolids paged limits; begins = BeginsToList paged limits }
 
 -- the same with the texts that begin to tell
 abbrev pub beginning : Search → Search
@@ -68,7 +68,7 @@ pub data Owed : Type 1 where
 
 -- for each job, however many work at it: a command is one line
 abbrev pub owed_for : Job → Owed
-owed_for (job.Solve workers limits) = searched (search_for_all limits)
+owed_for (job.Solve workers limits pages) = searched (search_for_all pages limits)
 owed_for (job.Redraw which workers limits) = searched (search_for_one IsFileOf which limits)
 owed_for (job.Stl which workers limits) = searched (search_for_one IsSolidStl which limits)
 owed_for (job.Make n) = alone answers.Done (IsFileOf (made_solid n))
@@ -78,6 +78,15 @@ owed_for (job.Trial n workers) = alone answers.Done (IsTried n)
 abbrev pub owed : Option Job → Owed
 owed (Some j) = owed_for j
 owed None = alone answers.Usage (λ text. text ≡ usage_text)
+
+-- pages are asked for
+abbrev pub asks_pages : Option Job → Bool
+asks_pages (Some (job.Solve workers limits pages)) = pages
+asks_pages (Some (job.Redraw which workers limits)) = false
+asks_pages (Some (job.Stl which workers limits)) = false
+asks_pages (Some (job.Make n)) = false
+asks_pages (Some (job.Trial n workers)) = false
+asks_pages None = false
 
 -- the same of texts that begin to tell
 abbrev pub begun : Owed → Owed

@@ -33,22 +33,24 @@ use words::{Job, WordFault, job_of};
 /// The usage line.
 const USAGE: &str = "usage: recon solve|redraw|make|trial\n";
 
-/// Searches within limits for the solids of the drawing that the source has left, and writes them.
+/// Searches within limits for the solids of the drawing that the source has left, and writes them,
+/// after pages of them or without.
 fn solve<R: Threads + Wait + Sync, S: Source, K: Sink, G: Gate>(
     alloc: Global,
     limits: Limits,
+    pages: bool,
     source: &mut S,
     sink: &mut K,
     crew: &Crew<'_, R, G>,
 ) -> Status
-    ensures ends { Ends (searched (search_for_all limits)) (S.left source.old) (S.left source.new)
-        (K.held sink.old) (K.held sink.new) (Rose (S.faults source.old) (S.faults source.new))
+    ensures ends { Ends (searched (search_for_all pages limits)) (S.left source.old)
+        (S.left source.new) (K.held sink.old) (K.held sink.new) (Rose (S.faults source.old) (S.faults source.new))
         (Rose (K.faults sink.old) (K.faults sink.new)) result }
     ensures within { ReadsWithin (S.left source.old) (S.left source.new) (most_file_bytes + 1) }
     ensures unwritten { result ≡ Err ReadFault → sink.new ≡ sink.old }
 {
     let found = find(alloc, source)?;
-    write_found(alloc, found, limits, sink, crew)
+    write_found(alloc, found, limits, pages, sink, crew)
 }
 
 /// Searches within limits for the solids of the drawing that the source has left, and writes the
@@ -114,9 +116,13 @@ fn do_job<R: Threads + Wait + Sync, S: Source, K: Sink, G: Gate>(
     ensures unwritten { result ≡ Err ReadFault → sink.new ≡ sink.old }
 {
     match job {
-        Job::Solve { workers, limits } => {
+        Job::Solve {
+            workers,
+            limits,
+            pages,
+        } => {
             let crew = Crew { rt, workers, gate };
-            solve(alloc, limits, source, sink, &crew)
+            solve(alloc, limits, pages, source, sink, &crew)
         }
         Job::Redraw {
             which,
@@ -173,8 +179,8 @@ fn answer<R: Threads + Wait + Sync, S: Source, K: Sink, G: Gate>(
 /// Runs the command that the arguments give, the program's `words`.
 ///
 /// `solve` writes all solids of the drawing that the source's bytes show, within the limits that the
-/// options `--nodes` and `--solids` give; `redraw` writes the drawing of one of them, by its number,
-/// and `stl` its boundary as triangles;
+/// options `--nodes` and `--solids` give, and with `--pages` pages of them while it finds them;
+/// `redraw` writes the drawing of one of them, by its number, and `stl` its boundary as triangles;
 /// `make` writes a drawing that is made from a number, and `trial` what a search of that drawing
 /// finds. As many work at a search as `--workers` says, and they pass the gate at their points; the
 /// run waits for them, and what it answers doesn't depend on their number. Other words give the usage

@@ -5,11 +5,12 @@ ghost use Rattle.recon_run.specs.declared.status.Answer.{Answer};
 ghost use Rattle.recon_run.specs.declared.status.Answer.TheVariants as answers;
 ghost use Rattle.recon_run.specs.declared.status.Failure.TheVariants as failures;
 ghost use Rattle.recon_run.specs.Answers.{HasNoFault, IsFileFault};
-ghost use Rattle.recon_run.specs.Endings.{Answers, IsCut};
-ghost use Rattle.recon_run.specs.Owed.{AnswersOwed, owed_for};
+ghost use Rattle.recon_run.specs.Endings.{Answers, IsCut, SameButPages};
+ghost use Rattle.recon_run.specs.Owed.{AnswersOwed, asks_pages, owed_for};
 ghost use Rattle.recon_run.specs.Status.{status_code};
 ghost use Rattle.solid_model.specs.declared.fault.Fault.{Fault};
 ghost use Rattle.words.specs.declared.job.Job.TheVariants as job;
+ghost use Rattle.words.specs.Jobs.{job_said};
 
 /// The number of each status, written out.
 pub fn status_numbers()
@@ -37,14 +38,16 @@ pub fn one_first_fault()
 
 /// Arguments and an input have at most one right answer, and one text that goes with it; but where
 /// both limits of the search are passed either cut is right, and a cut leaves open which of the
-/// solids are listed.
+/// solids are listed; and where pages are asked for they may tell the same solids in another order,
+/// so many in a page or so many.
 pub fn one_answer()
     ensures answer { (words : List (List ℕ)) (input : List ℕ) (rest left : Option (List ℕ))
         (a b : Answer) (text other : List ℕ) → Answers words (Some input) rest a text
         → Answers words (Some input) left b other → (a ≡ b) ⊎ (IsCut a × IsCut b) }
     ensures text { (words : List (List ℕ)) (input : List ℕ) (rest left : Option (List ℕ))
         (a b : Answer) (text other : List ℕ) → Answers words (Some input) rest a text
-        → Answers words (Some input) left b other → (IsCut a → ⊥) → text ≡ other }
+        → Answers words (Some input) left b other → (IsCut a → ⊥)
+        → SameButPages (asks_pages (job_said words)) text other }
 {}
 
 /// Arguments and an input never lack a right answer: it can't be that no answer goes with a text.

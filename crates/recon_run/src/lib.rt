@@ -8,8 +8,10 @@ mod laws;
 mod problem;
 mod reply;
 mod searched;
+mod sink_pages;
 mod status;
 mod surface;
+mod telling;
 mod trial;
 mod writing;
 

@@ -1,11 +1,13 @@
 //! Problems that are searched.
 
-ghost use Rattle.std.specs.Prelude.{◌≡◌, IfOk};
+ghost use Rattle.std.specs.Prelude.{◌≡◌, ◌≤◌, IfOk, IsErrOf, MatchResult};
 ghost use Rattle.recon_run.specs.Findings.{IsSearchOf};
+ghost use Rattle.search_run.specs.Pages.{HasAllPaged, HasPaged};
+ghost use Rattle.tv_base.specs.Faults.{Rose};
 
 use crate::crew::Crew;
 use report::head_text;
-use search_run::{NoPages, RunFault, run_search};
+use search_run::{NoPages, PageOut, RunFault, run_search};
 use solid_model::{Ended, Limits, Memory, Problem};
 use std::alloc::Global;
 use std::marker::Model;
@@ -63,7 +65,36 @@ impl Searched {
     }
 }
 
-/// Searches a problem within limits.
+/// Searches a problem within limits, and hands out what is found in pages.
+pub fn search_by<R: Threads + Wait + Sync, G: Gate, P: PageOut>(
+    alloc: Global,
+    problem: Problem,
+    limits: Limits,
+    crew: &Crew<'_, R, G>,
+    pages: &mut P,
+) -> Result<Searched, RunFault>
+    ensures search { IfOk result (IsSearchOf limits problem) }
+    ensures paged { MatchResult result
+        (λ s. HasAllPaged problem (P.calls pages.old) (P.calls pages.new) s.ended.solids)
+        (λ _. HasPaged problem (P.calls pages.old) (P.calls pages.new)) }
+    ensures later { P.faults pages.old ≤ P.faults pages.new }
+    ensures failed { IsErrOf result RunFault.PageFault
+        → Rose (P.faults pages.old) (P.faults pages.new) }
+{
+    let Ok(problem) = Arc::new(alloc, problem) else {
+        return Err(RunFault::Memory);
+    };
+    let Ok(shared) = Arc::try_clone(&problem) else {
+        return Err(RunFault::Memory);
+    };
+    let (rt, workers, gate) = (crew.rt, crew.workers, crew.gate);
+    match run_search(rt, alloc, shared, limits, workers, gate, pages) {
+        Ok((ended, _)) => Ok(Searched { problem, ended }),
+        Err(fault) => Err(fault),
+    }
+}
+
+/// The same without pages.
 pub fn search<R: Threads + Wait + Sync, G: Gate>(
     alloc: Global,
     problem: Problem,
@@ -72,11 +103,8 @@ pub fn search<R: Threads + Wait + Sync, G: Gate>(
 ) -> Result<Searched, Memory>
     ensures { IfOk result (IsSearchOf limits problem) }
 {
-    let problem = Arc::new(alloc, problem)?;
-    let shared = Arc::try_clone(&problem)?;
-    let (rt, workers, gate) = (crew.rt, crew.workers, crew.gate);
-    match run_search(rt, alloc, shared, limits, workers, gate, &mut NoPages) {
-        Ok((ended, _)) => Ok(Searched { problem, ended }),
+    match search_by(alloc, problem, limits, crew, &mut NoPages) {
+        Ok(searched) => Ok(searched),
         Err(RunFault::Memory) => Err(Memory),
         Err(RunFault::PageFault) => unreachable!(),
     }

@@ -2,15 +2,16 @@
 
 ghost use Rattle.std.specs.Prelude.{◌≡◌, ◌≤◌, length};
 ghost use Rattle.recon_run.specs.declared.status.Answer.TheVariants as answers;
-ghost use Rattle.recon_run.specs.Findings.{AnswersFound, AnswersSearch, BeginsAll, BeginsChoices, EndsText, EndsWriting, IsReply, TellsAll, TellsChoice, TellsChoices};
+ghost use Rattle.recon_run.specs.Findings.{AnswersFound, AnswersSearch, BeginsAll, BeginsChoices, BeginsPaged, EndsText, EndsWriting, IsReply, TellsAll, TellsChoice, TellsChoices, TellsPaged};
 ghost use Rattle.solid_model.specs.Limits.{most_solid_limit};
 ghost use Rattle.tv_base.specs.Faults.{Rose};
 
 use crate::crew::Crew;
 use crate::found::Found;
 use crate::reply::faulty;
-use crate::searched::{Searched, search};
+use crate::searched::Searched;
 use crate::status::{Answer, Failure, Status};
+use crate::telling::search_telling;
 use report::solid_text;
 use solid_model::{Choice, Limits, Problem};
 use std::alloc::Global;
@@ -93,19 +94,21 @@ fn write_searched<K: Sink>(
 }
 
 /// Writes what `solve` answers to a problem, which is searched within limits: the one answer that is
-/// written text by text.
+/// written text by text, and the pages, if they are asked for, while the search goes on.
 fn write_problem<R: Threads + Wait + Sync, K: Sink, G: Gate>(
     alloc: Global,
     problem: Problem,
     limits: Limits,
+    pages: bool,
     sink: &mut K,
     crew: &Crew<'_, R, G>,
 ) -> Status
-    ensures { EndsWriting (AnswersSearch limits (λ _. answers.Done) (TellsAll limits) problem)
-        (AnswersSearch limits (λ _. answers.Done) (BeginsAll limits) problem) (K.held sink.old)
-        (K.held sink.new) (Rose (K.faults sink.old) (K.faults sink.new)) result }
+    ensures { EndsWriting
+        (AnswersSearch limits (λ _. answers.Done) (TellsPaged pages limits) problem)
+        (AnswersSearch limits (λ _. answers.Done) (BeginsPaged pages limits) problem)
+        (K.held sink.old) (K.held sink.new) (Rose (K.faults sink.old) (K.faults sink.new)) result }
 {
-    let searched = search(alloc, problem, limits, crew)?;
+    let searched = search_telling(alloc, problem, limits, pages, sink, crew)?;
     write_searched(alloc, &searched, limits, sink)?;
     Ok(Answer::at_end(searched.ended().kind))
 }
@@ -115,15 +118,17 @@ pub fn write_found<R: Threads + Wait + Sync, K: Sink, G: Gate>(
     alloc: Global,
     found: Found,
     limits: Limits,
+    pages: bool,
     sink: &mut K,
     crew: &Crew<'_, R, G>,
 ) -> Status
-    ensures { EndsWriting (AnswersFound limits (λ _. answers.Done) (TellsAll limits) found)
-        (AnswersFound limits (λ _. answers.Done) (BeginsAll limits) found) (K.held sink.old)
-        (K.held sink.new) (Rose (K.faults sink.old) (K.faults sink.new)) result }
+    ensures { EndsWriting
+        (AnswersFound limits (λ _. answers.Done) (TellsPaged pages limits) found)
+        (AnswersFound limits (λ _. answers.Done) (BeginsPaged pages limits) found)
+        (K.held sink.old) (K.held sink.new) (Rose (K.faults sink.old) (K.faults sink.new)) result }
 {
     match found {
-        Found::Problem(problem) => write_problem(alloc, problem, limits, sink, crew),
+        Found::Problem(problem) => write_problem(alloc, problem, limits, pages, sink, crew),
         Found::Fault(fault) => {
             let reply = faulty(alloc, &fault)?;
             write_reply(reply.answer, reply.text.as_slice(), sink)

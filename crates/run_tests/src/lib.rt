@@ -11,6 +11,8 @@ mod entities;
 #[cfg(test)]
 mod options;
 #[cfg(test)]
+mod pages;
+#[cfg(test)]
 mod redraws;
 #[cfg(test)]
 mod rows;

@@ -1,6 +1,6 @@
 //! Drawings that are written: redrawn, and made.
 
-use crate::runs::{Runtime, run_in_one_piece, run_words};
+use crate::runs::{Runtime, run_failing, run_words};
 use drawing_maker::make;
 use recon_run::problem_of;
 use std::alloc::{AllocError, Global};
@@ -50,7 +50,7 @@ fn wanted_text(alloc: Global, wanted: &str) -> Result<String, AllocError> {
 /// What a row's run writes.
 fn told_run<R: Runtime>(rt: &R, row: Row<'_>) -> Result<String, AllocError> {
     let [_, _, _, words, _] = row.parts;
-    run_in_one_piece(rt, words, drawing_file(rt.alloc(), row.views())?)
+    run_failing(rt, words, drawing_file(rt.alloc(), row.views())?, 2)
 }
 
 #[test]

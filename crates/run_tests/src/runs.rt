@@ -48,15 +48,20 @@ pub fn run_words<R: Runtime>(rt: &R, words: &str, file: String) -> Result<String
     run_over(rt, words, &mut source, Vec::new(rt.alloc()))
 }
 
-/// The same over a sink whose second call would fail: what answers in one piece calls it once.
-pub fn run_in_one_piece<R: Runtime>(
+/// The same of a run whose sink fails in its call of this number, after ten bytes.
+pub fn run_failing<R: Runtime>(
     rt: &R,
     words: &str,
     file: String,
+    call: u32,
 ) -> Result<String, AllocError> {
-    let alloc = rt.alloc();
-    let mut source = MemSource::new(file.into_bytes(), Vec::new(alloc));
-    run_over(rt, words, &mut source, vec![in alloc; (2, 0usize)]?)
+    let mut source = MemSource::new(file.into_bytes(), Vec::new(rt.alloc()));
+    run_over(
+        rt,
+        words,
+        &mut source,
+        vec![in rt.alloc(); (call, 10usize)]?,
+    )
 }
 
 /// The file of the unit cube.
@@ -107,7 +112,8 @@ solve|--workers|65|
 solve|--workers|2|--workers|2|
 make|7|--workers|2|
 solve|--node|3|
-solve|--pages|
+solve|--pages=1|
+redraw|1|--pages|
 solve|--help|
 solve|-h|
 solve|--|

@@ -5,8 +5,8 @@ use std::test::Fail;
 use test_files::row_of;
 use words::{Job, WordFault, job_of};
 
-/// Words, divided by commas, and what they ask for: of a search how many work at it, and the limits of
-/// nodes and of solids.
+/// Words, divided by commas, and what they ask for: of a search how many work at it, the limits of
+/// nodes and of solids, and whether there are pages.
 const WORDS: &str = "\
 solve -> solve 1 1000000 4096
  -> usage
@@ -70,9 +70,9 @@ solve, --workers -> usage
 solve, --workers= -> usage
 solve, --workers, 2, --workers, 2 -> usage
 solve, --worker, 2 -> usage
-solve, --pages -> usage
-solve, --pages, --workers, 2 -> usage
-solve, --solids, 6, --pages, --nodes=1 -> usage
+solve, --pages -> solve 1 1000000 4096 pages
+solve, --pages, --workers, 2 -> solve 2 1000000 4096 pages
+solve, --solids, 6, --pages, --nodes=1 -> solve 1 1 6 pages
 solve, --pages= -> usage
 solve, --pages=1 -> usage
 solve, --pages=true -> usage
@@ -150,8 +150,13 @@ fn words_of(alloc: Global, told: &str) -> Result<Vec<String>, Fail> {
 /// What a job is, as in the table.
 fn job_text(alloc: Global, job: Job) -> Result<String, Fail> {
     Ok(match job {
-        Job::Solve { workers, limits } => {
-            format!(in alloc; "solve {workers} {} {}", limits.nodes, limits.solids)?
+        Job::Solve {
+            workers,
+            limits,
+            pages,
+        } => {
+            let end = if pages { " pages" } else { "" };
+            format!(in alloc; "solve {workers} {} {}{end}", limits.nodes, limits.solids)?
         }
         Job::Redraw {
             which,

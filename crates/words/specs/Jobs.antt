@@ -1,11 +1,11 @@
 -- The commands, and what each is asked to do.
-use Rattle.std.specs.Prelude.{ℕ, ◌≤◌, List, [], ◌∷◌, Option, Some, None, if◌then◌else◌, codes, option_map}
+use Rattle.std.specs.Prelude.{ℕ, ◌≤◌, ◌++◌, Bool, List, [], ◌∷◌, Option, Some, None, if◌then◌else◌, codes, option_map}
 use Rattle.std.specs.Str.{bytes_eq}
 use Rattle.solid_model.specs.Limits.{most_node_limit, most_solid_limit}
 use Rattle.solid_model.specs.Search.{SearchLimits, default_limits}
 use Rattle.words.specs.declared.job.Job.{Job}
 use Rattle.words.specs.declared.job.Job.TheVariants as job
-use Rattle.words.specs.Words.{Field, Table, Text, Use, number_name, number_or, taken}
+use Rattle.words.specs.Words.{Field, Table, Text, Use, is_used, number_name, number_or, taken}
 
 -- ---- what commands take
 
@@ -25,15 +25,19 @@ nodes_field = record { name = codes "nodes"; range = Some (record { least = 1; m
 abbrev pub solids_field : Field
 solids_field = record { name = codes "solids"; range = Some (record { least = 1; most = most_solid_limit }) }
 
--- the options of a search
+-- `--pages`, whether solids are told while they are found; it has no value
+abbrev pub pages_field : Field
+pages_field = record { name = codes "pages"; range = None }
+
+-- the options of a search within limits
 abbrev pub search_fields : List Field
 search_fields = workers_field ∷ nodes_field ∷ solids_field ∷ []
 
--- what `solve` takes: these, and no number
+-- what `solve` takes: these and pages, and no number
 abbrev pub solve_table : Table
-solve_table = record { options = search_fields; number = None }
+solve_table = record { options = search_fields ++ pages_field ∷ []; number = None }
 
--- what `redraw` and `stl` take: these, and the number of a solid, counted from 1
+-- what `redraw` and `stl` take: the options of a search, and the number of a solid, counted from 1
 abbrev pub redraw_table : Table
 redraw_table = record { options = search_fields; number = Some (record { least = 1; most = most_solid_limit }) }
 
@@ -55,6 +59,10 @@ workers_in us = number_or us (codes "workers") 1
 abbrev pub limits_in : List Use → SearchLimits
 limits_in us = record { nodes = number_or us (codes "nodes") default_limits.nodes; solids = number_or us (codes "solids") default_limits.solids }
 
+-- pages are asked for
+abbrev pub pages_in : List Use → Bool
+pages_in us = is_used (codes "pages") us
+
 -- the number that stands there
 abbrev pub number_in : List Use → ℕ
 number_in us = number_or us number_name 1
@@ -67,7 +75,7 @@ pub record Command : Type 0 where
 
 -- all of them
 abbrev pub commands : List Command
-commands = record { name = codes "solve"; table = solve_table; job = λ us. job.Solve (workers_in us) (limits_in us) }
+commands = record { name = codes "solve"; table = solve_table; job = λ us. job.Solve (workers_in us) (limits_in us) (pages_in us) }
     ∷ record { name = codes "redraw"; table = redraw_table; job = λ us. job.Redraw (number_in us) (workers_in us) (limits_in us) }
     ∷ record { name = codes "stl"; table = redraw_table; job = λ us. job.Stl (number_in us) (workers_in us) (limits_in us) }
     ∷ record { name = codes "make"; table = make_table; job = λ us. job.Make (number_in us) }
@@ -93,7 +101,7 @@ AreWorkers workers = (1 ≤ workers) × (workers ≤ most_workers)
 
 -- the numbers that a job asks for can be met: it counts solids from 1, and as many work at it as may
 abbrev pub IsCounted : Job → Type 0
-IsCounted (job.Solve workers limits) = AreWorkers workers
+IsCounted (job.Solve workers limits pages) = AreWorkers workers
 IsCounted (job.Redraw which workers limits) = (1 ≤ which) × AreWorkers workers
 IsCounted (job.Stl which workers limits) = (1 ≤ which) × AreWorkers workers
 IsCounted (job.Make n) = Unit {0}

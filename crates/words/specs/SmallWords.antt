@@ -1,5 +1,5 @@
 -- Small lists of words, each written as one line with a blank between two words.
-use Rattle.std.specs.Prelude.{ℕ, ◌==◌, Bool, List, [], ◌∷◌, Option, Some, None, codes, map, option_map, is_some}
+use Rattle.std.specs.Prelude.{ℕ, ◌==◌, Bool, false, List, [], ◌∷◌, Option, Some, None, codes, map, option_map, is_some}
 use Rattle.std.specs.List.{list_any, slice_split}
 use Rattle.words.specs.declared.job.Job.{Job}
 use Rattle.words.specs.declared.job.Job.TheVariants as job
@@ -13,13 +13,13 @@ words_in line = slice_split (λ c. c == 32) line
 abbrev pub job_in : Text → Option Job
 job_in line = job_said (words_in line)
 
--- a search by so many workers, within limits
-abbrev pub search_by : ℕ → ℕ → ℕ → Option Job
-search_by workers nodes solids = Some (job.Solve workers (record { nodes = nodes; solids = solids }))
+-- a search by so many workers, within limits, with pages or without
+abbrev pub search_by : ℕ → ℕ → ℕ → Bool → Option Job
+search_by workers nodes solids pages = Some (job.Solve workers (record { nodes = nodes; solids = solids }) pages)
 
--- by one worker
+-- by one worker, without pages
 abbrev pub search_within : ℕ → ℕ → Option Job
-search_within = search_by 1
+search_within nodes solids = search_by 1 nodes solids false
 
 abbrev pub redrawn : ℕ → ℕ → ℕ → ℕ → Option Job
 redrawn which workers nodes solids = Some (job.Redraw which workers (record { nodes = nodes; solids = solids }))

@@ -7,7 +7,7 @@ ghost use Rattle.clap.specs.Words.{found_of, one_text};
 ghost use Rattle.words.specs.declared.job.Job.TheVariants as job;
 ghost use Rattle.words.specs.declared.job.WordFault.TheVariants as word_fault;
 ghost use Rattle.words.specs.Barred.{is_barred};
-ghost use Rattle.words.specs.Jobs.{job_said, limits_in, make_table, number_in, redraw_table, solve_table, trial_table, workers_in};
+ghost use Rattle.words.specs.Jobs.{job_said, limits_in, make_table, number_in, pages_in, redraw_table, solve_table, trial_table, workers_in};
 ghost use Rattle.words.specs.Rows.{table_of};
 ghost use Rattle.words.specs.Words.{lies_in_range, number_name, taken};
 
@@ -21,10 +21,11 @@ use std::alloc::Global;
 /// What the words ask for.
 #[derive(Clone, Copy, Debug)]
 pub enum Job {
-    /// A search for the solids of a drawing, by so many workers.
+    /// A search for the solids of a drawing, by so many workers, with pages or without.
     Solve {
         workers: u32,
         limits: Limits,
+        pages: bool,
     },
     /// The drawing of one of these solids, by its number, counted from 1.
     Redraw {
@@ -90,7 +91,14 @@ const SOLIDS_ROW: Row<'static> = Row {
     range: Some(SOLIDS),
 };
 
-static SEARCH_ROWS: [Row<'static>; 3] = [WORKERS_ROW, NODES_ROW, SOLIDS_ROW];
+const PAGES_ROW: Row<'static> = Row {
+    name: "pages",
+    range: None,
+};
+
+static SOLVE_ROWS: [Row<'static>; 4] = [WORKERS_ROW, NODES_ROW, SOLIDS_ROW, PAGES_ROW];
+
+static REDRAW_ROWS: [Row<'static>; 3] = [WORKERS_ROW, NODES_ROW, SOLIDS_ROW];
 
 static TRIAL_ROWS: [Row<'static>; 1] = [WORKERS_ROW];
 
@@ -99,7 +107,7 @@ fn solve_rows() -> Rows<'static>
     ensures { table_of result ≡ solve_table }
 {
     Rows {
-        options: SEARCH_ROWS.as_slice(),
+        options: SOLVE_ROWS.as_slice(),
         number: None,
     }
 }
@@ -109,7 +117,7 @@ fn redraw_rows() -> Rows<'static>
     ensures { table_of result ≡ redraw_table }
 {
     Rows {
-        options: SEARCH_ROWS.as_slice(),
+        options: REDRAW_ROWS.as_slice(),
         number: Some(SOLIDS),
     }
 }
@@ -171,7 +179,7 @@ fn limits_of(matches: &ArgMatches<'_>) -> Limits
 fn solve_of(alloc: Global, words: &[String]) -> Result<Job, WordFault>
     requires { list_any is_barred (map string_bytes words.now) ≡ false }
     ensures { MatchResult result
-        (λ asked. option_map (λ us. job.Solve (workers_in us) (limits_in us))
+        (λ asked. option_map (λ us. job.Solve (workers_in us) (limits_in us) (pages_in us))
         (taken solve_table (drop 1 (map string_bytes words.now))) ≡ Some asked)
         (λ e. e ≡ word_fault.Usage
         → taken solve_table (drop 1 (map string_bytes words.now)) ≡ None) }
@@ -181,6 +189,7 @@ fn solve_of(alloc: Global, words: &[String]) -> Result<Job, WordFault>
     Ok(Job::Solve {
         workers: workers_of(&matches),
         limits: limits_of(&matches),
+        pages: matches.get_flag("pages"),
     })
 }
 
@@ -268,9 +277,10 @@ fn trial_of(alloc: Global, words: &[String]) -> Result<Job, WordFault>
 /// The job that the words ask for: the program's arguments, the first of which is the command.
 ///
 /// `solve` takes `--workers` from 1 to 64, by default 1, `--nodes` from 1 to 4,000,000, by default
-/// 1,000,000, and `--solids` from 1 to 65,536, by default 4,096. `redraw` and `stl` take these, and a
-/// number from 1 to 65,536, which must be there. `make` and `trial` take a number below 2 to the power 64,
-/// which must be there, and `trial` takes `--workers`.
+/// 1,000,000, `--solids` from 1 to 65,536, by default 4,096, and `--pages`, which has no value.
+/// `redraw` and `stl` take these but `--pages`, and a number from 1 to 65,536, which must be there.
+/// `make` and `trial` take a number below 2 to the power 64, which must be there, and `trial` takes
+/// `--workers`.
 /// Options and the number stand in any order, each at most once; an option is written as
 /// `--name value` or as `--name=value`. A value is one or more digits; leading zeros count for
 /// nothing. `Usage` comes exactly where the words aren't taken.

@@ -16,8 +16,9 @@ pub fn small_jobs()
     ensures order { job_in (codes "solve --solids 65536 --nodes=4000000")
         ≡ search_within 4000000 65536 }
     ensures least { job_in (codes "solve --nodes=1 --solids 1") ≡ search_within 1 1 }
-    ensures workers { job_in (codes "solve --workers=064") ≡ search_by 64 1000000 4096 }
-    ensures all { job_in (codes "solve --nodes=3 --workers 2 --solids=4") ≡ search_by 2 3 4 }
+    ensures workers { job_in (codes "solve --workers=064") ≡ search_by 64 1000000 4096 false }
+    ensures pages { job_in (codes "solve --pages --workers 2") ≡ search_by 2 1000000 4096 true }
+    ensures last { job_in (codes "solve --nodes=3 --pages") ≡ search_by 1 3 4096 true }
     ensures redraw { job_in (codes "redraw 02") ≡ redrawn 2 1 1000000 4096 }
     ensures between { job_in (codes "redraw --nodes 5 1 --solids=6 --workers=3")
         ≡ redrawn 1 3 5 6 }
@@ -52,9 +53,11 @@ pub fn refused_words()
         ∷ codes "solve --nodes 18446744073709551617" ∷ codes "solve --workers 0"
         ∷ codes "solve --workers=65" ∷ codes "trial 7 --workers 65" ∷ []) ≡ false }
     ensures repeats { any_said (codes "solve --nodes 2 --nodes 2"
-        ∷ codes "solve --solids=3 --nodes 2 --solids 3" ∷ codes "solve --workers 2 --workers 2" ∷ []) ≡ false }
+        ∷ codes "solve --solids=3 --nodes 2 --solids 3" ∷ codes "solve --workers 2 --workers 2"
+        ∷ codes "solve --pages --pages" ∷ []) ≡ false }
     ensures flags { any_said (codes "solve --pages=" ∷ codes "solve --pages=1"
-        ∷ codes "solve --pages" ∷ codes "redraw 1 --pages" ∷ []) ≡ false }
+        ∷ codes "solve --pages=true" ∷ codes "solve --pages 1" ∷ codes "redraw 1 --pages"
+        ∷ []) ≡ false }
     ensures names { any_said (codes "solve --node 3" ∷ codes "solve --nodess 3"
         ∷ codes "solve --Nodes 3" ∷ codes "solve -nodes 3" ∷ codes "solve -n 3"
         ∷ codes "solve --=3" ∷ codes "solve --number 3" ∷ codes "solve -h" ∷ codes "solve --help"

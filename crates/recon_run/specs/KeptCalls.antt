@@ -1,0 +1,7 @@
+-- Calls that hand out pages, as they are kept.
+use Rattle.recon_run.specs.declared.sink_pages.Told.{Told}
+use Rattle.search_run.specs.Pages.{Call}
+
+-- the call that is kept so
+abbrev pub call_of : Told → Call
+call_of t = record { number = t.number; total = t.total; choices = t.choices.items; accepted = t.accepted }

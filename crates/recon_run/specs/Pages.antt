@@ -1,0 +1,31 @@
+-- Pages, which are written while a search goes on.
+use Rattle.std.specs.Prelude.{◌≡◌, ◌+◌, ◌≤◌, Bool, true, false, ℕ, List, [], ◌∷◌, ◌++◌, length, IsPermutation}
+use Rattle.report.specs.Texts.{page_text}
+use Rattle.solid_model.specs.Limits.{most_page_choices}
+use Rattle.solid_model.specs.Lists.{Each}
+
+-- a page, by the choices that it tells
+abbrev pub Page : Type 0
+Page = List (List Bool)
+
+-- the choices of pages, one page after another
+abbrev pub choices_on : List Page → List (List Bool)
+choices_on [] = []
+choices_on (page ∷ pages) = page ++ choices_on pages
+
+-- The texts of pages, after so many pages with so many choices: each tells its number, how many choices it and those before it
+-- have, and its own.
+abbrev pub pages_text : ℕ → ℕ → List Page → List ℕ
+pages_text number total [] = []
+pages_text number total (page ∷ pages) = page_text (number + 1) (total + length page) page
+    ++ pages_text (number + 1) (total + length page) pages
+
+-- a page tells 1 to 256 choices
+abbrev pub IsPage : Page → Type 0
+IsPage page = (1 ≤ length page) × (length page ≤ most_page_choices)
+
+-- The pages that tell these choices: where pages are asked for, together they tell each of them once, in whatever order; and
+-- else there are none.
+abbrev pub ArePagesOf : Bool → List (List Bool) → List Page → Type 0
+ArePagesOf true choices pages = Each IsPage pages × IsPermutation (choices_on pages) choices
+ArePagesOf false choices pages = pages ≡ []

@@ -1,0 +1,143 @@
+//! Pages that go to a sink, as texts.
+
+ghost use Rattle.std.specs.Prelude.{◌≡◌, ◌≤◌, ◌++◌, ◌∷◌, [], List, Option, Some, None, ℕ, Bool, true, false, take, map, IfOk, OnOk, OnErr, IsErrOf};
+ghost use Rattle.search_run.specs.Pages.{Call, AddsCalls, MayAddCall};
+ghost use Rattle.recon_run.specs.SinkPages.{AreTold};
+ghost use Rattle.tv_base.specs.Faults.{Rose};
+
+use report::page_text;
+use search_run::PageOut;
+use solid_model::{Choice, Memory};
+use std::alloc::Global;
+use std::marker::{Brand, Model, PhantomData};
+use tv_base::{Sink, SinkError};
+
+/// What a sink held when pages began to go to it, and how many choices they may tell at most.
+pub trait Begun {
+    ghost held: { Option (List ℕ) };
+
+    ghost most: { ℕ };
+}
+
+impl Begun for Brand {
+    ghost held = { None };
+
+    ghost most = { 0 };
+}
+
+/// A page that was handed out, and whether the sink took it.
+#[derive(Drop)]
+pub struct Told {
+    number: u32,
+    total: usize,
+    choices: Vec<Choice>,
+    accepted: bool,
+}
+
+/// Takes pages and writes their texts to a sink, each in one call. It keeps the pages, so that it
+/// can tell what the sink gained. A page that would tell of more choices than may be told isn't
+/// written, nor any behind one that was refused.
+pub struct SinkPages<K: Sink, B: Begun> {
+    alloc: Global,
+    sink: K,
+    most: usize,
+    told: Vec<Told>,
+    refused: bool,
+    begun: PhantomData<B>,
+}
+
+impl<K: Sink, B: Begun> Model for SinkPages<K, B> {
+    ghost use Rattle.std.specs.Prelude.{◌≡◌, map};
+    ghost use Rattle.recon_run.specs.SinkPages.{PagesState, AreTold};
+
+    ghost Value = { PagesState };
+
+    ghost use Rattle.recon_run.specs.KeptCalls.{call_of};
+
+    ghost view = { λ s. record {
+      held = K.held s.sink;
+      faults = K.faults s.sink;
+      calls = map call_of s.told.items;
+    } };
+
+    ghost invariant = { λ s. AreTold B.held B.most s.refused (record {
+      held = K.held s.sink;
+      faults = K.faults s.sink;
+      calls = map call_of s.told.items;
+    }) × (s.most ≡ B.most) };
+}
+
+impl<K: Sink, B: Begun> SinkPages<K, B> {
+    /// Pages begin to go to a sink.
+    pub fn begin(alloc: Global, sink: K, most: usize) -> Self
+        requires held { K.held sink ≡ B.held }
+        requires most { most ≡ B.most }
+        ensures { result ≡ record { held = K.held sink; faults = K.faults sink; calls = [] } }
+    {
+        SinkPages {
+            alloc,
+            sink,
+            most,
+            told: Vec::new(alloc),
+            refused: false,
+            begun: PhantomData,
+        }
+    }
+
+    /// The sink, to which no more pages go.
+    pub fn into_sink(self) -> K
+        ensures held { K.held result ≡ self.held }
+        ensures faults { K.faults result ≡ self.faults }
+        ensures told { (refused : Bool) × AreTold B.held B.most refused self }
+    {
+        let Self {
+            alloc: _,
+            sink,
+            most: _,
+            told,
+            refused: _,
+            begun: _,
+        } = self;
+        drop(told);
+        sink
+    }
+}
+
+/// Choices, copied.
+fn copies(alloc: Global, choices: &[Choice]) -> Result<Vec<Choice>, Memory>
+    ensures { IfOk result (λ copies. copies.items ≡ choices.now) }
+{
+    let mut copies = Vec::new(alloc);
+    for choice in choices {
+        copies.push(choice.try_clone()?)?;
+    }
+    Ok(copies)
+}
+
+impl<K: Sink, B: Begun> PageOut for SinkPages<K, B> {
+    ghost calls = { λ s. Some s.calls };
+
+    ghost faults = { λ s. s.faults };
+
+    fn page(&mut self, number: u32, total: usize, more: &[Choice]) -> Result<(), SinkError> {
+        if self.refused || self.most < total {
+            return Err(SinkError::Memory);
+        }
+        let Ok(choices) = copies(self.alloc, more) else {
+            return Err(SinkError::Memory);
+        };
+        let Ok(text) = page_text(self.alloc, number, total, more) else {
+            return Err(SinkError::Memory);
+        };
+        self.told.reserve(1)?;
+        let written = self.sink.write_all(text.as_slice());
+        self.refused = written.is_err();
+        self.told.push_reserved(Told {
+            number,
+            total,
+            choices,
+            accepted: written.is_ok(),
+        });
+        written
+    }
+}
