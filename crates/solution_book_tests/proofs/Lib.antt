@@ -1,0 +1,2 @@
+mod Solved
+mod Authors
