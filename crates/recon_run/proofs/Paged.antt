@@ -1,15 +1,15 @@
 -- Pages that were handed out, as they are told.
-use Rattle.std.proofs.Common.{◌≡◌, Bool, true, false, ℕ, ◌+◌, ◌≤◌, List, [], ◌∷◌, ◌++◌, length, map, take, Option, Some, None, Err, inr, IsPermutation, refl, sym, ap, ap₂, subst, ◌∙◌, append_assoc, append-nil, length-append, arith}
+use Rattle.std.proofs.Common.{◌≡◌, Bool, true, false, ℕ, ◌+◌, ◌≤◌, List, [], ◌∷◌, ◌++◌, length, map, Option, Some, None, Err, inr, IsPermutation, refl, sym, ap, ap₂, subst, ◌∙◌, append_assoc, append-nil, length-append, arith}
 use Rattle.std.proofs.Math.Seq.{take-length}
 use Rattle.std.proofs.lemmas.List.{take-append-le}
 use Rattle.std.proofs.lemmas.List.Sorted.{IsPermutation-refl}
-use Rattle.std.specs.Io.KnownBytes.{Appends, Keeps}
+use Rattle.std.specs.Io.KnownBytes.{Appends}
 use Rattle.columns.proofs.LivePrefixes.{live_keeps_matching}
 use Rattle.recon_run.specs.Findings.{BeginsPages, EndsWriting, TellsPages, TellsSearch, run_failure}
 use Rattle.recon_run.specs.Pages.{Page, ArePagesOf, IsPage, choices_on, pages_text}
 use Rattle.recon_run.specs.Searched.{SearchedParts}
-use Rattle.recon_run.specs.SinkPages.{HasGained, call_text, calls_text}
-use Rattle.recon_run.proofs.PossibleEnds.{CanList, can_list}
+use Rattle.recon_run.specs.SinkPages.{HasGained, calls_text}
+use Rattle.recon_run.proofs.PossibleEnds.{can_list}
 use Rattle.report.specs.Texts.{page_text}
 use Rattle.search_run.specs.Pages.{AddsCalls, AreNumbered, Call, HasAllPaged, HasPaged, choices_of}
 use Rattle.search_run.specs.declared.page_out.RunFault.{RunFault}
@@ -17,7 +17,6 @@ use Rattle.search_run.specs.declared.page_out.RunFault.TheVariants as run_fault
 use Rattle.solid_model.specs.Blocks.{IsBlocksOf, ProblemParts}
 use Rattle.solid_model.specs.Choices.{ChoicePrecedes}
 use Rattle.solid_model.specs.Demands.{is_live}
-use Rattle.solid_model.specs.Limits.{most_page_choices}
 use Rattle.solid_model.specs.Lists.{Each, Ascends, Member}
 use Rattle.solid_model.specs.Panels.{IsGrid}
 use Rattle.solid_model.specs.Search.{SearchLimits}

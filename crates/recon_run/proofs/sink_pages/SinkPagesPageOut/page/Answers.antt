@@ -1,5 +1,5 @@
 -- The sink gained one page more, or a prefix of it.
-use Rattle.std.proofs.Common.{◌≡◌, ◌∙◌, ◌++◌, ◌∷◌, [], List, map, ap, subst, sym, refl, OnOk, OnErr, arith}
+use Rattle.std.proofs.Common.{◌≡◌, ◌∙◌, ◌++◌, ◌∷◌, [], List, map, ap, subst, sym, OnOk, OnErr, arith}
 use Rattle.std.specs.Io.KnownBytes.{Appends}
 use Rattle.tv_base.specs.Pieces.{AppendsPrefix}
 use Rattle.recon_run.specs.declared.sink_pages.Told.{Told}
