@@ -137,9 +137,9 @@ abbrev pub SameOrCuts : Bool → Answer → Answer → List ℕ → List ℕ →
 SameOrCuts paged a b text other = ((a ≡ b) ⊎ (IsCut a × IsCut b)) × ((IsCut a → ⊥) → SameButPages paged text other)
 
 -- one text is so
-pub one_text : (paged : Bool) (text other : List ℕ) → text ≡ other → SameButPages paged text other
-one_text false text other is = is
-one_text true text other is = ([], [], IsPermutation-refl [], text, refl, sym is)
+pub text_alike : (paged : Bool) (text other : List ℕ) → text ≡ other → SameButPages paged text other
+text_alike false text other is = is
+text_alike true text other is = ([], [], IsPermutation-refl [], text, refl, sym is)
 
 module _ (paged : Bool) (a b : Answer) (text other : List ℕ) where
   -- one answer, and one text
@@ -171,7 +171,7 @@ module _ (paged : Bool) (a b : Answer) (text other : List ℕ) where
 
     one_input : AnswersInput s t a text → AnswersInput s t b other → SameOrCuts paged a b text other
     one_input (inl (is, (fault, at, told))) (inl (is_too, (fault_too, at_too, told_too))) =
-        same (is ∙ sym is_too) (one_text paged text other (told ∙ ap fault_text (one_fault t fault fault_too at at_too) ∙ sym told_too))
+        same (is ∙ sym is_too) (text_alike paged text other (told ∙ ap fault_text (one_fault t fault fault_too at at_too) ∙ sym told_too))
     one_input (inl (is, (fault, at, told))) (inr (kind, c, is_end, tells)) = absurd (no_fault c.has fault at)
     one_input (inr (kind, c, is_end, tells)) (inl (is, (fault, at, told))) = absurd (no_fault c.has fault at)
     one_input (inr (kind, c, is, tells)) (inr (other_kind, d, is_too, tells_too)) = one_end kind other_kind c d is is_too tells tells_too
