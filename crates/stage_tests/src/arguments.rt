@@ -166,6 +166,11 @@ fn job_text(alloc: Global, job: Job) -> Result<String, Fail> {
             "redraw {which} {workers} {} {}",
             limits.nodes, limits.solids
         )?,
+        Job::Stl {
+            which,
+            workers,
+            limits,
+        } => format!(in alloc; "stl {which} {workers} {} {}", limits.nodes, limits.solids)?,
         Job::Make { n } => format!(in alloc; "make {n}")?,
         Job::Trial { n, workers } => format!(in alloc; "trial {n} {workers}")?,
     })
