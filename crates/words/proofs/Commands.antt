@@ -6,7 +6,7 @@ use Rattle.std.proofs.lemmas.Slice.Eq.{bytes_eq-Decides}
 use Rattle.solid_model.specs.Limits.{most_solid_limit}
 use Rattle.solid_model.specs.Lists.{Each}
 use Rattle.words.specs.declared.job.Job.{Job}
-use Rattle.words.specs.Jobs.{AreWorkers, Command, IsCounted, command_said, commands, job_said, most_workers, number_in, redraw_table, said_among, solve_table, trial_table, workers_field, workers_in}
+use Rattle.words.specs.Jobs.{AreWorkers, Command, IsCounted, command_said, commands, job_said, most_workers, number_in, one_table, said_among, solve_table, trial_table, workers_field, workers_in}
 use Rattle.words.specs.Rows.{is_sound}
 use Rattle.words.specs.Words.{Table, Text, Use, number_name, number_or, taken, text_in}
 use Rattle.words.proofs.Values.{called, read_within, value_within}
@@ -74,10 +74,10 @@ has_workers : (t : Table) → is_sound t ≡ true → called t (codes "workers")
 has_workers t sound found = within t (codes "workers") 1 most_workers 1 sound found (omega arith) (omega arith)
 
 -- `redraw` and `stl` take a number that is 1 at least
-redraw_counts : (words : List Text) (us : List Use) → taken redraw_table words ≡ Some us → (1 ≤ number_in us) × AreWorkers (workers_in us)
+redraw_counts : (words : List Text) (us : List Use) → taken one_table words ≡ Some us → (1 ≤ number_in us) × AreWorkers (workers_in us)
 redraw_counts words us is = (
-  (within redraw_table number_name 1 most_solid_limit 1 refl refl (omega arith) (omega arith) words us is).0,
-  has_workers redraw_table refl refl words us is,
+  (within one_table number_name 1 most_solid_limit 1 refl refl (omega arith) (omega arith) words us is).0,
+  has_workers one_table refl refl words us is,
 )
 
 -- so the numbers of a job that words ask for can be met

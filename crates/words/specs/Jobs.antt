@@ -37,9 +37,9 @@ search_fields = workers_field ∷ nodes_field ∷ solids_field ∷ []
 abbrev pub solve_table : Table
 solve_table = record { options = search_fields ++ pages_field ∷ []; number = None }
 
--- what `redraw` and `stl` take: the options of a search, and the number of a solid, counted from 1
-abbrev pub redraw_table : Table
-redraw_table = record { options = search_fields; number = Some (record { least = 1; most = most_solid_limit }) }
+-- what a search for one solid takes: the options of a search, and the number of the solid, counted from 1
+abbrev pub one_table : Table
+one_table = record { options = search_fields; number = Some (record { least = 1; most = most_solid_limit }) }
 
 -- what `make` takes: no option, and any number of 64 bits
 abbrev pub make_table : Table
@@ -67,6 +67,10 @@ pages_in us = is_used (codes "pages") us
 abbrev pub number_in : List Use → ℕ
 number_in us = number_or us number_name 1
 
+-- what a search for one solid is asked: its number, how many work at it, and its limits
+abbrev pub one_in : List Use → ℕ × ℕ × SearchLimits
+one_in us = (number_in us, workers_in us, limits_in us)
+
 -- a command: its name, what it takes, and the job that its words say
 pub record Command : Type 0 where
   pub name : Text
@@ -76,8 +80,8 @@ pub record Command : Type 0 where
 -- all of them
 abbrev pub commands : List Command
 commands = record { name = codes "solve"; table = solve_table; job = λ us. job.Solve (workers_in us) (limits_in us) (pages_in us) }
-    ∷ record { name = codes "redraw"; table = redraw_table; job = λ us. job.Redraw (number_in us) (workers_in us) (limits_in us) }
-    ∷ record { name = codes "stl"; table = redraw_table; job = λ us. job.Stl (number_in us) (workers_in us) (limits_in us) }
+    ∷ record { name = codes "redraw"; table = one_table; job = λ us. job.Redraw (number_in us) (workers_in us) (limits_in us) }
+    ∷ record { name = codes "stl"; table = one_table; job = λ us. job.Stl (number_in us) (workers_in us) (limits_in us) }
     ∷ record { name = codes "make"; table = make_table; job = λ us. job.Make (number_in us) }
     ∷ record { name = codes "trial"; table = trial_table; job = λ us. job.Trial (number_in us) (workers_in us) } ∷ []
 

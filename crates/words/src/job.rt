@@ -7,7 +7,7 @@ ghost use Rattle.clap.specs.Words.{found_of, one_text};
 ghost use Rattle.words.specs.declared.job.Job.TheVariants as job;
 ghost use Rattle.words.specs.declared.job.WordFault.TheVariants as word_fault;
 ghost use Rattle.words.specs.Barred.{is_barred};
-ghost use Rattle.words.specs.Jobs.{job_said, limits_in, make_table, number_in, pages_in, redraw_table, solve_table, trial_table, workers_in};
+ghost use Rattle.words.specs.Jobs.{job_said, limits_in, make_table, number_in, one_in, one_table, pages_in, solve_table, trial_table, workers_in};
 ghost use Rattle.words.specs.Rows.{table_of};
 ghost use Rattle.words.specs.Words.{lies_in_range, number_name, taken};
 
@@ -98,7 +98,7 @@ const PAGES_ROW: Row<'static> = Row {
 
 static SOLVE_ROWS: [Row<'static>; 4] = [WORKERS_ROW, NODES_ROW, SOLIDS_ROW, PAGES_ROW];
 
-static REDRAW_ROWS: [Row<'static>; 3] = [WORKERS_ROW, NODES_ROW, SOLIDS_ROW];
+static ONE_ROWS: [Row<'static>; 3] = [WORKERS_ROW, NODES_ROW, SOLIDS_ROW];
 
 static TRIAL_ROWS: [Row<'static>; 1] = [WORKERS_ROW];
 
@@ -112,12 +112,12 @@ fn solve_rows() -> Rows<'static>
     }
 }
 
-/// What `redraw` and `stl` take.
-fn redraw_rows() -> Rows<'static>
-    ensures { table_of result ≡ redraw_table }
+/// What a search for one solid takes.
+fn one_rows() -> Rows<'static>
+    ensures { table_of result ≡ one_table }
 {
     Rows {
-        options: REDRAW_ROWS.as_slice(),
+        options: ONE_ROWS.as_slice(),
         number: Some(SOLIDS),
     }
 }
@@ -193,22 +193,35 @@ fn solve_of(alloc: Global, words: &[String]) -> Result<Job, WordFault>
     })
 }
 
+/// What a search for one solid is asked: its number, how many work at it, and its limits.
+fn search_for_one(alloc: Global, words: &[String]) -> Result<(u32, u32, Limits), WordFault>
+    requires { list_any is_barred (map string_bytes words.now) ≡ false }
+    ensures { MatchResult result
+        (λ asked. option_map one_in (taken one_table (drop 1 (map string_bytes words.now)))
+        ≡ Some asked)
+        (λ e. e ≡ word_fault.Usage
+        → taken one_table (drop 1 (map string_bytes words.now)) ≡ None) }
+{
+    let table = one_rows();
+    let matches = parse(alloc, &table, words)?;
+    let which = number_or(&matches, "number", SOLIDS.least, SOLIDS.most, 1);
+    Ok((which as u32, workers_of(&matches), limits_of(&matches)))
+}
+
 /// The job of `redraw`.
 fn redraw_of(alloc: Global, words: &[String]) -> Result<Job, WordFault>
     requires { list_any is_barred (map string_bytes words.now) ≡ false }
     ensures { MatchResult result
         (λ asked. option_map (λ us. job.Redraw (number_in us) (workers_in us) (limits_in us))
-        (taken redraw_table (drop 1 (map string_bytes words.now))) ≡ Some asked)
+        (taken one_table (drop 1 (map string_bytes words.now))) ≡ Some asked)
         (λ e. e ≡ word_fault.Usage
-        → taken redraw_table (drop 1 (map string_bytes words.now)) ≡ None) }
+        → taken one_table (drop 1 (map string_bytes words.now)) ≡ None) }
 {
-    let table = redraw_rows();
-    let matches = parse(alloc, &table, words)?;
-    let which = number_or(&matches, "number", SOLIDS.least, SOLIDS.most, 1);
+    let (which, workers, limits) = search_for_one(alloc, words)?;
     Ok(Job::Redraw {
-        which: which as u32,
-        workers: workers_of(&matches),
-        limits: limits_of(&matches),
+        which,
+        workers,
+        limits,
     })
 }
 
@@ -217,17 +230,15 @@ fn stl_of(alloc: Global, words: &[String]) -> Result<Job, WordFault>
     requires { list_any is_barred (map string_bytes words.now) ≡ false }
     ensures { MatchResult result
         (λ asked. option_map (λ us. job.Stl (number_in us) (workers_in us) (limits_in us))
-        (taken redraw_table (drop 1 (map string_bytes words.now))) ≡ Some asked)
+        (taken one_table (drop 1 (map string_bytes words.now))) ≡ Some asked)
         (λ e. e ≡ word_fault.Usage
-        → taken redraw_table (drop 1 (map string_bytes words.now)) ≡ None) }
+        → taken one_table (drop 1 (map string_bytes words.now)) ≡ None) }
 {
-    let table = redraw_rows();
-    let matches = parse(alloc, &table, words)?;
-    let which = number_or(&matches, "number", SOLIDS.least, SOLIDS.most, 1);
+    let (which, workers, limits) = search_for_one(alloc, words)?;
     Ok(Job::Stl {
-        which: which as u32,
-        workers: workers_of(&matches),
-        limits: limits_of(&matches),
+        which,
+        workers,
+        limits,
     })
 }
 
