@@ -37,10 +37,10 @@ occurrences e ts = count_by (same_edge e) (flat_map edges_of ts)
 -- ---- unit squares
 
 -- a coordinate lies between the plane of a number and the next one
-abbrev pub is_between : (ℤ → ℤ) → ℤ → ℤ → Bool
-is_between line n z = int_le (line n) z && int_lt z (line (n +ℤ pos 1))
+abbrev pub is_between_planes : (ℤ → ℤ) → ℤ → ℤ → Bool
+is_between_planes line n z = int_le (line n) z && int_lt z (line (n +ℤ pos 1))
 
 -- a unit square of the plane at a coordinate, with an outward side, lies in a rectangle
-abbrev pub covers : Planes → Out → ℤ → Spot → Rectangle → Bool
-covers planes out at p r = (out_number r.out == out_number out) && (int_eq (planes (outward out).axis r.at) at
-    && (is_between (planes (right_axis out)) r.right p.u && is_between (planes (up_axis out)) r.up p.v))
+abbrev pub has_unit_square : Planes → Out → ℤ → Spot → Rectangle → Bool
+has_unit_square planes out at p r = (out_number r.out == out_number out) && (int_eq (planes (outward out).axis r.at) at
+    && (is_between_planes (planes (right_axis out)) r.right p.u && is_between_planes (planes (up_axis out)) r.up p.v))

@@ -5,13 +5,13 @@ use Rattle.solid_model.specs.Grid.{Coordinates}
 use Rattle.stl_out.specs.declared.rectangle.Rectangle.{Rectangle}
 
 -- a number, counted from 0, of one of some coordinates
-abbrev pub IsNumbered : List ℤ → ℤ → Type 0
-IsNumbered coordinates k = (pos 0 ≤ℤ k) × (k <ℤ pos (length coordinates))
+abbrev pub IsGridNumber : List ℤ → ℤ → Type 0
+IsGridNumber coordinates k = (pos 0 ≤ℤ k) × (k <ℤ pos (length coordinates))
 
 -- a rectangle's plane and its sides stand at coordinates of the grid
 pub record IsOfGrid (coordinates : Coordinates) (r : Rectangle) : Type 0 where
-  pub at : IsNumbered (coordinates (outward r.out).axis) r.at
-  pub left : IsNumbered (coordinates (right_axis r.out)) r.right
-  pub right : IsNumbered (coordinates (right_axis r.out)) (r.right +ℤ pos 1)
-  pub below : IsNumbered (coordinates (up_axis r.out)) r.up
-  pub above : IsNumbered (coordinates (up_axis r.out)) (r.up +ℤ pos 1)
+  pub at : IsGridNumber (coordinates (outward r.out).axis) r.at
+  pub left : IsGridNumber (coordinates (right_axis r.out)) r.right
+  pub right : IsGridNumber (coordinates (right_axis r.out)) (r.right +ℤ pos 1)
+  pub below : IsGridNumber (coordinates (up_axis r.out)) r.up
+  pub above : IsGridNumber (coordinates (up_axis r.out)) (r.up +ℤ pos 1)

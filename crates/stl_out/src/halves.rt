@@ -4,7 +4,7 @@ ghost use Rattle.std.specs.Prelude.{◌≡◌, pos, ◌+ℤ◌};
 ghost use Rattle.face_laws.specs.GridFaces.{planes_at, grid_planes};
 ghost use Rattle.solid_model.specs.Faces.{place};
 ghost use Rattle.solid_model.specs.Panels.{coordinates_of};
-ghost use Rattle.stl_out.specs.Numbered.{IsNumbered, IsOfGrid};
+ghost use Rattle.stl_out.specs.Numbered.{IsGridNumber, IsOfGrid};
 ghost use Rattle.stl_out.specs.Rectangles.{triangles_of};
 
 use crate::rectangle::Rectangle;
@@ -13,7 +13,7 @@ use solid_model::{Cell, Grid, Out};
 
 /// The coordinate of a number, counted from 0.
 fn coordinate(coordinates: &[i64], number: i64) -> i64
-    requires { IsNumbered coordinates.now number }
+    requires { IsGridNumber coordinates.now number }
     ensures { result ≡ planes_at coordinates.now number }
 {
     coordinates[number as usize]
@@ -21,8 +21,8 @@ fn coordinate(coordinates: &[i64], number: i64) -> i64
 
 /// The coordinates of a number and of the next one.
 fn ends(coordinates: &[i64], number: i64) -> (i64, i64)
-    requires first { IsNumbered coordinates.now number }
-    requires second { IsNumbered coordinates.now (number +ℤ pos 1) }
+    requires first { IsGridNumber coordinates.now number }
+    requires second { IsGridNumber coordinates.now (number +ℤ pos 1) }
     ensures first { result.0 ≡ planes_at coordinates.now number }
     ensures second { result.1 ≡ planes_at coordinates.now (number +ℤ pos 1) }
 {

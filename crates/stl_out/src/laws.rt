@@ -17,7 +17,7 @@ ghost use Rattle.solid_model.specs.Lists.{Member};
 ghost use Rattle.solid_model.specs.Matching.{Matches};
 ghost use Rattle.solid_model.specs.Rounds.{Spot};
 ghost use Rattle.stl_out.specs.declared.rectangle.Rectangle.{Rectangle};
-ghost use Rattle.stl_out.specs.Closed.{DirectedEdge, reverse, occurrences, covers};
+ghost use Rattle.stl_out.specs.Closed.{DirectedEdge, reverse, occurrences, has_unit_square};
 ghost use Rattle.stl_out.specs.Rectangles.{AreRectanglesOf, all_triangles, AreTrianglesOf};
 ghost use Rattle.stl_out.specs.SmallStl.{brick_coordinates, brick_triangles, first_triangle};
 ghost use Rattle.stl_out.specs.SolidStl.{IsSolidStl};
@@ -39,7 +39,7 @@ pub fn rectangles_cover_the_boundary()
     ensures { (planes : Planes) → ((a : Axis) → Rises (planes a))
         → (numbered full : Cell → Bool) → AreCellsOf planes numbered full
         → (rs : List Rectangle) → AreRectanglesOf numbered rs → (out : Out) (at : ℤ) (p : Spot)
-        → count_by (covers planes out at p) rs ≡ (if is_boundary full out at p then 1 else 0) }
+        → count_by (has_unit_square planes out at p) rs ≡ (if is_boundary full out at p then 1 else 0) }
 {}
 
 /// A solid has one list of boundary rectangles, and the chosen cells of a grid have one.
