@@ -5,7 +5,7 @@ use Rattle.recon_run.specs.declared.status.Answer.{Answer}
 use Rattle.recon_run.specs.declared.status.Answer.TheVariants as answers
 use Rattle.recon_run.specs.declared.status.Failure.{Failure}
 use Rattle.recon_run.specs.Answers.{end_answer, numbered_answer}
-use Rattle.recon_run.specs.Findings.{AnswersNumbered, AnswersOne, EndsWriting, IsWrittenOf, TellsOneAt, search_head}
+use Rattle.recon_run.specs.Findings.{AnswersNumbered, AnswersOne, EndsText, IsWrittenOf, TellsOneAt, search_head}
 use Rattle.recon_run.specs.Owed.{answer_at}
 use Rattle.recon_run.specs.Searched.{SearchedParts}
 use Rattle.recon_run.proofs.Redrawn.{numbered_done}
@@ -22,13 +22,12 @@ use Rattle.stl_out.specs.StlText.{IsStlOf}
 use Rattle.stl_out.proofs.SolidTexts.{text_of_union}
 
 -- what is told by some texts is told by others too
-pub ends_weaker : (tells begins others starts : Answer → List ℕ → Type 0) (held now : Option (List ℕ)) (rose : Type 0)
-    → ((answer : Answer) (text : List ℕ) → tells answer text → others answer text)
-    → ((answer : Answer) (text : List ℕ) → begins answer text → starts answer text)
-    → (r : Result Answer Failure) → EndsWriting tells begins held now rose r → EndsWriting others starts held now rose r
-ends_weaker tells begins others starts held now rose weaken begun (Ok answer) (text, told, appends) = (text, weaken answer text told, appends)
+pub ends_weaker : (tells begins others starts : List ℕ → Type 0) (held now : Option (List ℕ)) (rose : Type 0)
+    → ((text : List ℕ) → tells text → others text) → ((text : List ℕ) → begins text → starts text)
+    → (r : Result (Unit {0}) Failure) → EndsText tells begins held now rose r → EndsText others starts held now rose r
+ends_weaker tells begins others starts held now rose weaken begun (Ok done) (text, told, appends) = (text, weaken text told, appends)
 ends_weaker tells begins others starts held now rose weaken begun (Err failure) ends =
-    refused Answer Answer tells begins others starts held now rose (λ answer text told. (answer, begun answer text told)) failure ends
+    refused (Unit {0}) (Unit {0}) (λ _. tells) (λ _. begins) (λ _. others) (λ _. starts) held now rose (λ done text told. (done, begun text told)) failure ends
 
 -- the STL text of the cells that a choice fills is what is written of the solid
 pub written_stl : (p : ProblemParts) (choice : List Bool) (text : List ℕ)

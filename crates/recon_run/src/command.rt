@@ -7,20 +7,18 @@ ghost use Rattle.recon_run.specs.Answers.{CanEnd, HasNoFault, IsFileFault};
 ghost use Rattle.recon_run.specs.Endings.{AnswersOrFails, Ends, EndsOrFails, OfAlone, OfSearch, owed_to};
 ghost use Rattle.recon_run.specs.Owed.{owed_for, reads_source, search_for_all, search_for_one, searched};
 ghost use Rattle.recon_run.specs.Status.{Status, status_code, failure_code};
-ghost use Rattle.redraw.specs.Files.{IsFileOf};
 ghost use Rattle.solid_model.specs.declared.ended.EndKind.TheVariants.{Whole};
 ghost use Rattle.solid_model.specs.declared.fault.Fault.{Fault};
 ghost use Rattle.solid_model.specs.Limits.{most_file_bytes};
-ghost use Rattle.stl_out.specs.SolidStl.{IsSolidStl};
 ghost use Rattle.tv_base.specs.Faults.{Rose};
 ghost use Rattle.tv_base.specs.Pieces.{ReadsWithin};
 ghost use Rattle.words.specs.Jobs.{IsCounted};
 
 use crate::crew::Crew;
+use crate::export::{Drawing, Export, Triangles};
 use crate::found::find;
-use crate::reply::redrawn;
+use crate::one_solid::write_found_one;
 use crate::status::{Answer, Failure, Status, code};
-use crate::surface::write_found_one;
 use crate::trial::{made_file, trial};
 use crate::writing::{write_found, write_reply};
 use solid_model::Limits;
@@ -53,9 +51,9 @@ fn solve<R: Threads + Wait + Sync, S: Source, K: Sink, G: Gate>(
     write_found(alloc, found, limits, pages, sink, crew)
 }
 
-/// Searches within limits for the solids of the drawing that the source has left, and writes the
-/// drawing of the one of this number, counted from 1.
-fn redraw<R: Threads + Wait + Sync, S: Source, K: Sink, G: Gate>(
+/// Searches within limits for the solids of the drawing that the source has left, and writes the one
+/// of this number, counted from 1, in a form.
+fn write_one_solid<E: Export, R: Threads + Wait + Sync, S: Source, K: Sink, G: Gate>(
     alloc: Global,
     which: u32,
     limits: Limits,
@@ -64,7 +62,7 @@ fn redraw<R: Threads + Wait + Sync, S: Source, K: Sink, G: Gate>(
     crew: &Crew<'_, R, G>,
 ) -> Status
     requires { 1 ≤ which }
-    ensures ends { Ends (searched (search_for_one IsFileOf which limits)) (S.left source.old)
+    ensures ends { Ends (searched (search_for_one E.writes which limits)) (S.left source.old)
         (S.left source.new) (K.held sink.old) (K.held sink.new)
         (Rose (S.faults source.old) (S.faults source.new))
         (Rose (K.faults sink.old) (K.faults sink.new)) result }
@@ -72,30 +70,7 @@ fn redraw<R: Threads + Wait + Sync, S: Source, K: Sink, G: Gate>(
     ensures unwritten { result ≡ Err ReadFault → sink.new ≡ sink.old }
 {
     let found = find(alloc, source)?;
-    let reply = redrawn(alloc, found, which, limits, crew)?;
-    write_reply(reply.answer, reply.text.as_slice(), sink)
-}
-
-/// Searches within limits for the solids of the drawing that the source has left, and writes the
-/// triangles of the one of this number, counted from 1.
-fn stl<R: Threads + Wait + Sync, S: Source, K: Sink, G: Gate>(
-    alloc: Global,
-    which: u32,
-    limits: Limits,
-    source: &mut S,
-    sink: &mut K,
-    crew: &Crew<'_, R, G>,
-) -> Status
-    requires { 1 ≤ which }
-    ensures ends { Ends (searched (search_for_one IsSolidStl which limits)) (S.left source.old)
-        (S.left source.new) (K.held sink.old) (K.held sink.new)
-        (Rose (S.faults source.old) (S.faults source.new))
-        (Rose (K.faults sink.old) (K.faults sink.new)) result }
-    ensures within { ReadsWithin (S.left source.old) (S.left source.new) (most_file_bytes + 1) }
-    ensures unwritten { result ≡ Err ReadFault → sink.new ≡ sink.old }
-{
-    let found = find(alloc, source)?;
-    write_found_one(alloc, found, which, limits, sink, crew)
+    write_found_one::<E, R, K, G>(alloc, found, which, limits, sink, crew)
 }
 
 /// Does a job over what the source has left.
@@ -130,7 +105,7 @@ fn do_job<R: Threads + Wait + Sync, S: Source, K: Sink, G: Gate>(
             limits,
         } => {
             let crew = Crew { rt, workers, gate };
-            redraw(alloc, which, limits, source, sink, &crew)
+            write_one_solid::<Drawing, R, S, K, G>(alloc, which, limits, source, sink, &crew)
         }
         Job::Stl {
             which,
@@ -138,7 +113,7 @@ fn do_job<R: Threads + Wait + Sync, S: Source, K: Sink, G: Gate>(
             limits,
         } => {
             let crew = Crew { rt, workers, gate };
-            stl(alloc, which, limits, source, sink, &crew)
+            write_one_solid::<Triangles, R, S, K, G>(alloc, which, limits, source, sink, &crew)
         }
         Job::Make { n } => write_reply(Answer::Done, made_file(alloc, n)?.as_slice(), sink),
         Job::Trial { n, workers } => {

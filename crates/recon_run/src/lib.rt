@@ -3,14 +3,14 @@
 
 mod command;
 mod crew;
+mod export;
 mod found;
 mod laws;
+mod one_solid;
 mod problem;
-mod reply;
 mod searched;
 mod sink_pages;
 mod status;
-mod surface;
 mod telling;
 mod trial;
 mod writing;

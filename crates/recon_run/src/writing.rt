@@ -3,24 +3,24 @@
 ghost use Rattle.std.specs.Prelude.{◌≡◌, ◌≤◌, length};
 ghost use Rattle.recon_run.specs.declared.status.Answer.TheVariants as answers;
 ghost use Rattle.recon_run.specs.Findings.{AnswersFound, AnswersSearch, BeginsAll, BeginsChoices, BeginsPaged, EndsText, EndsWriting, IsReply, TellsAll, TellsChoice, TellsChoices, TellsPaged};
+ghost use Rattle.report.specs.FaultText.{fault_text};
 ghost use Rattle.solid_model.specs.Limits.{most_solid_limit};
 ghost use Rattle.tv_base.specs.Faults.{Rose};
 
 use crate::crew::Crew;
 use crate::found::Found;
-use crate::reply::faulty;
 use crate::searched::Searched;
 use crate::status::{Answer, Failure, Status};
 use crate::telling::search_telling;
-use report::solid_text;
-use solid_model::{Choice, Limits, Problem};
+use report::{fault_text, solid_text};
+use solid_model::{Choice, Fault, Limits, Problem};
 use std::alloc::Global;
 use std::sync::Wait;
 use std::thread::Threads;
 use tv_base::{Gate, Sink, SinkError};
 
 /// Writes a text in one piece.
-fn write_text<K: Sink>(sink: &mut K, text: &[u8]) -> Result<(), Failure>
+pub fn write_text<K: Sink>(sink: &mut K, text: &[u8]) -> Result<(), Failure>
     ensures later { K.faults sink.old ≤ K.faults sink.new }
     ensures ends { EndsText (λ told. told ≡ text.now) (λ told. told ≡ text.now)
         (K.held sink.old) (K.held sink.new) (Rose (K.faults sink.old) (K.faults sink.new)) result }
@@ -39,6 +39,15 @@ pub fn write_reply<K: Sink>(answer: Answer, text: &[u8], sink: &mut K) -> Status
 {
     write_text(sink, text)?;
     Ok(answer)
+}
+
+/// Writes what every command answers to a file that has a fault.
+pub fn write_fault<K: Sink>(alloc: Global, fault: &Fault, sink: &mut K) -> Status
+    ensures { EndsWriting (IsReply answers.Faulty (fault_text fault.now))
+        (IsReply answers.Faulty (fault_text fault.now)) (K.held sink.old) (K.held sink.new)
+        (Rose (K.faults sink.old) (K.faults sink.new)) result }
+{
+    write_reply(Answer::Faulty, fault_text(alloc, fault)?.as_slice(), sink)
 }
 
 /// Writes the text of the solid of this number that a choice of a problem's blocks fills.
@@ -129,9 +138,6 @@ pub fn write_found<R: Threads + Wait + Sync, K: Sink, G: Gate>(
 {
     match found {
         Found::Problem(problem) => write_problem(alloc, problem, limits, pages, sink, crew),
-        Found::Fault(fault) => {
-            let reply = faulty(alloc, &fault)?;
-            write_reply(reply.answer, reply.text.as_slice(), sink)
-        }
+        Found::Fault(fault) => write_fault(alloc, &fault, sink),
     }
 }

@@ -1,7 +1,7 @@
 -- The text is that of the solid that the choice fills.
 use Rattle.std.proofs.Common.{inr, Err, ap}
 use Rattle.recon_run.proofs.OneSolid.{written_stl}
-use Rattle.recon_run.proofs.surface.write_triangles.Goals as goal
+use Rattle.recon_run.proofs.export.TrianglesExport.write.Goals as goal
 
 pub returns-in-Ok : goal.returns-in-Ok
 returns-in-Ok g c =

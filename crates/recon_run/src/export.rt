@@ -1,0 +1,71 @@
+//! The forms in which one solid is written.
+
+ghost use Rattle.std.specs.Prelude.{ℕ, List};
+ghost use Rattle.recon_run.specs.Findings.{EndsText, IsWrittenOf};
+ghost use Rattle.redraw.specs.Files.{IsFileOf};
+ghost use Rattle.solid_model.specs.declared.cell.Cell.{Cell};
+ghost use Rattle.stl_out.specs.SolidStl.{IsSolidStl};
+ghost use Rattle.tv_base.specs.Faults.{Rose};
+
+use crate::status::Failure;
+use crate::writing::write_text;
+use redraw::dxf_of;
+use solid_model::{Choice, Problem};
+use std::alloc::Global;
+use stl_out::write_stl;
+use tv_base::{Sink, SinkError};
+
+/// A form in which one solid is written.
+pub trait Export {
+    /// The text is that of the solid in this form.
+    ghost writes: { List Cell → List ℕ → Type 0 };
+
+    /// Writes the solid that a choice of a problem's blocks fills.
+    fn write<K: Sink>(
+        alloc: Global,
+        problem: &Problem,
+        choice: &Choice,
+        sink: &mut K,
+    ) -> Result<(), Failure>
+        ensures { EndsText (IsWrittenOf writes problem.now choice.now)
+            (IsWrittenOf writes problem.now choice.now) (K.held sink.old) (K.held sink.new)
+            (Rose (K.faults sink.old) (K.faults sink.new)) result };
+}
+
+/// Its drawing, as a DXF file, in one piece.
+pub struct Drawing;
+
+impl Export for Drawing {
+    ghost writes = { IsFileOf };
+
+    fn write<K: Sink>(
+        alloc: Global,
+        problem: &Problem,
+        choice: &Choice,
+        sink: &mut K,
+    ) -> Result<(), Failure> {
+        let cells = problem.cells(alloc, choice)?;
+        let text = dxf_of(alloc, problem.grid(), cells.as_slice())?;
+        write_text(sink, text.as_slice())
+    }
+}
+
+/// The triangles of its boundary, as an STL text, in pieces.
+pub struct Triangles;
+
+impl Export for Triangles {
+    ghost writes = { IsSolidStl };
+
+    fn write<K: Sink>(
+        alloc: Global,
+        problem: &Problem,
+        choice: &Choice,
+        sink: &mut K,
+    ) -> Result<(), Failure> {
+        match write_stl(alloc, problem, choice, sink) {
+            Ok(()) => Ok(()),
+            Err(SinkError::Failed) => Err(Failure::WriteFault),
+            Err(SinkError::Memory) => Err(Failure::Memory),
+        }
+    }
+}
