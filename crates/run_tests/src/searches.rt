@@ -291,16 +291,25 @@ const HALF_HIDDEN: [&str; 3] = [
     "rect S 0 0 2 2, line S 0 1 2 1, line S 1 0 1 2",
 ];
 
+/// The prefix of a length whose values are the bits of a number, the lowest first.
+fn prefix_of_bits(alloc: Global, number: u16, length: u8) -> Result<Prefix, Fail> {
+    let mut full = Vec::new(alloc);
+    for block in 0..length & 15 {
+        full.push(number >> block & 1 == 1)?;
+    }
+    Ok(Prefix::from_bools(alloc, full.as_slice())?)
+}
+
+/// Whether a prefix is live.
+fn is_live(alloc: Global, problem: &Arc<Problem>, prefix: &Prefix) -> Result<bool, Fail> {
+    Ok(expand(alloc, problem, prefix, 1)?.is_some())
+}
+
 /// How many prefixes of a length are live.
 fn live_count(alloc: Global, problem: &Arc<Problem>, length: u8) -> Result<u32, Fail> {
     let mut count = 0u32;
     for number in 0..1u16 << (length & 15) {
-        let mut full = Vec::new(alloc);
-        for block in 0..length & 15 {
-            full.push(number >> block & 1 == 1)?;
-        }
-        let prefix = Prefix::from_bools(alloc, full.as_slice())?;
-        if expand(alloc, problem, &prefix, 1)?.is_some() {
+        if is_live(alloc, problem, &prefix_of_bits(alloc, number, length)?)? {
             count = count.saturating_add(1);
         }
     }
