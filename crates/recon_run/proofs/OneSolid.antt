@@ -1,5 +1,5 @@
 -- How the writing of one solid ends, by how that of its text does.
-use Rattle.std.proofs.Common.{◌≡◌, ◌-◌, ◌<◌, ◌≤◌, inl, Bool, ℕ, List, length, Option, Some, Result, Ok, Err, sym, subst, ◌∙◌, refl, arith}
+use Rattle.std.proofs.Common.{◌≡◌, ◌-◌, ◌<◌, ◌≤◌, inl, Bool, ℕ, List, length, Option, Some, Result, Ok, Err, sym, subst, refl, arith}
 use Rattle.std.specs.List.{slice_get}
 use Rattle.recon_run.specs.declared.status.Answer.{Answer}
 use Rattle.recon_run.specs.declared.status.Answer.TheVariants as answers

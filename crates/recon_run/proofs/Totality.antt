@@ -1,7 +1,6 @@
 -- Words and an input never lack a right answer.
-use Rattle.std.proofs.Common.{◌≡◌, refl, inl, inr, ⊎_elim, Bool, true, false, ℕ, ◌+◌, ◌-◌, ◌<◌, ◌≤◌, List, [], ◌++◌, length, take, drop, Option, Some, None, Result, Ok, Err, ℤ, sym, subst, ◌∙◌, arith}
+use Rattle.std.proofs.Common.{◌≡◌, refl, inl, inr, ⊎_elim, Bool, true, false, ℕ, ◌+◌, ◌-◌, ◌<◌, ◌≤◌, List, [], length, drop, Option, Some, None, Result, Ok, Err, ℤ, sym, ◌∙◌, arith}
 use Rattle.std.proofs.lemmas.Bool.{cases_lt}
-use Rattle.std.proofs.lemmas.List.{take-append-drop, length-take-le}
 use Rattle.dxf_entities.specs.Reading.{read_of}
 use Rattle.dxf_entities.proofs.KeptLines.{read_lines_are_kept}
 use Rattle.recon_run.specs.declared.status.Answer.{Answer}
@@ -28,22 +27,19 @@ use Rattle.solid_model.specs.declared.segment.Segment.{Segment}
 use Rattle.solid_model.specs.declared.segment.Style.{Style}
 use Rattle.solid_model.specs.Blocks.{AreBlocksOf, ProblemParts}
 use Rattle.solid_model.specs.Cells.{IsSolid}
-use Rattle.solid_model.specs.Choices.{ChoicePrecedes, cells_of_choice}
+use Rattle.solid_model.specs.Choices.{cells_of_choice}
 use Rattle.solid_model.specs.Demands.{is_live}
 use Rattle.solid_model.specs.Drawings.{drawing_of, IsShown, IsEmptyView, IsFirstEmptyView}
 use Rattle.solid_model.specs.Grid.{Coordinates, AreGridCoordinates, IsFineEnough, IsFirstTooFine}
 use Rattle.solid_model.specs.Limits.{most_blocks, most_file_bytes, most_grid_coordinates}
 use Rattle.solid_model.specs.Line.{Line}
-use Rattle.solid_model.specs.Lists.{Member, Each, Ascends}
 use Rattle.solid_model.specs.Panels.{PanelStyles, GridParts, coordinates_of, grid_styles, AreGridStyles, IsGridOf}
 use Rattle.solid_model.specs.PerAxis.{numbers_of}
 use Rattle.solid_model.specs.Runs.{IsDrawing}
 use Rattle.solid_model.specs.SearchEnds.{EndsAs}
-use Rattle.solid_model.specs.Tree.{PrefixTest, live_count, live_below}
 use Rattle.solid_model.specs.VirtualFaces.{IsVirtual}
 use Rattle.solid_model.specs.GridBox.{grid_sizes}
 use Rattle.solid_model.proofs.KeptDrawings.{lines_are_drawing}
-use Rattle.solid_model.proofs.Lists.{each-from, each-append_left, ascends-append_left}
 use Rattle.solid_model.proofs.Sheets.{without_lines-empty}
 use Rattle.solid_model.proofs.SomeGrid.{some_coordinates}
 use Rattle.solid_model.proofs.SolidsOfChoices.{as_many}
@@ -64,8 +60,6 @@ use Rattle.recon_run.proofs.Trials.{figures_are, made_has_problem}
 use Rattle.std.specs.List.{slice_get}
 use Rattle.std.proofs.lemmas.Option.{none-some, slice_get-get_or}
 use Rattle.solid_model.specs.declared.cell.Cell.{Cell}
-use Rattle.solid_model.specs.Matching.{Matches}
-use Rattle.solid_model.specs.Orders.{IsInStatedForm}
 
 -- where no view is the first empty one, every view shows something
 shown_by_views : (ls : List Line) → ((v : View) → IsFirstEmptyView ls v → ⊥) → IsShown ls

@@ -1,5 +1,5 @@
 -- What is written is told of the solid of the number.
-use Rattle.std.proofs.Common.{◌≡◌, ◌∙◌, ap, Bool, List, ℕ, length, refl, Some, ◌-◌}
+use Rattle.std.proofs.Common.{◌≡◌, ◌∙◌, ap, length, refl, Some, ◌-◌}
 use Rattle.std.specs.List.{slice_get}
 use Rattle.std.proofs.lemmas.Option.{slice_get_read}
 use Rattle.std.proofs.lemmas.Result.{err_from_is_err_and}

@@ -5,7 +5,6 @@ use Rattle.recon_run.proofs.OneSolid.{ends_weaker}
 use Rattle.redraw.specs.Files.{IsFileOf}
 use Rattle.solid_model.specs.declared.cell.Cell.{Cell}
 use Rattle.solid_model.specs.Cells.{IsSolid, is_full}
-use Rattle.solid_model.specs.Choices.{cells_of_choice}
 use Rattle.solid_model.specs.Grid.{IsUnionOf}
 use Rattle.solid_model.specs.Panels.{GridParts, coordinates_of}
 use Rattle.tv_base.specs.Faults.{Rose}
