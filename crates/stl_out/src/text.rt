@@ -7,31 +7,21 @@ ghost use Rattle.stl_out.specs.StlText.{outward_step, numbers_text, facet_text};
 
 use crate::triangle::Triangle;
 use itoa::Buffer;
-use solid_model::{Axis, Cell, Out};
+use solid_model::{Cell, Out};
 use std::alloc::AllocError;
 
-/// The step of 1 outwards.
-fn outward_step(out: Out) -> Cell
-    ensures { result ≡ outward_step out }
+/// The line of the normal, the step of 1 outwards.
+fn normal_line(out: Out) -> &'static str
+    ensures text { result.now ≡ numbers_text (codes "facet normal") (outward_step out) }
+    ensures few { length result.now ≤ 20 }
 {
-    let outward = out.direction();
-    let step = if outward.forward { 1 } else { -1 };
-    match outward.axis {
-        Axis::X => Cell {
-            x: step,
-            y: 0,
-            z: 0,
-        },
-        Axis::Y => Cell {
-            x: 0,
-            y: step,
-            z: 0,
-        },
-        Axis::Z => Cell {
-            x: 0,
-            y: 0,
-            z: step,
-        },
+    match out {
+        Out::MinusX => "facet normal -1 0 0\n",
+        Out::PlusX => "facet normal 1 0 0\n",
+        Out::MinusY => "facet normal 0 -1 0\n",
+        Out::PlusY => "facet normal 0 1 0\n",
+        Out::MinusZ => "facet normal 0 0 -1\n",
+        Out::PlusZ => "facet normal 0 0 1\n",
     }
 }
 
@@ -67,7 +57,7 @@ fn push_facet(text: &mut Vec<u8>, triangle: &Triangle) -> Result<(), AllocError>
     ensures text { OnOk result (text.new.items ≡ text.old.items ++ facet_text triangle.now) }
     ensures few { OnOk result (length text.new.items ≤ length text.old.items + 600) }
 {
-    push_numbers(text, b"facet normal", outward_step(triangle.out))?;
+    text.extend_from_slice(normal_line(triangle.out).as_bytes())?;
     text.extend_from_slice(b"outer loop\n")?;
     push_numbers(text, b"vertex", triangle.a)?;
     push_numbers(text, b"vertex", triangle.b)?;
