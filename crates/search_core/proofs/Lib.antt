@@ -3,6 +3,7 @@ pub mod TakenOut
 pub mod OnceBelow
 pub mod CoreEvents
 pub mod Tries
+pub mod Ways
 pub mod Stored
 pub mod FrontierPlaces
 pub mod Told

@@ -5,7 +5,7 @@ use Rattle.std.proofs.lemmas.List.{get_or_append_left, get_or_push, length_push,
 use Rattle.std.proofs.lemmas.Option.{none-some, same_Some}
 use Rattle.std.specs.Prelude.{if◌then◌else◌}
 use Rattle.solid_model.specs.Lists.{Each}
-use Rattle.search_core.specs.declared.trie.Node.{Node}
+use Rattle.search_core.specs.declared.nodes.Node.{Node}
 use Rattle.search_core.specs.Core.{same_prefix}
 use Rattle.search_core.specs.Notes.{prefix_at, StandsAt, AreDistinct}
 use Rattle.search_core.specs.Trie.{trie_place, ArePlaces}

@@ -1,18 +1,12 @@
 -- A piece that is taken out of a frontier stands between two parts of it, which are left.
-use Rattle.std.proofs.Common.{◌≡◌, inl, inr, Bool, true, false, true≢false, ◌&&◌, List, [], ◌∷◌, ◌++◌, refl, sym, ap, ap₂}
+use Rattle.std.proofs.Common.{◌≡◌, inl, inr, Bool, true, false, ◌&&◌, List, [], ◌∷◌, ◌++◌, refl, sym, ap, ap₂}
 use Rattle.std.specs.Bool.{Decides}
 use Rattle.std.proofs.lemmas.Bool.{both_ways, false≢true}
 use Rattle.std.proofs.lemmas.Bool.Decides.{Decides-and, Decides-like}
 use Rattle.solid_model.specs.Edges.{agree}
 use Rattle.solid_model.specs.Lists.{Member}
+use Rattle.solid_model.proofs.BitChanges.{Decides-agree}
 use Rattle.search_core.specs.Core.{same_prefix, without}
-
--- two values agree where they are the same
-Decides-agree : (x y : Bool) → Decides (agree x y) (x ≡ y)
-Decides-agree true true = (λ e. refl, λ e. refl)
-Decides-agree true false = (λ e. absurd (false≢true e), λ e. absurd (true≢false e))
-Decides-agree false true = (λ e. absurd (false≢true e), λ e. absurd (false≢true e))
-Decides-agree false false = (λ e. refl, λ e. refl)
 
 -- the test for one prefix is right
 pub Decides-same_prefix : (p q : List Bool) → Decides (same_prefix p q) (p ≡ q)

@@ -4,9 +4,9 @@ use Rattle.std.proofs.lemmas.Bool.{cases_eq, cond_both, both_ways}
 use Rattle.std.proofs.lemmas.List.{take_more, take-append-drop, get_or-set_same, get_or-set_other, get_or_past, length-set, length_push}
 use Rattle.std.proofs.lemmas.Option.{none-some, same_Some}
 use Rattle.std.specs.Prelude.{Option, if◌then◌else◌}
-use Rattle.search_core.specs.declared.trie.Node.{Node}
+use Rattle.search_core.specs.declared.nodes.Node.{Node}
 use Rattle.search_core.specs.Core.{same_prefix}
-use Rattle.search_core.specs.Trie.{bare_node, node_at, child, with_child, with_place, lead, walk, trie_place, IsTrie}
+use Rattle.search_core.specs.Trie.{bare_node, node_at, child, with_child, with_place, lead, walk, trie_place, IsTrie, HasWays}
 use Rattle.search_core.proofs.TakenOut.{Decides-same_prefix}
 
 -- ---- ways
@@ -180,6 +180,13 @@ module _ (nodes : List Node) (t : IsTrie nodes) (at : ℕ) (b : Bool) (l : at < 
       on None is f further = absurd (none-some j f)
       on (Some n) is f further = ap (λ o. lead o (λ n. walk (with_node nodes at b) n p)) (led i n c is) ∙ further n f
 
+  -- so all ways are kept
+  pub ways_with_node : HasWays nodes (with_node nodes at b)
+  ways_with_node = record {
+    grown = omega (arith, length-set (nodes ++ bare_node ∷ []) at (with_child (node_at nodes at) b (length nodes)), length_push nodes bare_node);
+    kept = λ p j e. walk-kept p 0 j e;
+  }
+
   -- where a list leads it led, or it is the list that leads to the node and one value more, and leads to the new one
   abbrev Led : ℕ → ℕ → List Bool → Type 0
   Led i j p = (walk nodes i p ≡ Some j) ⊎ ((j ≡ length nodes) × ((q : List Bool) × (walk nodes i q ≡ Some at) × (p ≡ q ++ b ∷ [])))
@@ -275,6 +282,12 @@ module _ (nodes : List Node) (t : IsTrie nodes) (at k : ℕ) (l : at < length no
       on : (o : Option ℕ) → ((n : ℕ) → walk placed n p ≡ walk nodes n p) → lead o (λ n. walk placed n p) ≡ lead o (λ n. walk nodes n p)
       on None further = refl
       on (Some n) further = further n
+
+  pub ways_placed : HasWays nodes placed
+  ways_placed = record {
+    grown = omega (arith, length-set nodes at (with_place (node_at nodes at) k));
+    kept = λ p j e. walk-placed p 0 ∙ e;
+  }
 
   -- the nodes are a tree still
   pub tree_placed : IsTrie placed

@@ -1,6 +1,6 @@
 -- A tree of nodes that lists of truth values lead down: each node leads on for one more value, and has a place or none.
-use Rattle.std.specs.Prelude.{◌≡◌, ◌↔◌, ◌<◌, Bool, true, false, ℕ, List, [], ◌∷◌, length, slice_index_or, Option, Some, None}
-use Rattle.search_core.specs.declared.trie.Node.{Node}
+use Rattle.std.specs.Prelude.{◌≡◌, ◌↔◌, ◌<◌, ◌≤◌, ◌+◌, Bool, true, false, ℕ, List, [], ◌∷◌, length, take, slice_index_or, Option, Some, None}
+use Rattle.search_core.specs.declared.nodes.Node.{Node}
 use Rattle.search_core.specs.Notes.{StandsAt}
 
 -- a node that leads nowhere
@@ -44,6 +44,25 @@ pub record IsTrie (nodes : List Node) : Type 0 where
   pub some : 0 < length nodes
   pub inside : (at : ℕ) (b : Bool) (next : ℕ) → child (node_at nodes at) b ≡ Some next → next < length nodes
   pub one_way : (p q : List Bool) (at : ℕ) → walk nodes 0 p ≡ Some at → walk nodes 0 q ≡ Some at → p ≡ q
+
+-- after the nodes have grown: each list that led to a node leads there still
+pub record HasWays (nodes after : List Node) : Type 0 where
+  pub grown : length nodes ≤ length after
+  pub kept : (p : List Bool) (at : ℕ) → walk nodes 0 p ≡ Some at → walk after 0 p ≡ Some at
+
+-- values, and the nodes to which the first of them lead
+pub record WayParts : Type 0 where
+  pub values : List Bool
+  pub nodes : List ℕ
+
+-- the root is one of these nodes, and they are at most one more than the values
+abbrev pub IsBegunWay : WayParts → Type 0
+IsBegunWay way = (0 < length way.nodes) × (length way.nodes ≤ length way.values + 1)
+
+-- a way leads down the tree: the first values, so many, lead to the node of this number
+pub record IsWay (nodes : List Node) (way : WayParts) : Type 0 where
+  pub inside : (k : ℕ) → k < length way.nodes → slice_index_or way.nodes k 0 < length nodes
+  pub leads : (k : ℕ) → k < length way.nodes → walk nodes 0 (take k way.values) ≡ Some (slice_index_or way.nodes k 0)
 
 -- the places of a tree are those of the lists that are stored
 abbrev pub ArePlaces : List Node → List (List Bool) → Type 0

@@ -6,9 +6,11 @@ mod desk;
 mod frontier;
 mod laws;
 mod ledger;
+mod nodes;
 mod note;
 mod prefixes;
 mod trie;
+mod way;
 
 pub use desk::{Desk, Reported};
 pub use laws::{small_core, the_core_conserves};

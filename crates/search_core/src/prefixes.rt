@@ -68,14 +68,14 @@ impl Prefixes {
         ensures grown { (more : List (List Bool)) × (self.new ≡ self.old ++ more) }
         ensures place { IfOk result (StandsAt self.new prefix.now) }
     {
-        if let Some(place) = self.trie.place(prefix) {
+        let at = self.trie.reach(prefix)?;
+        if let Some(place) = self.trie.place_at(at) {
             return Ok(place);
         }
         let place = self.stored.len();
         if place > u32::MAX as usize {
             return Err(Memory);
         }
-        let at = self.trie.reach(prefix)?;
         self.stored.push(prefix.try_clone()?)?;
         self.trie.put(at, place as u32);
         Ok(place as u32)

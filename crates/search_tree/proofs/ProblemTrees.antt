@@ -5,7 +5,6 @@ use Rattle.std.proofs.lemmas.List.{same_from_push}
 use Rattle.std.proofs.lemmas.Option.{none-some}
 use Rattle.columns.specs.declared.decision.Decision.{Decision}
 use Rattle.columns.specs.Decisions.{decided_by, PartialParts}
-use Rattle.columns.proofs.KeptColumns.{known_more}
 use Rattle.solid_model.specs.declared.line_id.LineId.{LineId}
 use Rattle.solid_model.specs.Blocks.{ProblemParts}
 use Rattle.solid_model.specs.Demands.{has_line, said_by, CanBeMet, is_live}

@@ -2,33 +2,35 @@
 
 use crate::path::Path;
 use line_demands::Partial;
-use solid_model::{Memory, Problem};
+use solid_model::{Memory, Prefix, Problem};
 use std::alloc::Global;
 use std::marker::Model;
 
 /// A way down the tree of a problem's prefixes, which decides its blocks one after another. All
 /// memory is taken at the beginning. Contracts see it as the problem and the values of its first
-/// blocks.
+/// blocks: of what is said of all blocks, the first so many; what is said of the others is left over.
 #[derive(Debug, Drop)]
 pub struct BlockPath<'a> {
     partial: Partial<'a>,
     blocks: u16,
-    values: Vec<bool>,
+    said: Prefix,
+    depth: u16,
 }
 
 impl<'a> Model for BlockPath<'a> {
-    ghost use Rattle.std.specs.Prelude.{vec_capacity};
+    ghost use Rattle.std.specs.Prelude.{◌≤◌, length, take};
     ghost use Rattle.search_tree.specs.BlockPaths.{PathParts, IsPath};
 
     ghost Value = { PathParts };
 
-    ghost view = { λ s. record { problem = s.partial.problem; values = s.values.items } };
+    ghost view = { λ s. record { problem = s.partial.problem; values = take s.depth s.said } };
 
-    ghost invariant = { λ s. IsPath s.partial s.blocks s.values.items (vec_capacity s.values) };
+    ghost invariant = { λ s. (s.depth ≤ length s.said)
+        × IsPath s.partial s.blocks (take s.depth s.said) (length s.said) };
 }
 
 impl<'a> BlockPath<'a> {
-    ghost use Rattle.std.specs.Prelude.{◌≡◌, [], IfOk};
+    ghost use Rattle.std.specs.Prelude.{◌≡◌, ◌≤◌, [], length, take, IfOk};
 
     /// The way that stands at the empty prefix. An `Err` is out of memory.
     pub fn new(alloc: Global, problem: &'a Problem) -> Result<BlockPath<'a>, Memory>
@@ -37,13 +39,21 @@ impl<'a> BlockPath<'a> {
         // A look at the problem tells that its blocks are those of its grid.
         let _grid = problem.grid();
         let blocks = problem.blocks().count();
-        let values = Vec::with_capacity(alloc, usize::from(blocks))?;
-        let partial = Partial::new(alloc, problem)?;
+        let said = Vec::from_elem(alloc, false, usize::from(blocks))?;
         Ok(BlockPath {
-            partial,
+            partial: Partial::new(alloc, problem)?,
             blocks,
-            values,
+            said: Prefix::from_bools(alloc, said.as_slice())?,
+            depth: 0,
         })
+    }
+
+    /// With how many same values the present prefix and a piece begin.
+    pub fn shared(&self, piece: &Prefix) -> usize
+        ensures within { result ≤ length piece.now }
+        ensures same { take result self.now.values ≡ take result piece.now }
+    {
+        self.said.shared(piece).min(usize::from(self.depth))
     }
 }
 
@@ -56,8 +66,12 @@ impl<'a> Path for BlockPath<'a> {
 
     ghost prefix = { λ s. s.values };
 
-    fn values(&self) -> &[bool] {
-        self.values.as_slice()
+    fn depth(&self) -> usize {
+        usize::from(self.depth)
+    }
+
+    fn to_prefix(&self) -> Result<Prefix, Memory> {
+        self.said.first(usize::from(self.depth))
     }
 
     fn block_count(&self) -> usize {
@@ -69,18 +83,17 @@ impl<'a> Path for BlockPath<'a> {
     }
 
     fn go_down(&mut self, full: bool) {
-        let block = self.values.len() as u16;
-        self.partial.decide(block, full);
-        self.values.push_reserved(full);
+        self.partial.decide(self.depth, full);
+        self.said.set(usize::from(self.depth), full);
+        self.depth += 1;
     }
 
     fn go_up(&mut self) -> Option<bool> {
-        match self.values.pop() {
-            Some(full) => {
-                self.partial.undo();
-                Some(full)
-            }
-            None => None,
+        if self.depth == 0 {
+            return None;
         }
+        self.depth -= 1;
+        self.partial.undo();
+        Some(self.said.get(usize::from(self.depth)))
     }
 }

@@ -41,7 +41,7 @@ pub fn expand_path<P: Path>(alloc: Global, path: &mut P, quantum: u32) -> Result
     ensures allowed { IfOk result (λ parts. IsAllowed (P.live path.old) (P.blocks path.old)
         (P.prefix path.old) parts.opened parts.found.items parts.rest.items) }
 {
-    let floor = path.values().len();
+    let floor = path.depth();
     let mut found = Vec::new(alloc);
     let mut rest = Vec::new(alloc);
     let opened = open_first(path, quantum, &mut found)?;

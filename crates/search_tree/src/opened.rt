@@ -12,7 +12,7 @@ use solid_model::{Choice, Memory};
 pub fn is_whole<P: Path>(path: &P) -> bool
     ensures { result ≡ is_whole (P.blocks path.now) (P.prefix path.now) }
 {
-    path.values().len() == path.block_count()
+    path.depth() == path.block_count()
 }
 
 /// Adds the present prefix to those found, if it is of full length.
@@ -21,8 +21,7 @@ pub fn keep_whole<P: Path>(path: &P, found: &mut Vec<Choice>) -> Result<(), Memo
         ≡ found.old.items ++ filter (is_whole (P.blocks path.now)) (P.prefix path.now ∷ [])) }
 {
     if is_whole(path) {
-        let choice = Choice::from_bools(*found.allocator(), path.values())?;
-        found.push(choice)?;
+        found.push(path.to_prefix()?.into_choice())?;
     }
     Ok(())
 }
@@ -47,7 +46,7 @@ pub fn open_first<P: Path>(
     ensures last { IfOk result (λ opened. opened ≡ quantum → StandsAtLast
         (P.live path.old) (P.blocks path.old) (P.prefix path.old) quantum (P.prefix path.new)) }
 {
-    let floor = path.values().len();
+    let floor = path.depth();
     keep_whole(path, found)?;
     let mut opened = 1;
     while opened < quantum {

@@ -1,7 +1,9 @@
 //! Ways down the tree of prefixes.
 
-ghost use Rattle.std.specs.Prelude.{◌≡◌, Bool, List, [], ◌∷◌, ◌++◌, ℕ, ◌<◌, length, MatchOption};
+ghost use Rattle.std.specs.Prelude.{◌≡◌, Bool, List, [], ◌∷◌, ◌++◌, ℕ, ◌<◌, length, IfOk, MatchOption};
 ghost use Rattle.solid_model.specs.Tree.{IsTree};
+
+use solid_model::{Memory, Prefix};
 
 /// A way down the tree of prefixes: it stands at one prefix, goes down to one with a value more, and
 /// up again. Which prefixes are live, and how many blocks there are, stays the same on the way.
@@ -15,9 +17,13 @@ pub trait Path {
     /// The present prefix.
     ghost prefix: { Self → List Bool };
 
-    /// The values of the present prefix.
-    fn values(&self) -> &[bool]
-        ensures { result.now ≡ prefix self.now };
+    /// How many values the present prefix has.
+    fn depth(&self) -> usize
+        ensures { result ≡ length (prefix self.now) };
+
+    /// A copy of the present prefix. An `Err` is out of memory.
+    fn to_prefix(&self) -> Result<Prefix, Memory>
+        ensures { IfOk result (λ copy. copy ≡ prefix self.now) };
 
     /// How many blocks there are. No live prefix is longer.
     fn block_count(&self) -> usize

@@ -17,8 +17,7 @@ fn keep_side<P: Path>(path: &mut P, full: bool, rest: &mut Vec<Prefix>) -> Resul
         ≡ rest.old.items ++ live_side (P.live path.old) (P.prefix path.old) full) }
 {
     if enter(path, full) {
-        let side = Prefix::from_bools(*rest.allocator(), path.values())?;
-        rest.push(side)?;
+        rest.push(path.to_prefix()?)?;
         path.go_up();
     }
     Ok(())
@@ -32,7 +31,7 @@ fn keep_sides<P: Path>(path: &mut P, rest: &mut Vec<Prefix>) -> Result<(), Memor
     ensures rest { OnOk result (rest.new.items
         ≡ rest.old.items ++ live_sides (P.live path.old) (P.prefix path.old)) }
 {
-    if path.values().len() < path.block_count() {
+    if path.depth() < path.block_count() {
         keep_side(path, true, rest)?;
         keep_side(path, false, rest)?;
     }
@@ -70,7 +69,7 @@ pub fn keep_rest<P: Path>(path: &mut P, floor: usize, rest: &mut Vec<Prefix>) ->
         ++ besides (P.live path.old) floor (P.prefix path.old))) }
 {
     keep_sides(path, rest)?;
-    while path.values().len() > floor {
+    while path.depth() > floor {
         keep_beside(path, floor, rest)?;
     }
     Ok(())

@@ -7,7 +7,7 @@ use crate::alone::search_path;
 use crate::expansion::expand_path;
 use crate::path::Path;
 use crate::walk::go_on;
-use solid_model::{Choice, Limits, Prefix};
+use solid_model::{Choice, Limits, Memory, Prefix};
 use std::alloc::Global;
 use std::fmt::Write;
 use std::test::Fail;
@@ -69,8 +69,12 @@ impl<'a> Path for ToldPath<'a> {
 
     ghost prefix = { λ s. s.values.items };
 
-    fn values(&self) -> &[bool] {
-        self.values.as_slice()
+    fn depth(&self) -> usize {
+        self.values.len()
+    }
+
+    fn to_prefix(&self) -> Result<Prefix, Memory> {
+        Prefix::from_bools(*self.values.allocator(), self.values.as_slice())
     }
 
     fn block_count(&self) -> usize {
@@ -151,7 +155,7 @@ fn told_walk(alloc: Global, path: &mut ToldPath) -> Result<String, Fail> {
         if !path.is_live() {
             break;
         }
-        push_values(&mut told, path.values())?;
+        push_values(&mut told, path.values.as_slice())?;
         if !go_on(path, 0) {
             break;
         }

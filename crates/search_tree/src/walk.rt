@@ -40,7 +40,7 @@ fn go_below<P: Path>(path: &mut P, floor: usize) -> bool
         → drop 1 (live_from (P.live path.old) (P.blocks path.old) (P.prefix path.old)) ≡ [] }
     ensures within { length (P.prefix path.old) ≤ P.blocks path.old }
 {
-    path.values().len() < path.block_count() && (enter(path, true) || enter(path, false))
+    path.depth() < path.block_count() && (enter(path, true) || enter(path, false))
 }
 
 /// Takes the last value back. If it was full, goes to the empty one in its place, if that is live.
@@ -76,7 +76,7 @@ fn leave<P: Path>(path: &mut P, floor: usize) -> bool
     ensures none { result ≡ false
         → later (P.live path.old) (P.blocks path.old) floor (P.prefix path.old) ≡ [] }
 {
-    while path.values().len() > floor {
+    while path.depth() > floor {
         if step_back(path, floor) {
             return true;
         }

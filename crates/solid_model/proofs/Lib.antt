@@ -51,6 +51,7 @@ pub mod NumberedPlaces
 pub mod SomeNumbering
 pub mod BlockChoices
 pub mod KeptBits
+pub mod BitChanges
 pub mod ComparedChoices
 pub mod WithoutRepeats
 pub mod Volumes

@@ -1,7 +1,8 @@
 //! Lists of truth values, kept as bits.
 
-ghost use Rattle.std.specs.Prelude.{◌≡◌, ◌≤◌, ◌<◌, ◌+◌, ℕ, false, length, slice_index_or};
+ghost use Rattle.std.specs.Prelude.{◌≡◌, ◌≢◌, ◌≤◌, ◌<◌, ◌+◌, ℕ, false, length, take, slice_index_or};
 ghost use Rattle.solid_model.specs.Bits.{is_set};
+ghost use Rattle.solid_model.specs.Edges.{agree};
 
 use crate::memory::Memory;
 use std::alloc::Global;
@@ -46,8 +47,37 @@ fn word_of(values: &[bool], from: usize) -> u64
     word
 }
 
+/// How many of the first words, of which so many are looked at, are the same.
+fn same_words(left: &[u64], right: &[u64], most: usize) -> usize
+    requires left { most ≤ length left.now }
+    requires right { most ≤ length right.now }
+    ensures within { result ≤ most }
+    ensures same { take result left.now ≡ take result right.now }
+    ensures differ { result < most
+        → slice_index_or left.now result 0 ≢ slice_index_or right.now result 0 }
+{
+    for at in 0..most {
+        if left[at] != right[at] {
+            return at;
+        }
+    }
+    most
+}
+
+/// How many of the first bits of two words are the same.
+fn same_bits(left: u64, right: u64) -> usize
+    requires { left ≢ right }
+    ensures within { result < 64 }
+    ensures same { (k : ℕ) → k < result → is_set left k ≡ is_set right k }
+    ensures differ { agree (is_set left result) (is_set right result) ≡ false }
+{
+    (left ^ right).trailing_zeros() as usize
+}
+
 impl Bits {
-    ghost use Rattle.std.specs.Prelude.{◌≡◌, ◌<◌, false, length, slice_index_or, IfOk};
+    ghost use Rattle.std.specs.Prelude.{◌≡◌, ◌≤◌, ◌<◌, false, length, take, slice_index_or, slice_set, IfOk, MatchResult};
+    ghost use Rattle.std.specs.List.{common_prefix_len};
+    ghost use Rattle.solid_model.specs.Edges.{agree};
 
     /// These values.
     pub fn from_bools(alloc: Global, values: &[bool]) -> Result<Bits, Memory>
@@ -71,6 +101,52 @@ impl Bits {
             words: self.words.clone()?,
             count: self.count,
         })
+    }
+
+    /// Becomes the same as the other. An `Err` is out of memory, and leaves it as it is.
+    pub fn try_clone_from(&mut self, other: &Bits) -> Result<(), Memory>
+        ensures { MatchResult result (λ _. self.new ≡ other.now) (λ _. self.new ≡ self.old) }
+    {
+        self.words.resize(other.words.len(), 0)?;
+        self.words.copy_from_slice(other.words.as_slice());
+        self.count = other.count;
+        Ok(())
+    }
+
+    /// The first of the values, so many. An `Err` is out of memory.
+    pub fn first(&self, count: usize) -> Result<Bits, Memory>
+        requires { count ≤ length self.now }
+        ensures { IfOk result (λ bits. bits ≡ take count self.now) }
+    {
+        let words = &self.words[..count.div_ceil(64)];
+        Ok(Bits {
+            words: Vec::from_slice(*self.words.allocator(), words)?,
+            count,
+        })
+    }
+
+    /// How many of the first values are the same as the other's.
+    pub fn shared(&self, other: &Bits) -> usize
+        ensures { result ≡ common_prefix_len agree self.now other.now }
+    {
+        let most = self.count.min(other.count);
+        let words = most.div_ceil(64);
+        let same = same_words(self.words.as_slice(), other.words.as_slice(), words);
+        if same == words {
+            return most;
+        }
+        let begun = same * 64;
+        begun + (most - begun).min(same_bits(self.words[same], other.words[same]))
+    }
+
+    /// Puts a value in the place of one.
+    pub fn set(&mut self, at: usize, value: bool)
+        requires { at < length self.old }
+        ensures { self.new ≡ slice_set self.old at value }
+    {
+        let bit = 1 << (at % 64);
+        let word = self.words[at / 64];
+        self.words[at / 64] = if value { word | bit } else { word & !bit };
     }
 
     /// How many values there are.

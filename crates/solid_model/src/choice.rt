@@ -32,6 +32,13 @@ impl Choice {
         Ok(Choice { full })
     }
 
+    /// The choice with these values, block by block.
+    pub(crate) fn from_bits(full: Bits) -> Choice
+        ensures { result ≡ full }
+    {
+        Choice { full }
+    }
+
     /// The same choice once more. An `Err` is out of memory.
     pub fn try_clone(&self) -> Result<Choice, Memory>
         ensures { IfOk result (λ choice. choice ≡ self.now) }

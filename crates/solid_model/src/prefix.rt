@@ -1,6 +1,7 @@
 //! Choices for the first blocks.
 
 use crate::bits::Bits;
+use crate::choice::Choice;
 use crate::memory::Memory;
 use std::alloc::Global;
 use std::marker::Model;
@@ -21,7 +22,9 @@ impl Model for Prefix {
 }
 
 impl Prefix {
-    ghost use Rattle.std.specs.Prelude.{◌≡◌, ◌<◌, false, length, slice_index_or, IfOk};
+    ghost use Rattle.std.specs.Prelude.{◌≡◌, ◌≤◌, ◌<◌, false, length, take, slice_index_or, slice_set, IfOk, MatchResult};
+    ghost use Rattle.std.specs.List.{common_prefix_len};
+    ghost use Rattle.solid_model.specs.Edges.{agree};
 
     /// The prefix with these values, block by block. An `Err` is out of memory.
     pub fn from_bools(alloc: Global, values: &[bool]) -> Result<Prefix, Memory>
@@ -37,6 +40,44 @@ impl Prefix {
     {
         let full = self.full.try_clone()?;
         Ok(Prefix { full })
+    }
+
+    /// Becomes the same as the other. An `Err` is out of memory, and leaves it as it is.
+    pub fn try_clone_from(&mut self, other: &Prefix) -> Result<(), Memory>
+        ensures { MatchResult result (λ _. self.new ≡ other.now) (λ _. self.new ≡ self.old) }
+    {
+        self.full.try_clone_from(&other.full)
+    }
+
+    /// What it says of the first blocks, so many. An `Err` is out of memory.
+    pub fn first(&self, count: usize) -> Result<Prefix, Memory>
+        requires { count ≤ length self.now }
+        ensures { IfOk result (λ prefix. prefix ≡ take count self.now) }
+    {
+        let full = self.full.first(count)?;
+        Ok(Prefix { full })
+    }
+
+    /// Of how many of the first blocks both say the same.
+    pub fn shared(&self, other: &Prefix) -> usize
+        ensures { result ≡ common_prefix_len agree self.now other.now }
+    {
+        self.full.shared(&other.full)
+    }
+
+    /// Says something else of the block of this number.
+    pub fn set(&mut self, at: usize, full: bool)
+        requires { at < length self.old }
+        ensures { self.new ≡ slice_set self.old at full }
+    {
+        self.full.set(at, full);
+    }
+
+    /// The choice that says the same.
+    pub fn into_choice(self) -> Choice
+        ensures { result ≡ self }
+    {
+        Choice::from_bits(self.full)
     }
 
     /// Of how many blocks it says whether they are full.

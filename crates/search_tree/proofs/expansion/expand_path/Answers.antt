@@ -21,10 +21,10 @@ returns-clause-rest g c =
           let left = λ (floor : ℕ). live_sides word last ++ besides word floor last in
           let kept : w.keep_rest.new.rest.items ≡ left (length piece) =
           w.in_ok-keep_rest.ensures.rest
-          ∙ ap (λ xs. xs ++ (live_sides (g.P.Path.live c.open_first.new.path) last ++ besides (g.P.Path.live c.open_first.new.path) (length c.values-floor.result.now) last))
+          ∙ ap (λ xs. xs ++ (live_sides (g.P.Path.live c.open_first.new.path) last ++ besides (g.P.Path.live c.open_first.new.path) (c.depth-floor.result) last))
           c.new-rest.ensures.items
-          ∙ ap (λ live. live_sides live last ++ besides live (length c.values-floor.result.now) last) c.in_ok-opened.ensures.live
-          ∙ ap left (ap length c.values-floor.ensures) in
+          ∙ ap (λ live. live_sides live last ++ besides live (c.depth-floor.result) last) c.in_ok-opened.ensures.live
+          ∙ ap left c.depth-floor.ensures in
           ap (λ rest. rest.items) w.rest-is ∙ kept ∙ sym (rest_roots word n c.requires.tree.closed c.requires.tree.short piece quantum last stands))
       | else-opened-quantum w ↦ (
           let none = none_behind quantum (live_from word n piece) (λ e. w.if-opened-quantum.false (c.in_ok-opened.ensures.opened ∙ e)) in

@@ -26,7 +26,7 @@ loop-opened-preserved g c =
     let prefix = g.P.Path.prefix c.loop-opened.path in
     let next = g.P.Path.prefix c.go_on.new.path in
     let at : StandsAtFirst word n (length piece) (coming word n (length piece) prefix) next =
-    rw (so_far.live, so_far.blocks, c.values-floor.ensures) at (c.if-not-go_on.ensures.found refl) in
+    rw (so_far.live, so_far.blocks, c.depth-floor.ensures) at (c.if-not-go_on.ensures.found refl) in
     let before = c.loop-opened.opened in
     record {
       live = c.go_on.ensures.live ∙ so_far.live;

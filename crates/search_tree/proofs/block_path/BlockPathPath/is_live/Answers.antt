@@ -1,5 +1,5 @@
 -- No line is broken, and the live prefixes of the problem make a tree.
-use Rattle.std.proofs.Common.{◌≤◌, length, ap, ◌∙◌, subst, arith}
+use Rattle.std.proofs.Common.{◌≤◌, length, take, ap, ◌∙◌, subst, arith}
 use Rattle.solid_model.specs.Demands.{is_live}
 use Rattle.solid_model.specs.Tree.{IsTree}
 use Rattle.search_tree.proofs.ProblemTrees.{path_live, none_by}
@@ -9,12 +9,12 @@ use Rattle.search_tree.proofs.block_path.BlockPathPath.is_live.Goals as goal
 pub returns-clause-asked : goal.returns-clause-asked
 returns-clause-asked c =
     let partial = c.self.inside.partial in
-    let values = c.self.inside.values.items in
-    let kept = c.self.invariant in
+    let values = take c.self.inside.depth c.self.inside.said in
+    let kept = c.self.invariant.1 in
     let within : length values ≤ partial.problem.blocks.count = omega (arith, kept.within, kept.count) in
     none_by c.broken_line.result c.is_none.result c.is_none.ensures ∙ path_live partial.problem kept.sized values within partial.decisions kept.decided c.broken_line.result c.broken_line.ensures.none
     ∙ ap (λ v. is_live v.problem v.values) c.self.view_is
 
 pub returns-clause-tree : goal.returns-clause-tree
 returns-clause-tree c =
-    subst (λ p. IsTree (is_live p) p.blocks.count) (ap (λ v. v.problem) c.self.view_is) (problem_tree c.self.inside.partial.problem c.self.invariant.sized)
+    subst (λ p. IsTree (is_live p) p.blocks.count) (ap (λ v. v.problem) c.self.view_is) (problem_tree c.self.inside.partial.problem c.self.invariant.1.sized)

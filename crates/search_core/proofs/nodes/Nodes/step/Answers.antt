@@ -2,10 +2,10 @@
 use Rattle.std.proofs.Common.{◌≡◌, ◌<◌, ◌+◌, Some, ℕ, List, [], ◌++◌, ◌∷◌, Bool, length, get_or, set, sym, ◌∙◌, ap, ap₂, subst, arith}
 use Rattle.std.proofs.lemmas.List.{get_or_read, get_or_read_under, get_or_append_left, length_push}
 use Rattle.std.specs.Prelude.{Option}
-use Rattle.search_core.specs.declared.trie.Node.{Node}
-use Rattle.search_core.specs.Trie.{bare_node, node_at, child, with_child, walk, trie_place, IsTrie}
-use Rattle.search_core.proofs.Tries.{walk-push, with_node, tree_with_node, places_with_node, way_to_new}
-use Rattle.search_core.proofs.trie.Trie.step.Goals as goal
+use Rattle.search_core.specs.declared.nodes.Node.{Node}
+use Rattle.search_core.specs.Trie.{bare_node, node_at, child, with_child, walk, trie_place, IsTrie, HasWays}
+use Rattle.search_core.proofs.Tries.{walk-push, with_node, tree_with_node, places_with_node, ways_with_node, way_to_new}
+use Rattle.search_core.proofs.nodes.Nodes.step.Goals as goal
 
 -- the child that the node has
 has : (nodes : List Node) (at : ℕ) (b : Bool) (l : at < length nodes) (node : Node) (o : Option ℕ) → node ≡ get_or nodes at node → o ≡ child node b → child (node_at nodes at) b ≡ o
@@ -22,14 +22,14 @@ written nodes pushed at next b node again new l bare items long read made =
 
 pub returns-in-Some-clause-inside : goal.returns-in-Some-clause-inside
 returns-in-Some-clause-inside c =
-    let nodes = c.self.inside.nodes.items in
+    let nodes = c.self.inside.list.items in
     let l : c.args.at < length nodes = rw c.self.view_is c.requires in
     let is = has nodes c.args.at c.args.full l c.index.result.now c.child.result c.index.ensures c.child.ensures in
     rw (← c.self.view_is) (c.self.invariant.inside c.args.at c.args.full c.in-Some.next (is ∙ c.in-Some.is))
 
 pub returns-in-Some-clause-onward : goal.returns-in-Some-clause-onward
 returns-in-Some-clause-onward c =
-    let nodes = c.self.inside.nodes.items in
+    let nodes = c.self.inside.list.items in
     let l : c.args.at < length nodes = rw c.self.view_is c.requires in
     let is = has nodes c.args.at c.args.full l c.index.result.now c.child.result c.index.ensures c.child.ensures in
     subst (λ (v : List Node). (p : List Bool) → walk v 0 p ≡ Some c.args.at → walk v 0 (p ++ c.args.full ∷ []) ≡ Some c.in-Some.next) c.self.view_is
@@ -37,7 +37,7 @@ returns-in-Some-clause-onward c =
 
 pub invariant_of-self-2 : goal.invariant_of-self-2
 invariant_of-self-2 c =
-    let nodes = c.self.inside.nodes.items in
+    let nodes = c.self.inside.list.items in
     let l : c.args.at < length nodes = rw c.self.view_is c.requires in
     let none = has nodes c.args.at c.args.full l c.index.result.now c.child.result c.index.ensures c.child.ensures ∙ c.in_default.is in
     subst IsTrie (sym (written nodes c.push.new.self.items c.args.at c.len-next.result c.args.full c.with_child.result c.index-2.result.now c.new.result l c.new.ensures c.in_ok-push.ensures.items (omega arith) c.index-2.ensures c.with_child.ensures))
@@ -45,15 +45,24 @@ invariant_of-self-2 c =
 
 pub returns-clause-places : goal.returns-clause-places
 returns-clause-places c =
-    let nodes = c.self.inside.nodes.items in
+    let nodes = c.self.inside.list.items in
     let l : c.args.at < length nodes = rw c.self.view_is c.requires in
     let none = has nodes c.args.at c.args.full l c.index.result.now c.child.result c.index.ensures c.child.ensures ∙ c.in_default.is in
     let is = written nodes c.push.new.self.items c.args.at c.len-next.result c.args.full c.with_child.result c.index-2.result.now c.new.result l c.new.ensures c.in_ok-push.ensures.items (omega arith) c.index-2.ensures c.with_child.ensures in
     λ q. ap (λ (v : List Node). trie_place v q) is ∙ places_with_node nodes c.self.invariant c.args.at c.args.full l none q ∙ ap (λ (v : List Node). trie_place v q) c.self.view_is
 
+pub returns-clause-ways : goal.returns-clause-ways
+returns-clause-ways c =
+    let nodes = c.self.inside.list.items in
+    let l : c.args.at < length nodes = rw c.self.view_is c.requires in
+    let none = has nodes c.args.at c.args.full l c.index.result.now c.child.result c.index.ensures c.child.ensures ∙ c.in_default.is in
+    let is = written nodes c.push.new.self.items c.args.at c.len-next.result c.args.full c.with_child.result c.index-2.result.now c.new.result l c.new.ensures c.in_ok-push.ensures.items (omega arith) c.index-2.ensures c.with_child.ensures in
+    subst (λ (v : List Node). HasWays v (set c.push.new.self.items c.args.at c.with_child.result)) c.self.view_is
+    (subst (HasWays nodes) (sym is) (ways_with_node nodes c.self.invariant c.args.at c.args.full l none))
+
 pub returns-clause-onward : goal.returns-clause-onward
 returns-clause-onward c =
-    let nodes = c.self.inside.nodes.items in
+    let nodes = c.self.inside.list.items in
     let l : c.args.at < length nodes = rw c.self.view_is c.requires in
     let none = has nodes c.args.at c.args.full l c.index.result.now c.child.result c.index.ensures c.child.ensures ∙ c.in_default.is in
     let is = written nodes c.push.new.self.items c.args.at c.len-next.result c.args.full c.with_child.result c.index-2.result.now c.new.result l c.new.ensures c.in_ok-push.ensures.items (omega arith) c.index-2.ensures c.with_child.ensures in
