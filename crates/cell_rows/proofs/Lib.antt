@@ -5,3 +5,4 @@ pub mod WordBits
 pub mod FilledSpans
 pub mod MarksByRows
 pub mod SpanRows
+pub mod ProblemSizes

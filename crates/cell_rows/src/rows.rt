@@ -8,7 +8,7 @@ ghost use Rattle.solid_model.specs.PerAxis.{numbers_of, AreFew};
 
 use crate::block_rows::{BlockRows, filled_row};
 use crate::span::Span;
-use solid_model::{Axis, Choice, Marks, Memory, PerAxis};
+use solid_model::{Axis, Choice, Marks, Memory, PerAxis, Problem};
 use std::alloc::Global;
 use std::marker::Model;
 
@@ -113,6 +113,16 @@ impl CellRows {
         let y = rows_along(alloc, marks, Axis::Y)?;
         let z = rows_along(alloc, marks, Axis::Z)?;
         Ok(CellRows { sizes, x, y, z })
+    }
+
+    /// Rows for the cells of a problem's grid, none of which has a mark. An `Err` is out of memory.
+    pub fn blank(alloc: Global, problem: &Problem) -> Result<CellRows, Memory>
+        ensures { IfOk result (λ rows. rows.sizes ≡ problem.now.blocks.sizes) }
+    {
+        let sizes = problem.grid().sizes();
+        let none = vec![in alloc; false; sizes.count()]?;
+        let marks = Marks::new(sizes, none);
+        CellRows::of(alloc, &marks)
     }
 
     /// Marks the cells that a choice of blocks fills, and no others, in the room of the rows.
