@@ -90,6 +90,7 @@ impl SolidTexts<'_> {
         let volume = self.problem.volume(choice);
         room.text.clear();
         push_solid_line(&mut room.text, number, choice, volume, faces.len())?;
-        push_faces(&mut room.text, faces.as_slice())
+        push_faces(&mut room.text, faces.as_slice())?;
+        Ok(())
     }
 }
