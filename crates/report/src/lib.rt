@@ -7,6 +7,7 @@ mod laws;
 mod solid;
 mod solid_texts;
 mod text;
+mod volumes;
 
 pub use faults::fault_text;
 pub use laws::{small_face_texts, small_fault_texts, small_search_texts};

@@ -1,6 +1,7 @@
 //! The texts of solids, one after another in one room.
 
 use crate::solid::{push_faces, push_solid_line};
+use crate::volumes::{block_volumes, chosen_sum};
 use cell_rows::{BlockRows, CellRows};
 use faces::faces_of_rows;
 use solid_model::{Choice, Memory, Problem};
@@ -12,17 +13,22 @@ use std::marker::Model;
 pub struct SolidTexts<'a> {
     problem: &'a Problem,
     blocks: BlockRows<'a>,
+    volumes: Vec<u128>,
 }
 
 impl<'a> Model for SolidTexts<'a> {
     ghost use Rattle.std.specs.Prelude.{◌≡◌};
+    ghost use Rattle.report.specs.Volumes.{AreVolumes};
     ghost use Rattle.solid_model.specs.Blocks.{ProblemParts};
+    ghost use Rattle.solid_model.specs.Panels.{coordinates_of};
 
     ghost Value = { ProblemParts };
 
     ghost view = { λ s. s.problem.now };
 
-    ghost invariant = { λ s. s.blocks ≡ s.problem.now.blocks };
+    ghost invariant = { λ s. (s.blocks ≡ s.problem.now.blocks)
+        × AreVolumes (coordinates_of s.problem.now.grid) s.problem.now.blocks.numbers
+        s.volumes.items };
 }
 
 /// Room for one solid at a time: its rows of cells, and its text.
@@ -40,7 +46,12 @@ impl<'a> SolidTexts<'a> {
         ensures { IfOk result (λ texts. texts ≡ problem.now) }
     {
         let blocks = BlockRows::of(alloc, problem)?;
-        Ok(SolidTexts { problem, blocks })
+        let volumes = block_volumes(alloc, problem)?;
+        Ok(SolidTexts {
+            problem,
+            blocks,
+            volumes,
+        })
     }
 }
 
@@ -87,7 +98,7 @@ impl SolidTexts<'_> {
     {
         room.rows.fill(&self.blocks, choice);
         let faces = faces_of_rows(alloc, self.problem.grid(), &room.rows)?;
-        let volume = self.problem.volume(choice);
+        let volume = chosen_sum(self.volumes.as_slice(), choice);
         room.text.clear();
         push_solid_line(&mut room.text, number, choice, volume, faces.len())?;
         push_faces(&mut room.text, faces.as_slice())?;
