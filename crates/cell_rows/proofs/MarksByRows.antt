@@ -1,16 +1,15 @@
 -- The rows along the x axis tell all marks of a box.
-use Rattle.std.proofs.Common.{◌≡◌, ◌&&◌, true, false, ℕ, ◌+◌, ◌*◌, ◌/◌, ◌%◌, ◌<◌, ◌≤◌, List, length, slice_index_or, refl, ap, sym, subst, ◌∙◌, arith}
+use Rattle.std.proofs.Common.{◌≡◌, ◌&&◌, true, false, ℕ, ◌/◌, ◌%◌, ◌<◌, ◌≤◌, List, length, slice_index_or, ap, sym, subst, ◌∙◌, arith}
 use Rattle.std.proofs.lemmas.List.{ext_get_or}
 use Rattle.std.proofs.lemmas.List.FromFn.{length-map-range_with_len, get_or-map-range_with_len}
 use Rattle.std.proofs.lemmas.Nat.{div-add-mod'}
-use Rattle.solid_model.specs.declared.cell.Axis.{Axis}
-use Rattle.solid_model.specs.declared.cell.Axis.TheVariants.{X, Y, Z}
+use Rattle.solid_model.specs.declared.cell.Axis.TheVariants.{X, Y}
 use Rattle.solid_model.specs.declared.per_axis.PerAxis.{PerAxis}
 use Rattle.solid_model.specs.Bits.{is_set}
 use Rattle.solid_model.specs.Marks.{BoxMarks}
 use Rattle.solid_model.specs.PerAxis.{numbers_of}
 use Rattle.solid_model.specs.Rooms.{Sizes, is_within, box_place, box_count}
-use Rattle.solid_model.proofs.BoxPlaces.{HasNumbersBelow, numbers_below, cell_of_place-within, cell_of_place-there}
+use Rattle.solid_model.proofs.BoxPlaces.{numbers_below, cell_of_place-within, cell_of_place-there}
 use Rattle.cell_rows.specs.Rows.{cell_numbered, row_sizes, AreRows, AreAllRows, values_by_rows, marks_by_rows}
 use Rattle.cell_rows.proofs.RowCells.{within_row}
 

@@ -1,10 +1,10 @@
 -- Rows of spans, and the words that a choice fills of them.
-use Rattle.std.proofs.Common.{◌≡◌, ◌≢◌, inl, inr, Bool, true, ℕ, ◌+◌, ◌<◌, ◌≤◌, List, [], length, get_or, slice_index_or, set, refl, ap, sym, subst, ◌∙◌, arith}
+use Rattle.std.proofs.Common.{◌≡◌, inl, inr, Bool, ℕ, ◌+◌, ◌<◌, List, [], length, get_or, set, refl, ap, sym, subst, ◌∙◌, arith}
 use Rattle.std.proofs.lemmas.Bool.{cases_lt}
 use Rattle.std.proofs.lemmas.List.{get_or-set_same, get_or-set_other}
 use Rattle.cell_rows.specs.declared.span.Span.{Span}
 use Rattle.cell_rows.specs.Rows.{cell_numbered, row_sizes, AreRows}
-use Rattle.cell_rows.specs.Spans.{is_filled, chosen_marks, AreSpans, AreFilled}
+use Rattle.cell_rows.specs.Spans.{is_filled, chosen_marks, AreRowSpans, AreFilled}
 use Rattle.cell_rows.proofs.RowCells.{AreBitsAt}
 use Rattle.solid_model.specs.declared.cell.Axis.{Axis}
 use Rattle.solid_model.specs.Bits.{is_set}
@@ -21,7 +21,7 @@ AreSpansAt b a place spans = (choice : List Bool) → AreBitsAt (chosen_marks b 
 
 -- all of them
 pub all_spans : (b : BlockNumbers) (a : Axis) (rows : List (List Span)) (count : ℕ) → HoldsSoFar (AreSpansAt b a) rows count
-    → ((choice : List Bool) → count ≡ box_count (row_sizes (chosen_marks b choice) a)) → AreSpans b a rows
+    → ((choice : List Bool) → count ≡ box_count (row_sizes (chosen_marks b choice) a)) → AreRowSpans b a rows
 all_spans b a rows count held all = record {
   listed = λ choice. held.count ∙ all choice;
   each = λ choice n within k l.
@@ -44,7 +44,7 @@ filled_more choice spans rows place word so_far there filled p k l =
     ]
 
 -- filled rows are those of the choice's marks
-pub filled_rows : (b : BlockNumbers) (a : Axis) (choice : List Bool) (spans : List (List Span)) (rows : List ℕ) → AreSpans b a spans
+pub filled_rows : (b : BlockNumbers) (a : Axis) (choice : List Bool) (spans : List (List Span)) (rows : List ℕ) → AreRowSpans b a spans
     → length rows ≡ length spans → AreFilled choice spans rows (length spans) → AreRows (chosen_marks b choice) a rows
 filled_rows b a choice spans rows are same filled = record {
   listed = same ∙ are.listed choice;
@@ -56,7 +56,7 @@ filled_rows b a choice spans rows are same filled = record {
 }
 
 -- there are as many rows as along the same axis of any box of these sizes
-pub count_rows : (b : BlockNumbers) (a : Axis) (choice : List Bool) (m : BoxMarks) (spans : List (List Span)) (rows : List ℕ) → AreSpans b a spans
+pub count_rows : (b : BlockNumbers) (a : Axis) (choice : List Bool) (m : BoxMarks) (spans : List (List Span)) (rows : List ℕ) → AreRowSpans b a spans
     → AreRows m a rows → m.sizes ≡ b.sizes → length rows ≡ length spans
 count_rows b a choice m spans rows are rows_are same =
     rows_are.listed ∙ ap (λ s. box_count (numbered a 1 (numbers_of s))) same ∙ sym (are.listed choice)

@@ -27,7 +27,7 @@ abbrev pub chosen_marks : BlockNumbers → List Bool → BoxMarks
 chosen_marks b choice = record { sizes = b.sizes; values = cells_of_choice b.numbers choice }
 
 -- spans for each row along an axis, which tell of every choice what it fills
-pub record AreSpans (b : BlockNumbers) (a : Axis) (rows : List (List Span)) : Type 0 where
+pub record AreRowSpans (b : BlockNumbers) (a : Axis) (rows : List (List Span)) : Type 0 where
   pub listed : (choice : List Bool) → length rows ≡ box_count (row_sizes (chosen_marks b choice) a)
   pub each : (choice : List Bool) (n : PerAxis) → IsTrue (is_within (row_sizes (chosen_marks b choice) a) (cell_numbered a 0 n))
       → (k : ℕ) → k < 64
@@ -35,9 +35,9 @@ pub record AreSpans (b : BlockNumbers) (a : Axis) (rows : List (List Span)) : Ty
       ≡ is_marked_at (chosen_marks b choice) a n k
 
 -- those along all axes of a box each of whose cells has a block or none, and at most 63 cells along each axis
-pub record AreAllSpans (b : BlockNumbers) (x y z : List (List Span)) : Type 0 where
+pub record AreAllRowSpans (b : BlockNumbers) (x y z : List (List Span)) : Type 0 where
   pub listed : length b.numbers ≡ box_count (numbers_of b.sizes)
   pub few : (a : Axis) → numbers_of b.sizes a ≤ 63
-  pub along_x : AreSpans b X x
-  pub along_y : AreSpans b Y y
-  pub along_z : AreSpans b Z z
+  pub along_x : AreRowSpans b X x
+  pub along_y : AreRowSpans b Y y
+  pub along_z : AreRowSpans b Z z

@@ -2,7 +2,7 @@
 
 ghost use Rattle.std.specs.Prelude.{◌≡◌, ◌≢◌, ◌≤◌, ◌<◌, ◌++◌, ◌∷◌, ◌||◌, [], ℕ, Bool, List, map, IsTrue, IfOk};
 ghost use Rattle.cell_rows.specs.Rows.{is_marked_at};
-ghost use Rattle.cell_rows.specs.Spans.{is_filled, chosen_marks, AreSpans};
+ghost use Rattle.cell_rows.specs.Spans.{is_filled, chosen_marks, AreRowSpans};
 ghost use Rattle.solid_model.specs.Bits.{is_set};
 ghost use Rattle.solid_model.specs.Choices.{is_chosen};
 ghost use Rattle.solid_model.specs.PerAxis.{numbers_of};
@@ -24,14 +24,14 @@ pub struct BlockRows<'a> {
 
 impl<'a> Model for BlockRows<'a> {
     ghost use Rattle.std.specs.Prelude.{map};
-    ghost use Rattle.cell_rows.specs.Spans.{AreAllSpans};
+    ghost use Rattle.cell_rows.specs.Spans.{AreAllRowSpans};
     ghost use Rattle.solid_model.specs.Blocks.{BlockNumbers};
 
     ghost Value = { BlockNumbers };
 
     ghost view = { λ s. s.blocks.now };
 
-    ghost invariant = { λ s. AreAllSpans s.blocks.now (map (λ r. r.items) s.x.items)
+    ghost invariant = { λ s. AreAllRowSpans s.blocks.now (map (λ r. r.items) s.x.items)
         (map (λ r. r.items) s.y.items) (map (λ r. r.items) s.z.items) };
 }
 
@@ -121,7 +121,7 @@ fn spans_along(
 ) -> Result<Vec<Vec<Span>>, Memory>
     requires sizes { sizes ≡ blocks.now.sizes }
     requires few { (a : Axis) → numbers_of sizes a ≤ 63 }
-    ensures { IfOk result (λ rows. AreSpans blocks.now axis (map (λ r. r.items) rows.items)) }
+    ensures { IfOk result (λ rows. AreRowSpans blocks.now axis (map (λ r. r.items) rows.items)) }
 {
     let ends = sizes.numbered(axis, 1);
     let mut rows = Vec::with_capacity(alloc, ends.count())?;
@@ -162,13 +162,13 @@ impl<'a> BlockRows<'a> {
 
 impl BlockRows<'_> {
     ghost use Rattle.std.specs.Prelude.{◌≡◌, length, map};
-    ghost use Rattle.cell_rows.specs.Spans.{AreSpans};
+    ghost use Rattle.cell_rows.specs.Spans.{AreRowSpans};
     ghost use Rattle.solid_model.specs.PerAxis.{numbers_of};
     ghost use Rattle.solid_model.specs.Rooms.{box_count};
 
     /// The spans of all rows along an axis.
     pub fn along(&self, axis: Axis) -> &[Vec<Span>]
-        ensures spans { AreSpans self.now axis (map (λ r. r.items) result.now) }
+        ensures spans { AreRowSpans self.now axis (map (λ r. r.items) result.now) }
         ensures all { length self.now.numbers ≡ box_count (numbers_of self.now.sizes) }
     {
         match axis {

@@ -1,5 +1,5 @@
 -- Sums of volumes of blocks, and the volume of the cells that a choice fills.
-use Rattle.std.proofs.Common.{◌≡◌, ◌≢◌, inl, inr, Bool, true, false, ◌&&◌, if◌then◌else◌, ℕ, zero, suc, ◌+◌, ◌*◌, ◌<◌, ◌≤◌, List, [], ◌∷◌, length, take, get_or, set, replicate, Option, Some, None, IfSome, slice_index_or, refl, ap, sym, subst, ◌∙◌, arith}
+use Rattle.std.proofs.Common.{◌≡◌, inl, inr, Bool, true, false, ◌&&◌, if◌then◌else◌, ℕ, zero, suc, ◌+◌, ◌*◌, ◌<◌, ◌≤◌, List, [], ◌∷◌, length, take, get_or, set, replicate, Option, Some, None, IfSome, slice_index_or, refl, ap, sym, subst, ◌∙◌, arith}
 use Rattle.std.proofs.lemmas.Bool.{cases_lt}
 use Rattle.solid_model.specs.declared.cell.Cell.{Cell}
 use Rattle.std.proofs.lemmas.List.{length-replicate, get_or-replicate, get_or_past}
@@ -9,11 +9,11 @@ use Rattle.solid_model.specs.Panels.{GridParts}
 use Rattle.solid_model.specs.Choices.{is_chosen, cells_of_choice}
 use Rattle.solid_model.specs.Grid.{Coordinates}
 use Rattle.solid_model.specs.PerAxis.{numbers_of}
-use Rattle.solid_model.specs.Rooms.{Sizes, is_within, box_place, number_at}
+use Rattle.solid_model.specs.Rooms.{is_within, box_place, number_at}
 use Rattle.solid_model.specs.Volumes.{grid_cell_volume, grid_cell_at}
 use Rattle.solid_model.proofs.SmallVolumes.{IsVolumeBelow, most_volume, with_chosen, without_chosen}
 use Rattle.cell_rows.proofs.FilledSpans.{block_marks}
-use Rattle.report.specs.Volumes.{chosen_sum, most_block_volume}
+use Rattle.report.specs.Volumes.{chosen_sum}
 
 -- what a choice takes of one volume
 abbrev pub taken : List Bool → ℕ → ℕ → ℕ

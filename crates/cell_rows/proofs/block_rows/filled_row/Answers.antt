@@ -1,5 +1,5 @@
 -- What is filled of one span more.
-use Rattle.std.proofs.Common.{◌≡◌, true, false, ◌&&◌, ◌||◌, ℕ, ◌+◌, List, None, take, get_or, refl, ap, sym, subst, ◌∙◌, arith}
+use Rattle.std.proofs.Common.{◌≡◌, ◌&&◌, ◌||◌, ℕ, ◌+◌, None, take, get_or, ap, sym, ◌∙◌}
 use Rattle.std.proofs.lemmas.List.{take_more}
 use Rattle.solid_model.specs.Bits.{is_set}
 use Rattle.solid_model.specs.Choices.{is_chosen}

@@ -1,5 +1,5 @@
 -- One row more; and all of them.
-use Rattle.std.proofs.Common.{◌≡◌, Bool, List, ◌++◌, ◌∷◌, [], length, map, refl, ap, sym, subst, ◌∙◌, arith}
+use Rattle.std.proofs.Common.{◌≡◌, Bool, List, ◌∷◌, [], map, refl, ap, sym, subst, ◌∙◌, arith}
 use Rattle.std.proofs.lemmas.List.{map-append}
 use Rattle.solid_model.specs.PerAxis.{numbers_of, numbered, AreFew}
 use Rattle.solid_model.specs.Rooms.{box_count}

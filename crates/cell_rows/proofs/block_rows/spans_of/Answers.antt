@@ -1,5 +1,5 @@
 -- One cell more; and the last span.
-use Rattle.std.proofs.Common.{◌≡◌, ◌≤◌, ◌++◌, ◌∷◌, [], false, None, refl, ap, sym, subst, ◌∙◌, arith}
+use Rattle.std.proofs.Common.{◌≤◌, ◌++◌, ◌∷◌, [], None, refl, ap, sym, subst, ◌∙◌, arith}
 use Rattle.solid_model.specs.Blocks.{block_at}
 use Rattle.solid_model.specs.PerAxis.{numbers_of}
 use Rattle.cell_rows.specs.Spans.{is_filled}

@@ -1,5 +1,5 @@
 -- The bit is set, and no other changes.
-use Rattle.std.proofs.Common.{◌==◌, w64, ap, ◌∙◌, arith}
+use Rattle.std.proofs.Common.{◌==◌, w64, ap}
 use Rattle.std.proofs.lemmas.Bool.{eq-eqb}
 use Rattle.std.proofs.lemmas.Nat.Bits.{bit_at_set_same, bit_at_set_other}
 use Rattle.cell_rows.proofs.block_rows.with_bit.Goals as goal

@@ -1,5 +1,5 @@
 -- The cell joins the last span, or begins one.
-use Rattle.std.proofs.Common.{◌≡◌, ◌==◌, ◌||◌, List, ◌++◌, ◌∷◌, [], ap, sym, subst, ◌∙◌}
+use Rattle.std.proofs.Common.{◌==◌, ◌||◌, ap, ◌∙◌}
 use Rattle.std.proofs.lemmas.Nat.Bits.{bit_at-zero}
 use Rattle.cell_rows.specs.declared.span.Span.{Span}
 use Rattle.cell_rows.specs.Spans.{is_filled}

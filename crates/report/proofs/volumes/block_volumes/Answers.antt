@@ -1,5 +1,5 @@
 -- One cell more is counted; and all of them.
-use Rattle.std.proofs.Common.{◌≡◌, ◌≤◌, ◌<◌, ◌+◌, ◌*◌, rules, Bool, true, List, IsTrue, if◌then◌else◌, ap, sym, subst, ◌∙◌, arith}
+use Rattle.std.proofs.Common.{◌≡◌, ◌≤◌, ◌<◌, ◌+◌, rules, true, IsTrue, if◌then◌else◌, ap, sym, subst, ◌∙◌, arith}
 use Rattle.solid_model.specs.Blocks.{BlockNumbers, block_at}
 use Rattle.solid_model.specs.Choices.{is_chosen, cells_of_choice}
 use Rattle.solid_model.specs.GridBox.{grid_sizes}
@@ -8,7 +8,7 @@ use Rattle.solid_model.specs.PerAxis.{numbers_of, cell_of}
 use Rattle.solid_model.specs.Rooms.{is_within, box_place, box_count}
 use Rattle.solid_model.specs.Volumes.{grid_cell_volume, grid_cell_at, volume_below}
 use Rattle.solid_model.proofs.SmallVolumes.{count_small, volume_at_place}
-use Rattle.report.specs.Volumes.{chosen_sum, most_block_volume}
+use Rattle.report.specs.Volumes.{chosen_sum}
 use Rattle.report.proofs.ChosenSums.{volumes_none, block_there, volumes_more}
 use Rattle.report.proofs.volumes.block_volumes.Goals as goal
 

@@ -1,5 +1,5 @@
 -- One volume more.
-use Rattle.std.proofs.Common.{◌≡◌, ◌≤◌, ◌+◌, ◌*◌, if◌then◌else◌, suc, take, slice_index_or, false, ap, sym, ◌∙◌, arith}
+use Rattle.std.proofs.Common.{◌≡◌, ◌≤◌, ◌+◌, ◌*◌, if◌then◌else◌, suc, take, slice_index_or, ap, sym, ◌∙◌, arith}
 use Rattle.report.specs.Volumes.{chosen_sum, most_block_volume}
 use Rattle.report.proofs.ChosenSums.{taken, sum_more}
 use Rattle.report.proofs.volumes.chosen_sum.Goals as goal

@@ -1,7 +1,5 @@
 -- The rows tell all marks.
-use Rattle.std.proofs.Common.{length, sym, subst, ◌∙◌, ap, arith}
-use Rattle.solid_model.specs.PerAxis.{numbers_of}
-use Rattle.solid_model.specs.Rooms.{box_count}
+use Rattle.std.proofs.Common.{length, sym, ◌∙◌, ap}
 use Rattle.cell_rows.proofs.MarksByRows.{all_marks}
 use Rattle.cell_rows.proofs.rows.CellRows.of.Goals as goal
 
