@@ -1,5 +1,5 @@
 -- The cells of rows.
-use Rattle.std.proofs.Common.{◌≡◌, true, false, ◌&&◌, ℕ, ◌+◌, ◌*◌, ◌<◌, ◌≤◌, List, length, slice_index_or, pos, refl, ap, sym, subst, ◌∙◌, arith}
+use Rattle.std.proofs.Common.{◌≡◌, Bool, true, false, ◌&&◌, ℕ, ◌+◌, ◌*◌, ◌<◌, ◌≤◌, List, length, slice_index_or, pos, refl, ap, sym, subst, ◌∙◌, arith}
 use Rattle.std.proofs.lemmas.Bool.{false_from_ne_true, both_ways, and_parts}
 use Rattle.solid_model.specs.declared.cell.Axis.{Axis}
 use Rattle.solid_model.specs.declared.cell.Axis.TheVariants.{X, Y, Z}
@@ -125,7 +125,7 @@ few_rows sizes Z few Y = few Y
 few_rows sizes Z few Z = omega arith
 
 -- a cell of the box stands in a row of it
-within_row : (sizes : Sizes) (a : Axis) (k : ℕ) (n : PerAxis) → is_within sizes (cell_numbered a k n) ≡ true
+pub within_row : (sizes : Sizes) (a : Axis) (k : ℕ) (n : PerAxis) → is_within sizes (cell_numbered a k n) ≡ true
     → is_within (numbered a 1 sizes) (cell_numbered a 0 n) ≡ true
 within_row sizes a k n within = below-within (numbered a 1 sizes) (cell_numbered a 0 n) (by a (within-below sizes (cell_numbered a k n) within))
   where
@@ -155,14 +155,19 @@ same_row X k c n e = λ i. record { x = pos k; y = (e i).y; z = (e i).z }
 same_row Y k c n e = λ i. record { x = (e i).x; y = pos k; z = (e i).z }
 same_row Z k c n e = λ i. record { x = (e i).x; y = (e i).y; z = pos k }
 
--- the word at the place of a row tells its cells
-abbrev pub IsRowAt : BoxMarks → Axis → ℕ → ℕ → Type 0
-IsRowAt m a place word = (n : PerAxis) → is_within (row_sizes m a) (cell_numbered a 0 n) ≡ true
-    → box_place (row_sizes m a) (cell_numbered a 0 n) ≡ place → (k : ℕ) → k < 64 → is_set word k ≡ is_marked_at m a n k
+-- the bits at the place of a row tell its cells
+abbrev pub AreBitsAt : BoxMarks → Axis → ℕ → (ℕ → Bool) → Type 0
+AreBitsAt m a place bits = (n : PerAxis) → is_within (row_sizes m a) (cell_numbered a 0 n) ≡ true
+    → box_place (row_sizes m a) (cell_numbered a 0 n) ≡ place → (k : ℕ) → k < 64 → bits k ≡ is_marked_at m a n k
 
-pub row_at : (m : BoxMarks) (a : Axis) (sizes : Sizes) (place word : ℕ) (c : PerAxis) → sizes ≡ row_sizes m a → place ≡ box_place sizes (cell_of c)
-    → is_within sizes (cell_of c) ≡ true → ((k : ℕ) → k < 64 → is_set word k ≡ is_marked_at m a c k) → IsRowAt m a place word
-row_at m a sizes place word c same at within row n n_within n_at k l =
+-- they are those of a word
+abbrev pub IsRowAt : BoxMarks → Axis → ℕ → ℕ → Type 0
+IsRowAt m a place word = AreBitsAt m a place (is_set word)
+
+pub row_at : (m : BoxMarks) (a : Axis) (sizes : Sizes) (place : ℕ) (bits : ℕ → Bool) (c : PerAxis) → sizes ≡ row_sizes m a
+    → place ≡ box_place sizes (cell_of c) → is_within sizes (cell_of c) ≡ true → ((k : ℕ) → k < 64 → bits k ≡ is_marked_at m a c k)
+    → AreBitsAt m a place bits
+row_at m a sizes place bits c same at within row n n_within n_at k l =
     let here = subst (λ s. is_within s (cell_of c) ≡ true) same within in
     let there = subst (λ s. place ≡ box_place s (cell_of c)) same at in
     let one = one_cell (row_sizes m a) (cell_of c) (cell_numbered a 0 n) here n_within (sym there ∙ sym n_at) in

@@ -1,5 +1,6 @@
 -- The rows of a box of marked cells, as numbers whose bits are the cells.
-use Rattle.std.specs.Prelude.{◌≡◌, ◌≤◌, ◌<◌, ◌*◌, Bool, ℕ, List, length, slice_index_or, IsTrue}
+use Rattle.std.specs.Prelude.{◌≡◌, ◌≤◌, ◌<◌, ◌*◌, ◌/◌, ◌%◌, Bool, ℕ, List, length, map, slice_index_or, IsTrue}
+use Rattle.std.specs.List.{range_with_len}
 use Rattle.solid_model.specs.declared.cell.Axis.{Axis}
 use Rattle.solid_model.specs.declared.cell.Axis.TheVariants.{X, Y, Z}
 use Rattle.solid_model.specs.declared.cell.Cell.{Cell}
@@ -42,3 +43,11 @@ pub record AreAllRows (m : BoxMarks) (x y z : List ℕ) : Type 0 where
   pub along_x : AreRows m X x
   pub along_y : AreRows m Y y
   pub along_z : AreRows m Z z
+
+-- the marks of all cells of a box, as its rows along the x axis tell them
+unfoldable pub values_by_rows : Sizes → List ℕ → List Bool
+values_by_rows sizes rows =
+    map (λ p. is_set (slice_index_or rows (p / sizes X) 0) (p % sizes X)) (range_with_len 0 (box_count sizes))
+
+abbrev pub marks_by_rows : PerAxis → List ℕ → BoxMarks
+marks_by_rows sizes rows = record { sizes = sizes; values = values_by_rows (numbers_of sizes) rows }

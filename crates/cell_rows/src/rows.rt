@@ -1,33 +1,37 @@
 //! The rows of a box of marked cells.
 
-ghost use Rattle.std.specs.Prelude.{◌≡◌, ◌≤◌, ◌<◌, ℕ, IfOk};
+ghost use Rattle.std.specs.Prelude.{◌≡◌, ◌≤◌, ◌<◌, ℕ, length, map, IfOk};
 ghost use Rattle.cell_rows.specs.Rows.{is_marked_at, stride_along, AreRows};
+ghost use Rattle.cell_rows.specs.Spans.{AreFilled};
 ghost use Rattle.solid_model.specs.Bits.{is_set};
 ghost use Rattle.solid_model.specs.PerAxis.{numbers_of, AreFew};
 
-use solid_model::{Axis, Marks, Memory, PerAxis};
+use crate::block_rows::{BlockRows, filled_row};
+use crate::span::Span;
+use solid_model::{Axis, Choice, Marks, Memory, PerAxis, Problem};
 use std::alloc::Global;
 use std::marker::Model;
 
-/// The marks of a box of at most 63 cells along each axis, and its rows along each axis as words: bit
-/// k is the cell of number k. Contracts see the marks.
+/// The rows along each axis of a box of marked cells, at most 63 along each axis, as words: bit k is
+/// the cell of number k. Contracts see the marks.
 #[derive(Debug, Drop)]
 pub struct CellRows {
-    marks: Marks,
+    sizes: PerAxis,
     x: Vec<u64>,
     y: Vec<u64>,
     z: Vec<u64>,
 }
 
 impl Model for CellRows {
-    ghost use Rattle.cell_rows.specs.Rows.{AreAllRows};
+    ghost use Rattle.cell_rows.specs.Rows.{AreAllRows, marks_by_rows};
     ghost use Rattle.solid_model.specs.Marks.{BoxMarks};
 
     ghost Value = { BoxMarks };
 
-    ghost view = { λ s. s.marks };
+    ghost view = { λ s. marks_by_rows s.sizes s.x.items };
 
-    ghost invariant = { λ s. AreAllRows s.marks s.x.items s.y.items s.z.items };
+    ghost invariant = { λ s. AreAllRows (marks_by_rows s.sizes s.x.items) s.x.items s.y.items
+        s.z.items };
 }
 
 /// How far apart neighbours along an axis stand in a list of all cells of a box of these sizes.
@@ -77,22 +81,58 @@ fn rows_along(alloc: Global, marks: &Marks, axis: Axis) -> Result<Vec<u64>, Memo
     Ok(rows)
 }
 
+/// Puts what a choice fills of each row in the row's place.
+fn fill_rows(rows: &mut Vec<u64>, spans: &[Vec<Span>], choice: &Choice)
+    requires { length rows.old.items ≡ length spans.now }
+    ensures count { length rows.new.items ≡ length rows.old.items }
+    ensures filled { AreFilled choice.now (map (λ r. r.items) spans.now) rows.new.items
+        (length spans.now) }
+{
+    for place in 0..spans.len() {
+        rows[place] = filled_row(spans[place].as_slice(), choice);
+    }
+}
+
 impl CellRows {
     ghost use Rattle.std.specs.Prelude.{◌≡◌, ◌≤◌, ◌<◌, ℕ, IfOk};
     ghost use Rattle.cell_rows.specs.Rows.{is_marked_at, AreRows};
+    ghost use Rattle.cell_rows.specs.Spans.{chosen_marks};
     ghost use Rattle.solid_model.specs.declared.cell.Axis.{Axis};
     ghost use Rattle.solid_model.specs.Bits.{is_set};
     ghost use Rattle.solid_model.specs.PerAxis.{numbers_of};
 
     /// The rows of these marks. An `Err` is out of memory.
-    pub fn of(alloc: Global, marks: Marks) -> Result<CellRows, Memory>
-        requires { (a : Axis) → numbers_of marks.sizes a ≤ 63 }
-        ensures { IfOk result (λ rows. rows ≡ marks) }
+    pub fn of(alloc: Global, marks: &Marks) -> Result<CellRows, Memory>
+        requires { (a : Axis) → numbers_of marks.now.sizes a ≤ 63 }
+        ensures { IfOk result (λ rows. rows ≡ marks.now) }
     {
-        let x = rows_along(alloc, &marks, Axis::X)?;
-        let y = rows_along(alloc, &marks, Axis::Y)?;
-        let z = rows_along(alloc, &marks, Axis::Z)?;
-        Ok(CellRows { marks, x, y, z })
+        let sizes = marks.sizes();
+        // A look at the values tells that there is one for each cell.
+        let _ = marks.values();
+        let x = rows_along(alloc, marks, Axis::X)?;
+        let y = rows_along(alloc, marks, Axis::Y)?;
+        let z = rows_along(alloc, marks, Axis::Z)?;
+        Ok(CellRows { sizes, x, y, z })
+    }
+
+    /// Rows for the cells of a problem's grid, none of which has a mark. An `Err` is out of memory.
+    pub fn blank(alloc: Global, problem: &Problem) -> Result<CellRows, Memory>
+        ensures { IfOk result (λ rows. rows.sizes ≡ problem.now.blocks.sizes) }
+    {
+        let sizes = problem.grid().sizes();
+        let none = vec![in alloc; false; sizes.count()]?;
+        let marks = Marks::new(sizes, none);
+        CellRows::of(alloc, &marks)
+    }
+
+    /// Marks the cells that a choice of blocks fills, and no others, in the room of the rows.
+    pub fn fill(&mut self, blocks: &BlockRows<'_>, choice: &Choice)
+        requires { self.old.sizes ≡ blocks.now.sizes }
+        ensures { self.new ≡ chosen_marks blocks.now choice.now }
+    {
+        fill_rows(&mut self.x, blocks.along(Axis::X), choice);
+        fill_rows(&mut self.y, blocks.along(Axis::Y), choice);
+        fill_rows(&mut self.z, blocks.along(Axis::Z), choice);
     }
 
     /// How many cells there are along each axis.
@@ -100,7 +140,7 @@ impl CellRows {
         ensures sizes { result ≡ self.now.sizes }
         ensures few { (a : Axis) → numbers_of result a ≤ 63 }
     {
-        self.marks.sizes()
+        self.sizes
     }
 
     /// The row of a cell along an axis, whatever the cell's own number along it; 0 beyond the box.
@@ -108,7 +148,7 @@ impl CellRows {
         ensures { (k : ℕ) → k < 64 → is_set result k ≡ is_marked_at self.now axis cell k }
     {
         let first = cell.numbered(axis, 0);
-        let ends = self.marks.sizes().numbered(axis, 1);
+        let ends = self.sizes.numbered(axis, 1);
         if ends.has(first) {
             self.rows(axis)[ends.place(first)]
         } else {

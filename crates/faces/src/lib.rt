@@ -24,5 +24,5 @@ pub use loops::plane_loops;
 pub use plane::plane_squares;
 pub use plane_loop::PlaneLoop;
 pub use point::Point;
-pub use solid::faces_of_solid;
+pub use solid::{faces_of_rows, faces_of_solid};
 pub use squares::Squares;

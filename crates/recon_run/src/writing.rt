@@ -12,7 +12,7 @@ use crate::found::Found;
 use crate::searched::Searched;
 use crate::status::{Answer, Failure, Status};
 use crate::telling::search_telling;
-use report::{fault_text, solid_text};
+use report::{SolidRoom, SolidTexts, fault_text};
 use solid_model::{Choice, Fault, Limits, Problem};
 use std::alloc::Global;
 use std::sync::Wait;
@@ -53,35 +53,41 @@ pub fn write_fault<K: Sink>(alloc: Global, fault: &Fault, sink: &mut K) -> Statu
 /// Writes the text of the solid of this number that a choice of a problem's blocks fills.
 fn write_solid<K: Sink>(
     alloc: Global,
-    problem: &Problem,
+    texts: &SolidTexts<'_>,
     number: u32,
     choice: &Choice,
+    room: &mut SolidRoom,
     sink: &mut K,
 ) -> Result<(), Failure>
+    requires { room.old.rows.sizes ≡ texts.now.blocks.sizes }
+    ensures sizes { room.new.rows.sizes ≡ texts.now.blocks.sizes }
     ensures later { K.faults sink.old ≤ K.faults sink.new }
-    ensures ends { EndsText (TellsChoice problem.now number choice.now)
-        (TellsChoice problem.now number choice.now)
+    ensures ends { EndsText (TellsChoice texts.now number choice.now)
+        (TellsChoice texts.now number choice.now)
         (K.held sink.old) (K.held sink.new) (Rose (K.faults sink.old) (K.faults sink.new)) result }
 {
-    write_text(sink, solid_text(alloc, problem, number, choice)?.as_slice())
+    texts.tell(alloc, number, choice, room)?;
+    write_text(sink, room.text.as_slice())
 }
 
-/// Writes the text of each solid that choices of a problem's blocks fill, numbered from 1. One text
-/// at a time is held.
+/// Writes the text of each solid that choices of a problem's blocks fill, numbered from 1, one after
+/// another in the same room.
 fn write_solids<K: Sink>(
     alloc: Global,
-    problem: &Problem,
+    texts: &SolidTexts<'_>,
     choices: &[Choice],
+    room: &mut SolidRoom,
     sink: &mut K,
 ) -> Result<(), Failure>
     requires few { length choices.now ≤ most_solid_limit }
+    requires sizes { room.old.rows.sizes ≡ texts.now.blocks.sizes }
     ensures later { K.faults sink.old ≤ K.faults sink.new }
-    ensures ends { EndsText (TellsChoices problem.now 1 choices.now)
-        (BeginsChoices problem.now 1 choices.now)
+    ensures ends { EndsText (TellsChoices texts.now 1 choices.now)
+        (BeginsChoices texts.now 1 choices.now)
         (K.held sink.old) (K.held sink.new) (Rose (K.faults sink.old) (K.faults sink.new)) result }
 {
     for (place, choice) in choices.iter().enumerate() {
-        write_solid(alloc, problem, place as u32 + 1, choice, sink)?;
+        write_solid(alloc, texts, place as u32 + 1, choice, room, sink)?;
     }
     Ok(())
 }
@@ -97,9 +103,11 @@ fn write_searched<K: Sink>(
     ensures ends { EndsText (TellsAll limits searched.now) (BeginsAll limits searched.now)
         (K.held sink.old) (K.held sink.new) (Rose (K.faults sink.old) (K.faults sink.new)) result }
 {
+    let texts = SolidTexts::of(alloc, searched.problem())?;
+    let mut room = texts.room(alloc)?;
     write_text(sink, searched.head(alloc, limits)?.as_slice())?;
     let solids = searched.ended().solids.as_slice();
-    write_solids(alloc, searched.problem(), solids, sink)
+    write_solids(alloc, &texts, solids, &mut room, sink)
 }
 
 /// Writes what `solve` answers to a problem, which is searched within limits: the one answer that is

@@ -1,3 +1,4 @@
 pub mod Texts
 pub mod FaultText
 pub mod SmallTexts
+pub mod Volumes

@@ -5,9 +5,11 @@
 mod faults;
 mod laws;
 mod solid;
+mod solid_texts;
 mod text;
+mod volumes;
 
 pub use faults::fault_text;
 pub use laws::{small_face_texts, small_fault_texts, small_search_texts};
-pub use solid::solid_text;
+pub use solid_texts::{SolidRoom, SolidTexts};
 pub use text::{head_text, no_solid_text, page_text, trial_text};

@@ -1,21 +1,13 @@
-//! The text of a solid: how it is chosen, and its faces.
+//! The lines of a solid: how it is chosen, and its faces.
 
-ghost use Rattle.std.specs.Prelude.{◌≡◌, ◌∷◌, ◌++◌, Bool, List, length, IfOk, OnOk};
+ghost use Rattle.std.specs.Prelude.{◌≡◌, ◌∷◌, ◌++◌, OnOk};
 ghost use Rattle.std.specs.Fmt.{signed_decimal};
 ghost use Rattle.std.specs.List.{flat_map};
 ghost use Rattle.report.specs.Texts.{side_name, corner_text, loop_text, face_text};
-ghost use Rattle.report.specs.Texts.{solid_line, solid_text};
-ghost use Rattle.solid_model.specs.declared.cell.Cell.{Cell};
-ghost use Rattle.solid_model.specs.Choices.{cells_of_choice};
-ghost use Rattle.solid_model.specs.Faces.{FaceParts, AreFacesOf};
-ghost use Rattle.solid_model.specs.Grid.{IsUnionOf};
-ghost use Rattle.solid_model.specs.Panels.{coordinates_of};
-ghost use Rattle.solid_model.specs.Volumes.{volume_of};
+ghost use Rattle.report.specs.Texts.{solid_line};
 
 use crate::text::{push_choice, push_number};
-use faces::faces_of_solid;
-use solid_model::{Cell, Choice, Face, Loop, Memory, Out, Problem};
-use std::alloc::Global;
+use solid_model::{Cell, Choice, Face, Loop, Memory, Out};
 
 /// An outward side, by the sign and the letter of its direction.
 fn side_name(out: Out) -> &'static str
@@ -115,28 +107,4 @@ pub fn push_solid_line(
     push_number(text, faces)?;
     text.extend_from_slice(b"\n")?;
     Ok(())
-}
-
-/// The text of the solid of this number that a choice of a problem's blocks fills: a line
-/// `solid K choice C volume V faces F`, and then a line for each face, `face D at P` with
-/// ` loop x,y,z x,y,z ..` for each of its loops. An `Err` is out of memory.
-pub fn solid_text(
-    alloc: Global,
-    problem: &Problem,
-    number: u32,
-    choice: &Choice,
-) -> Result<Vec<u8>, Memory>
-    ensures { IfOk result (λ text. (faces : List FaceParts)
-        × ((full : Cell → Bool) → IsUnionOf (coordinates_of problem.now.grid)
-        (cells_of_choice problem.now.blocks.numbers choice.now) full → AreFacesOf full faces)
-        × (text.items ≡ solid_text number choice.now (volume_of (coordinates_of problem.now.grid)
-        (cells_of_choice problem.now.blocks.numbers choice.now)) faces)) }
-{
-    let cells = problem.cells(alloc, choice)?;
-    let faces = faces_of_solid(alloc, problem.grid(), cells.as_slice())?;
-    let mut text = Vec::new(alloc);
-    let volume = problem.volume(choice);
-    push_solid_line(&mut text, number, choice, volume, faces.len())?;
-    push_faces(&mut text, faces.as_slice())?;
-    Ok(text)
 }

@@ -46,7 +46,7 @@ fn read_cells(alloc: Global, sizes: &str, cells: &str) -> Result<CellRows, Fail>
     if sizes.x > 9 || sizes.y > 9 || sizes.z > 9 || values.len() != sizes.count() {
         return Err(Fail::new("no cells"));
     }
-    Ok(CellRows::of(alloc, Marks::new(sizes, values))?)
+    Ok(CellRows::of(alloc, &Marks::new(sizes, values))?)
 }
 
 /// The name of an outward side.

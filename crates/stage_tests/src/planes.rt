@@ -42,7 +42,7 @@ fn read_squares(alloc: Global, text: &str) -> Result<Squares, Fail> {
     if sizes.x > 63 || sizes.y > 63 || values.len() != sizes.count() {
         return Err(Fail::new("no table"));
     }
-    let cells = CellRows::of(alloc, Marks::new(sizes, values))?;
+    let cells = CellRows::of(alloc, &Marks::new(sizes, values))?;
     Ok(plane_squares(alloc, &cells, Out::PlusZ, 1)?)
 }
 

@@ -30,7 +30,7 @@ pub fn rectangles_of(
 {
     let cells = problem.cells(alloc, choice)?;
     let marks = Marks::new(problem.grid().sizes(), cells);
-    let rows = CellRows::of(alloc, marks)?;
+    let rows = CellRows::of(alloc, &marks)?;
     boundary_rectangles(alloc, &rows)
 }
 

@@ -1,5 +1,6 @@
 -- One row more; and all of them.
 use Rattle.std.proofs.Common.{◌≡◌, length, ap, sym, subst, ◌∙◌, arith}
+use Rattle.solid_model.specs.Bits.{is_set}
 use Rattle.solid_model.specs.PerAxis.{numbers_of, numbered, AreFew}
 use Rattle.solid_model.specs.Rooms.{box_count}
 use Rattle.solid_model.proofs.Pushed.{holds_more}
@@ -22,7 +23,7 @@ loop-place-preserved c =
     let ends = numbers_of c.numbered-ends.result in
     let same : ends ≡ row_sizes m c.args.axis = c.numbered-ends.ensures ∙ (λ i. numbered c.args.axis 1 (numbers_of (c.sizes.ensures.sizes i))) in
     holds_more (IsRowAt m c.args.axis) c.loop-place.rows.items _ _ c.row_of.result c.loop-place.invariant
-    (row_at m c.args.axis ends c.loop-place.place c.row_of.result c.cell.result same c.cell.ensures.place c.cell.ensures.within c.row_of.ensures)
+    (row_at m c.args.axis ends c.loop-place.place (is_set c.row_of.result) c.cell.result same c.cell.ensures.place c.cell.ensures.within c.row_of.ensures)
     c.in_ok-push.ensures.items
 
 pub returns : goal.returns

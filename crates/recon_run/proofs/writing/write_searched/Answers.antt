@@ -27,11 +27,11 @@ returns-clause-ends g c =
     let solids : c.as_slice-solids.result.now ≡ s.ended.solids =
     c.as_slice-solids.ensures.value ∙ ap (λ (e : SearchEnd). e.solids) (c.behind-searched.view_is ∙ c.ended.ensures.same) in
     let first = g.K.Sink.faults c.args.sink.now in let mid = g.K.Sink.faults c.write_text.new.sink in let last = g.K.Sink.faults c.write_solids.new.sink in
-    ends_after (TellsChoices c.problem.result.now 1 c.as_slice-solids.result.now) (TellsAll limits s)
-    (BeginsChoices c.problem.result.now 1 c.as_slice-solids.result.now) (BeginsAll limits s) head
+    ends_after (TellsChoices c.in_ok-texts.texts 1 c.as_slice-solids.result.now) (TellsAll limits s)
+    (BeginsChoices c.in_ok-texts.texts 1 c.as_slice-solids.result.now) (BeginsAll limits s) head
     (g.K.Sink.held c.args.sink.now) (g.K.Sink.held c.write_text.new.sink) (g.K.Sink.held c.write_solids.new.sink)
     (Rose mid last) (Rose first last) appends (rose_since first mid last c.in_ok-write_text.ensures.later)
-    (λ text begins. (text, subst₂ (λ p choices. BeginsChoices p 1 choices text) c.problem.ensures solids begins, ap (λ bytes. bytes ++ text) is))
+    (λ text begins. (text, subst₂ (λ p choices. BeginsChoices p 1 choices text) (c.in_ok-texts.ensures ∙ c.problem.ensures) solids begins, ap (λ bytes. bytes ++ text) is))
     ([], (0, refl), is ∙ sym (append-nil (search_head limits s)))
-    (λ text tells. (text, subst₂ (λ p choices. TellsChoices p 1 choices text) c.problem.ensures solids tells, ap (λ bytes. bytes ++ text) is))
+    (λ text tells. (text, subst₂ (λ p choices. TellsChoices p 1 choices text) (c.in_ok-texts.ensures ∙ c.problem.ensures) solids tells, ap (λ bytes. bytes ++ text) is))
     c.write_solids.result c.write_solids.ensures.ends

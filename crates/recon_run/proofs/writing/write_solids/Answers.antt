@@ -9,10 +9,11 @@ use Rattle.recon_run.proofs.writing.write_solids.Goals as goal
 
 pub loop-place-preserved : goal.loop-place-preserved
 loop-place-preserved g c =
-    let p = c.args.problem.now in let choices = c.args.choices.now in let place = c.loop-place.place in
+    let p = c.args.texts.now in let choices = c.args.choices.now in let place = c.loop-place.place in
     let choice = c.index-choices-place.result in
-    let (later, text, tells, appends) = c.loop-place.invariant in
+    let (sized, later, text, tells, appends) = c.loop-place.invariant in
     let (more, told, goes_on) = c.in_ok-write_solid.ensures.ends in (
+      c.in_ok-write_solid.ensures.sizes,
       (let since = c.in_ok-write_solid.ensures.later in omega (arith, later, since)),
       text ++ more,
       subst (λ n. TellsChoices p 1 (take n choices) (text ++ more)) (let e : suc place ≡ place + 1 = omega arith in e)
@@ -23,9 +24,9 @@ loop-place-preserved g c =
 
 pub returns-in_err-write_solid-clause-ends : goal.returns-in_err-write_solid-clause-ends
 returns-in_err-write_solid-clause-ends g c =
-    let p = c.args.problem.now in let choices = c.args.choices.now in let place = c.loop-place.place in
+    let p = c.args.texts.now in let choices = c.args.choices.now in let place = c.loop-place.place in
     let choice = c.index-choices-place.result in
-    let (later, text, tells, appends) = c.loop-place.invariant in
+    let (sized, later, text, tells, appends) = c.loop-place.invariant in
     let first = g.K.Sink.faults c.args.sink.now in let mid = g.K.Sink.faults c.loop-place.sink in let last = g.K.Sink.faults c.write_solid.new.sink in
     let failed = err_from_is_err_and c.from_residual.result c.from_residual.ensures.1 in
     rw (failed.1, failed.2) (refused_after (TellsChoice p (place + 1) choice) (TellsChoices p 1 choices) (TellsChoice p (place + 1) choice)

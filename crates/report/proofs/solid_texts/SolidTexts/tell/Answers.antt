@@ -1,0 +1,43 @@
+-- The faces are those of the cells that the choice fills.
+use Rattle.std.proofs.Common.{rules, ◌≡◌, ◌++◌, Bool, ℕ, List, length, ap, subst, ◌∙◌}
+use Rattle.std.specs.List.{flat_map}
+use Rattle.solid_model.specs.declared.cell.Cell.{Cell}
+use Rattle.solid_model.specs.Blocks.{ProblemParts, BlockNumbers}
+use Rattle.solid_model.specs.Choices.{cells_of_choice}
+use Rattle.solid_model.specs.Faces.{FaceParts, AreFacesOf}
+use Rattle.solid_model.specs.Grid.{IsUnionOf}
+use Rattle.solid_model.specs.Marks.{BoxMarks}
+use Rattle.solid_model.specs.Panels.{GridParts, coordinates_of}
+use Rattle.solid_model.specs.Volumes.{volume_of}
+use Rattle.report.specs.Volumes.{chosen_sum}
+use Rattle.report.specs.Texts.{face_text, solid_line}
+use Rattle.report.proofs.solid_texts.SolidTexts.tell.Goals as goal
+
+-- the faces of all solids that are the union of these cells of a grid
+abbrev AreTheirs : GridParts → List Bool → List FaceParts → Type 0
+AreTheirs g cells faces = (full : Cell → Bool) → IsUnionOf (coordinates_of g) cells full → AreFacesOf full faces
+
+-- they are those of the same cells of the same grid
+theirs_too : (g h : GridParts) (cells others : List Bool) (faces : List FaceParts) → g ≡ h → cells ≡ others
+    → AreTheirs g cells faces → AreTheirs h others faces
+theirs_too g h cells others faces same alike theirs =
+    let P : GridParts → Type 0 = λ k. AreTheirs k cells faces in
+    let Q : List Bool → Type 0 = λ k. AreTheirs h k faces in
+    subst Q alike (subst P same theirs)
+
+pub returns-clause-text : goal.returns-clause-text
+returns-clause-text c =
+    let faces = c.in_ok-faces.faces.items in
+    let choice = c.args.choice.now in
+    let grid = c.grid.ensures.grid ∙ ap (λ (p : ProblemParts). p.grid) c.self.view_is in
+    let cells = ap (λ (m : BoxMarks). m.values) c.fill.ensures
+    ∙ ap (λ (b : BlockNumbers). cells_of_choice b.numbers choice) (c.self.invariant.0 ∙ ap (λ (p : ProblemParts). p.blocks) c.self.view_is) in
+    let volume = c.chosen_sum-volume.ensures ∙ ap (λ vs. chosen_sum vs choice) c.as_slice.ensures.value ∙ c.self.invariant.1.sums choice
+    ∙ ap (λ (p : ProblemParts). volume_of (coordinates_of p.grid) (cells_of_choice p.blocks.numbers choice)) c.self.view_is in
+    let count : c.len.result ≡ length faces = search rules in
+    let line = c.in_ok-push_solid_line.ensures ∙ ap (λ (l : List ℕ). l ++ solid_line c.args.number choice c.chosen_sum-volume.result c.len.result) c.clear.ensures.items
+    ∙ (λ t. solid_line c.args.number choice (volume t) (count t)) in (
+      faces,
+      theirs_too _ _ _ _ faces grid cells c.in_ok-faces.ensures,
+      c.in_ok-push_faces.ensures ∙ (λ t. line t ++ flat_map face_text (c.as_slice-2.ensures.value t)),
+    )
