@@ -51,6 +51,9 @@ pub mod NumberedPlaces
 pub mod SomeNumbering
 pub mod BlockChoices
 pub mod KeptBits
+pub mod WordBits
+pub mod NearBits
+pub mod FirstBits
 pub mod ComparedChoices
 pub mod WithoutRepeats
 pub mod Volumes
