@@ -26,7 +26,7 @@ abbrev pub AreStylesTo : GridParts → ℕ → List ℕ → Type 0
 AreStylesTo g n bytes = (i : ℕ) (d : LineId) → i < n → slice_index_or bytes i 0 ≡ style_byte (line_style g (slice_index_or (lines_of g) i d))
 
 -- there is room for each line's two columns and for the style that they draw, and its own style is there
-pub record HasRoom (g : GridParts) (after before drawn wanted : List ℕ) : Type 0 where
+pub record HasRoomForLines (g : GridParts) (after before drawn wanted : List ℕ) : Type 0 where
   pub after_count : length after ≡ length (lines_of g)
   pub before_count : length before ≡ length (lines_of g)
   pub drawn_count : length drawn ≡ length (lines_of g)

@@ -26,10 +26,10 @@ impl<'p> Model for Partial<'p> {
 
     ghost view = { λ s. s.state };
 
-    ghost use Rattle.line_demands.specs.WholeChoices.{HasRoom};
+    ghost use Rattle.line_demands.specs.WholeChoices.{HasRoomForLines};
 
-    ghost invariant = { λ s. HasRoom s.state.problem.grid s.after.items s.before.items s.drawn.items
-        s.wanted.items };
+    ghost invariant = { λ s. HasRoomForLines s.state.problem.grid s.after.items s.before.items
+        s.drawn.items s.wanted.items };
 }
 
 impl<'p> Partial<'p> {
