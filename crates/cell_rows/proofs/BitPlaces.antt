@@ -1,23 +1,11 @@
 -- The places of bits that are set.
-use Rattle.std.proofs.Common.{pow-add, ◌≡◌, inl, inr, true, false, ◌==◌, ℕ, ◌+◌, ◌-◌, ◌*◌, ◌/◌, ◌%◌, ◌^◌, ◌<◌, ◌≤◌, List, length, get_or, w64, ap, sym, ◌∙◌, arith}
-use Rattle.std.specs.Int.{bit_at, trailing_zeros}
-use Rattle.std.proofs.lemmas.Bool.{false≢true, cases_lt, eq-eqb}
+use Rattle.std.proofs.Common.{pow-add, ◌≡◌, inl, inr, true, false, ◌==◌, ℕ, ◌+◌, ◌-◌, ◌*◌, ◌/◌, ◌%◌, ◌^◌, ◌<◌, ◌≤◌, List, length, get_or, ap, sym, ◌∙◌, arith}
+use Rattle.std.proofs.lemmas.Bool.{false≢true, cases_lt}
 use Rattle.std.proofs.lemmas.List.{get_or_past}
 use Rattle.std.proofs.lemmas.Nat.{mod-mul-add, div-mul-add, div-add-mod', mod_below}
-use Rattle.std.proofs.lemmas.Nat.Bits.{bit_at-zero, bit_at_above, bit_at-trailing_zeros}
+use Rattle.std.proofs.lemmas.Nat.Bits.{bit_at-zero, bit_at_above}
 use Rattle.std.proofs.Math.Nat.{div-div-eq-div-mul}
 use Rattle.solid_model.specs.Bits.{is_set, bit_of}
-
--- none is set below the lowest one,
-pub below_lowest : (n : ℕ) → n < 2 ^ 64 → (k : ℕ) → k < trailing_zeros w64 n → is_set n k ≡ false
-below_lowest n fits k l = elim (cases_lt 0 n) as (λ _. is_set n k ≡ false) [
-  | inl some ↦ ap (λ b. b == 1) ((bit_at-trailing_zeros w64 n some fits).2 k l)
-  | inr none ↦ (let e : n ≡ 0 = omega arith in ap (λ b. b == 1) (ap (λ m. bit_at m k) e ∙ bit_at-zero k))
-]
-
--- which is set
-pub lowest_set : (n : ℕ) → n < 2 ^ 64 → 0 < n → is_set n (trailing_zeros w64 n) ≡ true
-lowest_set n fits some = eq-eqb _ _ (bit_at-trailing_zeros w64 n some fits).1
 
 -- bits that are moved down are those farther up
 pub moved_down : (n s k : ℕ) → is_set (n / 2 ^ s) k ≡ is_set n (s + k)

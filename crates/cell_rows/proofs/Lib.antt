@@ -1,7 +1,6 @@
 pub mod FilledRows
 pub mod RowCells
 pub mod BitPlaces
-pub mod WordBits
 pub mod FilledSpans
 pub mod MarksByRows
 pub mod SpanRows

@@ -5,10 +5,10 @@ use Rattle.std.proofs.lemmas.List.{length_push, get_or_append_left}
 use Rattle.std.proofs.lemmas.List.Elements.{All-push}
 use Rattle.std.proofs.lemmas.List.Folds.{list_any-append}
 use Rattle.std.proofs.lemmas.Nat.Bits.{bit_at-zero, bit_at_set_same, bit_at_set_other}
-use Rattle.columns.proofs.KnownBits.{set_or}
 use Rattle.columns.specs.declared.spans.Span.{Span}
 use Rattle.columns.specs.Spans.{is_on, is_in_span, AreAdded}
 use Rattle.solid_model.specs.Bits.{is_set}
+use Rattle.solid_model.proofs.WordBits.{set_either}
 
 -- one bit
 pub one_bit : (n d k : ℕ) → d < 64 → is_set (bit_or n (1 * 2 ^ d % 2 ^ 64)) k ≡ (is_set n k || (d == k))
@@ -58,4 +58,4 @@ added_new old column depth l = (
   where
     bit_alone : (k : ℕ) → is_set (1 * 2 ^ depth % 2 ^ 64) k ≡ (depth == k)
     bit_alone k = let none : is_set 0 k ≡ false = ap (λ b. b == 1) (bit_at-zero k) in
-        ap (λ x. x || is_set (1 * 2 ^ depth % 2 ^ 64) k) (sym none) ∙ sym (set_or 0 (1 * 2 ^ depth % 2 ^ 64) k) ∙ one_bit 0 depth k l ∙ ap (λ x. x || (depth == k)) none
+        ap (λ x. x || is_set (1 * 2 ^ depth % 2 ^ 64) k) (sym none) ∙ sym (set_either 0 (1 * 2 ^ depth % 2 ^ 64) k) ∙ one_bit 0 depth k l ∙ ap (λ x. x || (depth == k)) none

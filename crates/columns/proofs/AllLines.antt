@@ -1,5 +1,5 @@
 -- The list of all lines of a grid has exactly the lines that the grid has.
-use Rattle.std.proofs.Common.{inl, inr, Bool, true, false, nat_lt, suc, ◌+◌, ◌++◌, IsTrue, subst, arith}
+use Rattle.std.proofs.Common.{inl, inr, Bool, true, false, nat_lt, suc, ◌++◌, IsTrue, subst, arith}
 use Rattle.std.specs.List.{range_with_len}
 use Rattle.std.proofs.lemmas.Bool.{and_parts, and_from, lt-ltb, ltb-true}
 use Rattle.solid_model.specs.declared.frame.View.{View}

@@ -24,7 +24,7 @@ use Rattle.solid_model.proofs.InGrid.{gap_or_none}
 use Rattle.solid_model.proofs.Styles.{one_style, drawn_style_drawn}
 use Rattle.solid_model.proofs.Views.{views_are_frames, across_each, each_axis, across_along, across_next, across_turned, cell_on_twice, places_of_cell_in, runs_forward, stands_forward, forward_cell}
 use Rattle.solid_model.specs.PerAxis.{by_axis, numbered}
-use Rattle.columns.specs.Bits.{bits}
+use Rattle.solid_model.specs.Bits.{bits}
 use Rattle.columns.specs.GridColumns.{number_on, grid_cell_in, grid_column}
 use Rattle.columns.specs.GridPanels.{place_right, place_up, IsColumnBeside, AreColumnsBeside}
 use Rattle.solid_model.proofs.Gaps.{member, lies_in, gaps_keep_order, begins_gap, ends_gap, last_in_none, before_first_in_none}

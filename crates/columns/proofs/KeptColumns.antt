@@ -109,7 +109,7 @@ module _ (p : ProblemParts) (sized : numbers_of p.blocks.sizes ≡ grid_sizes p.
 
   module _ (columns : List KnownColumn) (are : AreKnownColumns p known columns) where
     -- what is known of a column beside a line
-    column_known : (l : LineId) (j : ℤ) (c : ℕ) → l.cell < grid_sizes p.grid (axis_along l.view l.upright) → IsColumnOf (grid_sizes p.grid) l j c
+    pub column_known : (l : LineId) (j : ℤ) (c : ℕ) → l.cell < grid_sizes p.grid (axis_along l.view l.upright) → IsColumnOf (grid_sizes p.grid) l j c
         → (k : ℤ) → known_bits (column_there columns c).full (column_there columns c).may k ≡ known_column p.grid (known_cell p.blocks known) l j k
     column_known l j c cell (inl at) (pos k) = ap (λ n. known_there columns n k) at.3
         ∙ are.each l.view _ _ k (in_width (grid_sizes p.grid) l.view l.upright at.0 l.cell at.2 cell) (in_height (grid_sizes p.grid) l.view l.upright at.0 l.cell at.2 cell)

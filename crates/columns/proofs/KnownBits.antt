@@ -1,47 +1,21 @@
 -- The masks of what is known of two columns tell which styles they can draw.
-use Rattle.std.proofs.Common.{pow-add, ◌≡◌, ◌≢◌, ◌⊎◌, inl, inr, Bool, true, false, not, ◌&&◌, ◌||◌, ◌==◌, ℕ, zero, suc, ◌+◌, ◌-◌, ◌*◌, ◌/◌, ◌%◌, ◌<◌, ◌≤◌, ◌^◌, min, max, bit_and, bit_or, w64, ℤ, pos, negsuc, ◌≤ℤ◌, ◌<ℤ◌, refl, ap, ap₂, sym, subst, ◌∙◌, arith}
-use Rattle.std.specs.Int.{bit_at, bit_not, trailing_zeros}
-use Rattle.std.specs.Int.Count.{trailing_of_zero}
-use Rattle.std.proofs.lemmas.Bool.{false≢true, both_ways, cases_lt, cases_Bool, and_parts, and_from, or_cases, or_left, or_right, not-true, not_from_false, eq-eqb, false_from_ne_true}
+use Rattle.std.proofs.Common.{pow-add, ◌≡◌, ◌≢◌, ◌⊎◌, inl, inr, Bool, true, false, not, ◌&&◌, ◌||◌, ◌==◌, ℕ, zero, suc, ◌+◌, ◌-◌, ◌*◌, ◌/◌, ◌%◌, ◌<◌, ◌≤◌, ◌^◌, bit_or, w64, ℤ, pos, negsuc, ◌≤ℤ◌, ◌<ℤ◌, refl, ap, ap₂, sym, subst, ◌∙◌, arith}
+use Rattle.std.specs.Int.{bit_at}
+use Rattle.std.proofs.lemmas.Bool.{both_ways, cases_lt, cases_Bool, and_parts, and_from, or_cases, or_left, or_right, not-true, not_from_false, false_from_ne_true}
 use Rattle.std.proofs.lemmas.Int.{ints}
 use Rattle.std.proofs.Math.Nat.{div-div-eq-div-mul, mul_assoc}
-use Rattle.std.proofs.lemmas.Nat.Bits.{bit_at-zero, bit_at-lt, bit_at_and, bit_at_or, bit_at_not, bit_at_above, bit_at-trailing_zeros, same_from_bits}
+use Rattle.std.proofs.lemmas.Nat.Bits.{bit_at-zero, bit_at-lt, bit_at-trailing_zeros, same_from_bits}
 use Rattle.solid_model.specs.declared.segment.Style.TheVariants.{Blank, Dashed, Solid}
 use Rattle.solid_model.specs.Bits.{is_set}
 use Rattle.solid_model.specs.Columns.{IsFirstFull, HaveSameFirstFull}
 use Rattle.solid_model.specs.Demands.{CanDraw}
 use Rattle.columns.specs.Known.{known_bits, LiesWithin}
+use Rattle.solid_model.proofs.WordBits.{set_either, not_zero, zeros, zeros_of_none, lowest_set, below_lowest, lowest_at_most, lowest_at_least}
 use Rattle.columns.proofs.KnownColumns.{Fits, fits_from, draw_blank, draw_solid, draw_dashed, same_first_back, same_first_down_to, differ_at, same_at}
 
 -- ---- bits of masks
 
-bit_and_both : (x y : ℕ) → x < 2 → y < 2 → (min x y == 1) ≡ ((x == 1) && (y == 1))
-bit_and_both x y l m = grind arith
-
-bit_or_both : (x y : ℕ) → x < 2 → y < 2 → (max x y == 1) ≡ ((x == 1) || (y == 1))
-bit_or_both x y l m = grind arith
-
-bit_other : (x : ℕ) → x < 2 → (1 - x == 1) ≡ not (x == 1)
-bit_other x l = grind arith
-
-pub set_and : (a b k : ℕ) → is_set (bit_and a b) k ≡ (is_set a k && is_set b k)
-set_and a b k = ap (λ x. x == 1) (bit_at_and a b k) ∙ bit_and_both (bit_at a k) (bit_at b k) (bit_at-lt a k) (bit_at-lt b k)
-
-pub set_or : (a b k : ℕ) → is_set (bit_or a b) k ≡ (is_set a k || is_set b k)
-set_or a b k = ap (λ x. x == 1) (bit_at_or a b k) ∙ bit_or_both (bit_at a k) (bit_at b k) (bit_at-lt a k) (bit_at-lt b k)
-
-pub set_without : (a b k : ℕ) → a < 2 ^ 64 → b < 2 ^ 64 → is_set (bit_and a (bit_not w64 b)) k ≡ (is_set a k && not (is_set b k))
-set_without a b k l m = set_and a (bit_not w64 b) k ∙ elim (cases_lt k 64) as (λ _. (is_set a k && is_set (bit_not w64 b) k) ≡ (is_set a k && not (is_set b k))) [
-  | inl within ↦ ap (λ x. is_set a k && x) (ap (λ x. x == 1) (bit_at_not w64 b k m within) ∙ bit_other (bit_at b k) (bit_at-lt b k))
-  | inr beyond ↦ (let none : is_set a k ≡ false = ap (λ x. x == 1) (bit_at_above a 64 k l beyond) in
-      ap (λ x. x && is_set (bit_not w64 b) k) none ∙ ap (λ x. x && not (is_set b k)) (sym none))
-]
-
--- a number with a bit isn't 0
-pub not_zero : (n k : ℕ) → is_set n k ≡ true → n ≢ 0
-not_zero n k set none = false≢true (sym (ap (λ b. b == 1) (ap (λ m. bit_at m k) none ∙ bit_at-zero k)) ∙ set)
-
--- one without any is
+-- a number without any bit is 0
 all_clear : (n : ℕ) → ((k : ℕ) → is_set n k ≡ false) → n ≡ 0
 all_clear n clear = same_from_bits n 0 (λ k. none (bit_at n k) (bit_at-lt n k) (clear k) ∙ sym (bit_at-zero k))
   where
@@ -54,39 +28,6 @@ behind n d i = ap (λ x. x % 2 == 1) (div-div-eq-div-mul (n / 2 ^ d) 2 (2 ^ i) �
     ∙ ap (λ x. n / x) (sym (mul_assoc (2 ^ d) 2 (2 ^ i)) ∙ ap (λ x. x * 2 ^ i) (sym (pow-add 2 d 1)) ∙ sym (pow-add 2 (d + 1) i)))
 
 -- ---- the lowest bit
-
--- the number of zeros below the lowest bit of a number of 64 bits
-abbrev zeros : ℕ → ℕ
-zeros n = trailing_zeros w64 n
-
-module _ (n : ℕ) (fits : n < 2 ^ 64) where
-  -- the lowest bit is set, and stands within,
-  lowest_set : n ≢ 0 → (is_set n (zeros n) ≡ true) × (zeros n < 64)
-  lowest_set some = let lowest = bit_at-trailing_zeros w64 n (omega arith) fits in (eq-eqb _ _ lowest.1, lowest.0)
-
-  -- and none below it is
-  below_lowest : (k : ℕ) → k < zeros n → is_set n k ≡ false
-  below_lowest k l = elim (cases_lt 0 n) as (λ _. is_set n k ≡ false) [
-    | inl some ↦ ap (λ b. b == 1) ((bit_at-trailing_zeros w64 n some fits).2 k l)
-    | inr none ↦ (let e : n ≡ 0 = omega arith in ap (λ b. b == 1) (ap (λ m. bit_at m k) e ∙ bit_at-zero k))
-  ]
-
-  -- so it isn't above a bit that is,
-  lowest_at_most : (k : ℕ) → is_set n k ≡ true → zeros n ≤ k
-  lowest_at_most k set = elim (cases_lt k (zeros n)) as (λ _. zeros n ≤ k) [ inl l ↦ absurd (both_ways (is_set n k) (below_lowest k l) set) | inr l ↦ l ]
-
-  -- and not below a place down to which there is none
-  lowest_at_least : (d : ℕ) → d < 64 → ((k : ℕ) → k < d → is_set n k ≡ false) → d ≤ zeros n
-  lowest_at_least d within clear = elim (cases_lt (zeros n) d) as (λ _. d ≤ zeros n) [
-    | inl l ↦ absurd (both_ways (is_set n (zeros n)) (clear (zeros n) l) (lowest_set (λ none. never (trans_zero none) l)).0)
-    | inr l ↦ l
-  ]
-    where
-      trans_zero : n ≡ 0 → zeros n ≡ 64
-      trans_zero none = ap zeros none ∙ trailing_of_zero 64
-
-      never : zeros n ≡ 64 → zeros n < d → ⊥
-      never e l = omega arith
 
 -- some bit of a number that isn't 0 is set
 some_bit : (n : ℕ) → n < 2 ^ 64 → n ≢ 0 → (k : ℕ) × (is_set n k ≡ true)
@@ -117,8 +58,8 @@ first_before c empty (suc n) = at (first_before c empty n) (c (pos n)) refl
 neither_set : (a b : ℕ) → a < 2 ^ 64 → b < 2 ^ 64 → bit_or a b < 2 ^ 64 → (d : ℕ) → d ≤ zeros (bit_or a b) → (k : ℕ) → k < d → (is_set a k ≡ false) × (is_set b k ≡ false)
 neither_set a b l m both d near k below =
     let clear = below_lowest (bit_or a b) both k (omega arith) in (
-      false_from_ne_true (is_set a k) (λ set. both_ways (is_set (bit_or a b) k) clear (set_or a b k ∙ or_left (is_set a k) (is_set b k) set)),
-      false_from_ne_true (is_set b k) (λ set. both_ways (is_set (bit_or a b) k) clear (set_or a b k ∙ or_right (is_set a k) (is_set b k) set)),
+      false_from_ne_true (is_set a k) (λ set. both_ways (is_set (bit_or a b) k) clear (set_either a b k ∙ or_left (is_set a k) (is_set b k) set)),
+      false_from_ne_true (is_set b k) (λ set. both_ways (is_set (bit_or a b) k) clear (set_either a b k ∙ or_right (is_set a k) (is_set b k) set)),
     )
 
 module _ (fa ma fb mb : ℕ) (a_within : LiesWithin fa ma) (b_within : LiesWithin fb mb) where
@@ -127,8 +68,8 @@ module _ (fa ma fb mb : ℕ) (a_within : LiesWithin fa ma) (b_within : LiesWithi
     -- Blank can be drawn where there is no such depth,
     pub blank_from : bit_or w x ≡ 0 → CanDraw (known_bits fa ma) (known_bits fb mb) Blank
     blank_from none = draw_blank fa ma fb mb a_within b_within
-        (λ k set. free fa mb w w_is (λ j at. set_or w x j ∙ or_left (is_set w j) (is_set x j) at) k set)
-        (λ k set. free fb ma x x_is (λ j at. set_or w x j ∙ or_right (is_set w j) (is_set x j) at) k set)
+        (λ k set. free fa mb w w_is (λ j at. set_either w x j ∙ or_left (is_set w j) (is_set x j) at) k set)
+        (λ k set. free fb ma x x_is (λ j at. set_either w x j ∙ or_right (is_set w j) (is_set x j) at) k set)
       where
         free : (f m y : ℕ) → ((k : ℕ) → is_set y k ≡ (is_set f k && not (is_set m k))) → ((k : ℕ) → is_set y k ≡ true → is_set (bit_or w x) k ≡ true)
             → (k : ℕ) → is_set f k ≡ true → is_set m k ≡ true
@@ -140,7 +81,7 @@ module _ (fa ma fb mb : ℕ) (a_within : LiesWithin fa ma) (b_within : LiesWithi
     -- and only there
     pub blank_to : CanDraw (known_bits fa ma) (known_bits fb mb) Blank → bit_or w x ≡ 0
     blank_to drawn = all_clear (bit_or w x) (λ k. false_from_ne_true (is_set (bit_or w x) k) (λ set.
-        elim (or_cases (is_set w k) (is_set x k) (sym (set_or w x k) ∙ set)) as (λ _. ⊥) [
+        elim (or_cases (is_set w k) (is_set x k) (sym (set_either w x k) ∙ set)) as (λ _. ⊥) [
           | inl at ↦ clash fa mb drawn.0 drawn.1 (fits_from fa ma drawn.0 a_within drawn.2).certain (fits_from fb mb drawn.1 b_within drawn.3).allowed k (drawn.4 (pos k)) (sym (w_is k) ∙ at)
           | inr at ↦ clash fb ma drawn.1 drawn.0 (fits_from fb mb drawn.1 b_within drawn.3).certain (fits_from fa ma drawn.0 a_within drawn.2).allowed k (sym (drawn.4 (pos k))) (sym (x_is k) ∙ at)
         ]))
@@ -203,7 +144,7 @@ module _ (fa ma fb mb : ℕ) (a_within : LiesWithin fa ma) (b_within : LiesWithi
       solid_near : (HaveSameFirstFull a b → ⊥) → zeros differ ≤ first
       solid_near apart = elim (cases_lt first (zeros differ)) as (λ _. zeros differ ≤ first) [
         | inr near ↦ near
-        | inl l ↦ absurd (apart (elim (or_cases (is_set fa first) (is_set fb first) (sym (set_or fa fb first) ∙ (lowest_set (bit_or fa fb) full_fits (λ none. some none l)).0)) as (λ _. HaveSameFirstFull a b) [
+        | inl l ↦ absurd (apart (elim (or_cases (is_set fa first) (is_set fb first) (sym (set_either fa fb first) ∙ (lowest_set (bit_or fa fb) full_fits (λ none. some none l)).0)) as (λ _. HaveSameFirstFull a b) [
           | inl at ↦ same_first_down_to a b first (equal l) (a_fits.certain first at)
           | inr at ↦ same_first_down_to a b first (equal l) (equal l (pos first) (omega (arith, ints)) ∙ b_fits.certain first at)
         ]))
@@ -215,11 +156,11 @@ module _ (fa ma fb mb : ℕ) (a_within : LiesWithin fa ma) (b_within : LiesWithi
           at_most : zeros differ ≤ 64
           at_most = elim (cases_lt 0 differ) as (λ _. zeros differ ≤ 64) [
             | inl more ↦ (let l = (bit_at-trailing_zeros w64 differ more d_fits).0 in omega arith)
-            | inr none ↦ (let e : zeros differ ≡ 64 = ap zeros (let z : differ ≡ 0 = omega arith in z) ∙ trailing_of_zero 64 in omega arith)
+            | inr none ↦ (let e = zeros_of_none differ (omega arith) in omega arith)
           ]
 
           some : bit_or fa fb ≡ 0 → first < zeros differ → ⊥
-          some none l = let e : first ≡ 64 = ap zeros none ∙ trailing_of_zero 64 in omega (arith, at_most)
+          some none l = let e = zeros_of_none (bit_or fa fb) none in omega (arith, at_most)
 
       solid_some : (HaveSameFirstFull a b → ⊥) → differ ≢ 0
       solid_some apart none = apart (λ k. (other a b equal k, other b a (λ j. sym (equal j)) k))
@@ -249,7 +190,7 @@ module _ (fa ma fb mb : ℕ) (a_within : LiesWithin fa ma) (b_within : LiesWithi
           near : zeros both ≤ first
           near = lowest_at_least (bit_or fa fb) full_fits (zeros both) (lowest_set both both_fits some).1 (λ k l.
               let below : pos k <ℤ pos d = (let m = at_most in omega (arith, ints)) in
-              set_or fa fb k ∙ ap₂ ◌||◌
+              set_either fa fb k ∙ ap₂ ◌||◌
               (false_from_ne_true (is_set fa k) (λ at. both_ways (a (pos k)) (a_first.1 (pos k) below) (a_fits.certain k at)))
               (false_from_ne_true (is_set fb k) (λ at. both_ways (b (pos k)) (b_first.1 (pos k) below) (b_fits.certain k at))))
 

@@ -1,4 +1,3 @@
-pub mod FirstBits
 pub mod KnownColumns
 pub mod KnownBits
 pub mod GridColumns
@@ -35,3 +34,5 @@ pub mod BoxSight
 pub mod ListParts
 pub mod DrawnDemands
 pub mod LiveTree
+pub mod PackedColumns
+pub mod WholeChoices

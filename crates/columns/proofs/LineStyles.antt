@@ -25,7 +25,7 @@ use Rattle.solid_model.proofs.Gaps.{member}
 use Rattle.solid_model.proofs.GridMatching.{matching_draws_it}
 use Rattle.solid_model.proofs.GridStyle.{grid_style-drawing}
 use Rattle.columns.proofs.SettledColumns.{IsEmptyBeyond}
-use Rattle.columns.specs.Bits.{bits}
+use Rattle.solid_model.specs.Bits.{bits}
 use Rattle.columns.specs.GridPanels.{IsColumnBeside, AreColumnsBeside}
 use Rattle.columns.proofs.GridSegments.{empty_bits, segment_drawn}
 use Rattle.columns.proofs.ColumnNumbers.{columns_beside}

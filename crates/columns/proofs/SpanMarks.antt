@@ -5,12 +5,12 @@ use Rattle.std.proofs.lemmas.Bool.{cases_Bool, eqb-true, eqb-false, false≢true
 use Rattle.std.proofs.lemmas.List.{length-set, get_or-set_same, get_or-set_other}
 use Rattle.std.proofs.lemmas.Nat.Bits.{bit_at-zero}
 use Rattle.std.proofs.lemmas.List.Folds.{list_any_more}
-use Rattle.columns.proofs.KnownBits.{set_or, set_without}
 use Rattle.columns.specs.declared.known.KnownColumn.{KnownColumn}
 use Rattle.columns.specs.Known.{known_of, known_bits, LiesWithin}
 use Rattle.columns.specs.declared.spans.Span.{Span}
 use Rattle.columns.specs.Spans.{is_in_span, is_on, no_column, column_there, known_there, AreWithin}
 use Rattle.solid_model.specs.Bits.{is_set}
+use Rattle.solid_model.proofs.WordBits.{set_either, set_without}
 
 -- a column of which no cell may be full
 pub none_known : (k : ℕ) → known_bits 0 0 (pos k) ≡ Some false
@@ -59,10 +59,10 @@ free_within false m s w e = absurd (false≢true e)
 
 module _ (full may cells : ℕ) (f_fits : full < 2 ^ 64) (m_fits : may < 2 ^ 64) (s_fits : cells < 2 ^ 64) (within : LiesWithin full may) where
   pub within_full : LiesWithin (bit_or full cells) (bit_or may cells)
-  within_full k e = set_or may cells k ∙ full_within (is_set full k) (is_set may k) (is_set cells k) (within k) (sym (set_or full cells k) ∙ e)
+  within_full k e = set_either may cells k ∙ full_within (is_set full k) (is_set may k) (is_set cells k) (within k) (sym (set_either full cells k) ∙ e)
 
   pub known_full : (k : ℕ) → known_bits (bit_or full cells) (bit_or may cells) (pos k) ≡ (if is_set cells k then Some true else known_bits full may (pos k))
-  known_full k = ap₂ known_of (set_or full cells k) (set_or may cells k) ∙ full_by (is_set full k) (is_set may k) (is_set cells k)
+  known_full k = ap₂ known_of (set_either full cells k) (set_either may cells k) ∙ full_by (is_set full k) (is_set may k) (is_set cells k)
 
   pub within_empty : LiesWithin (bit_and full (bit_not w64 cells)) (bit_and may (bit_not w64 cells))
   within_empty k e = set_without may cells k m_fits s_fits ∙ empty_within (is_set full k) (is_set may k) (is_set cells k) (within k) (sym (set_without full cells k f_fits s_fits) ∙ e)
@@ -71,10 +71,10 @@ module _ (full may cells : ℕ) (f_fits : full < 2 ^ 64) (m_fits : may < 2 ^ 64)
   known_empty k = ap₂ known_of (set_without full cells k f_fits s_fits) (set_without may cells k m_fits s_fits) ∙ empty_by (is_set full k) (is_set may k) (is_set cells k)
 
   pub within_free : LiesWithin (bit_and full (bit_not w64 cells)) (bit_or may cells)
-  within_free k e = set_or may cells k ∙ free_within (is_set full k) (is_set may k) (is_set cells k) (within k) (sym (set_without full cells k f_fits s_fits) ∙ e)
+  within_free k e = set_either may cells k ∙ free_within (is_set full k) (is_set may k) (is_set cells k) (within k) (sym (set_without full cells k f_fits s_fits) ∙ e)
 
   pub known_free : (k : ℕ) → known_bits (bit_and full (bit_not w64 cells)) (bit_or may cells) (pos k) ≡ (if is_set cells k then None else known_bits full may (pos k))
-  known_free k = ap₂ known_of (set_without full cells k f_fits s_fits) (set_or may cells k) ∙ free_by (is_set full k) (is_set may k) (is_set cells k)
+  known_free k = ap₂ known_of (set_without full cells k f_fits s_fits) (set_either may cells k) ∙ free_by (is_set full k) (is_set may k) (is_set cells k)
 
 -- ---- one span more
 

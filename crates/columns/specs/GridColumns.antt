@@ -9,7 +9,7 @@ use Rattle.solid_model.specs.declared.frame.View.TheVariants.{Front, Top, Side}
 use Rattle.solid_model.specs.Grid.{GridCell}
 use Rattle.solid_model.specs.PerAxis.{by_axis, numbered}
 use Rattle.columns.specs.declared.column.Column.{Column}
-use Rattle.columns.specs.Bits.{bits}
+use Rattle.solid_model.specs.Bits.{bits}
 
 -- the place of a grid cell in a list of all of them, where there are so many along each axis
 abbrev pub place_in : (Axis → ℕ) → GridCell → ℕ

@@ -12,7 +12,7 @@ use Rattle.solid_model.specs.Frames.{across}
 use Rattle.solid_model.specs.Grid.{Coordinates, IsUnionOf}
 use Rattle.solid_model.specs.Lists.{Ascends}
 use Rattle.solid_model.specs.Panels.{PanelsStyles, AreGridStyles, grid_styles}
-use Rattle.columns.specs.Bits.{bits}
+use Rattle.solid_model.specs.Bits.{bits}
 use Rattle.columns.specs.GridColumns.{grid_column}
 
 -- the coordinates of a grid, so many along each axis

@@ -1,7 +1,6 @@
 -- The columns of a box's cells in the three views, numbered: by view, by place upwards, then to the right; and one more, beyond
 -- the box.
-use Rattle.std.specs.Prelude.{◌≡◌, ◌⊎◌, ◌↔◌, ◌<◌, ◌≤◌, ◌+◌, ◌*◌, ◌||◌, Bool, false, ℕ, ℤ, pos, ◌-ℤ◌, List, length, take, map, slice_index_or, All, Option, Some, if◌then◌else◌}
-use Rattle.std.specs.List.{list_any, filter, range_with_len}
+use Rattle.std.specs.Prelude.{◌≡◌, ◌⊎◌, ◌↔◌, ◌<◌, ◌≤◌, ◌+◌, ◌*◌, Bool, false, ℕ, ℤ, pos, ◌-ℤ◌, List, length, take, map, slice_index_or, All, Option, Some, if◌then◌else◌}
 use Rattle.columns.specs.declared.known.KnownColumn.{KnownColumn}
 use Rattle.columns.specs.declared.lines.Beside.{Beside}
 use Rattle.columns.specs.declared.spans.Span.{Span}
@@ -10,13 +9,11 @@ use Rattle.columns.specs.declared.decision.Decision.{Decision}
 use Rattle.columns.specs.Decisions.{decided_by, AreDecisions}
 use Rattle.columns.specs.Lines.{times_listed, AreMarked}
 use Rattle.columns.specs.Spans.{is_on, known_there, AreWithin}
-use Rattle.solid_model.specs.declared.cell.Cell.{Cell}
 use Rattle.solid_model.specs.declared.frame.View.{View}
 use Rattle.solid_model.specs.declared.frame.View.TheVariants.{Front, Top, Side}
 use Rattle.solid_model.specs.declared.line_id.LineId.{LineId}
 use Rattle.solid_model.specs.Blocks.{ProblemParts, block_at}
-use Rattle.solid_model.specs.Demands.{box_cell_in, known_cell, line_style, lines_of, CanBeMet}
-use Rattle.solid_model.specs.Frames.{frame_of}
+use Rattle.solid_model.specs.Demands.{known_cell, line_style, lines_of, CanBeMet}
 use Rattle.solid_model.specs.Rooms.{Sizes, is_below}
 use Rattle.solid_model.specs.GridBox.{grid_sizes, axis_along, axis_across}
 

@@ -1,4 +1,3 @@
-pub mod Bits
 pub mod GridColumns
 pub mod GridPanels
 pub mod Known
@@ -11,3 +10,4 @@ pub mod Lines
 pub mod Plans
 pub mod KeptColumns
 pub mod Gathered
+pub mod Packed

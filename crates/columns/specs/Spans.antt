@@ -1,5 +1,5 @@
 -- Cells of blocks by columns, and what is known of numbered columns.
-use Rattle.std.specs.Prelude.{◌≡◌, ◌<◌, Bool, false, ℕ, pos, ◌==◌, ◌&&◌, ◌||◌, All, List, slice_index_or, Option, Some, None}
+use Rattle.std.specs.Prelude.{◌≡◌, ◌<◌, Bool, ℕ, pos, ◌==◌, ◌&&◌, ◌||◌, All, List, slice_index_or, Option}
 use Rattle.std.specs.List.{list_any}
 use Rattle.columns.specs.Known.{known_bits, LiesWithin}
 use Rattle.columns.specs.declared.known.KnownColumn.{KnownColumn}

@@ -5,7 +5,7 @@ ghost use Rattle.solid_model.specs.declared.cell.Axis.{Axis};
 ghost use Rattle.solid_model.specs.Frames.{frame_of};
 ghost use Rattle.solid_model.specs.Limits.{most_grid_coordinates};
 ghost use Rattle.solid_model.specs.PerAxis.{numbers_of};
-ghost use Rattle.columns.specs.Bits.{bits};
+ghost use Rattle.solid_model.specs.Bits.{bits};
 ghost use Rattle.columns.specs.GridColumns.{place_in, number_on, grid_cell_in, grid_column, AreColumns};
 
 use crate::column::Column;

@@ -11,6 +11,7 @@ mod grid_columns;
 mod known;
 mod laws;
 mod lines;
+mod packed;
 mod partial_state;
 mod plan;
 mod segment_styles;

@@ -11,10 +11,11 @@ use crate::gather::{
 };
 use crate::known::KnownColumn;
 use crate::lines::{Beside, can_be_met, least, mend_lines, try_lines};
+use crate::packed::pack;
 use crate::plan::{LineList, SpanList};
 use crate::spans::set_spans;
 use crate::steps::Steps;
-use solid_model::{LineId, Memory, Problem, View};
+use solid_model::{LineId, Memory, Problem, Style, View};
 use std::alloc::Global;
 use std::marker::{Brand, Model};
 use std::sync::ledger::{Blank, Ledger};
@@ -60,12 +61,13 @@ impl<'p> Model for PartialState<'p> {
 }
 
 impl<'p> PartialState<'p> {
-    ghost use Rattle.std.specs.Prelude.{◌≡◌, ◌↔◌, ◌<◌, ◌≤◌, ◌+◌, ◌++◌, ◌∷◌, [], ℕ, pos, None, false, IsTrue, IfSome, IfOk};
-    ghost use Rattle.columns.specs.Decisions.{decided_by};
+    ghost use Rattle.std.specs.Prelude.{◌≡◌, ◌↔◌, ◌<◌, ◌≤◌, ◌+◌, ◌++◌, ◌∷◌, [], ℕ, pos, None, false, length, slice_index_or, IsTrue, IfSome, IfOk};
+    ghost use Rattle.columns.specs.Decisions.{decided_by, AreOnAll};
+    ghost use Rattle.columns.specs.Packed.{ArePacked};
     ghost use Rattle.columns.specs.Touching.{touching, view_width, view_height, shown_cell};
     ghost use Rattle.columns.specs.Known.{known_bits, LiesWithin};
     ghost use Rattle.solid_model.specs.GridBox.{grid_sizes};
-    ghost use Rattle.solid_model.specs.Demands.{has_line, known_cell, CanBeMet, IsFirstBroken};
+    ghost use Rattle.solid_model.specs.Demands.{has_line, known_cell, line_style, lines_of, CanBeMet, IsFirstBroken};
 
     /// The problem, while no block is decided. An `Err` is out of memory.
     pub fn new(alloc: Global, problem: &'p Problem) -> Result<PartialState<'p>, Memory>
@@ -245,6 +247,40 @@ impl<'p> PartialState<'p> {
             usize::from(up),
         )];
         (column.full, column.may)
+    }
+
+    /// How many lines the grid has.
+    pub fn line_count(&self) -> usize
+        ensures { result ≡ length (lines_of self.now.problem.grid) }
+    {
+        self.sides.len()
+    }
+
+    /// The style of the line of a number, in the order of all lines.
+    pub fn line_style(&self, number: usize) -> Style
+        requires { number < length (lines_of self.now.problem.grid) }
+        ensures { (d : LineId) → result
+            ≡ line_style self.now.problem.grid (slice_index_or (lines_of self.now.problem.grid) number d) }
+    {
+        self.sides[number].style
+    }
+
+    /// Puts the columns after and before each line, in the order of all lines, where every block is
+    /// decided. A bit that is set is a full cell, and bit 0 is the nearest.
+    pub fn pack(&self, after: &mut [u64], before: &mut [u64])
+        requires decided { AreOnAll self.now.problem.blocks.count self.now.decisions }
+        requires after { length after.old ≡ length (lines_of self.now.problem.grid) }
+        requires before { length before.old ≡ length (lines_of self.now.problem.grid) }
+        ensures { ArePacked self.now.problem (decided_by self.now.decisions) after.new before.new }
+    {
+        // A look at the problem tells that its blocks are those of its grid.
+        let _grid = self.problem.grid();
+        pack(
+            self.columns.as_slice(),
+            self.sides.as_slice(),
+            after,
+            before,
+        );
     }
 }
 

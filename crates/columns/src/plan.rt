@@ -60,6 +60,7 @@ impl SpanList {
         Ok(())
     }
 
+    /// The spans, in the order in which their columns came.
     pub fn as_slice(&self) -> &[Span]
         ensures { result.now ≡ self.now }
     {
@@ -106,6 +107,7 @@ impl LineList {
         Ok(())
     }
 
+    /// The numbers, in the order in which they came.
     pub fn as_slice(&self) -> &[u32]
         ensures { result.now ≡ self.now }
     {

@@ -12,7 +12,7 @@ use Rattle.solid_model.specs.Rooms.{is_below}
 use Rattle.solid_model.specs.Rounds.{Spot, Heading, East, North, West, South, left_of, square_at, is_border}
 use Rattle.solid_model.proofs.BoxPlaces.{below_number}
 use Rattle.solid_model.proofs.Pushed.{HoldsSoFar}
-use Rattle.cell_rows.proofs.WordBits.{set_either, same_where_clear, moved_up_first, moved_up}
+use Rattle.solid_model.proofs.WordBits.{set_either, same_where_clear, moved_up_first, moved_up}
 use Rattle.faces.specs.Border.{side_to, is_border_at, TellEnds}
 use Rattle.faces.specs.Ends.{is_set_before, TellRowEnds, AreTurned}
 use Rattle.faces.specs.PlaneSquares.{SquareTable, IsTable, is_in_table, is_there}

@@ -2,5 +2,6 @@
 #![tactic(auto)]
 
 mod partial;
+mod whole;
 
 pub use partial::Partial;

@@ -1,5 +1,6 @@
 //! A problem, some of whose blocks are decided.
 
+use crate::whole::{all_draw, wanted_styles};
 use columns::{Decision, PartialState, Steps};
 use solid_model::{LineId, Memory, Problem, View};
 use std::alloc::Global;
@@ -10,6 +11,12 @@ use std::sync::ledger::Ledger;
 #[derive(Debug, Drop)]
 pub struct Partial<'p> {
     state: PartialState<'p>,
+    /// Room for the columns after and before each line, and for the styles that they draw.
+    after: Vec<u64>,
+    before: Vec<u64>,
+    drawn: Vec<u8>,
+    /// The styles of the lines themselves.
+    wanted: Vec<u8>,
 }
 
 impl<'p> Model for Partial<'p> {
@@ -18,12 +25,18 @@ impl<'p> Model for Partial<'p> {
     ghost Value = { PartialParts };
 
     ghost view = { λ s. s.state };
+
+    ghost use Rattle.line_demands.specs.WholeChoices.{HasRoomForLines};
+
+    ghost invariant = { λ s. HasRoomForLines s.state.problem.grid s.after.items s.before.items
+        s.drawn.items s.wanted.items };
 }
 
 impl<'p> Partial<'p> {
     ghost use Rattle.std.specs.Prelude.{◌≡◌, ◌↔◌, ◌<◌, ◌≤◌, ◌+◌, ◌++◌, ◌∷◌, [], ℕ, pos, None, false, IsTrue, IfSome, IfOk};
     ghost use Rattle.columns.specs.declared.decision.Decision.{Decision};
-    ghost use Rattle.columns.specs.Decisions.{decided_by};
+    ghost use Rattle.columns.specs.Decisions.{decided_by, AreOnAll};
+    ghost use Rattle.line_demands.specs.WholeChoices.{TellsMatching};
     ghost use Rattle.columns.specs.Touching.{touching, view_width, view_height, shown_cell};
     ghost use Rattle.columns.specs.Known.{known_bits, LiesWithin};
     ghost use Rattle.solid_model.specs.GridBox.{grid_sizes};
@@ -37,7 +50,18 @@ impl<'p> Partial<'p> {
         }) }
     {
         let state = PartialState::new(alloc, problem)?;
-        Ok(Partial { state })
+        let count = state.line_count();
+        let after = vec![in alloc; 0; count]?;
+        let before = vec![in alloc; 0; count]?;
+        let drawn = vec![in alloc; 0; count]?;
+        let wanted = wanted_styles(alloc, &state)?;
+        Ok(Partial {
+            state,
+            after,
+            before,
+            drawn,
+            wanted,
+        })
     }
 
     /// Decides a block that isn't decided.
@@ -114,6 +138,24 @@ impl<'p> Partial<'p> {
             → CanBeMet self.now.problem (decided_by self.now.decisions) l) }
     {
         self.state.broken_line()
+    }
+
+    /// Whether the decided solid matches the drawing: what the columns beside each line draw is looked
+    /// at anew, whatever is known of lines. The condition is that every block is decided.
+    pub fn whole_fits(&mut self) -> bool
+        requires { AreOnAll self.old.problem.blocks.count self.old.decisions }
+        ensures same { self.new ≡ self.old }
+        ensures matches { TellsMatching self.old result }
+        ensures met { IsTrue result ↔ ((l : LineId) → IsTrue (has_line self.old.problem.grid l)
+            → CanBeMet self.old.problem (decided_by self.old.decisions) l) }
+    {
+        all_draw(
+            &self.state,
+            self.after.as_mut_slice(),
+            self.before.as_mut_slice(),
+            self.drawn.as_mut_slice(),
+            self.wanted.as_slice(),
+        )
     }
 
     /// How many lines touch a block: beside the line stands a column with a cell of the block.

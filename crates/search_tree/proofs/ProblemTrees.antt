@@ -1,10 +1,10 @@
 -- What decisions on the first blocks say is what the prefix says.
-use Rattle.std.proofs.Common.{◌≡◌, Bool, true, false, ℕ, zero, suc, ◌+◌, ◌<◌, ◌≤◌, ◌==◌, List, [], ◌∷◌, ◌++◌, length, Option, Some, None, is_some, is_none, not, IsTrue, ◌↔◌, refl, sym, ◌∙◌, ap, ap₂, subst, add-zero, zero-add, length-append, arith}
-use Rattle.std.proofs.lemmas.Bool.{false_from_ne_true, eq-eqb, ne_eqb}
+use Rattle.std.proofs.Common.{◌≡◌, Bool, true, false, ℕ, zero, suc, ◌+◌, ◌<◌, ◌≤◌, ◌==◌, List, [], ◌∷◌, ◌++◌, length, Option, is_some, IsTrue, ◌↔◌, refl, sym, ◌∙◌, ap, ap₂, subst, add-zero, zero-add, length-append, arith}
+use Rattle.std.proofs.lemmas.Bool.{false≢true, false_from_ne_true, eq-eqb, ne_eqb}
 use Rattle.std.proofs.lemmas.List.{same_from_push}
-use Rattle.std.proofs.lemmas.Option.{none-some}
+use Rattle.std.proofs.lemmas.Option.{slice_get-get_or}
 use Rattle.columns.specs.declared.decision.Decision.{Decision}
-use Rattle.columns.specs.Decisions.{decided_by, PartialParts}
+use Rattle.columns.specs.Decisions.{decided_by, AreOnAll, PartialParts}
 use Rattle.solid_model.specs.declared.line_id.LineId.{LineId}
 use Rattle.solid_model.specs.Blocks.{ProblemParts}
 use Rattle.solid_model.specs.Demands.{has_line, said_by, CanBeMet, is_live}
@@ -34,11 +34,11 @@ decided_from block (x ∷ values) (suc k) =
 pub decided_said : (values : List Bool) (k : ℕ) → decided_by (decisions_of 0 values) k ≡ said_by values k
 decided_said values k = (let same : k ≡ 0 + k = omega arith in ap (decided_by (decisions_of 0 values)) same) ∙ decided_from 0 values k
 
--- a prefix is live where no line is broken by decisions on its blocks
+-- a prefix is live where all lines can be met under decisions on its blocks
 pub path_live : (p : ProblemParts) → AreSized p → (values : List Bool) → length values ≤ p.blocks.count
-    → (decisions : List Decision) → decisions ≡ decisions_of 0 values → (broken : Option LineId)
-    → (broken ≡ None) ↔ ((l : LineId) → IsTrue (has_line p.grid l) → CanBeMet p (decided_by decisions) l) → is_none broken ≡ is_live p values
-path_live p sized values within decisions decided broken whole = at broken whole
+    → (decisions : List Decision) → decisions ≡ decisions_of 0 values → (met : Bool)
+    → IsTrue met ↔ ((l : LineId) → IsTrue (has_line p.grid l) → CanBeMet p (decided_by decisions) l) → met ≡ is_live p values
+path_live p sized values within decisions decided met told = by met told
   where
     IsMet : (ℕ → Option Bool) → Type 0
     IsMet known = (l : LineId) → IsTrue (has_line p.grid l) → CanBeMet p known l
@@ -46,17 +46,14 @@ path_live p sized values within decisions decided broken whole = at broken whole
     known : decided_by decisions ≡ said_by values
     known = ap decided_by decided ∙ (λ t k. decided_said values k t)
 
-    at : (b : Option LineId) → (b ≡ None) ↔ ((l : LineId) → IsTrue (has_line p.grid l) → CanBeMet p (decided_by decisions) l) → is_none b ≡ is_live p values
-    at None iff = sym ((live_computed p sized values).1 (record { short = within; met = subst IsMet known (iff.0 refl) }))
-    at (Some l) iff = sym (false_from_ne_true (is_live p values) (λ live.
-        none-some l (sym (iff.1 (subst IsMet (sym known) ((live_computed p sized values).0 live).met)))))
+    by : (m : Bool) → IsTrue m ↔ ((l : LineId) → IsTrue (has_line p.grid l) → CanBeMet p (decided_by decisions) l) → m ≡ is_live p values
+    by true iff = sym ((live_computed p sized values).1 (record { short = within; met = subst IsMet known (iff.0 refl) }))
+    by false iff = sym (false_from_ne_true (is_live p values) (λ live. false≢true (iff.1 (subst IsMet (sym known) ((live_computed p sized values).0 live).met))))
 
--- there is none where it isn't so that there is some
-pub none_by : {A : Type 0} (o : Option A) (r : Bool) → is_some o ≡ not r → r ≡ is_none o
-none_by None true e = refl
-none_by None false e = e
-none_by (Some x) true e = e
-none_by (Some x) false e = refl
+-- the decisions of a whole prefix are on all blocks
+pub all_decided : (count : ℕ) (values : List Bool) → length values ≡ count → (decisions : List Decision) → decisions ≡ decisions_of 0 values → AreOnAll count decisions
+all_decided count values whole decisions decided block there =
+    ap is_some (ap (λ ds. decided_by ds block) decided ∙ decided_said values block ∙ slice_get-get_or values block false (omega arith))
 
 -- ---- steps of the way
 

@@ -1,5 +1,6 @@
 //! A way down the tree of a problem's prefixes.
 
+use crate::meeting::meets_all;
 use crate::path::Path;
 use line_demands::Partial;
 use solid_model::{Memory, Prefix, Problem};
@@ -79,7 +80,8 @@ impl<'a> Path for BlockPath<'a> {
     }
 
     fn is_live(&mut self) -> bool {
-        self.partial.broken_line().is_none()
+        let whole = self.depth == self.blocks;
+        meets_all(&mut self.partial, whole)
     }
 
     fn go_down(&mut self, full: bool) {

@@ -5,6 +5,7 @@ mod alone;
 mod block_path;
 mod expansion;
 mod going;
+mod meeting;
 mod opened;
 mod path;
 mod rest;

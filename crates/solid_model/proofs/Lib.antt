@@ -52,6 +52,9 @@ pub mod SomeNumbering
 pub mod BlockChoices
 pub mod KeptBits
 pub mod BitChanges
+pub mod WordBits
+pub mod NearBits
+pub mod FirstBits
 pub mod ComparedChoices
 pub mod WithoutRepeats
 pub mod Volumes

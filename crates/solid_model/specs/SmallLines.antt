@@ -1,5 +1,5 @@
 -- The lines of a small grid, written out.
-use Rattle.std.specs.Prelude.{Bool, ℕ, List, [], ◌∷◌, pos}
+use Rattle.std.specs.Prelude.{Bool, ℕ, [], ◌∷◌, pos}
 use Rattle.solid_model.specs.declared.frame.View.{View}
 use Rattle.solid_model.specs.declared.line_id.LineId.{LineId}
 use Rattle.solid_model.specs.Panels.{PanelStyles, GridParts}

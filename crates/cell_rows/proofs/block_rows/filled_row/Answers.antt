@@ -6,7 +6,7 @@ use Rattle.solid_model.specs.Choices.{is_chosen}
 use Rattle.cell_rows.specs.declared.span.Span.{Span}
 use Rattle.cell_rows.specs.Spans.{is_filled}
 use Rattle.cell_rows.proofs.FilledSpans.{filled-last, or_false}
-use Rattle.cell_rows.proofs.WordBits.{set_either}
+use Rattle.solid_model.proofs.WordBits.{set_either}
 use Rattle.cell_rows.proofs.block_rows.filled_row.Goals as goal
 use Rattle.cell_rows.proofs.block_rows.filled_row.Goals.{then-fills, else-fills}
 

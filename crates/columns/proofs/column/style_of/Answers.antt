@@ -1,7 +1,7 @@
 -- The numbers of zeros below the lowest bits are compared.
 use Rattle.std.proofs.Common.{◌<◌, ◌^◌, rules}
 use Rattle.std.proofs.lemmas.Nat.{xor_lt}
-use Rattle.columns.proofs.FirstBits.{dashed_from_zeros, solid_from_zeros}
+use Rattle.solid_model.proofs.FirstBits.{dashed_from_zeros, solid_from_zeros}
 use Rattle.columns.proofs.column.style_of.Goals as goal
 
 pub returns-then-after-before-2 : goal.returns-then-after-before-2

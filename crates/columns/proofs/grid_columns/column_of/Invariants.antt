@@ -1,7 +1,7 @@
 -- The column down to the depth so far.
 use Rattle.solid_model.specs.PerAxis.{numbers_of}
 use Rattle.std.proofs.Common.{◌≡◌, ℤ}
-use Rattle.columns.specs.Bits.{bits}
+use Rattle.solid_model.specs.Bits.{bits}
 use Rattle.columns.specs.GridColumns.{column_to}
 use Rattle.columns.proofs.grid_columns.column_of.Given as goal
 

@@ -6,7 +6,8 @@ use Rattle.std.specs.Int.Bits.{and_lt}
 use Rattle.std.proofs.lemmas.Bool.{false≢true, leb-true, le-leb, not-true, eqb-false, not_from_false, ne_eqb}
 use Rattle.std.proofs.lemmas.Nat.{or_lt}
 use Rattle.std.proofs.Math.Nat.{div-le_self}
-use Rattle.columns.proofs.KnownBits.{set_and, dashed_from, dashed_to}
+use Rattle.columns.proofs.KnownBits.{dashed_from, dashed_to}
+use Rattle.solid_model.proofs.WordBits.{set_both}
 use Rattle.columns.proofs.known.can_part_behind.Goals as goal
 
 pub returns-then-both-eq0 : goal.returns-then-both-eq0
@@ -21,7 +22,7 @@ returns-then-both-eq0 c =
     let d_fits : differ < 2 ^ 64 = search rules in
     let both_fits : both < 2 ^ 64 = and_lt 64 after.may before.may (search rules) (search rules) in (
       λ e. absurd (false≢true e),
-      λ drawn. absurd ((dashed_to after.full after.may before.full before.may c.requires.after c.requires.before differ a_fits b_fits full_fits d_fits c.can_differ-differ.ensures both both_fits (set_and after.may before.may) drawn).0 c.if-both-eq0.true),
+      λ drawn. absurd ((dashed_to after.full after.may before.full before.may c.requires.after c.requires.before differ a_fits b_fits full_fits d_fits c.can_differ-differ.ensures both both_fits (set_both after.may before.may) drawn).0 c.if-both-eq0.true),
     )
 
 pub returns-then-depth-first : goal.returns-then-depth-first
@@ -38,10 +39,10 @@ returns-then-depth-first c =
     let near_fits : differ / 2 ^ trailing_zeros w64 both ≤ differ = div-le_self differ (2 ^ trailing_zeros w64 both) in
     let far_fits : differ / 2 ^ trailing_zeros w64 both / 2 < 2 ^ 64 = omega (arith, div-le_self (differ / 2 ^ trailing_zeros w64 both) 2) in (
       λ far. dashed_from after.full after.may before.full before.may c.requires.after c.requires.before differ a_fits b_fits full_fits d_fits c.can_differ-differ.ensures
-          both both_fits (set_and after.may before.may) c.if-both-eq0.false c.if-depth-first.true
+          both both_fits (set_both after.may before.may) c.if-both-eq0.false c.if-depth-first.true
           (λ none. eqb-false (differ / 2 ^ trailing_zeros w64 both / 2) 0 (not-true _ far) none) far_fits,
       λ drawn. not_from_false _ (ne_eqb (differ / 2 ^ trailing_zeros w64 both / 2) 0
-          (dashed_to after.full after.may before.full before.may c.requires.after c.requires.before differ a_fits b_fits full_fits d_fits c.can_differ-differ.ensures both both_fits (set_and after.may before.may) drawn).2),
+          (dashed_to after.full after.may before.full before.may c.requires.after c.requires.before differ a_fits b_fits full_fits d_fits c.can_differ-differ.ensures both both_fits (set_both after.may before.may) drawn).2),
     )
 
 pub returns-else-depth-first : goal.returns-else-depth-first
@@ -56,5 +57,5 @@ returns-else-depth-first c =
     let d_fits : differ < 2 ^ 64 = search rules in
     let both_fits : both < 2 ^ 64 = and_lt 64 after.may before.may (search rules) (search rules) in (
       λ near. absurd (let l = leb-true (trailing_zeros w64 both) (trailing_zeros w64 (bit_or after.full before.full)) near in omega arith),
-      λ drawn. le-leb (trailing_zeros w64 both) (trailing_zeros w64 (bit_or after.full before.full)) (dashed_to after.full after.may before.full before.may c.requires.after c.requires.before differ a_fits b_fits full_fits d_fits c.can_differ-differ.ensures both both_fits (set_and after.may before.may) drawn).1,
+      λ drawn. le-leb (trailing_zeros w64 both) (trailing_zeros w64 (bit_or after.full before.full)) (dashed_to after.full after.may before.full before.may c.requires.after c.requires.before differ a_fits b_fits full_fits d_fits c.can_differ-differ.ensures both both_fits (set_both after.may before.may) drawn).1,
     )

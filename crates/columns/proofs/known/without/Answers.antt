@@ -1,6 +1,6 @@
 -- Bit by bit.
 use Rattle.std.proofs.Common.{rules}
-use Rattle.columns.proofs.KnownBits.{set_without}
+use Rattle.solid_model.proofs.WordBits.{set_without}
 use Rattle.columns.proofs.known.without.Goals as goal
 
 pub returns : goal.returns

@@ -1,5 +1,5 @@
 -- The beginning, one turn more, and the two ways to be cut.
-use Rattle.std.proofs.Common.{◌≡◌, true, [], ◌∷◌, ◌++◌, ◌+◌, ◌<◌, ◌≤◌, length, filter, refl, sym, ◌∙◌, ap, subst, arith}
+use Rattle.std.proofs.Common.{◌≡◌, true, [], ◌∷◌, ◌++◌, ◌+◌, ◌<◌, ◌≤◌, length, filter, sym, ◌∙◌, ap, subst, arith}
 use Rattle.solid_model.specs.Tree.{is_whole}
 use Rattle.search_tree.proofs.SearchEnds.{Searches, search_begins, search_cut_nodes, search_cut_solids, search_more, room_for_one, room_for_none}
 use Rattle.search_tree.proofs.alone.search_path.Goals as goal

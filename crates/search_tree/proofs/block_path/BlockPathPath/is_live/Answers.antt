@@ -1,10 +1,17 @@
--- No line is broken, and the live prefixes of the problem make a tree.
+-- Each line can be met, and the live prefixes of the problem make a tree.
 use Rattle.std.proofs.Common.{◌≤◌, length, take, ap, ◌∙◌, subst, arith}
+use Rattle.std.proofs.lemmas.Bool.{eqb-true}
 use Rattle.solid_model.specs.Demands.{is_live}
 use Rattle.solid_model.specs.Tree.{IsTree}
-use Rattle.search_tree.proofs.ProblemTrees.{path_live, none_by}
+use Rattle.search_tree.proofs.ProblemTrees.{path_live, all_decided}
 use Rattle.columns.proofs.LiveTree.{problem_tree}
 use Rattle.search_tree.proofs.block_path.BlockPathPath.is_live.Goals as goal
+
+pub meets_all-requires : goal.meets_all-requires
+meets_all-requires c = λ same.
+    let kept = c.self.invariant in
+    all_decided c.self.inside.partial.problem.blocks.count c.self.inside.values.items
+    (let all = eqb-true _ _ same in omega (arith, all, c.len.ensures, c.self.inside.values.ok.0, c.from.ensures, kept.count)) c.self.inside.partial.decisions kept.decided
 
 pub returns-clause-asked : goal.returns-clause-asked
 returns-clause-asked c =
@@ -12,7 +19,7 @@ returns-clause-asked c =
     let values = take c.self.inside.depth c.self.inside.said in
     let kept = c.self.invariant.1 in
     let within : length values ≤ partial.problem.blocks.count = omega (arith, kept.within, kept.count) in
-    none_by c.broken_line.result c.is_none.result c.is_none.ensures ∙ path_live partial.problem kept.sized values within partial.decisions kept.decided c.broken_line.result c.broken_line.ensures.none
+    path_live partial.problem kept.sized values within partial.decisions kept.decided c.meets_all.result c.meets_all.ensures.met
     ∙ ap (λ v. is_live v.problem v.values) c.self.view_is
 
 pub returns-clause-tree : goal.returns-clause-tree

@@ -1,26 +1,22 @@
 -- The first full depth of a column is the number of zeros below its lowest bit.
 use Rattle.std.proofs.Common.{◌≡◌, ◌≢◌, ◌⊎◌, inl, inr, true, false, ◌==◌, ℕ, ◌<◌, ◌^◌, ℤ, pos, negsuc, ◌<ℤ◌, w64, refl, ap, sym, subst, ◌∙◌, arith}
-use Rattle.std.specs.Int.{bit_at, trailing_zeros}
-use Rattle.std.specs.Int.Count.{trailing_of_zero}
+use Rattle.std.specs.Int.{bit_at}
 use Rattle.std.specs.Int.RustNames.{bit_xor}
 use Rattle.std.proofs.lemmas.Bool.{false≢true, cases_lt, eq-eqb}
 use Rattle.std.proofs.lemmas.Int.{ints}
 use Rattle.std.proofs.lemmas.Nat.Bits.{bit_at-zero, bit_at-lt, bit_at_xor, bit_at-trailing_zeros, same_from_bits}
 use Rattle.solid_model.specs.declared.segment.Style.TheVariants.{Dashed, Solid}
 use Rattle.solid_model.specs.Columns.{IsFirstFull, HaveSameFirstFull, ColumnsDraw}
-use Rattle.columns.specs.Bits.{bits}
+use Rattle.solid_model.specs.Bits.{bits}
 use Rattle.solid_model.proofs.ColumnRule.{one_first}
-
--- the number of zeros below the lowest bit of a number of 64 bits
-abbrev zeros : ℕ → ℕ
-zeros n = trailing_zeros w64 n
+use Rattle.solid_model.proofs.WordBits.{zeros, zeros_of_none}
 
 -- a number is 0 or isn't
-zero_or_more : (n : ℕ) → (n ≡ 0) ⊎ (0 < n)
+pub zero_or_more : (n : ℕ) → (n ≡ 0) ⊎ (0 < n)
 zero_or_more n = elim (cases_lt 0 n) as (λ _. (n ≡ 0) ⊎ (0 < n)) [ inl l ↦ inr l | inr l ↦ inl (omega arith) ]
 
 -- two bits are equal where the tests of them are
-same_bit : (x y : ℕ) → x < 2 → y < 2 → (x == 1) ≡ (y == 1) → x ≡ y
+pub same_bit : (x y : ℕ) → x < 2 → y < 2 → (x == 1) ≡ (y == 1) → x ≡ y
 same_bit x y l m e = grind arith
 
 -- a column that isn't empty has its first full depth there
@@ -49,7 +45,7 @@ module _ (a b : ℕ) (a_fits : a < 2 ^ 64) (b_fits : b < 2 ^ 64) where
       by : 0 < a → (b ≡ 0) ⊎ (0 < b) → IsFirstFull (bits b) k
       by some (inl none) =
           let within = (bit_at-trailing_zeros w64 a some a_fits).0 in
-          let all : zeros b ≡ 64 = ap zeros none ∙ trailing_of_zero 64 in
+          let all = zeros_of_none b none in
           absurd (omega arith)
       by some (inr more) =
           let at : pos (zeros b) ≡ k = sym (ap pos same) ∙ one_first (bits a) (pos (zeros a)) k (first_at_zeros a some a_fits) first in
