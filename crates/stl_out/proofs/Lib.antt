@@ -1,4 +1,3 @@
-pub mod Sums
 pub mod CellSides
 pub mod RectangleOrder
 pub mod EdgeCounts
