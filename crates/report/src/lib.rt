@@ -11,5 +11,5 @@ mod volumes;
 
 pub use faults::fault_text;
 pub use laws::{small_face_texts, small_fault_texts, small_search_texts};
-pub use solid_texts::{SolidRoom, SolidTexts};
+pub use solid_texts::{SolidRoom, SolidTexts, solid_text};
 pub use text::{head_text, no_solid_text, page_text, trial_text};

@@ -1,5 +1,14 @@
 //! The texts of solids, one after another in one room.
 
+ghost use Rattle.std.specs.Prelude.{◌≡◌, Bool, List, IfOk};
+ghost use Rattle.report.specs.Texts.{solid_text};
+ghost use Rattle.solid_model.specs.declared.cell.Cell.{Cell};
+ghost use Rattle.solid_model.specs.Choices.{cells_of_choice};
+ghost use Rattle.solid_model.specs.Faces.{FaceParts, AreFacesOf};
+ghost use Rattle.solid_model.specs.Grid.{IsUnionOf};
+ghost use Rattle.solid_model.specs.Panels.{coordinates_of};
+ghost use Rattle.solid_model.specs.Volumes.{volume_of};
+
 use crate::solid::{push_faces, push_solid_line};
 use crate::volumes::{block_volumes, chosen_sum};
 use cell_rows::{BlockRows, CellRows};
@@ -104,4 +113,25 @@ impl SolidTexts<'_> {
         push_faces(&mut room.text, faces.as_slice())?;
         Ok(())
     }
+}
+
+/// The text of the solid of this number that a choice of a problem's blocks fills, as
+/// [`SolidTexts::tell`] makes it. An `Err` is out of memory.
+pub fn solid_text(
+    alloc: Global,
+    problem: &Problem,
+    number: u32,
+    choice: &Choice,
+) -> Result<Vec<u8>, Memory>
+    ensures { IfOk result (λ text. (faces : List FaceParts)
+        × ((full : Cell → Bool) → IsUnionOf (coordinates_of problem.now.grid)
+        (cells_of_choice problem.now.blocks.numbers choice.now) full → AreFacesOf full faces)
+        × (text.items ≡ solid_text number choice.now
+        (volume_of (coordinates_of problem.now.grid)
+        (cells_of_choice problem.now.blocks.numbers choice.now)) faces)) }
+{
+    let texts = SolidTexts::of(alloc, problem)?;
+    let mut room = texts.room(alloc)?;
+    texts.tell(alloc, number, choice, &mut room)?;
+    Ok(room.text)
 }

@@ -1,6 +1,7 @@
 -- Each line can be met, and the live prefixes of the problem make a tree.
 use Rattle.std.proofs.Common.{◌≤◌, length, take, ap, ◌∙◌, subst, arith}
 use Rattle.std.proofs.lemmas.Bool.{eqb-true}
+use Rattle.std.proofs.lemmas.List.{length-take-le}
 use Rattle.solid_model.specs.Demands.{is_live}
 use Rattle.solid_model.specs.Tree.{IsTree}
 use Rattle.search_tree.proofs.ProblemTrees.{path_live, all_decided}
@@ -9,9 +10,11 @@ use Rattle.search_tree.proofs.block_path.BlockPathPath.is_live.Goals as goal
 
 pub meets_all-requires : goal.meets_all-requires
 meets_all-requires c = λ same.
-    let kept = c.self.invariant in
-    all_decided c.self.inside.partial.problem.blocks.count c.self.inside.values.items
-    (let all = eqb-true _ _ same in omega (arith, all, c.len.ensures, c.self.inside.values.ok.0, c.from.ensures, kept.count)) c.self.inside.partial.decisions kept.decided
+    let kept = c.self.invariant.1 in
+    let all = eqb-true _ _ same in
+    let long = length-take-le c.self.inside.depth c.self.inside.said c.self.invariant.0 in
+    all_decided c.self.inside.partial.problem.blocks.count (take c.self.inside.depth c.self.inside.said) (omega (arith, all, long, kept.count))
+    c.self.inside.partial.decisions kept.decided
 
 pub returns-clause-asked : goal.returns-clause-asked
 returns-clause-asked c =
