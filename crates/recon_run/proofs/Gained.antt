@@ -6,7 +6,7 @@ use Rattle.std.specs.Io.KnownBytes.{Appends}
 use Rattle.search_run.specs.Pages.{Call}
 use Rattle.recon_run.specs.SinkPages.{HasGained, call_text, calls_text}
 use Rattle.solid_model.specs.Lists.{Each}
-use Rattle.solid_model.proofs.Lists.{each-append_right, each-push}
+use Rattle.solid_model.proofs.Lists.{each-append_right}
 use Rattle.tv_base.proofs.Told.{appends_both}
 use Rattle.tv_base.specs.declared.sink.SinkError.{SinkError}
 use Rattle.tv_base.specs.Pieces.{AppendsPrefix}
@@ -19,7 +19,7 @@ prefix_after held mid now first text appends (n, few, more) = (
   rw (take-append-add first text n) (appends_both held mid now first (take n text) appends more),
 )
 
-module _ (before held now : Option (List ℕ)) (most : ℕ) (calls : List Call) (c : Call) where
+module _ (before held now : Option (List ℕ)) (calls : List Call) (c : Call) where
   texts_next : calls_text calls ++ call_text c ≡ calls_text (calls ++ c ∷ [])
   texts_next = sym (flat_map-append call_text calls (c ∷ []) ∙ ap (λ text. calls_text calls ++ text) (append-nil (call_text c)))
 
@@ -34,10 +34,7 @@ module _ (before held now : Option (List ℕ)) (most : ℕ) (calls : List Call) 
 
   -- one page more, which goes to the sink where none was refused
   pub told_next : (r : Result (Unit {0}) SinkError) (was refused : Bool) (all : List Call) → was ≡ false → all ≡ calls ++ c ∷ [] → c.accepted ≡ is_ok r
-      → refused ≡ is_err r → c.total ≤ most → HasGained was before held calls → Each (λ x. x.total ≤ most) calls
-      → OnOk r (Appends held now (call_text c)) → OnErr r (AppendsPrefix held now (call_text c))
-      → HasGained refused before now all × Each (λ x. x.total ≤ most) all
-  told_next r was refused all none is accepted is_refused fits gained few written prefix = (
-    rw (is_refused, is) (gained_next r accepted (subst (λ b. HasGained b before held calls) none gained) written prefix),
-    rw is (each-push (λ (x : Call). x.total ≤ most) calls c few fits),
-  )
+      → refused ≡ is_err r → HasGained was before held calls → OnOk r (Appends held now (call_text c)) → OnErr r (AppendsPrefix held now (call_text c))
+      → HasGained refused before now all
+  told_next r was refused all none is accepted is_refused gained written prefix =
+      rw (is_refused, is) (gained_next r accepted (subst (λ b. HasGained b before held calls) none gained) written prefix)

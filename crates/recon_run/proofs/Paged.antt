@@ -46,24 +46,17 @@ numbered_text n t (c ∷ calls) (number, some, few, total, rest) =
     ap₂ (λ k m. page_text k m c.choices ++ calls_text calls) number total
     ∙ ap (λ text. page_text (n + 1) (t + length c.choices) c.choices ++ text) (numbered_text (n + 1) (t + length c.choices) calls rest)
 
--- where no call tells of more choices than the most, there are no more
-numbered_within : (most n t : ℕ) (calls : List Call) → AreNumbered n t calls → Each (λ c. c.total ≤ most) calls → t ≤ most
-    → t + length (choices_of calls) ≤ most
-numbered_within most n t [] numbered each within = omega (arith, within)
-numbered_within most n t (c ∷ calls) (number, some, few, total, rest) each within =
-    let later = numbered_within most (n + 1) (t + length c.choices) calls rest each.1 (omega (arith, total, each.0)) in
-    omega (arith, later, length-append c.choices (choices_of calls))
-
 -- the calls that were added are all, where there were none before
 added : (calls more : List Call) → Some calls ≡ Some ([] ++ more) → more ≡ calls
 added calls more e = cc
 
 -- where no page was handed out, pages were: none
-pub unpaged : (p : ProblemParts) (calls : Option (List Call)) → HasPaged p calls calls
-unpaged p calls = record {
+pub unpaged : (p : ProblemParts) (most : ℕ) (calls : Option (List Call)) → HasPaged p most calls calls
+unpaged p most calls = record {
   calls = [];
   adds = none calls;
   pages = record { numbered = tt; solutions = record { each = tt; once = tt }; done = []; refused = []; parts = refl; accepted = tt; few = omega arith };
+  few = omega arith;
 }
   where
     none : (calls : Option (List Call)) → AddsCalls calls calls []
@@ -138,15 +131,13 @@ module _ (p : ProblemParts) (limits : SearchLimits) (blocks : IsBlocksOf p.grid 
 
   -- pages of some solutions, no more than the limit of solids, are the first pages of a search that can end so
   pub some_told : (before now : Option (List ℕ)) (refused : Bool) (calls : List Call) → HasGained refused before now calls
-      → Each (λ c. c.total ≤ limits.solids) calls → HasPaged p (Some []) (Some calls)
+      → HasPaged p limits.solids (Some []) (Some calls)
       → (s : SearchedParts) × (text : List ℕ) × TellsSearch limits p (BeginsPages true) s text × AppendsPrefix before now text
-  some_told before now refused calls gained few paged =
+  some_told before now refused calls gained paged =
       let same = added calls paged.calls paged.adds in let numbered = paged.pages.numbered in let given = choices_of paged.calls in
       let pages = pages_of paged.calls in
       let each = each-from (Member all) given (λ x k. live_solution grid x (each-at (IsSolutionOf p) given x paged.pages.solutions.each k)) in
-      let within : length given ≤ limits.solids =
-      omega (arith, numbered_within limits.solids 0 0 paged.calls numbered (subst (Each (λ c. c.total ≤ limits.solids)) (sym same) few) (omega arith)) in
-      let can = can_list (is_live p) p.blocks.count limits (ordered grid) given each paged.pages.solutions.once within in
+      let can = can_list (is_live p) p.blocks.count limits (ordered grid) given each paged.pages.solutions.once paged.few in
       let told : choices_on (pages ++ singles can.more) ≡ given ++ can.more =
       choices_append pages (singles can.more) ∙ ap₂ (λ xs ys. xs ++ ys) (sym (same_choices paged.calls)) (single_choices can.more) in (
         record { problem = p; ended = record { kind = can.kind; opened = can.opened; solids = can.choices } },
@@ -168,9 +159,9 @@ module _ (p : ProblemParts) (limits : SearchLimits) (blocks : IsBlocksOf p.grid 
 
   -- so a search that failed has written a prefix of such pages
   pub failed_ends : (before now : Option (List ℕ)) (refused : Bool) (calls : List Call) (rose : Type 0) → HasGained refused before now calls
-      → Each (λ c. c.total ≤ limits.solids) calls → HasPaged p (Some []) (Some calls) → (fault : RunFault) → (fault ≡ run_fault.PageFault → rose)
+      → HasPaged p limits.solids (Some []) (Some calls) → (fault : RunFault) → (fault ≡ run_fault.PageFault → rose)
       → EndsWriting (TellsSearch limits p (TellsPages true)) (TellsSearch limits p (BeginsPages true)) before now rose (Err (run_failure fault))
-  failed_ends before now refused calls rose gained few paged run_fault.PageFault rises =
-      let (s, text, told, prefix) = some_told before now refused calls gained few paged in (rises refl, s, text, told, prefix)
-  failed_ends before now refused calls rose gained few paged run_fault.Memory rises =
-      let (s, text, told, prefix) = some_told before now refused calls gained few paged in inr (s, text, told, prefix)
+  failed_ends before now refused calls rose gained paged run_fault.PageFault rises =
+      let (s, text, told, prefix) = some_told before now refused calls gained paged in (rises refl, s, text, told, prefix)
+  failed_ends before now refused calls rose gained paged run_fault.Memory rises =
+      let (s, text, told, prefix) = some_told before now refused calls gained paged in inr (s, text, told, prefix)

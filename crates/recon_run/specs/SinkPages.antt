@@ -1,5 +1,5 @@
 -- Pages that go to a sink, as texts.
-use Rattle.std.specs.Prelude.{◌≡◌, ◌≤◌, Bool, true, false, ℕ, List, Option}
+use Rattle.std.specs.Prelude.{◌≡◌, Bool, true, false, ℕ, List, Option}
 use Rattle.std.specs.Io.KnownBytes.{Appends}
 use Rattle.std.specs.List.{flat_map}
 use Rattle.search_run.specs.Pages.{Call}
@@ -25,7 +25,3 @@ calls_text calls = flat_map call_text calls
 abbrev pub HasGained : Bool → Option (List ℕ) → Option (List ℕ) → List Call → Type 0
 HasGained false before held calls = Appends before held (calls_text calls)
 HasGained true before held calls = (Each (λ c. c.accepted ≡ true) calls → ⊥) × AppendsPrefix before held (calls_text calls)
-
--- the same, where no call tells of more choices than may be told
-abbrev pub AreTold : Option (List ℕ) → ℕ → Bool → PagesState → Type 0
-AreTold before most refused s = HasGained refused before s.held s.calls × Each (λ c. c.total ≤ most) s.calls

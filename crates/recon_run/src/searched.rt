@@ -1,9 +1,8 @@
 //! Problems that are searched.
 
-ghost use Rattle.std.specs.Prelude.{◌≡◌, ◌≤◌, IfOk, IsErrOf, MatchResult};
+ghost use Rattle.std.specs.Prelude.{IfOk, MatchResult};
 ghost use Rattle.recon_run.specs.Findings.{IsSearchOf};
-ghost use Rattle.search_run.specs.Pages.{HasAllPaged, HasPaged};
-ghost use Rattle.tv_base.specs.Faults.{Rose};
+ghost use Rattle.search_run.specs.Pages.{CountsFaults, HasAllPaged, HasPaged};
 
 use crate::crew::Crew;
 use report::head_text;
@@ -76,10 +75,9 @@ pub fn search_by<R: Threads + Wait + Sync, G: Gate, P: PageOut>(
     ensures search { IfOk result (IsSearchOf limits problem) }
     ensures paged { MatchResult result
         (λ s. HasAllPaged problem (P.calls pages.old) (P.calls pages.new) s.ended.solids)
-        (λ _. HasPaged problem (P.calls pages.old) (P.calls pages.new)) }
-    ensures later { P.faults pages.old ≤ P.faults pages.new }
-    ensures failed { IsErrOf result RunFault.PageFault
-        → Rose (P.faults pages.old) (P.faults pages.new) }
+        (λ _. HasPaged problem limits.solids (P.calls pages.old) (P.calls pages.new)) }
+    ensures faults { CountsFaults (P.faults pages.old) (P.faults pages.new) result
+        RunFault.PageFault }
 {
     let Ok(problem) = Arc::new(alloc, problem) else {
         return Err(RunFault::Memory);

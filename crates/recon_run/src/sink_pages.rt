@@ -1,9 +1,8 @@
 //! Pages that go to a sink, as texts.
 
-ghost use Rattle.std.specs.Prelude.{◌≡◌, ◌≤◌, ◌++◌, ◌∷◌, [], List, Option, Some, None, ℕ, Bool, true, false, take, map, IfOk, OnOk, OnErr, IsErrOf};
-ghost use Rattle.search_run.specs.Pages.{Call, AddsCalls, MayAddCall};
-ghost use Rattle.recon_run.specs.SinkPages.{AreTold};
-ghost use Rattle.tv_base.specs.Faults.{Rose};
+ghost use Rattle.std.specs.Prelude.{◌≡◌, ◌∷◌, [], List, Option, Some, None, ℕ, Bool, true, false, IfOk, OnOk, OnErr};
+ghost use Rattle.search_run.specs.Pages.{Call, AddsCalls, CountsFaults, MayAddCall};
+ghost use Rattle.recon_run.specs.SinkPages.{HasGained};
 
 use report::page_text;
 use search_run::PageOut;
@@ -12,17 +11,13 @@ use std::alloc::Global;
 use std::marker::{Brand, Model, PhantomData};
 use tv_base::{Sink, SinkError};
 
-/// What a sink held when pages began to go to it, and how many choices they may tell at most.
+/// What a sink held when pages began to go to it.
 pub trait Begun {
     ghost held: { Option (List ℕ) };
-
-    ghost most: { ℕ };
 }
 
 impl Begun for Brand {
     ghost held = { None };
-
-    ghost most = { 0 };
 }
 
 /// A page that was handed out, and whether the sink took it.
@@ -35,20 +30,18 @@ pub struct Told {
 }
 
 /// Takes pages and writes their texts to a sink, each in one call. It keeps the pages, so that it
-/// can tell what the sink gained. A page that would tell of more choices than may be told isn't
-/// written, nor any behind one that was refused.
+/// can tell what the sink gained. Behind a page that was refused no other is written.
 pub struct SinkPages<K: Sink, B: Begun> {
     alloc: Global,
     sink: K,
-    most: usize,
     told: Vec<Told>,
     refused: bool,
     begun: PhantomData<B>,
 }
 
 impl<K: Sink, B: Begun> Model for SinkPages<K, B> {
-    ghost use Rattle.std.specs.Prelude.{◌≡◌, map};
-    ghost use Rattle.recon_run.specs.SinkPages.{PagesState, AreTold};
+    ghost use Rattle.std.specs.Prelude.{map};
+    ghost use Rattle.recon_run.specs.SinkPages.{PagesState, HasGained};
 
     ghost Value = { PagesState };
 
@@ -60,24 +53,19 @@ impl<K: Sink, B: Begun> Model for SinkPages<K, B> {
       calls = map call_of s.told.items;
     } };
 
-    ghost invariant = { λ s. AreTold B.held B.most s.refused (record {
-      held = K.held s.sink;
-      faults = K.faults s.sink;
-      calls = map call_of s.told.items;
-    }) × (s.most ≡ B.most) };
+    ghost invariant = { λ s. HasGained s.refused B.held (K.held s.sink)
+        (map call_of s.told.items) };
 }
 
 impl<K: Sink, B: Begun> SinkPages<K, B> {
     /// Pages begin to go to a sink.
-    pub fn begin(alloc: Global, sink: K, most: usize) -> Self
+    pub fn begin(alloc: Global, sink: K) -> Self
         requires held { K.held sink ≡ B.held }
-        requires most { most ≡ B.most }
         ensures { result ≡ record { held = K.held sink; faults = K.faults sink; calls = [] } }
     {
         SinkPages {
             alloc,
             sink,
-            most,
             told: Vec::new(alloc),
             refused: false,
             begun: PhantomData,
@@ -88,12 +76,11 @@ impl<K: Sink, B: Begun> SinkPages<K, B> {
     pub fn into_sink(self) -> K
         ensures held { K.held result ≡ self.held }
         ensures faults { K.faults result ≡ self.faults }
-        ensures told { (refused : Bool) × AreTold B.held B.most refused self }
+        ensures told { (refused : Bool) × HasGained refused B.held self.held self.calls }
     {
         let Self {
             alloc: _,
             sink,
-            most: _,
             told,
             refused: _,
             begun: _,
@@ -120,7 +107,7 @@ impl<K: Sink, B: Begun> PageOut for SinkPages<K, B> {
     ghost faults = { λ s. s.faults };
 
     fn page(&mut self, number: u32, total: usize, more: &[Choice]) -> Result<(), SinkError> {
-        if self.refused || self.most < total {
+        if self.refused {
             return Err(SinkError::Memory);
         }
         let Ok(choices) = copies(self.alloc, more) else {

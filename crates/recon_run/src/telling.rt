@@ -27,8 +27,8 @@ fn failure_of(fault: RunFault) -> Failure
     }
 }
 
-/// Searches a problem within limits, tells pages to a sink, and gives it back. What the sink held,
-/// and the limit of solids, are those of `B`.
+/// Searches a problem within limits, tells pages to a sink, and gives it back. What the sink held is
+/// that of `B`.
 fn told_from<R: Threads + Wait + Sync, K: Sink, G: Gate, B: Begun>(
     alloc: Global,
     problem: Problem,
@@ -37,7 +37,6 @@ fn told_from<R: Threads + Wait + Sync, K: Sink, G: Gate, B: Begun>(
     crew: &Crew<'_, R, G>,
 ) -> (K, Result<Searched, Failure>)
     requires held { K.held sink ≡ B.held }
-    requires most { limits.solids ≡ B.most }
     ensures later { K.faults sink ≤ K.faults result.0 }
     ensures ends { EndsWriting (TellsSearch limits problem (TellsPages true))
         (TellsSearch limits problem (BeginsPages true)) B.held (K.held result.0)
@@ -45,7 +44,7 @@ fn told_from<R: Threads + Wait + Sync, K: Sink, G: Gate, B: Begun>(
 {
     // Looks at the problem tell that its blocks are those of its grid, and its grid a drawing's.
     let _coordinates = problem.grid().coordinates(Axis::X);
-    let mut pages = SinkPages::<K, B>::begin(alloc, sink, limits.solids as usize);
+    let mut pages = SinkPages::<K, B>::begin(alloc, sink);
     match search_by(alloc, problem, limits, crew, &mut pages) {
         Ok(searched) => (pages.into_sink(), Ok(searched)),
         Err(fault) => (pages.into_sink(), Err(failure_of(fault))),

@@ -3,10 +3,9 @@ use Rattle.std.proofs.Common.{◌≡◌, ◌≢◌, inl, inr, Bool, true, ℕ, �
 use Rattle.std.proofs.lemmas.Grind.{flat_map-append}
 use Rattle.solid_model.specs.Blocks.{ProblemParts}
 use Rattle.solid_model.specs.Limits.{most_page_choices}
-use Rattle.solid_model.specs.Lists.{Each}
 use Rattle.solid_model.specs.Solutions.{IsSolutionOf, AreSolutions}
 use Rattle.solid_model.proofs.Lists.{each-append_left, each-push, ascends-append_left}
-use Rattle.search_run.specs.Handed.{HandedParts, IsHandedOut}
+use Rattle.search_run.specs.Handed.{AreFewSolutions, HandedParts, IsHandedOut}
 use Rattle.search_run.specs.Pages.{Call, AddsCalls, MayAddCall, choices_of, AreNumbered, ArePages, HasPaged, HasAllPaged}
 
 -- calls that are added in two steps
@@ -34,6 +33,10 @@ numbered_push n t (x ∷ calls) c h number some few total = (
 pub solutions_left : (p : ProblemParts) (xs ys : List (List Bool)) → AreSolutions p (xs ++ ys) → AreSolutions p xs
 solutions_left p xs ys h = record { each = each-append_left (IsSolutionOf p) xs ys h.each; once = ascends-append_left ◌≢◌ xs ys h.once }
 
+-- and few with few
+pub few_left : (p : ProblemParts) (most : ℕ) (xs ys : List (List Bool)) → AreFewSolutions p most (xs ++ ys) → AreFewSolutions p most xs
+few_left p most xs ys h = (solutions_left p xs ys h.0, omega (arith, h.1, length-append xs ys))
+
 module _ (before old now : Option (List Call)) (h : HandedParts) (more : List (List Bool)) (out : IsHandedOut before old h) where
   -- accepted calls are pages
   accepted_pages : (p : ProblemParts) → AreSolutions p h.choices → ArePages p out.calls
@@ -48,8 +51,13 @@ module _ (before old now : Option (List Call)) (h : HandedParts) (more : List (L
   }
 
   -- so pages were added
-  pub paged : (p : ProblemParts) → AreSolutions p (h.choices ++ more) → HasPaged p before old
-  paged p all = record { calls = out.calls; adds = out.adds; pages = accepted_pages p (solutions_left p h.choices more all) }
+  pub paged : (p : ProblemParts) (most : ℕ) → AreFewSolutions p most h.choices → HasPaged p most before old
+  paged p most all = record {
+    calls = out.calls;
+    adds = out.adds;
+    pages = accepted_pages p all.0;
+    few = subst (λ (xs : List (List Bool)). length xs ≤ most) (sym out.all) all.1;
+  }
 
   -- those of all solids, where these were handed out
   pub all_paged : (p : ProblemParts) (solids : List (List Bool)) → AreSolutions p h.choices → IsPermutation h.choices solids → HasAllPaged p before old solids
@@ -82,25 +90,28 @@ module _ (before old now : Option (List Call)) (h : HandedParts) (more : List (L
     }
 
     -- and one that is refused
-    pub refused_next : (p : ProblemParts) → AreSolutions p (h.choices ++ more) → MayAddCall old now c → HasPaged p before now
-    refused_next p all (inl adds) = record {
+    pub refused_next : (p : ProblemParts) (most : ℕ) → AreFewSolutions p most (h.choices ++ more) → MayAddCall old now c → HasPaged p most before now
+    refused_next p most all (inl adds) = record {
       calls = out.calls ++ c ∷ [];
       adds = adds_on before old now out.calls (c ∷ []) out.adds adds;
       pages = record {
         numbered = numbered_next;
-        solutions = subst (AreSolutions p) (sym all_next) all;
+        solutions = subst (AreSolutions p) (sym all_next) all.0;
         done = out.calls;
         refused = c ∷ [];
         parts = refl;
         accepted = out.accepted;
         few = omega arith;
       };
+      few = subst (λ (xs : List (List Bool)). length xs ≤ most) (sym all_next) all.1;
     }
-    refused_next p all (inr adds) = record {
-      calls = out.calls;
-      adds = subst (AddsCalls before now) (append-nil out.calls) (adds_on before old now out.calls [] out.adds adds);
-      pages = accepted_pages p (solutions_left p h.choices more all);
-    }
+    refused_next p most all (inr adds) =
+        let left = few_left p most h.choices more all in record {
+          calls = out.calls;
+          adds = subst (AddsCalls before now) (append-nil out.calls) (adds_on before old now out.calls [] out.adds adds);
+          pages = accepted_pages p left.0;
+          few = subst (λ (xs : List (List Bool)). length xs ≤ most) (sym out.all) left.1;
+        }
 
 -- what is handed out with what is then left is what it was before
 pub page_part : (n : ℕ) (h l whole part rest : List (List Bool)) → h ++ l ≡ whole → part ≡ take n l → rest ≡ drop n l → (h ++ part) ++ rest ≡ whole
@@ -114,10 +125,10 @@ none_yet b = record { calls = []; adds = adds_none b; numbered = tt; accepted = 
     adds_none None = tt
     adds_none (Some told) = ap Some (sym (append-nil told))
 
--- none are solutions
-pub no_solutions : (p : ProblemParts) → AreSolutions p []
-no_solutions p = record { each = tt; once = tt }
+-- none are few solutions
+pub no_solutions : (p : ProblemParts) (most : ℕ) → AreFewSolutions p most []
+no_solutions p most = (record { each = tt; once = tt }, omega arith)
 
 -- where no page was handed out, pages were added: none
-pub unpaged : (p : ProblemParts) (b : Option (List Call)) → HasPaged p b b
-unpaged p b = paged b b b record { choices = []; pages = 0 } [] (none_yet b) p (no_solutions p)
+pub unpaged : (p : ProblemParts) (most : ℕ) (b : Option (List Call)) → HasPaged p most b b
+unpaged p most b = paged b b b record { choices = []; pages = 0 } [] (none_yet b) p most (no_solutions p most)

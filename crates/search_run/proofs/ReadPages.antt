@@ -1,5 +1,5 @@
 -- What is handed out of a book is the beginning of what was seen of it.
-use Rattle.std.proofs.Common.{◌≡◌, ◌≢◌, Bool, ℕ, List, [], ◌++◌, length, take, drop, Option, Some, refl, sym, ◌∙◌, ap, subst, append_assoc, take-append-drop}
+use Rattle.std.proofs.Common.{◌≡◌, ◌≤◌, ◌-◌, Bool, ℕ, List, [], ◌++◌, length, take, drop, Option, Some, refl, sym, ◌∙◌, ap, subst, append_assoc, take-append-drop, arith, length-append, length-take}
 use Rattle.std.proofs.Math.Seq.{drop-append_seam}
 use Rattle.solid_model.specs.Blocks.{ProblemParts}
 use Rattle.solid_model.specs.Solutions.{AreSolutions}
@@ -32,6 +32,12 @@ read_on p known now handed part e from most h look at is =
             ∙ ap (λ l. (handed ++ l) ++ drop most rest) (sym (is ∙ ap (take most) left)),
       );
     }
+
+-- and they are no longer together than the part had room for
+pub within_room : (n most from : ℕ) (handed part list : List (List Bool)) → part ≡ take most (drop from list) → most ≤ n - length handed → length handed ≤ n
+    → length (handed ++ part) ≤ n
+within_room n most from handed part list is room few =
+    omega (arith, ap length is, length-take most (drop from list), length-append handed part, room, few)
 
 -- at first nothing was
 pub read_first : (p : ProblemParts) (known now : Option EditionParts) (e : EditionParts) → Looked known now e → e.problem ≡ p → IsReadUpTo p now []

@@ -1,10 +1,11 @@
 -- Pages: choices that are handed out, call by call, while a search goes on and at its end.
-use Rattle.std.specs.Prelude.{◌≡◌, ◌⊎◌, ◌+◌, ◌≤◌, Bool, true, ℕ, List, [], ◌∷◌, ◌++◌, length, Option, Some, None, IsPermutation}
+use Rattle.std.specs.Prelude.{◌≡◌, ◌⊎◌, ◌+◌, ◌≤◌, Bool, true, ℕ, List, [], ◌∷◌, ◌++◌, length, Option, Some, None, Result, IsErrOf, IsPermutation}
 use Rattle.std.specs.List.{flat_map}
 use Rattle.solid_model.specs.Blocks.{ProblemParts}
 use Rattle.solid_model.specs.Limits.{most_page_choices}
 use Rattle.solid_model.specs.Lists.{Each}
 use Rattle.solid_model.specs.Solutions.{AreSolutions}
+use Rattle.tv_base.specs.Faults.{Rose}
 
 -- a call that hands out a page: its number, how many choices this page and those before it have, its choices, and whether it
 -- was accepted
@@ -44,11 +45,12 @@ pub record ArePages (p : ProblemParts) (calls : List Call) : Type 0 where
   pub accepted : Each (λ c. c.accepted ≡ true) done
   pub few : length refused ≤ 1
 
--- pages of solutions of a problem were added
-pub record HasPaged (p : ProblemParts) (before now : Option (List Call)) : Type 0 where
+-- pages of solutions of a problem were added, with no more than so many choices
+pub record HasPaged (p : ProblemParts) (most : ℕ) (before now : Option (List Call)) : Type 0 where
   pub calls : List Call
   pub adds : AddsCalls before now calls
   pub pages : ArePages p calls
+  pub few : length (choices_of calls) ≤ most
 
 -- the pages of just these solutions were added, in some order, and all were accepted
 pub record HasAllPaged (p : ProblemParts) (before now : Option (List Call)) (solids : List (List Bool)) : Type 0 where
@@ -57,3 +59,7 @@ pub record HasAllPaged (p : ProblemParts) (before now : Option (List Call)) (sol
   pub pages : ArePages p calls
   pub accepted : Each (λ c. c.accepted ≡ true) calls
   pub all : IsPermutation (choices_of calls) solids
+
+-- a count of faults that never falls, and rose where there is no result because of a fault
+abbrev pub CountsFaults : {T E : Type 0} → ℕ → ℕ → Result T E → E → Type 0
+CountsFaults before now result fault = (before ≤ now) × (IsErrOf result fault → Rose before now)

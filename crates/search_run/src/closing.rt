@@ -1,18 +1,16 @@
 //! The end of a search, at which several may have worked.
 
-ghost use Rattle.std.specs.Prelude.{◌≡◌, ◌≤◌, ◌+◌, ◌++◌, List, Option, Some, length, IsTrue, IfOk, OnOk, IsErrOf, IsPermutation, MatchResult};
+ghost use Rattle.std.specs.Prelude.{◌≡◌, ◌≤◌, ◌++◌, ℕ, List, Option, Some, length, IsTrue, IfOk, OnOk, IsPermutation, MatchResult};
 ghost use Rattle.std.specs.Arc.{arc_value};
 ghost use Rattle.solid_model.specs.Blocks.{ProblemParts};
 ghost use Rattle.solid_model.specs.Demands.{is_live};
 ghost use Rattle.solid_model.specs.Limits.{most_solid_limit};
 ghost use Rattle.solid_model.specs.SearchEnds.{EndsSearch};
-ghost use Rattle.solid_model.specs.Solutions.{AreSolutions};
 ghost use Rattle.search_core.specs.Desk.{IsDesk};
 ghost use Rattle.search_tree.specs.BlockPaths.{IsWayOf};
-ghost use Rattle.tv_base.specs.Faults.{Rose};
 ghost use Rattle.search_run.specs.Answers.{IsAnswer, IsAnswerList};
-ghost use Rattle.search_run.specs.Handed.{IsHandedOut};
-ghost use Rattle.search_run.specs.Pages.{Call, HasPaged, HasAllPaged};
+ghost use Rattle.search_run.specs.Handed.{AreFewSolutions, BreaksOff, HandsOn, IsHandedOut};
+ghost use Rattle.search_run.specs.Pages.{Call, CountsFaults, HasPaged, HasAllPaged};
 
 use crate::desk_search::{begin_from, go_on};
 use crate::handed::{Handed, PAGE};
@@ -65,18 +63,15 @@ fn settled(
     handed: &Handed,
 ) -> Result<(Desk, EndKind, Vec<Choice>), Memory>
     requires way { IsWayOf (arc_value problem.now) path.old }
-    requires handed { AreSolutions (arc_value problem.now) handed.now.choices }
-    requires few { length handed.now.choices ≤ limits.solids }
+    requires handed { AreFewSolutions (arc_value problem.now) limits.solids handed.now.choices }
     ensures problem { IfOk result (λ r. r.0.problem ≡ arc_value problem.now) }
     ensures limits { IfOk result (λ r. r.0.limits ≡ limits) }
     ensures end { IfOk result (λ r. r.0.end ≡ Some r.1) }
     ensures kept { IfOk result (λ r. IsDesk r.0) }
     ensures listed { IfOk result (λ r. IsAnswerList (arc_value problem.now) limits r.0.found
         (handed.now.choices ++ r.2.items)) }
-    ensures solutions { IfOk result (λ r. AreSolutions (arc_value problem.now)
+    ensures solutions { IfOk result (λ r. AreFewSolutions (arc_value problem.now) limits.solids
         (handed.now.choices ++ r.2.items)) }
-    ensures room { IfOk result (λ r.
-        length handed.now.choices + length r.2.items ≤ limits.solids) }
 {
     // Looks at the problem tell that its blocks are those of its grid, and its grid a drawing's.
     let _coordinates = problem.grid().coordinates(Axis::X);
@@ -93,17 +88,15 @@ fn hand_rest<P: PageOut>(
     handed: &mut Handed,
     left: Vec<Choice>,
 ) -> Result<(), RunFault>
-    requires room { length handed.old.choices + length left.items ≤ most_solid_limit }
+    requires room { length (handed.old.choices ++ left.items) ≤ most_solid_limit }
     ensures choices { OnOk result (handed.new.choices ≡ handed.old.choices ++ left.items) }
-    ensures out { (before : Option (List Call))
-        → IsHandedOut before (P.calls pages.old) handed.old
-        → MatchResult result
-        (λ _. IsHandedOut before (P.calls pages.new) handed.new)
-        (λ _. (p : ProblemParts) → AreSolutions p (handed.old.choices ++ left.items)
-        → HasPaged p before (P.calls pages.new)) }
-    ensures later { P.faults pages.old ≤ P.faults pages.new }
-    ensures failed { IsErrOf result RunFault.PageFault
-        → Rose (P.faults pages.old) (P.faults pages.new) }
+    ensures out { MatchResult result
+        (λ _. HandsOn (P.calls pages.old) handed.old (P.calls pages.new) handed.new)
+        (λ _. (p : ProblemParts) → (most : ℕ)
+        → AreFewSolutions p most (handed.old.choices ++ left.items)
+        → BreaksOff p most (P.calls pages.old) handed.old (P.calls pages.new)) }
+    ensures faults { CountsFaults (P.faults pages.old) (P.faults pages.new) result
+        RunFault.PageFault }
 {
     let mut left = left;
     while left.len() > PAGE {
@@ -163,8 +156,7 @@ pub fn finish<P: PageOut>(
     pages: &mut P,
 ) -> Result<(Ended, Desk), RunFault>
     requires way { IsWayOf (arc_value problem.now) path.old }
-    requires handed { AreSolutions (arc_value problem.now) handed.choices }
-    requires few { length handed.choices ≤ limits.solids }
+    requires handed { AreFewSolutions (arc_value problem.now) limits.solids handed.choices }
     ensures answer { IfOk result (λ r. EndsSearch (is_live (arc_value problem.now))
         (arc_value problem.now).blocks.count limits r.0) }
     ensures desk { IfOk result (λ r. IsAnswer (arc_value problem.now) limits r.0 r.1) }
@@ -172,10 +164,9 @@ pub fn finish<P: PageOut>(
         → IsHandedOut before (P.calls pages.old) handed
         → MatchResult result
         (λ r. HasAllPaged (arc_value problem.now) before (P.calls pages.new) r.0.solids)
-        (λ _. HasPaged (arc_value problem.now) before (P.calls pages.new)) }
-    ensures later { P.faults pages.old ≤ P.faults pages.new }
-    ensures failed { IsErrOf result RunFault.PageFault
-        → Rose (P.faults pages.old) (P.faults pages.new) }
+        (λ _. HasPaged (arc_value problem.now) limits.solids before (P.calls pages.new)) }
+    ensures faults { CountsFaults (P.faults pages.old) (P.faults pages.new) result
+        RunFault.PageFault }
 {
     let mut handed = handed;
     let (desk, kind, left) = match settled(alloc, path, problem, limits, desk, &handed) {

@@ -28,13 +28,11 @@ impl Model for Handed {
 }
 
 impl Handed {
-    ghost use Rattle.std.specs.Prelude.{◌≡◌, ◌≤◌, ◌+◌, ◌++◌, [], List, Option, length, OnOk, IsErrOf, MatchResult};
+    ghost use Rattle.std.specs.Prelude.{◌≡◌, ◌≤◌, ◌+◌, ◌++◌, [], ℕ, length, OnOk, MatchResult};
     ghost use Rattle.solid_model.specs.Blocks.{ProblemParts};
     ghost use Rattle.solid_model.specs.Limits.{most_page_choices, most_solid_limit};
-    ghost use Rattle.solid_model.specs.Solutions.{AreSolutions};
-    ghost use Rattle.tv_base.specs.Faults.{Rose};
-    ghost use Rattle.search_run.specs.Pages.{Call, HasPaged};
-    ghost use Rattle.search_run.specs.Handed.{IsHandedOut};
+    ghost use Rattle.search_run.specs.Handed.{AreFewSolutions, BreaksOff, HandsOn};
+    ghost use Rattle.search_run.specs.Pages.{CountsFaults};
 
     /// Nothing has been handed out.
     pub fn new(alloc: Global) -> Handed
@@ -67,15 +65,13 @@ impl Handed {
         requires few { length more.items ≤ most_page_choices }
         requires room { length self.old.choices + length more.items ≤ most_solid_limit }
         ensures choices { OnOk result (self.new.choices ≡ self.old.choices ++ more.items) }
-        ensures out { (before : Option (List Call))
-            → IsHandedOut before (P.calls pages.old) self.old
-            → MatchResult result
-            (λ _. IsHandedOut before (P.calls pages.new) self.new)
-            (λ _. (p : ProblemParts) → AreSolutions p (self.old.choices ++ more.items)
-            → HasPaged p before (P.calls pages.new)) }
-        ensures later { P.faults pages.old ≤ P.faults pages.new }
-        ensures failed { IsErrOf result RunFault.PageFault
-            → Rose (P.faults pages.old) (P.faults pages.new) }
+        ensures out { MatchResult result
+            (λ _. HandsOn (P.calls pages.old) self.old (P.calls pages.new) self.new)
+            (λ _. (p : ProblemParts) → (most : ℕ)
+            → AreFewSolutions p most (self.old.choices ++ more.items)
+            → BreaksOff p most (P.calls pages.old) self.old (P.calls pages.new)) }
+        ensures faults { CountsFaults (P.faults pages.old) (P.faults pages.new) result
+            RunFault.PageFault }
     {
         let mut more = more;
         if self.choices.reserve(more.len()).is_err() {

@@ -1,8 +1,7 @@
 //! Where pages go.
 
-ghost use Rattle.std.specs.Prelude.{◌≡◌, ◌≤◌, ◌∷◌, [], None, List, Option, ℕ, true, false, OnOk, OnErr, IsErrOf};
-ghost use Rattle.tv_base.specs.Faults.{Rose};
-ghost use Rattle.search_run.specs.Pages.{Call, AddsCalls, MayAddCall};
+ghost use Rattle.std.specs.Prelude.{◌≡◌, ◌∷◌, [], None, List, Option, ℕ, true, false, OnOk, OnErr};
+ghost use Rattle.search_run.specs.Pages.{Call, AddsCalls, CountsFaults, MayAddCall};
 
 use solid_model::{Choice, Memory};
 use tv_base::SinkError;
@@ -19,7 +18,6 @@ pub trait PageOut {
     /// an `Err` the call was added as a refused one, or none was: `Failed` comes only where the
     /// count of faults rose in this call, `Memory` where memory ran out.
     fn page(&mut self, number: u32, total: usize, more: &[Choice]) -> Result<(), SinkError>
-        ensures later { faults self.old ≤ faults self.new }
         ensures accepted { OnOk result (AddsCalls (calls self.old) (calls self.new) (record {
           number = number;
           total = total;
@@ -32,8 +30,8 @@ pub trait PageOut {
           choices = more.now;
           accepted = false;
         }) }
-        ensures failed { IsErrOf result SinkError.Failed →
-            Rose (faults self.old) (faults self.new) };
+        ensures faults { CountsFaults (faults self.old) (faults self.new) result
+            SinkError.Failed };
 }
 
 /// Why a search has no answer.

@@ -1,12 +1,9 @@
 //! Pages are handed out while workers search.
 
-ghost use Rattle.std.specs.Prelude.{◌≡◌, ◌≤◌, [], List, Option, length, IsTrue, IfOk, OnOk, IsErrOf, MatchResult};
+ghost use Rattle.std.specs.Prelude.{◌≡◌, ◌≤◌, [], length, IsTrue, OnOk, MatchResult};
 ghost use Rattle.std.specs.Arc.{arc_value};
-ghost use Rattle.solid_model.specs.Blocks.{ProblemParts};
-ghost use Rattle.solid_model.specs.Solutions.{AreSolutions};
-ghost use Rattle.tv_base.specs.Faults.{Rose};
-ghost use Rattle.search_run.specs.Handed.{IsHandedOut};
-ghost use Rattle.search_run.specs.Pages.{Call, HasPaged};
+ghost use Rattle.search_run.specs.Handed.{BreaksOff, HandsOn, PagesOn};
+ghost use Rattle.search_run.specs.Pages.{CountsFaults};
 ghost use Rattle.search_run.specs.Reading.{IsReadUpTo};
 
 use crate::handed::{Handed, PAGE};
@@ -43,14 +40,12 @@ fn page_new<B: Wait + Drop, P: PageOut>(
     requires few { length handed.old.choices ≤ limits.solids }
     ensures read { OnOk result (IsReadUpTo (arc_value problem.now) reader.new handed.new.choices) }
     ensures few { OnOk result (length handed.new.choices ≤ limits.solids) }
-    ensures out { (before : Option (List Call))
-        → IsHandedOut before (P.calls pages.old) handed.old
-        → MatchResult result
-        (λ _. IsHandedOut before (P.calls pages.new) handed.new)
-        (λ _. HasPaged (arc_value problem.now) before (P.calls pages.new)) }
-    ensures later { P.faults pages.old ≤ P.faults pages.new }
-    ensures failed { IsErrOf result RunFault.PageFault
-        → Rose (P.faults pages.old) (P.faults pages.new) }
+    ensures out { MatchResult result
+        (λ _. HandsOn (P.calls pages.old) handed.old (P.calls pages.new) handed.new)
+        (λ _. BreaksOff (arc_value problem.now) limits.solids (P.calls pages.old) handed.old
+        (P.calls pages.new)) }
+    ensures faults { CountsFaults (P.faults pages.old) (P.faults pages.new) result
+        RunFault.PageFault }
 {
     let from = handed.choices().len();
     let most = PAGE.min(limits.solids as usize - from);
@@ -83,16 +78,10 @@ fn page_on<B: Wait + Drop, R: Wait, G: Gate, P: PageOut>(
 ) -> Result<Handed, RunFault>
     requires read { IsReadUpTo (arc_value problem.now) reader handed.choices }
     requires few { length handed.choices ≤ limits.solids }
-    ensures handed { IfOk result (λ all. AreSolutions (arc_value problem.now) all.choices) }
-    ensures few { IfOk result (λ all. length all.choices ≤ limits.solids) }
-    ensures out { (before : Option (List Call))
-        → IsHandedOut before (P.calls pages.old) handed
-        → MatchResult result
-        (λ all. IsHandedOut before (P.calls pages.new) all)
-        (λ _. HasPaged (arc_value problem.now) before (P.calls pages.new)) }
-    ensures later { P.faults pages.old ≤ P.faults pages.new }
-    ensures failed { IsErrOf result RunFault.PageFault
-        → Rose (P.faults pages.old) (P.faults pages.new) }
+    ensures paged { PagesOn (arc_value problem.now) limits.solids (P.calls pages.old) handed
+        (P.calls pages.new) result }
+    ensures faults { CountsFaults (P.faults pages.old) (P.faults pages.new) result
+        RunFault.PageFault }
 {
     let mut reader = reader;
     let mut handed = handed;
@@ -127,16 +116,10 @@ fn page_all<B: Wait + Drop, R: Wait, G: Gate, P: PageOut>(
     reader: BookReader<B>,
     pages: &mut P,
 ) -> Result<Handed, RunFault>
-    ensures handed { IfOk result (λ handed. AreSolutions (arc_value problem.now) handed.choices) }
-    ensures few { IfOk result (λ handed. length handed.choices ≤ limits.solids) }
-    ensures out { (before : Option (List Call))
-        → IsHandedOut before (P.calls pages.old) record { choices = []; pages = 0 }
-        → MatchResult result
-        (λ handed. IsHandedOut before (P.calls pages.new) handed)
-        (λ _. HasPaged (arc_value problem.now) before (P.calls pages.new)) }
-    ensures later { P.faults pages.old ≤ P.faults pages.new }
-    ensures failed { IsErrOf result RunFault.PageFault
-        → Rose (P.faults pages.old) (P.faults pages.new) }
+    ensures paged { PagesOn (arc_value problem.now) limits.solids (P.calls pages.old)
+        record { choices = []; pages = 0 } (P.calls pages.new) result }
+    ensures faults { CountsFaults (P.faults pages.old) (P.faults pages.new) result
+        RunFault.PageFault }
 {
     let mut reader = reader;
     let handed = Handed::new(alloc);
@@ -163,16 +146,10 @@ pub fn search_together<'a, R: Threads + Wait + Sync, G: Gate, P: PageOut>(
     reader: BookReader<&'a R>,
     pages: &mut P,
 ) -> Result<Handed, RunFault>
-    ensures handed { IfOk result (λ handed. AreSolutions (arc_value problem.now) handed.choices) }
-    ensures few { IfOk result (λ handed. length handed.choices ≤ limits.solids) }
-    ensures out { (before : Option (List Call))
-        → IsHandedOut before (P.calls pages.old) record { choices = []; pages = 0 }
-        → MatchResult result
-        (λ handed. IsHandedOut before (P.calls pages.new) handed)
-        (λ _. HasPaged (arc_value problem.now) before (P.calls pages.new)) }
-    ensures later { P.faults pages.old ≤ P.faults pages.new }
-    ensures failed { IsErrOf result RunFault.PageFault
-        → Rose (P.faults pages.old) (P.faults pages.new) }
+    ensures paged { PagesOn (arc_value problem.now) limits.solids (P.calls pages.old)
+        record { choices = []; pages = 0 } (P.calls pages.new) result }
+    ensures faults { CountsFaults (P.faults pages.old) (P.faults pages.new) result
+        RunFault.PageFault }
 {
     let lent = &mut *pages;
     // What is written through `pages` is known only of what the closure hands back.
@@ -181,17 +158,11 @@ pub fn search_together<'a, R: Threads + Wait + Sync, G: Gate, P: PageOut>(
         rt,
         move |scope| -> (&mut P, Result<Handed, RunFault>)
             ensures same { result.0.ghost_name ≡ lent.entry.ghost_name }
-            ensures handed { IfOk result.1
-                (λ handed. AreSolutions (arc_value problem.entry.now) handed.choices) }
-            ensures few { IfOk result.1 (λ handed. length handed.choices ≤ limits.solids) }
-            ensures out { (before : Option (List Call))
-                → IsHandedOut before (P.calls lent.entry.now) record { choices = []; pages = 0 }
-                → MatchResult result.1
-                (λ handed. IsHandedOut before (P.calls result.0.now) handed)
-                (λ _. HasPaged (arc_value problem.entry.now) before (P.calls result.0.now)) }
-            ensures later { P.faults lent.entry.now ≤ P.faults result.0.now }
-            ensures failed { IsErrOf result.1 RunFault.PageFault
-                → Rose (P.faults lent.entry.now) (P.faults result.0.now) }
+            ensures paged { PagesOn (arc_value problem.entry.now) limits.solids
+                (P.calls lent.entry.now) record { choices = []; pages = 0 }
+                (P.calls result.0.now) result.1 }
+            ensures faults { CountsFaults (P.faults lent.entry.now) (P.faults result.0.now) result.1
+                RunFault.PageFault }
         {
             let mut worker: u32 = 0;
             for seat in seats {

@@ -1,13 +1,12 @@
 //! The search of a problem, by several workers or by the calling thread alone.
 
-ghost use Rattle.std.specs.Prelude.{◌≡◌, ◌≤◌, IfOk, IsErrOf, MatchResult};
+ghost use Rattle.std.specs.Prelude.{◌≡◌, ◌≤◌, IfOk, MatchResult};
 ghost use Rattle.std.specs.Arc.{arc_value};
 ghost use Rattle.solid_model.specs.Demands.{is_live};
 ghost use Rattle.solid_model.specs.SearchEnds.{EndsSearch};
-ghost use Rattle.tv_base.specs.Faults.{Rose};
 ghost use Rattle.search_tree.specs.BlockPaths.{IsWayOf};
 ghost use Rattle.search_run.specs.Answers.{IsAnswer};
-ghost use Rattle.search_run.specs.Pages.{HasPaged, HasAllPaged};
+ghost use Rattle.search_run.specs.Pages.{CountsFaults, HasPaged, HasAllPaged};
 
 use crate::closing::finish;
 use crate::desk_search::begin_from;
@@ -57,10 +56,10 @@ fn search_alone<P: PageOut>(
     ensures desk { IfOk result (λ r. IsAnswer (arc_value problem.now) limits r.0 r.1) }
     ensures paged { MatchResult result
         (λ r. HasAllPaged (arc_value problem.now) (P.calls pages.old) (P.calls pages.new) r.0.solids)
-        (λ _. HasPaged (arc_value problem.now) (P.calls pages.old) (P.calls pages.new)) }
-    ensures later { P.faults pages.old ≤ P.faults pages.new }
-    ensures failed { IsErrOf result RunFault.PageFault
-        → Rose (P.faults pages.old) (P.faults pages.new) }
+        (λ _. HasPaged (arc_value problem.now) limits.solids (P.calls pages.old)
+        (P.calls pages.new)) }
+    ensures faults { CountsFaults (P.faults pages.old) (P.faults pages.new) result
+        RunFault.PageFault }
 {
     match set_up(alloc, problem, limits) {
         Ok((mut path, desk)) => {
@@ -141,10 +140,9 @@ pub fn run_search<R: Threads + Wait + Sync, G: Gate, P: PageOut>(
     ensures desk { IfOk result (λ r. IsAnswer (arc_value problem) limits r.0 r.1) }
     ensures paged { MatchResult result
         (λ r. HasAllPaged (arc_value problem) (P.calls pages.old) (P.calls pages.new) r.0.solids)
-        (λ _. HasPaged (arc_value problem) (P.calls pages.old) (P.calls pages.new)) }
-    ensures later { P.faults pages.old ≤ P.faults pages.new }
-    ensures failed { IsErrOf result RunFault.PageFault
-        → Rose (P.faults pages.old) (P.faults pages.new) }
+        (λ _. HasPaged (arc_value problem) limits.solids (P.calls pages.old) (P.calls pages.new)) }
+    ensures faults { CountsFaults (P.faults pages.old) (P.faults pages.new) result
+        RunFault.PageFault }
 {
     let Ok((mut path, desk)) = set_up(alloc, &problem, limits) else {
         return Err(RunFault::Memory);

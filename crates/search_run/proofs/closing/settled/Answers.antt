@@ -1,5 +1,5 @@
 -- What is listed are solutions of the problem.
-use Rattle.std.proofs.Common.{◌≡◌, ◌≢◌, ◌++◌, ◌-◌, List, Bool, length, take, sym, ◌∙◌, ap, subst, rules}
+use Rattle.std.proofs.Common.{◌≡◌, ◌≢◌, ◌++◌, ◌-◌, List, Bool, length, take, sym, ◌∙◌, ap, subst, rules, arith, length-append, length-take}
 use Rattle.std.specs.Arc.{arc_value}
 use Rattle.solid_model.specs.Blocks.{ProblemParts, IsBlocksOf}
 use Rattle.solid_model.specs.Lists.{Ascends}
@@ -20,8 +20,10 @@ returns-clause-solutions c =
     let blocks = subst (λ (q : ProblemParts). IsBlocksOf q.grid q.blocks) c.deref.ensures c.grid.ensures.kept in
     let grid = subst (λ (q : ProblemParts). IsGrid q.grid) c.deref.ensures (subst IsGrid c.grid.ensures.grid c.coordinates-coordinates.ensures.kept) in
     let left : c.in_ok-left.left.items ≡ take (c.args.limits.solids - length handed) (new_ones handed d.found) = search rules in
-    let h : IsAnswerList p c.args.limits d.found all = record { handed = handed; solutions = c.requires.handed; few = c.requires.few; is = ap (λ (l : List (List Bool)). handed ++ l) left } in
-    answer_solutions p c.args.limits blocks grid d same within c.in_ok-desk-2.ensures.kept all h
+    let h : IsAnswerList p c.args.limits d.found all = record { handed = handed; solutions = c.requires.handed.0; few = c.requires.handed.1; is = ap (λ (l : List (List Bool)). handed ++ l) left } in (
+      answer_solutions p c.args.limits blocks grid d same within c.in_ok-desk-2.ensures.kept all h,
+      omega (arith, c.requires.handed.1, length-append handed c.in_ok-left.left.items, ap length left, length-take (c.args.limits.solids - length handed) (new_ones handed d.found)),
+    )
 
 pub left_over-requires : goal.left_over-requires
 left_over-requires c =

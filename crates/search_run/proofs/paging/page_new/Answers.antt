@@ -1,17 +1,15 @@
 -- The next page is a part of what is published, behind what was handed out.
-use Rattle.std.proofs.Common.{◌≡◌, ◌++◌, ℕ, List, Bool, [], length, sym, ap, subst, append-nil}
+use Rattle.std.proofs.Common.{◌≤◌, ◌-◌, [], length, sym, ap, subst, rules}
 use Rattle.std.specs.Arc.{arc_value}
-use Rattle.solid_model.specs.Solutions.{AreSolutions}
 use Rattle.search_run.specs.Reading.{IsReadUpTo}
 use Rattle.search_run.proofs.PageCalls.{paged}
-use Rattle.search_run.proofs.ReadPages.{read_solutions, read_on}
+use Rattle.search_run.proofs.ReadPages.{read_solutions, read_on, within_room}
 use Rattle.search_run.proofs.paging.page_new.Goals as goal
 
 pub returns-in_default-clause-out : goal.returns-in_default-clause-out
 returns-in_default-clause-out g c before out =
-    paged before (g.P.PageOut.calls c.args.pages.now) (g.P.PageOut.calls c.args.pages.now) c.args.handed.now [] out (arc_value c.args.problem.now)
-    (subst (AreSolutions (arc_value c.args.problem.now)) (sym (append-nil c.args.handed.now.choices))
-    (read_solutions (arc_value c.args.problem.now) c.args.reader.now c.args.handed.now.choices c.requires.read))
+    paged before (g.P.PageOut.calls c.args.pages.now) (g.P.PageOut.calls c.args.pages.now) c.args.handed.now [] out (arc_value c.args.problem.now) c.args.limits.solids
+    (read_solutions (arc_value c.args.problem.now) c.args.reader.now c.args.handed.now.choices c.requires.read, c.requires.few)
 
 pub returns-in-Ok-hand_out-clause-read : goal.returns-in-Ok-hand_out-clause-read
 returns-in-Ok-hand_out-clause-read g c =
@@ -20,8 +18,13 @@ returns-in-Ok-hand_out-clause-read g c =
     (ap length c.choices-from.ensures) c.in-Ok.ensures.2.part)
 
 pub returns-in-Err-clause-out : goal.returns-in-Err-clause-out
-returns-in-Err-clause-out g c before out =
-    c.in-Err.ensures.out before out (arc_value c.args.problem.now)
-    (read_solutions (arc_value c.args.problem.now) c.page.new.self _
-    (read_on (arc_value c.args.problem.now) c.args.reader.now c.page.new.self c.args.handed.now.choices c.in-Ok.page.solids.items c.in-Ok.ensures.0 _ c.min-most.result c.requires.read c.in-Ok.ensures.1
-    (ap length c.choices-from.ensures) c.in-Ok.ensures.2.part))
+returns-in-Err-clause-out g c =
+    let handed = c.args.handed.now.choices in
+    let room : c.min-most.result ≤ c.args.limits.solids - length handed = search rules in
+    c.in-Err.ensures.out (arc_value c.args.problem.now) c.args.limits.solids (
+      read_solutions (arc_value c.args.problem.now) c.page.new.self _
+          (read_on (arc_value c.args.problem.now) c.args.reader.now c.page.new.self handed c.in-Ok.page.solids.items c.in-Ok.ensures.0 _ c.min-most.result c.requires.read c.in-Ok.ensures.1
+          (ap length c.choices-from.ensures) c.in-Ok.ensures.2.part),
+      within_room c.args.limits.solids c.min-most.result _ handed c.in-Ok.page.solids.items c.in-Ok.ensures.0.solids c.in-Ok.ensures.2.part room
+          c.requires.few,
+    )

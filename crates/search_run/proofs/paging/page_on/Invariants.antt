@@ -1,8 +1,7 @@
 -- Each page so far was accepted, and what was handed out is the beginning of what was seen.
-use Rattle.std.proofs.Common.{◌≡◌, ◌≤◌, List, Option, length}
+use Rattle.std.proofs.Common.{◌≤◌, length}
 use Rattle.std.specs.Arc.{arc_value}
-use Rattle.search_run.specs.Handed.{IsHandedOut}
-use Rattle.search_run.specs.Pages.{Call}
+use Rattle.search_run.specs.Handed.{HandsOn}
 use Rattle.search_run.specs.Reading.{IsReadUpTo}
 use Rattle.search_run.proofs.paging.page_on.Given as goal
 
@@ -10,6 +9,6 @@ abbrev pub invariant-loop : goal.invariant-loop
 invariant-loop g l = record {
   read : IsReadUpTo (arc_value l.fn.problem) l.reader l.handed.choices;
   few : length l.handed.choices ≤ l.fn.limits.solids;
-  out : (before : Option (List Call)) → IsHandedOut before (g.P.PageOut.calls l.fn.pages) l.fn.handed → IsHandedOut before (g.P.PageOut.calls l.pages) l.handed;
+  out : HandsOn (g.P.PageOut.calls l.fn.pages) l.fn.handed (g.P.PageOut.calls l.pages) l.handed;
   later : g.P.PageOut.faults l.fn.pages ≤ g.P.PageOut.faults l.pages;
 }

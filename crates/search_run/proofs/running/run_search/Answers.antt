@@ -1,28 +1,27 @@
 -- At first nothing is handed out; what then was is handed on.
-use Rattle.std.proofs.Common.{List, Bool, [], sym, subst, append-nil}
+use Rattle.std.proofs.Common.{[]}
 use Rattle.std.specs.Arc.{arc_value}
-use Rattle.solid_model.specs.Solutions.{AreSolutions}
 use Rattle.search_run.proofs.PageCalls.{paged, none_yet, unpaged}
 use Rattle.search_run.proofs.running.run_search.Goals as goal
 
 pub returns-in_default-clause-paged : goal.returns-in_default-clause-paged
-returns-in_default-clause-paged g c = unpaged (arc_value c.args.problem) (g.P.PageOut.calls c.args.pages.now)
+returns-in_default-clause-paged g c = unpaged (arc_value c.args.problem) c.args.limits.solids (g.P.PageOut.calls c.args.pages.now)
 
 pub returns-in_default-seats_for-clause-paged : goal.returns-in_default-seats_for-clause-paged
-returns-in_default-seats_for-clause-paged g c = unpaged (arc_value c.args.problem) (g.P.PageOut.calls c.args.pages.now)
+returns-in_default-seats_for-clause-paged g c = unpaged (arc_value c.args.problem) c.args.limits.solids (g.P.PageOut.calls c.args.pages.now)
 
 pub returns-in_default-room_for-clause-paged : goal.returns-in_default-room_for-clause-paged
-returns-in_default-room_for-clause-paged g c = unpaged (arc_value c.args.problem) (g.P.PageOut.calls c.args.pages.now)
+returns-in_default-room_for-clause-paged g c = unpaged (arc_value c.args.problem) c.args.limits.solids (g.P.PageOut.calls c.args.pages.now)
 
 pub returns-in-Some-clause-paged : goal.returns-in-Some-clause-paged
 returns-in-Some-clause-paged g c =
     let before = g.P.PageOut.calls c.args.pages.now in
-    c.finish.ensures.paged before (c.in-Ok-search_together.ensures.out before (none_yet before))
+    c.finish.ensures.paged before (c.in-Ok-search_together.ensures.paged.1 before (none_yet before))
 
 pub returns-in-Ok-search_together-clause-paged : goal.returns-in-Ok-search_together-clause-paged
 returns-in-Ok-search_together-clause-paged g c =
     let before = g.P.PageOut.calls c.args.pages.now in
     let now = g.P.PageOut.calls c.search_together.new.pages in
     let handed = c.in-Ok-search_together.handed in
-    paged before now now handed [] (c.in-Ok-search_together.ensures.out before (none_yet before)) (arc_value c.args.problem)
-    (subst (AreSolutions (arc_value c.args.problem)) (sym (append-nil handed.choices)) c.in-Ok-search_together.ensures.handed)
+    paged before now now handed [] (c.in-Ok-search_together.ensures.paged.1 before (none_yet before)) (arc_value c.args.problem) c.args.limits.solids
+    c.in-Ok-search_together.ensures.paged.0

@@ -11,4 +11,4 @@ returns-in-Ok-clause-paged g c =
     c.finish.ensures.paged before (subst (IsHandedOut before before) (sym c.new-handed.ensures) (none_yet before))
 
 pub returns-in-Err-clause-paged : goal.returns-in-Err-clause-paged
-returns-in-Err-clause-paged g c = unpaged (arc_value c.args.problem.now) (g.P.PageOut.calls c.args.pages.now)
+returns-in-Err-clause-paged g c = unpaged (arc_value c.args.problem.now) c.args.limits.solids (g.P.PageOut.calls c.args.pages.now)

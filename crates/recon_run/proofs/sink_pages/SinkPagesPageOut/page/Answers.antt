@@ -1,5 +1,5 @@
 -- The sink gained one page more, or a prefix of it.
-use Rattle.std.proofs.Common.{◌≡◌, ◌∙◌, ◌++◌, ◌∷◌, [], List, map, ap, subst, sym, OnOk, OnErr, arith}
+use Rattle.std.proofs.Common.{◌≡◌, ◌∙◌, ◌++◌, ◌∷◌, [], List, map, ap, subst, sym, OnOk, OnErr}
 use Rattle.std.specs.Io.KnownBytes.{Appends}
 use Rattle.tv_base.specs.Pieces.{AppendsPrefix}
 use Rattle.recon_run.specs.declared.sink_pages.Told.{Told}
@@ -21,12 +21,10 @@ invariant_of-self-2 g c =
     let text : c.as_slice.result.now ≡ call_text (call_of one) = c.as_slice.ensures.value ∙ c.in-Ok-page_text.ensures
     ∙ ap (page_text c.args.number c.args.total) (sym c.in-Ok.ensures) in
     let held = g.K.Sink.held c.self.inside.sink in let now = g.K.Sink.held c.write_all-written.new.self in
-    let written = c.write_all-written in let most = c.self.invariant.1 in let few = c.if-self-total.false in (
-      told_next g.B.Begun.held held now g.B.Begun.most (map call_of c.self.inside.told.items) (call_of one) written.result c.self.inside.refused
-          c.is_err-self-inside.result (map call_of c.push_reserved.new.self.items) c.if-self.false
-          (kept_next c.self.inside.told.items c.reserve.new.self.items c.push_reserved.new.self.items one c.push_reserved.ensures.items c.reserve.ensures.items)
-          c.is_ok.ensures.value c.is_err-self-inside.ensures.value (omega arith) c.self.invariant.0.0 c.self.invariant.0.1
-          (subst (λ t. OnOk written.result (Appends held now t)) text written.ensures.written)
-          (subst (λ t. OnErr written.result (AppendsPrefix held now t)) text written.ensures.prefix),
-      most,
-    )
+    let written = c.write_all-written in
+    told_next g.B.Begun.held held now (map call_of c.self.inside.told.items) (call_of one) written.result c.self.inside.refused
+    c.is_err-self-inside.result (map call_of c.push_reserved.new.self.items) c.if-self.false
+    (kept_next c.self.inside.told.items c.reserve.new.self.items c.push_reserved.new.self.items one c.push_reserved.ensures.items c.reserve.ensures.items)
+    c.is_ok.ensures.value c.is_err-self-inside.ensures.value c.self.invariant
+    (subst (λ t. OnOk written.result (Appends held now t)) text written.ensures.written)
+    (subst (λ t. OnErr written.result (AppendsPrefix held now t)) text written.ensures.prefix)
