@@ -1,4 +1,3 @@
-pub mod FilledRows
 pub mod RowCells
 pub mod BitPlaces
 pub mod FilledSpans

@@ -35,9 +35,9 @@ solution_of p blocks choice k =
     }
 
 -- and a solution is one
-pub member_of : (p : ProblemParts) → IsBlocksOf p.grid p.blocks → IsGrid p.grid → (choice : List Bool) → IsSolutionOf p choice
+pub live_solution : (p : ProblemParts) → IsBlocksOf p.grid p.blocks → IsGrid p.grid → (choice : List Bool) → IsSolutionOf p choice
     → Member (live_below (is_live p) p.blocks.count []) choice
-member_of p blocks (drawing, is, grid) choice h =
+live_solution p blocks (drawing, is, grid) choice h =
     (complete_tree _ (is_live p) p.blocks.count (live_keeps_matching drawing is p grid blocks)).complete choice h.whole (h.matching drawing is grid)
 
 module _ (p : ProblemParts) (limits : SearchLimits) (blocks : IsBlocksOf p.grid p.blocks) (grid : IsGrid p.grid)
@@ -60,7 +60,7 @@ module _ (p : ProblemParts) (limits : SearchLimits) (blocks : IsBlocksOf p.grid 
       (subst (λ (q : ProblemParts). IsConserved (is_live q) q.blocks.count d.limits state) same (desk_conserved d desk closed))
 
   each : Each (Member (live_below live n [])) h.handed
-  each = each-from (Member (live_below live n [])) h.handed (λ x k. member_of p blocks grid x (each-at (IsSolutionOf p) h.handed x h.solutions.each k))
+  each = each-from (Member (live_below live n [])) h.handed (λ x k. live_solution p blocks grid x (each-at (IsSolutionOf p) h.handed x h.solutions.each k))
 
   is : list ≡ take limits.solids (h.handed ++ new_ones h.handed state.found)
   is = h.is ∙ ap (λ (f : List (List Bool)). h.handed ++ take (limits.solids - length h.handed) (new_ones h.handed f)) desk.found

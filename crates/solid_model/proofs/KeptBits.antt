@@ -1,9 +1,7 @@
--- Truth values kept as bits: each by its place, a word that is filled bit by bit, and words that are listed one by one.
-use Rattle.std.proofs.Common.{◌≡◌, ◌≢◌, inl, inr, Bool, true, false, ◌==◌, ℕ, ◌+◌, ◌*◌, ◌/◌, ◌%◌, ◌^◌, ◌<◌, ◌≤◌, List, length, get_or, bit_or, w64, ap, sym, subst, ◌∙◌, arith}
-use Rattle.std.proofs.lemmas.Bool.{cases_lt, eq-eqb}
+-- Truth values kept as bits: each by its place, and words that are listed one by one.
+use Rattle.std.proofs.Common.{◌≡◌, Bool, false, ℕ, ◌+◌, ◌*◌, ◌/◌, ◌%◌, ◌<◌, ◌≤◌, List, length, get_or, ap, ◌∙◌, arith}
 use Rattle.std.proofs.lemmas.List.{ext_get_or}
 use Rattle.std.proofs.lemmas.List.FromFn.{length-map-range_with_len, get_or-map-range_with_len}
-use Rattle.std.proofs.lemmas.Nat.Bits.{bit_at_set_same, bit_at_set_other}
 use Rattle.solid_model.specs.Bits.{is_set, bit_of, first_bits}
 use Rattle.solid_model.proofs.Pushed.{HoldsSoFar}
 
@@ -16,43 +14,6 @@ length-first_bits words count = length-map-range_with_len (bit_of words) 0 count
 pub first_bits_at : (words : List ℕ) (count k : ℕ) → k < count → get_or (first_bits words count) k false ≡ bit_of words k
 unfolding first_bits
 first_bits_at words count k l = get_or-map-range_with_len (bit_of words) 0 count k k false l (omega arith)
-
--- ---- a word that is filled bit by bit
-
--- its first n bits are the values from a place on, and no other is set
-pub record IsFilledTo (values : List Bool) (from word n : ℕ) : Type 0 where
-  pub below : (k : ℕ) → k < n → is_set word k ≡ get_or values (from + k) false
-  pub above : (k : ℕ) → n ≤ k → is_set word k ≡ false
-
--- a false value leaves the next bit as it is
-pub filled_false : (values : List Bool) (from word n : ℕ) → IsFilledTo values from word n → get_or values (from + n) false ≡ false
-    → IsFilledTo values from word (n + 1)
-filled_false values from word n filled none = record {
-  below = λ k l. elim (cases_lt k n) as (λ _. is_set word k ≡ get_or values (from + k) false) [
-    | inl earlier ↦ filled.below k earlier
-    | inr later ↦ (let here : n ≡ k = omega arith in
-        subst (λ m. is_set word m ≡ get_or values (from + m) false) here (filled.above n (omega arith) ∙ sym none))
-  ];
-  above = λ k l. filled.above k (omega arith);
-}
-
--- a true value sets it
-pub filled_true : (values : List Bool) (from word n : ℕ) → IsFilledTo values from word n → n < 64 → get_or values (from + n) false ≡ true
-    → IsFilledTo values from (bit_or word (1 * 2 ^ n % 2 ^ 64)) (n + 1)
-filled_true values from word n filled within full = record {
-  below = λ k l. elim (cases_lt k n) as (λ _. is_set after k ≡ get_or values (from + k) false) [
-    | inl earlier ↦ other k (omega arith) ∙ filled.below k earlier
-    | inr later ↦ (let here : n ≡ k = omega arith in
-        subst (λ m. is_set after m ≡ get_or values (from + m) false) here (eq-eqb _ 1 (bit_at_set_same w64 word n within) ∙ sym full))
-  ];
-  above = λ k l. other k (omega arith) ∙ filled.above k (omega arith);
-}
-  where
-    after : ℕ
-    after = bit_or word (1 * 2 ^ n % 2 ^ 64)
-
-    other : (k : ℕ) → k ≢ n → is_set after k ≡ is_set word k
-    other k apart = ap (λ b. b == 1) (bit_at_set_other w64 word n within k apart)
 
 -- ---- words that are listed one by one
 

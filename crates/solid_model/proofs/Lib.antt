@@ -50,6 +50,7 @@ pub mod ItemOrder
 pub mod NumberedPlaces
 pub mod SomeNumbering
 pub mod BlockChoices
+pub mod FilledWords
 pub mod KeptBits
 pub mod BitChanges
 pub mod WordBits
