@@ -21,7 +21,7 @@ line S 1 0 2 0, line S 0 1 1 1, line S 0 2 2 2, line S 0 1 0 2, line S 1 0 1 1, 
 lattice 2 2; lattice 2 2; lattice 2 2 -> 180 12 12 12 12 12 12 12 12, FRONT false 0 0";
 
 /// The problem of a row's drawing.
-fn problem_in(alloc: Global, row: Row<'_>) -> Result<Problem, Fail> {
+pub fn problem_in(alloc: Global, row: Row<'_>) -> Result<Problem, Fail> {
     let file = file_bytes(drawing_file(alloc, row.views())?)?;
     Ok(problem_of(alloc, file)?)
 }

@@ -3,6 +3,8 @@
 #![tactic(auto)]
 
 #[cfg(test)]
+mod columns_anew;
+#[cfg(test)]
 mod demands;
 #[cfg(test)]
 mod drawings;

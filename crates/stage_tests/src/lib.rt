@@ -4,6 +4,8 @@
 #[cfg(test)]
 mod arguments;
 #[cfg(test)]
+mod column_styles;
+#[cfg(test)]
 mod drawn_columns;
 #[cfg(test)]
 mod face_lists;
