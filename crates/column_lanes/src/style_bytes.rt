@@ -90,8 +90,8 @@ fn put_rest(after: &[u64], before: &[u64], out: &mut [u8], from: usize)
     }
 }
 
-/// The style that each two columns draw on the segment between them, as its byte, by place. A bit that
-/// is set is a full cell, and bit 0 is the nearest.
+/// The style that each two columns draw on the segment between them, as its byte, by place. A bit
+/// that is set is a full cell, and bit 0 is the nearest.
 pub fn styles(after: &[u64], before: &[u64], out: &mut [u8])
     requires before { length before.now ≡ length after.now }
     requires out { length out.old ≡ length after.now }

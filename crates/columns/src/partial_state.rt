@@ -260,7 +260,8 @@ impl<'p> PartialState<'p> {
     pub fn line_style(&self, number: usize) -> Style
         requires { number < length (lines_of self.now.problem.grid) }
         ensures { (d : LineId) → result
-            ≡ line_style self.now.problem.grid (slice_index_or (lines_of self.now.problem.grid) number d) }
+            ≡ line_style self.now.problem.grid
+            (slice_index_or (lines_of self.now.problem.grid) number d) }
     {
         self.sides[number].style
     }

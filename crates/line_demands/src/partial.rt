@@ -140,8 +140,8 @@ impl<'p> Partial<'p> {
         self.state.broken_line()
     }
 
-    /// Whether the decided solid matches the drawing: what the columns beside each line draw is looked
-    /// at anew, whatever is known of lines. The condition is that every block is decided.
+    /// Whether the decided solid matches the drawing: what the columns beside each line draw is
+    /// looked at anew, whatever is known of lines. The condition is that every block is decided.
     pub fn whole_fits(&mut self) -> bool
         requires { AreOnAll self.old.problem.blocks.count self.old.decisions }
         ensures same { self.new ≡ self.old }

@@ -13,7 +13,8 @@ use std::alloc::Global;
 
 /// The styles of all lines, as bytes. An `Err` is out of memory.
 pub fn wanted_styles(alloc: Global, state: &PartialState<'_>) -> Result<Vec<u8>, Memory>
-    ensures count { IfOk result (λ bytes. length bytes.items ≡ length (lines_of state.now.problem.grid)) }
+    ensures count { IfOk result (λ bytes. length bytes.items
+        ≡ length (lines_of state.now.problem.grid)) }
     ensures styles { IfOk result (λ bytes. AreStylesTo state.now.problem.grid
         (length (lines_of state.now.problem.grid)) bytes.items) }
 {

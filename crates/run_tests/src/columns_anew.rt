@@ -130,8 +130,9 @@ fn decides(partial: &mut Partial<'_>, block: u16, full: bool) -> bool {
     true
 }
 
-/// Decides the blocks from this one on as the digits of a choice say, the first block by the highest
-/// of nine. How many of the prefixes on the way are live; `None` where some line stands otherwise.
+/// Decides the blocks from this one on as the digits of a choice say, the first block by the
+/// highest of nine. How many of the prefixes on the way are live; `None` where some line stands
+/// otherwise.
 fn decide_from(partial: &mut Partial<'_>, from: u16, choice: u16) -> Option<u32> {
     let mut live = 0u32;
     for block in from..9u16 {

@@ -7,8 +7,8 @@ ghost use Rattle.solid_model.specs.Demands.{has_line, CanBeMet};
 
 use line_demands::Partial;
 
-/// Whether each line can be met, which is known at a look. Where the whole solid is decided, what it
-/// draws is looked at as well.
+/// Whether each line can be met, which is known at a look. Where the whole solid is decided, what
+/// it draws is looked at as well.
 pub fn meets_all(partial: &mut Partial<'_>, whole: bool) -> bool
     requires { whole ≡ true → AreOnAll partial.old.problem.blocks.count partial.old.decisions }
     ensures same { partial.new ≡ partial.old }

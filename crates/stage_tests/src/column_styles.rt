@@ -6,9 +6,9 @@ use std::alloc::Global;
 use std::test::Fail;
 use test_files::{Row, row_of};
 
-/// A row some pairs: the columns after the segments, those before them, and the bytes of the styles,
-/// 0 for Blank, 1 for Dashed and 2 for Solid. The great number of the second row is the column of the
-/// farthest cell alone, and of the last row two pairs are left over by eights.
+/// A row some pairs: the columns after the segments, those before them, and the bytes of the
+/// styles, 0 for Blank, 1 for Dashed and 2 for Solid. The great number of the second row is the
+/// column of the farthest cell alone, and of the last row two pairs are left over by eights.
 const STYLES: &str = "\
 1 1 0 3; 1 3 4 2 -> 0122
 9223372036854775808 0 9223372036854775809; 0 9223372036854775808 1 -> 221
@@ -57,8 +57,8 @@ fn pairs_of_columns_have_their_styles(rt: HostRuntime) -> Result<(), Fail> {
     Ok(())
 }
 
-/// A pair of columns, of which each kind comes: equal ones, one with a farther cell more, and such as
-/// begin at different depths, or one of them nowhere.
+/// A pair of columns, of which each kind comes: equal ones, one with a farther cell more, and such
+/// as begin at different depths, or one of them nowhere.
 fn pair(number: u32) -> (u64, u64) {
     let near = 1_u64 << (number % 64);
     match number % 5 {
