@@ -36,3 +36,4 @@ pub mod DrawnDemands
 pub mod LiveTree
 pub mod PackedColumns
 pub mod WholeChoices
+pub mod CellPlaces

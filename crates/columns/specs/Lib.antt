@@ -11,3 +11,5 @@ pub mod Plans
 pub mod KeptColumns
 pub mod Gathered
 pub mod Packed
+pub mod Sight
+pub mod SightCells

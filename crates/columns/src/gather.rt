@@ -1,6 +1,6 @@
 //! The plan of a problem: its columns, the cells of its blocks, and the lines beside them.
 
-ghost use Rattle.std.specs.Prelude.{◌≡◌, ◌==◌, ◌&&◌, ◌||◌, ◌<◌, ◌≤◌, ℕ, [], length, All, is_some, vec_capacity, IsTrue, IfOk, IfSome};
+ghost use Rattle.std.specs.Prelude.{◌≡◌, ◌==◌, ◌&&◌, ◌||◌, ◌<◌, ◌≤◌, ℕ, [], length, slice_index_or, All, None, is_some, vec_capacity, IsTrue, IfOk, IfSome};
 ghost use Rattle.solid_model.specs.Demands.{has_line, lines_at, lines_along};
 ghost use Rattle.columns.specs.Gathered.{place_in_view, place_numbered, block_of_place, IsListed, AreAddedTo, IsGathered, AreGatheredTo, AreTouchedBy, AreTouchedTo, AllEmpty, AllMet, AreMoreSides};
 ghost use Rattle.columns.specs.KeptColumns.{column_count, IsBeside, AreSides};
@@ -8,16 +8,18 @@ ghost use Rattle.columns.specs.Touching.{view_width, view_height};
 ghost use Rattle.solid_model.specs.declared.cell.Axis.{Axis};
 ghost use Rattle.columns.specs.Lines.{AreMarked, AreBeside, AreBrokenTo};
 ghost use Rattle.columns.specs.Spans.{AreWithin};
+ghost use Rattle.columns.specs.SightCells.{AreCellsOf};
 ghost use Rattle.solid_model.specs.Bits.{is_set};
 ghost use Rattle.solid_model.specs.Frames.{frame_of};
 ghost use Rattle.solid_model.specs.PerAxis.{numbers_of};
 ghost use Rattle.solid_model.specs.GridBox.{grid_sizes, axis_across};
 
 use crate::beside::{all_columns, beside_of, first_column};
-use crate::grid_columns::cell_in;
+use crate::grid_columns::number_on;
 use crate::known::KnownColumn;
 use crate::lines::{Beside, break_line, can_be_met};
 use crate::plan::{LineList, SpanList};
+use crate::sight::{ColumnCells, cells_of_column};
 use solid_model::{LineId, Memory, PerAxis, Problem, View};
 use std::alloc::Global;
 
@@ -59,25 +61,40 @@ fn place_of_column(sizes: PerAxis, number: usize) -> ColumnPlace
     place_in(sizes, View::Side, number - side)
 }
 
+/// The number that stands at a place of a list, or none.
+fn listed(numbers: &[Option<u16>], at: usize) -> Option<u16>
+    ensures { result ≡ slice_index_or numbers.now at None }
+{
+    if at < numbers.len() {
+        numbers[at]
+    } else {
+        None
+    }
+}
+
 /// The block of the cell at a depth of a column that stands there.
 fn block_at_depth(
     problem: &Problem,
     sizes: PerAxis,
     place: ColumnPlace,
+    cells: ColumnCells,
     depth: usize,
 ) -> Option<u16>
     requires sizes { numbers_of sizes ≡ grid_sizes problem.now.grid }
     requires few { (a : Axis) → numbers_of sizes a ≤ 63 }
-    requires right { place.right ≤ 64 }
-    requires up { place.up ≤ 64 }
+    requires right { place.right < view_width (numbers_of sizes) place.view }
+    requires up { place.up < view_height (numbers_of sizes) place.view }
     requires depth { depth < numbers_of sizes (frame_of place.view).away.axis }
+    requires cells { AreCellsOf (numbers_of sizes) place cells }
+    requires few_first { cells.first ≤ 266304 }
+    requires few_step { cells.step ≤ 266304 }
     ensures block { result ≡ block_of_place problem.now place depth }
     ensures below { IfSome result (λ b. b < problem.now.blocks.count) }
 {
     // A look at the problem tells that its blocks are those of its grid.
     let _grid = problem.grid();
-    let cell = cell_in(place.view.frame(), sizes, place.right, place.up, depth);
-    problem.blocks().of(cell)
+    let along = number_on(sizes, place.view.frame().away, depth);
+    listed(problem.blocks().numbers(), cells.first + along * cells.step)
 }
 
 /// Adds the cell at a depth of a column to the spans of its block.
@@ -121,9 +138,10 @@ fn add_column(
 {
     let sizes = problem.grid().sizes();
     let place = place_of_column(sizes, number);
+    let cells = cells_of_column(sizes, place.view.frame(), place.right, place.up);
     let mut may: u64 = 0;
     for depth in 0..sizes.along(place.view.frame().away.axis) {
-        let block = block_at_depth(problem, sizes, place, depth);
+        let block = block_at_depth(problem, sizes, place, cells, depth);
         may = add_cell(block, number as u32, depth, may, spans, on)?;
     }
     Ok(KnownColumn { full: 0, may })

@@ -14,7 +14,7 @@ use std::alloc::Global;
 
 /// The number of the grid cell at a place along a direction, where there are so many along each
 /// axis.
-fn number_on(sizes: PerAxis, direction: Direction, place: usize) -> usize
+pub fn number_on(sizes: PerAxis, direction: Direction, place: usize) -> usize
     requires { place ≤ most_grid_coordinates }
     ensures same { result ≡ number_on (numbers_of sizes) direction place }
     ensures few { numbers_of sizes direction.axis ≤ most_grid_coordinates
@@ -42,6 +42,16 @@ pub fn cell_in(frame: Frame, sizes: PerAxis, right: usize, up: usize, depth: usi
         .numbered(frame.right.axis, number_on(sizes, frame.right, right))
 }
 
+/// The place of a grid cell in a list of all of them, z slowest and x fastest.
+pub fn place_of_cell(sizes: PerAxis, cell: PerAxis) -> usize
+    requires sizes { (a : Axis) → numbers_of sizes a ≤ most_grid_coordinates }
+    requires cell { (a : Axis) → numbers_of cell a ≤ most_grid_coordinates }
+    ensures same { result ≡ place_in (numbers_of sizes) (numbers_of cell) }
+    ensures few { result ≤ 266304 }
+{
+    (cell.z * sizes.y + cell.y) * sizes.x + cell.x
+}
+
 /// The grid cell is chosen, in a list of all of them with z slowest and x fastest.
 fn is_chosen(cells: &[bool], sizes: PerAxis, cell: PerAxis) -> bool
     requires sizes { (a : Axis) → numbers_of sizes a ≤ most_grid_coordinates }
@@ -49,7 +59,7 @@ fn is_chosen(cells: &[bool], sizes: PerAxis, cell: PerAxis) -> bool
     ensures { result
         ≡ slice_index_or cells.now (place_in (numbers_of sizes) (numbers_of cell)) false }
 {
-    let place = (cell.z * sizes.y + cell.y) * sizes.x + cell.x;
+    let place = place_of_cell(sizes, cell);
     place < cells.len() && cells[place]
 }
 

@@ -15,6 +15,7 @@ mod packed;
 mod partial_state;
 mod plan;
 mod segment_styles;
+mod sight;
 mod spans;
 mod steps;
 
