@@ -1,5 +1,5 @@
 """The files that are measured: one of which nearly all is passed over, one of which all lines are kept, three drawings whose
-grids are fine, and one of which much is searched."""
+grids are fine, and rows of pieces, of which much is searched."""
 
 MOST_BYTES = 16_777_216
 MOST_LINES = 100_000
@@ -120,14 +120,20 @@ def one_box(side):
     return drawing(*map(view, VIEWS))
 
 
-def twice_eight_voids():
-    """Two cubes of 5 on the diagonal of space, 1 off each other, each with eight voids: the solids of one with those of the
-    other."""
+# The pieces of a row, as `make` has them: the side of a full cube, and where its voids of 1 stand along each axis.
+PIECES = {"P": (1, ()), "V": (3, (1,)), "M": (5, (1, 3))}
+
+
+def row(kinds):
+    """Pieces along the diagonal of space, each 1 off the one before it. Their solids are those of each with those of each other:
+    one for P and for V, 35 for M."""
 
     def view(name):
-        squares = (
-            rectangle(name, at + i, at + k, at + i + 1, at + k + 1, "DASHED") for at in (0, 6) for k in (1, 3) for i in (1, 3)
-        )
-        return "".join(rectangle(name, at, at, at + 5, at + 5) for at in (0, 6)) + "".join(squares)
+        at, text = 0, []
+        for side, voids in map(PIECES.get, kinds):
+            text.append(rectangle(name, at, at, at + side, at + side))
+            text += (rectangle(name, at + i, at + k, at + i + 1, at + k + 1, "DASHED") for k in voids for i in voids)
+            at += side + 1
+        return "".join(text)
 
     return drawing(*map(view, VIEWS))
