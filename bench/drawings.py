@@ -1,5 +1,5 @@
 """The files that are measured: one of which nearly all is passed over, one of which all lines are kept, three drawings whose
-grids are fine, and rows of pieces, some of which many solids match."""
+grids are fine, and rows of pieces, of which much is searched."""
 
 MOST_BYTES = 16_777_216
 MOST_LINES = 100_000
@@ -120,27 +120,20 @@ def one_box(side):
     return drawing(*map(view, VIEWS))
 
 
-# A piece of a row: the side of a cube, and how many voids of one cell it has along each axis, 1 off each other and off the
-# cube's faces. The eight of M hide one another, so that M has 35 solids; the others have one.
-PIECES = {"P": (1, 0), "V": (3, 1), "M": (5, 2)}
+# The pieces of a row, as `make` has them: the side of a full cube, and where its voids of 1 stand along each axis.
+PIECES = {"P": (1, ()), "V": (3, (1,)), "M": (5, (1, 3))}
 
 
-def row_of_pieces(kinds):
-    """Pieces of these kinds on the diagonal of space, each 1 off the next. Each choice of a solid for every piece is a solid of
-    the drawing."""
+def row(kinds):
+    """Pieces along the diagonal of space, each 1 off the one before it. Their solids are those of each with those of each other:
+    one for P and for V, 35 for M."""
 
     def view(name):
-        text, at = "", 0
+        at, text = 0, []
         for side, voids in map(PIECES.get, kinds):
-            text += rectangle(name, at, at, at + side, at + side)
-            corners = [(at + 2 * i + 1, at + 2 * k + 1) for k in range(voids) for i in range(voids)]
-            text += "".join(rectangle(name, x, y, x + 1, y + 1, "DASHED") for x, y in corners)
+            text.append(rectangle(name, at, at, at + side, at + side))
+            text += (rectangle(name, at + i, at + k, at + i + 1, at + k + 1, "DASHED") for k in voids for i in voids)
             at += side + 1
-        return text
+        return "".join(text)
 
     return drawing(*map(view, VIEWS))
-
-
-def twice_eight_voids():
-    """Two cubes of 5, each with eight voids: the solids of one with those of the other."""
-    return row_of_pieces("MM")
