@@ -96,7 +96,8 @@ fn spans_of(
     requires sizes { sizes ≡ blocks.now.sizes }
     requires few { numbers_of sizes axis ≤ 63 }
     ensures { IfOk result (λ spans. (choice : List Bool) (k : ℕ) → k < 64
-        → is_filled choice spans.items k ≡ is_marked_at (chosen_marks blocks.now choice) axis cell k) }
+        → is_filled choice spans.items k
+        ≡ is_marked_at (chosen_marks blocks.now choice) axis cell k) }
 {
     let mut spans = Vec::new(alloc);
     let mut last = Span {
