@@ -1,11 +1,10 @@
 -- What a sink gains by one page more.
-use Rattle.std.proofs.Common.{◌≡◌, ◌≤◌, ◌+◌, Bool, true, false, true≢false, ℕ, List, [], ◌∷◌, ◌++◌, length, take, Option, Result, Ok, Err, OnOk, OnErr, is_ok, is_err, sym, ap, subst, ◌∙◌, append-nil, length-append, arith}
+use Rattle.std.proofs.Common.{◌≡◌, ◌+◌, Bool, true, false, true≢false, ℕ, List, [], ◌∷◌, ◌++◌, length, take, Option, Result, Ok, Err, OnOk, OnErr, is_ok, is_err, sym, ap, subst, ◌∙◌, append-nil, length-append, arith}
 use Rattle.std.proofs.Math.Seq.{take-append-add}
 use Rattle.std.proofs.lemmas.Grind.{flat_map-append}
 use Rattle.std.specs.Io.KnownBytes.{Appends}
 use Rattle.search_run.specs.Pages.{Call}
 use Rattle.recon_run.specs.SinkPages.{HasGained, call_text, calls_text}
-use Rattle.solid_model.specs.Lists.{Each}
 use Rattle.solid_model.proofs.Lists.{each-append_right}
 use Rattle.tv_base.proofs.Told.{appends_both}
 use Rattle.tv_base.specs.declared.sink.SinkError.{SinkError}

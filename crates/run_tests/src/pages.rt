@@ -70,29 +70,36 @@ fn tell_the_same(alloc: Global, pages: &str, answer: &str) -> Result<bool, Alloc
     Ok(paged.as_slice() == listed.as_slice())
 }
 
-/// Whether a run's text begins with pages of what it lists, and goes on as it should: with the first
-/// line that is wanted, and where that tells of a whole search, as without pages.
+/// Whether a run ends with the status that is wanted, and its text begins with pages of what it lists,
+/// and goes on as it should: with the first line that is wanted, and where that tells of a whole
+/// search, as without pages.
 fn is_paged<R: Runtime>(rt: &R, words: &str, wanted: &str) -> Result<bool, AllocError> {
+    let (status, first) = wanted.split_once(' ').unwrap_or((wanted, ""));
     let wrote = told(rt, EIGHT_VOIDS, words)?;
-    let text = wrote.as_str().get(2..).unwrap_or("");
-    let place = text.find(wanted).unwrap_or(0);
+    let (ended, text) = wrote.as_str().split_once(' ').unwrap_or(("", ""));
+    let place = text.find(first).unwrap_or(0);
     let (pages, answer) = (
         text.get(..place).unwrap_or(""),
         text.get(place..).unwrap_or(""),
     );
     let plain = told(rt, EIGHT_VOIDS, "solve|")?;
-    let is_right = !wanted.starts_with("whole") || plain.as_str().get(2..) == Some(answer);
-    Ok(is_right && place > 0 && tell_the_same(rt.alloc(), pages, answer)?)
+    let is_right = status != "0" || plain.as_str().get(2..) == Some(answer);
+    Ok(ended == status && is_right && place > 0 && tell_the_same(rt.alloc(), pages, answer)?)
 }
 
-/// A row a run: its words, and the first line of its answer.
+/// A row a run: its words, its status, and the first line of its answer. There are 109 nodes and 35
+/// solids.
 const PAGED: &str = "\
-solve|--pages| -> whole 35 nodes 109 blocks 9
-solve|--pages|--workers|2| -> whole 35 nodes 109 blocks 9
-solve|--workers=64|--pages| -> whole 35 nodes 109 blocks 9
-solve|--pages|--solids=35|--nodes|109|--workers=8| -> whole 35 nodes 109 blocks 9
-solve|--pages|--solids=34|--workers=3| -> cut solids 34
-solve|--pages|--solids|1| -> cut solids 1";
+solve|--pages| -> 0 whole 35 nodes 109 blocks 9
+solve|--pages|--workers|2| -> 0 whole 35 nodes 109 blocks 9
+solve|--workers=64|--pages| -> 0 whole 35 nodes 109 blocks 9
+solve|--pages|--solids=35|--nodes|109|--workers=8| -> 0 whole 35 nodes 109 blocks 9
+solve|--pages|--nodes=108| -> 3 cut nodes 108
+solve|--nodes|108|--workers=4|--pages| -> 3 cut nodes 108
+solve|--nodes|108|--workers=64|--pages| -> 3 cut nodes 108
+solve|--pages|--solids=34|--workers=3| -> 4 cut solids 34
+solve|--pages|--solids|1| -> 4 cut solids 1
+solve|--solids|1|--pages|--workers=64| -> 4 cut solids 1";
 
 #[test]
 fn pages_tell_what_is_listed(rt: HostRuntime) -> Result<(), Fail> {

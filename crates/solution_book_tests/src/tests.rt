@@ -2,6 +2,7 @@
 
 mod author;
 mod pages;
+mod problems;
 mod threads;
 
 ghost use Rattle.std.specs.Prelude.{◌≤◌, length, IfOk};
