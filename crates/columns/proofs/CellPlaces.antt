@@ -6,7 +6,7 @@ use Rattle.columns.specs.declared.sight.ColumnCells.{ColumnCells}
 use Rattle.columns.specs.Gathered.{block_of_place}
 use Rattle.columns.specs.GridColumns.{number_on}
 use Rattle.columns.specs.Sight.{first_place, step_away}
-use Rattle.columns.specs.SightCells.{AreCellsOf}
+use Rattle.columns.specs.SightCells.{AreColumnCells}
 use Rattle.columns.specs.Touching.{view_width, view_height, shown_cell}
 use Rattle.columns.proofs.BoxSight.{shown_inside, back_number}
 use Rattle.solid_model.specs.declared.cell.Axis.TheVariants.{X, Y, Z}
@@ -57,7 +57,7 @@ block_seen p sized v right up k l m n =
     ∙ ap (λ b. if b then number_at (grid_sizes p.grid) p.blocks.numbers (shown_cell (grid_sizes p.grid) v right up (pos k)) else None) (shown_inside (grid_sizes p.grid) v false right up k l m n)
 
 -- so it stands so many steps from the first cell of the column
-pub block_told : (p : ProblemParts) → numbers_of p.blocks.sizes ≡ grid_sizes p.grid → (at : ColumnPlace) (cells : ColumnCells) → AreCellsOf (grid_sizes p.grid) at cells
+pub block_told : (p : ProblemParts) → numbers_of p.blocks.sizes ≡ grid_sizes p.grid → (at : ColumnPlace) (cells : ColumnCells) → AreColumnCells (grid_sizes p.grid) at cells
     → (k along : ℕ) → along ≡ number_on (grid_sizes p.grid) (frame_of at.view).away k
     → at.right < view_width (grid_sizes p.grid) at.view → at.up < view_height (grid_sizes p.grid) at.view → k < grid_sizes p.grid (frame_of at.view).away.axis
     → get_or p.blocks.numbers (cells.first + along * cells.step) None ≡ block_of_place p at k

@@ -7,6 +7,6 @@ use Rattle.solid_model.specs.Frames.{frame_of}
 use Rattle.solid_model.specs.Rooms.{Sizes}
 
 -- those of the column that stands there
-pub record AreCellsOf (sizes : Sizes) (at : ColumnPlace) (cells : ColumnCells) : Type 0 where
+pub record AreColumnCells (sizes : Sizes) (at : ColumnPlace) (cells : ColumnCells) : Type 0 where
   pub first : cells.first ≡ first_place sizes (frame_of at.view) at.right at.up
   pub step : cells.step ≡ step_away sizes (frame_of at.view)

@@ -8,7 +8,7 @@ ghost use Rattle.columns.specs.Touching.{view_width, view_height};
 ghost use Rattle.solid_model.specs.declared.cell.Axis.{Axis};
 ghost use Rattle.columns.specs.Lines.{AreMarked, AreBeside, AreBrokenTo};
 ghost use Rattle.columns.specs.Spans.{AreWithin};
-ghost use Rattle.columns.specs.SightCells.{AreCellsOf};
+ghost use Rattle.columns.specs.SightCells.{AreColumnCells};
 ghost use Rattle.solid_model.specs.Bits.{is_set};
 ghost use Rattle.solid_model.specs.Frames.{frame_of};
 ghost use Rattle.solid_model.specs.PerAxis.{numbers_of};
@@ -85,7 +85,7 @@ fn block_at_depth(
     requires right { place.right < view_width (numbers_of sizes) place.view }
     requires up { place.up < view_height (numbers_of sizes) place.view }
     requires depth { depth < numbers_of sizes (frame_of place.view).away.axis }
-    requires cells { AreCellsOf (numbers_of sizes) place cells }
+    requires cells { AreColumnCells (numbers_of sizes) place cells }
     requires few_first { cells.first ≤ 266304 }
     requires few_step { cells.step ≤ 266304 }
     ensures block { result ≡ block_of_place problem.now place depth }

@@ -4,7 +4,7 @@ use Rattle.std.specs.Prelude.{IfSome}
 use Rattle.std.proofs.lemmas.Nat.{mul-le}
 use Rattle.columns.specs.Gathered.{block_of_place}
 use Rattle.columns.specs.GridColumns.{number_on}
-use Rattle.columns.specs.SightCells.{AreCellsOf}
+use Rattle.columns.specs.SightCells.{AreColumnCells}
 use Rattle.columns.specs.Touching.{view_width, view_height, shown_cell}
 use Rattle.columns.proofs.CellPlaces.{block_told}
 use Rattle.columns.proofs.Gathering.{block_below}
@@ -28,7 +28,7 @@ returns-clause-block c =
     let along : c.number_on-along.result ≡ number_on (grid_sizes p.grid) (frame_of at.view).away c.args.depth =
     c.number_on-along.ensures.same ∙ (λ t. number_on (sized t) (c.frame.ensures t).away c.args.depth) in
     c.listed.ensures ∙ ap (λ ns. get_or ns (c.args.cells.first + c.number_on-along.result * c.args.cells.step) None) (c.numbers.ensures ∙ ap (λ b. b.numbers) c.blocks-2.ensures)
-    ∙ block_told p (λ t a. c.grid-grid.ensures.kept.sized a t) at c.args.cells (subst (λ (s : Sizes). AreCellsOf s at c.args.cells) sized c.requires.cells) c.args.depth c.number_on-along.result along
+    ∙ block_told p (λ t a. c.grid-grid.ensures.kept.sized a t) at c.args.cells (subst (λ (s : Sizes). AreColumnCells s at c.args.cells) sized c.requires.cells) c.args.depth c.number_on-along.result along
     (subst (λ (s : Sizes). at.right < view_width s at.view) sized c.requires.right) (subst (λ (s : Sizes). at.up < view_height s at.view) sized c.requires.up)
     (subst (λ (s : Sizes). c.args.depth < s (frame_of at.view).away.axis) sized c.requires.depth)
 
