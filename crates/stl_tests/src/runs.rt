@@ -1,7 +1,7 @@
-//! A run that writes a solid's triangles.
+//! A run that writes a solid's triangles, and what its words ask for.
 
-use recon_run::run;
-use std::alloc::AllocError;
+use recon_run::{Job, WordFault, job_of, run};
+use std::alloc::{AllocError, Global};
 use std::fmt::Write;
 use std::sync::Wait;
 use std::test::Fail;
@@ -34,11 +34,33 @@ fn push_side(text: &mut String, line: &str) -> Result<(), AllocError> {
     push_facet(text, normal, [p, r, s])
 }
 
+/// The words `stl 1`.
+fn words(alloc: Global) -> Result<Vec<String>, AllocError> {
+    let mut words = Vec::new(alloc);
+    words.push(String::from_str(alloc, "stl")?)?;
+    words.push(String::from_str(alloc, "1")?)?;
+    Ok(words)
+}
+
+/// The number of the solid whose triangles the words ask for.
+fn number_asked(alloc: Global) -> Result<u32, Fail> {
+    match job_of(alloc, words(alloc)?.as_slice()) {
+        Ok(Job::Stl { which, .. }) => Ok(which),
+        Ok(_) => Err(Fail::new("another job")),
+        Err(WordFault::Usage) => Err(Fail::new("usage")),
+        Err(WordFault::Memory) => Err(Fail::new("memory")),
+    }
+}
+
+#[test]
+fn the_words_ask_for_triangles(rt: HostRuntime) -> Result<(), Fail> {
+    assert_eq!(rt; number_asked(rt.alloc())?, 1);
+    Ok(())
+}
+
 /// The status and the text of `stl 1` over the drawing of the unit cube.
 fn told_run<R: AllocGlobal + Threads + Wait + Sync>(rt: &R) -> Result<String, AllocError> {
-    let mut words = Vec::new(rt.alloc());
-    words.push(String::from_str(rt.alloc(), "stl")?)?;
-    words.push(String::from_str(rt.alloc(), "1")?)?;
+    let words = words(rt.alloc())?;
     let file = drawing_file(rt.alloc(), ["rect S 0 0 1 1"; 3])?;
     let mut source = MemSource::new(file.into_bytes(), Vec::new(rt.alloc()));
     let mut sink = MemSink::new(Vec::new(rt.alloc()));
