@@ -6,7 +6,7 @@ use Rattle.solid_model.specs.declared.cell.Axis.TheVariants.{X, Y, Z}
 use Rattle.solid_model.specs.declared.cell.Cell.{Cell}
 use Rattle.solid_model.specs.declared.face.Out.{Out}
 use Rattle.solid_model.specs.declared.face.Out.TheVariants.{MinusX, PlusX, MinusY, PlusY, MinusZ, PlusZ}
-use Rattle.solid_model.specs.Faces.{outward, right_axis, up_axis, place, is_boundary, IsLoopOf, FaceParts, IsFaceAt, AreFacesOf}
+use Rattle.solid_model.specs.Faces.{outward, right_axis, up_axis, place, is_boundary, IsLoopOf, FaceParts, IsFaceAt}
 use Rattle.solid_model.specs.Grid.{Coordinates}
 use Rattle.solid_model.specs.Lists.{Each}
 use Rattle.solid_model.specs.Marks.{BoxMarks, is_marked}
@@ -77,7 +77,7 @@ module _ (m : BoxMarks) (coordinates : Coordinates) (sized : (a : Axis) → numb
         (corners_each squares (λ p. HasPoint coordinates (place out at p)) (round_sides squares s n) (λ t on.
         corner_has_numbers t (member-border squares (suc n) s t is.border on))))
 
-  pub faces_on_grid : (faces : List FaceParts) → AreFacesOf (is_marked m) faces → Each (HasFace coordinates) faces
+  pub faces_on_grid : (faces : List FaceParts) → Each (λ f. (q : Spot) × IsFaceAt (is_marked m) q f) faces → Each (HasFace coordinates) faces
   faces_on_grid faces are = each-weaker (λ f. (q : Spot) × IsFaceAt (is_marked m) q f) (HasFace coordinates) faces
       (λ f (q, (is, loops)).
       let number = plane_has_number f.out f.at q is in
@@ -86,4 +86,4 @@ module _ (m : BoxMarks) (coordinates : Coordinates) (sized : (a : Axis) → numb
         high = number.1;
         corners = each-weaker (IsLoopOf (is_boundary (is_marked m) f.out f.at) (place f.out f.at) q) (Each (HasPoint coordinates)) f.loops
             (loop_has_points f.out f.at q) loops.each;
-      }) are.each
+      }) are

@@ -22,6 +22,7 @@ pub use counted::counted_faces;
 pub use joined::square_components;
 pub use loops::plane_loops;
 pub use plane::plane_squares;
+pub use plane_faces::faces_of_squares;
 pub use plane_loop::PlaneLoop;
 pub use point::Point;
 pub use solid::{faces_of_rows, faces_of_solid};

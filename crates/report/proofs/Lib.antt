@@ -1,1 +1,2 @@
 pub mod ChosenSums
+pub mod PlaneLines

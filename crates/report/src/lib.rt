@@ -4,6 +4,8 @@
 
 mod faults;
 mod laws;
+mod plane_text;
+mod plane_texts;
 mod solid;
 mod solid_texts;
 mod text;
@@ -11,5 +13,7 @@ mod volumes;
 
 pub use faults::fault_text;
 pub use laws::{small_face_texts, small_fault_texts, small_search_texts};
+pub use plane_text::PlaneText;
+pub use plane_texts::PlaneTexts;
 pub use solid_texts::{SolidRoom, SolidTexts, solid_text};
 pub use text::{head_text, no_solid_text, page_text, trial_text};

@@ -92,7 +92,7 @@ pub fn push_solid_line(
     number: u32,
     choice: &Choice,
     volume: u128,
-    faces: usize,
+    faces: u128,
 ) -> Result<(), Memory>
     ensures { OnOk result (text.new.items
         ≡ text.old.items ++ solid_line number choice.now volume faces) }

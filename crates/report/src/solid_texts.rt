@@ -9,10 +9,10 @@ ghost use Rattle.solid_model.specs.Grid.{IsUnionOf};
 ghost use Rattle.solid_model.specs.Panels.{coordinates_of};
 ghost use Rattle.solid_model.specs.Volumes.{volume_of};
 
-use crate::solid::{push_faces, push_solid_line};
+use crate::plane_texts::PlaneTexts;
+use crate::solid::push_solid_line;
 use crate::volumes::{block_volumes, chosen_sum};
 use cell_rows::{BlockRows, CellRows};
-use faces::faces_of_rows;
 use solid_model::{Choice, Memory, Problem};
 use std::alloc::Global;
 use std::marker::Model;
@@ -40,10 +40,11 @@ impl<'a> Model for SolidTexts<'a> {
         s.volumes.items };
 }
 
-/// Room for one solid at a time: its rows of cells, and its text.
+/// Room for one solid at a time: its rows of cells, the lines of its faces, and its text.
 #[derive(Debug, Drop)]
 pub struct SolidRoom {
     pub rows: CellRows,
+    pub planes: PlaneTexts,
     pub text: Vec<u8>,
 }
 
@@ -79,8 +80,10 @@ impl SolidTexts<'_> {
         ensures { IfOk result (λ room. room.rows.sizes ≡ self.now.blocks.sizes) }
     {
         let rows = CellRows::blank(alloc, self.problem)?;
+        let planes = PlaneTexts::of(alloc, self.problem.grid())?;
         Ok(SolidRoom {
             rows,
+            planes,
             text: Vec::new(alloc),
         })
     }
@@ -106,11 +109,13 @@ impl SolidTexts<'_> {
             (cells_of_choice self.now.blocks.numbers choice.now)) faces)) }
     {
         room.rows.fill(&self.blocks, choice);
-        let faces = faces_of_rows(alloc, self.problem.grid(), &room.rows)?;
+        let grid = self.problem.grid();
+        room.planes.update(alloc, grid, &room.rows)?;
         let volume = chosen_sum(self.volumes.as_slice(), choice);
+        let faces = room.planes.count();
         room.text.clear();
-        push_solid_line(&mut room.text, number, choice, volume, faces.len())?;
-        push_faces(&mut room.text, faces.as_slice())?;
+        push_solid_line(&mut room.text, number, choice, volume, faces)?;
+        room.planes.push(&mut room.text)?;
         Ok(())
     }
 }

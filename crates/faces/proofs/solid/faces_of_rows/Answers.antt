@@ -17,7 +17,7 @@ pub put_faces-requires : goal.put_faces-requires
 put_faces-requires c =
     let coordinates = coordinates_of c.args.grid.now in
     subst (Each (HasFace coordinates)) (sym c.as_mut_slice.ensures.value)
-    (faces_on_grid c.args.rows.now coordinates (λ a t. c.requires t a) c.in_ok-faces.faces.items c.in_ok-faces.ensures)
+    (faces_on_grid c.args.rows.now coordinates (λ a t. c.requires t a) c.in_ok-faces.faces.items c.in_ok-faces.ensures.each)
 
 pub returns : goal.returns
 returns c = λ full is_union.

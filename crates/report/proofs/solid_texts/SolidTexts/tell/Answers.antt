@@ -1,6 +1,5 @@
 -- The faces are those of the cells that the choice fills.
-use Rattle.std.proofs.Common.{rules, ◌≡◌, ◌++◌, Bool, ℕ, List, length, ap, subst, ◌∙◌}
-use Rattle.std.specs.List.{flat_map}
+use Rattle.std.proofs.Common.{◌≡◌, ◌++◌, Bool, ℕ, List, length, sym, ap, subst, ◌∙◌}
 use Rattle.solid_model.specs.declared.cell.Cell.{Cell}
 use Rattle.solid_model.specs.Blocks.{ProblemParts, BlockNumbers}
 use Rattle.solid_model.specs.Choices.{cells_of_choice}
@@ -10,7 +9,7 @@ use Rattle.solid_model.specs.Marks.{BoxMarks}
 use Rattle.solid_model.specs.Panels.{GridParts, coordinates_of}
 use Rattle.solid_model.specs.Volumes.{volume_of}
 use Rattle.report.specs.Volumes.{chosen_sum}
-use Rattle.report.specs.Texts.{face_text, solid_line}
+use Rattle.report.specs.Texts.{solid_line}
 use Rattle.report.proofs.solid_texts.SolidTexts.tell.Goals as goal
 
 -- the faces of all solids that are the union of these cells of a grid
@@ -27,17 +26,17 @@ theirs_too g h cells others faces same alike theirs =
 
 pub returns-clause-text : goal.returns-clause-text
 returns-clause-text c =
-    let faces = c.in_ok-faces.faces.items in
+    let lines = c.in_ok-update.ensures in
     let choice = c.args.choice.now in
-    let grid = c.grid.ensures.grid ∙ ap (λ (p : ProblemParts). p.grid) c.self.view_is in
+    let grid = c.grid-grid.ensures.grid ∙ ap (λ (p : ProblemParts). p.grid) c.self.view_is in
     let cells = ap (λ (m : BoxMarks). m.values) c.fill.ensures
     ∙ ap (λ (b : BlockNumbers). cells_of_choice b.numbers choice) (c.self.invariant.0 ∙ ap (λ (p : ProblemParts). p.blocks) c.self.view_is) in
     let volume = c.chosen_sum-volume.ensures ∙ ap (λ vs. chosen_sum vs choice) c.as_slice.ensures.value ∙ c.self.invariant.1.sums choice
     ∙ ap (λ (p : ProblemParts). volume_of (coordinates_of p.grid) (cells_of_choice p.blocks.numbers choice)) c.self.view_is in
-    let count : c.len.result ≡ length faces = search rules in
-    let line = c.in_ok-push_solid_line.ensures ∙ ap (λ (l : List ℕ). l ++ solid_line c.args.number choice c.chosen_sum-volume.result c.len.result) c.clear.ensures.items
+    let count : c.count-faces.result ≡ length lines.faces = c.count-faces.ensures ∙ sym lines.count in
+    let line = c.in_ok-push_solid_line.ensures ∙ ap (λ (l : List ℕ). l ++ solid_line c.args.number choice c.chosen_sum-volume.result c.count-faces.result) c.clear.ensures.items
     ∙ (λ t. solid_line c.args.number choice (volume t) (count t)) in (
-      faces,
-      theirs_too _ _ _ _ faces grid cells c.in_ok-faces.ensures,
-      c.in_ok-push_faces.ensures ∙ (λ t. line t ++ flat_map face_text (c.as_slice-2.ensures.value t)),
+      lines.faces,
+      theirs_too _ _ _ _ lines.faces grid cells lines.are,
+      c.in_ok-push.ensures ∙ (λ t. line t ++ lines.text t),
     )

@@ -1,0 +1,83 @@
+-- The lines of one plane more, of one side more, and of all.
+use Rattle.std.proofs.Common.{◌≡◌, ℕ, ◌+◌, ◌++◌, ◌∷◌, ◌&&◌, ◌<ℤ◌, Bool, false, List, [], map, slice_index_or, pos, refl, sym, ◌∙◌, ap, subst, arith}
+use Rattle.std.specs.List.{flat_map}
+use Rattle.std.proofs.lemmas.Grind.{flat_map-append}
+use Rattle.std.proofs.lemmas.List.{append-nil, length-append, length-map, map-append}
+use Rattle.std.proofs.lemmas.List.Sums.{sum_by-append}
+use Rattle.solid_model.specs.declared.cell.Axis.{Axis}
+use Rattle.solid_model.specs.declared.cell.Axis.TheVariants.{X, Y, Z}
+use Rattle.solid_model.specs.declared.cell.Cell.{Cell}
+use Rattle.solid_model.specs.declared.face.Out.{Out}
+use Rattle.solid_model.specs.Faces.{outward, out_number, FaceParts, AreFacesOf}
+use Rattle.solid_model.specs.Grid.{Coordinates, gaps_along}
+use Rattle.solid_model.specs.Lists.{Ascends}
+use Rattle.solid_model.specs.Marks.{BoxMarks, is_marked}
+use Rattle.solid_model.specs.PerAxis.{numbers_of}
+use Rattle.solid_model.specs.Rooms.{is_within, box_place}
+use Rattle.solid_model.proofs.Lists.{each-push}
+use Rattle.face_laws.specs.GridFaces.{face_in_space, grid_planes, numbered_fullness}
+use Rattle.face_laws.proofs.GridPlanes.{union_faces}
+use Rattle.faces.specs.PlaneFaces.{AreBoundary, AreFacesOfSquares, AreFacesInPlane}
+use Rattle.faces.proofs.MoreFaces.{no_faces_yet, plane_more, side_done, all_faces}
+use Rattle.report.specs.Texts.{face_text}
+use Rattle.report.specs.PlaneTexts.{PlaneLines, AreLines, AreLinesBefore, AreAllLines, GridLines, listed}
+
+-- coordinates stay when planes change
+pub other_planes : (g : GridLines) (planes : List PlaneLines) → listed (record { xs = g.xs; ys = g.ys; zs = g.zs; planes = planes }) ≡ listed g
+other_planes g planes = λ i a. by a i
+  where
+    by : (a : Axis) → listed (record { xs = g.xs; ys = g.ys; zs = g.zs; planes = planes }) a ≡ listed g a
+    by X = refl
+    by Y = refl
+    by Z = refl
+
+module _ (coordinates : Coordinates) (m : BoxMarks) where
+  abbrev Before : ℕ → ℕ → List PlaneLines → Type 0
+  Before n k planes = AreLinesBefore coordinates (is_marked m) n k planes
+
+  -- a face, put in space
+  abbrev put : FaceParts → FaceParts
+  put = face_in_space (grid_planes coordinates)
+
+  pub no_lines_yet : Before 0 0 []
+  no_lines_yet = record { faces = []; are = no_faces_yet m; count = refl; text = refl; each = tt }
+
+  pub lines_more : (n k : ℕ) (planes : List PlaneLines) → Before n k planes → (out : Out) → out_number out ≡ n → (p : PlaneLines)
+      → p.out ≡ out → p.at ≡ k → AreLines coordinates p → AreBoundary (is_marked m) out (pos k) p.squares → Before n (k + 1) (planes ++ p ∷ [])
+  lines_more n k planes so_far out side p o a lines boundary =
+      let new : AreFacesInPlane (is_marked m) out (pos k) lines.faces =
+      subst (λ (x : Out × ℕ). AreFacesOfSquares p.squares x.0 (pos x.1) lines.faces) (λ i. (o i, a i)) lines.are (is_marked m) boundary in
+      record {
+        faces = so_far.faces ++ lines.faces;
+        are = plane_more (is_marked m) n k so_far.faces so_far.are out side lines.faces new;
+        count = let both = length-append so_far.faces lines.faces in
+            let sums = sum_by-append (λ (q : PlaneLines). q.count) planes (p ∷ []) in
+            omega (arith, both, sums, so_far.count, lines.count);
+        text = flat_map-append (λ (q : PlaneLines). q.text) planes (p ∷ [])
+            ∙ (λ i. so_far.text i ++ (append-nil p.text ∙ lines.text) i)
+            ∙ sym (ap (flat_map face_text) (map-append put so_far.faces lines.faces) ∙ flat_map-append face_text (map put so_far.faces) (map put lines.faces));
+        each = each-push (AreLines coordinates) planes p so_far.each lines;
+      }
+
+  pub lines_of_side : (n k : ℕ) (planes : List PlaneLines) (out : Out) → out_number out ≡ n → k ≡ numbers_of m.sizes (outward out).axis + 1
+      → Before n k planes → Before (n + 1) 0 planes
+  lines_of_side n k planes out side all so_far = record {
+    faces = so_far.faces;
+    are = side_done m n k so_far.faces out side all so_far.are;
+    count = so_far.count;
+    text = so_far.text;
+    each = so_far.each;
+  }
+
+  module _ (sized : numbers_of m.sizes ≡ gaps_along coordinates) (ascends : (a : Axis) → Ascends ◌<ℤ◌ (coordinates a)) where
+    pub lines_of_all : (planes : List PlaneLines) → Before 6 0 planes → AreAllLines coordinates m.values planes
+    lines_of_all planes lines = record {
+      faces = map put lines.faces;
+      are = λ full union.
+          let same : is_marked m ≡ numbered_fullness coordinates m.values =
+          λ t n. is_within (sized t) n && slice_index_or m.values (box_place (sized t) n) false in
+          union_faces coordinates ascends m.values full union lines.faces
+          (subst (λ (f : Cell → Bool). AreFacesOf f lines.faces) same (all_faces m lines.faces lines.are));
+      count = length-map lines.faces put ∙ lines.count;
+      text = lines.text;
+    }

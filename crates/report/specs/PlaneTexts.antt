@@ -1,0 +1,76 @@
+-- The lines of a solid's faces, plane by plane.
+use Rattle.std.specs.Prelude.{◌≡◌, Bool, ℕ, List, length, map, ℤ, pos}
+use Rattle.std.specs.List.{flat_map, sum_by}
+use Rattle.solid_model.specs.declared.cell.Axis.TheVariants.{X, Y, Z}
+use Rattle.solid_model.specs.declared.cell.Cell.{Cell}
+use Rattle.solid_model.specs.declared.face.Out.{Out}
+use Rattle.solid_model.specs.Faces.{FaceParts, AreFacesOf}
+use Rattle.solid_model.specs.Grid.{Coordinates, IsUnionOf}
+use Rattle.solid_model.specs.Lists.{Each}
+use Rattle.face_laws.specs.GridFaces.{face_in_space, grid_planes}
+use Rattle.faces.specs.FacesSoFar.{AreFacesBefore}
+use Rattle.faces.specs.PlaneFaces.{AreFacesOfSquares}
+use Rattle.faces.specs.PlaneSquares.{SquareTable}
+use Rattle.report.specs.Texts.{face_text}
+
+-- the lines of the faces of squares in a plane, which is told by its number, and how many they are
+pub record PlaneLines : Type 0 where
+  pub out : Out
+  pub at : ℕ
+  pub squares : SquareTable
+  pub count : ℕ
+  pub text : List ℕ
+
+-- the lines are those of the faces, put in a grid's space
+pub record AreLines (coordinates : Coordinates) (p : PlaneLines) : Type 0 where
+  pub faces : List FaceParts
+  pub are : AreFacesOfSquares p.squares p.out (pos p.at) faces
+  pub count : length faces ≡ p.count
+  pub text : p.text ≡ flat_map face_text (map (face_in_space (grid_planes coordinates)) faces)
+
+-- and the squares are these, in this plane
+pub record AreLinesOf (coordinates : Coordinates) (out : Out) (at : ℕ) (squares : SquareTable) (p : PlaneLines) : Type 0 where
+  pub out_is : p.out ≡ out
+  pub at_is : p.at ≡ at
+  pub squares_are : p.squares ≡ squares
+  pub lines : AreLines coordinates p
+
+-- ---- several planes
+
+-- how many lines there are
+abbrev pub line_count : List PlaneLines → ℕ
+line_count planes = sum_by (λ p. p.count) planes
+
+-- all lines
+abbrev pub all_lines : List PlaneLines → List ℕ
+all_lines planes = flat_map (λ p. p.text) planes
+
+-- they are those of all faces of a solid of numbers that lie in earlier planes than the plane m of the side n
+pub record AreLinesBefore (coordinates : Coordinates) (full : Cell → Bool) (n m : ℕ) (planes : List PlaneLines) : Type 0 where
+  pub faces : List FaceParts
+  pub are : AreFacesBefore full n m faces
+  pub count : length faces ≡ line_count planes
+  pub text : all_lines planes ≡ flat_map face_text (map (face_in_space (grid_planes coordinates)) faces)
+  pub each : Each (AreLines coordinates) planes
+
+-- they are those of all faces of the union of chosen grid cells
+pub record AreAllLines (coordinates : Coordinates) (cells : List Bool) (planes : List PlaneLines) : Type 0 where
+  pub faces : List FaceParts
+  pub are : (full : Cell → Bool) → IsUnionOf coordinates cells full → AreFacesOf full faces
+  pub count : length faces ≡ line_count planes
+  pub text : all_lines planes ≡ flat_map face_text faces
+
+-- ---- planes of a grid
+
+-- planes whose lines are put in the space of a grid with these coordinates
+pub record GridLines : Type 0 where
+  pub xs : List ℤ
+  pub ys : List ℤ
+  pub zs : List ℤ
+  pub planes : List PlaneLines
+
+-- the coordinates
+abbrev pub listed : GridLines → Coordinates
+listed g X = g.xs
+listed g Y = g.ys
+listed g Z = g.zs

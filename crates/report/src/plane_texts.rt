@@ -1,0 +1,212 @@
+//! The lines of a solid's faces, which are kept by their planes for the next solid.
+
+ghost use Rattle.std.specs.Prelude.{◌≡◌, ◌≤◌, ◌+◌, ◌++◌, ◌∷◌, [], pos, IsTrue, IfOk, OnOk};
+ghost use Rattle.faces.specs.PlaneFaces.{AreBoundary};
+ghost use Rattle.report.specs.PlaneTexts.{PlaneLines, AreLines, AreLinesBefore, line_count, all_lines};
+ghost use Rattle.solid_model.specs.Faces.{out_number};
+ghost use Rattle.solid_model.specs.GridBox.{grid_sizes};
+ghost use Rattle.solid_model.specs.Lists.{Each};
+ghost use Rattle.solid_model.specs.Marks.{is_marked};
+ghost use Rattle.solid_model.specs.Panels.{coordinates_of};
+ghost use Rattle.solid_model.specs.PerAxis.{numbers_of};
+
+use crate::plane_text::{PlaneText, text_of_plane};
+use cell_rows::CellRows;
+use faces::plane_squares;
+use solid_model::{Axis, Grid, Memory, Out};
+use std::alloc::Global;
+use std::marker::Model;
+
+/// Puts the lines of the faces of marked cells in a plane at the end of the list. Those at the same
+/// place of an earlier list serve again if they are of the same squares.
+fn add_plane(
+    alloc: Global,
+    grid: &Grid,
+    cells: &CellRows,
+    out: Out,
+    at: usize,
+    earlier: &[PlaneText],
+    planes: &mut Vec<PlaneText>,
+) -> Result<(), Memory>
+    requires at { at ≤ 1024 }
+    requires sizes { numbers_of cells.now.sizes ≡ grid_sizes grid.now }
+    requires earlier { Each (AreLines (coordinates_of grid.now)) earlier.now }
+    ensures { IfOk result (λ done. (p : PlaneLines) × (planes.new.items ≡ planes.old.items ++ p ∷ [])
+        × (p.out ≡ out) × (p.at ≡ at) × AreLines (coordinates_of grid.now) p
+        × AreBoundary (is_marked cells.now) out (pos at) p.squares) }
+{
+    let squares = plane_squares(alloc, cells, out, at)?;
+    let place = planes.len();
+    let plane = text_of_plane(alloc, grid, squares, out, at, earlier, place)?;
+    planes.push(plane)?;
+    Ok(())
+}
+
+/// The same of all planes of an outward side.
+fn add_side(
+    alloc: Global,
+    grid: &Grid,
+    cells: &CellRows,
+    out: Out,
+    earlier: &[PlaneText],
+    planes: &mut Vec<PlaneText>,
+) -> Result<(), Memory>
+    requires sizes { numbers_of cells.now.sizes ≡ grid_sizes grid.now }
+    requires earlier { Each (AreLines (coordinates_of grid.now)) earlier.now }
+    requires before { AreLinesBefore (coordinates_of grid.now) (is_marked cells.now) (out_number out)
+        0 planes.old.items }
+    ensures { IfOk result (λ done. AreLinesBefore (coordinates_of grid.now) (is_marked cells.now)
+        (out_number out + 1) 0 planes.new.items) }
+{
+    let count = cells.sizes().along(out.direction().axis) + 1;
+    for at in 0..count {
+        add_plane(alloc, grid, cells, out, at, earlier, planes)?;
+    }
+    Ok(())
+}
+
+/// The lines of all faces of the marked cells of a grid, by their planes.
+fn all_planes(
+    alloc: Global,
+    grid: &Grid,
+    cells: &CellRows,
+    earlier: &[PlaneText],
+) -> Result<Vec<PlaneText>, Memory>
+    requires sizes { numbers_of cells.now.sizes ≡ grid_sizes grid.now }
+    requires earlier { Each (AreLines (coordinates_of grid.now)) earlier.now }
+    ensures { IfOk result (λ planes. AreLinesBefore (coordinates_of grid.now) (is_marked cells.now)
+        6 0 planes.items) }
+{
+    let mut planes = Vec::new(alloc);
+    for out in Out::ALL {
+        add_side(alloc, grid, cells, out, earlier, &mut planes)?;
+    }
+    Ok(planes)
+}
+
+/// How many lines there are.
+fn line_count(planes: &[PlaneText]) -> u128
+    ensures { result ≡ line_count planes.now }
+{
+    let mut count: u128 = 0;
+    for plane in planes {
+        count += plane.count() as u128;
+    }
+    count
+}
+
+/// Puts all lines at the end of a text.
+fn push_lines(text: &mut Vec<u8>, planes: &[PlaneText]) -> Result<(), Memory>
+    ensures { OnOk result (text.new.items ≡ text.old.items ++ all_lines planes.now) }
+{
+    for plane in planes {
+        text.extend_from_slice(plane.text())?;
+    }
+    Ok(())
+}
+
+/// The coordinates are the same.
+fn same(coordinates: &[i64], others: &[i64]) -> bool
+    ensures { IsTrue result → coordinates.now ≡ others.now }
+{
+    coordinates == others
+}
+
+/// The lines of the faces of a solid of a grid, kept by their planes: those of planes that have the
+/// same squares serve for the next solid too.
+#[derive(Debug, Drop)]
+pub struct PlaneTexts {
+    xs: Vec<i64>,
+    ys: Vec<i64>,
+    zs: Vec<i64>,
+    planes: Vec<PlaneText>,
+}
+
+impl Model for PlaneTexts {
+    ghost use Rattle.report.specs.PlaneTexts.{GridLines, AreLines, listed};
+    ghost use Rattle.solid_model.specs.Lists.{Each};
+
+    ghost Value = { GridLines };
+
+    ghost view = { λ s. record {
+      xs = s.xs.items;
+      ys = s.ys.items;
+      zs = s.zs.items;
+      planes = s.planes.items;
+    } };
+
+    ghost invariant = { λ s. Each (AreLines (listed record {
+      xs = s.xs.items;
+      ys = s.ys.items;
+      zs = s.zs.items;
+      planes = s.planes.items;
+    })) s.planes.items };
+}
+
+impl PlaneTexts {
+    ghost use Rattle.std.specs.Prelude.{◌≡◌, ◌++◌, IsTrue, IfOk, OnOk};
+    ghost use Rattle.report.specs.PlaneTexts.{AreAllLines, line_count, all_lines, listed};
+    ghost use Rattle.solid_model.specs.GridBox.{grid_sizes};
+    ghost use Rattle.solid_model.specs.Panels.{coordinates_of};
+    ghost use Rattle.solid_model.specs.PerAxis.{numbers_of};
+
+    /// No lines yet, of a solid of a grid. An `Err` is out of memory.
+    pub fn of(alloc: Global, grid: &Grid) -> Result<PlaneTexts, Memory>
+        ensures { IfOk result (λ texts. listed texts ≡ coordinates_of grid.now) }
+    {
+        let xs = Vec::from_slice(alloc, grid.xs())?;
+        let ys = Vec::from_slice(alloc, grid.ys())?;
+        let zs = Vec::from_slice(alloc, grid.zs())?;
+        Ok(PlaneTexts {
+            xs,
+            ys,
+            zs,
+            planes: Vec::new(alloc),
+        })
+    }
+
+    /// The grid has these coordinates.
+    fn is_on(&self, grid: &Grid) -> bool
+        ensures { IsTrue result → listed self.now ≡ coordinates_of grid.now }
+    {
+        same(&self.xs, grid.xs()) && same(&self.ys, grid.ys()) && same(&self.zs, grid.zs())
+    }
+
+    /// Forgets the lines if they are those of another grid.
+    fn put_on(&mut self, alloc: Global, grid: &Grid) -> Result<(), Memory>
+        ensures { IfOk result (λ done. listed self.new ≡ coordinates_of grid.now) }
+    {
+        if !self.is_on(grid) {
+            *self = PlaneTexts::of(alloc, grid)?;
+        }
+        Ok(())
+    }
+
+    /// Makes the lines of the faces of the union of marked cells of a grid, in the place of others.
+    /// An `Err` is out of memory.
+    pub fn update(&mut self, alloc: Global, grid: &Grid, cells: &CellRows) -> Result<(), Memory>
+        requires { numbers_of cells.now.sizes ≡ grid_sizes grid.now }
+        ensures { IfOk result (λ done. AreAllLines (coordinates_of grid.now) cells.now.values
+            self.new.planes) }
+    {
+        // A look at the grid tells that its coordinates are in order.
+        let _ = grid.coordinates(Axis::X);
+        self.put_on(alloc, grid)?;
+        self.planes = all_planes(alloc, grid, cells, self.planes.as_slice())?;
+        Ok(())
+    }
+
+    /// How many lines there are.
+    pub fn count(&self) -> u128
+        ensures { result ≡ line_count self.now.planes }
+    {
+        line_count(self.planes.as_slice())
+    }
+
+    /// Puts all lines at the end of a text.
+    pub fn push(&self, text: &mut Vec<u8>) -> Result<(), Memory>
+        ensures { OnOk result (text.new.items ≡ text.old.items ++ all_lines self.now.planes) }
+    {
+        push_lines(text, self.planes.as_slice())
+    }
+}
