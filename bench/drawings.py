@@ -83,17 +83,28 @@ def drawing(*views):
     return section("ENTITIES", "".join(views)) + pairs((0, "EOF"))
 
 
-def lattice(across, deep, high):
-    """A box with so many voids in a row along each axis, unit cubes 1 off each other and off the box's faces. Those behind one
-    another share a dashed square. Each void is a block, and so is what is left of the box."""
+def lattices(*sizes):
+    """Boxes along the diagonal of space, each 1 off the one before it. Each has so many voids in a row along each axis, unit
+    cubes 1 off each other and off the box's faces. Those behind one another share a dashed square. Each void is a block, and so
+    is what is left of a box."""
 
     def view(name, right, up):
-        squares = (
-            rectangle(name, 2 * i + 1, 2 * k + 1, 2 * i + 2, 2 * k + 2, "DASHED") for k in range(up) for i in range(right)
-        )
-        return rectangle(name, 0, 0, 2 * right + 1, 2 * up + 1) + "".join(squares)
+        x, y, text = 0, 0, []
+        for size in sizes:
+            wide, tall = 2 * size[right] + 1, 2 * size[up] + 1
+            text.append(rectangle(name, x, y, x + wide, y + tall))
+            text += (
+                rectangle(name, x + i, y + k, x + i + 1, y + k + 1, "DASHED") for k in range(1, tall, 2) for i in range(1, wide, 2)
+            )
+            x, y = x + wide + 1, y + tall + 1
+        return "".join(text)
 
-    return drawing(view("FRONT", across, high), view("TOP", across, deep), view("SIDE", deep, high))
+    return drawing(view("FRONT", 0, 2), view("TOP", 0, 1), view("SIDE", 1, 2))
+
+
+def lattice(across, deep, high):
+    """One such box."""
+    return lattices((across, deep, high))
 
 
 def diagonal(cubes):
