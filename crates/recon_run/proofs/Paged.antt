@@ -11,7 +11,6 @@ use Rattle.recon_run.specs.Searched.{SearchedParts}
 use Rattle.recon_run.specs.SinkPages.{HasGained, calls_text}
 use Rattle.recon_run.proofs.PossibleEnds.{can_list}
 use Rattle.report.specs.Texts.{page_text}
-use Rattle.search_run.proofs.DeskAnswers.{live_solution}
 use Rattle.search_run.specs.Pages.{AddsCalls, AreNumbered, Call, HasAllPaged, HasPaged, choices_of}
 use Rattle.search_run.specs.declared.page_out.RunFault.{RunFault}
 use Rattle.search_run.specs.declared.page_out.RunFault.TheVariants as run_fault
@@ -125,6 +124,11 @@ module _ (p : ProblemParts) (limits : SearchLimits) (blocks : IsBlocksOf p.grid 
   ordered : IsGrid p.grid → Ascends ChoicePrecedes all
   ordered (drawing, is, of) = (complete_tree _ (is_live p) p.blocks.count (live_keeps_matching drawing is p of blocks)).ordered
 
+  -- each solution is live
+  live_solution : IsGrid p.grid → (choice : List Bool) → IsSolutionOf p choice → Member all choice
+  live_solution (drawing, is, of) choice solution =
+      (complete_tree _ (is_live p) p.blocks.count (live_keeps_matching drawing is p of blocks)).complete choice solution.whole (solution.matching drawing is of)
+
   -- pages of some solutions, no more than the limit of solids, are the first pages of a search that can end so
   pub some_told : (before now : Option (List ℕ)) (refused : Bool) (calls : List Call) → HasGained refused before now calls
       → HasPaged p limits.solids (Some []) (Some calls)
@@ -132,7 +136,7 @@ module _ (p : ProblemParts) (limits : SearchLimits) (blocks : IsBlocksOf p.grid 
   some_told before now refused calls gained paged =
       let same = added calls paged.calls paged.adds in let numbered = paged.pages.numbered in let given = choices_of paged.calls in
       let pages = pages_of paged.calls in
-      let each = each-from (Member all) given (λ x k. live_solution p blocks grid x (each-at (IsSolutionOf p) given x paged.pages.solutions.each k)) in
+      let each = each-from (Member all) given (λ x k. live_solution grid x (each-at (IsSolutionOf p) given x paged.pages.solutions.each k)) in
       let can = can_list (is_live p) p.blocks.count limits (ordered grid) given each paged.pages.solutions.once paged.few in
       let told : choices_on (pages ++ singles can.more) ≡ given ++ can.more =
       choices_append pages (singles can.more) ∙ ap₂ (λ xs ys. xs ++ ys) (sym (same_choices paged.calls)) (single_choices can.more) in (
