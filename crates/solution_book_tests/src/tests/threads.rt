@@ -1,4 +1,4 @@
-//! Two readers in threads of their own read a book to its end while it is written.
+//! Sixteen readers in threads of their own read a book to its end while it is written.
 
 use super::author::{Author, begin};
 use super::{SIXTEEN_VOIDS, THREE_BATCHES, are_at};
@@ -10,7 +10,7 @@ use std::test::*;
 use std::thread;
 use std::thread::{JoinHandle, Scope, Threads};
 
-const READERS: u32 = 2;
+const READERS: u32 = 16;
 
 /// After so many looks a reader gives up.
 const LOOKS: u32 = 20_000_000;
