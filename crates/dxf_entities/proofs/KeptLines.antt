@@ -20,7 +20,6 @@ use Rattle.dxf_entities.specs.Known.{Point, IsNearPoint}
 use Rattle.dxf_entities.specs.Names.{is_name, kind_of}
 use Rattle.dxf_entities.specs.Reading.{Progress, nothing_read, between, opened, layer_added, entry_read, read_at, end_read, is_ended, entries_read, pairs_read, read_of}
 use Rattle.dxf_entities.specs.Shapes.{begun_shape, points_of}
-use Rattle.dxf_entities.specs.Steps.{◌>>=◌}
 use Rattle.dxf_entities.specs.Strokes.{are_straight_from, are_straight, line_between, lines_from, lines_through, kept, drawn_along, added_along}
 use Rattle.dxf_groups.specs.Pairs.{TextPair, Pairs, pairs_of}
 use Rattle.solid_model.specs.declared.fault.Fault.{Fault}

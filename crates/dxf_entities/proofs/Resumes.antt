@@ -1,5 +1,5 @@
 -- How a reader's steps go on with what is left.
-use Rattle.std.proofs.Common.{◌≡◌, ℕ, Bool, true, false, List, [], ◌∷◌, length, Option, Some, None, Result, Ok, Err, if◌then◌else◌, codes, IsErrOf, refl, sym, ap, ap₂, ◌∙◌}
+use Rattle.std.proofs.Common.{◌≡◌, ℕ, Bool, true, false, List, [], ◌∷◌, Option, Some, None, Result, Ok, Err, if◌then◌else◌, codes, IsErrOf, refl, sym, ap, ap₂, ◌∙◌}
 use Rattle.std.specs.Option.{option_map, option_or}
 use Rattle.solid_model.specs.declared.fault.Fault.{Fault}
 use Rattle.solid_model.specs.declared.fault.Fault.TheVariants.{BadSection}
@@ -24,7 +24,7 @@ use Rattle.dxf_entities.specs.Steps.{◌>>=◌}
 use Rattle.dxf_groups.specs.Pairs.{TextPair, Pairs, pairs_of, text_pair}
 use Rattle.dxf_entities.specs.Entries.{Entry, has_code, before_entries, entries_of, own_pairs, first_value, opens_application}
 use Rattle.dxf_entities.specs.declared.pen.Pen.{Pen}
-use Rattle.dxf_entities.specs.Judging.{facts_of, drawn_by, judged, lines_by}
+use Rattle.dxf_entities.specs.Judging.{facts_of, drawn_by, lines_by}
 use Rattle.dxf_entities.specs.Names.{is_name, view_on, kind_of, section_of}
 use Rattle.dxf_entities.specs.Reading.{Progress, between, opened, with_layer, layer_added, nothing_read, entity_read, entry_read, read_at, end_read, is_ended, entries_read, pairs_read}
 use Rattle.dxf_entities.specs.Resuming.{with_fact, with_layer_fact, with_own, begun_facts, nothing_told, opened_entity, opened_entry, unless_elsewhere, with_own_pair, with_pair_of, is_inside_after, fact_taken, entry_closed, closed, closed_where, layer_linetype, progress_of, advanced, resumed}

@@ -1,5 +1,5 @@
 -- Straight lines are added where there is room for them.
-use Rattle.std.proofs.Common.{◌≡◌, ◌-◌, ◌<◌, ◌≤◌, Ok, Err, List, length, take, drop, ap, sym, subst, ◌∙◌, arith}
+use Rattle.std.proofs.Common.{◌≡◌, ◌-◌, ◌<◌, ◌≤◌, Ok, Err, length, take, drop, ap, sym, subst, ◌∙◌, arith}
 use Rattle.solid_model.specs.declared.fault.Fault.TheVariants.{TooManyLines}
 use Rattle.solid_model.specs.Limits.{most_lines}
 use Rattle.dxf_entities.specs.Known.{Point}
