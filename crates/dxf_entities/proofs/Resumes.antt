@@ -139,28 +139,10 @@ closed_entity r f is =
 abbrev drawn_so : Reader → Facts → Result (Option Pen) Fault → Result Progress Fault
 drawn_so r f pen = then_kept (progress_of r) (pen >>= lines_by f r.lines.items)
 
-module _ (r : Reader) (f : Facts) (is : r.entry ≡ Entity f) where
-  -- one without a pen is passed over
-  pub entity_passed : drawn_by (layer_linetype r.layers) f ≡ Ok None
-      → closed [] r ≡ Ok (progress_of r)
-  entity_passed gives = closed_entity r f is ∙ ap (drawn_so r f) gives
-
-  -- one with a fault before a pen is known
-  pub pen_refused : (fault : Fault) → drawn_by (layer_linetype r.layers) f ≡ Err fault
-      → closed [] r ≡ Err fault
-  pen_refused fault gives = closed_entity r f is ∙ ap (drawn_so r f) gives
-
-  -- one with a pen gives its lines, or has a fault
-  module _ (pen : Pen) (gives : drawn_by (layer_linetype r.layers) f ≡ Ok (Some pen)) where
-    pub entity_drawn : (lines : List Line) → lines_by f r.lines.items (Some pen) ≡ Ok lines
-        → closed [] r ≡ Ok (record (progress_of r) { lines = lines })
-    entity_drawn lines draws =
-        closed_entity r f is ∙ ap (drawn_so r f) gives ∙ ap (then_kept (progress_of r)) draws
-
-    pub entity_refused : (fault : Fault) → lines_by f r.lines.items (Some pen) ≡ Err fault
-        → closed [] r ≡ Err fault
-    entity_refused fault draws =
-        closed_entity r f is ∙ ap (drawn_so r f) gives ∙ ap (then_kept (progress_of r)) draws
+-- one without a pen is passed over
+pub entity_passed : (r : Reader) (f : Facts) → r.entry ≡ Entity f
+    → drawn_by (layer_linetype r.layers) f ≡ Ok None → closed [] r ≡ Ok (progress_of r)
+entity_passed r f is gives = closed_entity r f is ∙ ap (drawn_so r f) gives
 
 -- ---- a pair with code 0
 
