@@ -1,5 +1,5 @@
 -- The lengths of printed numbers.
-use Rattle.std.proofs.Common.{◌≡◌, ℕ, zero, suc, ◌+◌, ◌-◌, ◌*◌, ◌/◌, ◌^◌, ◌<◌, ◌≤◌, ◌++◌, length, ℤ, pos, negsuc, sym, ap, subst, unsigned_abs, codes, length-append, pow-suc, div-le_self, arith}
+use Rattle.std.proofs.Common.{◌≡◌, ℕ, zero, suc, ◌+◌, ◌-◌, ◌*◌, ◌/◌, ◌^◌, ◌<◌, ◌≤◌, ◌++◌, length, ℤ, pos, negsuc, sym, ap, subst, unsigned_abs, codes, length-append, pow-suc, div-le_self, div-one, arith}
 use Rattle.std.specs.Fmt.{decimal}
 use Rattle.std.proofs.lemmas.Fmt.{length-decimal-le, length_signed_le}
 use Rattle.decimal_texts.specs.Decimals.{last_digits, pointed_text, decimal_text}
@@ -7,7 +7,10 @@ use Rattle.decimal_texts.proofs.LastDigits.{divided_again, length-last_digits}
 
 -- divided by a power of ten, a number loses as many digits
 front_below : (decimals places n : ℕ) → n < 10 ^ (places + decimals) → n / 10 ^ decimals < 10 ^ places
-front_below zero places n small = omega arith
+front_below zero places n small =
+    let whole : n / 10 ^ 0 ≡ n = div-one n in
+    let same : places + 0 ≡ places = omega arith in
+    omega (arith, whole, ap (λ k. 10 ^ k) same)
 front_below (suc decimals) places n small =
     let next : places + suc decimals ≡ suc (places + decimals) = omega arith in
     let less : n < 10 ^ (places + decimals) * 10 = omega (arith, ap (λ k. 10 ^ k) next, pow-suc 10 (places + decimals)) in

@@ -1,5 +1,5 @@
 -- The digits of a power of ten and what is left of the number are a 1 and its last digits.
-use Rattle.std.proofs.Common.{◌≡◌, ◌≤◌, ◌+◌, ◌%◌, ◌^◌, ◌∷◌, ◌++◌, List, ℕ, length, drop, ap, sym, ◌∙◌, arith}
+use Rattle.std.proofs.Common.{◌≡◌, ◌≤◌, ◌+◌, ◌%◌, ◌^◌, ◌∷◌, ◌++◌, List, ℕ, length, drop, ap, ◌∙◌, arith}
 use Rattle.std.specs.Fmt.{decimal}
 use Rattle.solid_model.specs.Limits.{most_decimals}
 use Rattle.decimal_texts.specs.Decimals.{last_digits}
