@@ -96,18 +96,18 @@ EndlessSearch limits t = (p : ProblemParts) → HasProblem t p → (kind : EndKi
 
 module _ (limits : SearchLimits) (t : List ℕ) (short : length t ≤ most_file_bytes) (faultless : (fault : Fault) → IsFileFault t fault → ⊥)
     (endless : EndlessSearch limits t) where
-  module _ (ls : List Line) (reads : read_of t ≡ Ok ls) where
+  module _ (ls : List Line) (reads : read_of 0 t ≡ Ok ls) where
     abbrev drawing : Segment → Style
     drawing = drawing_of ls
 
     no_fault_after : (f : Fault) → IsFaultAfter (Ok ls) f → ⊥
-    no_fault_after f after = faultless f (file_fault t (Ok ls) f short reads after)
+    no_fault_after f after = faultless f (file_fault 0 t (Ok ls) f short reads after)
 
     shown : IsShown ls
     shown = shown_by_views ls (λ v empty. no_fault_after (EmptyView v) (inl (v, empty, refl)))
 
     is_drawing : IsDrawing drawing
-    is_drawing = lines_are_drawing ls (read_lines_are_kept t ls reads) (λ v none. shown v (without_lines-empty ls v none))
+    is_drawing = lines_are_drawing ls (read_lines_are_kept 0 t ls reads) (λ v none. shown v (without_lines-empty ls v none))
 
     -- no axis is too fine
     not_first : (a : Axis) (count : ℕ) → IsFirstTooFine drawing a count → ⊥
@@ -184,15 +184,15 @@ module _ (limits : SearchLimits) (t : List ℕ) (short : length t ≤ most_file_
         styles xs ys zs Side true = refl
 
   -- it can't be that an input that isn't too long has no fault and no end of a search
-  short_input : (r : Result (List Line) Fault) → read_of t ≡ r → ⊥
-  short_input (Err found) reads = faultless found (file_fault t (Err found) found short reads refl)
+  short_input : (r : Result (List Line) Fault) → read_of 0 t ≡ r → ⊥
+  short_input (Err found) reads = faultless found (file_fault 0 t (Err found) found short reads refl)
   short_input (Ok ls) reads = input_with_lines ls reads
 
 -- it can't be that a text of any length has neither a fault nor an end of a search
 searched_somehow : (limits : SearchLimits) (t : List ℕ) → ((fault : Fault) → IsFileFault t fault → ⊥)
     → EndlessSearch limits t → ⊥
 searched_somehow limits t faultless endless = ⊎_elim (λ long. faultless TooLong (inl (long, refl)))
-    (λ short. short_input limits t short faultless endless (read_of t) refl) (cases_lt most_file_bytes (length t))
+    (λ short. short_input limits t short faultless endless (read_of 0 t) refl) (cases_lt most_file_bytes (length t))
 
 -- a source that had t left can have been read to its end, or past the most
 can_be_read : (t : List ℕ) → ((rest : Option (List ℕ)) → ReadsAllOrPast t rest → ⊥) → ⊥

@@ -51,10 +51,14 @@ abbrev pub IsFaultAfter : Result (List Line) Fault → Fault → Type 0
 IsFaultAfter (Err found) fault = fault ≡ found
 IsFaultAfter (Ok ls) fault = HasEmptyView ls fault ⊎ (HasFineAxis ls fault ⊎ HasManyBlocks ls fault)
 
--- the first fault of a file: it is too long, or else that of what it reads as
+-- the first fault of a file that is read with so many decimals: it is too long, or else that of what it reads as
+abbrev pub IsFaultOf : ℕ → List ℕ → Fault → Type 0
+IsFaultOf decimals t fault = ((most_file_bytes < length t) × (fault ≡ TooLong))
+    ⊎ ((length t ≤ most_file_bytes) × IsFaultAfter (read_of decimals t) fault)
+
+-- that of an input, which is read without decimals
 abbrev pub IsFileFault : List ℕ → Fault → Type 0
-IsFileFault t fault = ((most_file_bytes < length t) × (fault ≡ TooLong))
-    ⊎ ((length t ≤ most_file_bytes) × IsFaultAfter (read_of t) fault)
+IsFileFault t fault = IsFaultOf 0 t fault
 
 -- the input has no fault
 abbrev pub HasNoFault : List ℕ → Type 0
@@ -62,15 +66,19 @@ HasNoFault t = (fault : Fault) → IsFileFault t fault → ⊥
 
 -- ---- the problem of an input
 
--- a file without a fault: its lines, and the grid of their drawing with its blocks
-pub record HasProblem (t : List ℕ) (p : ProblemParts) : Type 0 where
+-- a file without a fault that is read with so many decimals: its lines, and the grid of their drawing with its blocks
+pub record IsProblemOf (decimals : ℕ) (t : List ℕ) (p : ProblemParts) : Type 0 where
   pub short : length t ≤ most_file_bytes
   pub lines : List Line
-  pub reads : read_of t ≡ Ok lines
+  pub reads : read_of decimals t ≡ Ok lines
   pub shown : IsShown lines
   pub grid : IsGridOf (drawing_of lines) p.grid
   pub blocks : IsBlocksOf p.grid p.blocks
   pub few : p.blocks.count ≤ most_blocks
+
+-- that of an input, which is read without decimals
+abbrev pub HasProblem : List ℕ → ProblemParts → Type 0
+HasProblem t p = IsProblemOf 0 t p
 
 -- ---- the ends of a search
 

@@ -31,7 +31,7 @@ fn find_in(alloc: Global, file: Vec<u8>) -> Result<Found, Memory>
     requires { length file.items ≤ most_file_bytes }
     ensures { IfOk result (IsFoundIn file.items) }
 {
-    match problem_of(alloc, file) {
+    match problem_of(alloc, file, 0) {
         Ok(problem) => Ok(Found::Problem(problem)),
         Err(Refused::Fault(fault)) => Ok(Found::Fault(fault)),
         Err(Refused::Memory) => Err(Memory),

@@ -3,9 +3,9 @@
 //! frame, virtual faces and blocks.
 
 ghost use Rattle.std.specs.Prelude.{◌≤◌, length, IfOk, IsErrOf};
-ghost use Rattle.recon_run.specs.Answers.{IsFileFault, HasProblem};
+ghost use Rattle.recon_run.specs.Answers.{IsFaultOf, IsProblemOf};
 ghost use Rattle.solid_model.specs.declared.fault.Fault.{Fault};
-ghost use Rattle.solid_model.specs.Limits.{most_file_bytes};
+ghost use Rattle.solid_model.specs.Limits.{most_decimals, most_file_bytes};
 
 use blocks::blocks_of;
 use dxf_entities::entities;
@@ -17,15 +17,17 @@ use std::alloc::Global;
 use views::drawing;
 use virtual_faces::faces_of;
 
-/// The grid and the blocks of a file's drawing, or the file's first fault; Memory comes when out of
-/// memory. The file has at most 16,777,216 bytes.
-pub fn problem_of(alloc: Global, file: Vec<u8>) -> Result<Problem, Refused>
-    requires { length file.items ≤ most_file_bytes }
-    ensures problem { IfOk result (λ problem. HasProblem file.items problem) }
+/// The grid and the blocks of a file's drawing, whose coordinates count units of ten to the power of
+/// minus `decimals`, or the file's first fault; Memory comes when out of memory. The file has at most
+/// 16,777,216 bytes, and the decimals are at most 6.
+pub fn problem_of(alloc: Global, file: Vec<u8>, decimals: u8) -> Result<Problem, Refused>
+    requires short { length file.items ≤ most_file_bytes }
+    requires decimals { decimals ≤ most_decimals }
+    ensures problem { IfOk result (λ problem. IsProblemOf decimals file.items problem) }
     ensures fault { (fault : Fault) → IsErrOf result (Refused.Fault fault)
-        → IsFileFault file.items fault }
+        → IsFaultOf decimals file.items fault }
 {
-    let lines = entities(alloc, &mut Groups::new(file))?;
+    let lines = entities(alloc, &mut Groups::new(file), decimals)?;
     let drawing = drawing(alloc, lines.as_slice())?;
     let grid = grid_of(alloc, &drawing)?;
     let wire = wire_of(alloc, &grid)?;

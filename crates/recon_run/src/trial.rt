@@ -55,7 +55,7 @@ pub fn trial<R: Threads + Wait + Sync, G: Gate>(
     ensures { IfOk result (λ text. IsTried n text.items) }
 {
     let file = made_file(alloc, n)?;
-    let problem = match problem_of(alloc, file) {
+    let problem = match problem_of(alloc, file, 0) {
         Ok(problem) => problem,
         Err(Refused::Fault(_)) => unreachable!(),
         Err(Refused::Memory) => return Err(Memory),
