@@ -18,7 +18,7 @@ use Rattle.dxf_entities.specs.declared.place.Place.TheVariants.{Inside}
 use Rattle.dxf_entities.specs.declared.section.Section.TheVariants.{Entities}
 use Rattle.dxf_entities.specs.Entries.{Entry, before_entries, entries_of}
 use Rattle.dxf_entities.specs.declared.shape.Shape.TheVariants as shape
-use Rattle.dxf_entities.specs.Coordinates.{ends_of}
+use Rattle.dxf_entities.specs.Coordinates.{line_ends}
 use Rattle.dxf_entities.specs.Judging.{by_layer, drawn_by, facts_of, judged, style_of}
 use Rattle.dxf_entities.specs.Known.{Known}
 use Rattle.dxf_entities.specs.Names.{kind_of, linetype_of, section_of, view_on}
@@ -108,7 +108,7 @@ straight_test x0 y0 x1 y1 (inr upright) =
 -- the line that it gives, where there is room for one more
 line_judged : (n : ℕ) (lines : List Line) (l : Line) → IsKept l → length lines < most_lines
     → judged (λ v. None) lines (facts_for n l) ≡ Ok (lines ++ numbered n l ∷ [])
-unfolding drawn_by ends_of
+unfolding drawn_by line_ends
 line_judged n lines l is room =
     let fits : 1 ≤ most_lines - length lines = omega arith in
     rw (
