@@ -1,10 +1,10 @@
 -- The parts of the line, one after another.
-use Rattle.std.proofs.Common.{rules, ◌≡◌, List, ℕ, ◌++◌, ◌∷◌, [], ℤ, w64, to_z, of_z, refl, sym, ap, ◌∙◌, append_assoc, codes}
+use Rattle.std.proofs.Common.{rules, ◌≡◌, List, ℕ, ◌++◌, ℤ, w64, to_z, of_z, refl, ap, ◌∙◌, append_assoc, codes}
 use Rattle.std.proofs.lemmas.Int.{to_z-of_z}
 use Rattle.std.specs.List.{flat_map}
 use Rattle.solid_model.specs.Faces.{FaceParts}
 use Rattle.decimal_texts.specs.Decimals.{decimal_text}
-use Rattle.report.specs.Texts.{side_name, loop_text, face_text}
+use Rattle.report.specs.Texts.{side_name, loop_text}
 use Rattle.report.proofs.solid.push_face.Goals as goal
 
 -- six texts, one after another
