@@ -1,7 +1,7 @@
 -- From the end of a search, and what `solve` tells of it, to the solids that are listed.
 use Rattle.std.proofs.Common.{◌≡◌, ℕ, zero, suc, ◌+◌, ◌<◌, ◌≤◌, List, [], ◌∷◌, ◌++◌, Bool, length, take, inl, inr, refl, sym, ap, subst, ◌∙◌, arith}
 use Rattle.columns.proofs.LivePrefixes.{live_keeps_matching}
-use Rattle.recon_run.specs.Answers.{node_count, HasProblem, CanEnd, AreListed, BeginsToList, ListedSolids, ListsSolids, TellsSolids, head_of}
+use Rattle.recon_run.specs.Answers.{node_count, HasProblem, Input, CanEnd, AreListed, BeginsToList, ListedSolids, ListsSolids, TellsSolids, head_of}
 use Rattle.recon_run.specs.Findings.{TellsChoices}
 use Rattle.recon_run.specs.Pages.{Page, ArePagesOf, pages_text}
 use Rattle.recon_run.proofs.Paged.{some_pages}
@@ -31,7 +31,7 @@ use Rattle.face_laws.proofs.SomeFaces.{some_faces}
 use Rattle.solid_model.proofs.SolidsOfChoices.{as_many}
 use Rattle.solid_model.proofs.Volumes.{volume_counts}
 
-module _ (limits : SearchLimits) (t : List ℕ) (p : ProblemParts) (has : HasProblem t p) where
+module _ (limits : SearchLimits) (t : Input) (p : ProblemParts) (has : HasProblem t p) where
   abbrev pub drawing : Segment → Style
   drawing = drawing_of has.lines
 

@@ -7,7 +7,7 @@ use Rattle.recon_run.specs.declared.status.Answer.{Answer}
 use Rattle.recon_run.specs.declared.status.Answer.TheVariants as answers
 use Rattle.recon_run.specs.declared.status.Failure.{Failure}
 use Rattle.recon_run.specs.declared.status.Failure.TheVariants.{ReadFault, WriteFault, Memory}
-use Rattle.recon_run.specs.Answers.{IsFileFault, HasProblem, numbered_answer}
+use Rattle.recon_run.specs.Answers.{Input, IsFileFault, HasProblem, numbered_answer}
 use Rattle.recon_run.specs.Owed.{answer_at}
 use Rattle.recon_run.specs.Searched.{SearchedParts}
 use Rattle.recon_run.specs.Pages.{Page, ArePagesOf, pages_text}
@@ -35,8 +35,8 @@ use Rattle.tv_base.specs.Pieces.{AppendsPrefix}
 
 -- ---- what is found
 
--- what is found in a file: its problem, or its first fault
-abbrev pub IsFoundIn : List ℕ → Found → Type 0
+-- what is found in an input: its problem, or its first fault
+abbrev pub IsFoundIn : Input → Found → Type 0
 IsFoundIn t (Problem p) = HasProblem t p
 IsFoundIn t (Fault fault) = IsFileFault t fault
 

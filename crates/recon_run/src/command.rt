@@ -31,23 +31,24 @@ use words::{Job, WordFault, job_of};
 /// The usage line.
 const USAGE: &str = "usage: recon solve|redraw|make|trial\n";
 
-/// Searches within limits for the solids of the drawing that the source has left, and writes them,
-/// after pages of them or without.
+/// Searches within limits for the solids of the drawing that the source has left, whose coordinates
+/// have so many decimals, and writes them, after pages of them or without.
 fn solve<R: Threads + Wait + Sync, S: Source, K: Sink, G: Gate>(
     alloc: Global,
     limits: Limits,
     pages: bool,
+    decimals: u8,
     source: &mut S,
     sink: &mut K,
     crew: &Crew<'_, R, G>,
 ) -> Status
-    ensures ends { Ends (searched (search_for_all pages limits)) (S.left source.old)
+    ensures ends { Ends (searched (search_for_all pages limits decimals)) (S.left source.old)
         (S.left source.new) (K.held sink.old) (K.held sink.new) (Rose (S.faults source.old) (S.faults source.new))
         (Rose (K.faults sink.old) (K.faults sink.new)) result }
     ensures within { ReadsWithin (S.left source.old) (S.left source.new) (most_file_bytes + 1) }
     ensures unwritten { result ≡ Err ReadFault → sink.new ≡ sink.old }
 {
-    let found = find(alloc, source)?;
+    let found = find(alloc, decimals, source)?;
     write_found(alloc, found, limits, pages, sink, crew)
 }
 
@@ -57,19 +58,20 @@ fn write_one_solid<E: Export, R: Threads + Wait + Sync, S: Source, K: Sink, G: G
     alloc: Global,
     which: u32,
     limits: Limits,
+    decimals: u8,
     source: &mut S,
     sink: &mut K,
     crew: &Crew<'_, R, G>,
 ) -> Status
     requires { 1 ≤ which }
-    ensures ends { Ends (searched (search_for_one E.writes which limits)) (S.left source.old)
+    ensures ends { Ends (searched (search_for_one E.writes which limits decimals)) (S.left source.old)
         (S.left source.new) (K.held sink.old) (K.held sink.new)
         (Rose (S.faults source.old) (S.faults source.new))
         (Rose (K.faults sink.old) (K.faults sink.new)) result }
     ensures within { ReadsWithin (S.left source.old) (S.left source.new) (most_file_bytes + 1) }
     ensures unwritten { result ≡ Err ReadFault → sink.new ≡ sink.old }
 {
-    let found = find(alloc, source)?;
+    let found = find(alloc, decimals, source)?;
     write_found_one::<E, R, K, G>(alloc, found, which, limits, sink, crew)
 }
 
@@ -95,17 +97,21 @@ fn do_job<R: Threads + Wait + Sync, S: Source, K: Sink, G: Gate>(
             workers,
             limits,
             pages,
+            decimals,
         } => {
             let crew = Crew { rt, workers, gate };
-            solve(alloc, limits, pages, source, sink, &crew)
+            solve(alloc, limits, pages, decimals, source, sink, &crew)
         }
         Job::Redraw {
             which,
             workers,
             limits,
+            decimals,
         } => {
             let crew = Crew { rt, workers, gate };
-            write_one_solid::<Drawing, R, S, K, G>(alloc, which, limits, source, sink, &crew)
+            write_one_solid::<Drawing, R, S, K, G>(
+                alloc, which, limits, decimals, source, sink, &crew,
+            )
         }
         Job::Stl {
             which,
@@ -113,7 +119,7 @@ fn do_job<R: Threads + Wait + Sync, S: Source, K: Sink, G: Gate>(
             limits,
         } => {
             let crew = Crew { rt, workers, gate };
-            write_one_solid::<Triangles, R, S, K, G>(alloc, which, limits, source, sink, &crew)
+            write_one_solid::<Triangles, R, S, K, G>(alloc, which, limits, 0, source, sink, &crew)
         }
         Job::Make { n } => write_reply(Answer::Done, made_file(alloc, n)?.as_slice(), sink),
         Job::Trial { n, workers } => {

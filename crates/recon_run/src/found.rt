@@ -26,12 +26,12 @@ pub enum Found {
     Fault(Fault),
 }
 
-/// What is found in a file.
-fn find_in(alloc: Global, file: Vec<u8>) -> Result<Found, Memory>
+/// What is found in a file whose coordinates have so many decimals.
+fn find_in(alloc: Global, file: Vec<u8>, decimals: u8) -> Result<Found, Memory>
     requires { length file.items ≤ most_file_bytes }
-    ensures { IfOk result (IsFoundIn file.items) }
+    ensures { IfOk result (IsFoundIn (record { bytes = file.items; decimals = decimals })) }
 {
-    match problem_of(alloc, file) {
+    match problem_of(alloc, file, decimals) {
         Ok(problem) => Ok(Found::Problem(problem)),
         Err(Refused::Fault(fault)) => Ok(Found::Fault(fault)),
         Err(Refused::Memory) => Err(Memory),
@@ -39,17 +39,18 @@ fn find_in(alloc: Global, file: Vec<u8>) -> Result<Found, Memory>
 }
 
 /// The same for what a source has left.
-pub fn find<S: Source>(alloc: Global, source: &mut S) -> Result<Found, Failure>
+pub fn find<S: Source>(alloc: Global, decimals: u8, source: &mut S) -> Result<Found, Failure>
     ensures later { S.faults source.old ≤ S.faults source.new }
     ensures within { ReadsWithin (S.left source.old) (S.left source.new) (most_file_bytes + 1) }
     ensures found { IfOk result (λ found. IfSome (S.left source.old) (λ t.
-        ReadsAllOrPast t (S.left source.new) × IsFoundIn t found)) }
+        ReadsAllOrPast t (S.left source.new)
+        × IsFoundIn (record { bytes = t; decimals = decimals }) found)) }
     ensures read_fault { IsErrOf result failure.ReadFault
         → Rose (S.faults source.old) (S.faults source.new) }
     ensures no_write_fault { IsErrOf result failure.WriteFault → ⊥ }
 {
     match read_all(alloc, source, MOST_BYTES) {
-        Ok(file) => Ok(find_in(alloc, file)?),
+        Ok(file) => Ok(find_in(alloc, file, decimals)?),
         Err(ReadEnd::TooLong) => Ok(Found::Fault(Fault::TooLong)),
         Err(ReadEnd::Failed) => Err(Failure::ReadFault),
         Err(ReadEnd::Memory) => Err(Failure::Memory),

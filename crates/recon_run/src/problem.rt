@@ -3,7 +3,7 @@
 //! frame, virtual faces and blocks.
 
 ghost use Rattle.std.specs.Prelude.{◌≤◌, length, IfOk, IsErrOf};
-ghost use Rattle.recon_run.specs.Answers.{IsFileFault, HasProblem};
+ghost use Rattle.recon_run.specs.Answers.{HasProblem, Input, IsFileFault};
 ghost use Rattle.solid_model.specs.declared.fault.Fault.{Fault};
 ghost use Rattle.solid_model.specs.Limits.{most_file_bytes};
 
@@ -17,13 +17,14 @@ use std::alloc::Global;
 use views::drawing;
 use virtual_faces::faces_of;
 
-/// The grid and the blocks of a file's drawing, or the file's first fault; Memory comes when out of
-/// memory. The file has at most 16,777,216 bytes.
-pub fn problem_of(alloc: Global, file: Vec<u8>) -> Result<Problem, Refused>
+/// The grid and the blocks of the drawing of a file whose coordinates have so many decimals, or the
+/// file's first fault; Memory comes when out of memory. The file has at most 16,777,216 bytes, and
+/// there are at most 6 decimals.
+pub fn problem_of(alloc: Global, file: Vec<u8>, decimals: u8) -> Result<Problem, Refused>
     requires { length file.items ≤ most_file_bytes }
-    ensures problem { IfOk result (λ problem. HasProblem file.items problem) }
+    ensures problem { IfOk result (λ problem. HasProblem (record { bytes = file.items; decimals = decimals }) problem) }
     ensures fault { (fault : Fault) → IsErrOf result (Refused.Fault fault)
-        → IsFileFault file.items fault }
+        → IsFileFault (record { bytes = file.items; decimals = decimals }) fault }
 {
     let lines = entities(alloc, &mut Groups::new(file))?;
     let drawing = drawing(alloc, lines.as_slice())?;

@@ -23,7 +23,7 @@ lattice 2 2; lattice 2 2; lattice 2 2 -> 180 12 12 12 12 12 12 12 12, FRONT fals
 /// The problem of a row's drawing.
 pub fn problem_in(alloc: Global, row: Row<'_>) -> Result<Problem, Fail> {
     let file = file_bytes(drawing_file(alloc, row.views())?)?;
-    Ok(problem_of(alloc, file)?)
+    Ok(problem_of(alloc, file, 0)?)
 }
 
 /// How many lines touch each block.

@@ -107,7 +107,7 @@ fn solids_of_one_drawing_are_redrawn_alike(rt: HostRuntime) -> Result<(), Fail> 
 /// How many blocks the made drawing of a number has.
 fn made_blocks<R: Runtime>(rt: &R, words: &str) -> Result<u16, Fail> {
     let file = file_bytes(written(rt, words, String::new(rt.alloc()))?)?;
-    Ok(problem_of(rt.alloc(), file)?.blocks().count())
+    Ok(problem_of(rt.alloc(), file, 0)?.blocks().count())
 }
 
 /// The drawing of 7 has two cubes with eight voids, four with one, and eight full ones: 2 times 9, 4

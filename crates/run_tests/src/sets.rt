@@ -133,7 +133,7 @@ fn tells(alloc: Global, problem: &Problem, line: &str, set: u8) -> Result<bool, 
 
 /// Whether a set is listed for its own drawing, with its volume.
 fn is_found<R: Runtime>(rt: &R, set: u8) -> Result<bool, Fail> {
-    let problem = problem_of(rt.alloc(), file_bytes(drawn_file(rt.alloc(), set)?)?)?;
+    let problem = problem_of(rt.alloc(), file_bytes(drawn_file(rt.alloc(), set)?)?, 0)?;
     let wrote = solve(rt, drawn_file(rt.alloc(), set)?)?;
     for line in wrote.as_str().lines().skip(1) {
         if tells(rt.alloc(), &problem, line, moved(set))? {

@@ -23,7 +23,7 @@ lattice 2 2, rect S 6 6 11 11, rect D 7 7 8 8, rect D 9 7 10 8, rect D 7 9 8 10,
 /// The problem of a drawing by its strokes in front, from the top and from the side.
 fn problem(alloc: Global, views: [&str; 3]) -> Result<Arc<Problem>, Fail> {
     let file = file_bytes(drawing_file(alloc, views)?)?;
-    Ok(Arc::new(alloc, problem_of(alloc, file)?)?)
+    Ok(Arc::new(alloc, problem_of(alloc, file, 0)?)?)
 }
 
 /// A number of workers, from 1 to 64.

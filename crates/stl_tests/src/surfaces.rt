@@ -35,7 +35,7 @@ const TOUCHING: [&str; 3] = [
 /// The problem of a drawing.
 pub fn problem_at(alloc: Global, views: [&str; 3]) -> Result<Problem, Fail> {
     let file = file_bytes(drawing_file(alloc, views)?)?;
-    problem_of(alloc, file).map_err(|_| Fail::new("refused"))
+    problem_of(alloc, file, 0).map_err(|_| Fail::new("refused"))
 }
 
 /// The choice in which the blocks are full that a 1 stands for.
