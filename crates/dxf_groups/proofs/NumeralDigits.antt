@@ -11,7 +11,7 @@ use Rattle.std.proofs.lemmas.Bool.{cases_lt, lt-ltb, le-ltb, and_parts, eqb-true
 use Rattle.std.proofs.lemmas.List.{drop_more, length-append}
 use Rattle.std.proofs.lemmas.Bool.Decides.{nat_tests}
 use Rattle.std.proofs.lemmas.Str.Parse.{digit_at, digit_from_value}
-use Rattle.dxf_groups.specs.NumeralParts.{capped}
+use Rattle.dxf_groups.specs.NumeralParts.{capped, IsKeptShift}
 use Rattle.dxf_groups.specs.Numerals.{leading_digits, past_digits}
 
 -- ---- a digit
@@ -225,18 +225,18 @@ capped_zeros n zeros some many =
     omega arith
 
 -- a number times ten to a power that is kept, less a part of it
-pub capped_power : (n power places : ℕ) → places < 2 ^ 63
-    → capped (n * 10 ^ (capped power - places)) ≡ capped (n * 10 ^ (power - places))
-capped_power zero power places few = omega arith
-capped_power (suc n) power places few =
-    elim (cases_lt power (2 ^ 64)) as (λ _.
-    capped (suc n * 10 ^ (capped power - places)) ≡ capped (suc n * 10 ^ (power - places))) [
+pub capped_power : (n by power places : ℕ) → IsKeptShift by power → places < 2 ^ 63
+    → capped (n * 10 ^ (by - places)) ≡ capped (n * 10 ^ (power - places))
+capped_power zero by power places kept few = omega arith
+capped_power (suc n) by power places kept few =
+    elim (cases_lt power (2 ^ 64 - 8)) as (λ _.
+    capped (suc n * 10 ^ (by - places)) ≡ capped (suc n * 10 ^ (power - places))) [
       | inl small ↦ (
-          let same : capped power ≡ power = omega arith in
+          let same : by ≡ power = omega arith in
           ap (λ e. capped (suc n * 10 ^ (e - places))) same
           )
       | inr large ↦
-          sym (capped_zeros (suc n) (capped power - places) (λ none. omega arith) (omega arith))
+          sym (capped_zeros (suc n) (by - places) (λ none. omega arith) (omega arith))
           ∙ capped_zeros (suc n) (power - places) (λ none. omega arith) (omega arith)
     ]
 

@@ -8,8 +8,8 @@ use Rattle.std.proofs.lemmas.Int.{ints}
 use Rattle.std.proofs.lemmas.Int.Digits.{digits_value-lt}
 use Rattle.std.proofs.lemmas.List.{length-append, nil_from_length}
 use Rattle.std.proofs.lemmas.Nat.{div-mul-add, mod-mul-add}
-use Rattle.dxf_groups.specs.NumeralParts.{capped}
-use Rattle.dxf_groups.specs.Numerals.{scaled, magnitude_of, with_sign}
+use Rattle.dxf_groups.specs.NumeralParts.{capped, IsKeptShift}
+use Rattle.dxf_groups.specs.Numerals.{times_power, magnitude_of, with_sign}
 use Rattle.dxf_groups.proofs.NumeralDigits.{capped_after, capped_power, capped_times, digits_append, digits_parts, value_append, value_parts}
 
 -- a number divided by ten to a power, where that is whole
@@ -17,12 +17,12 @@ abbrev pub divided : ℕ → ℕ → Option ℕ
 divided m q = cond (m % 10 ^ q == 0) (Some (m / 10 ^ q)) None
 
 -- a power of ten that isn't above 0 divides
-scaled_down : (m : ℕ) (z : ℤ) (q : ℕ) → z ≡ neg_ℤ (pos q) → scaled m z ≡ divided m q
-scaled_down m z zero is =
+power_down : (m : ℕ) (z : ℤ) (q : ℕ) → z ≡ neg_ℤ (pos q) → times_power m z ≡ divided m q
+power_down m z zero is =
     let rest : m % 1 ≡ 0 = omega arith in
     let whole : m / 1 ≡ m * 1 = omega arith in
     rw (is, rest, whole) refl
-scaled_down m z (suc q) is = rw (is, add-one) refl
+power_down m z (suc q) is = rw (is, add-one) refl
 
 -- what is divided is a multiple and a rest: it is whole where there's no rest
 divided_rest : (w f q : ℕ) → f < 10 ^ q → divided (w * 10 ^ q + f) q ≡ cond (f == 0) (Some w) None
@@ -58,7 +58,7 @@ magnitude_left ds es after n digits places fits =
       | inl same ↦ inl (omega (arith, length-append es after))
       | inr few ↦ inr (few.0, omega (arith, few.1, length-append es after))
     ] in
-    scaled_down (digits_value 10 ((ds ++ es) ++ after)) (neg_ℤ (pos n) -ℤ pos (length after)) q
+    power_down (digits_value 10 ((ds ++ es) ++ after)) (neg_ℤ (pos n) -ℤ pos (length after)) q
     power
     ∙
     (ap (λ xs. divided (digits_value 10 xs) q) (append_assoc ds es after)
@@ -71,7 +71,7 @@ right_inside : (before ds es : List ℕ) (n : ℕ) → AllDigits 10 es → lengt
 right_inside before ds es n digits rest =
     let q = length es in
     let power : (pos n -ℤ pos (length (ds ++ es))) ≡ neg_ℤ (pos q) = omega (arith, ints) in
-    scaled_down (digits_value 10 (before ++ (ds ++ es))) (pos n -ℤ pos (length (ds ++ es))) q power
+    power_down (digits_value 10 (before ++ (ds ++ es))) (pos n -ℤ pos (length (ds ++ es))) q power
     ∙
     (ap (λ xs. divided (digits_value 10 xs) q) (sym (append_assoc before ds es))
     ∙ digits_divided (before ++ ds) es q digits (inl refl))
@@ -82,7 +82,7 @@ right_past : (before ds : List ℕ) (n : ℕ) → length ds ≤ n
     ≡ Some (digits_value 10 (before ++ ds) * 10 ^ (n - length ds))
 right_past before ds n past =
     let power : (pos n -ℤ pos (length ds)) ≡ pos (n - length ds) = omega (arith, ints) in
-    ap (scaled (digits_value 10 (before ++ ds))) power
+    ap (times_power (digits_value 10 (before ++ ds))) power
 
 -- the point moved to the right: zeros fill the places past the digits
 magnitude_right : (before ds es : List ℕ) (n : ℕ) → AllDigits 10 es
@@ -105,7 +105,7 @@ magnitude_right before ds (e ∷ es) n digits rest =
 
 -- the point moved to the left parts the digits before it in those that stay and those that pass it
 module _ (before after whole rest : List ℕ) (by n : ℕ) (split : before ≡ whole ++ rest)
-    (stay : length whole ≡ length before - by) (kept : by ≡ capped n) (few : length before < 2 ^ 63)
+    (stay : length whole ≡ length before - by) (kept : IsKeptShift by n) (few : length before < 2 ^ 63)
     (digits : AllDigits 10 before) (places : AllDigits 10 after) where
   -- the magnitude is that of those that stay, where all others are 0
   left_split : magnitude_of before after (with_sign true n)
@@ -145,7 +145,7 @@ module _ (before after whole rest : List ℕ) (by n : ℕ) (split : before ≡ w
 
 -- and to the right it parts the digits after it
 module _ (before after whole rest : List ℕ) (by n : ℕ) (split : after ≡ whole ++ rest)
-    (pass : length whole ≡ min (length after) by) (kept : by ≡ capped n)
+    (pass : length whole ≡ min (length after) by) (kept : IsKeptShift by n)
     (few : length after < 2 ^ 63) (places : AllDigits 10 after) where
   -- the magnitude is that of the digits before it and those that it passes, and of zeros, where the
   -- others are 0
@@ -180,8 +180,7 @@ module _ (before after whole rest : List ℕ) (by n : ℕ) (split : after ≡ wh
       ap (λ m. capped (m * 10 ^ zeros)) read
       ∙ capped_times value (10 ^ zeros) (one-le-pow zeros 10 (omega arith)) in
       let power : capped (value * 10 ^ zeros) ≡ capped (value * 10 ^ (n - length after)) =
-      ap (λ e. capped (value * 10 ^ (e - length after))) kept
-      ∙ capped_power value n (length after) few in
+      capped_power value by n (length after) kept few in
       rw (right_split, none) (ap Some (is_magnitude ∙ (times ∙ power)))
 
   -- and is not whole where they aren't

@@ -7,6 +7,11 @@ use Rattle.dxf_groups.specs.Numerals.{with_sign}
 abbrev pub capped : ℕ → ℕ
 capped n = min n (2 ^ 64 - 1)
 
+-- By so many places a point is moved, as they are kept: up to a number that is greater than that of the
+-- bytes of a text they are the same.
+abbrev pub IsKeptShift : ℕ → ℕ → Type 0
+IsKeptShift kept n = min kept (2 ^ 64 - 8) ≡ min n (2 ^ 64 - 8)
+
 -- an exponent as it is kept: by its sign and its absolute value
 pub record IsKeptExponent (e : ℤ) (kept : Exponent) : Type 0 where
   pub magnitude : ℕ

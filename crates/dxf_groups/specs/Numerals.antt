@@ -1,5 +1,5 @@
 -- Numerals, and the whole numbers that they stand for.
-use Rattle.std.specs.Prelude.{◌≡◌, ◌≢◌, ◌⊎◌, ℕ, ◌+◌, ◌*◌, ◌/◌, ◌%◌, ◌^◌, ◌==◌, ◌||◌, Bool, true, false, cond, List, [], ◌∷◌, ◌++◌, length, ℤ, pos, negsuc, neg_ℤ, ◌-ℤ◌, nat_le, Option, Some, None, Result, Ok, Err, codes}
+use Rattle.std.specs.Prelude.{◌≡◌, ◌≢◌, ◌⊎◌, ℕ, ◌+◌, ◌*◌, ◌/◌, ◌%◌, ◌^◌, ◌==◌, ◌||◌, Bool, true, false, cond, List, [], ◌∷◌, ◌++◌, length, ℤ, pos, negsuc, neg_ℤ, ◌+ℤ◌, ◌-ℤ◌, nat_le, Option, Some, None, Result, Ok, Err, codes}
 use Rattle.std.specs.Char.{is_digit}
 use Rattle.std.specs.Str.Parse.{AllDigits, digits_value, starts_with_minus, without_leading_sign}
 use Rattle.solid_model.specs.Limits.{farthest_on_sheet}
@@ -112,15 +112,16 @@ numeral_of text = let unsigned = without_leading_sign text in let rest = past_di
 -- ---- what it stands for
 
 -- m times ten to a power, where that is whole
-abbrev pub scaled : ℕ → ℤ → Option ℕ
-scaled m (pos e) = Some (m * 10 ^ e)
-scaled m (negsuc e) = let power = 10 ^ (e + 1) in cond (m % power == 0) (Some (m / power)) None
+abbrev pub times_power : ℕ → ℤ → Option ℕ
+times_power m (pos e) = Some (m * 10 ^ e)
+times_power m (negsuc e) =
+    let divisor = 10 ^ (e + 1) in cond (m % divisor == 0) (Some (m / divisor)) None
 
 -- the magnitude of digits before and after a point with an exponent, where that is whole: the digits,
 -- as one whole number, times ten to the exponent less the number of places
 abbrev pub magnitude_of : List ℕ → List ℕ → ℤ → Option ℕ
 magnitude_of before after exponent =
-    scaled (digits_value 10 (before ++ after)) (exponent -ℤ pos (length after))
+    times_power (digits_value 10 (before ++ after)) (exponent -ℤ pos (length after))
 
 -- the whole number of a sign and a magnitude, where that is at most 1,000,000,000
 abbrev pub within_reach : Bool → Option ℕ → Result ℤ NumeralFault
@@ -128,15 +129,21 @@ within_reach negative None = Err NotWhole
 within_reach negative (Some m) =
     cond (nat_le m farthest_on_sheet) (Ok (with_sign negative m)) (Err TooFar)
 
--- the value of a numeral
-abbrev pub numeral_value : Numeral → Result ℤ NumeralFault
-numeral_value n = within_reach n.negative (magnitude_of n.before n.after n.exponent)
+-- the value of a numeral that is read with so many decimals: they make its exponent greater by as
+-- many, so that it counts units of ten to the power of minus their number
+abbrev pub numeral_value : ℕ → Numeral → Result ℤ NumeralFault
+numeral_value decimals n =
+    within_reach n.negative (magnitude_of n.before n.after (n.exponent +ℤ pos decimals))
 
 -- the value of what may be a numeral
-abbrev pub value_or_fault : Option Numeral → Result ℤ NumeralFault
-value_or_fault None = Err BadNumber
-value_or_fault (Some n) = numeral_value n
+abbrev pub value_or_fault : ℕ → Option Numeral → Result ℤ NumeralFault
+value_or_fault decimals None = Err BadNumber
+value_or_fault decimals (Some n) = numeral_value decimals n
 
--- the whole number that a text stands for
-unfoldable pub whole_of : List ℕ → Result ℤ NumeralFault
-whole_of text = value_or_fault (numeral_of text)
+-- the whole number that a text stands for that is read with so many decimals
+unfoldable pub scaled_of : ℕ → List ℕ → Result ℤ NumeralFault
+scaled_of decimals text = value_or_fault decimals (numeral_of text)
+
+-- the whole number that a text stands for without decimals
+abbrev pub whole_of : List ℕ → Result ℤ NumeralFault
+whole_of text = scaled_of 0 text

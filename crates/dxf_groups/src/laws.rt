@@ -4,7 +4,7 @@ ghost use Rattle.std.specs.Prelude.{◌≡◌, ◌++◌, List, [], ◌∷◌, �
 ghost use Rattle.solid_model.specs.declared.fault.Fault.TheVariants.{BadCode, Binary, NoEof, NoValue};
 ghost use Rattle.solid_model.specs.Lists.{Each};
 ghost use Rattle.dxf_groups.specs.declared.numerals.NumeralFault.TheVariants as numeral;
-ghost use Rattle.dxf_groups.specs.Numerals.{IsNumeral, Numeral, numeral_of, whole_of};
+ghost use Rattle.dxf_groups.specs.Numerals.{IsNumeral, Numeral, numeral_of, scaled_of, whole_of};
 ghost use Rattle.dxf_groups.specs.Pairs.{ended, pairs_of, utf8_mark, with_pair};
 ghost use Rattle.dxf_groups.specs.SmallTexts.{pair_on, pairs_of_marked};
 
@@ -53,7 +53,7 @@ pub fn small_texts()
 {}
 
 /// What some texts stand for as numerals.
-#[tactic(auto, unfolding(crate::specs::Numerals::numeral_of, crate::specs::Numerals::whole_of))]
+#[tactic(auto, unfolding(crate::specs::Numerals::numeral_of, crate::specs::Numerals::scaled_of))]
 pub fn small_numerals()
     ensures ten { Each (λ text. whole_of text ≡ Ok (pos 10))
         (codes "10" ∷ codes "+10" ∷ codes "10." ∷ codes "1.0E+01" ∷ codes "1000e-2"
@@ -73,6 +73,28 @@ pub fn small_numerals()
     ensures bad_number { Each (λ text. whole_of text ≡ Err numeral.BadNumber)
         (codes "" ∷ codes "." ∷ codes "+" ∷ codes "1E" ∷ codes "1e+" ∷ codes "E5" ∷ codes "1.2.3"
         ∷ codes "1,0" ∷ codes " 1" ∷ codes "+-1" ∷ []) }
+{}
+
+/// What some texts stand for that are read with decimals. A point that the exponent and the
+/// decimals move past all digits leaves a whole number; one that stops before a digit other than 0
+/// doesn't.
+#[tactic(auto, unfolding(crate::specs::Numerals::numeral_of, crate::specs::Numerals::scaled_of))]
+pub fn small_decimals()
+    ensures three { Each (λ text. scaled_of 3 text ≡ Ok (pos 12500))
+        (codes "12.5" ∷ codes "12.500000" ∷ codes "1.25E+01" ∷ codes "12500e-3" ∷ codes "12500000E-6"
+        ∷ codes ".125e2" ∷ []) }
+    ensures one { scaled_of 1 (codes "0.5") ≡ Ok (pos 5) }
+    ensures six { scaled_of 6 (codes "-1e-6") ≡ Ok (neg_ℤ (pos 1)) }
+    ensures more_than_digits { scaled_of 6 (codes "7.25E-2") ≡ Ok (pos 72500) }
+    ensures zero { Each (λ text. scaled_of 3 text ≡ Ok (pos 0))
+        (codes "-0.0" ∷ codes "0e-99999999999999999999" ∷ codes "0.000E99999999999999999999" ∷ []) }
+    ensures farthest { scaled_of 3 (codes "-1000000.000") ≡ Ok (neg_ℤ (pos 1000000000)) }
+    ensures not_whole { Each (λ text. scaled_of 3 text ≡ Err numeral.NotWhole)
+        (codes "12.0005" ∷ codes "5e-4" ∷ codes "1E-400" ∷ codes "1000000.0005" ∷ []) }
+    ensures too_far { Each (λ text. scaled_of 3 text ≡ Err numeral.TooFar)
+        (codes "1000000.001" ∷ codes "-1000001" ∷ codes "1E400" ∷ []) }
+    ensures bad_number { Each (λ text. scaled_of 3 text ≡ Err numeral.BadNumber)
+        (codes "" ∷ codes "1,5" ∷ codes "1.5mm" ∷ []) }
 {}
 
 /// A text is read as a numeral just where the grammar of numerals spells it so. So each text has

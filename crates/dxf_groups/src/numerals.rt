@@ -1,10 +1,11 @@
 //! Numerals, and the whole numbers that they stand for.
 
-ghost use Rattle.std.specs.Prelude.{◌≡◌, ◌↔◌, IfOk, ℕ, ◌*◌, ◌^◌, ℤ, Option, option_map, true, false, IsTrue};
+ghost use Rattle.std.specs.Prelude.{◌≡◌, ◌↔◌, ◌≤◌, IfOk, ℕ, ◌*◌, ◌^◌, ℤ, pos, ◌+ℤ◌, Option, option_map, true, false, IsTrue};
 ghost use Rattle.std.specs.Str.Parse.{AllDigits, digits_value, digits_value_after, starts_with_minus, without_leading_sign};
+ghost use Rattle.solid_model.specs.Limits.{most_decimals};
 ghost use Rattle.solid_model.specs.Line.{IsNear};
-ghost use Rattle.dxf_groups.specs.Numerals.{exponent_of, leading_digits, leading_places, magnitude_of, marked_exponent, past_digits, past_places, whole_of, with_sign, within_reach};
-ghost use Rattle.dxf_groups.specs.NumeralParts.{capped, IsKeptExponent, IsExponent};
+ghost use Rattle.dxf_groups.specs.Numerals.{exponent_of, leading_digits, leading_places, magnitude_of, marked_exponent, past_digits, past_places, scaled_of, whole_of, with_sign, within_reach};
+ghost use Rattle.dxf_groups.specs.NumeralParts.{capped, IsKeptExponent, IsKeptShift, IsExponent};
 
 use thiserror::Error;
 
@@ -144,7 +145,7 @@ fn with_zeros(number: u64, zeros: usize) -> u64
 fn moved_left(before: &[u8], after: &[u8], by: usize) -> Option<u64>
     requires before { AllDigits 10 before.now }
     requires after { AllDigits 10 after.now }
-    ensures { (n : ℕ) → by ≡ capped n
+    ensures { (n : ℕ) → IsKeptShift by n
         → result ≡ option_map capped (magnitude_of before.now after.now (with_sign true n)) }
 {
     let (whole, rest) = before.split_at(before.len().saturating_sub(by));
@@ -160,7 +161,7 @@ fn moved_left(before: &[u8], after: &[u8], by: usize) -> Option<u64>
 fn moved_right(before: &[u8], after: &[u8], by: usize) -> Option<u64>
     requires before { AllDigits 10 before.now }
     requires after { AllDigits 10 after.now }
-    ensures { (n : ℕ) → by ≡ capped n
+    ensures { (n : ℕ) → IsKeptShift by n
         → result ≡ option_map capped (magnitude_of before.now after.now (with_sign false n)) }
 {
     let (whole, rest) = after.split_at(after.len().min(by));
@@ -172,18 +173,22 @@ fn moved_right(before: &[u8], after: &[u8], by: usize) -> Option<u64>
     }
 }
 
-/// The absolute value of a numeral with these digits and this exponent, where it is whole. One that
-/// is too large counts as the greatest.
-fn magnitude(before: &[u8], after: &[u8], exponent: Exponent) -> Option<u64>
+/// The absolute value of a numeral with these digits and this exponent that is read with so many
+/// decimals, where it is whole. One that is too large counts as the greatest.
+fn magnitude(before: &[u8], after: &[u8], exponent: Exponent, decimals: u8) -> Option<u64>
     requires before { AllDigits 10 before.now }
     requires after { AllDigits 10 after.now }
+    requires decimals { decimals ≤ most_decimals }
     ensures { (e : ℤ) → IsKeptExponent e exponent
-        → result ≡ option_map capped (magnitude_of before.now after.now e) }
+        → result ≡ option_map capped (magnitude_of before.now after.now (e +ℤ pos decimals)) }
 {
-    if exponent.negative {
-        moved_left(before, after, exponent.magnitude)
+    let decimals = usize::from(decimals);
+    if !exponent.negative {
+        moved_right(before, after, exponent.magnitude.saturating_add(decimals))
+    } else if exponent.magnitude > decimals {
+        moved_left(before, after, exponent.magnitude - decimals)
     } else {
-        moved_right(before, after, exponent.magnitude)
+        moved_right(before, after, decimals - exponent.magnitude)
     }
 }
 
@@ -201,15 +206,17 @@ fn within_reach(negative: bool, magnitude: Option<u64>) -> Result<i64, NumeralFa
     }
 }
 
-/// The whole number that a text stands for. A numeral is an optional `+` or `-`, then digits with
-/// at most one point among, before or after them, at least one digit in all, then optionally `E` or
-/// `e`, an optional sign and at least one digit. Its value is exact, however many digits it has:
-/// the digits as a whole number, times ten to the power of the exponent, divided by ten for each
+/// The whole number that a text stands for in units of ten to the power of minus `decimals`, which
+/// are at most 6. A numeral is an optional `+` or `-`, then digits with at most one point among,
+/// before or after them, at least one digit in all, then optionally `E` or `e`, an optional sign
+/// and at least one digit. Its value is exact, however many digits it has: the digits as a whole
+/// number, times ten to the power of the exponent and `decimals` together, divided by ten for each
 /// digit after the point. `BadNumber` comes where the text is no numeral, else `NotWhole` where its
 /// value isn't whole, else `TooFar` where its absolute value is above 1,000,000,000. It takes no
 /// memory, and looks at each byte no more than four times.
-pub fn whole(text: &[u8]) -> Result<i64, NumeralFault>
-    ensures value { result ≡ whole_of text.now }
+pub fn scaled(text: &[u8], decimals: u8) -> Result<i64, NumeralFault>
+    requires { decimals ≤ most_decimals }
+    ensures value { result ≡ scaled_of decimals text.now }
     ensures near { IfOk result IsNear }
 {
     let (negative, rest) = split_sign(text);
@@ -221,5 +228,13 @@ pub fn whole(text: &[u8]) -> Result<i64, NumeralFault>
     if before.is_empty() && after.is_empty() {
         return Err(NumeralFault::BadNumber);
     }
-    within_reach(negative, magnitude(before, after, exponent))
+    within_reach(negative, magnitude(before, after, exponent, decimals))
+}
+
+/// The whole number that a text stands for without decimals: `scaled` with 0 of them.
+pub fn whole(text: &[u8]) -> Result<i64, NumeralFault>
+    ensures value { result ≡ whole_of text.now }
+    ensures near { IfOk result IsNear }
+{
+    scaled(text, 0)
 }

@@ -17,6 +17,10 @@ most_lines = 100000
 abbrev pub farthest_on_sheet : ℕ
 farthest_on_sheet = 1000000000
 
+-- the most decimals with which coordinates are read and written
+abbrev pub most_decimals : ℕ
+most_decimals = 6
+
 -- the greatest coordinate of a drawing whose views begin at 0
 abbrev pub farthest_in_view : ℤ
 farthest_in_view = pos 2000000000
