@@ -58,15 +58,15 @@ same_behind true choices others pages more same are are_too rest last ends text 
 )
 
 -- solids are told by one text
-one_telling : (number : ℕ) (choices : List (List Bool)) (solids : List (List Cell)) (text other : List ℕ)
-    → TellsSolids number choices solids text → TellsSolids number choices solids other → text ≡ other
-one_telling number [] [] text other first second = first ∙ sym second
-one_telling number [] (s ∷ solids) text other first second = absurd first
-one_telling number (choice ∷ choices) [] text other first second = absurd first
-one_telling number (choice ∷ choices) (s ∷ solids) text other (faces, are, rest, tells, is) (others, are_too, more, tells_too, is_too) =
+one_telling : (decimals number : ℕ) (choices : List (List Bool)) (solids : List (List Cell)) (text other : List ℕ)
+    → TellsSolids decimals number choices solids text → TellsSolids decimals number choices solids other → text ≡ other
+one_telling decimals number [] [] text other first second = first ∙ sym second
+one_telling decimals number [] (s ∷ solids) text other first second = absurd first
+one_telling decimals number (choice ∷ choices) [] text other first second = absurd first
+one_telling decimals number (choice ∷ choices) (s ∷ solids) text other (faces, are, rest, tells, is) (others, are_too, more, tells_too, is_too) =
     let same = one_list_of_faces (is_full s) faces others are are_too in
-    let ends = one_telling (number + 1) choices solids rest more tells tells_too in
-    is ∙ (λ i. solid_text number choice (length s) (same i) ++ ends i) ∙ sym is_too
+    let ends = one_telling decimals (number + 1) choices solids rest more tells tells_too in
+    is ∙ (λ i. solid_text decimals number choice (length s) (same i) ++ ends i) ∙ sym is_too
 
 -- an input has at most one text that lists all its solids
 one_listing : (paged : Bool) (limits : SearchLimits) (decimals : ℕ) → TellsOne paged (search_for_all paged limits decimals)
@@ -80,9 +80,9 @@ one_listing paged limits decimals t c d text other (first, pages, are, texts, te
     λ i. AreSolidsOfChoices (coordinates_of (one.problem i).grid) (one.problem i).blocks.numbers (one.problem i).blocks.count first.choices (solids i) in
     let choices = one_list_of_block_choices q.grid (λ a. (second.has.grid.coordinates a).ordered) q.blocks.numbers q.blocks.count second.has.blocks.blocks
     first.choices second.choices second.solids (transport filled first.filled) second.filled in
-    let tells_same : TellsSolids 1 first.choices first.solids texts ≡ TellsSolids 1 second.choices second.solids texts =
-    λ i. TellsSolids 1 (choices i) (solids i) texts in
-    let same = one_telling 1 second.choices second.solids texts others (transport tells_same tells) tells_too in
+    let tells_same : TellsSolids t.decimals 1 first.choices first.solids texts ≡ TellsSolids t.decimals 1 second.choices second.solids texts =
+    λ i. TellsSolids t.decimals 1 (choices i) (solids i) texts in
+    let same = one_telling t.decimals 1 second.choices second.solids texts others (transport tells_same tells) tells_too in
     same_behind paged first.choices second.choices pages more choices are are_too (head_of c ++ texts) (head_of d ++ others)
     (λ i. one_head limits t c d i ++ same i) text other told told_too
 
@@ -105,8 +105,8 @@ one_numbered writes one which limits decimals t c d text other = by
     by (inr (fewer, told)) (inr (fewer_too, told_too)) = told ∙ ap (no_solid_text which) (one_count limits t Whole Whole c d) ∙ sym told_too
 
 -- a number has one file
-pub one_made_file : (n : ℕ) (text other : List ℕ) → IsFileOf (made_solid n) text → IsFileOf (made_solid n) other → text ≡ other
-one_made_file n text other = one_file (made_solid n) (made_solid n) (λ g. refl) text other
+pub one_made_file : (n : ℕ) (text other : List ℕ) → IsFileOf 0 (made_solid n) text → IsFileOf 0 (made_solid n) other → text ≡ other
+one_made_file n text other = one_file 0 (made_solid n) (made_solid n) (λ g. refl) text other
 
 -- and its drawing one line of figures
 one_figures : (n : ℕ) (text other : List ℕ) → IsTried n text → IsTried n other → text ≡ other
@@ -124,7 +124,7 @@ OwesOne paged (alone right tells) = (text other : List ℕ) → tells text → t
 
 one_owed : (said : Option Job) → OwesOne (asks_pages said) (owed said)
 one_owed (Some (job.Solve workers limits pages decimals)) = one_listing pages limits decimals
-one_owed (Some (job.Redraw which workers limits decimals)) = one_numbered IsFileOf (λ s. one_file s s (λ g. refl)) which limits decimals
+one_owed (Some (job.Redraw which workers limits decimals)) = one_numbered (IsFileOf decimals) (λ s. one_file decimals s s (λ g. refl)) which limits decimals
 one_owed (Some (job.Stl which workers limits)) = one_numbered IsSolidStl one_text which limits 0
 one_owed (Some (job.Make n)) = one_made_file n
 one_owed (Some (job.Trial n workers)) = one_figures n

@@ -90,4 +90,4 @@ module _ (limits : SearchLimits) (t : Input) (p : ProblemParts) (has : HasProble
 pub one_told : (writes : List Cell → List ℕ → Type 0) (which : ℕ) (limits : SearchLimits) (decimals : ℕ) → 1 ≤ which
     → TellsRightly (search_for_one writes which limits decimals) (TellsOne writes limits which)
 one_told writes which limits decimals some t s (has, ends) text told =
-    one_told_at limits t s.problem has writes which decimals some s.ended.kind s.ended.opened s.ended.solids ends text told
+    one_told_at limits (record { bytes = t; decimals = decimals }) s.problem has writes which decimals some s.ended.kind s.ended.opened s.ended.solids ends text told

@@ -26,21 +26,24 @@ IsSearched limits t s = HasProblem t s.problem × EndsSearch (is_live s.problem)
 
 -- texts that are told of a search of an input go with its end
 abbrev pub TellsRightly : Search → (SearchedParts → List ℕ → Type 0) → Type 0
-TellsRightly s tells = (t : Input) (found : SearchedParts) → IsSearched s.limits t found → (text : List ℕ) → tells found text
-    → (c : CanEnd s.limits t found.ended.kind) × s.tells t found.ended.kind c text
+TellsRightly s tells = (t : List ℕ) (found : SearchedParts) → IsSearched s.limits (input_of s t) found → (text : List ℕ) → tells found text
+    → (c : CanEnd s.limits (input_of s t) found.ended.kind) × s.tells (input_of s t) found.ended.kind c text
 
 -- so do those that `solve` writes,
-pub all_told : (paged : Bool) (limits : SearchLimits) (decimals : ℕ) → TellsRightly (search_for_all paged limits decimals) (TellsPaged paged limits)
-all_told paged limits decimals t s (has, ends) text (before, (pages, are, told), rest, (texts, tells, is), both) =
+pub all_told : (paged : Bool) (limits : SearchLimits) (decimals : ℕ) → TellsRightly (search_for_all paged limits decimals) (TellsPaged paged limits decimals)
+all_told paged limits decimals bytes s (has, ends) text (before, (pages, are, told), rest, (texts, tells, is), both) =
+    let t = record { bytes = bytes; decimals = decimals } in
     subst (λ text. (c : CanEnd limits t s.ended.kind) × ListsSolids paged limits t s.ended.kind c text) (sym (both ∙ ap₂ ◌++◌ told is))
     (solved limits t s.problem has paged s.ended.kind s.ended.opened s.ended.solids ends pages are texts tells)
 
 -- and those that it begins
-pub first_told : (paged : Bool) (limits : SearchLimits) (decimals : ℕ) → TellsRightly (beginning (search_for_all paged limits decimals)) (BeginsPaged paged limits)
-first_told paged limits decimals t s (has, ends) text (inl (pages, are, first, told)) =
+pub first_told : (paged : Bool) (limits : SearchLimits) (decimals : ℕ) → TellsRightly (beginning (search_for_all paged limits decimals)) (BeginsPaged paged limits decimals)
+first_told paged limits decimals bytes s (has, ends) text (inl (pages, are, first, told)) =
+    let t = record { bytes = bytes; decimals = decimals } in
     subst (λ text. (c : CanEnd limits t s.ended.kind) × BeginsToList paged limits t s.ended.kind c text) (sym told)
     (pages_begun limits t s.problem has paged s.ended.kind s.ended.opened s.ended.solids ends pages are first)
-first_told paged limits decimals t s (has, ends) text (inr (before, (pages, are, told), rest, (texts, (first, tells), is), both)) =
+first_told paged limits decimals bytes s (has, ends) text (inr (before, (pages, are, told), rest, (texts, (first, tells), is), both)) =
+    let t = record { bytes = bytes; decimals = decimals } in
     subst (λ text. (c : CanEnd limits t s.ended.kind) × BeginsToList paged limits t s.ended.kind c text) (sym (both ∙ ap₂ ◌++◌ told is))
     (begun limits t s.problem has paged s.ended.kind s.ended.opened s.ended.solids ends pages are first texts tells)
 
@@ -69,11 +72,12 @@ searched_input limits t p has s (same, ends) = (
 )
 
 module _ (s : Search) (tells : SearchedParts → List ℕ → Type 0) (right : TellsRightly s tells) (answer : Answer) (text : List ℕ) where
-  found_input : (t : Input) (found : Found) → IsFoundIn t found → AnswersFound s.limits s.whole tells found answer text → AnswersInput s t answer text
+  found_input : (t : List ℕ) (found : Found) → IsFoundIn (input_of s t) found → AnswersFound s.limits s.whole tells found answer text
+      → AnswersInput s (input_of s t) answer text
   found_input t (Problem p) has (of, is_of, is, told) =
-      let searched = searched_input s.limits t p has of is_of in
+      let searched = searched_input s.limits (input_of s t) p has of is_of in
       let (c, rightly) = right t of searched text told in
-      inr (of.ended.kind, c, is ∙ answer_of s t of.problem searched.0 of.ended.kind of.ended.opened of.ended.solids searched.1 c, rightly)
+      inr (of.ended.kind, c, is ∙ answer_of s (input_of s t) of.problem searched.0 of.ended.kind of.ended.opened of.ended.solids searched.1 c, rightly)
   found_input t (Fault fault) found (is, told) = inl (is, (fault, found, told))
 
   found_answer : (found : Found) → AnswersFound s.limits s.whole tells found answer text → IsAnswerOf s answer
@@ -84,4 +88,4 @@ module _ (s : Search) (tells : SearchedParts → List ℕ → Type 0) (right : T
   pub found_owed : (left rest : Option (List ℕ)) (found : Found) → IsFound s.decimals left rest found
       → AnswersFound s.limits s.whole tells found answer text → AnswersOwed (searched s) left rest answer text
   found_owed None rest found is told = (found_answer found told, tt)
-  found_owed (Some t) rest found is told = (found_answer found told, (is.0, found_input (input_of s t) found is.1 told))
+  found_owed (Some t) rest found is told = (found_answer found told, (is.0, found_input t found is.1 told))

@@ -28,7 +28,7 @@ use Rattle.solid_model.specs.Panels.{coordinates_of, IsGridOf}
 use Rattle.solid_model.specs.SearchEnds.{EndsAs}
 use Rattle.solid_model.specs.Search.{default_limits}
 
-module _ (n : ℕ) (t : List ℕ) (file : IsFileOf (made_solid n) t) where
+module _ (n : ℕ) (t : List ℕ) (file : IsFileOf 0 (made_solid n) t) where
   -- the lines that are read draw the made drawing
   drawn : (lines : List Line) → read_of t ≡ Ok lines → drawing_of lines ≡ made_drawing n
   drawn lines reads =

@@ -131,26 +131,27 @@ pub record ListedSolids (limits : SearchLimits) (t : Input) (kind : EndKind) : T
   pub choices : List (List Bool)
   pub filled : AreSolidsOfChoices (coordinates_of problem.grid) problem.blocks.numbers problem.blocks.count choices solids
 
--- The texts of solids, numbered from this number on: each tells the choice that fills the solid, its number of unit cells, and
--- its faces.
-abbrev pub TellsSolids : ℕ → List (List Bool) → List (List Cell) → List ℕ → Type 0
-TellsSolids number [] [] text = text ≡ []
-TellsSolids number (choice ∷ choices) (s ∷ solids) text = (faces : List FaceParts) × AreFacesOf (is_full s) faces
-    × (rest : List ℕ) × TellsSolids (number + 1) choices solids rest × (text ≡ solid_text number choice (length s) faces ++ rest)
-TellsSolids number _ _ text = ⊥
+-- The texts of solids, numbered from this number on, with so many decimals: each tells the choice that fills the solid, its
+-- number of unit cells, and its faces.
+abbrev pub TellsSolids : ℕ → ℕ → List (List Bool) → List (List Cell) → List ℕ → Type 0
+TellsSolids decimals number [] [] text = text ≡ []
+TellsSolids decimals number (choice ∷ choices) (s ∷ solids) text = (faces : List FaceParts) × AreFacesOf (is_full s) faces
+    × (rest : List ℕ) × TellsSolids decimals (number + 1) choices solids rest
+    × (text ≡ solid_text decimals number choice (length s) faces ++ rest)
+TellsSolids decimals number _ _ text = ⊥
 
 -- Where a search ends so, the text lists solids, as an end of this kind has it: pages of them, if they are asked for; then how
 -- the search ended, and then all of them.
 abbrev pub ListsSolids : Bool → (limits : SearchLimits) (t : Input) (kind : EndKind) → CanEnd limits t kind → List ℕ → Type 0
 ListsSolids paged limits t kind c text = (l : ListedSolids limits t kind) × (pages : List Page) × ArePagesOf paged l.choices pages
-    × (texts : List ℕ) × TellsSolids 1 l.choices l.solids texts × (text ≡ pages_text 0 0 pages ++ (head_of c ++ texts))
+    × (texts : List ℕ) × TellsSolids t.decimals 1 l.choices l.solids texts × (text ≡ pages_text 0 0 pages ++ (head_of c ++ texts))
 
 -- The text begins to list them: it has the first of the pages; or all pages, how the search ended, and then the first of the
 -- solids.
 abbrev pub BeginsToList : Bool → (limits : SearchLimits) (t : Input) (kind : EndKind) → CanEnd limits t kind → List ℕ → Type 0
 BeginsToList paged limits t kind c text = (l : ListedSolids limits t kind) × (pages : List Page) × ArePagesOf paged l.choices pages
     × (first : ℕ) × ((text ≡ pages_text 0 0 (take first pages))
-    ⊎ ((texts : List ℕ) × TellsSolids 1 (take first l.choices) (take first l.solids) texts
+    ⊎ ((texts : List ℕ) × TellsSolids t.decimals 1 (take first l.choices) (take first l.solids) texts
     × (text ≡ pages_text 0 0 pages ++ (head_of c ++ texts))))
 
 -- ---- `redraw`

@@ -80,9 +80,9 @@ pub data Owed : Type 1 where
 -- for each job, however many work at it: a command is one line
 abbrev pub owed_for : Job → Owed
 owed_for (job.Solve workers limits pages decimals) = searched (search_for_all pages limits decimals)
-owed_for (job.Redraw which workers limits decimals) = searched (search_for_one IsFileOf which limits decimals)
+owed_for (job.Redraw which workers limits decimals) = searched (search_for_one (IsFileOf decimals) which limits decimals)
 owed_for (job.Stl which workers limits) = searched (search_for_one IsSolidStl which limits 0)
-owed_for (job.Make n) = alone answers.Done (IsFileOf (made_solid n))
+owed_for (job.Make n) = alone answers.Done (IsFileOf 0 (made_solid n))
 owed_for (job.Trial n workers) = alone answers.Done (IsTried n)
 
 -- and for words that ask for none the usage line

@@ -4,7 +4,7 @@ ghost use Rattle.std.specs.Prelude.{◌≤◌, ◌+◌, length, IfOk, IfSome, Is
 ghost use Rattle.recon_run.specs.declared.status.Failure.TheVariants as failure;
 ghost use Rattle.recon_run.specs.Owed.{ReadsAllOrPast};
 ghost use Rattle.recon_run.specs.Findings.{IsFoundIn};
-ghost use Rattle.solid_model.specs.Limits.{most_file_bytes};
+ghost use Rattle.solid_model.specs.Limits.{most_decimals, most_file_bytes};
 ghost use Rattle.tv_base.specs.Faults.{Rose};
 ghost use Rattle.tv_base.specs.Pieces.{ReadsWithin};
 
@@ -28,7 +28,8 @@ pub enum Found {
 
 /// What is found in a file whose coordinates have so many decimals.
 fn find_in(alloc: Global, file: Vec<u8>, decimals: u8) -> Result<Found, Memory>
-    requires { length file.items ≤ most_file_bytes }
+    requires short { length file.items ≤ most_file_bytes }
+    requires decimals { decimals ≤ most_decimals }
     ensures { IfOk result (IsFoundIn (record { bytes = file.items; decimals = decimals })) }
 {
     match problem_of(alloc, file, decimals) {
@@ -40,6 +41,7 @@ fn find_in(alloc: Global, file: Vec<u8>, decimals: u8) -> Result<Found, Memory>
 
 /// The same for what a source has left.
 pub fn find<S: Source>(alloc: Global, decimals: u8, source: &mut S) -> Result<Found, Failure>
+    requires { decimals ≤ most_decimals }
     ensures later { S.faults source.old ≤ S.faults source.new }
     ensures within { ReadsWithin (S.left source.old) (S.left source.new) (most_file_bytes + 1) }
     ensures found { IfOk result (λ found. IfSome (S.left source.old) (λ t.

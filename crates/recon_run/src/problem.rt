@@ -5,7 +5,7 @@
 ghost use Rattle.std.specs.Prelude.{◌≤◌, length, IfOk, IsErrOf};
 ghost use Rattle.recon_run.specs.Answers.{HasProblem, Input, IsFileFault};
 ghost use Rattle.solid_model.specs.declared.fault.Fault.{Fault};
-ghost use Rattle.solid_model.specs.Limits.{most_file_bytes};
+ghost use Rattle.solid_model.specs.Limits.{most_decimals, most_file_bytes};
 
 use blocks::blocks_of;
 use dxf_entities::entities;
@@ -21,7 +21,8 @@ use virtual_faces::faces_of;
 /// file's first fault; Memory comes when out of memory. The file has at most 16,777,216 bytes, and
 /// there are at most 6 decimals.
 pub fn problem_of(alloc: Global, file: Vec<u8>, decimals: u8) -> Result<Problem, Refused>
-    requires { length file.items ≤ most_file_bytes }
+    requires short { length file.items ≤ most_file_bytes }
+    requires decimals { decimals ≤ most_decimals }
     ensures problem { IfOk result (λ problem. HasProblem (record { bytes = file.items; decimals = decimals }) problem) }
     ensures fault { (fault : Fault) → IsErrOf result (Refused.Fault fault)
         → IsFileFault (record { bytes = file.items; decimals = decimals }) fault }

@@ -20,10 +20,10 @@ use tv_base::Gate;
 
 /// The written file of the solid that is made from a number.
 pub fn made_file(alloc: Global, n: u64) -> Result<Vec<u8>, Memory>
-    ensures { IfOk result (λ text. IsFileOf (made_solid n) text.items) }
+    ensures { IfOk result (λ text. IsFileOf 0 (made_solid n) text.items) }
 {
     let (grid, cells) = make(alloc, n)?;
-    let text = dxf_of(alloc, &grid, cells.as_slice())?;
+    let text = dxf_of(alloc, &grid, cells.as_slice(), 0)?;
     Ok(text)
 }
 
@@ -55,7 +55,7 @@ pub fn trial<R: Threads + Wait + Sync, G: Gate>(
     ensures { IfOk result (λ text. IsTried n text.items) }
 {
     let file = made_file(alloc, n)?;
-    let problem = match problem_of(alloc, file) {
+    let problem = match problem_of(alloc, file, 0) {
         Ok(problem) => problem,
         Err(Refused::Fault(_)) => unreachable!(),
         Err(Refused::Memory) => return Err(Memory),

@@ -1,7 +1,7 @@
 -- The commands, and what each is asked to do.
 use Rattle.std.specs.Prelude.{ℕ, ◌≤◌, ◌++◌, Bool, List, [], ◌∷◌, Option, Some, None, if◌then◌else◌, codes, option_map}
 use Rattle.std.specs.Str.{bytes_eq}
-use Rattle.solid_model.specs.Limits.{most_node_limit, most_solid_limit}
+use Rattle.solid_model.specs.Limits.{most_decimals, most_node_limit, most_solid_limit}
 use Rattle.solid_model.specs.Search.{SearchLimits, default_limits}
 use Rattle.words.specs.declared.job.Job.{Job}
 use Rattle.words.specs.declared.job.Job.TheVariants as job
@@ -29,10 +29,7 @@ solids_field = record { name = codes "solids"; range = Some (record { least = 1;
 abbrev pub pages_field : Field
 pages_field = record { name = codes "pages"; range = None }
 
--- `--decimals`, how many decimals the coordinates of a drawing have; the most
-abbrev pub most_decimals : ℕ
-most_decimals = 6
-
+-- `--decimals`, how many decimals the coordinates of a drawing have
 abbrev pub decimals_field : Field
 decimals_field = record { name = codes "decimals"; range = Some (record { least = 0; most = most_decimals }) }
 

@@ -36,7 +36,7 @@ returns-in_err-drawing-clause-fault c fault is =
     let refused : c.in_err-drawing.field-0.0 ≡ refused.Fault fault = cc in
     let reads = of_file c.new.ensures c.in_ok-lines.ensures.lines c.as_slice.ensures.value in
     let empty = c.in_err-drawing.ensures.fault fault (ap Err refused) in
-    file_fault (input c.args.file.items c.args.decimals) (Ok c.as_slice.result.now) fault c.requires reads (inl (empty.0, empty.2, empty.1))
+    file_fault (input c.args.file.items c.args.decimals) (Ok c.as_slice.result.now) fault c.requires.short reads (inl (empty.0, empty.2, empty.1))
 
 pub returns-in_err-grid-clause-fault : goal.returns-in_err-grid-clause-fault
 returns-in_err-grid-clause-fault c fault is =
@@ -45,7 +45,7 @@ returns-in_err-grid-clause-fault c fault is =
     let refused : c.in_err-grid.field-0.0 ≡ refused.Fault fault = cc in
     let reads = of_file c.new.ensures c.in_ok-lines.ensures.lines c.as_slice.ensures.value in
     let (a, count, names, first) = c.in_err-grid.ensures.fault fault (ap Err refused) in
-    file_fault (input c.args.file.items c.args.decimals) (Ok c.as_slice.result.now) fault c.requires reads
+    file_fault (input c.args.file.items c.args.decimals) (Ok c.as_slice.result.now) fault c.requires.short reads
     (inr (inl (c.in_ok-drawing.ensures.shown, a, count, of_lines c.as_slice.result.now c.in_ok-drawing.ensures.drawn (λ d. IsFirstTooFine d a count) first, names)))
 
 pub returns-in_err-blocks-clause-fault : goal.returns-in_err-blocks-clause-fault
@@ -56,7 +56,7 @@ returns-in_err-blocks-clause-fault c fault is =
     let reads = of_file c.new.ensures c.in_ok-lines.ensures.lines c.as_slice.ensures.value in
     let (count, names, many) = c.in_err-blocks.ensures.many fault (ap Err refused) in
     let grid = of_lines c.as_slice.result.now {drawing = style_in c.in_ok-drawing.drawing} c.in_ok-drawing.ensures.drawn (λ d. IsGridOf d c.in_ok-grid.grid) c.in_ok-grid.ensures.grid in
-    file_fault (input c.args.file.items c.args.decimals) (Ok c.as_slice.result.now) fault c.requires reads
+    file_fault (input c.args.file.items c.args.decimals) (Ok c.as_slice.result.now) fault c.requires.short reads
     (inr (inr (c.in_ok-drawing.ensures.shown, c.in_ok-grid.grid, grid, count, many, names)))
 
 pub returns-clause-problem : goal.returns-clause-problem
@@ -65,7 +65,7 @@ returns-clause-problem c =
     let reads = of_file c.new.ensures c.in_ok-lines.ensures.lines c.as_slice.ensures.value in
     let grid = of_lines c.as_slice.result.now {drawing = style_in c.in_ok-drawing.drawing} c.in_ok-drawing.ensures.drawn (λ d. IsGridOf d c.in_ok-grid.grid) c.in_ok-grid.ensures.grid in
     let has : HasProblem (input c.args.file.items c.args.decimals) (record { grid = c.in_ok-grid.grid; blocks = blocks }) = record {
-      short = c.requires;
+      short = c.requires.short;
       lines = c.as_slice.result.now;
       reads = reads;
       shown = c.in_ok-drawing.ensures.shown;

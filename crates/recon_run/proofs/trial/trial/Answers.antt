@@ -4,8 +4,8 @@ use Rattle.recon_run.proofs.Trials.{figures_are, made_is_faultless, made_is_shor
 use Rattle.solid_model.specs.Blocks.{ProblemParts}
 use Rattle.recon_run.proofs.trial.trial.Goals as goal
 
-pub problem_of-requires : goal.problem_of-requires
-problem_of-requires g c = made_is_short c.args.n c.in_ok-file.file.items c.in_ok-file.ensures
+pub problem_of-requires-clause-short : goal.problem_of-requires-clause-short
+problem_of-requires-clause-short g c = made_is_short c.args.n c.in_ok-file.file.items c.in_ok-file.ensures
 
 pub returns : goal.returns
 returns g c =
