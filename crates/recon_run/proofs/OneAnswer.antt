@@ -106,7 +106,7 @@ one_numbered writes one which limits decimals t c d text other = by
 
 -- a number has one file
 pub one_made_file : (n : ℕ) (text other : List ℕ) → IsFileOf 0 (made_solid n) text → IsFileOf 0 (made_solid n) other → text ≡ other
-one_made_file n text other = one_file 0 (made_solid n) (made_solid n) (λ g. refl) text other
+one_made_file n text other = one_file (made_solid n) (made_solid n) (λ g. refl) 0 text other
 
 -- and its drawing one line of figures
 one_figures : (n : ℕ) (text other : List ℕ) → IsTried n text → IsTried n other → text ≡ other
@@ -124,7 +124,7 @@ OwesOne paged (alone right tells) = (text other : List ℕ) → tells text → t
 
 one_owed : (said : Option Job) → OwesOne (asks_pages said) (owed said)
 one_owed (Some (job.Solve workers limits pages decimals)) = one_listing pages limits decimals
-one_owed (Some (job.Redraw which workers limits decimals)) = one_numbered (IsFileOf decimals) (λ s. one_file decimals s s (λ g. refl)) which limits decimals
+one_owed (Some (job.Redraw which workers limits decimals)) = one_numbered (IsFileOf decimals) (λ s. one_file s s (λ g. refl) decimals) which limits decimals
 one_owed (Some (job.Stl which workers limits)) = one_numbered IsSolidStl one_text which limits 0
 one_owed (Some (job.Make n)) = one_made_file n
 one_owed (Some (job.Trial n workers)) = one_figures n

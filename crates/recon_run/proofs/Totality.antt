@@ -244,7 +244,7 @@ module _ (writes : List Cell → List ℕ → Type 0) (written : (g : GridParts)
 
 -- no solid lacks a file,
 some_written_file : (s : List Cell) → IsSolid s → ((text : List ℕ) → IsFileOf 0 s text → ⊥) → ⊥
-some_written_file s is never = let (text, file) = some_file 0 s is in never text file
+some_written_file s is never = let (text, file) = some_file s is 0 in never text file
 
 -- nor an STL text, where it is on a grid
 some_stl : (g : GridParts) (chosen : List Bool) (s : List Cell) → IsOnGrid g chosen s → (text : List ℕ) × IsSolidStl s text
@@ -253,7 +253,7 @@ some_stl g chosen s on = some_text on.drawing (coordinates_of g) on.grid.coordin
 -- the search of a made file ends, and has figures
 tried_somehow : (n : ℕ) → ((text : List ℕ) → IsTried n text → ⊥) → ⊥
 tried_somehow n never =
-    let (t, file) = some_file 0 (made_solid n) (made_is_solid n) in
+    let (t, file) = some_file (made_solid n) (made_is_solid n) 0 in
     let p = made_problem n in let has = made_has_problem n t file in
     let end = can_list (is_live p) p.blocks.count default_limits (matching default_limits (record { bytes = t; decimals = 0 }) p has).ordered [] tt tt (omega arith) in
     never _ (figures_are n t file p has end.kind end.opened end.choices end.ends _ refl)
@@ -265,7 +265,7 @@ OwesSome (alone right tells) = ((text : List ℕ) → tells text → ⊥) → �
 
 some_owed : (j : Job) → IsCounted j → OwesSome (owed_for j)
 some_owed (job.Solve workers limits pages decimals) counted = λ t p has. some_listing limits t p has pages
-some_owed (job.Redraw which workers limits decimals) counted = some_numbered (IsFileOf decimals) (λ g chosen s on. some_file decimals s on.matches.0) which counted.0 limits decimals
+some_owed (job.Redraw which workers limits decimals) counted = some_numbered (IsFileOf decimals) (λ g chosen s on. some_file s on.matches.0 decimals) which counted.0 limits decimals
 some_owed (job.Stl which workers limits) counted = some_numbered IsSolidStl some_stl which counted.0 limits 0
 some_owed (job.Make n) counted = some_written_file (made_solid n) (made_is_solid n)
 some_owed (job.Trial n workers) counted = tried_somehow n
