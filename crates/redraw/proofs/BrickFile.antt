@@ -211,9 +211,9 @@ reaches a = record {
     last Y = refl
     last Z = refl
 
-text : brick_file ≡ plain_file (sheet_lines (pos 1) (pos 3) rectangles)
+text : brick_file ≡ plain_file 0 (sheet_lines (pos 1) (pos 3) rectangles)
 unfolding digits
 text = refl
 
-pub brick_is_file : IsFileOf brick brick_file
+pub brick_is_file : IsFileOf 0 brick brick_file
 brick_is_file = (pos 1, pos 3, rectangles, record { runs = runs_of_brick; right = reaches X; up = reaches Z }, text)

@@ -205,8 +205,8 @@ module _ (g : GridParts) (panels : PanelsStyles) (chosen : List Bool) (s : List 
       (show_in_views (coordinates_of g) ascends panels (solid_drawing s) stays styles d (λ w kind. (along_all w kind).on) v upright) drawn.0 drawn.1 drawn.2)
 
   -- its file
-  pub file_of_solid : IsSolid s → IsFileOf s (sheet_text d)
-  file_of_solid solid = (
+  pub file_of_solid : IsSolid s → (decimals : ℕ) → IsFileOf decimals s (sheet_text decimals d)
+  file_of_solid solid decimals = (
     last_line d.front.upright,
     last_line d.front.level,
     d,

@@ -31,12 +31,12 @@ one_drawing_runs drawing other same d e h k = λ t. record {
         sym (in_runs d v upright z j) ∙ h.show _ ∙ same _ ∙ sym (k.show _) ∙ in_runs e v upright z j)
 
 -- solids that draw the same have one file
-pub one_file : (s t : List Cell) → ((g : Segment) → solid_drawing s g ≡ solid_drawing t g) → (a b : List ℕ) → IsFileOf s a → IsFileOf t b → a ≡ b
-one_file s t same a b (far_x, far_z, d, sheet, text) (too_x, too_z, e, other, text_too) =
+pub one_file : (s t : List Cell) → ((g : Segment) → solid_drawing s g ≡ solid_drawing t g) → (decimals : ℕ) (a b : List ℕ) → IsFileOf decimals s a → IsFileOf decimals t b → a ≡ b
+one_file s t same decimals a b (far_x, far_z, d, sheet, text) (too_x, too_z, e, other, text_too) =
     let right = one_farthest (solid_drawing s) (solid_drawing t) same Front true far_x too_x (far_end-is_farthest_line Front true s far_x sheet.right) (far_end-is_farthest_line Front true t too_x other.right) in
     let up = one_farthest (solid_drawing s) (solid_drawing t) same Front false far_z too_z (far_end-is_farthest_line Front false s far_z sheet.up) (far_end-is_farthest_line Front false t too_z other.up) in
     let runs = one_drawing_runs (solid_drawing s) (solid_drawing t) same d e sheet.runs other.runs in
-    text ∙ (λ i. plain_file (sheet_lines (right i) (up i) (runs i))) ∙ sym text_too
+    text ∙ (λ i. plain_file decimals (sheet_lines (right i) (up i) (runs i))) ∙ sym text_too
 
 -- lists of the same cells draw the same
 pub same_cells-draw : (s t : List Cell) → SameCells s t → (g : Segment) → solid_drawing s g ≡ solid_drawing t g

@@ -116,14 +116,14 @@ module _ (s : List Cell) (c : Cell) (full : IsTrue (is_full s c)) where
   }
 
   -- so it has a file
-  file_of_full : (text : List ℕ) × IsFileOf s text
-  file_of_full =
+  file_of_full : (decimals : ℕ) → (text : List ℕ) × IsFileOf decimals s text
+  file_of_full decimals =
       let x = far_end X in let z = far_end Z in (
-        plain_file (sheet_lines x.0 z.0 (drawing_runs runs)),
+        plain_file decimals (sheet_lines x.0 z.0 (drawing_runs runs)),
         (x.0, z.0, drawing_runs runs, record { runs = have_runs; right = x.1; up = z.1 }, refl),
       )
 
 -- each solid has a written file
-pub some_file : (s : List Cell) → IsSolid s → (text : List ℕ) × IsFileOf s text
-some_file [] none = absurd none
-some_file (c ∷ cs) some = file_of_full (c ∷ cs) c (member-is_full (c ∷ cs) c (inl refl))
+pub some_file : (s : List Cell) → IsSolid s → (decimals : ℕ) → (text : List ℕ) × IsFileOf decimals s text
+some_file [] none decimals = absurd none
+some_file (c ∷ cs) some decimals = file_of_full (c ∷ cs) c (member-is_full (c ∷ cs) c (inl refl)) decimals

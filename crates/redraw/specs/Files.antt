@@ -29,13 +29,13 @@ pub record IsFarEnd (full : Cell → Bool) (a : Axis) (far : ℤ) : Type 0 where
   pub reached : (c : Cell) × IsTrue (full c) × (coordinate a c +ℤ pos 1 ≡ far)
   pub within : (c : Cell) → IsTrue (full c) → coordinate a c <ℤ far
 
--- how far to the right a view stands, where the solid reaches so far along x: the side view 10 beyond the front view
+-- how far to the right a view stands, where the solid reaches so far along x: the side view 10 units beyond the front view
 abbrev pub right_on_sheet : ℤ → View → ℤ
 right_on_sheet far Front = pos 0
 right_on_sheet far Top = pos 0
 right_on_sheet far Side = far +ℤ pos 10
 
--- how far upwards a view stands, where it reaches so far along z: the top view 10 above the front view
+-- how far upwards a view stands, where it reaches so far along z: the top view 10 units above the front view
 abbrev pub up_on_sheet : ℤ → View → ℤ
 up_on_sheet far Front = pos 0
 up_on_sheet far Top = far +ℤ pos 10
@@ -73,6 +73,7 @@ pub record IsSheetOf (s : List Cell) (far_x far_z : ℤ) (d : DrawingRuns) : Typ
   pub right : IsFarEnd (is_full s) X far_x
   pub up : IsFarEnd (is_full s) Z far_z
 
--- the written file of a solid
-abbrev pub IsFileOf : List Cell → List ℕ → Type 0
-IsFileOf s text = (far_x far_z : ℤ) × (d : DrawingRuns) × IsSheetOf s far_x far_z d × (text ≡ plain_file (sheet_lines far_x far_z d))
+-- the written file of a solid, whose coordinates have so many decimals
+abbrev pub IsFileOf : ℕ → List Cell → List ℕ → Type 0
+IsFileOf decimals s text = (far_x far_z : ℤ) × (d : DrawingRuns) × IsSheetOf s far_x far_z d
+    × (text ≡ plain_file decimals (sheet_lines far_x far_z d))

@@ -90,9 +90,9 @@ last_line (r ∷ s ∷ rs) = last_line (s ∷ rs)
 -- ---- the text
 
 -- the lines of the level, or the upright, runs of a view that stands so far to the right and upwards
-abbrev pub runs_text : View → Bool → ℤ → ℤ → List Run → List ℕ
-runs_text v upright right up rs = flat_map line_text (map (run_line v upright right up) rs)
+abbrev pub runs_text : ℕ → View → Bool → ℤ → ℤ → List Run → List ℕ
+runs_text decimals v upright right up rs = flat_map (line_text decimals) (map (run_line v upright right up) rs)
 
 -- the file of the runs of three views: the farthest lines of the front view tell how far they reach
-abbrev pub sheet_text : DrawingRuns → List ℕ
-sheet_text d = plain_file (sheet_lines (last_line d.front.upright) (last_line d.front.level) d)
+abbrev pub sheet_text : ℕ → DrawingRuns → List ℕ
+sheet_text decimals d = plain_file decimals (sheet_lines (last_line d.front.upright) (last_line d.front.level) d)

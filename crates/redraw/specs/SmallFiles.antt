@@ -2,7 +2,8 @@
 use Rattle.std.specs.Prelude.{ℕ, List, [], ◌∷◌, ◌++◌, pos, negsuc, codes}
 use Rattle.solid_model.specs.declared.cell.Cell.{Cell}
 use Rattle.solid_model.specs.declared.frame.View.TheVariants.{Top}
-use Rattle.solid_model.specs.declared.segment.Style.TheVariants.{Dashed}
+use Rattle.solid_model.specs.declared.runs.Run.{Run}
+use Rattle.solid_model.specs.declared.segment.Style.TheVariants.{Dashed, Solid}
 use Rattle.solid_model.specs.Cells.{cell_at}
 use Rattle.solid_model.specs.Line.{Line}
 
@@ -30,3 +31,7 @@ brick_file = codes "0\nSECTION\n2\nENTITIES\n"
 -- a hidden line of the top view, from (-3, 12) to (25, 12)
 abbrev pub hidden_line : Line
 hidden_line = record { of = Top; style = Dashed; x0 = negsuc 2; y0 = pos 12; x1 = pos 25; y1 = pos 12; number = 0 }
+
+-- the lower side of the top view of a cube of 5
+abbrev pub lower_side : Run
+lower_side = record { at = pos 0; from = pos 0; to = pos 5; style = Solid }

@@ -1,11 +1,11 @@
 //! The written file of a solid that is made of grid cells.
 
-ghost use Rattle.std.specs.Prelude.{◌≡◌, ◌++◌, ◌+ℤ◌, List, pos, IfOk, OnOk};
+ghost use Rattle.std.specs.Prelude.{◌≡◌, ◌≤◌, ◌++◌, ◌+ℤ◌, List, pos, IfOk, OnOk};
 ghost use Rattle.std.specs.List.{flat_map};
 ghost use Rattle.solid_model.specs.declared.cell.Cell.{Cell};
 ghost use Rattle.solid_model.specs.Cells.{IsSolid, is_full};
 ghost use Rattle.solid_model.specs.Grid.{IsUnionOf};
-ghost use Rattle.solid_model.specs.Limits.{farthest_in_view};
+ghost use Rattle.solid_model.specs.Limits.{farthest_in_view, most_decimals};
 ghost use Rattle.solid_model.specs.Lists.{Each};
 ghost use Rattle.solid_model.specs.Panels.{coordinates_of};
 ghost use Rattle.redraw.specs.Files.{right_on_sheet, up_on_sheet, placed_lines, IsFileOf};
@@ -50,13 +50,14 @@ fn place_of(sheet: &Sheet, view: View) -> Place
 }
 
 /// Adds the lines of a view where it stands on the sheet.
-fn push_placed(text: &mut Vec<u8>, sheet: &Sheet, view: View) -> Result<(), Memory>
-    requires { AreNearRuns sheet.now }
-    ensures { OnOk result (text.new.items ≡ text.old.items ++ flat_map line_text
+fn push_placed(text: &mut Vec<u8>, sheet: &Sheet, view: View, decimals: u8) -> Result<(), Memory>
+    requires near { AreNearRuns sheet.now }
+    requires decimals { decimals ≤ most_decimals }
+    ensures { OnOk result (text.new.items ≡ text.old.items ++ flat_map (line_text decimals)
         (placed_lines (last_line sheet.now.front.upright) (last_line sheet.now.front.level)
         sheet.now view)) }
 {
-    push_view(text, place_of(sheet, view), sheet.view(view))?;
+    push_view(text, place_of(sheet, view), sheet.view(view), decimals)?;
     Ok(())
 }
 
@@ -73,17 +74,18 @@ fn room_for(sheet: &Sheet) -> usize {
     lines.saturating_mul(100).saturating_add(40)
 }
 
-/// The text of a sheet.
-fn sheet_text(alloc: Global, sheet: &Sheet) -> Result<Vec<u8>, Memory>
-    requires { AreNearRuns sheet.now }
-    ensures { IfOk result (λ text. text.items ≡ sheet_text sheet.now) }
+/// The text of a sheet, whose coordinates have so many decimals.
+fn sheet_text(alloc: Global, sheet: &Sheet, decimals: u8) -> Result<Vec<u8>, Memory>
+    requires near { AreNearRuns sheet.now }
+    requires decimals { decimals ≤ most_decimals }
+    ensures { IfOk result (λ text. text.items ≡ sheet_text decimals sheet.now) }
 {
     let mut text = Vec::with_capacity(alloc, room_for(sheet))?;
     push_pair(&mut text, "0", "SECTION")?;
     push_pair(&mut text, "2", "ENTITIES")?;
-    push_placed(&mut text, sheet, View::Front)?;
-    push_placed(&mut text, sheet, View::Top)?;
-    push_placed(&mut text, sheet, View::Side)?;
+    push_placed(&mut text, sheet, View::Front, decimals)?;
+    push_placed(&mut text, sheet, View::Top, decimals)?;
+    push_placed(&mut text, sheet, View::Side, decimals)?;
     push_pair(&mut text, "0", "ENDSEC")?;
     push_pair(&mut text, "0", "EOF")?;
     Ok(text)
@@ -97,15 +99,18 @@ fn sheet_text(alloc: Global, sheet: &Sheet) -> Result<Vec<u8>, Memory>
 /// FRONT, TOP, SIDE; in each view the level ones come first, by height and then start, and then the
 /// upright ones, by right coordinate and then start. Each goes from its lesser end to its greater
 /// one. The front view has the solid's own coordinates, x to the right and z upwards; the top view
-/// stands 10 above all of the solid, the side view 10 to the right of it.
+/// stands 10 units above all of the solid, the side view 10 units to the right of it.
 ///
-/// Cells are listed with z slowest and x fastest; one that isn't in the list counts as not chosen.
-/// An `Err` is out of memory.
-pub fn dxf_of(alloc: Global, grid: &Grid, cells: &[bool]) -> Result<Vec<u8>, Memory>
+/// The unit is one divided by ten to the power of `decimals`, which are at most 6: each coordinate is
+/// divided by that power, and has so many digits behind the point. Cells are listed with z slowest
+/// and x fastest; one that isn't in the list counts as not chosen. An `Err` is out of memory.
+pub fn dxf_of(alloc: Global, grid: &Grid, cells: &[bool], decimals: u8) -> Result<Vec<u8>, Memory>
+    requires { decimals ≤ most_decimals }
     ensures { IfOk result (λ text. (s : List Cell) → IsSolid s
-        → IsUnionOf (coordinates_of grid.now) cells.now (is_full s) → IsFileOf s text.items) }
+        → IsUnionOf (coordinates_of grid.now) cells.now (is_full s)
+        → IsFileOf decimals s text.items) }
 {
     let panels = draw_cells(alloc, grid, cells)?;
     let sheet = sheet_of(alloc, grid, &panels)?;
-    sheet_text(alloc, &sheet)
+    sheet_text(alloc, &sheet, decimals)
 }

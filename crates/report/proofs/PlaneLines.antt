@@ -23,17 +23,17 @@ use Rattle.report.specs.Texts.{face_text}
 use Rattle.report.specs.PlaneTexts.{PlaneLines, AreLines, AreLinesBefore, AreAllLines, GridLines, listed}
 
 -- coordinates stay when planes change
-pub other_planes : (g : GridLines) (planes : List PlaneLines) → listed (record { xs = g.xs; ys = g.ys; zs = g.zs; planes = planes }) ≡ listed g
+pub other_planes : (g : GridLines) (planes : List PlaneLines) → listed (record { decimals = g.decimals; xs = g.xs; ys = g.ys; zs = g.zs; planes = planes }) ≡ listed g
 other_planes g planes = λ i a. by a i
   where
-    by : (a : Axis) → listed (record { xs = g.xs; ys = g.ys; zs = g.zs; planes = planes }) a ≡ listed g a
+    by : (a : Axis) → listed (record { decimals = g.decimals; xs = g.xs; ys = g.ys; zs = g.zs; planes = planes }) a ≡ listed g a
     by X = refl
     by Y = refl
     by Z = refl
 
-module _ (coordinates : Coordinates) (m : BoxMarks) where
+module _ (decimals : ℕ) (coordinates : Coordinates) (m : BoxMarks) where
   abbrev Before : ℕ → ℕ → List PlaneLines → Type 0
-  Before n k planes = AreLinesBefore coordinates (is_marked m) n k planes
+  Before n k planes = AreLinesBefore decimals coordinates (is_marked m) n k planes
 
   -- a face, put in space
   abbrev put : FaceParts → FaceParts
@@ -43,7 +43,7 @@ module _ (coordinates : Coordinates) (m : BoxMarks) where
   no_lines_yet = record { faces = []; are = no_faces_yet m; count = refl; text = refl; each = tt }
 
   pub lines_more : (n k : ℕ) (planes : List PlaneLines) → Before n k planes → (out : Out) → out_number out ≡ n → (p : PlaneLines)
-      → p.out ≡ out → p.at ≡ k → AreLines coordinates p → AreBoundary (is_marked m) out (pos k) p.squares → Before n (k + 1) (planes ++ p ∷ [])
+      → p.out ≡ out → p.at ≡ k → AreLines decimals coordinates p → AreBoundary (is_marked m) out (pos k) p.squares → Before n (k + 1) (planes ++ p ∷ [])
   lines_more n k planes so_far out side p o a lines boundary =
       let new : AreFacesInPlane (is_marked m) out (pos k) lines.faces =
       subst (λ (x : Out × ℕ). AreFacesOfSquares p.squares x.0 (pos x.1) lines.faces) (λ i. (o i, a i)) lines.are (is_marked m) boundary in
@@ -55,8 +55,8 @@ module _ (coordinates : Coordinates) (m : BoxMarks) where
             omega (arith, both, sums, so_far.count, lines.count);
         text = flat_map-append (λ (q : PlaneLines). q.text) planes (p ∷ [])
             ∙ (λ i. so_far.text i ++ (append-nil p.text ∙ lines.text) i)
-            ∙ sym (ap (flat_map face_text) (map-append put so_far.faces lines.faces) ∙ flat_map-append face_text (map put so_far.faces) (map put lines.faces));
-        each = each-push (AreLines coordinates) planes p so_far.each lines;
+            ∙ sym (ap (flat_map (face_text decimals)) (map-append put so_far.faces lines.faces) ∙ flat_map-append (face_text decimals) (map put so_far.faces) (map put lines.faces));
+        each = each-push (AreLines decimals coordinates) planes p so_far.each lines;
       }
 
   pub lines_of_side : (n k : ℕ) (planes : List PlaneLines) (out : Out) → out_number out ≡ n → k ≡ numbers_of m.sizes (outward out).axis + 1
@@ -70,7 +70,7 @@ module _ (coordinates : Coordinates) (m : BoxMarks) where
   }
 
   module _ (sized : numbers_of m.sizes ≡ gaps_along coordinates) (ascends : (a : Axis) → Ascends ◌<ℤ◌ (coordinates a)) where
-    pub lines_of_all : (planes : List PlaneLines) → Before 6 0 planes → AreAllLines coordinates m.values planes
+    pub lines_of_all : (planes : List PlaneLines) → Before 6 0 planes → AreAllLines decimals coordinates m.values planes
     lines_of_all planes lines = record {
       faces = map put lines.faces;
       are = λ full union.

@@ -21,19 +21,19 @@ pub record PlaneLines : Type 0 where
   pub count : ℕ
   pub text : List ℕ
 
--- the lines are those of the faces, put in a grid's space
-pub record AreLines (coordinates : Coordinates) (p : PlaneLines) : Type 0 where
+-- the lines are those of the faces, put in a grid's space, with so many decimals
+pub record AreLines (decimals : ℕ) (coordinates : Coordinates) (p : PlaneLines) : Type 0 where
   pub faces : List FaceParts
   pub are : AreFacesOfSquares p.squares p.out (pos p.at) faces
   pub count : length faces ≡ p.count
-  pub text : p.text ≡ flat_map face_text (map (face_in_space (grid_planes coordinates)) faces)
+  pub text : p.text ≡ flat_map (face_text decimals) (map (face_in_space (grid_planes coordinates)) faces)
 
 -- and the squares are these, in this plane
-pub record AreLinesOf (coordinates : Coordinates) (out : Out) (at : ℕ) (squares : SquareTable) (p : PlaneLines) : Type 0 where
+pub record AreLinesOf (decimals : ℕ) (coordinates : Coordinates) (out : Out) (at : ℕ) (squares : SquareTable) (p : PlaneLines) : Type 0 where
   pub out_is : p.out ≡ out
   pub at_is : p.at ≡ at
   pub squares_are : p.squares ≡ squares
-  pub lines : AreLines coordinates p
+  pub lines : AreLines decimals coordinates p
 
 -- ---- several planes
 
@@ -46,24 +46,25 @@ abbrev pub all_lines : List PlaneLines → List ℕ
 all_lines planes = flat_map (λ p. p.text) planes
 
 -- they are those of all faces of a solid of numbers that lie in earlier planes than the plane m of the side n
-pub record AreLinesBefore (coordinates : Coordinates) (full : Cell → Bool) (n m : ℕ) (planes : List PlaneLines) : Type 0 where
+pub record AreLinesBefore (decimals : ℕ) (coordinates : Coordinates) (full : Cell → Bool) (n m : ℕ) (planes : List PlaneLines) : Type 0 where
   pub faces : List FaceParts
   pub are : AreFacesBefore full n m faces
   pub count : length faces ≡ line_count planes
-  pub text : all_lines planes ≡ flat_map face_text (map (face_in_space (grid_planes coordinates)) faces)
-  pub each : Each (AreLines coordinates) planes
+  pub text : all_lines planes ≡ flat_map (face_text decimals) (map (face_in_space (grid_planes coordinates)) faces)
+  pub each : Each (AreLines decimals coordinates) planes
 
 -- they are those of all faces of the union of chosen grid cells
-pub record AreAllLines (coordinates : Coordinates) (cells : List Bool) (planes : List PlaneLines) : Type 0 where
+pub record AreAllLines (decimals : ℕ) (coordinates : Coordinates) (cells : List Bool) (planes : List PlaneLines) : Type 0 where
   pub faces : List FaceParts
   pub are : (full : Cell → Bool) → IsUnionOf coordinates cells full → AreFacesOf full faces
   pub count : length faces ≡ line_count planes
-  pub text : all_lines planes ≡ flat_map face_text faces
+  pub text : all_lines planes ≡ flat_map (face_text decimals) faces
 
 -- ---- planes of a grid
 
--- planes whose lines are put in the space of a grid with these coordinates
+-- planes whose lines are put in the space of a grid with these coordinates, with so many decimals
 pub record GridLines : Type 0 where
+  pub decimals : ℕ
   pub xs : List ℤ
   pub ys : List ℤ
   pub zs : List ℤ

@@ -1,7 +1,8 @@
 -- The texts of a search: its end, its solids with their faces, and pages of solids.
 use Rattle.std.specs.Prelude.{Bool, true, false, ℕ, List, [], ◌∷◌, ◌++◌, length, codes, decimal}
-use Rattle.std.specs.Fmt.{signed_decimal}
 use Rattle.std.specs.List.{flat_map}
+use Rattle.decimal_texts.specs.Decimals.{decimal_text}
+use Rattle.solid_model.specs.Blocks.{ProblemParts}
 use Rattle.solid_model.specs.declared.cell.Cell.{Cell}
 use Rattle.solid_model.specs.declared.ended.EndKind.{EndKind}
 use Rattle.solid_model.specs.declared.ended.EndKind.TheVariants.{Whole, CutNodes, CutSolids}
@@ -34,17 +35,19 @@ side_name PlusY = codes "+y"
 side_name MinusZ = codes "-z"
 side_name PlusZ = codes "+z"
 
--- a corner of a loop: a blank, and its coordinates with commas between them
-abbrev pub corner_text : Cell → List ℕ
-corner_text c = codes " " ++ signed_decimal c.x ++ codes "," ++ signed_decimal c.y ++ codes "," ++ signed_decimal c.z
+-- a corner of a loop: a blank, and its coordinates with so many decimals and commas between them
+abbrev pub corner_text : ℕ → Cell → List ℕ
+corner_text decimals c = codes " " ++ decimal_text decimals c.x ++ codes "," ++ decimal_text decimals c.y ++ codes ","
+    ++ decimal_text decimals c.z
 
 -- a loop: a word for it, and its corners
-abbrev pub loop_text : List Cell → List ℕ
-loop_text corners = codes " loop" ++ flat_map corner_text corners
+abbrev pub loop_text : ℕ → List Cell → List ℕ
+loop_text decimals corners = codes " loop" ++ flat_map (corner_text decimals) corners
 
 -- the line of a face: its outward side, the coordinate of its plane, and its loops
-abbrev pub face_text : FaceParts → List ℕ
-face_text f = codes "face " ++ side_name f.out ++ codes " at " ++ signed_decimal f.at ++ flat_map loop_text f.loops ++ codes "\n"
+abbrev pub face_text : ℕ → FaceParts → List ℕ
+face_text decimals f = codes "face " ++ side_name f.out ++ codes " at " ++ decimal_text decimals f.at
+    ++ flat_map (loop_text decimals) f.loops ++ codes "\n"
 
 -- ---- solids
 
@@ -53,9 +56,14 @@ abbrev pub solid_line : ℕ → List Bool → ℕ → ℕ → List ℕ
 solid_line number choice volume faces = codes "solid " ++ decimal number ++ codes " choice " ++ choice_text choice
     ++ codes " volume " ++ decimal volume ++ codes " faces " ++ decimal faces ++ codes "\n"
 
--- the solid of this number: its first line, and a line for each of its faces
-abbrev pub solid_text : ℕ → List Bool → ℕ → List FaceParts → List ℕ
-solid_text number choice volume faces = solid_line number choice volume (length faces) ++ flat_map face_text faces
+-- the solid of this number: its first line, and a line for each of its faces, whose coordinates have so many decimals
+abbrev pub solid_text : ℕ → ℕ → List Bool → ℕ → List FaceParts → List ℕ
+solid_text decimals number choice volume faces = solid_line number choice volume (length faces) ++ flat_map (face_text decimals) faces
+
+-- what the texts of solids are made from: their problem, and how many decimals coordinates have
+pub record TextsParts : Type 0 where
+  pub problem : ProblemParts
+  pub decimals : ℕ
 
 -- ---- pages
 

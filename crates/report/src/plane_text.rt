@@ -3,6 +3,7 @@
 ghost use Rattle.std.specs.Prelude.{◌≡◌, ◌≤◌, pos, IfSome, IfOk};
 ghost use Rattle.faces.specs.PlaneFaces.{LieOnGrid};
 ghost use Rattle.report.specs.PlaneTexts.{AreLines, AreLinesOf};
+ghost use Rattle.solid_model.specs.Limits.{most_decimals};
 ghost use Rattle.solid_model.specs.Lists.{Each, Member};
 ghost use Rattle.solid_model.specs.Panels.{coordinates_of};
 
@@ -40,23 +41,27 @@ impl PlaneText {
     ghost use Rattle.std.specs.Prelude.{◌≡◌, ◌≤◌, ◌^◌, ◌<◌, pos, IsTrue, IfOk};
     ghost use Rattle.faces.specs.PlaneFaces.{LieOnGrid};
     ghost use Rattle.report.specs.PlaneTexts.{AreLinesOf};
+    ghost use Rattle.solid_model.specs.Limits.{most_decimals};
     ghost use Rattle.solid_model.specs.Panels.{coordinates_of};
 
-    /// The lines of the faces of these squares in a plane of a grid. An `Err` is out of memory.
+    /// The lines of the faces of these squares in a plane of a grid. Their coordinates have so many
+    /// decimals. An `Err` is out of memory.
     fn of(
         alloc: Global,
         grid: &Grid,
+        decimals: u8,
         squares: Squares,
         out: Out,
         at: usize,
     ) -> Result<PlaneText, Memory>
         requires at { at ≤ 1024 }
+        requires decimals { decimals ≤ most_decimals }
         requires grid { LieOnGrid (coordinates_of grid.now) squares out (pos at) }
-        ensures { IfOk result (AreLinesOf (coordinates_of grid.now) out at squares) }
+        ensures { IfOk result (AreLinesOf decimals (coordinates_of grid.now) out at squares) }
     {
         let faces = faces_of_squares(alloc, grid, &squares, out, at)?;
         let mut text = Vec::new(alloc);
-        push_faces(&mut text, faces.as_slice())?;
+        push_faces(&mut text, faces.as_slice(), decimals)?;
         Ok(PlaneText {
             out,
             at,
@@ -128,10 +133,12 @@ fn kept<'a>(
 }
 
 /// The lines of the faces of these squares in a plane of a grid: the earlier ones at a place of a
-/// list, if they are of the same squares, or else new ones. An `Err` is out of memory.
+/// list, if they are of the same squares, or else new ones. Their coordinates have so many decimals.
+/// An `Err` is out of memory.
 pub fn text_of_plane(
     alloc: Global,
     grid: &Grid,
+    decimals: u8,
     squares: Squares,
     out: Out,
     at: usize,
@@ -139,12 +146,13 @@ pub fn text_of_plane(
     place: usize,
 ) -> Result<PlaneText, Memory>
     requires at { at ≤ 1024 }
+    requires decimals { decimals ≤ most_decimals }
     requires grid { LieOnGrid (coordinates_of grid.now) squares out (pos at) }
-    requires earlier { Each (AreLines (coordinates_of grid.now)) earlier.now }
-    ensures { IfOk result (AreLinesOf (coordinates_of grid.now) out at squares) }
+    requires earlier { Each (AreLines decimals (coordinates_of grid.now)) earlier.now }
+    ensures { IfOk result (AreLinesOf decimals (coordinates_of grid.now) out at squares) }
 {
     match kept(earlier, place, &squares, out, at) {
         Some(plane) => plane.copied(alloc, squares),
-        None => PlaneText::of(alloc, grid, squares, out, at),
+        None => PlaneText::of(alloc, grid, decimals, squares, out, at),
     }
 }

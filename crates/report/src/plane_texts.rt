@@ -5,6 +5,7 @@ ghost use Rattle.faces.specs.PlaneFaces.{AreBoundary};
 ghost use Rattle.report.specs.PlaneTexts.{PlaneLines, AreLines, AreLinesBefore, line_count, all_lines};
 ghost use Rattle.solid_model.specs.Faces.{out_number};
 ghost use Rattle.solid_model.specs.GridBox.{grid_sizes};
+ghost use Rattle.solid_model.specs.Limits.{most_decimals};
 ghost use Rattle.solid_model.specs.Lists.{Each};
 ghost use Rattle.solid_model.specs.Marks.{is_marked};
 ghost use Rattle.solid_model.specs.Panels.{coordinates_of};
@@ -17,11 +18,13 @@ use solid_model::{Axis, Grid, Memory, Out};
 use std::alloc::Global;
 use std::marker::Model;
 
-/// Puts the lines of the faces of marked cells in a plane at the end of the list. Those at the same
-/// place of an earlier list serve again if they are of the same squares.
+/// Puts the lines of the faces of marked cells in a plane at the end of the list, whose coordinates
+/// have so many decimals. Those at the same place of an earlier list serve again if they are of the
+/// same squares.
 fn add_plane(
     alloc: Global,
     grid: &Grid,
+    decimals: u8,
     cells: &CellRows,
     out: Out,
     at: usize,
@@ -30,14 +33,15 @@ fn add_plane(
 ) -> Result<(), Memory>
     requires at { at ≤ 1024 }
     requires sizes { numbers_of cells.now.sizes ≡ grid_sizes grid.now }
-    requires earlier { Each (AreLines (coordinates_of grid.now)) earlier.now }
+    requires decimals { decimals ≤ most_decimals }
+    requires earlier { Each (AreLines decimals (coordinates_of grid.now)) earlier.now }
     ensures { IfOk result (λ done. (p : PlaneLines) × (planes.new.items ≡ planes.old.items ++ p ∷ [])
-        × (p.out ≡ out) × (p.at ≡ at) × AreLines (coordinates_of grid.now) p
+        × (p.out ≡ out) × (p.at ≡ at) × AreLines decimals (coordinates_of grid.now) p
         × AreBoundary (is_marked cells.now) out (pos at) p.squares) }
 {
     let squares = plane_squares(alloc, cells, out, at)?;
     let place = planes.len();
-    let plane = text_of_plane(alloc, grid, squares, out, at, earlier, place)?;
+    let plane = text_of_plane(alloc, grid, decimals, squares, out, at, earlier, place)?;
     planes.push(plane)?;
     Ok(())
 }
@@ -46,21 +50,23 @@ fn add_plane(
 fn add_side(
     alloc: Global,
     grid: &Grid,
+    decimals: u8,
     cells: &CellRows,
     out: Out,
     earlier: &[PlaneText],
     planes: &mut Vec<PlaneText>,
 ) -> Result<(), Memory>
     requires sizes { numbers_of cells.now.sizes ≡ grid_sizes grid.now }
-    requires earlier { Each (AreLines (coordinates_of grid.now)) earlier.now }
-    requires before { AreLinesBefore (coordinates_of grid.now) (is_marked cells.now) (out_number out)
+    requires decimals { decimals ≤ most_decimals }
+    requires earlier { Each (AreLines decimals (coordinates_of grid.now)) earlier.now }
+    requires before { AreLinesBefore decimals (coordinates_of grid.now) (is_marked cells.now) (out_number out)
         0 planes.old.items }
-    ensures { IfOk result (λ done. AreLinesBefore (coordinates_of grid.now) (is_marked cells.now)
+    ensures { IfOk result (λ done. AreLinesBefore decimals (coordinates_of grid.now) (is_marked cells.now)
         (out_number out + 1) 0 planes.new.items) }
 {
     let count = cells.sizes().along(out.direction().axis) + 1;
     for at in 0..count {
-        add_plane(alloc, grid, cells, out, at, earlier, planes)?;
+        add_plane(alloc, grid, decimals, cells, out, at, earlier, planes)?;
     }
     Ok(())
 }
@@ -69,17 +75,19 @@ fn add_side(
 fn all_planes(
     alloc: Global,
     grid: &Grid,
+    decimals: u8,
     cells: &CellRows,
     earlier: &[PlaneText],
 ) -> Result<Vec<PlaneText>, Memory>
     requires sizes { numbers_of cells.now.sizes ≡ grid_sizes grid.now }
-    requires earlier { Each (AreLines (coordinates_of grid.now)) earlier.now }
-    ensures { IfOk result (λ planes. AreLinesBefore (coordinates_of grid.now) (is_marked cells.now)
+    requires decimals { decimals ≤ most_decimals }
+    requires earlier { Each (AreLines decimals (coordinates_of grid.now)) earlier.now }
+    ensures { IfOk result (λ planes. AreLinesBefore decimals (coordinates_of grid.now) (is_marked cells.now)
         6 0 planes.items) }
 {
     let mut planes = Vec::new(alloc);
     for out in Out::ALL {
-        add_side(alloc, grid, cells, out, earlier, &mut planes)?;
+        add_side(alloc, grid, decimals, cells, out, earlier, &mut planes)?;
     }
     Ok(planes)
 }
@@ -116,6 +124,7 @@ fn same(coordinates: &[i64], others: &[i64]) -> bool
 /// same squares serve for the next solid too.
 #[derive(Debug, Drop)]
 pub struct PlaneTexts {
+    decimals: u8,
     xs: Vec<i64>,
     ys: Vec<i64>,
     zs: Vec<i64>,
@@ -129,13 +138,15 @@ impl Model for PlaneTexts {
     ghost Value = { GridLines };
 
     ghost view = { λ s. record {
+      decimals = s.decimals;
       xs = s.xs.items;
       ys = s.ys.items;
       zs = s.zs.items;
       planes = s.planes.items;
     } };
 
-    ghost invariant = { λ s. Each (AreLines (listed record {
+    ghost invariant = { λ s. Each (AreLines s.decimals (listed record {
+      decimals = s.decimals;
       xs = s.xs.items;
       ys = s.ys.items;
       zs = s.zs.items;
@@ -144,20 +155,24 @@ impl Model for PlaneTexts {
 }
 
 impl PlaneTexts {
-    ghost use Rattle.std.specs.Prelude.{◌≡◌, ◌++◌, IsTrue, IfOk, OnOk};
+    ghost use Rattle.std.specs.Prelude.{◌≡◌, ◌≤◌, ◌++◌, IsTrue, IfOk, OnOk};
     ghost use Rattle.report.specs.PlaneTexts.{AreAllLines, line_count, all_lines, listed};
     ghost use Rattle.solid_model.specs.GridBox.{grid_sizes};
+    ghost use Rattle.solid_model.specs.Limits.{most_decimals};
     ghost use Rattle.solid_model.specs.Panels.{coordinates_of};
     ghost use Rattle.solid_model.specs.PerAxis.{numbers_of};
 
-    /// No lines yet, of a solid of a grid. An `Err` is out of memory.
-    pub fn of(alloc: Global, grid: &Grid) -> Result<PlaneTexts, Memory>
-        ensures { IfOk result (λ texts. listed texts ≡ coordinates_of grid.now) }
+    /// No lines yet, of a solid of a grid, whose coordinates have so many decimals. An `Err` is out
+    /// of memory.
+    pub fn of(alloc: Global, grid: &Grid, decimals: u8) -> Result<PlaneTexts, Memory>
+        ensures { IfOk result (λ texts. (listed texts ≡ coordinates_of grid.now)
+            × (texts.decimals ≡ decimals)) }
     {
         let xs = Vec::from_slice(alloc, grid.xs())?;
         let ys = Vec::from_slice(alloc, grid.ys())?;
         let zs = Vec::from_slice(alloc, grid.zs())?;
         Ok(PlaneTexts {
+            decimals,
             xs,
             ys,
             zs,
@@ -172,27 +187,36 @@ impl PlaneTexts {
         same(&self.xs, grid.xs()) && same(&self.ys, grid.ys()) && same(&self.zs, grid.zs())
     }
 
-    /// Forgets the lines if they are those of another grid.
-    fn put_on(&mut self, alloc: Global, grid: &Grid) -> Result<(), Memory>
-        ensures { IfOk result (λ done. listed self.new ≡ coordinates_of grid.now) }
+    /// Forgets the lines if they are those of another grid, or their coordinates have more or fewer
+    /// decimals.
+    fn put_on(&mut self, alloc: Global, grid: &Grid, decimals: u8) -> Result<(), Memory>
+        ensures { IfOk result (λ done. (listed self.new ≡ coordinates_of grid.now)
+            × (self.new.decimals ≡ decimals)) }
     {
-        if !self.is_on(grid) {
-            *self = PlaneTexts::of(alloc, grid)?;
+        if self.decimals != decimals || !self.is_on(grid) {
+            *self = PlaneTexts::of(alloc, grid, decimals)?;
         }
         Ok(())
     }
 
     /// Makes the lines of the faces of the union of marked cells of a grid, in the place of others.
-    /// An `Err` is out of memory.
-    pub fn update(&mut self, alloc: Global, grid: &Grid, cells: &CellRows) -> Result<(), Memory>
-        requires { numbers_of cells.now.sizes ≡ grid_sizes grid.now }
-        ensures { IfOk result (λ done. AreAllLines (coordinates_of grid.now) cells.now.values
-            self.new.planes) }
+    /// Their coordinates have so many decimals, at most 6. An `Err` is out of memory.
+    pub fn update(
+        &mut self,
+        alloc: Global,
+        grid: &Grid,
+        decimals: u8,
+        cells: &CellRows,
+    ) -> Result<(), Memory>
+        requires sizes { numbers_of cells.now.sizes ≡ grid_sizes grid.now }
+        requires decimals { decimals ≤ most_decimals }
+        ensures { IfOk result (λ done. AreAllLines decimals (coordinates_of grid.now)
+            cells.now.values self.new.planes) }
     {
         // A look at the grid tells that its coordinates are in order.
         let _ = grid.coordinates(Axis::X);
-        self.put_on(alloc, grid)?;
-        self.planes = all_planes(alloc, grid, cells, self.planes.as_slice())?;
+        self.put_on(alloc, grid, decimals)?;
+        self.planes = all_planes(alloc, grid, decimals, cells, self.planes.as_slice())?;
         Ok(())
     }
 

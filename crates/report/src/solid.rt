@@ -1,12 +1,14 @@
 //! The lines of a solid: how it is chosen, and its faces.
 
-ghost use Rattle.std.specs.Prelude.{◌≡◌, ◌∷◌, ◌++◌, OnOk};
-ghost use Rattle.std.specs.Fmt.{signed_decimal};
+ghost use Rattle.std.specs.Prelude.{◌≡◌, ◌≤◌, ◌∷◌, ◌++◌, OnOk};
 ghost use Rattle.std.specs.List.{flat_map};
+ghost use Rattle.solid_model.specs.Limits.{most_decimals};
+ghost use Rattle.decimal_texts.specs.Decimals.{decimal_text};
 ghost use Rattle.report.specs.Texts.{side_name, corner_text, loop_text, face_text};
 ghost use Rattle.report.specs.Texts.{solid_line};
 
 use crate::text::{push_choice, push_number};
+use decimal_texts::push_decimal;
 use solid_model::{Cell, Choice, Face, Loop, Memory, Out};
 
 /// An outward side, by the sign and the letter of its direction.
@@ -23,65 +25,80 @@ fn side_name(out: Out) -> &'static str
     }
 }
 
-/// Adds a coordinate behind what sets it off.
-fn push_coordinate(text: &mut Vec<u8>, before: u8, coordinate: i64) -> Result<(), Memory>
+/// Adds a coordinate with so many decimals, behind what sets it off.
+fn push_coordinate(
+    text: &mut Vec<u8>,
+    before: u8,
+    coordinate: i64,
+    decimals: u8,
+) -> Result<(), Memory>
+    requires { decimals ≤ most_decimals }
     ensures { OnOk result (text.new.items
-        ≡ text.old.items ++ before ∷ signed_decimal coordinate) }
+        ≡ text.old.items ++ before ∷ decimal_text decimals coordinate) }
 {
     text.push(before)?;
-    push_number(text, coordinate)
+    push_decimal(text, coordinate, decimals)?;
+    Ok(())
 }
 
 /// Adds a corner of a loop, behind a blank.
-fn push_corner(text: &mut Vec<u8>, corner: Cell) -> Result<(), Memory>
-    ensures { OnOk result (text.new.items ≡ text.old.items ++ corner_text corner) }
+fn push_corner(text: &mut Vec<u8>, corner: Cell, decimals: u8) -> Result<(), Memory>
+    requires { decimals ≤ most_decimals }
+    ensures { OnOk result (text.new.items ≡ text.old.items ++ corner_text decimals corner) }
 {
-    push_coordinate(text, b' ', corner.x)?;
-    push_coordinate(text, b',', corner.y)?;
-    push_coordinate(text, b',', corner.z)?;
+    push_coordinate(text, b' ', corner.x, decimals)?;
+    push_coordinate(text, b',', corner.y, decimals)?;
+    push_coordinate(text, b',', corner.z, decimals)?;
     Ok(())
 }
 
 /// Adds corners, in their order.
-fn push_corners(text: &mut Vec<u8>, corners: &[Cell]) -> Result<(), Memory>
-    ensures { OnOk result (text.new.items ≡ text.old.items ++ flat_map corner_text corners.now) }
+fn push_corners(text: &mut Vec<u8>, corners: &[Cell], decimals: u8) -> Result<(), Memory>
+    requires { decimals ≤ most_decimals }
+    ensures { OnOk result (text.new.items
+        ≡ text.old.items ++ flat_map (corner_text decimals) corners.now) }
 {
     for corner in corners {
-        push_corner(text, *corner)?;
+        push_corner(text, *corner, decimals)?;
     }
     Ok(())
 }
 
 /// Adds loops, in their order, each behind a blank.
-fn push_loops(text: &mut Vec<u8>, loops: &[Loop]) -> Result<(), Memory>
-    ensures { OnOk result (text.new.items ≡ text.old.items ++ flat_map loop_text loops.now) }
+fn push_loops(text: &mut Vec<u8>, loops: &[Loop], decimals: u8) -> Result<(), Memory>
+    requires { decimals ≤ most_decimals }
+    ensures { OnOk result (text.new.items
+        ≡ text.old.items ++ flat_map (loop_text decimals) loops.now) }
 {
     for border in loops {
         text.extend_from_slice(b" loop")?;
-        push_corners(text, border.corners.as_slice())?;
+        push_corners(text, border.corners.as_slice(), decimals)?;
     }
     Ok(())
 }
 
 /// Adds the line of a face.
-fn push_face(text: &mut Vec<u8>, face: &Face) -> Result<(), Memory>
-    ensures { OnOk result (text.new.items ≡ text.old.items ++ face_text face.now) }
+fn push_face(text: &mut Vec<u8>, face: &Face, decimals: u8) -> Result<(), Memory>
+    requires { decimals ≤ most_decimals }
+    ensures { OnOk result (text.new.items ≡ text.old.items ++ face_text decimals face.now) }
 {
     text.extend_from_slice(b"face ")?;
     text.extend_from_slice(side_name(face.out).as_bytes())?;
     text.extend_from_slice(b" at ")?;
-    push_number(text, face.at)?;
-    push_loops(text, face.loops.as_slice())?;
+    push_decimal(text, face.at, decimals)?;
+    push_loops(text, face.loops.as_slice(), decimals)?;
     text.extend_from_slice(b"\n")?;
     Ok(())
 }
 
-/// Adds the lines of faces, in their order.
-pub fn push_faces(text: &mut Vec<u8>, faces: &[Face]) -> Result<(), Memory>
-    ensures { OnOk result (text.new.items ≡ text.old.items ++ flat_map face_text faces.now) }
+/// Adds the lines of faces, in their order. Their coordinates have so many decimals.
+pub fn push_faces(text: &mut Vec<u8>, faces: &[Face], decimals: u8) -> Result<(), Memory>
+    requires { decimals ≤ most_decimals }
+    ensures { OnOk result (text.new.items
+        ≡ text.old.items ++ flat_map (face_text decimals) faces.now) }
 {
     for face in faces {
-        push_face(text, face)?;
+        push_face(text, face, decimals)?;
     }
     Ok(())
 }

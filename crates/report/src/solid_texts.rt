@@ -1,11 +1,12 @@
 //! The texts of solids, one after another in one room.
 
-ghost use Rattle.std.specs.Prelude.{◌≡◌, Bool, List, IfOk};
+ghost use Rattle.std.specs.Prelude.{◌≡◌, ◌≤◌, Bool, List, IfOk};
 ghost use Rattle.report.specs.Texts.{solid_text};
 ghost use Rattle.solid_model.specs.declared.cell.Cell.{Cell};
 ghost use Rattle.solid_model.specs.Choices.{cells_of_choice};
 ghost use Rattle.solid_model.specs.Faces.{FaceParts, AreFacesOf};
 ghost use Rattle.solid_model.specs.Grid.{IsUnionOf};
+ghost use Rattle.solid_model.specs.Limits.{most_decimals};
 ghost use Rattle.solid_model.specs.Panels.{coordinates_of};
 ghost use Rattle.solid_model.specs.Volumes.{volume_of};
 
@@ -17,27 +18,31 @@ use solid_model::{Choice, Memory, Problem};
 use std::alloc::Global;
 use std::marker::Model;
 
-/// What the texts of all solids of a problem need, made once. Contracts see the problem.
+/// What the texts of all solids of a problem need, made once. Contracts see the problem, and how many
+/// decimals coordinates have.
 #[derive(Debug, Drop)]
 pub struct SolidTexts<'a> {
     problem: &'a Problem,
+    decimals: u8,
     blocks: BlockRows<'a>,
     volumes: Vec<u128>,
 }
 
 impl<'a> Model for SolidTexts<'a> {
-    ghost use Rattle.std.specs.Prelude.{◌≡◌};
+    ghost use Rattle.std.specs.Prelude.{◌≡◌, ◌≤◌};
+    ghost use Rattle.report.specs.Texts.{TextsParts};
     ghost use Rattle.report.specs.Volumes.{AreVolumes};
-    ghost use Rattle.solid_model.specs.Blocks.{ProblemParts};
+    ghost use Rattle.solid_model.specs.Limits.{most_decimals};
     ghost use Rattle.solid_model.specs.Panels.{coordinates_of};
 
-    ghost Value = { ProblemParts };
+    ghost Value = { TextsParts };
 
-    ghost view = { λ s. s.problem.now };
+    ghost view = { λ s. record { problem = s.problem.now; decimals = s.decimals } };
 
     ghost invariant = { λ s. (s.blocks ≡ s.problem.now.blocks)
         × AreVolumes (coordinates_of s.problem.now.grid) s.problem.now.blocks.numbers
-        s.volumes.items };
+        s.volumes.items
+        × (s.decimals ≤ most_decimals) };
 }
 
 /// Room for one solid at a time: its rows of cells, the lines of its faces, and its text.
@@ -49,16 +54,22 @@ pub struct SolidRoom {
 }
 
 impl<'a> SolidTexts<'a> {
-    ghost use Rattle.std.specs.Prelude.{◌≡◌, IfOk};
+    ghost use Rattle.std.specs.Prelude.{◌≡◌, ◌≤◌, IfOk};
+    ghost use Rattle.solid_model.specs.Limits.{most_decimals};
 
-    /// The texts of the solids of a problem. An `Err` is out of memory.
-    pub fn of(alloc: Global, problem: &'a Problem) -> Result<SolidTexts<'a>, Memory>
-        ensures { IfOk result (λ texts. texts ≡ problem.now) }
+    /// The texts of the solids of a problem. Planes and coordinates are told as numbers of units of
+    /// ten to the power of minus `decimals`, which are at most 6: each is divided by ten to that
+    /// power, and has so many digits behind the point. An `Err` is out of memory.
+    pub fn of(alloc: Global, problem: &'a Problem, decimals: u8) -> Result<SolidTexts<'a>, Memory>
+        requires { decimals ≤ most_decimals }
+        ensures { IfOk result (λ texts. (texts.problem ≡ problem.now)
+            × (texts.decimals ≡ decimals)) }
     {
         let blocks = BlockRows::of(alloc, problem)?;
         let volumes = block_volumes(alloc, problem)?;
         Ok(SolidTexts {
             problem,
+            decimals,
             blocks,
             volumes,
         })
@@ -77,10 +88,10 @@ impl SolidTexts<'_> {
 
     /// Room for these texts. An `Err` is out of memory.
     pub fn room(&self, alloc: Global) -> Result<SolidRoom, Memory>
-        ensures { IfOk result (λ room. room.rows.sizes ≡ self.now.blocks.sizes) }
+        ensures { IfOk result (λ room. room.rows.sizes ≡ self.now.problem.blocks.sizes) }
     {
         let rows = CellRows::blank(alloc, self.problem)?;
-        let planes = PlaneTexts::of(alloc, self.problem.grid())?;
+        let planes = PlaneTexts::of(alloc, self.problem.grid(), self.decimals)?;
         Ok(SolidRoom {
             rows,
             planes,
@@ -99,18 +110,18 @@ impl SolidTexts<'_> {
         choice: &Choice,
         room: &mut SolidRoom,
     ) -> Result<(), Memory>
-        requires { room.old.rows.sizes ≡ self.now.blocks.sizes }
-        ensures sizes { room.new.rows.sizes ≡ self.now.blocks.sizes }
+        requires { room.old.rows.sizes ≡ self.now.problem.blocks.sizes }
+        ensures sizes { room.new.rows.sizes ≡ self.now.problem.blocks.sizes }
         ensures text { OnOk result ((faces : List FaceParts)
-            × ((full : Cell → Bool) → IsUnionOf (coordinates_of self.now.grid)
-            (cells_of_choice self.now.blocks.numbers choice.now) full → AreFacesOf full faces)
-            × (room.new.text.items ≡ solid_text number choice.now
-            (volume_of (coordinates_of self.now.grid)
-            (cells_of_choice self.now.blocks.numbers choice.now)) faces)) }
+            × ((full : Cell → Bool) → IsUnionOf (coordinates_of self.now.problem.grid)
+            (cells_of_choice self.now.problem.blocks.numbers choice.now) full → AreFacesOf full faces)
+            × (room.new.text.items ≡ solid_text self.now.decimals number choice.now
+            (volume_of (coordinates_of self.now.problem.grid)
+            (cells_of_choice self.now.problem.blocks.numbers choice.now)) faces)) }
     {
         room.rows.fill(&self.blocks, choice);
         let grid = self.problem.grid();
-        room.planes.update(alloc, grid, &room.rows)?;
+        room.planes.update(alloc, grid, self.decimals, &room.rows)?;
         let volume = chosen_sum(self.volumes.as_slice(), choice);
         let faces = room.planes.count();
         room.text.clear();
@@ -121,21 +132,23 @@ impl SolidTexts<'_> {
 }
 
 /// The text of the solid of this number that a choice of a problem's blocks fills, as
-/// [`SolidTexts::tell`] makes it. An `Err` is out of memory.
+/// [`SolidTexts::tell`] makes it, with at most 6 decimals. An `Err` is out of memory.
 pub fn solid_text(
     alloc: Global,
     problem: &Problem,
     number: u32,
     choice: &Choice,
+    decimals: u8,
 ) -> Result<Vec<u8>, Memory>
+    requires { decimals ≤ most_decimals }
     ensures { IfOk result (λ text. (faces : List FaceParts)
         × ((full : Cell → Bool) → IsUnionOf (coordinates_of problem.now.grid)
         (cells_of_choice problem.now.blocks.numbers choice.now) full → AreFacesOf full faces)
-        × (text.items ≡ solid_text number choice.now
+        × (text.items ≡ solid_text decimals number choice.now
         (volume_of (coordinates_of problem.now.grid)
         (cells_of_choice problem.now.blocks.numbers choice.now)) faces)) }
 {
-    let texts = SolidTexts::of(alloc, problem)?;
+    let texts = SolidTexts::of(alloc, problem, decimals)?;
     let mut room = texts.room(alloc)?;
     texts.tell(alloc, number, choice, &mut room)?;
     Ok(room.text)

@@ -29,8 +29,8 @@ returns c =
     c.point-to.ensures.x ∙ (λ t. across_of c.args.upright (at t) (ends t) +ℤ place.right) in
     let y1 : c.point-to.result.1 ≡ l.y1 =
     c.point-to.ensures.y ∙ (λ t. along_of c.args.upright (at t) (ends t) +ℤ place.up) in
-    let from : c.push_point.new.text.items ≡ c.push_pair-3.new.text.items ++ point_text (codes "10") (codes "20") (codes "30") l.x0 l.y0 =
-    c.in_ok-push_point.ensures ∙ (λ t. c.push_pair-3.new.text.items ++ point_text (codes "10") (codes "20") (codes "30") (x0 t) (y0 t)) in
-    let to : c.push_point-2.new.text.items ≡ c.push_point.new.text.items ++ point_text (codes "11") (codes "21") (codes "31") l.x1 l.y1 =
-    c.in_ok-push_point-2.ensures ∙ (λ t. c.push_point.new.text.items ++ point_text (codes "11") (codes "21") (codes "31") (x1 t) (y1 t)) in
-    line_pushed l _ _ _ _ _ _ first layer linetype from to
+    let from : c.push_point.new.text.items ≡ c.push_pair-3.new.text.items ++ point_text c.args.decimals (codes "10") (codes "20") (codes "30") l.x0 l.y0 =
+    c.in_ok-push_point.ensures ∙ (λ t. c.push_pair-3.new.text.items ++ point_text c.args.decimals (codes "10") (codes "20") (codes "30") (x0 t) (y0 t)) in
+    let to : c.push_point-2.new.text.items ≡ c.push_point.new.text.items ++ point_text c.args.decimals (codes "11") (codes "21") (codes "31") l.x1 l.y1 =
+    c.in_ok-push_point-2.ensures ∙ (λ t. c.push_point.new.text.items ++ point_text c.args.decimals (codes "11") (codes "21") (codes "31") (x1 t) (y1 t)) in
+    line_pushed c.args.decimals l _ _ _ _ _ _ first layer linetype from to

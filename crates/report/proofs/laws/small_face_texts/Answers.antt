@@ -26,3 +26,11 @@ returns-clause-minus_z c = refl
 pub returns-clause-plus_z : goal.returns-clause-plus_z
 unfolding digits
 returns-clause-plus_z c = refl
+
+pub returns-clause-half : goal.returns-clause-half
+unfolding digits
+returns-clause-half c = refl
+
+pub returns-clause-decimals : goal.returns-clause-decimals
+unfolding digits
+returns-clause-decimals c = refl

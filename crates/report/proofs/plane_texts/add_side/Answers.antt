@@ -14,12 +14,12 @@ loop-at-preserved c =
     let m = c.args.cells.now in
     let n = out_number c.args.out in
     let (p, is, out, at, lines, boundary) = c.in_ok-add_plane.ensures in
-    subst (AreLinesBefore coordinates (is_marked m) n (c.loop-at.at + 1)) (sym is)
-    (lines_more coordinates m n c.loop-at.at c.loop-at.planes.items c.loop-at.invariant c.args.out refl p out at lines boundary)
+    subst (AreLinesBefore c.args.decimals coordinates (is_marked m) n (c.loop-at.at + 1)) (sym is)
+    (lines_more c.args.decimals coordinates m n c.loop-at.at c.loop-at.planes.items c.loop-at.invariant c.args.out refl p out at lines boundary)
 
 pub returns : goal.returns
 returns c =
     let m = c.args.cells.now in
     let size : c.along-count.result ≡ numbers_of m.sizes (outward c.args.out).axis =
     c.along-count.ensures ∙ (λ i. numbers_of (c.sizes.ensures.sizes i) (c.direction.ensures i).axis) in
-    lines_of_side (coordinates_of c.args.grid.now) m (out_number c.args.out) c.loop-at.at c.loop-at.planes.items c.args.out refl (omega arith) c.loop-at.invariant
+    lines_of_side c.args.decimals (coordinates_of c.args.grid.now) m (out_number c.args.out) c.loop-at.at c.loop-at.planes.items c.args.out refl (omega arith) c.loop-at.invariant

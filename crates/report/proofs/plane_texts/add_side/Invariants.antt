@@ -6,4 +6,4 @@ use Rattle.report.specs.PlaneTexts.{AreLinesBefore}
 use Rattle.report.proofs.plane_texts.add_side.Given as goal
 
 abbrev pub invariant-loop-at : goal.invariant-loop-at
-invariant-loop-at l = AreLinesBefore (coordinates_of l.grid) (is_marked l.cells) (out_number l.out) l.at l.planes.items
+invariant-loop-at l = AreLinesBefore l.decimals (coordinates_of l.grid) (is_marked l.cells) (out_number l.out) l.at l.planes.items

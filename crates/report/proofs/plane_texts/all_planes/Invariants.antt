@@ -5,4 +5,4 @@ use Rattle.report.specs.PlaneTexts.{AreLinesBefore}
 use Rattle.report.proofs.plane_texts.all_planes.Given as goal
 
 abbrev pub invariant-loop-out : goal.invariant-loop-out
-invariant-loop-out l = AreLinesBefore (coordinates_of l.grid) (is_marked l.cells) l.out-index 0 l.planes.items
+invariant-loop-out l = AreLinesBefore l.decimals (coordinates_of l.grid) (is_marked l.cells) l.out-index 0 l.planes.items

@@ -11,10 +11,13 @@ use Rattle.report.specs.Texts.{solid_text}
 use Rattle.report.proofs.solid_texts.solid_text.Goals as goal
 
 -- a text is that of a solid of a problem
-abbrev IsText : ℕ → List Bool → List ℕ → ProblemParts → Type 0
-IsText number choice text p = (faces : List FaceParts)
+abbrev IsText : ℕ → List Bool → List ℕ → ℕ → ProblemParts → Type 0
+IsText number choice text decimals p = (faces : List FaceParts)
     × ((full : Cell → Bool) → IsUnionOf (coordinates_of p.grid) (cells_of_choice p.blocks.numbers choice) full → AreFacesOf full faces)
-    × (text ≡ solid_text number choice (volume_of (coordinates_of p.grid) (cells_of_choice p.blocks.numbers choice)) faces)
+    × (text ≡ solid_text decimals number choice (volume_of (coordinates_of p.grid) (cells_of_choice p.blocks.numbers choice)) faces)
 
 pub returns : goal.returns
-returns c = subst (IsText c.args.number c.args.choice.now c.tell.new.room.text.items) c.in_ok-texts.ensures c.in_ok-tell.ensures.text
+returns c =
+    let is = IsText c.args.number c.args.choice.now c.tell.new.room.text.items in
+    subst (is c.args.decimals) c.in_ok-texts.ensures.0
+    (subst (λ (d : ℕ). is d c.in_ok-texts.texts.problem) c.in_ok-texts.ensures.1 c.in_ok-tell.ensures.text)

@@ -9,3 +9,7 @@ returns-clause-brick c = brick_is_file
 pub returns-clause-hidden : goal.returns-clause-hidden
 unfolding digits
 returns-clause-hidden c = refl
+
+pub returns-clause-half : goal.returns-clause-half
+unfolding digits
+returns-clause-half c = refl

@@ -1,5 +1,5 @@
 -- The lines of all sides are those of the union.
-use Rattle.std.proofs.Common.{sym, ap, subst, ◌∙◌}
+use Rattle.std.proofs.Common.{ℕ, sym, ap, subst, ◌∙◌}
 use Rattle.solid_model.specs.Grid.{Coordinates}
 use Rattle.solid_model.specs.Lists.{Each}
 use Rattle.solid_model.specs.Panels.{coordinates_of}
@@ -9,19 +9,23 @@ use Rattle.report.proofs.plane_texts.PlaneTexts.update.Goals as goal
 
 pub all_planes-requires-clause-earlier : goal.all_planes-requires-clause-earlier
 all_planes-requires-clause-earlier c =
-    let same = ap listed c.self.view_is ∙ c.in_ok-put_on.ensures in
-    let earlier = subst (λ (k : Coordinates). Each (AreLines k) c.self.inside.planes.items) same c.self.invariant in
-    subst (Each (AreLines (coordinates_of c.args.grid.now))) (sym c.as_slice.ensures.value) earlier
+    let same = ap listed c.self.view_is ∙ c.in_ok-put_on.ensures.0 in
+    let decimals = ap (λ (g : GridLines). g.decimals) c.self.view_is ∙ c.in_ok-put_on.ensures.1 in
+    let earlier = subst (λ (k : ℕ). Each (AreLines k (coordinates_of c.args.grid.now)) c.self.inside.planes.items) decimals
+    (subst (λ (k : Coordinates). Each (AreLines c.self.inside.decimals k) c.self.inside.planes.items) same c.self.invariant) in
+    subst (Each (AreLines c.args.decimals (coordinates_of c.args.grid.now))) (sym c.as_slice.ensures.value) earlier
 
 pub invariant_of-self : goal.invariant_of-self
 invariant_of-self c =
     let planes = c.in_ok-self-inside.field-0.items in
-    let now : GridLines = record { xs = c.self.inside.xs.items; ys = c.self.inside.ys.items; zs = c.self.inside.zs.items; planes = c.self.inside.planes.items } in
-    let same = other_planes now planes ∙ ap listed c.self.view_is ∙ c.in_ok-put_on.ensures in
-    subst (λ (k : Coordinates). Each (AreLines k) planes) (sym same) c.in_ok-self-inside.ensures.each
+    let now : GridLines = record { decimals = c.self.inside.decimals; xs = c.self.inside.xs.items; ys = c.self.inside.ys.items; zs = c.self.inside.zs.items; planes = c.self.inside.planes.items } in
+    let same = other_planes now planes ∙ ap listed c.self.view_is ∙ c.in_ok-put_on.ensures.0 in
+    let decimals = ap (λ (g : GridLines). g.decimals) c.self.view_is ∙ c.in_ok-put_on.ensures.1 in
+    subst (λ (k : Coordinates). Each (AreLines c.self.inside.decimals k) planes) (sym same)
+    (subst (λ (k : ℕ). Each (AreLines k (coordinates_of c.args.grid.now)) planes) (sym decimals) c.in_ok-self-inside.ensures.each)
 
 pub returns : goal.returns
 returns c =
     let coordinates = coordinates_of c.args.grid.now in
     let (drawing, is_drawing, is_grid) = c.coordinates.ensures.kept in
-    lines_of_all coordinates c.args.cells.now c.requires (λ a. (is_grid.coordinates a).ordered) c.in_ok-self-inside.field-0.items c.in_ok-self-inside.ensures
+    lines_of_all c.args.decimals coordinates c.args.cells.now c.requires.sizes (λ a. (is_grid.coordinates a).ordered) c.in_ok-self-inside.field-0.items c.in_ok-self-inside.ensures
