@@ -50,7 +50,7 @@ fn solve<R: Threads + Wait + Sync, S: Source, K: Sink, G: Gate>(
     ensures unwritten { result ≡ Err ReadFault → sink.new ≡ sink.old }
 {
     let found = find(alloc, decimals, source)?;
-    write_found(alloc, found, limits, pages, sink, crew)
+    write_found(alloc, found, limits, pages, decimals, sink, crew)
 }
 
 /// Searches within limits for the solids of the drawing that the source has left, and writes the one
@@ -112,9 +112,8 @@ fn do_job<R: Threads + Wait + Sync, S: Source, K: Sink, G: Gate>(
             decimals,
         } => {
             let crew = Crew { rt, workers, gate };
-            write_one_solid::<Drawing, R, S, K, G>(
-                alloc, which, limits, decimals, source, sink, &crew,
-            )
+            let form = Drawing::with(decimals);
+            write_one_solid(alloc, &form, which, limits, decimals, source, sink, &crew)
         }
         Job::Stl {
             which,

@@ -35,6 +35,7 @@ pub trait Export {
 }
 
 /// Its drawing, as a DXF file, in one piece. Contracts see how many decimals its coordinates have.
+#[derive(Drop)]
 pub struct Drawing {
     decimals: u8,
 }
