@@ -12,6 +12,7 @@ import sys
 from collections.abc import Callable, Iterable, Iterator
 from typing import NamedTuple
 
+DRAWN = ("LINE", "LWPOLYLINE")
 DASHED = ("HIDDEN", "HIDDEN2", "HIDDENX2", "DASHED", "DASHED2", "DASHEDX2")
 CENTER = ("CENTER", "CENTER2", "CENTERX2")
 
@@ -61,10 +62,11 @@ class Line(NamedTuple):
 
 
 class Entry(NamedTuple):
-    """An entry of a section: the first value of each of its codes, and the lines of the file where it begins and ends."""
+    """An entry of a section: its pairs, the first value of each of its codes, and the lines of the file where it begins and ends."""
 
     section: str
     name: str
+    pairs: list[tuple[int, str]]
     values: dict[int, str]
     first: int
     last: int
@@ -92,10 +94,11 @@ def entries_of(lines: list[str]) -> Iterator[Entry]:
         if code == 0:
             if entry:
                 yield entry
-            entry, foreign = Entry(section, value.upper(), {}, number, number + 1), False
+            entry, foreign = Entry(section, value.upper(), [], {}, number, number + 1), False
         elif entry:
             foreign = foreign or (code == 102 and value.startswith("{"))
             if not foreign and code != 999:
+                entry.pairs.append((code, value))
                 entry.values.setdefault(code, value)
             foreign = foreign and not (code == 102 and value == "}")
             entry = entry._replace(last=number + 1)
@@ -105,13 +108,23 @@ def entries_of(lines: list[str]) -> Iterator[Entry]:
         yield entry
 
 
-def ends_of(values: dict[int, str]) -> tuple[Place, Place] | None:
-    """The two ends of a line; none of one that has no length, or is broken."""
+def points_of(entry: Entry) -> list[Place]:
+    """The points through which a line or a polyline goes; none of one that is broken."""
     try:
-        start, end = [(float(values[x]), float(values[y])) for x, y in ((10, 20), (11, 21))]
+        if entry.name == "LINE":
+            return [(float(entry.values[x]), float(entry.values[y])) for x, y in ((10, 20), (11, 21))]
+        xs, ys = [[float(value) for code, value in entry.pairs if code == wanted] for wanted in (10, 20)]
+        points = list(zip(xs, ys, strict=True))
+        closed = float(entry.values.get(70, "0")) % 2 == 1 and len(points) > 1
     except (KeyError, ValueError):
-        return None
-    return (start, end) if start != end and all(map(math.isfinite, start + end)) else None
+        return []
+    return points + points[:1] if closed else points
+
+
+def sides_of(entry: Entry) -> list[tuple[Place, Place]]:
+    """The two ends of each line that it gives and that has some length."""
+    points = points_of(entry)
+    return [ends for ends in zip(points, points[1:]) if ends[0] != ends[1] and all(map(math.isfinite, ends[0] + ends[1]))]
 
 
 def views_of(lines: list[str]) -> dict[str, list[Line]]:
@@ -122,12 +135,12 @@ def views_of(lines: list[str]) -> dict[str, list[Line]]:
         layer = entry.values.get(8, "").upper()
         if entry.section == "TABLES" and entry.name == "LAYER":
             layers.setdefault(entry.values.get(2, "").upper(), entry.values.get(6, "").upper())
-        elif entry.section == "ENTITIES" and entry.name == "LINE" and layer in views and entry.values.get(67) != "1":
+        elif entry.section == "ENTITIES" and entry.name in DRAWN and layer in views and entry.values.get(67) != "1":
             linetype = entry.values.get(6, "BYLAYER").upper()
             linetype = layers.get(layer, "") if linetype == "BYLAYER" else linetype
-            ends = ends_of(entry.values)
-            if linetype not in CENTER and ends:
-                views[layer].append(Line(linetype in DASHED, *ends, (entry.first, entry.last)))
+            if linetype not in CENTER:
+                told = entry.first, entry.last
+                views[layer] += [Line(linetype in DASHED, *ends, told) for ends in sides_of(entry)]
     return views
 
 

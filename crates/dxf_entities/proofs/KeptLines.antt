@@ -1,159 +1,99 @@
 -- The lines that a file keeps are level or upright, drawn, and near.
-use Rattle.std.proofs.Common.{◌≡◌, ◌≢◌, ◌⊎◌, inl, inr, Bool, true, false, ◌||◌, if◌then◌else◌, ℕ, List, [], ◌∷◌, length, ℤ, pos, Option, Some, None, Result, Ok, Err, IfOk, IfSome, nat_lt, int_eq, refl, sym, subst, codes}
-use Rattle.std.specs.Option.{option_flatten, unwrap_or}
+use Rattle.std.proofs.Common.{◌≡◌, ◌≢◌, ◌⊎◌, inl, inr, Bool, true, false, ◌||◌, if◌then◌else◌, ℕ, List, [], ◌∷◌, ◌++◌, length, ℤ, Option, Some, None, Result, Ok, Err, IfSome, int_eq, refl, sym, subst, codes}
+use Rattle.std.specs.Option.{option_flatten, option_map, unwrap_or}
+use Rattle.std.proofs.lemmas.Bool.{and_parts}
 use Rattle.std.proofs.lemmas.Bool.Decides.{Decides-int_eq}
 use Rattle.dxf_entities.specs.declared.facts.Facts.{Facts}
 use Rattle.dxf_entities.specs.declared.kind.Kind.{Kind}
 use Rattle.dxf_entities.specs.declared.kind.Kind.TheVariants as kind
 use Rattle.dxf_entities.specs.declared.linetype.Linetype.{Linetype}
 use Rattle.dxf_entities.specs.declared.linetype.Linetype.TheVariants.{Continuous, Hidden, Center, ByLayer, Unlisted}
+use Rattle.dxf_entities.specs.declared.pen.Pen.{Pen}
 use Rattle.dxf_entities.specs.declared.section.Section.{Section}
 use Rattle.dxf_entities.specs.declared.section.Section.TheVariants.{Tables, Entities, Other}
+use Rattle.dxf_entities.specs.declared.shape.Shape.{Shape}
 use Rattle.dxf_entities.specs.declared.place.Place.{Place}
 use Rattle.dxf_entities.specs.declared.place.Place.TheVariants.{Outside, Unnamed, Inside}
-use Rattle.dxf_entities.specs.Coordinates.{◌>>=◌, value_at, coordinate_at, with_coordinate, known_coordinates, present}
 use Rattle.dxf_entities.specs.Entries.{Entry, has_code, before_entries, entries_of, own_pairs}
-use Rattle.dxf_entities.specs.Judging.{facts_of, is_on_paper, by_layer, style_of, line_with, kept, styled_line, line_in, judged_in, judged_on, judged}
-use Rattle.solid_model.specs.Limits.{most_lines}
-use Rattle.dxf_entities.specs.Known.{Known, none_known, AreNear}
-use Rattle.dxf_entities.specs.Names.{is_name}
-use Rattle.dxf_entities.specs.Reading.{Progress, nothing_read, between, opened, layer_added, line_added, entry_read, read_at, end_read, is_ended, entries_read, pairs_read, read_of}
-use Rattle.dxf_groups.specs.declared.numerals.NumeralFault.{NumeralFault}
-use Rattle.dxf_groups.specs.Numerals.{whole_of}
+use Rattle.dxf_entities.specs.Judging.{facts_of, is_on_paper, by_layer, style_of, pen_in, pen_of, pen_on, drawn_by, lines_by, judged}
+use Rattle.dxf_entities.specs.Known.{Point, IsNearPoint}
+use Rattle.dxf_entities.specs.Names.{is_name, kind_of}
+use Rattle.dxf_entities.specs.Reading.{Progress, nothing_read, between, opened, layer_added, entry_read, read_at, end_read, is_ended, entries_read, pairs_read, read_of}
+use Rattle.dxf_entities.specs.Shapes.{begun_shape, points_of}
+use Rattle.dxf_entities.specs.Steps.{◌>>=◌}
+use Rattle.dxf_entities.specs.Strokes.{are_straight_from, are_straight, line_between, lines_from, lines_along, kept, drawn_along, added_along}
 use Rattle.dxf_groups.specs.Pairs.{TextPair, Pairs, pairs_of}
-use Rattle.dxf_groups.proofs.NumeralReach.{whole_near}
 use Rattle.solid_model.specs.declared.fault.Fault.{Fault}
 use Rattle.solid_model.specs.declared.frame.View.{View}
 use Rattle.solid_model.specs.declared.segment.Style.{Style}
 use Rattle.solid_model.specs.declared.segment.Style.TheVariants.{Blank, Dashed, Solid}
-use Rattle.solid_model.specs.Line.{Line, IsNear, IsKept}
+use Rattle.solid_model.specs.Line.{Line, IsKept}
 use Rattle.solid_model.specs.Lists.{Each}
 use Rattle.solid_model.proofs.Lists.{each-append}
-
--- ---- steps that may have a fault
-
--- two answers with equal values have one value
-pub ok_value : {A : Type 0} (a b : A) → ◌≡◌ {A = Result A Fault} (Ok a) (Ok b) → a ≡ b
-ok_value a b e = cc
-
--- two steps that have an answer, by the value between them
-record HasSteps {A B : Type 0} (r : Result A Fault) (f : A → Result B Fault) (b : B) : Type 0 where
-  value : A
-  first : r ≡ Ok value
-  second : f value ≡ Ok b
-
--- a step's answer comes from an answer of the step before
-after_ok : {A B : Type 0} (r : Result A Fault) (f : A → Result B Fault) (b : B) → (r >>= f) ≡ Ok b
-    → HasSteps r f b
-after_ok (Ok a) f b e = record { value = a; first = refl; second = e }
-after_ok (Err x) f b e = absurd cc
-
--- ---- coordinates
-
--- the coordinate that a value gives is near
-value_near : (p : TextPair) (r : Result ℤ NumeralFault) (z : ℤ) → IfOk r IsNear
-    → value_at p r ≡ Ok z → IsNear z
-value_near p (Ok k) z near e = subst IsNear (ok_value k z e) near
-value_near p (Err x) z near e = absurd cc
-
--- a coordinate that is read is near
-coordinate_near : (p : TextPair) (known : Option ℤ) (z : ℤ) → coordinate_at p known ≡ Ok z
-    → IsNear z
-coordinate_near p (Some k) z e = absurd cc
-coordinate_near p None z e = value_near p (whole_of p.value) z (whole_near p.value) e
-
--- near coordinates stay so with one more that is read
-one_more_near : (p : TextPair) (known : Option ℤ) (with : ℤ → Known) (d : Known)
-    → ((z : ℤ) → IsNear z → AreNear (with z))
-    → (coordinate_at p known >>= λ z. Ok (with z)) ≡ Ok d → AreNear d
-one_more_near p known with d near e =
-    let z = after_ok (coordinate_at p known) (λ z. Ok (with z)) d e in
-    subst AreNear (ok_value (with z.value) d z.second)
-    (near z.value (coordinate_near p known z.value z.first))
-
--- and with one more pair, whichever of the four codes it has
-pair_near : (x0 y0 x1 y1 : Bool) (p : TextPair) (c d : Known) → AreNear c
-    → (if x0 then (coordinate_at p c.x0 >>= λ z. Ok (record c { x0 = Some z }))
-    else (if y0 then (coordinate_at p c.y0 >>= λ z. Ok (record c { y0 = Some z }))
-    else (if x1 then (coordinate_at p c.x1 >>= λ z. Ok (record c { x1 = Some z }))
-    else
-    (if y1 then (coordinate_at p c.y1 >>= λ z. Ok (record c { y1 = Some z })) else Ok c)))) ≡ Ok d → AreNear d
-pair_near true y0 x1 y1 p c d near e =
-    one_more_near p c.x0 (λ z. record c { x0 = Some z }) d
-    (λ z n. record { x0 = n; y0 = near.y0; x1 = near.x1; y1 = near.y1 }) e
-pair_near false true x1 y1 p c d near e =
-    one_more_near p c.y0 (λ z. record c { y0 = Some z }) d
-    (λ z n. record { x0 = near.x0; y0 = n; x1 = near.x1; y1 = near.y1 }) e
-pair_near false false true y1 p c d near e =
-    one_more_near p c.x1 (λ z. record c { x1 = Some z }) d
-    (λ z n. record { x0 = near.x0; y0 = near.y0; x1 = n; y1 = near.y1 }) e
-pair_near false false false true p c d near e =
-    one_more_near p c.y1 (λ z. record c { y1 = Some z }) d
-    (λ z n. record { x0 = near.x0; y0 = near.y0; x1 = near.x1; y1 = n }) e
-pair_near false false false false p c d near e = subst AreNear (ok_value c d e) near
-
--- the coordinates of an entity are near
-coordinates_near : (ps : List TextPair) (c d : Known) → AreNear c → known_coordinates ps c ≡ Ok d
-    → AreNear d
-coordinates_near [] c d near e = subst AreNear (ok_value c d e) near
-coordinates_near (p ∷ ps) c d near e =
-    let k = after_ok (with_coordinate p c) (known_coordinates ps) d e in
-    let one_more =
-    pair_near (has_code 10 p) (has_code 20 p) (has_code 11 p) (has_code 21 p) p c k.value near
-    k.first in
-    coordinates_near ps k.value d one_more k.second
+use Rattle.dxf_entities.proofs.NearPoints.{IsNearShape, after_ok, begun_near, known_near, ok_value, points_near}
 
 -- ---- lines
 
--- a coordinate that is there is near
-present_near : (line : ℕ) (code : ℤ) (known : Option ℤ) (z : ℤ) → IfSome known IsNear
-    → present line code known ≡ Ok z → IsNear z
-present_near line code (Some k) z near e = subst IsNear (ok_value k z e) near
-present_near line code None z near e = absurd cc
-
 -- a line that isn't oblique is level or upright
-straight_ends : (level_x level_y : Bool) (l m : Line) (fault : Fault)
-    → (level_x ≡ true → l.x0 ≡ l.x1) → (level_y ≡ true → l.y0 ≡ l.y1)
-    → (if level_x || level_y then Ok l else Err fault) ≡ Ok m → (l ≡ m) × ((l.x0 ≡ l.x1) ⊎ (l.y0 ≡ l.y1))
-straight_ends true level_y l m fault x y e = (ok_value l m e, inl (x refl))
-straight_ends false true l m fault x y e = (ok_value l m e, inr (y refl))
-straight_ends false false l m fault x y e = absurd cc
+straight_ends : (level upright : Bool) (x0 y0 x1 y1 : ℤ) → (level ≡ true → x0 ≡ x1)
+    → (upright ≡ true → y0 ≡ y1) → (level || upright) ≡ true → (x0 ≡ x1) ⊎ (y0 ≡ y1)
+straight_ends true upright x0 y0 x1 y1 x y e = inl (x refl)
+straight_ends false true x0 y0 x1 y1 x y e = inr (y refl)
+straight_ends false false x0 y0 x1 y1 x y e = absurd cc
 
--- the line with near coordinates, of a style, is kept
-line_kept : (line : ℕ) (view : View) (style : Style) (c : Known) (m : Line) → style ≢ Blank
-    → AreNear c → line_with line view style c ≡ Ok m → IsKept m
-unfolding line_with
-line_kept line view style c m drawn near e =
-    let x0 = after_ok (present line (pos 10) c.x0) _ m e in
-    let y0 = after_ok (present line (pos 20) c.y0) _ m x0.second in
-    let x1 = after_ok (present line (pos 11) c.x1) _ m y0.second in
-    let y1 = after_ok (present line (pos 21) c.y1) _ m x1.second in
-    let l : Line = record {
-      of = view;
-      style = style;
-      x0 = x0.value;
-      y0 = y0.value;
-      x1 = x1.value;
-      y1 = y1.value;
-      number = line;
-    } in
-    let ends =
-    straight_ends (int_eq l.x0 l.x1) (int_eq l.y0 l.y1) l m _ (Decides-int_eq l.x0 l.x1).0
-    (Decides-int_eq l.y0 l.y1).0 y1.second in
-    subst IsKept ends.0 (record {
-      straight = ends.1;
-      drawn = drawn;
-      near_x0 = present_near line (pos 10) c.x0 x0.value near.x0 x0.first;
-      near_y0 = present_near line (pos 20) c.y0 y0.value near.y0 y0.first;
-      near_x1 = present_near line (pos 11) c.x1 x1.value near.x1 x1.first;
-      near_y1 = present_near line (pos 21) c.y1 y1.value near.y1 y1.first;
-    })
+module _ (line : ℕ) (pen : Pen) (drawn : pen.style ≢ Blank) where
+  -- the line between near points, one level with or upright over the other, is kept
+  stroke_kept : (a b : Point) → IsNearPoint a → IsNearPoint b
+      → (int_eq a.x b.x || int_eq a.y b.y) ≡ true → IsKept (line_between line pen a b)
+  stroke_kept a b near_a near_b straight = record {
+    straight =
+        straight_ends (int_eq a.x b.x) (int_eq a.y b.y) a.x a.y b.x b.y (Decides-int_eq a.x b.x).0
+        (Decides-int_eq a.y b.y).0 straight;
+    drawn = drawn;
+    near_x0 = near_a.x;
+    near_y0 = near_a.y;
+    near_x1 = near_b.x;
+    near_y1 = near_b.y;
+  }
 
--- what is counted is the line itself
-counted_line : (room : Bool) (l : Line) (m : Option Line) (fault : Fault)
-    → (if room then Ok (Some l) else Err fault) ≡ Ok m → Some l ≡ m
-counted_line true l m fault e = ok_value (Some l) m e
-counted_line false l m fault e = absurd cc
+  -- so is each from one point to the next
+  lines_from_kept : (a : Point) (ps : List Point) → IsNearPoint a → Each IsNearPoint ps
+      → are_straight_from a ps ≡ true → Each IsKept (lines_from line pen a ps)
+  lines_from_kept a [] near_a near straight = tt
+  lines_from_kept a (b ∷ ps) near_a near straight =
+      let both = and_parts (int_eq a.x b.x || int_eq a.y b.y) (are_straight_from b ps) straight in
+      (stroke_kept a b near_a near.0 both.0, lines_from_kept b ps near.0 near.1 both.1)
+
+  lines_along_kept : (ps : List Point) → Each IsNearPoint ps → are_straight ps ≡ true
+      → Each IsKept (lines_along line pen ps)
+  lines_along_kept [] near straight = tt
+  lines_along_kept (a ∷ ps) near straight = lines_from_kept a ps near.0 near.1 straight
+
+  -- what is kept is the lines themselves
+  counted_lines : (room : Bool) (ls ms : List Line) (fault : Fault)
+      → (if room then Ok ls else Err fault) ≡ Ok ms → ls ≡ ms
+  counted_lines true ls ms fault e = ok_value ls ms e
+  counted_lines false ls ms fault e = absurd cc
+
+  straight_kept : (straight : Bool) (count : ℕ) (ps : List Point) (ms : List Line) (fault : Fault)
+      → are_straight ps ≡ straight → Each IsNearPoint ps
+      → (if straight then kept count line (lines_along line pen ps) else Err fault) ≡ Ok ms
+      → Each IsKept ms
+  straight_kept true count ps ms fault straight near e =
+      subst (Each IsKept) (counted_lines _ (lines_along line pen ps) ms _ e)
+      (lines_along_kept ps near straight)
+  straight_kept false count ps ms fault straight near e = absurd cc
+
+  -- so lines that are kept stay so with those through near points
+  added_kept : (lines : List Line) (ps : List Point) (ms : List Line) → Each IsKept lines
+      → Each IsNearPoint ps → added_along line pen lines ps ≡ Ok ms → Each IsKept ms
+  added_kept lines ps ms keeps near e =
+      let more = after_ok (drawn_along (length lines) line pen ps) (λ more. Ok (lines ++ more)) ms e in
+      let own = straight_kept (are_straight ps) (length lines) ps more.value _ refl near more.first in
+      subst (Each IsKept) (ok_value (lines ++ more.value) ms more.second)
+      (each-append IsKept lines more.value keeps own)
+
+-- ---- entities
 
 -- a style, where there is one, is drawn
 abbrev IsDrawn : Option Style → Type 0
@@ -168,62 +108,73 @@ style_drawn line Center style e = subst IsDrawn (ok_value None style e) tt
 style_drawn line ByLayer style e = subst IsDrawn (ok_value (Some Solid) style e) (λ p. cc)
 style_drawn line Unlisted style e = absurd cc
 
-module _ (f : Facts) (near : (c : Known) → f.coordinates ≡ Ok c → AreNear c) where
-  -- a line of a drawn style is kept
-  styled_kept : (count : ℕ) (view : View) (style : Option Style) (m : Option Line)
-      → IsDrawn style
-      → styled_line count view f style ≡ Ok m → IfSome m IsKept
-  unfolding styled_line
-  styled_kept count view None m drawn e = subst (λ o. IfSome o IsKept) (ok_value None m e) tt
-  styled_kept count view (Some style) m drawn e =
-      let c = after_ok f.coordinates _ m e in
-      let l = after_ok (line_with f.line view style c.value) (kept count) m c.second in
-      let own : IsKept l.value =
-      line_kept f.line view style c.value l.value drawn (near c.value c.first) l.first in
-      subst (λ o. IfSome o IsKept) (counted_line (nat_lt count most_lines) l.value m _ l.second) own
+-- a pen, where there is one, has a style that is drawn
+abbrev IsInked : Option Pen → Type 0
+IsInked pen = IfSome pen (λ p. p.style ≢ Blank)
 
-  -- so is one with a linetype
-  line_in_kept : (layer : Option Linetype) (count : ℕ) (view : View) (m : Option Line)
-      → line_in layer count view f ≡ Ok m → IfSome m IsKept
-  unfolding line_in
-  line_in_kept layer count view m e =
-      let l = by_layer (unwrap_or f.linetype ByLayer) layer in
-      let s = after_ok (style_of f.line l) (styled_line count view f) m e in
-      styled_kept count view s.value m (style_drawn f.line l s.value s.first) s.second
+-- that of a style is
+pen_inked : (view : View) (style : Option Style) → IsDrawn style
+    → IsInked (option_map (λ s. record { view = view; style = s }) style)
+pen_inked view None drawn = tt
+pen_inked view (Some s) drawn = drawn
 
-  -- and what an entity of a kind gives
-  of_kind_kept : (k : Kind) (layer : Option Linetype) (count : ℕ) (view : View) (m : Option Line)
-      → judged_in k layer count view f ≡ Ok m → IfSome m IsKept
-  of_kind_kept kind.Line layer count view m e = line_in_kept layer count view m e
-  of_kind_kept kind.Geometry layer count view m e = absurd cc
-  of_kind_kept kind.Other layer count view m e = subst (λ o. IfSome o IsKept) (ok_value None m e) tt
+-- so is that of an entity of a view
+pen_in_inked : (layer : Option Linetype) (view : View) (f : Facts) (pen : Option Pen)
+    → pen_in layer view f ≡ Ok pen → IsInked pen
+pen_in_inked layer view f pen e =
+    let l = by_layer (unwrap_or f.linetype ByLayer) layer in
+    let s = after_ok (style_of f.line l) _ pen e in
+    subst IsInked
+    (ok_value (option_map (λ s. record { view = view; style = s }) s.value) pen s.second)
+    (pen_inked view s.value (style_drawn f.line l s.value s.first))
 
-  -- in paper space or not
-  on_paper_kept : (paper : Bool) (layer : Option Linetype) (count : ℕ) (view : View) (m : Option Line)
-      → (if paper then Ok None else judged_in f.kind layer count view f) ≡ Ok m → IfSome m IsKept
-  on_paper_kept true layer count view m e = subst (λ o. IfSome o IsKept) (ok_value None m e) tt
-  on_paper_kept false layer count view m e = of_kind_kept f.kind layer count view m e
+-- of each kind
+pen_of_inked : (k : Kind) (layer : Option Linetype) (view : View) (f : Facts) (pen : Option Pen)
+    → pen_of k layer view f ≡ Ok pen → IsInked pen
+pen_of_inked kind.Line layer view f pen e = pen_in_inked layer view f pen e
+pen_of_inked kind.Polyline layer view f pen e = pen_in_inked layer view f pen e
+pen_of_inked kind.Geometry layer view f pen e = absurd cc
+pen_of_inked kind.Other layer view f pen e = subst IsInked (ok_value None pen e) tt
 
-  -- on a view's layer or not
-  on_layer_kept : (view : Option View) (layers : View → Option Linetype) (count : ℕ) (m : Option Line)
-      → judged_on view layers count f ≡ Ok m → IfSome m IsKept
-  on_layer_kept None layers count m e = subst (λ o. IfSome o IsKept) (ok_value None m e) tt
-  on_layer_kept (Some view) layers count m e =
-      on_paper_kept (is_on_paper f.paper) (layers view) count view m e
+-- in paper space or not
+on_paper_inked : (paper : Bool) (layer : Option Linetype) (view : View) (f : Facts) (pen : Option Pen)
+    → (if paper then Ok None else pen_of f.kind layer view f) ≡ Ok pen → IsInked pen
+on_paper_inked true layer view f pen e = subst IsInked (ok_value None pen e) tt
+on_paper_inked false layer view f pen e = pen_of_inked f.kind layer view f pen e
 
-  -- so what an entity gives is kept
-  judged_kept : (layers : View → Option Linetype) (count : ℕ) (m : Option Line)
-      → judged layers count f ≡ Ok m → IfSome m IsKept
-  unfolding judged
-  judged_kept layers count m e = on_layer_kept (option_flatten f.layer) layers count m e
+-- on a view's layer or not
+pen_on_inked : (view : Option View) (layers : View → Option Linetype) (f : Facts) (pen : Option Pen)
+    → pen_on view layers f ≡ Ok pen → IsInked pen
+pen_on_inked None layers f pen e = subst IsInked (ok_value None pen e) tt
+pen_on_inked (Some view) layers f pen e =
+    on_paper_inked (is_on_paper f.paper) (layers view) view f pen e
+
+-- so the pen of an entity is
+drawn_inked : (layers : View → Option Linetype) (f : Facts) (pen : Option Pen)
+    → drawn_by layers f ≡ Ok pen → IsInked pen
+unfolding drawn_by
+drawn_inked layers f pen e = pen_on_inked (option_flatten f.layer) layers f pen e
+
+module _ (f : Facts) (near : (s : Shape) → f.shape ≡ Ok s → IsNearShape s) (lines : List Line)
+    (keeps : Each IsKept lines) where
+  -- kept lines stay so with those that an entity draws
+  drawn_kept : (pen : Option Pen) (ms : List Line) → IsInked pen → lines_by f lines pen ≡ Ok ms
+      → Each IsKept ms
+  drawn_kept None ms inked e = subst (Each IsKept) (ok_value lines ms e) keeps
+  drawn_kept (Some pen) ms inked e =
+      let s = after_ok f.shape _ ms e in
+      let ps = after_ok (points_of f.line s.value) (added_along f.line pen lines) ms s.second in
+      added_kept f.line pen inked lines ps.value ms keeps
+      (points_near f.line s.value ps.value (near s.value s.first) ps.first) ps.second
+
+  -- or gives
+  judged_kept : (layers : View → Option Linetype) (ms : List Line) → judged layers lines f ≡ Ok ms
+      → Each IsKept ms
+  judged_kept layers ms e =
+      let pen = after_ok (drawn_by layers f) (lines_by f lines) ms e in
+      drawn_kept pen.value ms (drawn_inked layers f pen.value pen.first) pen.second
 
 -- ---- the file
-
--- one more kept line, or none
-line_added_kept : (m : Option Line) (s : Progress) → IfSome m IsKept → Each IsKept s.lines
-    → Each IsKept (line_added m s).lines
-line_added_kept None s own kept = kept
-line_added_kept (Some l) s own kept = each-append IsKept s.lines (l ∷ []) kept (own, tt)
 
 -- a step of the reading keeps that all lines so far are kept
 abbrev KeepsLines : Result Progress Fault → Progress → Type 0
@@ -265,15 +216,13 @@ entry_kept true Tables e s t is =
     same_lines s t (layer_added e s) (layer_added_kept (is_name (codes "LAYER") e.name) s _ refl) is
 entry_kept true Other e s t is = same_lines s t s refl is
 entry_kept true Entities e s t is =
-    let m =
-    after_ok (judged s.layers (length s.lines) (facts_of e)) (λ l. Ok (line_added l s)) t is in
-    let none : AreNear none_known = record { x0 = tt; y0 = tt; x1 = tt; y1 = tt } in
-    let near : (c : Known) → (facts_of e).coordinates ≡ Ok c → AreNear c =
-    λ c. coordinates_near (own_pairs false e.pairs) none_known c none in
-    let own : IfSome m.value IsKept =
-    judged_kept (facts_of e) near s.layers (length s.lines) m.value m.first in
-    (λ keeps. subst (λ p. Each IsKept p.lines) (ok_value (line_added m.value s) t m.second)
-    (line_added_kept m.value s own keeps))
+    let f = facts_of s.decimals e in
+    let m = after_ok (judged s.layers s.lines f) (λ lines. Ok (record s { lines = lines })) t is in
+    let near : (d : Shape) → f.shape ≡ Ok d → IsNearShape d =
+    λ d. known_near s.decimals e.line (own_pairs false e.pairs) (begun_shape (kind_of e.name)) d
+    (begun_near (kind_of e.name)) in
+    (λ keeps. subst (λ p. Each IsKept p.lines) (ok_value (record s { lines = m.value }) t m.second)
+    (judged_kept f near s.lines keeps s.layers m.value m.first))
 
 -- outside, an entry begins a section, or may not stand
 entry_between : (is_section : Bool) (e : Entry) (fault : Fault) (s : Progress)
@@ -316,15 +265,17 @@ entries_kept (x ∷ es) ending s ls e kept =
     (entry_at_kept s.place (is_ended es ending) x s t.value t.first kept)
 
 -- and so over all pairs
-pairs_kept : (ps : Pairs) (ls : List Line) → pairs_read ps ≡ Ok ls → Each IsKept ls
-pairs_kept ps ls e =
+pairs_kept : (decimals : ℕ) (ps : Pairs) (ls : List Line) → pairs_read decimals ps ≡ Ok ls
+    → Each IsKept ls
+pairs_kept decimals ps ls e =
     let t =
-    after_ok (between (before_entries ps.pairs) nothing_read)
+    after_ok (between (before_entries ps.pairs) (nothing_read decimals))
     (entries_read (entries_of ps.pairs) ps.ending) ls e in
     entries_kept (entries_of ps.pairs) ps.ending t.value ls t.second
-    (between_kept (before_entries ps.pairs) nothing_read t.value t.first tt)
+    (between_kept (before_entries ps.pairs) (nothing_read decimals) t.value t.first tt)
 
 -- each line that is kept of a file is level or upright, drawn, and near
-pub read_lines_are_kept : (t : List ℕ) (ls : List Line) → read_of t ≡ Ok ls → Each IsKept ls
+pub read_lines_are_kept : (decimals : ℕ) (t : List ℕ) (ls : List Line) → read_of decimals t ≡ Ok ls
+    → Each IsKept ls
 unfolding read_of
-read_lines_are_kept t ls e = pairs_kept (pairs_of t) ls e
+read_lines_are_kept decimals t ls e = pairs_kept decimals (pairs_of t) ls e

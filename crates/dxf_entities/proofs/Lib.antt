@@ -1,3 +1,5 @@
 pub mod OwnFacts
 pub mod Resumes
 pub mod KeptLines
+pub mod NearPoints
+pub mod Sides

@@ -8,11 +8,13 @@ use Rattle.dxf_entities.specs.declared.facts.Facts.{Facts}
 use Rattle.dxf_entities.specs.declared.layer_facts.LayerFacts.{LayerFacts}
 use Rattle.dxf_entities.specs.declared.kind.Kind.TheVariants.{Other}
 use Rattle.dxf_entities.specs.declared.linetype.Linetype.{Linetype}
-use Rattle.dxf_entities.specs.Coordinates.{◌>>=◌, with_coordinate, known_coordinates}
 use Rattle.dxf_entities.specs.Entries.{has_code, own_pairs, first_value, opens_application, closes_application}
-use Rattle.dxf_entities.specs.Judging.{is_on_paper, is_one, judged_in, judged_on, judged}
+use Rattle.dxf_entities.specs.Judging.{is_on_paper, is_one, drawn_by, judged, lines_by, pen_of, pen_on}
 use Rattle.dxf_entities.specs.Names.{view_on, linetype_of}
 use Rattle.dxf_entities.specs.Resuming.{or_first, with_fact, with_layer_fact, with_own}
+use Rattle.dxf_entities.specs.Shapes.{with_shape, known_shape}
+use Rattle.dxf_entities.specs.Steps.{◌>>=◌}
+use Rattle.solid_model.specs.Line.{Line}
 
 -- what is known, or else nothing
 or_nothing : {A : Type 0} (known : Option A) → option_or known None ≡ known
@@ -33,7 +35,7 @@ first_of_more code meaning p own None = by (has_code code p)
     by true = refl
     by false = refl
 
--- no more coordinates are read
+-- no more pairs are looked at
 bind_ok : {A : Type 0} (r : Result A Fault) → (r >>= Ok) ≡ r
 bind_ok (Ok x) = refl
 bind_ok (Err e) = refl
@@ -45,31 +47,31 @@ bind_bind (Ok x) f g = refl
 bind_bind (Err e) f g = refl
 
 -- what counts of an entity with these pairs of its own
-abbrev pub with_facts : List TextPair → Facts → Facts
-with_facts own f = record f {
+abbrev pub with_facts : ℕ → List TextPair → Facts → Facts
+with_facts decimals own f = record f {
   layer = option_or f.layer (option_map view_on (first_value 8 own));
   paper = option_or f.paper (option_map is_one (first_value 67 own));
   linetype = option_or f.linetype (option_map linetype_of (first_value 6 own));
-  coordinates = f.coordinates >>= known_coordinates own;
+  shape = f.shape >>= known_shape decimals f.line own;
 }
 
 -- with no pairs nothing more counts
-no_facts : (f : Facts) → with_facts [] f ≡ f
-no_facts f = λ i. record f {
+no_facts : (decimals : ℕ) (f : Facts) → with_facts decimals [] f ≡ f
+no_facts decimals f = λ i. record f {
   layer = or_nothing f.layer i;
   paper = or_nothing f.paper i;
   linetype = or_nothing f.linetype i;
-  coordinates = bind_ok f.coordinates i;
+  shape = bind_ok f.shape i;
 }
 
 -- one more pair, and then the others
-more_facts : (p : TextPair) (own : List TextPair) (f : Facts)
-    → with_facts own (with_fact p f) ≡ with_facts (p ∷ own) f
-more_facts p own f = λ i. record f {
+more_facts : (decimals : ℕ) (p : TextPair) (own : List TextPair) (f : Facts)
+    → with_facts decimals own (with_fact decimals p f) ≡ with_facts decimals (p ∷ own) f
+more_facts decimals p own f = λ i. record f {
   layer = first_of_more 8 view_on p own f.layer i;
   paper = first_of_more 67 is_one p own f.paper i;
   linetype = first_of_more 6 linetype_of p own f.linetype i;
-  coordinates = bind_bind f.coordinates (with_coordinate p) (known_coordinates own) i;
+  shape = bind_bind f.shape (with_shape decimals f.line p) (known_shape decimals f.line own) i;
 }
 
 -- what counts of a layer's entry with these pairs of its own
@@ -110,9 +112,10 @@ module _ {F : Type 0} (with : TextPair → F → F) (all : List TextPair → F �
         by false inside outside = outside ∙ more p (own_pairs false ps) f
 
 -- so are the facts of an entity
-pub own_facts : (inside : Bool) (ps : List TextPair) (f : Facts)
-    → with_own with_fact inside ps f ≡ with_facts (own_pairs inside ps) f
-own_facts = found with_fact with_facts no_facts more_facts
+pub own_facts : (decimals : ℕ) (inside : Bool) (ps : List TextPair) (f : Facts)
+    → with_own (with_fact decimals) inside ps f ≡ with_facts decimals (own_pairs inside ps) f
+own_facts decimals =
+    found (with_fact decimals) (with_facts decimals) (no_facts decimals) (more_facts decimals)
 
 -- and those of a layer's entry
 pub own_layer_facts : (inside : Bool) (ps : List TextPair) (f : LayerFacts)
@@ -120,23 +123,25 @@ pub own_layer_facts : (inside : Bool) (ps : List TextPair) (f : LayerFacts)
 own_layer_facts = found with_layer_fact with_layer_facts no_layer_facts more_layer_facts
 
 -- an entity that stands on a layer that is no view's is passed over
-pub elsewhere : (layers : View → Option Linetype) (count : ℕ) (f : Facts) → f.layer ≡ Some None
-    → judged layers count f ≡ Ok None
-unfolding judged
-elsewhere layers count f e = ap (λ layer. judged_on (option_flatten layer) layers count f) e
+pub elsewhere : (layers : View → Option Linetype) (lines : List Line) (f : Facts) → f.layer ≡ Some None
+    → judged layers lines f ≡ Ok lines
+unfolding drawn_by
+elsewhere layers lines f e =
+    ap (λ layer. pen_on (option_flatten layer) layers f >>= lines_by f lines) e
 
 -- no view, or paper space: what is no geometry is passed over in each case
-no_geometry_on : (layer : Option View) (layers : View → Option Linetype) (count : ℕ) (f : Facts)
-    → f.kind ≡ Other → judged_on layer layers count f ≡ Ok None
-no_geometry_on None layers count f e = refl
-no_geometry_on (Some view) layers count f e = by (is_on_paper f.paper)
+no_geometry_on : (layer : Option View) (layers : View → Option Linetype) (f : Facts)
+    → f.kind ≡ Other → pen_on layer layers f ≡ Ok None
+no_geometry_on None layers f e = refl
+no_geometry_on (Some view) layers f e = by (is_on_paper f.paper)
   where
-    by : (b : Bool) → (if b then Ok None else judged_in f.kind (layers view) count view f) ≡ Ok None
+    by : (b : Bool) → (if b then Ok None else pen_of f.kind (layers view) view f) ≡ Ok None
     by true = refl
-    by false = ap (λ kind. judged_in kind (layers view) count view f) e
+    by false = ap (λ kind. pen_of kind (layers view) view f) e
 
 -- as is one that is no geometry
-pub no_geometry : (layers : View → Option Linetype) (count : ℕ) (f : Facts) → f.kind ≡ Other
-    → judged layers count f ≡ Ok None
-unfolding judged
-no_geometry layers count f e = no_geometry_on (option_flatten f.layer) layers count f e
+pub no_geometry : (layers : View → Option Linetype) (lines : List Line) (f : Facts) → f.kind ≡ Other
+    → judged layers lines f ≡ Ok lines
+unfolding drawn_by
+no_geometry layers lines f e =
+    ap (λ pen. pen >>= lines_by f lines) (no_geometry_on (option_flatten f.layer) layers f e)

@@ -20,12 +20,13 @@ use Rattle.dxf_entities.specs.declared.place.Place.TheVariants.{Outside, Unnamed
 use Rattle.dxf_entities.specs.declared.open.Open.{Open}
 use Rattle.dxf_entities.specs.declared.open.Open.TheVariants.{Passed, Layer, Entity}
 use Rattle.dxf_entities.specs.declared.reader.Reader.{Reader}
-use Rattle.dxf_entities.specs.Coordinates.{◌>>=◌}
+use Rattle.dxf_entities.specs.Steps.{◌>>=◌}
 use Rattle.dxf_groups.specs.Pairs.{TextPair, Pairs, pairs_of, text_pair}
 use Rattle.dxf_entities.specs.Entries.{Entry, has_code, before_entries, entries_of, own_pairs, first_value, opens_application}
-use Rattle.dxf_entities.specs.Judging.{facts_of, judged}
+use Rattle.dxf_entities.specs.declared.pen.Pen.{Pen}
+use Rattle.dxf_entities.specs.Judging.{facts_of, drawn_by, judged, lines_by}
 use Rattle.dxf_entities.specs.Names.{is_name, view_on, kind_of, section_of}
-use Rattle.dxf_entities.specs.Reading.{Progress, between, opened, with_layer, line_added, layer_added, nothing_read, entity_read, entry_read, read_at, end_read, is_ended, entries_read, pairs_read}
+use Rattle.dxf_entities.specs.Reading.{Progress, between, opened, with_layer, layer_added, nothing_read, entity_read, entry_read, read_at, end_read, is_ended, entries_read, pairs_read}
 use Rattle.dxf_entities.specs.Resuming.{with_fact, with_layer_fact, with_own, begun_facts, nothing_told, opened_entity, opened_entry, unless_elsewhere, with_own_pair, with_pair_of, is_inside_after, fact_taken, entry_closed, closed, closed_where, layer_linetype, progress_of, advanced, resumed}
 use Rattle.dxf_entities.proofs.OwnFacts.{own_facts, own_layer_facts, elsewhere, no_geometry}
 
@@ -38,19 +39,22 @@ refused_is e f is = cc
 abbrev pub entry_with : TextPair → List TextPair → Entry
 entry_with p lead = record { name = p.value; line = p.line; pairs = lead }
 
--- a line that an entity gives, or none, is added
-abbrev then_added : Progress → Result (Option Line) Fault → Result Progress Fault
-then_added s r = r >>= λ l. Ok (line_added l s)
+-- the lines that are kept with those of an entity
+abbrev then_kept : Progress → Result (List Line) Fault → Result Progress Fault
+then_kept s r = r >>= λ lines. Ok (record s { lines = lines })
 
 -- an entity that a pair opens is closed as it is judged
 entity_opened : (p : TextPair) (lead : List TextPair) (s : Progress) (k : Kind) → kind_of p.value ≡ k
-    → entry_closed (opened_entity p k) false lead s ≡ entity_read (facts_of (entry_with p lead)) s
+    → entry_closed (opened_entity p k) false lead s
+    ≡ entity_read (facts_of s.decimals (entry_with p lead)) s
 entity_opened p lead s kind.Line e =
-    ap (λ f. entity_read f s) (own_facts false lead (begun_facts p))
+    ap (λ f. entity_read f s) (own_facts s.decimals false lead (begun_facts p))
+entity_opened p lead s kind.Polyline e =
+    ap (λ f. entity_read f s) (own_facts s.decimals false lead (begun_facts p))
 entity_opened p lead s kind.Geometry e =
-    ap (λ f. entity_read f s) (own_facts false lead (begun_facts p))
+    ap (λ f. entity_read f s) (own_facts s.decimals false lead (begun_facts p))
 entity_opened p lead s kind.Other e =
-    sym (ap (then_added s) (no_geometry s.layers (length s.lines) (facts_of (entry_with p lead)) e))
+    sym (ap (then_kept s) (no_geometry s.layers s.lines (facts_of s.decimals (entry_with p lead)) e))
 
 -- an entry that a pair opens is closed as the entry that it begins is read
 pub opened_closes : (section : Section) (p : TextPair) (lead : List TextPair) (s : Progress)
@@ -74,11 +78,11 @@ unless_closes : (layer : Option (Option View)) (f : Facts) (ps : List TextPair) 
 unless_closes None f ps s e = refl
 unless_closes (Some (Some view)) f ps s e = refl
 unless_closes (Some None) f ps s e =
-    ap (then_added s) (elsewhere s.layers (length s.lines) (with_own with_fact false ps f) still)
+    ap (then_kept s) (elsewhere s.layers s.lines (with_own (with_fact s.decimals) false ps f) still)
   where
-    still : (with_own with_fact false ps f).layer ≡ Some None
+    still : (with_own (with_fact s.decimals) false ps f).layer ≡ Some None
     still =
-        ap (λ (g : Facts). g.layer) (own_facts false ps f)
+        ap (λ (g : Facts). g.layer) (own_facts s.decimals false ps f)
         ∙ ap (λ layer. option_or layer (option_map view_on (first_value 8 (own_pairs false ps)))) e
 
 -- an entry is closed with a pair and what follows it; whether that begins what belongs to an
@@ -91,24 +95,25 @@ entry_closed_after b p ps (Layer f) s =
     Ok (with_layer all.name all.linetype s)
 entry_closed_after b p ps (Entity f) s =
     entity_read
-    (if b then with_own with_fact true ps f else with_own with_fact false ps (with_fact p f)) s
+    (if b then with_own (with_fact s.decimals) true ps f
+    else with_own (with_fact s.decimals) false ps (with_fact s.decimals p f)) s
 
 -- a pair of its own is added to an open entry
 own_taken : (p : TextPair) (ps : List TextPair) (entry : Open) (s : Progress) (b : Bool)
     → entry_closed_after b p ps entry s
-    ≡ entry_closed (if b then entry else with_own_pair p entry) b ps s
+    ≡ entry_closed (if b then entry else with_own_pair s.decimals p entry) b ps s
 own_taken p ps Passed s true = refl
 own_taken p ps Passed s false = refl
 own_taken p ps (Layer f) s true = refl
 own_taken p ps (Layer f) s false = refl
 own_taken p ps (Entity f) s true = refl
 own_taken p ps (Entity f) s false =
-    unless_closes (with_fact p f).layer (with_fact p f) ps s refl
+    unless_closes (with_fact s.decimals p f).layer (with_fact s.decimals p f) ps s refl
 
 -- an open entry takes a pair
 pub pair_taken : (p : TextPair) (ps : List TextPair) (inside : Bool) (entry : Open) (s : Progress)
     → entry_closed entry inside (p ∷ ps) s
-    ≡ entry_closed (with_pair_of p inside entry) (is_inside_after p inside) ps s
+    ≡ entry_closed (with_pair_of s.decimals p inside entry) (is_inside_after p inside) ps s
 pair_taken p ps true Passed s = refl
 pair_taken p ps true (Layer f) s = refl
 pair_taken p ps true (Entity f) s = refl
@@ -123,13 +128,39 @@ nothing_more with true f = refl
 nothing_more with false f = refl
 
 -- an open entity is closed as it is judged
-pub closed_entity : (r : Reader) (f : Facts) (l : Option Line) → r.entry ≡ Entity f
-    → judged (layer_linetype r.layers) (length r.lines.items) f ≡ Ok l
-    → closed [] r ≡ Ok (line_added l (progress_of r))
-closed_entity r f l is gives =
+pub closed_entity : (r : Reader) (f : Facts) → r.entry ≡ Entity f
+    → closed [] r ≡ entity_read f (progress_of r)
+closed_entity r f is =
     ap (λ entry. entry_closed entry r.in_application [] (progress_of r)) is
-    ∙ (ap (λ all. entity_read all (progress_of r)) (nothing_more with_fact r.in_application f)
-    ∙ ap (then_added (progress_of r)) gives)
+    ∙ ap (λ all. entity_read all (progress_of r))
+    (nothing_more (with_fact r.decimals) r.in_application f)
+
+-- the end of an entity, by how it is drawn
+abbrev drawn_so : Reader → Facts → Result (Option Pen) Fault → Result Progress Fault
+drawn_so r f pen = then_kept (progress_of r) (pen >>= lines_by f r.lines.items)
+
+module _ (r : Reader) (f : Facts) (is : r.entry ≡ Entity f) where
+  -- one without a pen is passed over
+  pub entity_passed : drawn_by (layer_linetype r.layers) f ≡ Ok None
+      → closed [] r ≡ Ok (progress_of r)
+  entity_passed gives = closed_entity r f is ∙ ap (drawn_so r f) gives
+
+  -- one with a fault before a pen is known
+  pub pen_refused : (fault : Fault) → drawn_by (layer_linetype r.layers) f ≡ Err fault
+      → closed [] r ≡ Err fault
+  pen_refused fault gives = closed_entity r f is ∙ ap (drawn_so r f) gives
+
+  -- one with a pen gives its lines, or has a fault
+  module _ (pen : Pen) (gives : drawn_by (layer_linetype r.layers) f ≡ Ok (Some pen)) where
+    pub entity_drawn : (lines : List Line) → lines_by f r.lines.items (Some pen) ≡ Ok lines
+        → closed [] r ≡ Ok (record (progress_of r) { lines = lines })
+    entity_drawn lines draws =
+        closed_entity r f is ∙ ap (drawn_so r f) gives ∙ ap (then_kept (progress_of r)) draws
+
+    pub entity_refused : (fault : Fault) → lines_by f r.lines.items (Some pen) ≡ Err fault
+        → closed [] r ≡ Err fault
+    entity_refused fault draws =
+        closed_entity r f is ∙ ap (drawn_so r f) gives ∙ ap (then_kept (progress_of r)) draws
 
 -- ---- a pair with code 0
 
@@ -381,10 +412,10 @@ read_through all old new same_text same_ending gives = record {
 -- ---- the beginning
 
 -- a reader that has read nothing reads all
-pub begins : (r : Reader) → r.place ≡ Outside → progress_of r ≡ nothing_read
-    → (ps : Pairs) → resumed ps.pairs ps.ending r ≡ pairs_read ps
+pub begins : (decimals : ℕ) (r : Reader) → r.place ≡ Outside → progress_of r ≡ nothing_read decimals
+    → (ps : Pairs) → resumed ps.pairs ps.ending r ≡ pairs_read decimals ps
 unfolding resumed
-begins r outside fresh ps =
+begins decimals r outside fresh ps =
     ap (λ place. then_entries ps.pairs ps.ending
     (advanced place (is_ended (entries_of ps.pairs) ps.ending) (before_entries ps.pairs) r)) outside
     ∙ ap (λ s. then_entries ps.pairs ps.ending (between (before_entries ps.pairs) s)) fresh

@@ -1,7 +1,11 @@
+pub mod Steps
 pub mod Known
 pub mod Names
 pub mod Entries
 pub mod Coordinates
+pub mod Outlines
+pub mod Shapes
+pub mod Strokes
 pub mod Judging
 pub mod Reading
 pub mod Resuming

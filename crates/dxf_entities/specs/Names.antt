@@ -42,18 +42,18 @@ linetype_of value = if is_continuous value then linetype.Continuous
     else (if is_center value then linetype.Center
     else (if is_name (codes "BYLAYER") value then linetype.ByLayer else linetype.Unlisted)))
 
--- kinds of entities that are geometry, but no line
+-- kinds of entities that are geometry, but no lines
 abbrev pub is_geometry : List ℕ → Bool
 is_geometry value = is_name (codes "ARC") value || (is_name (codes "CIRCLE") value
     || (is_name (codes "ELLIPSE") value || (is_name (codes "SPLINE") value
-    || (is_name (codes "POLYLINE") value || (is_name (codes "LWPOLYLINE") value
-    || (is_name (codes "INSERT") value || (is_name (codes "SOLID") value
-    || is_name (codes "3DFACE") value)))))))
+    || (is_name (codes "POLYLINE") value || (is_name (codes "INSERT") value
+    || (is_name (codes "SOLID") value || is_name (codes "3DFACE") value))))))
 
 -- what an entity of this name is
 unfoldable pub kind_of : List ℕ → Kind
 kind_of value = if is_name (codes "LINE") value then kind.Line
-    else (if is_geometry value then kind.Geometry else kind.Other)
+    else (if is_name (codes "LWPOLYLINE") value then kind.Polyline
+    else (if is_geometry value then kind.Geometry else kind.Other))
 
 -- what a section of this name holds
 unfoldable pub section_of : List ℕ → Section

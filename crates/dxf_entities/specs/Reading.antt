@@ -1,5 +1,5 @@
 -- What a file shows: the lines that are kept, or its first fault.
-use Rattle.std.specs.Prelude.{ℕ, Bool, true, false, List, [], ◌∷◌, ◌++◌, length, Option, Some, None, Result, Ok, Err, codes, if◌then◌else◌}
+use Rattle.std.specs.Prelude.{ℕ, Bool, true, false, List, [], ◌∷◌, Option, Some, None, Result, Ok, Err, codes, if◌then◌else◌}
 use Rattle.std.specs.Option.{option_map, option_or, unwrap_or}
 use Rattle.solid_model.specs.declared.fault.Fault.{Fault}
 use Rattle.solid_model.specs.declared.fault.Fault.TheVariants.{BadSection}
@@ -14,21 +14,23 @@ use Rattle.dxf_entities.specs.declared.section.Section.{Section}
 use Rattle.dxf_entities.specs.declared.section.Section.TheVariants.{Tables, Entities, Other}
 use Rattle.dxf_entities.specs.declared.place.Place.{Place}
 use Rattle.dxf_entities.specs.declared.place.Place.TheVariants.{Outside, Unnamed, Inside}
-use Rattle.dxf_entities.specs.Coordinates.{◌>>=◌}
+use Rattle.dxf_entities.specs.Steps.{◌>>=◌}
 use Rattle.dxf_entities.specs.Entries.{Entry, has_code, before_entries, entries_of, own_pairs, first_value}
 use Rattle.dxf_entities.specs.Judging.{facts_of, judged}
 use Rattle.dxf_entities.specs.Names.{is_name, view_on, linetype_of, section_of}
 
--- how far a file is read: where that is, which linetypes the layers of the views have so far, and the
--- lines kept so far
+-- how a file is read, with so many decimals, and how far: where that is, which linetypes the layers of
+-- the views have so far, and the lines kept so far
 pub record Progress : Type 0 where
+  pub decimals : ℕ
   pub place : Place
   pub layers : View → Option Linetype
   pub lines : List Line
 
 -- nothing is read
-abbrev pub nothing_read : Progress
-nothing_read = record { place = Outside; layers = λ _. None; lines = [] }
+abbrev pub nothing_read : ℕ → Progress
+nothing_read decimals =
+    record { decimals = decimals; place = Outside; layers = λ _. None; lines = [] }
 
 -- between sections no pair may stand but one that begins a section
 abbrev pub between : List TextPair → Progress → Result Progress Fault
@@ -65,20 +67,15 @@ layer_added e s = let own = own_pairs false e.pairs in
     (option_map linetype_of (first_value 6 own)) s
     else s
 
--- one more line, or none
-abbrev pub line_added : Option Line → Progress → Progress
-line_added None s = s
-line_added (Some l) s = record s { lines = s.lines ++ l ∷ [] }
-
--- an entity is judged, and its line is added, where it gives one
+-- an entity is judged, and its lines are added
 abbrev pub entity_read : Facts → Progress → Result Progress Fault
-entity_read f s = judged s.layers (length s.lines) f >>= λ l. Ok (line_added l s)
+entity_read f s = judged s.layers s.lines f >>= λ lines. Ok (record s { lines = lines })
 
 -- an entry of a section, where a pair ends it; without that it counts for nothing
 abbrev pub entry_read : Bool → Section → Entry → Progress → Result Progress Fault
 entry_read false section e s = Ok s
 entry_read true Tables e s = Ok (layer_added e s)
-entry_read true Entities e s = entity_read (facts_of e) s
+entry_read true Entities e s = entity_read (facts_of s.decimals e) s
 entry_read true Other e s = Ok s
 
 -- the next entry, at this place; whether a pair ends it is told
@@ -108,11 +105,12 @@ entries_read [] (Err f) s = Err f
 entries_read [] (Ok line) s = end_read s.place line s
 entries_read (e ∷ es) ending s = read_at s.place (is_ended es ending) e s >>= entries_read es ending
 
--- all pairs
-abbrev pub pairs_read : Pairs → Result (List Line) Fault
-pairs_read ps =
-    between (before_entries ps.pairs) nothing_read >>= entries_read (entries_of ps.pairs) ps.ending
+-- all pairs, with so many decimals
+abbrev pub pairs_read : ℕ → Pairs → Result (List Line) Fault
+pairs_read decimals ps = between (before_entries ps.pairs) (nothing_read decimals)
+    >>= entries_read (entries_of ps.pairs) ps.ending
 
--- the lines that are kept of a text, in its order, or its first fault
-unfoldable pub read_of : List ℕ → Result (List Line) Fault
-read_of text = pairs_read (pairs_of text)
+-- the lines that are kept of a text that is read with so many decimals, in its order, or its first
+-- fault
+unfoldable pub read_of : ℕ → List ℕ → Result (List Line) Fault
+read_of decimals text = pairs_read decimals (pairs_of text)

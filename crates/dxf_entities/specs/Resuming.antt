@@ -19,10 +19,10 @@ use Rattle.dxf_entities.specs.declared.place.Place.TheVariants.{Outside, Unnamed
 use Rattle.dxf_entities.specs.declared.open.Open.{Open}
 use Rattle.dxf_entities.specs.declared.open.Open.TheVariants.{Passed, Layer, Entity}
 use Rattle.dxf_entities.specs.declared.reader.Reader.{Reader}
-use Rattle.dxf_entities.specs.Coordinates.{◌>>=◌, more_coordinates}
+use Rattle.dxf_entities.specs.Shapes.{begun_shape, more_shape}
+use Rattle.dxf_entities.specs.Steps.{◌>>=◌}
 use Rattle.dxf_entities.specs.Entries.{has_code, before_entries, entries_of, opens_application, closes_application}
 use Rattle.dxf_entities.specs.Judging.{is_one}
-use Rattle.dxf_entities.specs.Known.{none_known}
 use Rattle.dxf_entities.specs.Names.{is_name, view_on, linetype_of, kind_of}
 use Rattle.dxf_entities.specs.Reading.{Progress, between, opened, with_layer, entity_read, is_ended, entries_read}
 
@@ -32,12 +32,12 @@ or_first code meaning p known =
     option_or known (if has_code code p then Some (meaning p.value) else None)
 
 -- what counts of an entity, with one more pair of its own
-abbrev pub with_fact : TextPair → Facts → Facts
-with_fact p f = record f {
+abbrev pub with_fact : ℕ → TextPair → Facts → Facts
+with_fact decimals p f = record f {
   layer = or_first 8 view_on p f.layer;
   paper = or_first 67 is_one p f.paper;
   linetype = or_first 6 linetype_of p f.linetype;
-  coordinates = more_coordinates p f.coordinates;
+  shape = more_shape decimals f.line p f.shape;
 }
 
 -- what counts of a layer's entry, with one more pair of its own
@@ -66,7 +66,7 @@ begun_facts p = record {
   layer = None;
   paper = None;
   linetype = None;
-  coordinates = Ok none_known;
+  shape = Ok (begun_shape (kind_of p.value));
 }
 
 -- the linetypes of the views' layers
@@ -77,11 +77,17 @@ layer_linetype l Side = l.side
 
 -- how far a reader has read, but for the entry that is open
 abbrev pub progress_of : Reader → Progress
-progress_of r = record { place = r.place; layers = layer_linetype r.layers; lines = r.lines.items }
+progress_of r = record {
+  decimals = r.decimals;
+  place = r.place;
+  layers = layer_linetype r.layers;
+  lines = r.lines.items;
+}
 
 -- an entity of this kind that a pair opens
 abbrev pub opened_entity : TextPair → Kind → Open
 opened_entity p kind.Line = Entity (begun_facts p)
+opened_entity p kind.Polyline = Entity (begun_facts p)
 opened_entity p kind.Geometry = Entity (begun_facts p)
 opened_entity p kind.Other = Passed
 
@@ -99,15 +105,17 @@ unless_elsewhere (Some None) f = Passed
 unless_elsewhere (Some (Some view)) f = Entity f
 
 -- an open entry with one more pair of its own
-abbrev pub with_own_pair : TextPair → Open → Open
-with_own_pair p Passed = Passed
-with_own_pair p (Layer f) = Layer (with_layer_fact p f)
-with_own_pair p (Entity f) = let more = with_fact p f in unless_elsewhere more.layer more
+abbrev pub with_own_pair : ℕ → TextPair → Open → Open
+with_own_pair decimals p Passed = Passed
+with_own_pair decimals p (Layer f) = Layer (with_layer_fact p f)
+with_own_pair decimals p (Entity f) =
+    let more = with_fact decimals p f in unless_elsewhere more.layer more
 
 -- an open entry with one more pair; whether that may belong to an application is told
-abbrev pub with_pair_of : TextPair → Bool → Open → Open
-with_pair_of p true entry = entry
-with_pair_of p false entry = if opens_application p then entry else with_own_pair p entry
+abbrev pub with_pair_of : ℕ → TextPair → Bool → Open → Open
+with_pair_of decimals p true entry = entry
+with_pair_of decimals p false entry =
+    if opens_application p then entry else with_own_pair decimals p entry
 
 -- whether the next pair may belong to an application
 abbrev pub is_inside_after : TextPair → Bool → Bool
@@ -117,7 +125,7 @@ is_inside_after p false = opens_application p
 -- the open entry takes a pair
 abbrev pub fact_taken : TextPair → Reader → Reader
 fact_taken p r = record r {
-  entry = with_pair_of p r.in_application r.entry;
+  entry = with_pair_of r.decimals p r.in_application r.entry;
   in_application = is_inside_after p r.in_application;
 }
 
@@ -126,7 +134,7 @@ abbrev pub entry_closed : Open → Bool → List TextPair → Progress → Resul
 entry_closed Passed inside ps s = Ok s
 entry_closed (Layer f) inside ps s =
     let all = with_own with_layer_fact inside ps f in Ok (with_layer all.name all.linetype s)
-entry_closed (Entity f) inside ps s = entity_read (with_own with_fact inside ps f) s
+entry_closed (Entity f) inside ps s = entity_read (with_own (with_fact s.decimals) inside ps f) s
 
 -- the open entry is closed
 abbrev pub closed : List TextPair → Reader → Result Progress Fault

@@ -1,9 +1,10 @@
 -- Small files, pair by pair, and what is read of them.
-use Rattle.std.specs.Prelude.{ℕ, ◌+◌, List, [], ◌∷◌, ◌++◌, pos, codes}
+use Rattle.std.specs.Prelude.{ℕ, ◌+◌, List, [], ◌∷◌, ◌++◌, pos, Ok, codes}
 use Rattle.solid_model.specs.declared.frame.View.TheVariants.{Front}
 use Rattle.solid_model.specs.declared.segment.Style.{Style}
+use Rattle.solid_model.specs.declared.segment.Style.TheVariants.{Solid}
 use Rattle.solid_model.specs.Line.{Line}
-use Rattle.dxf_groups.specs.Pairs.{TextPair}
+use Rattle.dxf_groups.specs.Pairs.{TextPair, Pairs}
 use Rattle.dxf_groups.specs.SmallTexts.{pair_on}
 
 -- from the line n on, an entity on the layer FRONT from (0, 0) to (x, y), with these pairs before its
@@ -21,11 +22,39 @@ section_at n name = pair_on n (pos 0) (codes "SECTION") ∷ pair_on (n + 2) (pos
 abbrev pub end_of_section : ℕ → List TextPair
 end_of_section n = pair_on n (pos 0) (codes "endsec") ∷ []
 
+-- from the line n on, a polyline on the layer FRONT with these pairs
+abbrev pub polyline_from : ℕ → List TextPair → List TextPair
+polyline_from n more =
+    pair_on n (pos 0) (codes "LwPolyline") ∷ pair_on (n + 2) (pos 8) (codes "FRONT") ∷ more
+
+-- a vertex whose pairs begin at the line n
+abbrev pub vertex_at : ℕ → List ℕ → List ℕ → List TextPair
+vertex_at n x y = pair_on n (pos 10) x ∷ pair_on (n + 2) (pos 20) y ∷ []
+
+-- the pairs of a file with this polyline alone, which begins at the line 5 and ends at the line n
+abbrev pub file_of_polyline : ℕ → List TextPair → Pairs
+file_of_polyline n more = record {
+  pairs = section_at 1 (codes "ENTITIES") ++ (polyline_from 5 more ++ end_of_section n);
+  ending = Ok (n + 2);
+}
+
 -- a table with one layer FRONT, whose linetype is HIDDEN
 abbrev pub hidden_layer : ℕ → List TextPair
 hidden_layer n = section_at n (codes "TABLES")
     ++ (pair_on (n + 4) (pos 0) (codes "LAYER") ∷ pair_on (n + 6) (pos 2) (codes "FRONT")
     ∷ pair_on (n + 8) (pos 6) (codes "Hidden") ∷ end_of_section (n + 10))
+
+-- the line from (a, b) to (c, d) that begins at the line n
+abbrev pub line_to : ℕ → ℕ → ℕ → ℕ → ℕ → Line
+line_to n a b c d = record {
+  of = Front;
+  style = Solid;
+  x0 = pos a;
+  y0 = pos b;
+  x1 = pos c;
+  y1 = pos d;
+  number = n;
+}
 
 -- the line from (0, 0) to (1, 0) that begins at the line n
 abbrev pub unit_line : ℕ → Style → Line

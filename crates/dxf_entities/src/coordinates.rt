@@ -1,6 +1,8 @@
 //! The coordinates of a line's entity.
 
-use dxf_groups::{NumeralFault, Pair, whole};
+use crate::values::value_at;
+use crate::vertex::Vertex;
+use dxf_groups::Pair;
 use solid_model::Fault;
 use std::marker::Model;
 
@@ -25,10 +27,18 @@ impl Model for Coordinates {
     ghost inverse = { λ c. record { x0 = c.x0; y0 = c.y0; x1 = c.x1; y1 = c.y1 } };
 }
 
+/// The ends of a line.
+#[derive(Clone, Copy)]
+pub struct Ends {
+    pub from: Vertex,
+    pub to: Vertex,
+}
+
 impl Coordinates {
-    ghost use Rattle.std.specs.Prelude.{◌≡◌, IfOk};
+    ghost use Rattle.std.specs.Prelude.{◌≡◌, ◌≤◌, IfOk};
+    ghost use Rattle.solid_model.specs.Limits.{most_decimals};
     ghost use Rattle.solid_model.specs.Line.{IsNear};
-    ghost use Rattle.dxf_entities.specs.Coordinates.{coordinate_at, with_coordinate};
+    ghost use Rattle.dxf_entities.specs.Coordinates.{coordinate_at, ends_of, present, with_coordinate};
     ghost use Rattle.dxf_groups.specs.Pairs.{text_pair};
 
     /// None is known.
@@ -39,37 +49,64 @@ impl Coordinates {
         y1: None,
     };
 
-    /// The coordinate that a pair with this value gives, where `known` may be known already.
-    fn coordinate_at(pair: &Pair, value: &[u8], known: Option<i64>) -> Result<i64, Fault>
-        ensures read { result ≡ coordinate_at (text_pair pair.now value.now) known }
+    /// The coordinate that a pair with this value gives, read with so many decimals, where `known`
+    /// may be known already.
+    fn coordinate_at(
+        pair: &Pair,
+        value: &[u8],
+        decimals: u8,
+        known: Option<i64>,
+    ) -> Result<i64, Fault>
+        requires { decimals ≤ most_decimals }
+        ensures read { result ≡ coordinate_at decimals (text_pair pair.now value.now) known }
         ensures near { IfOk result IsNear }
     {
-        let (line, code) = (pair.line, pair.code);
         if known.is_some() {
-            return Err(Fault::Repeated { line, code });
+            return Err(Fault::Repeated {
+                line: pair.line,
+                code: pair.code,
+            });
         }
-        let line = line + 1;
-        match whole(value) {
-            Ok(coordinate) => Ok(coordinate),
-            Err(NumeralFault::BadNumber) => Err(Fault::BadNumber { line, code }),
-            Err(NumeralFault::NotWhole) => Err(Fault::NotWhole { line, code }),
-            Err(NumeralFault::TooFar) => Err(Fault::TooFar { line, code }),
-        }
+        value_at(pair, value, decimals)
     }
 
     /// One more pair with this value is looked at: those with the codes 10 and 20 give the start,
     /// those with 11 and 21 the end.
-    pub fn with(self, pair: &Pair, value: &[u8]) -> Result<Coordinates, Fault>
-        ensures { result ≡ with_coordinate (text_pair pair.now value.now) self }
+    pub fn with(self, pair: &Pair, value: &[u8], decimals: u8) -> Result<Coordinates, Fault>
+        requires { decimals ≤ most_decimals }
+        ensures { result ≡ with_coordinate decimals (text_pair pair.now value.now) self }
     {
         let mut known = self;
         match pair.code {
-            10 => known.x0 = Some(Coordinates::coordinate_at(pair, value, known.x0)?),
-            20 => known.y0 = Some(Coordinates::coordinate_at(pair, value, known.y0)?),
-            11 => known.x1 = Some(Coordinates::coordinate_at(pair, value, known.x1)?),
-            21 => known.y1 = Some(Coordinates::coordinate_at(pair, value, known.y1)?),
+            10 => known.x0 = Some(Coordinates::coordinate_at(pair, value, decimals, known.x0)?),
+            20 => known.y0 = Some(Coordinates::coordinate_at(pair, value, decimals, known.y0)?),
+            11 => known.x1 = Some(Coordinates::coordinate_at(pair, value, decimals, known.x1)?),
+            21 => known.y1 = Some(Coordinates::coordinate_at(pair, value, decimals, known.y1)?),
             _ => (),
         }
         Ok(known)
+    }
+
+    /// A coordinate that is there; or it is missing from the entity that begins at this line.
+    fn present(line: u32, code: i32, known: Option<i64>) -> Result<i64, Fault>
+        ensures { result ≡ present line code known }
+    {
+        known.ok_or(Fault::Missing { line, code })
+    }
+
+    /// The ends of the line, whose entity begins at this line of the file, where it has all four
+    /// coordinates.
+    #[tactic(auto, unfolding(crate::specs::Coordinates::ends_of))]
+    pub fn ends(self, line: u32) -> Result<Ends, Fault>
+        ensures { result ≡ ends_of line self }
+    {
+        let x0 = Coordinates::present(line, 10, self.x0)?;
+        let y0 = Coordinates::present(line, 20, self.y0)?;
+        let x1 = Coordinates::present(line, 11, self.x1)?;
+        let y1 = Coordinates::present(line, 21, self.y1)?;
+        Ok(Ends {
+            from: Vertex { x: x0, y: y0 },
+            to: Vertex { x: x1, y: y1 },
+        })
     }
 }

@@ -9,13 +9,15 @@ use crate::names::is_name;
 #[derive(Clone, Copy, PartialEq, Eq)]
 pub enum Kind {
     Line,
-    /// Geometry that is no line.
+    /// A polyline whose vertices stand in its own entity.
+    Polyline,
+    /// Geometry that is neither.
     Geometry,
     /// No geometry.
     Other,
 }
 
-/// Whether a kind of entities is geometry, but no line.
+/// Whether a kind of entities is geometry, but no lines.
 fn is_geometry(value: &[u8]) -> bool
     ensures { result ≡ is_geometry value.now }
 {
@@ -24,7 +26,6 @@ fn is_geometry(value: &[u8]) -> bool
         || is_name(b"ELLIPSE", value)
         || is_name(b"SPLINE", value)
         || is_name(b"POLYLINE", value)
-        || is_name(b"LWPOLYLINE", value)
         || is_name(b"INSERT", value)
         || is_name(b"SOLID", value)
         || is_name(b"3DFACE", value)
@@ -37,6 +38,8 @@ pub fn kind_of(value: &[u8]) -> Kind
 {
     if is_name(b"LINE", value) {
         Kind::Line
+    } else if is_name(b"LWPOLYLINE", value) {
+        Kind::Polyline
     } else if is_geometry(value) {
         Kind::Geometry
     } else {

@@ -1,13 +1,13 @@
 //! Laws of the definition of what is read.
 
 ghost use Rattle.std.specs.Prelude.{◌≡◌, ℕ, List, [], ◌∷◌, ◌++◌, pos, Ok, Err, codes};
-ghost use Rattle.solid_model.specs.declared.fault.Fault.TheVariants.{BadSection, NoEof, Oblique};
+ghost use Rattle.solid_model.specs.declared.fault.Fault.TheVariants.{BadSection, Curved, Missing, NoEof, Oblique, Repeated};
 ghost use Rattle.solid_model.specs.declared.segment.Style.TheVariants.{Dashed, Solid};
 ghost use Rattle.solid_model.specs.Line.{Line, IsKept};
 ghost use Rattle.solid_model.specs.Lists.{Each};
 ghost use Rattle.dxf_groups.specs.SmallTexts.{pair_on};
 ghost use Rattle.dxf_entities.specs.Reading.{pairs_read, read_of};
-ghost use Rattle.dxf_entities.specs.SmallFiles.{line_from, section_at, end_of_section, hidden_layer, unit_line};
+ghost use Rattle.dxf_entities.specs.SmallFiles.{line_from, section_at, end_of_section, hidden_layer, unit_line, file_of_polyline, vertex_at, line_to};
 
 /// Small files, written out by hand. A line on the layer FRONT is kept; without a linetype it takes
 /// its layer's from a table that stands before it, and not from one that stands after it. A pair
@@ -15,43 +15,81 @@ ghost use Rattle.dxf_entities.specs.SmallFiles.{line_from, section_at, end_of_se
 /// entity, which comes before the fault of that pair; where the text ends first, the fault is the
 /// text's.
 pub fn small_files()
-    ensures kept { pairs_read (record {
+    ensures kept { pairs_read 0 (record {
       pairs = section_at 1 (codes "Entities")
           ++ (line_from 5 [] (codes "1") (codes "0") ++ end_of_section 23);
       ending = Ok 25;
     }) ≡ Ok (unit_line 5 Solid ∷ []) }
-    ensures by_layer { pairs_read (record {
+    ensures by_layer { pairs_read 0 (record {
       pairs = hidden_layer 1 ++ (section_at 13 (codes "ENTITIES")
           ++ (line_from 17 [] (codes "10E-1") (codes "0") ++ end_of_section 35));
       ending = Ok 37;
     }) ≡ Ok (unit_line 17 Dashed ∷ []) }
-    ensures layer_after { pairs_read (record {
+    ensures layer_after { pairs_read 0 (record {
       pairs = section_at 1 (codes "ENTITIES")
           ++ (line_from 5 [] (codes "1") (codes "0") ++ (end_of_section 23 ++ hidden_layer 25));
       ending = Ok 37;
     }) ≡ Ok (unit_line 5 Solid ∷ []) }
-    ensures application { pairs_read (record {
+    ensures application { pairs_read 0 (record {
       pairs = section_at 1 (codes "ENTITIES")
           ++ (line_from 5 (pair_on 9 (pos 102) (codes "{A") ∷ pair_on 11 (pos 6) (codes "HIDDEN")
           ∷ pair_on 13 (pos 102) (codes "}") ∷ []) (codes "1") (codes "0") ++ end_of_section 23);
       ending = Ok 25;
     }) ≡ Ok (unit_line 5 Solid ∷ []) }
-    ensures oblique { pairs_read (record {
+    ensures oblique { pairs_read 0 (record {
       pairs = section_at 1 (codes "ENTITIES") ++ line_from 5 [] (codes "1") (codes "2");
       ending = Ok 23;
     }) ≡ Err (Oblique 5) }
-    ensures not_ended { pairs_read (record {
+    ensures not_ended { pairs_read 0 (record {
       pairs = section_at 1 (codes "ENTITIES") ++ line_from 5 [] (codes "1") (codes "2");
       ending = Err (NoEof 23);
     }) ≡ Err (NoEof 23) }
-    ensures misplaced { pairs_read (record {
+    ensures misplaced { pairs_read 0 (record {
       pairs = section_at 1 (codes "ENTITIES") ++ section_at 5 (codes "ENTITIES");
       ending = Ok 9;
     }) ≡ Err (BadSection 5) }
+    ensures decimals { pairs_read 1 (record {
+      pairs = section_at 1 (codes "ENTITIES")
+          ++ (line_from 5 [] (codes "1e-1") (codes "0") ++ end_of_section 23);
+      ending = Ok 25;
+    }) ≡ Ok (unit_line 5 Solid ∷ []) }
+{}
+
+/// Files with one polyline, written out by hand. It gives a line from each vertex to the next and,
+/// where its flags are odd and it has two vertices or more, from the last to the first; the first
+/// flags count, and are read without decimals. A bulge that isn't 0 is a fault, before the first
+/// vertex too, and so is a vertex without its y coordinate or without its x, which is found before
+/// the next value is read.
+pub fn small_polylines()
+    ensures left_open { pairs_read 1 (file_of_polyline 25 (pair_on 9 (pos 70) (codes "128")
+        ∷ vertex_at 11 (codes "0") (codes "0") ++ pair_on 15 (pos 42) (codes "0e5")
+        ∷ vertex_at 17 (codes ".3") (codes "0") ++ vertex_at 21 (codes "0.3") (codes "0.20")))
+        ≡ Ok (line_to 5 0 0 3 0 ∷ line_to 5 3 0 3 2 ∷ []) }
+    ensures closed { pairs_read 1 (file_of_polyline 21 (vertex_at 9 (codes "0") (codes "0")
+        ++ pair_on 13 (pos 70) (codes "1.0") ∷ vertex_at 15 (codes "0.3") (codes "0")
+        ++ pair_on 19 (pos 70) (codes "x") ∷ []))
+        ≡ Ok (line_to 5 0 0 3 0 ∷ line_to 5 3 0 0 0 ∷ []) }
+    ensures one_vertex { pairs_read 0 (file_of_polyline 15 (pair_on 9 (pos 70) (codes "-1")
+        ∷ vertex_at 11 (codes "7") (codes "8"))) ≡ Ok [] }
+    ensures oblique { pairs_read 0 (file_of_polyline 23 (pair_on 9 (pos 70) (codes "129")
+        ∷ vertex_at 11 (codes "0") (codes "0") ++ vertex_at 15 (codes "3") (codes "0")
+        ++ vertex_at 19 (codes "3") (codes "2"))) ≡ Err (Oblique 5) }
+    ensures bent { pairs_read 0 (file_of_polyline 15 (pair_on 9 (pos 42) (codes "5e-99")
+        ∷ vertex_at 11 (codes "x") (codes "0"))) ≡ Err (Curved 5) }
+    ensures half_a_vertex { pairs_read 0 (file_of_polyline 15 (vertex_at 9 (codes "0") (codes "0")
+        ++ pair_on 13 (pos 10) (codes "3") ∷ pair_on 15 (pos 10) (codes "x") ∷ []))
+        ≡ Err (Missing 5 (pos 20)) }
+    ensures last_half { pairs_read 0 (file_of_polyline 11 (pair_on 9 (pos 10) (codes "3") ∷ []))
+        ≡ Err (Missing 5 (pos 20)) }
+    ensures no_x { pairs_read 0 (file_of_polyline 11 (pair_on 9 (pos 20) (codes "x") ∷ []))
+        ≡ Err (Missing 5 (pos 10)) }
+    ensures two_ends { pairs_read 0 (file_of_polyline 15 (vertex_at 9 (codes "0") (codes "0")
+        ++ pair_on 13 (pos 20) (codes "x") ∷ [])) ≡ Err (Repeated 13 (pos 20)) }
 {}
 
 /// Each line that is read of a text is level or upright, is drawn, and has coordinates of an
 /// absolute value of at most 1,000,000,000.
 pub fn read_lines_are_kept()
-    ensures { (text : List ℕ) (ls : List Line) → read_of text ≡ Ok ls → Each IsKept ls }
+    ensures { (decimals : ℕ) (text : List ℕ) (ls : List Line) → read_of decimals text ≡ Ok ls
+        → Each IsKept ls }
 {}

@@ -4,6 +4,7 @@
 
 mod codes;
 mod coordinates;
+mod decimals;
 mod facts;
 mod kind;
 mod laws;
@@ -12,11 +13,17 @@ mod layers;
 mod linetype;
 mod names;
 mod open;
+mod outline;
+mod pen;
 mod place;
 mod reader;
 mod reading;
 mod section;
+mod shape;
+mod strokes;
+mod values;
+mod vertex;
 
-pub use laws::{read_lines_are_kept, small_files};
+pub use laws::{read_lines_are_kept, small_files, small_polylines};
 pub use reading::entities;
 pub use solid_model::SheetLine;

@@ -1,6 +1,7 @@
 //! The entry that is being read.
 
-ghost use Rattle.std.specs.Prelude.{◌≡◌};
+ghost use Rattle.std.specs.Prelude.{◌≡◌, ◌≤◌, OnOk};
+ghost use Rattle.solid_model.specs.Limits.{most_decimals};
 ghost use Rattle.dxf_groups.specs.Pairs.{text_pair};
 ghost use Rattle.dxf_entities.specs.Resuming.{opened_entry, with_own_pair};
 
@@ -10,47 +11,51 @@ use crate::layer_facts::LayerFacts;
 use crate::names::is_name;
 use crate::section::Section;
 use dxf_groups::Pair;
+use solid_model::Memory;
+use std::alloc::Global;
 
 /// An entry that no pair has ended yet.
-#[derive(Clone, Copy)]
+#[derive(Drop)]
 pub enum Open {
     /// None, or one that is passed over.
     Passed,
     /// An entry that gives a layer.
     Layer(LayerFacts),
-    /// An entity that may be a line of a view.
+    /// An entity that may draw lines of a view.
     Entity(Facts),
 }
 
 impl Open {
     /// The entry of a section that begins with this pair, which has this value.
-    pub fn begun(section: Section, pair: &Pair, value: &[u8]) -> Open
+    pub fn begun(alloc: Global, section: Section, pair: &Pair, value: &[u8]) -> Open
         ensures { result ≡ opened_entry section (text_pair pair.now value.now) }
     {
         match section {
             Section::Tables if is_name(b"LAYER", value) => Open::Layer(LayerFacts::NONE),
             Section::Entities if kind_of(value) != Kind::Other => {
-                Open::Entity(Facts::begun(pair, value))
+                Open::Entity(Facts::begun(alloc, pair, value))
             }
             _ => Open::Passed,
         }
     }
 
-    /// The entry with one more pair, which has this value and belongs to no application.
-    pub fn with(self, pair: &Pair, value: &[u8]) -> Open
-        ensures { result ≡ with_own_pair (text_pair pair.now value.now) self }
+    /// Takes one more pair, which has this value and belongs to no application. An entity that
+    /// stands on a layer that is no view's is passed over from there on.
+    pub fn take(&mut self, pair: &Pair, value: &[u8], decimals: u8) -> Result<(), Memory>
+        requires { decimals ≤ most_decimals }
+        ensures { OnOk result (self.new
+            ≡ with_own_pair decimals (text_pair pair.now value.now) self.old) }
     {
         match self {
-            Open::Passed => Open::Passed,
-            Open::Layer(facts) => Open::Layer(facts.with(pair, value)),
+            Open::Passed => (),
+            Open::Layer(facts) => *facts = facts.with(pair, value),
             Open::Entity(facts) => {
-                let facts = facts.with(pair, value);
+                facts.take(pair, value, decimals)?;
                 if let Some(None) = facts.layer {
-                    Open::Passed
-                } else {
-                    Open::Entity(facts)
+                    *self = Open::Passed;
                 }
             }
         }
+        Ok(())
     }
 }

@@ -1,21 +1,23 @@
 //! The reader that makes lines of a file's pairs. `dxf_groups::Groups` gives the pairs of a text.
 
-ghost use Rattle.std.specs.Prelude.{◌≡◌, ℕ, List, [], ◌∷◌, Result, Ok, Err, IfOk, OnOk, IsErrOf, true, false, IsTrue};
+ghost use Rattle.std.specs.Prelude.{◌≡◌, ◌≤◌, ℕ, List, [], ◌∷◌, Result, Ok, Err, IfOk, OnOk, IsErrOf, true, false, IsTrue};
 ghost use Rattle.solid_model.specs.declared.fault.Fault.{Fault};
 ghost use Rattle.solid_model.specs.declared.fault.Refused.TheVariants as refused;
+ghost use Rattle.solid_model.specs.Limits.{most_decimals};
 ghost use Rattle.dxf_groups.specs.Pairs.{TextPair, Pairs, text_pair};
 ghost use Rattle.dxf_entities.specs.Entries.{has_code, opens_application, closes_application};
 ghost use Rattle.dxf_entities.specs.Reading.{pairs_read};
 ghost use Rattle.dxf_entities.specs.Resuming.{progress_of, closed, opened_entry, fact_taken, resumed};
 
 use crate::codes::has_code;
+use crate::decimals::Decimals;
 use crate::layers::Layers;
 use crate::names::is_name;
 use crate::open::Open;
 use crate::place::Place;
 use crate::section::{Section, section_of};
 use dxf_groups::Pair;
-use solid_model::{Fault, Refused, SheetLine};
+use solid_model::{Fault, Memory, Refused, SheetLine};
 use std::alloc::Global;
 
 /// Whether the pair begins what belongs to an application.
@@ -35,6 +37,9 @@ fn closes_application(pair: &Pair, value: &[u8]) -> bool
 /// What is known of the pairs so far.
 #[derive(Drop)]
 pub struct Reader {
+    pub alloc: Global,
+    /// The decimals with which coordinates are read.
+    pub decimals: Decimals,
     pub place: Place,
     pub layers: Layers,
     pub lines: Vec<SheetLine>,
@@ -44,11 +49,14 @@ pub struct Reader {
 }
 
 impl Reader {
-    /// Nothing is read.
-    pub fn new(alloc: Global) -> Reader
-        ensures { (ps : Pairs) → resumed ps.pairs ps.ending result ≡ pairs_read ps }
+    /// Nothing is read. At most 6 decimals can be read.
+    pub fn new(alloc: Global, decimals: u8) -> Reader
+        requires { decimals ≤ most_decimals }
+        ensures { (ps : Pairs) → resumed ps.pairs ps.ending result ≡ pairs_read decimals ps }
     {
         Reader {
+            alloc,
+            decimals: Decimals { count: decimals },
             place: Place::Outside,
             layers: Layers::NONE,
             lines: Vec::new(alloc),
@@ -64,12 +72,12 @@ impl Reader {
         ensures fault { (fault : Fault) → IsErrOf result (refused.Fault fault)
             → closed [] self.old ≡ Err fault }
     {
-        match self.entry {
+        match &mut self.entry {
             Open::Passed => (),
-            Open::Layer(layer) => self.layers = self.layers.with(layer),
+            Open::Layer(layer) => self.layers = self.layers.with(*layer),
             Open::Entity(facts) => {
-                if let Some(line) = facts.judged(&self.layers, self.lines.len())? {
-                    self.lines.push(line)?;
+                if let Some(pen) = facts.pen(&self.layers)? {
+                    facts.add_lines(pen, &mut self.lines)?;
                 }
             }
         }
@@ -84,7 +92,7 @@ impl Reader {
         } }
     {
         self.in_application = false;
-        self.entry = Open::begun(section, pair, value);
+        self.entry = Open::begun(self.alloc, section, pair, value);
     }
 
     /// Takes a pair with code 0, which ends the open entry and begins the next one.
@@ -120,15 +128,17 @@ impl Reader {
     }
 
     /// Takes one more pair of the open entry.
-    fn take_fact(&mut self, pair: &Pair, value: &[u8])
-        ensures { self.new ≡ fact_taken (text_pair pair.now value.now) self.old }
+    fn take_fact(&mut self, pair: &Pair, value: &[u8]) -> Result<(), Memory>
+        ensures { OnOk result (self.new ≡ fact_taken (text_pair pair.now value.now) self.old) }
     {
         if self.in_application {
             self.in_application = !closes_application(pair, value);
+            Ok(())
         } else if opens_application(pair, value) {
             self.in_application = true;
+            Ok(())
         } else {
-            self.entry = self.entry.with(pair, value);
+            self.entry.take(pair, value, self.decimals.count())
         }
     }
 
@@ -151,7 +161,7 @@ impl Reader {
                 Ok(())
             }
             Place::Inside(_) => {
-                self.take_fact(pair, value);
+                self.take_fact(pair, value)?;
                 Ok(())
             }
             _ => Err(Refused::Fault(Fault::BadSection { line: pair.line })),

@@ -1,8 +1,9 @@
 //! The lines that a file keeps.
 
-ghost use Rattle.std.specs.Prelude.{◌≡◌, Ok, Err, IfOk, OnOk, IsErrOf};
+ghost use Rattle.std.specs.Prelude.{◌≡◌, ◌≤◌, Ok, Err, IfOk, OnOk, IsErrOf};
 ghost use Rattle.solid_model.specs.declared.fault.Fault.{Fault};
 ghost use Rattle.solid_model.specs.declared.fault.Refused.TheVariants as refused;
+ghost use Rattle.solid_model.specs.Limits.{most_decimals};
 ghost use Rattle.dxf_groups.specs.Groups.{IsReadThrough};
 ghost use Rattle.dxf_groups.specs.Pairs.{pairs_of};
 ghost use Rattle.dxf_entities.specs.Reading.{read_of};
@@ -12,33 +13,41 @@ use dxf_groups::Groups;
 use solid_model::{Refused, SheetLine};
 use std::alloc::Global;
 
-/// The lines of the three views that a file keeps, in its order, read to the pair that ends it. The
-/// file is ASCII DXF (Autodesk's DXF Reference). Of its sections TABLES and ENTITIES are read, and
-/// the others passed over. An entity counts where its layer (group code 8) is FRONT, TOP or SIDE
-/// and it isn't in paper space (67 is 1); any other is passed over, one without a layer too. A LINE
-/// is kept, with its start (10, 20) and end (11, 21), which are whole and of an absolute value of
-/// at most 1,000,000,000. Its linetype (6) is CONTINUOUS or BYBLOCK for solid, HIDDEN or DASHED for
-/// dashed, also with 2 or X2 behind, or BYLAYER, which it is without one: then it is that of its
-/// layer's first entry in a table before it. CENTER lines are passed over, and so is what no LINE
-/// and no geometry is. Names are compared with ASCII case ignored; what an application puts between
-/// 102 `{..` and 102 `}` counts for nothing.
+/// The lines of the three views that a file keeps, in its order, read to the pair that ends it, as
+/// whole numbers of units of ten to the power of minus `decimals`, which are at most 6. The file is
+/// ASCII DXF (Autodesk's DXF Reference). Of its sections TABLES and ENTITIES are read, and the
+/// others passed over. An entity counts where its layer (group code 8) is FRONT, TOP or SIDE and it
+/// isn't in paper space (67 is 1); any other is passed over, one without a layer too. A LINE is
+/// kept, with its start (10, 20) and end (11, 21). Of an LWPOLYLINE the lines are kept from each of
+/// its vertices (10, 20) to the next, and where its flags (70) are odd and it has two vertices or
+/// more the line from the last to the first. A linetype (6) is CONTINUOUS or BYBLOCK for solid,
+/// HIDDEN or DASHED for dashed, also with 2 or X2 behind, or BYLAYER, which it is without one: then
+/// it is that of its layer's first entry in a table before it. Entities of CENTER lines are passed
+/// over, and so is what is no geometry. Names are compared with ASCII case ignored; what an
+/// application puts between 102 `{..` and 102 `}` counts for nothing.
 ///
 /// The first fault in reading order is answered. Those of `Groups::next` come where they are met:
 /// one inside an entity hides the entity's own fault. `BadSection` comes where a pair may not
 /// stand, between the sections or where one is to be named, and where a section begins or the file
 /// ends in one. The others come where a pair ends an entity that counts, before that pair's
-/// `BadSection`, in this order: `Geometry` (ARC, CIRCLE, ELLIPSE, SPLINE, POLYLINE, LWPOLYLINE,
-/// INSERT, SOLID, 3DFACE), `Linetype`, `Repeated`, `BadNumber`, `NotWhole` or `TooFar` at the first
-/// coordinate that is so, `Missing`, `Oblique`, `TooManyLines` above 100,000. `Memory` says that it
-/// ran out of memory.
-pub fn entities(alloc: Global, groups: &mut Groups) -> Result<Vec<SheetLine>, Refused>
+/// `BadSection`, in this order: `Geometry` (ARC, CIRCLE, ELLIPSE, SPLINE, POLYLINE, INSERT, SOLID,
+/// 3DFACE); `Linetype`; the first of its pairs that is so of `Repeated`, `BadNumber`, `NotWhole`
+/// and `TooFar` and, in an LWPOLYLINE, `Missing`, where a vertex lacks its code 10 or 20, and
+/// `Curved`, where a bulge (42) isn't 0; `Missing`, of a LINE's coordinate or the last vertex's;
+/// `Oblique`; `TooManyLines` above 100,000. `Memory` says that it ran out of memory.
+pub fn entities(
+    alloc: Global,
+    groups: &mut Groups,
+    decimals: u8,
+) -> Result<Vec<SheetLine>, Refused>
     requires fresh { groups.old.left ≡ pairs_of groups.old.text }
-    ensures lines { IfOk result (λ lines. read_of groups.old.text ≡ Ok lines.items) }
+    requires decimals { decimals ≤ most_decimals }
+    ensures lines { IfOk result (λ lines. read_of decimals groups.old.text ≡ Ok lines.items) }
     ensures through { OnOk result (IsReadThrough groups.old groups.new) }
     ensures fault { (fault : Fault) → IsErrOf result (refused.Fault fault)
-        → read_of groups.old.text ≡ Err fault }
+        → read_of decimals groups.old.text ≡ Err fault }
 {
-    let mut reader = Reader::new(alloc);
+    let mut reader = Reader::new(alloc, decimals);
     while let Some(pair) = groups.next()? {
         reader.take(&pair, groups.value_of(&pair))?;
     }

@@ -1,5 +1,5 @@
 -- The entities of the plain form of lines, and the lines that are read of them.
-use Rattle.std.proofs.Common.{◌≡◌, ◌≢◌, ◌⊎◌, inl, inr, ℕ, ◌+◌, ◌<◌, ◌≤◌, true, ◌||◌, List, [], ◌∷◌, ◌++◌, length, ℤ, Some, None, Ok, int_eq, codes, refl, sym, ap, ◌∙◌, append_assoc, append-nil, length-append, lt-ltb, arith}
+use Rattle.std.proofs.Common.{◌≡◌, ◌≢◌, ◌⊎◌, inl, inr, ℕ, ◌+◌, ◌-◌, ◌<◌, ◌≤◌, true, ◌||◌, List, [], ◌∷◌, ◌++◌, length, ℤ, Some, None, Ok, int_eq, codes, refl, sym, ap, ◌∙◌, append_assoc, append-nil, length-append, le-leb, arith}
 use Rattle.std.proofs.lemmas.Bool.{or_left, or_right}
 use Rattle.std.proofs.lemmas.Bool.Decides.{Decides-int_eq}
 use Rattle.solid_model.specs.declared.frame.View.{View}
@@ -17,7 +17,9 @@ use Rattle.dxf_entities.specs.declared.linetype.Linetype.TheVariants as linetype
 use Rattle.dxf_entities.specs.declared.place.Place.TheVariants.{Inside}
 use Rattle.dxf_entities.specs.declared.section.Section.TheVariants.{Entities}
 use Rattle.dxf_entities.specs.Entries.{Entry, before_entries, entries_of}
-use Rattle.dxf_entities.specs.Judging.{by_layer, facts_of, judged, line_in, line_with, style_of, styled_line}
+use Rattle.dxf_entities.specs.declared.shape.Shape.TheVariants as shape
+use Rattle.dxf_entities.specs.Coordinates.{ends_of}
+use Rattle.dxf_entities.specs.Judging.{by_layer, drawn_by, facts_of, judged, style_of}
 use Rattle.dxf_entities.specs.Known.{Known}
 use Rattle.dxf_entities.specs.Names.{kind_of, linetype_of, section_of, view_on}
 use Rattle.dxf_entities.specs.Reading.{Progress, entity_read, entries_read, is_ended, pairs_read, read_of}
@@ -51,7 +53,7 @@ facts_for n l = record {
   layer = Some (Some l.of);
   paper = None;
   linetype = Some (linetype_for l.style);
-  coordinates = Ok (known_of l);
+  shape = Ok (shape.Line (known_of l));
 }
 
 -- the entity of a line that begins on line n
@@ -73,7 +75,7 @@ linetype_read Dashed drawn = refl
 linetype_read Solid drawn = refl
 
 -- the facts that are read of a line's entity
-facts_read : (n : ℕ) (l : Line) → IsKept l → facts_of (entry_for n l) ≡ facts_for n l
+facts_read : (n : ℕ) (l : Line) → IsKept l → facts_of 0 (entry_for n l) ≡ facts_for n l
 unfolding kind_of
 facts_read n l is =
     rw (
@@ -103,27 +105,28 @@ straight_test x0 y0 x1 y1 (inr upright) =
     or_right (int_eq x0 x1) (int_eq y0 y1) ((Decides-int_eq y0 y1).1 upright)
 
 -- the line that it gives, where there is room for one more
-line_judged : (n count : ℕ) (l : Line) → IsKept l → count < most_lines
-    → judged (λ v. None) count (facts_for n l) ≡ Ok (Some (numbered n l))
-unfolding judged line_in styled_line line_with
-line_judged n count l is room =
+line_judged : (n : ℕ) (lines : List Line) (l : Line) → IsKept l → length lines < most_lines
+    → judged (λ v. None) lines (facts_for n l) ≡ Ok (lines ++ numbered n l ∷ [])
+unfolding drawn_by ends_of
+line_judged n lines l is room =
+    let fits : 1 ≤ most_lines - length lines = omega arith in
     rw (
       style_read n l.style is.drawn,
       straight_test l.x0 l.y0 l.x1 l.y1 is.straight,
-      lt-ltb count most_lines room,
+      le-leb 1 (most_lines - length lines) fits,
     ) refl
 
 -- ---- how the file goes on
 
 -- among the entities, with these lines kept
 abbrev among : List Line → Progress
-among lines = record { place = Inside Entities; layers = λ v. None; lines = lines }
+among lines = record { decimals = 0; place = Inside Entities; layers = λ v. None; lines = lines }
 
 -- one more line is kept
 line_kept : (n : ℕ) (l : Line) (lines : List Line) → IsKept l → length lines < most_lines
-    → entity_read (facts_of (entry_for n l)) (among lines) ≡ Ok (among (lines ++ numbered n l ∷ []))
+    → entity_read (facts_of 0 (entry_for n l)) (among lines) ≡ Ok (among (lines ++ numbered n l ∷ []))
 line_kept n l lines is room =
-    rw (facts_read n l is, line_judged n (length lines) l is room) refl
+    rw (facts_read n l is, line_judged n lines l is room) refl
 
 -- lines and the end of their section begin with an entry
 nothing_before : (n : ℕ) (lines : List Line)
@@ -173,17 +176,17 @@ entries_kept n line (l ∷ ls) lines kept few =
 
 -- the file begins with its section
 begins_with_section : (lines : List Line) (line : ℕ)
-    → pairs_read (record { pairs = pairs_on 1 (file_fields lines); ending = Ok line })
+    → pairs_read 0 (record { pairs = pairs_on 1 (file_fields lines); ending = Ok line })
     ≡ entries_read (entries_of (pairs_on 5 (section_fields lines))) (Ok line) (among [])
 unfolding section_of
 begins_with_section lines line = refl
 
 -- the plain form of lines is read as these lines
 pub plain_is_read : (lines : List Line) → Each IsKept lines → length lines ≤ most_lines
-    → read_of (plain_file lines) ≡ Ok (numbered_from 5 lines)
+    → read_of 0 (plain_file lines) ≡ Ok (numbered_from 5 lines)
 unfolding read_of
 plain_is_read lines kept few =
     let line = past 1 (file_fields lines) in
-    ap pairs_read (plain_pairs lines kept)
+    ap (pairs_read 0) (plain_pairs lines kept)
     ∙ begins_with_section lines line
     ∙ entries_kept 5 line lines [] kept (omega arith)

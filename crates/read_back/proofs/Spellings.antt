@@ -6,7 +6,7 @@ use Rattle.std.proofs.lemmas.Fmt.{decimal_is_IsNumeral, length_signed_le}
 use Rattle.std.proofs.lemmas.Int.{ints}
 use Rattle.solid_model.specs.Limits.{farthest_on_sheet}
 use Rattle.solid_model.specs.Line.{IsNear}
-use Rattle.dxf_groups.specs.Numerals.{IsNumeral, Numeral, SpellsSign, whole_of, with_sign, within_reach}
+use Rattle.dxf_groups.specs.Numerals.{IsNumeral, Numeral, SpellsSign, scaled_of, whole_of, with_sign, within_reach}
 use Rattle.dxf_groups.proofs.NumeralDigits.{digit_byte}
 use Rattle.dxf_groups.proofs.NumeralGrammar.{spelled_is_read}
 use Rattle.read_back.proofs.TextPieces.{are_graphic}
@@ -53,7 +53,7 @@ reached negative m n same near = rw (same, le-leb m farthest_on_sheet near) refl
 -- and is read so
 signed_is_read : (negative : Bool) (sign : List ℕ) (m : ℕ) → m ≤ farthest_on_sheet
     → SpellsSign negative sign → whole_of (sign ++ decimal m) ≡ Ok (with_sign negative m)
-unfolding whole_of
+unfolding scaled_of
 signed_is_read negative sign m near spells =
     let value =
     ap (digits_value 10) (append-nil (decimal m)) ∙ (decimal_is_IsNumeral m (omega arith)).1 in

@@ -26,6 +26,6 @@ pub record IsInReach (l : Line) : Type 0 where
 pub record ReadsBack (s : List Cell) (text : List ℕ) : Type 0 where
   pub short : length text ≤ most_file_bytes
   pub lines : List Line
-  pub reads : read_of text ≡ Ok lines
+  pub reads : read_of 0 text ≡ Ok lines
   pub shown : IsShown lines
   pub drawing : (v : View) → IsMovedToZero (solid_drawing s) (drawing_of lines) v

@@ -28,7 +28,7 @@ pub fn spelled_numbers_are_read()
 /// they aren't too many.
 pub fn plain_files_are_read()
     ensures { (lines : List Line) → Each IsKept lines → length lines ≤ most_lines
-        → read_of (plain_file lines) ≡ Ok (numbered_from 5 lines) }
+        → read_of 0 (plain_file lines) ≡ Ok (numbered_from 5 lines) }
 {}
 
 /// The plain form of lines takes at most 100 bytes a line, and 40 for what stands around them.

@@ -67,10 +67,10 @@ pub one_fault : (t : Input) (f g : Fault) → IsFileFault t f → IsFileFault t 
 one_fault t f g (inl p) (inl q) = p.1 ∙ sym q.1
 one_fault t f g (inl p) (inr q) = absurd (omega (arith, p.0, q.0))
 one_fault t f g (inr p) (inl q) = absurd (omega (arith, p.0, q.0))
-one_fault t f g (inr p) (inr q) = one_fault_after (read_of t.bytes) f g p.1 q.1
+one_fault t f g (inr p) (inr q) = one_fault_after (read_of t.decimals t.bytes) f g p.1 q.1
 
 -- a file that isn't too long has the fault of what it reads as
-pub file_fault : (t : Input) (r : Result (List Line) Fault) (f : Fault) → length t.bytes ≤ most_file_bytes → read_of t.bytes ≡ r → IsFaultAfter r f → IsFileFault t f
+pub file_fault : (t : Input) (r : Result (List Line) Fault) (f : Fault) → length t.bytes ≤ most_file_bytes → read_of t.decimals t.bytes ≡ r → IsFaultAfter r f → IsFileFault t f
 file_fault t r f short reads after = inr (short, subst (λ r. IsFaultAfter r f) (sym reads) after)
 
 -- an input with a problem has no fault

@@ -19,7 +19,7 @@ use Rattle.solid_model.proofs.Sheets.{without_lines-empty}
 -- the drawing of its lines keeps what a drawing of three views keeps
 pub problem_drawing : (t : Input) (p : ProblemParts) (has : HasProblem t p) → IsDrawing (drawing_of has.lines)
 problem_drawing t p has =
-    lines_are_drawing has.lines (read_lines_are_kept t.bytes has.lines has.reads) (λ v none. has.shown v (without_lines-empty has.lines v none))
+    lines_are_drawing has.lines (read_lines_are_kept t.decimals t.bytes has.lines has.reads) (λ v none. has.shown v (without_lines-empty has.lines v none))
 
 -- the blocks of one grid are one numbering
 pub one_block_count : (g h : GridParts) → g ≡ h → (numbers others : List (Option ℕ)) (count many : ℕ) → AreBlocksOf g numbers count → AreBlocksOf h others many

@@ -96,7 +96,7 @@ EndlessSearch limits t = (p : ProblemParts) → HasProblem t p → (kind : EndKi
 
 module _ (limits : SearchLimits) (t : Input) (short : length t.bytes ≤ most_file_bytes) (faultless : (fault : Fault) → IsFileFault t fault → ⊥)
     (endless : EndlessSearch limits t) where
-  module _ (ls : List Line) (reads : read_of t.bytes ≡ Ok ls) where
+  module _ (ls : List Line) (reads : read_of t.decimals t.bytes ≡ Ok ls) where
     abbrev drawing : Segment → Style
     drawing = drawing_of ls
 
@@ -107,7 +107,7 @@ module _ (limits : SearchLimits) (t : Input) (short : length t.bytes ≤ most_fi
     shown = shown_by_views ls (λ v empty. no_fault_after (EmptyView v) (inl (v, empty, refl)))
 
     is_drawing : IsDrawing drawing
-    is_drawing = lines_are_drawing ls (read_lines_are_kept t.bytes ls reads) (λ v none. shown v (without_lines-empty ls v none))
+    is_drawing = lines_are_drawing ls (read_lines_are_kept t.decimals t.bytes ls reads) (λ v none. shown v (without_lines-empty ls v none))
 
     -- no axis is too fine
     not_first : (a : Axis) (count : ℕ) → IsFirstTooFine drawing a count → ⊥
@@ -192,7 +192,7 @@ module _ (limits : SearchLimits) (t : Input) (short : length t.bytes ≤ most_fi
 searched_somehow : (limits : SearchLimits) (t : Input) → ((fault : Fault) → IsFileFault t fault → ⊥)
     → EndlessSearch limits t → ⊥
 searched_somehow limits t faultless endless = ⊎_elim (λ long. faultless TooLong (inl (long, refl)))
-    (λ short. short_input limits t short faultless endless (read_of t.bytes) refl) (cases_lt most_file_bytes (length t.bytes))
+    (λ short. short_input limits t short faultless endless (read_of t.decimals t.bytes) refl) (cases_lt most_file_bytes (length t.bytes))
 
 -- a source that had t left can have been read to its end, or past the most
 can_be_read : (t : List ℕ) → ((rest : Option (List ℕ)) → ReadsAllOrPast t rest → ⊥) → ⊥

@@ -30,7 +30,7 @@ use Rattle.solid_model.specs.Search.{default_limits}
 
 module _ (n : ℕ) (t : List ℕ) (file : IsFileOf 0 (made_solid n) t) where
   -- the lines that are read draw the made drawing
-  drawn : (lines : List Line) → read_of t ≡ Ok lines → drawing_of lines ≡ made_drawing n
+  drawn : (lines : List Line) → read_of 0 t ≡ Ok lines → drawing_of lines ≡ made_drawing n
   drawn lines reads =
       let (back, same) = made_file_reads_back n t file in
       ap drawing_of (ok_value lines back.lines (sym reads ∙ back.reads)) ∙ (λ i segment. same segment i)

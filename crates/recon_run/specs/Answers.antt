@@ -59,7 +59,7 @@ IsFaultAfter (Ok ls) fault = HasEmptyView ls fault ⊎ (HasFineAxis ls fault ⊎
 -- the first fault of an input: its file is too long, or else that of what it reads as
 abbrev pub IsFileFault : Input → Fault → Type 0
 IsFileFault t fault = ((most_file_bytes < length t.bytes) × (fault ≡ TooLong))
-    ⊎ ((length t.bytes ≤ most_file_bytes) × IsFaultAfter (read_of t.bytes) fault)
+    ⊎ ((length t.bytes ≤ most_file_bytes) × IsFaultAfter (read_of t.decimals t.bytes) fault)
 
 -- the input has no fault
 abbrev pub HasNoFault : Input → Type 0
@@ -71,7 +71,7 @@ HasNoFault t = (fault : Fault) → IsFileFault t fault → ⊥
 pub record HasProblem (t : Input) (p : ProblemParts) : Type 0 where
   pub short : length t.bytes ≤ most_file_bytes
   pub lines : List Line
-  pub reads : read_of t.bytes ≡ Ok lines
+  pub reads : read_of t.decimals t.bytes ≡ Ok lines
   pub shown : IsShown lines
   pub grid : IsGridOf (drawing_of lines) p.grid
   pub blocks : IsBlocksOf p.grid p.blocks

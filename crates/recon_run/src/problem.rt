@@ -27,7 +27,7 @@ pub fn problem_of(alloc: Global, file: Vec<u8>, decimals: u8) -> Result<Problem,
     ensures fault { (fault : Fault) → IsErrOf result (Refused.Fault fault)
         → IsFileFault (record { bytes = file.items; decimals = decimals }) fault }
 {
-    let lines = entities(alloc, &mut Groups::new(file))?;
+    let lines = entities(alloc, &mut Groups::new(file), decimals)?;
     let drawing = drawing(alloc, lines.as_slice())?;
     let grid = grid_of(alloc, &drawing)?;
     let wire = wire_of(alloc, &grid)?;

@@ -29,6 +29,7 @@ name_of (fault.TooManyLines _) = codes "F15 TooManyLines"
 name_of fault.TooLong = codes "F16 TooLong"
 name_of (fault.TooFine _ _) = codes "F17 TooFine"
 name_of (fault.TooManyBlocks _) = codes "F18 TooManyBlocks"
+name_of (fault.Curved _) = codes "F19 Curved"
 
 -- the line that a fault names
 abbrev pub line_named : Fault → Option ℕ
@@ -45,33 +46,100 @@ line_named (fault.Repeated line _) = Some line
 line_named (fault.Oblique line) = Some line
 line_named (fault.Linetype line) = Some line
 line_named (fault.Geometry line) = Some line
+line_named (fault.EmptyView _) = None
 line_named (fault.TooManyLines line) = Some line
-line_named _ = None
+line_named fault.TooLong = None
+line_named (fault.TooFine _ _) = None
+line_named (fault.TooManyBlocks _) = None
+line_named (fault.Curved line) = Some line
 
 -- the group code that a fault names
 abbrev pub code_named : Fault → Option ℤ
+code_named (fault.Binary _) = None
+code_named (fault.BadCode _) = None
+code_named (fault.NoValue _) = None
+code_named (fault.NoEof _) = None
+code_named (fault.BadSection _) = None
 code_named (fault.BadNumber _ code) = Some code
 code_named (fault.NotWhole _ code) = Some code
 code_named (fault.TooFar _ code) = Some code
 code_named (fault.Missing _ code) = Some code
 code_named (fault.Repeated _ code) = Some code
-code_named _ = None
+code_named (fault.Oblique _) = None
+code_named (fault.Linetype _) = None
+code_named (fault.Geometry _) = None
+code_named (fault.EmptyView _) = None
+code_named (fault.TooManyLines _) = None
+code_named fault.TooLong = None
+code_named (fault.TooFine _ _) = None
+code_named (fault.TooManyBlocks _) = None
+code_named (fault.Curved _) = None
 
 -- the view that a fault names
 abbrev pub view_named : Fault → Option View
+view_named (fault.Binary _) = None
+view_named (fault.BadCode _) = None
+view_named (fault.NoValue _) = None
+view_named (fault.NoEof _) = None
+view_named (fault.BadSection _) = None
+view_named (fault.BadNumber _ _) = None
+view_named (fault.NotWhole _ _) = None
+view_named (fault.TooFar _ _) = None
+view_named (fault.Missing _ _) = None
+view_named (fault.Repeated _ _) = None
+view_named (fault.Oblique _) = None
+view_named (fault.Linetype _) = None
+view_named (fault.Geometry _) = None
 view_named (fault.EmptyView view) = Some view
-view_named _ = None
+view_named (fault.TooManyLines _) = None
+view_named fault.TooLong = None
+view_named (fault.TooFine _ _) = None
+view_named (fault.TooManyBlocks _) = None
+view_named (fault.Curved _) = None
 
 -- the axis that a fault names
 abbrev pub axis_named : Fault → Option Axis
+axis_named (fault.Binary _) = None
+axis_named (fault.BadCode _) = None
+axis_named (fault.NoValue _) = None
+axis_named (fault.NoEof _) = None
+axis_named (fault.BadSection _) = None
+axis_named (fault.BadNumber _ _) = None
+axis_named (fault.NotWhole _ _) = None
+axis_named (fault.TooFar _ _) = None
+axis_named (fault.Missing _ _) = None
+axis_named (fault.Repeated _ _) = None
+axis_named (fault.Oblique _) = None
+axis_named (fault.Linetype _) = None
+axis_named (fault.Geometry _) = None
+axis_named (fault.EmptyView _) = None
+axis_named (fault.TooManyLines _) = None
+axis_named fault.TooLong = None
 axis_named (fault.TooFine axis _) = Some axis
-axis_named _ = None
+axis_named (fault.TooManyBlocks _) = None
+axis_named (fault.Curved _) = None
 
 -- the number of things of which there are too many
 abbrev pub count_named : Fault → Option ℕ
+count_named (fault.Binary _) = None
+count_named (fault.BadCode _) = None
+count_named (fault.NoValue _) = None
+count_named (fault.NoEof _) = None
+count_named (fault.BadSection _) = None
+count_named (fault.BadNumber _ _) = None
+count_named (fault.NotWhole _ _) = None
+count_named (fault.TooFar _ _) = None
+count_named (fault.Missing _ _) = None
+count_named (fault.Repeated _ _) = None
+count_named (fault.Oblique _) = None
+count_named (fault.Linetype _) = None
+count_named (fault.Geometry _) = None
+count_named (fault.EmptyView _) = None
+count_named (fault.TooManyLines _) = None
+count_named fault.TooLong = None
 count_named (fault.TooFine _ count) = Some count
 count_named (fault.TooManyBlocks count) = Some count
-count_named _ = None
+count_named (fault.Curved _) = None
 
 -- the letter of an axis
 abbrev pub letter_of : Axis → List ℕ

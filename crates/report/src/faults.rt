@@ -35,6 +35,7 @@ fn name_of(fault: Fault) -> &'static str
         Fault::TooLong => "F16 TooLong",
         Fault::TooFine { .. } => "F17 TooFine",
         Fault::TooManyBlocks { .. } => "F18 TooManyBlocks",
+        Fault::Curved { .. } => "F19 Curved",
     }
 }
 
@@ -56,7 +57,8 @@ fn line_named(fault: Fault) -> Option<u32>
         | Fault::Oblique { line }
         | Fault::Linetype { line }
         | Fault::Geometry { line }
-        | Fault::TooManyLines { line } => Some(line),
+        | Fault::TooManyLines { line }
+        | Fault::Curved { line } => Some(line),
         _ => None,
     }
 }

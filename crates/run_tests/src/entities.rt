@@ -17,13 +17,12 @@ pub const ENTITIES: &str = "\
 0 LINE, 21 0, 11 1, 20 0, 10 0, 8 FRONT -> unit cube
 0 LINE, 8 FRONT, 10 0, 20 0, 30 x, 11 1, 21 0, 31 y -> unit cube
 0 LINE, 999 8, 8 FRONT, 999 x, 10 0, 20 0, 11 1, 999 , 21 0 -> unit cube
--- Geometry that is no line.
+-- Geometry that gives no lines.
 0 ARC, 8 TOP -> 1 fault F13 Geometry line 5
 0 CIRCLE, 8 TOP -> 1 fault F13 Geometry line 5
 0 ELLIPSE, 8 TOP -> 1 fault F13 Geometry line 5
 0 SPLINE, 8 TOP -> 1 fault F13 Geometry line 5
 0 POLYLINE, 8 TOP -> 1 fault F13 Geometry line 5
-0 LWPOLYLINE, 8 TOP -> 1 fault F13 Geometry line 5
 0 INSERT, 8 TOP -> 1 fault F13 Geometry line 5
 0 SOLID, 8 TOP -> 1 fault F13 Geometry line 5
 0 3DFACE, 8 TOP -> 1 fault F13 Geometry line 5

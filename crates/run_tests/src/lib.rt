@@ -15,6 +15,8 @@ mod options;
 #[cfg(test)]
 mod pages;
 #[cfg(test)]
+mod polylines;
+#[cfg(test)]
 mod redraws;
 #[cfg(test)]
 mod rows;

@@ -10,6 +10,7 @@
 
 use crate::drawings::DRAWINGS;
 use crate::entities::ENTITIES;
+use crate::polylines::POLYLINES;
 use crate::runs::{Runtime, UNIT_CUBE, solve};
 use crate::texts::{SIZES, TEXTS};
 use crate::values::{LINETYPES, NUMERALS};
@@ -89,7 +90,7 @@ fn wrong_row<'a, R: Runtime>(rt: &R, table: &'a str) -> Result<&'a str, AllocErr
 
 #[test]
 fn files_give_their_texts(rt: HostRuntime) -> Result<(), Fail> {
-    for table in [TEXTS, ENTITIES, LINETYPES, NUMERALS, DRAWINGS] {
+    for table in [TEXTS, ENTITIES, POLYLINES, LINETYPES, NUMERALS, DRAWINGS] {
         let row = wrong_row(&rt, table)?;
         assert!(rt; row.is_empty(), "{row}");
     }

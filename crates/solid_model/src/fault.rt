@@ -26,35 +26,38 @@ pub enum Fault {
     /// The pair may not stand here, between or in sections; `line` is that of its code.
     #[error("line {line}: this pair may not stand here")]
     BadSection { line: u32 },
-    /// The value of a coordinate is no numeral; `line` is that of the value.
+    /// The value of a coordinate, a bulge or flags is no numeral; `line` is that of the value.
     #[error("line {line}: the value of group code {code} is no number")]
     BadNumber { line: u32, code: i32 },
-    /// The value of a coordinate isn't whole; `line` is that of the value.
+    /// The value of a coordinate or of flags isn't whole; `line` is that of the value.
     #[error("line {line}: the value of group code {code} isn't whole")]
     NotWhole { line: u32, code: i32 },
-    /// The absolute value of a coordinate is above 1,000,000,000; `line` is that of the value.
+    /// The absolute value of a coordinate or of flags is above 1,000,000,000; `line` is that of the value.
     #[error("line {line}: the value of group code {code} is too far out")]
     TooFar { line: u32, code: i32 },
-    /// A line has no such coordinate; `line` is that at which its entity begins.
-    #[error("line {line}: this line has no group code {code}")]
+    /// A line, or a vertex of a polyline, has no such coordinate; `line` is that at which its entity
+    /// begins.
+    #[error("line {line}: group code {code} is missing here")]
     Missing { line: u32, code: i32 },
-    /// A line has such a coordinate already; `line` is that of the second code.
+    /// A line, or a vertex of a polyline, has such a coordinate already; `line` is that of the second
+    /// code.
     #[error("line {line}: group code {code} stands here again")]
     Repeated { line: u32, code: i32 },
-    /// The line is neither level nor upright; `line` is that at which its entity begins.
+    /// A line of the entity is neither level nor upright; `line` is that at which it begins.
     #[error("line {line}: this line is oblique")]
     Oblique { line: u32 },
     /// The linetype isn't one of those that have a style; `line` is that at which the line's entity
     /// begins.
     #[error("line {line}: this line's linetype has no style")]
     Linetype { line: u32 },
-    /// A view has geometry that is no line; `line` is that at which its entity begins.
+    /// A view has geometry that gives no lines; `line` is that at which its entity begins.
     #[error("line {line}: this entity of a view is no line")]
     Geometry { line: u32 },
     /// No line covers anything in the view.
     #[error("the view {view:?} is empty")]
     EmptyView { view: View },
-    /// 100,000 lines are kept already; `line` is that at which the next one's entity begins.
+    /// More than 100,000 lines would be kept; `line` is that at which the entity of the first one above
+    /// these begins.
     #[error("line {line}: there are too many lines")]
     TooManyLines { line: u32 },
     /// The file has more than 16,777,216 bytes.
@@ -66,6 +69,9 @@ pub enum Fault {
     /// There are more than 4,096 blocks.
     #[error("there are {count} blocks")]
     TooManyBlocks { count: u32 },
+    /// A side of a polyline is bent: its bulge isn't 0; `line` is that at which its entity begins.
+    #[error("line {line}: this polyline has a bent side")]
+    Curved { line: u32 },
 }
 
 /// Why a file is refused: a fault, or out of memory.

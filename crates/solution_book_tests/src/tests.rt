@@ -35,7 +35,7 @@ const THREE_BATCHES: u32 = 600;
 fn problem_of(alloc: Global, file: Vec<u8>) -> Result<Problem, Refused>
     requires { length file.items ≤ most_file_bytes }
 {
-    let lines = entities(alloc, &mut Groups::new(file))?;
+    let lines = entities(alloc, &mut Groups::new(file), 0)?;
     let drawing = drawing(alloc, lines.as_slice())?;
     let grid = grid_of(alloc, &drawing)?;
     let wire = wire_of(alloc, &grid)?;

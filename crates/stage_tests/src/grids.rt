@@ -30,7 +30,7 @@ line D 0 0 1 0, line S 1 0 3 0; line S 0 0 2 0; line S 0 0 1 0 \
 /// The grid of a row's drawing.
 pub fn grid_in(alloc: Global, row: Row<'_>) -> Result<Grid, Fail> {
     let file = file_bytes(drawing_file(alloc, row.views())?)?;
-    let lines = entities(alloc, &mut Groups::new(file))?;
+    let lines = entities(alloc, &mut Groups::new(file), 0)?;
     Ok(grid_of(alloc, &drawing(alloc, lines.as_slice())?)?)
 }
 

@@ -70,7 +70,7 @@ fn told_view(alloc: Global, view: &ViewLines) -> Result<String, Fail> {
 fn told_runs(alloc: Global, row: Row<'_>) -> Result<String, Fail> {
     let [_, strokes, ..] = row.parts;
     let file = file_bytes(drawing_file(alloc, [strokes; 3])?)?;
-    let lines = entities(alloc, &mut Groups::new(file))?;
+    let lines = entities(alloc, &mut Groups::new(file), 0)?;
     let drawing = drawing(alloc, lines.as_slice())?;
     told_view(alloc, drawing.view(View::Top))
 }

@@ -1,12 +1,13 @@
 -- Each comes out of the definitions by computing.
 use Rattle.std.proofs.Common.{refl}
-use Rattle.dxf_groups.specs.Numerals.{numeral_of, whole_of}
-use Rattle.dxf_entities.specs.Judging.{judged, line_in, line_with, styled_line}
+use Rattle.dxf_groups.specs.Numerals.{numeral_of, scaled_of}
+use Rattle.dxf_entities.specs.Coordinates.{ends_of}
+use Rattle.dxf_entities.specs.Judging.{drawn_by}
 use Rattle.dxf_entities.specs.Names.{kind_of, linetype_of, section_of}
 use Rattle.dxf_entities.proofs.laws.small_files.Goals as goal
 
 pub returns : goal.returns
-unfolding numeral_of whole_of judged line_in line_with styled_line kind_of linetype_of section_of
+unfolding numeral_of scaled_of drawn_by ends_of kind_of linetype_of section_of
 returns c = record {
   kept = refl;
   by_layer = refl;
@@ -15,4 +16,5 @@ returns c = record {
   oblique = refl;
   not_ended = refl;
   misplaced = refl;
+  decimals = refl;
 }

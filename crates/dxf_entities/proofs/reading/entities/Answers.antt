@@ -12,7 +12,7 @@ use Rattle.dxf_entities.proofs.reading.entities.Goals as goal
 pub loop-reader-init : goal.loop-reader-init
 unfolding read_of
 loop-reader-init c = record {
-  read = ap pairs_read (sym c.requires.fresh) ∙ sym (c.new-reader.ensures c.args.groups.now.left);
+  read = ap (pairs_read c.args.decimals) (sym c.requires.fresh) ∙ sym (c.new-reader.ensures c.args.groups.now.left);
   same_text = refl;
   same_ending = ap (λ (ps : Pairs). ps.ending) (sym c.requires.fresh);
 }

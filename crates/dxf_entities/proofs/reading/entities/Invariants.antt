@@ -8,7 +8,7 @@ use Rattle.dxf_entities.proofs.reading.entities.Given as goal
 -- do
 abbrev pub invariant-loop-reader : goal.invariant-loop-reader
 invariant-loop-reader l = record {
-  read : read_of l.fn.groups.text ≡ resumed l.groups.left.pairs l.groups.left.ending l.reader;
+  read : read_of l.decimals l.fn.groups.text ≡ resumed l.groups.left.pairs l.groups.left.ending l.reader;
   same_text : l.groups.text ≡ l.fn.groups.text;
   same_ending : (pairs_of l.fn.groups.text).ending ≡ l.groups.left.ending;
 }

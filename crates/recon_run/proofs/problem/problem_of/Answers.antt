@@ -20,10 +20,10 @@ abbrev input : List ℕ → ℕ → Input
 input file decimals = record { bytes = file; decimals = decimals }
 
 -- what the pairs of a file read as is what it reads as
-of_file : {pairs first : GroupsState} {read lines : List Line} → pairs ≡ first
-    → read_of pairs.text ≡ Ok read → lines ≡ read → read_of first.text ≡ Ok lines
-of_file {lines = lines} begun reads same =
-    subst (λ (pairs : GroupsState). read_of pairs.text ≡ Ok lines) begun (reads ∙ ap Ok (sym same))
+of_file : {decimals : ℕ} {pairs first : GroupsState} {read lines : List Line} → pairs ≡ first
+    → read_of decimals pairs.text ≡ Ok read → lines ≡ read → read_of decimals first.text ≡ Ok lines
+of_file {decimals = decimals} {lines = lines} begun reads same =
+    subst (λ (pairs : GroupsState). read_of decimals pairs.text ≡ Ok lines) begun (reads ∙ ap Ok (sym same))
 
 -- what holds of a drawing holds of that of the lines, where they are one
 of_lines : (ls : List Line) {drawing : Segment → Style} → ((g : Segment) → drawing g ≡ drawing_of ls g) → (P : (Segment → Style) → Type 0) → P drawing → P (drawing_of ls)

@@ -10,7 +10,9 @@ use Rattle.dxf_entities.proofs.reader.Reader.new.Goals as goal
 
 pub returns : goal.returns
 returns c =
-    begins (record {
+    begins c.args.decimals (record {
+      alloc = c.args.alloc;
+      decimals = c.args.decimals;
       place =
           Outside;
       layers = record { front = None; top = None; side = None };
@@ -18,7 +20,7 @@ returns c =
       entry = Passed;
       in_application = false;
     }) refl
-    (λ i. record { place = Outside; layers = λ v. none v i; lines = c.new.ensures.items i })
+    (λ i. record { decimals = c.args.decimals; place = Outside; layers = λ v. none v i; lines = c.new.ensures.items i })
   where
     none : (v : View) → layer_linetype (record { front = None; top = None; side = None }) v ≡ None
     none Front = refl

@@ -20,12 +20,12 @@ returns-in-Unnamed-clause-taken c = λ ps ending.
     }))
     (sym c.section_of.ensures)
 
-pub returns-in-Inside-clause-taken : goal.returns-in-Inside-clause-taken
-returns-in-Inside-clause-taken c = λ ps ending.
+pub returns-in_ok-take_fact-in-Inside-clause-taken : goal.returns-in_ok-take_fact-in-Inside-clause-taken
+returns-in_ok-take_fact-in-Inside-clause-taken c = λ ps ending.
     let p = text_pair c.args.pair.now c.args.value.now in
     let other = sym c.has_code.ensures ∙ c.if-has_code.false in
     pair_inside p c.args.self.now other c.in-Inside.field-0 c.in-Inside.is ps ending
-    ∙ ap (resumed ps ending) (sym c.take_fact.ensures)
+    ∙ ap (resumed ps ending) (sym c.in_ok-take_fact-in-Inside.ensures)
 
 pub returns-in_default-clause-fault : goal.returns-in_default-clause-fault
 returns-in_default-clause-fault c = λ f is ps ending.
