@@ -21,7 +21,7 @@ use Rattle.dxf_entities.specs.Names.{is_name, kind_of}
 use Rattle.dxf_entities.specs.Reading.{Progress, nothing_read, between, opened, layer_added, entry_read, read_at, end_read, is_ended, entries_read, pairs_read, read_of}
 use Rattle.dxf_entities.specs.Shapes.{begun_shape, points_of}
 use Rattle.dxf_entities.specs.Steps.{◌>>=◌}
-use Rattle.dxf_entities.specs.Strokes.{are_straight_from, are_straight, line_between, lines_from, lines_along, kept, drawn_along, added_along}
+use Rattle.dxf_entities.specs.Strokes.{are_straight_from, are_straight, line_between, lines_from, lines_through, kept, drawn_along, added_along}
 use Rattle.dxf_groups.specs.Pairs.{TextPair, Pairs, pairs_of}
 use Rattle.solid_model.specs.declared.fault.Fault.{Fault}
 use Rattle.solid_model.specs.declared.frame.View.{View}
@@ -64,10 +64,10 @@ module _ (line : ℕ) (pen : Pen) (drawn : pen.style ≢ Blank) where
       let both = and_parts (int_eq a.x b.x || int_eq a.y b.y) (are_straight_from b ps) straight in
       (stroke_kept a b near_a near.0 both.0, lines_from_kept b ps near.0 near.1 both.1)
 
-  lines_along_kept : (ps : List Point) → Each IsNearPoint ps → are_straight ps ≡ true
-      → Each IsKept (lines_along line pen ps)
-  lines_along_kept [] near straight = tt
-  lines_along_kept (a ∷ ps) near straight = lines_from_kept a ps near.0 near.1 straight
+  lines_through_kept : (ps : List Point) → Each IsNearPoint ps → are_straight ps ≡ true
+      → Each IsKept (lines_through line pen ps)
+  lines_through_kept [] near straight = tt
+  lines_through_kept (a ∷ ps) near straight = lines_from_kept a ps near.0 near.1 straight
 
   -- what is kept is the lines themselves
   counted_lines : (room : Bool) (ls ms : List Line) (fault : Fault)
@@ -77,11 +77,11 @@ module _ (line : ℕ) (pen : Pen) (drawn : pen.style ≢ Blank) where
 
   straight_kept : (straight : Bool) (count : ℕ) (ps : List Point) (ms : List Line) (fault : Fault)
       → are_straight ps ≡ straight → Each IsNearPoint ps
-      → (if straight then kept count line (lines_along line pen ps) else Err fault) ≡ Ok ms
+      → (if straight then kept count line (lines_through line pen ps) else Err fault) ≡ Ok ms
       → Each IsKept ms
   straight_kept true count ps ms fault straight near e =
-      subst (Each IsKept) (counted_lines _ (lines_along line pen ps) ms _ e)
-      (lines_along_kept ps near straight)
+      subst (Each IsKept) (counted_lines _ (lines_through line pen ps) ms _ e)
+      (lines_through_kept ps near straight)
   straight_kept false count ps ms fault straight near e = absurd cc
 
   -- so lines that are kept stay so with those through near points

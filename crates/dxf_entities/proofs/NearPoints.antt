@@ -6,7 +6,7 @@ use Rattle.dxf_entities.specs.declared.kind.Kind.{Kind}
 use Rattle.dxf_entities.specs.declared.kind.Kind.TheVariants as kind
 use Rattle.dxf_entities.specs.declared.shape.Shape.{Shape}
 use Rattle.dxf_entities.specs.declared.shape.Shape.TheVariants as shape
-use Rattle.dxf_entities.specs.Coordinates.{value_at, coordinate_at, with_coordinate, present, ends_of}
+use Rattle.dxf_entities.specs.Coordinates.{value_at, coordinate_at, with_coordinate, present, line_ends}
 use Rattle.dxf_entities.specs.Entries.{has_code}
 use Rattle.dxf_entities.specs.Known.{Point, IsNearPoint, Known, AreNear, KnownOutline, IsNearOutline}
 use Rattle.dxf_entities.specs.Outlines.{first_x, with_x, ended_vertex, with_y, flat, first_flags, with_vertex, come_back, route_of, whole_route}
@@ -102,9 +102,9 @@ record AreNearEnds (ends : Ends) : Type 0 where
   from : IsNearPoint ends.from
   to : IsNearPoint ends.to
 
-ends_near : (line : ℕ) (c : Known) (ends : Ends) → AreNear c → ends_of line c ≡ Ok ends
+ends_near : (line : ℕ) (c : Known) (ends : Ends) → AreNear c → line_ends line c ≡ Ok ends
     → AreNearEnds ends
-unfolding ends_of
+unfolding line_ends
 ends_near line c ends near e =
     let x0 = after_ok (present line (pos 10) c.x0) _ ends e in
     let y0 = after_ok (present line (pos 20) c.y0) _ ends x0.second in
@@ -238,7 +238,7 @@ known_near decimals line (p ∷ ps) s t near e =
 pub points_near : (line : ℕ) (s : Shape) (points : List Point) → IsNearShape s
     → points_of line s ≡ Ok points → Each IsNearPoint points
 points_near line (shape.Line c) points near e =
-    let ends = after_ok (ends_of line c) _ points e in
+    let ends = after_ok (line_ends line c) _ points e in
     let both = ends_near line c ends.value near ends.first in
     subst (Each IsNearPoint)
     (ok_value (ends.value.from ∷ ends.value.to ∷ []) points ends.second)

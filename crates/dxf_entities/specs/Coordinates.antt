@@ -43,8 +43,8 @@ present line code (Some z) = Ok z
 present line code None = Err (fault.Missing line code)
 
 -- the ends of a line that has all four
-unfoldable pub ends_of : ℕ → Known → Result Ends Fault
-ends_of line c = do
+unfoldable pub line_ends : ℕ → Known → Result Ends Fault
+line_ends line c = do
   x0 ← present line (pos 10) c.x0
   y0 ← present line (pos 20) c.y0
   x1 ← present line (pos 11) c.x1

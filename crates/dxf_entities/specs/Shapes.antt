@@ -6,7 +6,7 @@ use Rattle.dxf_entities.specs.declared.kind.Kind.{Kind}
 use Rattle.dxf_entities.specs.declared.kind.Kind.TheVariants as kind
 use Rattle.dxf_entities.specs.declared.shape.Shape.{Shape}
 use Rattle.dxf_entities.specs.declared.shape.Shape.TheVariants as shape
-use Rattle.dxf_entities.specs.Coordinates.{with_coordinate, ends_of}
+use Rattle.dxf_entities.specs.Coordinates.{with_coordinate, line_ends}
 use Rattle.dxf_entities.specs.Known.{Point, none_known, no_vertex}
 use Rattle.dxf_entities.specs.Outlines.{with_vertex, route_of, whole_route}
 use Rattle.dxf_entities.specs.Steps.{◌>>=◌}
@@ -38,6 +38,6 @@ known_shape decimals line (p ∷ ps) s =
 
 -- the points through which it goes, after the last pair
 abbrev pub points_of : ℕ → Shape → Result (List Point) Fault
-points_of line (shape.Line c) = ends_of line c >>= λ ends. Ok (ends.from ∷ ends.to ∷ [])
+points_of line (shape.Line c) = line_ends line c >>= λ ends. Ok (ends.from ∷ ends.to ∷ [])
 points_of line (shape.Polyline o) = whole_route line o.begun (route_of o)
 points_of line shape.Nothing = Ok []

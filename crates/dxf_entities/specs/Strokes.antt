@@ -35,9 +35,9 @@ abbrev pub lines_from : ℕ → Pen → Point → List Point → List Line
 lines_from line pen a [] = []
 lines_from line pen a (b ∷ ps) = line_between line pen a b ∷ lines_from line pen b ps
 
-abbrev pub lines_along : ℕ → Pen → List Point → List Line
-lines_along line pen [] = []
-lines_along line pen (a ∷ ps) = lines_from line pen a ps
+abbrev pub lines_through : ℕ → Pen → List Point → List Line
+lines_through line pen [] = []
+lines_through line pen (a ∷ ps) = lines_from line pen a ps
 
 -- lines are kept where so many are kept already and there may be as many more
 abbrev pub kept : ℕ → ℕ → List Line → Result (List Line) Fault
@@ -47,7 +47,7 @@ kept count line ls = if nat_le (length ls) (most_lines - count) then Ok ls
 -- the lines through points, level or upright, that are kept
 abbrev pub drawn_along : ℕ → ℕ → Pen → List Point → Result (List Line) Fault
 drawn_along count line pen points =
-    if are_straight points then kept count line (lines_along line pen points)
+    if are_straight points then kept count line (lines_through line pen points)
     else Err (fault.Oblique line)
 
 -- these lines, and then those through points

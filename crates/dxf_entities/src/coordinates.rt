@@ -38,7 +38,7 @@ impl Coordinates {
     ghost use Rattle.std.specs.Prelude.{◌≡◌, ◌≤◌, IfOk};
     ghost use Rattle.solid_model.specs.Limits.{most_decimals};
     ghost use Rattle.solid_model.specs.Line.{IsNear};
-    ghost use Rattle.dxf_entities.specs.Coordinates.{coordinate_at, ends_of, present, with_coordinate};
+    ghost use Rattle.dxf_entities.specs.Coordinates.{coordinate_at, line_ends, present, with_coordinate};
     ghost use Rattle.dxf_groups.specs.Pairs.{text_pair};
 
     /// None is known.
@@ -96,9 +96,9 @@ impl Coordinates {
 
     /// The ends of the line, whose entity begins at this line of the file, where it has all four
     /// coordinates.
-    #[tactic(auto, unfolding(crate::specs::Coordinates::ends_of))]
+    #[tactic(auto, unfolding(crate::specs::Coordinates::line_ends))]
     pub fn ends(self, line: u32) -> Result<Ends, Fault>
-        ensures { result ≡ ends_of line self }
+        ensures { result ≡ line_ends line self }
     {
         let x0 = Coordinates::present(line, 10, self.x0)?;
         let y0 = Coordinates::present(line, 20, self.y0)?;

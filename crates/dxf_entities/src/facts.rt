@@ -85,7 +85,10 @@ impl Facts {
         ensures pen { result ≡ pen_in layer view self.now }
         ensures drawn { IfOk result (λ pen. IfSome pen (λ p. p.style ≢ Blank)) }
     {
-        let linetype = self.linetype.unwrap_or(Linetype::ByLayer).or_of_layer(layer);
+        let linetype = self
+            .linetype
+            .unwrap_or(Linetype::ByLayer)
+            .or_of_layer(layer);
         match linetype {
             // A layer's own BYLAYER counts as CONTINUOUS.
             Linetype::Continuous | Linetype::ByLayer => Ok(Some(Pen {

@@ -137,13 +137,7 @@ impl Outline {
     }
 
     /// Takes a pair with code 10, which begins a vertex.
-    fn begin(
-        &mut self,
-        line: u32,
-        pair: &Pair,
-        value: &[u8],
-        decimals: u8,
-    ) -> Result<(), Refused>
+    fn begin(&mut self, line: u32, pair: &Pair, value: &[u8], decimals: u8) -> Result<(), Refused>
         requires { decimals ≤ most_decimals }
         ensures { ComesTo (with_x decimals line (text_pair pair.now value.now) self.old) self.new result }
     {
@@ -174,7 +168,13 @@ impl Outline {
 
     /// Takes one more pair with this value: those with the codes 10 and 20 give vertices, those
     /// with 42 the bulges of the sides, and the first with 70 the flags.
-    pub fn take(&mut self, line: u32, pair: &Pair, value: &[u8], decimals: u8) -> Result<(), Refused>
+    pub fn take(
+        &mut self,
+        line: u32,
+        pair: &Pair,
+        value: &[u8],
+        decimals: u8,
+    ) -> Result<(), Refused>
         requires { decimals ≤ most_decimals }
         ensures { ComesTo (with_vertex decimals line (text_pair pair.now value.now) self.old) self.new
             result }

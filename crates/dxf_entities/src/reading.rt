@@ -35,11 +35,7 @@ use std::alloc::Global;
 /// and `TooFar` and, in an LWPOLYLINE, `Missing`, where a vertex lacks its code 10 or 20, and
 /// `Curved`, where a bulge (42) isn't 0; `Missing`, of a LINE's coordinate or the last vertex's;
 /// `Oblique`; `TooManyLines` above 100,000. `Memory` says that it ran out of memory.
-pub fn entities(
-    alloc: Global,
-    groups: &mut Groups,
-    decimals: u8,
-) -> Result<Vec<SheetLine>, Refused>
+pub fn entities(alloc: Global, groups: &mut Groups, decimals: u8) -> Result<Vec<SheetLine>, Refused>
     requires fresh { groups.old.left ≡ pairs_of groups.old.text }
     requires decimals { decimals ≤ most_decimals }
     ensures lines { IfOk result (λ lines. read_of decimals groups.old.text ≡ Ok lines.items) }

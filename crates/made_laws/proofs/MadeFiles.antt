@@ -122,22 +122,22 @@ module _ (coordinates : Coordinates) (ascends : (a : Axis) → Ascends ◌<ℤ�
 
 -- the drawing that a text reads back as is the solid's own
 abbrev ReadsBackAsDrawn : List Cell → List ℕ → Type 0
-ReadsBackAsDrawn s text = (back : ReadsBack s text) × ((segment : Segment) → drawing_of back.lines segment ≡ solid_drawing s segment)
+ReadsBackAsDrawn s text = (back : ReadsBack 0 s text) × ((segment : Segment) → drawing_of back.lines segment ≡ solid_drawing s segment)
 
 -- the file of a union of grid cells reads back, where no coordinate is above 1,000 and each view of the drawing begins at 0
 near_file_reads_back : (g : GridParts) → IsGrid g → ((a : Axis) (z : ℤ) → Member (coordinates_of g a) z → z ≤ℤ pos 1000)
     → (chosen : List Bool) (s : List Cell) → IsSolid s → IsUnionOf (coordinates_of g) chosen (is_full s) → IsDrawing (solid_drawing s)
-    → (text : List ℕ) → IsFileOf s text → ReadsBackAsDrawn s text
+    → (text : List ℕ) → IsFileOf 0 s text → ReadsBackAsDrawn s text
 near_file_reads_back g is near chosen s solid union drawing text (far_x, far_z, d, sheet, same) =
     let reach = sheet_in_reach (coordinates_of g) (λ a. (is.2.coordinates a).ordered) near chosen s union far_x far_z d sheet in
-    let back = subst (ReadsBack s) (sym same) (written_reads_back g is chosen s solid union far_x far_z d sheet reach) in
-    (back, drawing_as_it_is s text drawing back)
+    let back = subst (ReadsBack 0 s) (sym same) (written_reads_back 0 (omega arith) g is chosen s solid union far_x far_z d sheet reach) in
+    (back, drawing_as_it_is 0 s text drawing back)
 
 -- no coordinate of a made grid is above 1,000
 made_grid_near : (n : ℕ) (a : Axis) (z : ℤ) → Member (coordinates_of (made_grid n) a) z → z ≤ℤ pos 1000
 made_grid_near n a z k = (made_coordinate n z (subst (λ zs. Member zs z) (made_grid_along n a) k)).1
 
 -- the file of a made solid reads back as the made drawing
-pub made_file_reads_back : (n : ℕ) (text : List ℕ) → IsFileOf (made_solid n) text → ReadsBackAsDrawn (made_solid n) text
+pub made_file_reads_back : (n : ℕ) (text : List ℕ) → IsFileOf 0 (made_solid n) text → ReadsBackAsDrawn (made_solid n) text
 made_file_reads_back n = near_file_reads_back (made_grid n) (made_grid_is_grid n) (made_grid_near n) _
     (made_solid n) (made_is_solid n) (made_grid_union n) (made_is_drawing n)

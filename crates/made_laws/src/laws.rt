@@ -19,8 +19,8 @@ ghost use Rattle.drawing_maker.specs.Made.{made_solid};
 /// The file of a made solid reads back: it isn't too long, reads as lines, shows something in each
 /// view, and its drawing is the made solid's own.
 pub fn made_files_read_back()
-    ensures { (n : ℕ) (text : List ℕ) → IsFileOf (made_solid n) text
-        → (back : ReadsBack (made_solid n) text)
+    ensures { (n : ℕ) (text : List ℕ) → IsFileOf 0 (made_solid n) text
+        → (back : ReadsBack 0 (made_solid n) text)
         × ((segment : Segment)
         → drawing_of back.lines segment ≡ solid_drawing (made_solid n) segment) }
 {}

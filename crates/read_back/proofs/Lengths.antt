@@ -1,15 +1,16 @@
 -- The lengths of the plain form of lines, and of its parts.
 use Rattle.std.proofs.Common.{◌≡◌, ℕ, ◌+◌, ◌*◌, ◌≤◌, List, [], ◌∷◌, ◌++◌, length, flat_map, codes, length-append, arith}
-use Rattle.std.specs.Fmt.{signed_decimal}
+use Rattle.decimal_texts.specs.Decimals.{decimal_text}
 use Rattle.solid_model.specs.declared.frame.View.{View}
 use Rattle.solid_model.specs.declared.frame.View.TheVariants.{Front, Top, Side}
 use Rattle.solid_model.specs.declared.segment.Style.{Style}
 use Rattle.solid_model.specs.declared.segment.Style.TheVariants.{Blank, Dashed, Solid}
 use Rattle.solid_model.specs.Frames.{layer_name}
+use Rattle.solid_model.specs.Limits.{most_decimals}
 use Rattle.solid_model.specs.Line.{Line, IsKept}
 use Rattle.solid_model.specs.Lists.{Each}
 use Rattle.redraw.specs.Plain.{pair_text, linetype_name, line_text, file_head, file_end, plain_file}
-use Rattle.read_back.proofs.Spellings.{spelled_length}
+use Rattle.read_back.proofs.Spellings.{printed_length}
 
 -- a layer's name is short
 layer_length : (v : View) → length (layer_name v) ≤ 5
@@ -35,48 +36,49 @@ nine_lengths : (a b c d e f g h i : List ℕ)
     + length i
 nine_lengths a b c d e f g h i = simp length-append
 
--- a line takes at most 98 bytes
-line_length : (l : Line) → IsKept l → length (line_text l) ≤ 98
-line_length l is =
+-- a line takes at most 102 bytes
+line_length : (decimals : ℕ) (l : Line) → decimals ≤ most_decimals → IsKept l
+    → length (line_text decimals l) ≤ 102
+line_length decimals l few is =
     let layer = pair_length (codes "8") (layer_name l.of) in
     let linetype = pair_length (codes "6") (linetype_name l.style) in
-    let x0 = pair_length (codes "10") (signed_decimal l.x0) in
-    let y0 = pair_length (codes "20") (signed_decimal l.y0) in
-    let x1 = pair_length (codes "11") (signed_decimal l.x1) in
-    let y1 = pair_length (codes "21") (signed_decimal l.y1) in
+    let x0 = pair_length (codes "10") (decimal_text decimals l.x0) in
+    let y0 = pair_length (codes "20") (decimal_text decimals l.y0) in
+    let x1 = pair_length (codes "11") (decimal_text decimals l.x1) in
+    let y1 = pair_length (codes "21") (decimal_text decimals l.y1) in
     let all =
     nine_lengths (pair_text (codes "0") (codes "LINE")) (pair_text (codes "8") (layer_name l.of))
     (pair_text (codes "6") (linetype_name l.style))
-    (pair_text (codes "10") (signed_decimal l.x0)) (pair_text (codes "20") (signed_decimal l.y0))
-    (pair_text (codes "30") (codes "0")) (pair_text (codes "11") (signed_decimal l.x1))
-    (pair_text (codes "21") (signed_decimal l.y1)) (pair_text (codes "31") (codes "0")) in
+    (pair_text (codes "10") (decimal_text decimals l.x0)) (pair_text (codes "20") (decimal_text decimals l.y0))
+    (pair_text (codes "30") (codes "0")) (pair_text (codes "11") (decimal_text decimals l.x1))
+    (pair_text (codes "21") (decimal_text decimals l.y1)) (pair_text (codes "31") (codes "0")) in
     omega (
       arith,
       layer_length l.of,
       linetype_length l.style,
-      spelled_length l.x0 is.near_x0,
-      spelled_length l.y0 is.near_y0,
-      spelled_length l.x1 is.near_x1,
-      spelled_length l.y1 is.near_y1,
+      printed_length decimals l.x0 few is.near_x0,
+      printed_length decimals l.y0 few is.near_y0,
+      printed_length decimals l.x1 few is.near_x1,
+      printed_length decimals l.y1 few is.near_y1,
     )
 
 -- and lines so many bytes each
-lines_length : (lines : List Line) → Each IsKept lines
-    → length (flat_map line_text lines) ≤ 98 * length lines
-lines_length [] kept = omega arith
-lines_length (l ∷ ls) kept =
+lines_length : (decimals : ℕ) (lines : List Line) → decimals ≤ most_decimals → Each IsKept lines
+    → length (flat_map (line_text decimals) lines) ≤ 102 * length lines
+lines_length decimals [] few kept = omega arith
+lines_length decimals (l ∷ ls) few kept =
     omega (
       arith,
-      length-append (line_text l) (flat_map line_text ls),
-      line_length l kept.0,
-      lines_length ls kept.1,
+      length-append (line_text decimals l) (flat_map (line_text decimals) ls),
+      line_length decimals l few kept.0,
+      lines_length decimals ls few kept.1,
     )
 
 -- the plain form of lines is short
-pub plain_is_short : (lines : List Line) → Each IsKept lines
-    → length (plain_file lines) ≤ 40 + 100 * length lines
-plain_is_short lines kept =
-    let lengths : length (plain_file lines)
-    ≡ length file_head + length (flat_map line_text lines) + length file_end =
+pub plain_is_short : (decimals : ℕ) (lines : List Line) → decimals ≤ most_decimals
+    → Each IsKept lines → length (plain_file decimals lines) ≤ 40 + 104 * length lines
+plain_is_short decimals lines few kept =
+    let lengths : length (plain_file decimals lines)
+    ≡ length file_head + length (flat_map (line_text decimals) lines) + length file_end =
     simp length-append in
-    omega (arith, lines_length lines kept)
+    omega (arith, lines_length decimals lines few kept)

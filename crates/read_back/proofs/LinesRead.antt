@@ -18,7 +18,7 @@ use Rattle.dxf_entities.specs.declared.place.Place.TheVariants.{Inside}
 use Rattle.dxf_entities.specs.declared.section.Section.TheVariants.{Entities}
 use Rattle.dxf_entities.specs.Entries.{Entry, before_entries, entries_of}
 use Rattle.dxf_entities.specs.declared.shape.Shape.TheVariants as shape
-use Rattle.dxf_entities.specs.Coordinates.{ends_of}
+use Rattle.dxf_entities.specs.Coordinates.{line_ends}
 use Rattle.dxf_entities.specs.Judging.{by_layer, drawn_by, facts_of, judged, style_of}
 use Rattle.dxf_entities.specs.Known.{Known}
 use Rattle.dxf_entities.specs.Names.{kind_of, linetype_of, section_of, view_on}
@@ -27,7 +27,7 @@ use Rattle.redraw.specs.Plain.{linetype_name, plain_file}
 use Rattle.read_back.specs.ReadBack.{numbered_from}
 use Rattle.read_back.proofs.Fields.{pairs_on, past}
 use Rattle.read_back.proofs.PlainFields.{inner_fields, section_fields, file_fields, plain_pairs}
-use Rattle.read_back.proofs.Spellings.{spelled_is_whole}
+use Rattle.read_back.proofs.Spellings.{printed_is_read}
 
 -- ---- what counts of a line's entity
 
@@ -56,10 +56,10 @@ facts_for n l = record {
   shape = Ok (shape.Line (known_of l));
 }
 
--- the entity of a line that begins on line n
-abbrev entry_for : ℕ → Line → Entry
-entry_for n l =
-    record { name = codes "LINE"; line = n; pairs = pairs_on (n + 2) (inner_fields l) }
+-- the entity of a line that begins on line n, with so many decimals
+abbrev entry_for : ℕ → ℕ → Line → Entry
+entry_for decimals n l =
+    record { name = codes "LINE"; line = n; pairs = pairs_on (n + 2) (inner_fields decimals l) }
 
 -- a view's layer is the view's
 layer_read : (v : View) → view_on (layer_name v) ≡ Some v
@@ -75,16 +75,17 @@ linetype_read Dashed drawn = refl
 linetype_read Solid drawn = refl
 
 -- the facts that are read of a line's entity
-facts_read : (n : ℕ) (l : Line) → IsKept l → facts_of 0 (entry_for n l) ≡ facts_for n l
+facts_read : (decimals n : ℕ) (l : Line) → IsKept l
+    → facts_of decimals (entry_for decimals n l) ≡ facts_for n l
 unfolding kind_of
-facts_read n l is =
+facts_read decimals n l is =
     rw (
       layer_read l.of,
       linetype_read l.style is.drawn,
-      spelled_is_whole l.x0 is.near_x0,
-      spelled_is_whole l.y0 is.near_y0,
-      spelled_is_whole l.x1 is.near_x1,
-      spelled_is_whole l.y1 is.near_y1,
+      printed_is_read decimals l.x0 is.near_x0,
+      printed_is_read decimals l.y0 is.near_y0,
+      printed_is_read decimals l.x1 is.near_x1,
+      printed_is_read decimals l.y1 is.near_y1,
     ) refl
 
 -- ---- how it is judged
@@ -107,7 +108,7 @@ straight_test x0 y0 x1 y1 (inr upright) =
 -- the line that it gives, where there is room for one more
 line_judged : (n : ℕ) (lines : List Line) (l : Line) → IsKept l → length lines < most_lines
     → judged (λ v. None) lines (facts_for n l) ≡ Ok (lines ++ numbered n l ∷ [])
-unfolding drawn_by ends_of
+unfolding drawn_by line_ends
 line_judged n lines l is room =
     let fits : 1 ≤ most_lines - length lines = omega arith in
     rw (
@@ -118,21 +119,22 @@ line_judged n lines l is room =
 
 -- ---- how the file goes on
 
--- among the entities, with these lines kept
-abbrev among : List Line → Progress
-among lines = record { decimals = 0; place = Inside Entities; layers = λ v. None; lines = lines }
+-- among the entities, which are read with so many decimals, with these lines kept
+abbrev among : ℕ → List Line → Progress
+among decimals lines = record { decimals = decimals; place = Inside Entities; layers = λ v. None; lines = lines }
 
 -- one more line is kept
-line_kept : (n : ℕ) (l : Line) (lines : List Line) → IsKept l → length lines < most_lines
-    → entity_read (facts_of 0 (entry_for n l)) (among lines) ≡ Ok (among (lines ++ numbered n l ∷ []))
-line_kept n l lines is room =
-    rw (facts_read n l is, line_judged n lines l is room) refl
+line_kept : (decimals n : ℕ) (l : Line) (lines : List Line) → IsKept l → length lines < most_lines
+    → entity_read (facts_of decimals (entry_for decimals n l)) (among decimals lines)
+    ≡ Ok (among decimals (lines ++ numbered n l ∷ []))
+line_kept decimals n l lines is room =
+    rw (facts_read decimals n l is, line_judged n lines l is room) refl
 
 -- lines and the end of their section begin with an entry
-nothing_before : (n : ℕ) (lines : List Line)
-    → before_entries (pairs_on n (section_fields lines)) ≡ []
-nothing_before n [] = refl
-nothing_before n (l ∷ ls) = refl
+nothing_before : (decimals n : ℕ) (lines : List Line)
+    → before_entries (pairs_on n (section_fields decimals lines)) ≡ []
+nothing_before decimals n [] = refl
+nothing_before decimals n (l ∷ ls) = refl
 
 -- a file that ends by its end pair has ended each entry
 all_ended : (es : List Entry) (line : ℕ) → is_ended es (Ok line) ≡ true
@@ -144,49 +146,53 @@ abbrev line_past : ℕ → ℕ
 line_past n = n + 2 + 2 + 2 + 2 + 2 + 2 + 2 + 2 + 2
 
 -- the entries of lines and the end of their section
-first_entry : (n : ℕ) (l : Line) (ls : List Line)
-    → entries_of (pairs_on n (section_fields (l ∷ ls)))
-    ≡ entry_for n l ∷ entries_of (pairs_on (n + 18) (section_fields ls))
-first_entry n l ls =
+first_entry : (decimals n : ℕ) (l : Line) (ls : List Line)
+    → entries_of (pairs_on n (section_fields decimals (l ∷ ls)))
+    ≡ entry_for decimals n l ∷ entries_of (pairs_on (n + 18) (section_fields decimals ls))
+first_entry decimals n l ls =
     let after : line_past n ≡ n + 18 = omega arith in
-    rw (nothing_before (line_past n) ls, after) refl
+    rw (nothing_before decimals (line_past n) ls, after) refl
 
 -- a line's entity is read, and what follows it
-entry_kept : (n line : ℕ) (l : Line) (es : List Entry) (lines : List Line) → IsKept l
+entry_kept : (decimals n line : ℕ) (l : Line) (es : List Entry) (lines : List Line) → IsKept l
     → length lines < most_lines
-    → entries_read (entry_for n l ∷ es) (Ok line) (among lines)
-    ≡ entries_read es (Ok line) (among (lines ++ numbered n l ∷ []))
-entry_kept n line l es lines is room =
-    rw (all_ended es line, line_kept n l lines is room) refl
+    → entries_read (entry_for decimals n l ∷ es) (Ok line) (among decimals lines)
+    ≡ entries_read es (Ok line) (among decimals (lines ++ numbered n l ∷ []))
+entry_kept decimals n line l es lines is room =
+    rw (all_ended es line, line_kept decimals n l lines is room) refl
 
 -- entry after entry gives its line
-entries_kept : (n line : ℕ) (ls lines : List Line) → Each IsKept ls
+entries_kept : (decimals n line : ℕ) (ls lines : List Line) → Each IsKept ls
     → length lines + length ls ≤ most_lines
-    → entries_read (entries_of (pairs_on n (section_fields ls))) (Ok line) (among lines)
+    → entries_read (entries_of (pairs_on n (section_fields decimals ls))) (Ok line)
+    (among decimals lines)
     ≡ Ok (lines ++ numbered_from n ls)
-entries_kept n line [] lines kept few = ap (λ ls. Ok ls) (sym (append-nil lines))
-entries_kept n line (l ∷ ls) lines kept few =
-    let rest = entries_of (pairs_on (n + 18) (section_fields ls)) in
+entries_kept decimals n line [] lines kept few = ap (λ ls. Ok ls) (sym (append-nil lines))
+entries_kept decimals n line (l ∷ ls) lines kept few =
+    let rest = entries_of (pairs_on (n + 18) (section_fields decimals ls)) in
     let longer : length (lines ++ numbered n l ∷ []) + length ls ≤ most_lines =
     omega (arith, length-append lines (numbered n l ∷ [])) in
-    ap (λ es. entries_read es (Ok line) (among lines)) (first_entry n l ls)
-    ∙ entry_kept n line l rest lines kept.0 (omega arith)
-    ∙ entries_kept (n + 18) line ls (lines ++ numbered n l ∷ []) kept.1 longer
+    ap (λ es. entries_read es (Ok line) (among decimals lines)) (first_entry decimals n l ls)
+    ∙ entry_kept decimals n line l rest lines kept.0 (omega arith)
+    ∙ entries_kept decimals (n + 18) line ls (lines ++ numbered n l ∷ []) kept.1 longer
     ∙ ap (λ ls. Ok ls) (append_assoc lines (numbered n l ∷ []) (numbered_from (n + 18) ls))
 
 -- the file begins with its section
-begins_with_section : (lines : List Line) (line : ℕ)
-    → pairs_read 0 (record { pairs = pairs_on 1 (file_fields lines); ending = Ok line })
-    ≡ entries_read (entries_of (pairs_on 5 (section_fields lines))) (Ok line) (among [])
+begins_with_section : (decimals : ℕ) (lines : List Line) (line : ℕ)
+    → pairs_read decimals
+    (record { pairs = pairs_on 1 (file_fields decimals lines); ending = Ok line })
+    ≡ entries_read (entries_of (pairs_on 5 (section_fields decimals lines))) (Ok line)
+    (among decimals [])
 unfolding section_of
-begins_with_section lines line = refl
+begins_with_section decimals lines line = refl
 
--- the plain form of lines is read as these lines
-pub plain_is_read : (lines : List Line) → Each IsKept lines → length lines ≤ most_lines
-    → read_of 0 (plain_file lines) ≡ Ok (numbered_from 5 lines)
+-- the plain form of lines with so many decimals is read as these lines with as many
+pub plain_is_read : (decimals : ℕ) (lines : List Line) → Each IsKept lines
+    → length lines ≤ most_lines
+    → read_of decimals (plain_file decimals lines) ≡ Ok (numbered_from 5 lines)
 unfolding read_of
-plain_is_read lines kept few =
-    let line = past 1 (file_fields lines) in
-    ap (pairs_read 0) (plain_pairs lines kept)
-    ∙ begins_with_section lines line
-    ∙ entries_kept 5 line lines [] kept (omega arith)
+plain_is_read decimals lines kept few =
+    let line = past 1 (file_fields decimals lines) in
+    ap (pairs_read decimals) (plain_pairs decimals lines kept)
+    ∙ begins_with_section decimals lines line
+    ∙ entries_kept decimals 5 line lines [] kept (omega arith)

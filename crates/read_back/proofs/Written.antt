@@ -8,7 +8,7 @@ use Rattle.solid_model.specs.Cells.{is_full, IsSolid}
 use Rattle.solid_model.specs.Drawings.{drawing_of, IsShown}
 use Rattle.solid_model.specs.DrawnStyle.{solid_drawing}
 use Rattle.solid_model.specs.Grid.{IsUnionOf}
-use Rattle.solid_model.specs.Limits.{farthest_on_sheet}
+use Rattle.solid_model.specs.Limits.{farthest_on_sheet, most_decimals}
 use Rattle.solid_model.specs.Line.{Line, IsKept, IsNear}
 use Rattle.solid_model.specs.Lists.{Each}
 use Rattle.solid_model.specs.Moved.{IsMovedToZero}
@@ -43,13 +43,13 @@ kept_from l (drawn, (from, to)) = record {
 }
 
 -- few lines that may be kept, and draw the solid, are read back as its drawing
-plain_reads_back : (s : List Cell) (lines : List Line) → Each IsKept lines → length lines ≤ 24576
+plain_reads_back : (decimals : ℕ) (s : List Cell) (lines : List Line) → decimals ≤ most_decimals → Each IsKept lines → length lines ≤ 24576
     → IsShown lines → ((v : View) → IsMovedToZero (solid_drawing s) (drawing_of lines) v)
-    → ReadsBack s (plain_file lines)
-plain_reads_back s lines kept few shown drawing = record {
-  short = omega (arith, plain_is_short lines kept);
+    → ReadsBack decimals s (plain_file decimals lines)
+plain_reads_back decimals s lines fits kept few shown drawing = record {
+  short = omega (arith, plain_is_short decimals lines fits kept);
   lines = numbered_from 5 lines;
-  reads = plain_is_read lines kept (omega arith);
+  reads = plain_is_read decimals lines kept (omega arith);
   shown = shown_still 5 lines shown;
   drawing = λ v.
       let (right, up, begins, same) = drawing v in
@@ -57,26 +57,26 @@ plain_reads_back s lines kept few shown drawing = record {
 }
 
 -- the written file of a union of grid cells reads back, where its lines are within reach
-pub written_reads_back : (g : GridParts) → IsGrid g → (chosen : List Bool) (s : List Cell)
+pub written_reads_back : (decimals : ℕ) → decimals ≤ most_decimals → (g : GridParts) → IsGrid g → (chosen : List Bool) (s : List Cell)
     → IsSolid s → IsUnionOf (coordinates_of g) chosen (is_full s)
     → (far_x far_z : ℤ) (d : DrawingRuns) → IsSheetOf s far_x far_z d
     → Each IsInReach (sheet_lines far_x far_z d)
-    → ReadsBack s (plain_file (sheet_lines far_x far_z d))
-written_reads_back g is chosen s solid union far_x far_z d sheet reach =
+    → ReadsBack decimals s (plain_file decimals (sheet_lines far_x far_z d))
+written_reads_back decimals fits g is chosen s solid union far_x far_z d sheet reach =
     let lines = sheet_lines far_x far_z d in
     let drawn = lines_drawn s far_x far_z d sheet in
     let from = not_negative_on_grid g is chosen s union far_x far_z d sheet in
     let within = each-both IsNotNegative IsInReach lines from reach in
     let all = each-both IsDrawnLine (λ l. IsNotNegative l × IsInReach l) lines drawn within in
-    plain_reads_back s lines (each-weaker _ IsKept lines kept_from all)
+    plain_reads_back decimals s lines fits (each-weaker _ IsKept lines kept_from all)
     (few_on_grid g is chosen s union far_x far_z d sheet)
     (sheet_shown far_x far_z d (solid_drawing s) sheet.runs (solid_begins s solid))
     (λ v. let (right, up, begins) = solid_begins s solid v in
     sheet_moved far_x far_z d (solid_drawing s) sheet.runs v right up begins)
 
 -- where the solid's drawing begins at 0, this very drawing is read
-pub drawing_as_it_is : (s : List Cell) (text : List ℕ) → IsDrawing (solid_drawing s)
-    → (back : ReadsBack s text) (g : Segment) → drawing_of back.lines g ≡ solid_drawing s g
-drawing_as_it_is s text is back g =
+pub drawing_as_it_is : (decimals : ℕ) (s : List Cell) (text : List ℕ) → IsDrawing (solid_drawing s)
+    → (back : ReadsBack decimals s text) (g : Segment) → drawing_of back.lines g ≡ solid_drawing s g
+drawing_as_it_is decimals s text is back g =
     one_moved (solid_drawing s) (drawing_of back.lines) (solid_drawing s) g.view
     (back.drawing g.view) (moved_already (solid_drawing s) g.view (is.begins g.view)) g refl

@@ -21,11 +21,11 @@ pub record IsInReach (l : Line) : Type 0 where
   pub x1 : l.x1 ≤ℤ pos farthest_on_sheet
   pub y1 : l.y1 ≤ℤ pos farthest_on_sheet
 
--- A file reads back as the drawing of a solid: it isn't too long, it reads as lines, these show something in each view, and
--- their drawing is that of the solid, moved to least coordinates 0.
-pub record ReadsBack (s : List Cell) (text : List ℕ) : Type 0 where
+-- A file reads back, with so many decimals, as the drawing of a solid: it isn't too long, it reads as lines, these show
+-- something in each view, and their drawing is that of the solid, moved to least coordinates 0.
+pub record ReadsBack (decimals : ℕ) (s : List Cell) (text : List ℕ) : Type 0 where
   pub short : length text ≤ most_file_bytes
   pub lines : List Line
-  pub reads : read_of 0 text ≡ Ok lines
+  pub reads : read_of decimals text ≡ Ok lines
   pub shown : IsShown lines
   pub drawing : (v : View) → IsMovedToZero (solid_drawing s) (drawing_of lines) v

@@ -5,5 +5,5 @@ mod laws;
 
 pub use laws::{
     drawings_read_back_as_they_are, plain_files_are_read, plain_files_are_short,
-    spelled_numbers_are_read, written_files_read_back,
+    printed_numbers_are_read, written_files_read_back,
 };
