@@ -93,7 +93,8 @@ said_is_counted (name ∷ words) j said = counted_among commands (
   (
     (λ ws us is. (
       has_number_of_solid redraw_table refl refl ws us is,
-      (has_workers redraw_table refl refl ws us is, has_decimals redraw_table refl refl ws us is),
+      has_workers redraw_table refl refl ws us is,
+      has_decimals redraw_table refl refl ws us is,
     )),
     (
       (λ ws us is. (has_number_of_solid stl_table refl refl ws us is, has_workers stl_table refl refl ws us is)),
