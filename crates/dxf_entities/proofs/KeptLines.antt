@@ -20,8 +20,7 @@ use Rattle.dxf_entities.specs.Known.{Point, IsNearPoint}
 use Rattle.dxf_entities.specs.Names.{is_name, kind_of}
 use Rattle.dxf_entities.specs.Reading.{Progress, nothing_read, between, opened, layer_added, entry_read, read_at, end_read, is_ended, entries_read, pairs_read, read_of}
 use Rattle.dxf_entities.specs.Shapes.{begun_shape, points_of}
-use Rattle.dxf_entities.specs.Steps.{◌>>=◌}
-use Rattle.dxf_entities.specs.Strokes.{are_straight_from, are_straight, line_between, lines_from, lines_through, kept, drawn_along, added_along}
+use Rattle.dxf_entities.specs.DrawnLines.{are_straight_from, are_straight, line_between, lines_from, lines_through, kept, drawn_along, added_along}
 use Rattle.dxf_groups.specs.Pairs.{TextPair, Pairs, pairs_of}
 use Rattle.solid_model.specs.declared.fault.Fault.{Fault}
 use Rattle.solid_model.specs.declared.frame.View.{View}
@@ -43,9 +42,9 @@ straight_ends false false x0 y0 x1 y1 x y e = absurd cc
 
 module _ (line : ℕ) (pen : Pen) (drawn : pen.style ≢ Blank) where
   -- the line between near points, one level with or upright over the other, is kept
-  stroke_kept : (a b : Point) → IsNearPoint a → IsNearPoint b
+  line_kept : (a b : Point) → IsNearPoint a → IsNearPoint b
       → (int_eq a.x b.x || int_eq a.y b.y) ≡ true → IsKept (line_between line pen a b)
-  stroke_kept a b near_a near_b straight = record {
+  line_kept a b near_a near_b straight = record {
     straight =
         straight_ends (int_eq a.x b.x) (int_eq a.y b.y) a.x a.y b.x b.y (Decides-int_eq a.x b.x).0
         (Decides-int_eq a.y b.y).0 straight;
@@ -62,7 +61,7 @@ module _ (line : ℕ) (pen : Pen) (drawn : pen.style ≢ Blank) where
   lines_from_kept a [] near_a near straight = tt
   lines_from_kept a (b ∷ ps) near_a near straight =
       let both = and_parts (int_eq a.x b.x || int_eq a.y b.y) (are_straight_from b ps) straight in
-      (stroke_kept a b near_a near.0 both.0, lines_from_kept b ps near.0 near.1 both.1)
+      (line_kept a b near_a near.0 both.0, lines_from_kept b ps near.0 near.1 both.1)
 
   lines_through_kept : (ps : List Point) → Each IsNearPoint ps → are_straight ps ≡ true
       → Each IsKept (lines_through line pen ps)

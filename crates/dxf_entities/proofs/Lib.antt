@@ -2,4 +2,4 @@ pub mod OwnFacts
 pub mod Resumes
 pub mod KeptLines
 pub mod NearPoints
-pub mod Sides
+pub mod NextPoints

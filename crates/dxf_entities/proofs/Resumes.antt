@@ -1,5 +1,5 @@
 -- How a reader's steps go on with what is left.
-use Rattle.std.proofs.Common.{◌≡◌, ℕ, Bool, true, false, List, [], ◌∷◌, length, Option, Some, None, Result, Ok, Err, if◌then◌else◌, codes, IsErrOf, refl, sym, ap, ap₂, ◌∙◌}
+use Rattle.std.proofs.Common.{◌≡◌, ℕ, Bool, true, false, List, [], ◌∷◌, Option, Some, None, Result, Ok, Err, if◌then◌else◌, codes, IsErrOf, refl, sym, ap, ap₂, ◌∙◌}
 use Rattle.std.specs.Option.{option_map, option_or}
 use Rattle.solid_model.specs.declared.fault.Fault.{Fault}
 use Rattle.solid_model.specs.declared.fault.Fault.TheVariants.{BadSection}
@@ -24,7 +24,7 @@ use Rattle.dxf_entities.specs.Steps.{◌>>=◌}
 use Rattle.dxf_groups.specs.Pairs.{TextPair, Pairs, pairs_of, text_pair}
 use Rattle.dxf_entities.specs.Entries.{Entry, has_code, before_entries, entries_of, own_pairs, first_value, opens_application}
 use Rattle.dxf_entities.specs.declared.pen.Pen.{Pen}
-use Rattle.dxf_entities.specs.Judging.{facts_of, drawn_by, judged, lines_by}
+use Rattle.dxf_entities.specs.Judging.{facts_of, drawn_by, lines_by}
 use Rattle.dxf_entities.specs.Names.{is_name, view_on, kind_of, section_of}
 use Rattle.dxf_entities.specs.Reading.{Progress, between, opened, with_layer, layer_added, nothing_read, entity_read, entry_read, read_at, end_read, is_ended, entries_read, pairs_read}
 use Rattle.dxf_entities.specs.Resuming.{with_fact, with_layer_fact, with_own, begun_facts, nothing_told, opened_entity, opened_entry, unless_elsewhere, with_own_pair, with_pair_of, is_inside_after, fact_taken, entry_closed, closed, closed_where, layer_linetype, progress_of, advanced, resumed}
@@ -139,28 +139,10 @@ closed_entity r f is =
 abbrev drawn_so : Reader → Facts → Result (Option Pen) Fault → Result Progress Fault
 drawn_so r f pen = then_kept (progress_of r) (pen >>= lines_by f r.lines.items)
 
-module _ (r : Reader) (f : Facts) (is : r.entry ≡ Entity f) where
-  -- one without a pen is passed over
-  pub entity_passed : drawn_by (layer_linetype r.layers) f ≡ Ok None
-      → closed [] r ≡ Ok (progress_of r)
-  entity_passed gives = closed_entity r f is ∙ ap (drawn_so r f) gives
-
-  -- one with a fault before a pen is known
-  pub pen_refused : (fault : Fault) → drawn_by (layer_linetype r.layers) f ≡ Err fault
-      → closed [] r ≡ Err fault
-  pen_refused fault gives = closed_entity r f is ∙ ap (drawn_so r f) gives
-
-  -- one with a pen gives its lines, or has a fault
-  module _ (pen : Pen) (gives : drawn_by (layer_linetype r.layers) f ≡ Ok (Some pen)) where
-    pub entity_drawn : (lines : List Line) → lines_by f r.lines.items (Some pen) ≡ Ok lines
-        → closed [] r ≡ Ok (record (progress_of r) { lines = lines })
-    entity_drawn lines draws =
-        closed_entity r f is ∙ ap (drawn_so r f) gives ∙ ap (then_kept (progress_of r)) draws
-
-    pub entity_refused : (fault : Fault) → lines_by f r.lines.items (Some pen) ≡ Err fault
-        → closed [] r ≡ Err fault
-    entity_refused fault draws =
-        closed_entity r f is ∙ ap (drawn_so r f) gives ∙ ap (then_kept (progress_of r)) draws
+-- one without a pen is passed over
+pub entity_passed : (r : Reader) (f : Facts) → r.entry ≡ Entity f
+    → drawn_by (layer_linetype r.layers) f ≡ Ok None → closed [] r ≡ Ok (progress_of r)
+entity_passed r f is gives = closed_entity r f is ∙ ap (drawn_so r f) gives
 
 -- ---- a pair with code 0
 

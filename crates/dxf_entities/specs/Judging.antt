@@ -18,7 +18,7 @@ use Rattle.dxf_entities.specs.Entries.{Entry, own_pairs, first_value}
 use Rattle.dxf_entities.specs.Names.{view_on, linetype_of, kind_of}
 use Rattle.dxf_entities.specs.Shapes.{begun_shape, known_shape, points_of}
 use Rattle.dxf_entities.specs.Steps.{◌>>=◌}
-use Rattle.dxf_entities.specs.Strokes.{added_through}
+use Rattle.dxf_entities.specs.DrawnLines.{added_through}
 
 -- a value that is `1`
 abbrev pub is_one : List ℕ → Bool

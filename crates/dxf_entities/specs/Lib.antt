@@ -5,7 +5,7 @@ pub mod Entries
 pub mod Coordinates
 pub mod Outlines
 pub mod Shapes
-pub mod Strokes
+pub mod DrawnLines
 pub mod Judging
 pub mod Reading
 pub mod Resuming

@@ -1,5 +1,5 @@
 -- What an entity draws, as far as its pairs tell it.
-use Rattle.std.specs.Prelude.{ℕ, List, [], ◌∷◌, Result, Ok, Err}
+use Rattle.std.specs.Prelude.{ℕ, List, [], ◌∷◌, Result, Ok}
 use Rattle.solid_model.specs.declared.fault.Fault.{Fault}
 use Rattle.dxf_groups.specs.Pairs.{TextPair}
 use Rattle.dxf_entities.specs.declared.kind.Kind.{Kind}

@@ -5,6 +5,7 @@
 mod codes;
 mod coordinates;
 mod decimals;
+mod drawn_lines;
 mod facts;
 mod kind;
 mod laws;
@@ -20,7 +21,6 @@ mod reader;
 mod reading;
 mod section;
 mod shape;
-mod strokes;
 mod values;
 mod vertex;
 

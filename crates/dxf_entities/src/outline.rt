@@ -7,8 +7,8 @@ ghost use Rattle.dxf_entities.specs.Outlines.{ended_vertex, first_flags, first_x
 ghost use Rattle.dxf_groups.specs.Numerals.{whole_of};
 ghost use Rattle.dxf_groups.specs.Pairs.{text_pair};
 
+use crate::drawn_lines::add_along;
 use crate::pen::Pen;
-use crate::strokes::add_along;
 use crate::values::value_at;
 use crate::vertex::Vertex;
 use dxf_groups::{NumeralFault, Pair, whole};
@@ -122,7 +122,7 @@ impl Outline {
     ghost use Rattle.dxf_entities.specs.Known.{no_vertex};
     ghost use Rattle.dxf_entities.specs.Outlines.{route_of, whole_route, with_vertex, with_x, with_y};
     ghost use Rattle.dxf_entities.specs.Steps.{ComesTo};
-    ghost use Rattle.dxf_entities.specs.Strokes.{added_through};
+    ghost use Rattle.dxf_entities.specs.DrawnLines.{added_through};
     ghost use Rattle.dxf_groups.specs.Pairs.{text_pair};
 
     /// Nothing is known.

@@ -6,10 +6,10 @@ ghost use Rattle.dxf_entities.specs.Shapes.{more_shape};
 ghost use Rattle.dxf_groups.specs.Pairs.{text_pair};
 
 use crate::coordinates::Coordinates;
+use crate::drawn_lines::add_along;
 use crate::kind::Kind;
 use crate::outline::Outline;
 use crate::pen::Pen;
-use crate::strokes::add_along;
 use dxf_groups::Pair;
 use solid_model::{Fault, Memory, Refused, SheetLine};
 use std::alloc::Global;
@@ -29,7 +29,7 @@ impl Shape {
     ghost use Rattle.solid_model.specs.Limits.{most_decimals};
     ghost use Rattle.dxf_entities.specs.Shapes.{begun_shape, points_of, with_shape};
     ghost use Rattle.dxf_entities.specs.Steps.{ComesTo};
-    ghost use Rattle.dxf_entities.specs.Strokes.{added_through};
+    ghost use Rattle.dxf_entities.specs.DrawnLines.{added_through};
     ghost use Rattle.dxf_groups.specs.Pairs.{text_pair};
 
     /// That of an entity of this kind of which no pair is read.

@@ -1,6 +1,7 @@
 -- An input has one problem.
 use Rattle.std.proofs.Common.{◌≡◌, ℕ, List, Option, sym, subst, ◌∙◌}
-use Rattle.dxf_entities.proofs.KeptLines.{ok_value, read_lines_are_kept}
+use Rattle.dxf_entities.proofs.KeptLines.{read_lines_are_kept}
+use Rattle.dxf_entities.proofs.NearPoints.{ok_value}
 use Rattle.recon_run.specs.Answers.{HasProblem, Input}
 use Rattle.recon_run.proofs.Grids.{one_grid}
 use Rattle.solid_model.specs.declared.cell.Axis.{Axis}

@@ -1,7 +1,7 @@
 -- The file that is made from a number has no fault, and its search passes no limit.
 use Rattle.std.proofs.Common.{◌≡◌, ℕ, ◌≤◌, List, Bool, length, Ok, ap, sym, subst, ◌∙◌, arith}
 use Rattle.dxf_entities.specs.Reading.{read_of}
-use Rattle.dxf_entities.proofs.KeptLines.{ok_value}
+use Rattle.dxf_entities.proofs.NearPoints.{ok_value}
 use Rattle.drawing_maker.specs.Made.{made_solid}
 use Rattle.made_laws.proofs.MadeFiles.{made_file_reads_back}
 use Rattle.made_laws.proofs.MadeLimits.{few_made_blocks, few_made_choices, few_made_nodes, made_blocks_are, made_problem}

@@ -95,13 +95,10 @@ pub const SIZES: &str = "\
 = 0 SECTION, 2 ENTITIES, cube, 0 ENDSEC, #1, 1048531 * blanks
 0 EOF -> unit cube
 0 EOF  -> 1 fault F16 TooLong
--- The first line of the unit cube, 99,988 times before its 12 lines, and 100,001 times; and with a
--- polyline that has no line, too many lines, and an oblique one.
+-- The first line of the unit cube, 99,988 times before its 12 lines, and 100,001 times; and 99,999
+-- times before a polyline of two lines.
 = 0 SECTION, 2 ENTITIES, #1, 0 ENDSEC, 0 EOF
 99988 * line S 0 0 1 0, cube -> unit cube
-99988 * line S 0 0 1 0, cube, 0 LWPOLYLINE, 8 FRONT, 10 7, 20 7 -> unit cube
 100001 * line S 0 0 1 0 -> 1 fault F15 TooManyLines line 1800005
 99999 * line S 0 0 1 0, 0 LWPOLYLINE, 8 FRONT, 70 1, 10 0, 20 0, 10 1, 20 0 -> \
-    1 fault F15 TooManyLines line 1799987
-100000 * line S 0 0 1 0, 0 LWPOLYLINE, 8 FRONT, 10 0, 20 0, 10 1, 20 1 -> \
-    1 fault F11 Oblique line 1800005";
+    1 fault F15 TooManyLines line 1799987";

@@ -1,8 +1,8 @@
 -- A negative exponent that the decimals don't outweigh moves the point to the left by what is left of it.
-use Rattle.std.proofs.Common.{◌≡◌, ◌-◌, ℤ, pos, neg_ℤ, Bool, true, false, not, option_map, refl, ap, ◌∙◌, sym, arith}
+use Rattle.std.proofs.Common.{◌≡◌, ◌-◌, pos, neg_ℤ, Bool, true, false, not, option_map, refl, ap, ◌∙◌, sym, arith}
 use Rattle.std.specs.Prelude.{◌+ℤ◌}
 use Rattle.std.proofs.lemmas.Int.{ints}
-use Rattle.dxf_groups.specs.NumeralParts.{capped, IsKeptExponent, IsKeptShift}
+use Rattle.dxf_groups.specs.NumeralParts.{capped}
 use Rattle.dxf_groups.specs.Numerals.{magnitude_of, with_sign}
 use Rattle.dxf_groups.proofs.numerals.magnitude.Goals as goal
 

@@ -20,9 +20,9 @@ abbrev input : List ℕ → ℕ → Input
 input file decimals = record { bytes = file; decimals = decimals }
 
 -- what the pairs of a file read as is what it reads as
-of_file : {decimals : ℕ} {pairs first : GroupsState} {read lines : List Line} → pairs ≡ first
+of_file : (decimals : ℕ) {pairs first : GroupsState} {read lines : List Line} → pairs ≡ first
     → read_of decimals pairs.text ≡ Ok read → lines ≡ read → read_of decimals first.text ≡ Ok lines
-of_file {decimals = decimals} {lines = lines} begun reads same =
+of_file decimals {lines = lines} begun reads same =
     subst (λ (pairs : GroupsState). read_of decimals pairs.text ≡ Ok lines) begun (reads ∙ ap Ok (sym same))
 
 -- what holds of a drawing holds of that of the lines, where they are one
@@ -34,7 +34,7 @@ returns-in_err-drawing-clause-fault c fault is =
     let result = c.from_residual-in_err-drawing in
     let from = err_from_is_err_and result.result result.ensures.1 in
     let refused : c.in_err-drawing.field-0.0 ≡ refused.Fault fault = cc in
-    let reads = of_file c.new.ensures c.in_ok-lines.ensures.lines c.as_slice.ensures.value in
+    let reads = of_file c.args.decimals c.new.ensures c.in_ok-lines.ensures.lines c.as_slice.ensures.value in
     let empty = c.in_err-drawing.ensures.fault fault (ap Err refused) in
     file_fault (input c.args.file.items c.args.decimals) (Ok c.as_slice.result.now) fault c.requires.short reads (inl (empty.0, empty.2, empty.1))
 
@@ -43,7 +43,7 @@ returns-in_err-grid-clause-fault c fault is =
     let result = c.from_residual-in_err-grid in
     let from = err_from_is_err_and result.result result.ensures.1 in
     let refused : c.in_err-grid.field-0.0 ≡ refused.Fault fault = cc in
-    let reads = of_file c.new.ensures c.in_ok-lines.ensures.lines c.as_slice.ensures.value in
+    let reads = of_file c.args.decimals c.new.ensures c.in_ok-lines.ensures.lines c.as_slice.ensures.value in
     let (a, count, names, first) = c.in_err-grid.ensures.fault fault (ap Err refused) in
     file_fault (input c.args.file.items c.args.decimals) (Ok c.as_slice.result.now) fault c.requires.short reads
     (inr (inl (c.in_ok-drawing.ensures.shown, a, count, of_lines c.as_slice.result.now c.in_ok-drawing.ensures.drawn (λ d. IsFirstTooFine d a count) first, names)))
@@ -53,7 +53,7 @@ returns-in_err-blocks-clause-fault c fault is =
     let result = c.from_residual-in_err-blocks in
     let from = err_from_is_err_and result.result result.ensures.1 in
     let refused : c.in_err-blocks.field-0.0 ≡ refused.Fault fault = cc in
-    let reads = of_file c.new.ensures c.in_ok-lines.ensures.lines c.as_slice.ensures.value in
+    let reads = of_file c.args.decimals c.new.ensures c.in_ok-lines.ensures.lines c.as_slice.ensures.value in
     let (count, names, many) = c.in_err-blocks.ensures.many fault (ap Err refused) in
     let grid = of_lines c.as_slice.result.now {drawing = style_in c.in_ok-drawing.drawing} c.in_ok-drawing.ensures.drawn (λ d. IsGridOf d c.in_ok-grid.grid) c.in_ok-grid.ensures.grid in
     file_fault (input c.args.file.items c.args.decimals) (Ok c.as_slice.result.now) fault c.requires.short reads
@@ -62,7 +62,7 @@ returns-in_err-blocks-clause-fault c fault is =
 pub returns-clause-problem : goal.returns-clause-problem
 returns-clause-problem c =
     let blocks = c.in_ok-blocks.blocks in
-    let reads = of_file c.new.ensures c.in_ok-lines.ensures.lines c.as_slice.ensures.value in
+    let reads = of_file c.args.decimals c.new.ensures c.in_ok-lines.ensures.lines c.as_slice.ensures.value in
     let grid = of_lines c.as_slice.result.now {drawing = style_in c.in_ok-drawing.drawing} c.in_ok-drawing.ensures.drawn (λ d. IsGridOf d c.in_ok-grid.grid) c.in_ok-grid.ensures.grid in
     let has : HasProblem (input c.args.file.items c.args.decimals) (record { grid = c.in_ok-grid.grid; blocks = blocks }) = record {
       short = c.requires.short;

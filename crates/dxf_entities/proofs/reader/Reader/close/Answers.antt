@@ -1,6 +1,6 @@
 -- The open entry is closed.
 use Rattle.std.proofs.Common.{Ok, ap, sym, ◌∙◌}
-use Rattle.dxf_entities.proofs.Resumes.{entity_passed, pen_refused, entity_drawn, entity_refused}
+use Rattle.dxf_entities.proofs.Resumes.{entity_passed}
 use Rattle.dxf_entities.proofs.reader.Reader.close.Goals as goal
 
 pub returns-in_default-clause-closed : goal.returns-in_default-clause-closed

@@ -1,11 +1,11 @@
 -- Straight lines are added where there is room for them.
-use Rattle.std.proofs.Common.{◌≡◌, ◌-◌, ◌<◌, ◌≤◌, Ok, Err, List, length, take, drop, ap, sym, subst, ◌∙◌, arith}
+use Rattle.std.proofs.Common.{◌≡◌, ◌-◌, ◌<◌, ◌≤◌, Ok, Err, length, take, drop, ap, sym, subst, ◌∙◌, arith}
 use Rattle.solid_model.specs.declared.fault.Fault.TheVariants.{TooManyLines}
 use Rattle.solid_model.specs.Limits.{most_lines}
 use Rattle.dxf_entities.specs.Known.{Point}
-use Rattle.dxf_entities.specs.Strokes.{added_along}
-use Rattle.dxf_entities.proofs.Sides.{first_point, lines_fit, lines_too_many}
-use Rattle.dxf_entities.proofs.strokes.add_along.Goals as goal
+use Rattle.dxf_entities.specs.DrawnLines.{added_along}
+use Rattle.dxf_entities.proofs.NextPoints.{first_point, lines_fit, lines_too_many}
+use Rattle.dxf_entities.proofs.drawn_lines.add_along.Goals as goal
 
 pub returns-then-rest-saturating_sub : goal.returns-then-rest-saturating_sub
 returns-then-rest-saturating_sub c =

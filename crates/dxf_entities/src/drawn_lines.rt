@@ -3,7 +3,7 @@
 ghost use Rattle.std.specs.Prelude.{◌≡◌, ◌≢◌, ◌++◌, true, OnOk};
 ghost use Rattle.solid_model.specs.declared.segment.Style.TheVariants.{Blank};
 ghost use Rattle.dxf_entities.specs.Steps.{ComesTo};
-ghost use Rattle.dxf_entities.specs.Strokes.{added_along, are_straight_from, line_between, lines_from};
+ghost use Rattle.dxf_entities.specs.DrawnLines.{added_along, are_straight_from, line_between, lines_from};
 
 use crate::pen::Pen;
 use crate::vertex::Vertex;

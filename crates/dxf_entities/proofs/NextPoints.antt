@@ -1,5 +1,5 @@
 -- Points, one after the other, and the lines between them.
-use Rattle.std.proofs.Common.{◌≡◌, ℕ, suc, ◌+◌, ◌-◌, ◌<◌, ◌≤◌, Bool, true, false, ◌&&◌, ◌||◌, List, [], ◌∷◌, ◌++◌, length, take, drop, get_or, int_eq, append_assoc, Ok, Err, le-leb, refl, sym, ap, ◌∙◌, arith}
+use Rattle.std.proofs.Common.{◌≡◌, ℕ, suc, ◌+◌, ◌-◌, ◌<◌, ◌≤◌, true, ◌&&◌, ◌||◌, List, [], ◌∷◌, ◌++◌, length, take, drop, get_or, int_eq, append_assoc, Ok, Err, le-leb, refl, sym, ap, ◌∙◌, arith}
 use Rattle.std.proofs.lemmas.Bool.{lt-leb}
 use Rattle.std.proofs.lemmas.List.{drop_more, length-drop, take_all}
 use Rattle.solid_model.specs.declared.fault.Fault.TheVariants.{TooManyLines}
@@ -7,7 +7,7 @@ use Rattle.solid_model.specs.Limits.{most_lines}
 use Rattle.solid_model.specs.Line.{Line}
 use Rattle.dxf_entities.specs.declared.pen.Pen.{Pen}
 use Rattle.dxf_entities.specs.Known.{Point}
-use Rattle.dxf_entities.specs.Strokes.{added_along, are_straight_from, line_between, lines_from}
+use Rattle.dxf_entities.specs.DrawnLines.{added_along, are_straight_from, line_between, lines_from}
 
 -- what is left begins with the next point
 next_point : (ps : List Point) (i : ℕ) (b : Point) → i < length ps → b ≡ get_or ps i b

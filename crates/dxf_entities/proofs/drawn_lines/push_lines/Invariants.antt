@@ -1,7 +1,7 @@
 -- What is left is straight; and with its lines all that are owed are there.
 use Rattle.std.proofs.Common.{◌≡◌, ◌++◌, true, drop}
-use Rattle.dxf_entities.specs.Strokes.{are_straight_from, lines_from}
-use Rattle.dxf_entities.proofs.strokes.push_lines.Given as goal
+use Rattle.dxf_entities.specs.DrawnLines.{are_straight_from, lines_from}
+use Rattle.dxf_entities.proofs.drawn_lines.push_lines.Given as goal
 
 abbrev pub invariant-loop-to : goal.invariant-loop-to
 invariant-loop-to l = record {

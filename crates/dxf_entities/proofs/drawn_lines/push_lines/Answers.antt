@@ -4,9 +4,9 @@ use Rattle.std.proofs.lemmas.Bool.{and_parts}
 use Rattle.std.proofs.lemmas.Int.{ints, to_z-of_z}
 use Rattle.solid_model.specs.Line.{IsNear}
 use Rattle.dxf_entities.specs.Known.{Point}
-use Rattle.dxf_entities.specs.Strokes.{are_straight_from, line_between, lines_from}
-use Rattle.dxf_entities.proofs.Sides.{straight_next, line_pushed}
-use Rattle.dxf_entities.proofs.strokes.push_lines.Goals as goal
+use Rattle.dxf_entities.specs.DrawnLines.{are_straight_from, line_between, lines_from}
+use Rattle.dxf_entities.proofs.NextPoints.{straight_next, line_pushed}
+use Rattle.dxf_entities.proofs.drawn_lines.push_lines.Goals as goal
 
 -- a near number is the same in code
 in_code : (k : ℤ) → IsNear k → to_z w64 (of_z w64 k) ≡ k
