@@ -3,9 +3,9 @@ use Rattle.std.proofs.Common.{◌≡◌, refl, inl, inr, ℕ, List, length, Opti
 use Rattle.recon_run.specs.declared.status.Answer.{Answer}
 use Rattle.recon_run.specs.declared.status.Answer.TheVariants as answers
 use Rattle.recon_run.specs.declared.status.Failure.{Failure}
-use Rattle.recon_run.specs.Answers.{CanEnd, HasNoFault, IsFileFault}
+use Rattle.recon_run.specs.Answers.{CanEnd, HasNoFault, Input, IsFileFault}
 use Rattle.recon_run.specs.Endings.{AnswersOrFails, Ends, EndsOrFails, OfAlone, OfSearch}
-use Rattle.recon_run.specs.Owed.{AnswersInput, Owed, Search, answer_at, alone, searched}
+use Rattle.recon_run.specs.Owed.{AnswersInput, Owed, Search, answer_at, alone, input_of, searched}
 use Rattle.recon_run.specs.Status.{Status, answer_code, status_code, failure_code}
 use Rattle.recon_run.proofs.Faults.{no_fault}
 use Rattle.recon_run.proofs.OneEnd.{kept_or_passed, one_count}
@@ -14,7 +14,7 @@ use Rattle.solid_model.specs.declared.fault.Fault.{Fault}
 
 -- ---- of a search
 
-module _ (s : Search) (t : List ℕ) where
+module _ (s : Search) (t : Input) where
   -- a text that keeps both limits has the answer of a whole search,
   whole_answer : (c : CanEnd s.limits t Whole) (answer : Answer) (text : List ℕ) → AnswersInput s t answer text → answer ≡ s.whole (length c.solids)
   whole_answer c answer text (inl (is, (fault, at, told))) = absurd (no_fault c.has fault at)
@@ -34,16 +34,16 @@ module _ (s : Search) (t : List ℕ) where
 -- ---- of a run
 
 -- Where what holds of the number of each right answer of a search, and of each failure, is this, it holds of the number of a run's end.
-of_search : (P : Search → List ℕ → ℕ → Type 0)
-    → ((s : Search) (t : List ℕ) (answer : Answer) (text : List ℕ) → AnswersInput s t answer text → P s t (answer_code answer))
-    → ((s : Search) (t : List ℕ) (failure : Failure) → P s t (failure_code failure))
+of_search : (P : Search → Input → ℕ → Type 0)
+    → ((s : Search) (t : Input) (answer : Answer) (text : List ℕ) → AnswersInput s t answer text → P s t (answer_code answer))
+    → ((s : Search) (t : Input) (failure : Failure) → P s t (failure_code failure))
     → (o : Owed) (left rest held now : Option (List ℕ)) (source_rose sink_rose : Type 0) (status : Status)
     → Ends o left rest held now source_rose sink_rose status → OfSearch o left (λ s t. P s t (status_code status))
 of_search P right fails (alone answer tells) left rest held now source_rose sink_rose status ends = tt
 of_search P right fails (searched s) None rest held now source_rose sink_rose status ends = tt
-of_search P right fails (searched s) (Some t) rest held now source_rose sink_rose (Err failure) ends = fails s t failure
+of_search P right fails (searched s) (Some t) rest held now source_rose sink_rose (Err failure) ends = fails s (input_of s t) failure
 of_search P right fails (searched s) (Some t) rest held now source_rose sink_rose (Ok answer) (text, (of, (reads, answers)), appends) =
-    right s t answer text answers
+    right s (input_of s t) answer text answers
 
 module _ (o : Owed) (left rest held now : Option (List ℕ)) (source_rose sink_rose : Type 0) (status : Status)
     (ends : Ends o left rest held now source_rose sink_rose status) where

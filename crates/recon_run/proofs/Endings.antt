@@ -42,7 +42,7 @@ module _ (o : Owed) (left rest held now : Option (List ℕ)) (source_rose sink_r
 module _ (s : Search) (left rest : Option (List ℕ)) (source_rose sink_rose : Type 0) where
   -- what is written of what was found ends a search
   pub found_ends : (tells begins : SearchedParts → List ℕ → Type 0) → TellsRightly s tells → TellsRightly (beginning s) begins
-      → (found : Found) → IsFound left rest found → (held now : Option (List ℕ)) (status : Status)
+      → (found : Found) → IsFound s.decimals left rest found → (held now : Option (List ℕ)) (status : Status)
       → EndsWriting (AnswersFound s.limits s.whole tells found) (AnswersFound s.limits s.whole begins found) held now sink_rose status
       → Ends (searched s) left rest held now source_rose sink_rose status
   found_ends tells begins right rightly found is held now = written_ends (searched s) left rest held now source_rose sink_rose

@@ -1,7 +1,7 @@
 -- When an input has a fault, and when it has none.
 use Rattle.std.proofs.Common.{◌≡◌, refl, inl, inr, ℕ, ◌≤◌, List, length, Result, Ok, Err, sym, subst, ap, ◌∙◌, arith}
 use Rattle.dxf_entities.specs.Reading.{read_of}
-use Rattle.recon_run.specs.Answers.{HasFineAxis, IsFaultAfter, IsFaultOf, IsFileFault, HasNoFault, HasProblem}
+use Rattle.recon_run.specs.Answers.{HasFineAxis, Input, IsFaultAfter, IsFileFault, HasNoFault, HasProblem}
 use Rattle.recon_run.proofs.Grids.{one_too_fine, none_too_fine, one_grid, coordinates_from_grid}
 use Rattle.recon_run.proofs.Problems.{one_block_count}
 use Rattle.solid_model.specs.declared.fault.Fault.{Fault}
@@ -63,19 +63,18 @@ one_fault_after (Err found) f g p q = p ∙ sym q
 one_fault_after (Ok ls) f g p q = one_lines_fault ls f g p q
 
 -- an input has at most one first fault
-pub one_fault : (t : List ℕ) (f g : Fault) → IsFileFault t f → IsFileFault t g → f ≡ g
+pub one_fault : (t : Input) (f g : Fault) → IsFileFault t f → IsFileFault t g → f ≡ g
 one_fault t f g (inl p) (inl q) = p.1 ∙ sym q.1
 one_fault t f g (inl p) (inr q) = absurd (omega (arith, p.0, q.0))
 one_fault t f g (inr p) (inl q) = absurd (omega (arith, p.0, q.0))
-one_fault t f g (inr p) (inr q) = one_fault_after (read_of 0 t) f g p.1 q.1
+one_fault t f g (inr p) (inr q) = one_fault_after (read_of t.decimals t.bytes) f g p.1 q.1
 
 -- a file that isn't too long has the fault of what it reads as
-pub file_fault : (decimals : ℕ) (t : List ℕ) (r : Result (List Line) Fault) (f : Fault) → length t ≤ most_file_bytes
-    → read_of decimals t ≡ r → IsFaultAfter r f → IsFaultOf decimals t f
-file_fault decimals t r f short reads after = inr (short, subst (λ r. IsFaultAfter r f) (sym reads) after)
+pub file_fault : (t : Input) (r : Result (List Line) Fault) (f : Fault) → length t.bytes ≤ most_file_bytes → read_of t.decimals t.bytes ≡ r → IsFaultAfter r f → IsFileFault t f
+file_fault t r f short reads after = inr (short, subst (λ r. IsFaultAfter r f) (sym reads) after)
 
 -- an input with a problem has no fault
-pub no_fault : {t : List ℕ} {p : ProblemParts} → HasProblem t p → HasNoFault t
+pub no_fault : {t : Input} {p : ProblemParts} → HasProblem t p → HasNoFault t
 no_fault has f (inl long) = let short = has.short in absurd (omega (arith, long.0))
 no_fault {t} {p} has f (inr read) = by (subst (λ r. IsFaultAfter r f) has.reads read.1)
   where

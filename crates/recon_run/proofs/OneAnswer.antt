@@ -40,7 +40,7 @@ use Rattle.words.specs.Jobs.{job_said}
 
 -- a whole search of an input is told by one text, up to its pages, if they are asked for
 abbrev TellsOne : Bool → Search → Type 0
-TellsOne paged s = (t : List ℕ) (c d : CanEnd s.limits t Whole) (text other : List ℕ) → s.tells t Whole c text → s.tells t Whole d other → SameButPages paged text other
+TellsOne paged s = (t : Input) (c d : CanEnd s.limits t Whole) (text other : List ℕ) → s.tells t Whole c text → s.tells t Whole d other → SameButPages paged text other
 
 -- texts are so where what follows their pages is one
 same_behind : (paged : Bool) (choices others : List (List Bool)) (pages more : List Page) → choices ≡ others → ArePagesOf paged choices pages → ArePagesOf paged others more
@@ -58,19 +58,19 @@ same_behind true choices others pages more same are are_too rest last ends text 
 )
 
 -- solids are told by one text
-one_telling : (number : ℕ) (choices : List (List Bool)) (solids : List (List Cell)) (text other : List ℕ)
-    → TellsSolids number choices solids text → TellsSolids number choices solids other → text ≡ other
-one_telling number [] [] text other first second = first ∙ sym second
-one_telling number [] (s ∷ solids) text other first second = absurd first
-one_telling number (choice ∷ choices) [] text other first second = absurd first
-one_telling number (choice ∷ choices) (s ∷ solids) text other (faces, are, rest, tells, is) (others, are_too, more, tells_too, is_too) =
+one_telling : (decimals number : ℕ) (choices : List (List Bool)) (solids : List (List Cell)) (text other : List ℕ)
+    → TellsSolids decimals number choices solids text → TellsSolids decimals number choices solids other → text ≡ other
+one_telling decimals number [] [] text other first second = first ∙ sym second
+one_telling decimals number [] (s ∷ solids) text other first second = absurd first
+one_telling decimals number (choice ∷ choices) [] text other first second = absurd first
+one_telling decimals number (choice ∷ choices) (s ∷ solids) text other (faces, are, rest, tells, is) (others, are_too, more, tells_too, is_too) =
     let same = one_list_of_faces (is_full s) faces others are are_too in
-    let ends = one_telling (number + 1) choices solids rest more tells tells_too in
-    is ∙ (λ i. solid_text number choice (length s) (same i) ++ ends i) ∙ sym is_too
+    let ends = one_telling decimals (number + 1) choices solids rest more tells tells_too in
+    is ∙ (λ i. solid_text decimals number choice (length s) (same i) ++ ends i) ∙ sym is_too
 
 -- an input has at most one text that lists all its solids
-one_listing : (paged : Bool) (limits : SearchLimits) → TellsOne paged (search_for_all paged limits)
-one_listing paged limits t c d text other (first, pages, are, texts, tells, told) (second, more, are_too, others, tells_too, told_too) =
+one_listing : (paged : Bool) (limits : SearchLimits) (decimals : ℕ) → TellsOne paged (search_for_all paged limits decimals)
+one_listing paged limits decimals t c d text other (first, pages, are, texts, tells, told) (second, more, are_too, others, tells_too, told_too) =
     let one = one_problem first.has second.has in
     let p = first.problem in let q = second.problem in
     let drawing = drawing_of second.has.lines in
@@ -80,9 +80,9 @@ one_listing paged limits t c d text other (first, pages, are, texts, tells, told
     λ i. AreSolidsOfChoices (coordinates_of (one.problem i).grid) (one.problem i).blocks.numbers (one.problem i).blocks.count first.choices (solids i) in
     let choices = one_list_of_block_choices q.grid (λ a. (second.has.grid.coordinates a).ordered) q.blocks.numbers q.blocks.count second.has.blocks.blocks
     first.choices second.choices second.solids (transport filled first.filled) second.filled in
-    let tells_same : TellsSolids 1 first.choices first.solids texts ≡ TellsSolids 1 second.choices second.solids texts =
-    λ i. TellsSolids 1 (choices i) (solids i) texts in
-    let same = one_telling 1 second.choices second.solids texts others (transport tells_same tells) tells_too in
+    let tells_same : TellsSolids t.decimals 1 first.choices first.solids texts ≡ TellsSolids t.decimals 1 second.choices second.solids texts =
+    λ i. TellsSolids t.decimals 1 (choices i) (solids i) texts in
+    let same = one_telling t.decimals 1 second.choices second.solids texts others (transport tells_same tells) tells_too in
     same_behind paged first.choices second.choices pages more choices are are_too (head_of c ++ texts) (head_of d ++ others)
     (λ i. one_head limits t c d i ++ same i) text other told told_too
 
@@ -91,8 +91,8 @@ same_place xs ys k x y same at at_too = let e : Some x ≡ Some y = sym at ∙ a
 
 -- or one that tells the solid of a number, where one is written of each
 one_numbered : (writes : List Cell → List ℕ → Type 0) → ((s : List Cell) (text other : List ℕ) → writes s text → writes s other → text ≡ other)
-    → (which : ℕ) (limits : SearchLimits) → TellsOne false (search_for_one writes which limits)
-one_numbered writes one which limits t c d text other = by
+    → (which : ℕ) (limits : SearchLimits) (decimals : ℕ) → TellsOne false (search_for_one writes which limits decimals)
+one_numbered writes one which limits decimals t c d text other = by
   where
     by : TellsNumbered writes which c.solids text → TellsNumbered writes which d.solids other → text ≡ other
     by (inl (s, (some, at), written)) (inl (u, (some_too, at_too), written_too)) =
@@ -105,8 +105,8 @@ one_numbered writes one which limits t c d text other = by
     by (inr (fewer, told)) (inr (fewer_too, told_too)) = told ∙ ap (no_solid_text which) (one_count limits t Whole Whole c d) ∙ sym told_too
 
 -- a number has one file
-pub one_made_file : (n : ℕ) (text other : List ℕ) → IsFileOf (made_solid n) text → IsFileOf (made_solid n) other → text ≡ other
-one_made_file n text other = one_file (made_solid n) (made_solid n) (λ g. refl) text other
+pub one_made_file : (n : ℕ) (text other : List ℕ) → IsFileOf 0 (made_solid n) text → IsFileOf 0 (made_solid n) other → text ≡ other
+one_made_file n text other = one_file (made_solid n) (made_solid n) (λ g. refl) 0 text other
 
 -- and its drawing one line of figures
 one_figures : (n : ℕ) (text other : List ℕ) → IsTried n text → IsTried n other → text ≡ other
@@ -123,9 +123,9 @@ OwesOne paged (searched s) = TellsOne paged s
 OwesOne paged (alone right tells) = (text other : List ℕ) → tells text → tells other → SameButPages paged text other
 
 one_owed : (said : Option Job) → OwesOne (asks_pages said) (owed said)
-one_owed (Some (job.Solve workers limits pages)) = one_listing pages limits
-one_owed (Some (job.Redraw which workers limits)) = one_numbered IsFileOf (λ s. one_file s s (λ g. refl)) which limits
-one_owed (Some (job.Stl which workers limits)) = one_numbered IsSolidStl one_text which limits
+one_owed (Some (job.Solve workers limits pages decimals)) = one_listing pages limits decimals
+one_owed (Some (job.Redraw which workers limits decimals)) = one_numbered (IsFileOf decimals) (λ s. one_file s s (λ g. refl) decimals) which limits decimals
+one_owed (Some (job.Stl which workers limits)) = one_numbered IsSolidStl one_text which limits 0
 one_owed (Some (job.Make n)) = one_made_file n
 one_owed (Some (job.Trial n workers)) = one_figures n
 one_owed None = λ text other is is_too. is ∙ sym is_too
@@ -150,7 +150,7 @@ module _ (paged : Bool) (a b : Answer) (text other : List ℕ) where
   cuts : IsCut a → IsCut b → SameOrCuts paged a b text other
   cuts cut cut_too = (inr (cut, cut_too), λ none. absurd (none cut))
 
-  module _ (s : Search) (one : TellsOne paged s) (t : List ℕ) where
+  module _ (s : Search) (one : TellsOne paged s) (t : Input) where
     passed : (kind : EndKind) (c : CanEnd s.limits t Whole) (d : CanEnd s.limits t kind) → (kind ≡ Whole → ⊥) → ⊥
     passed kind c d cut = cut (kept_or_passed s.limits t kind c d)
 
@@ -178,7 +178,7 @@ module _ (paged : Bool) (a b : Answer) (text other : List ℕ) where
 
   one_answer_owed : (o : Owed) → OwesOne paged o → (t : List ℕ) (rest left : Option (List ℕ)) → AnswersOwed o (Some t) rest a text
       → AnswersOwed o (Some t) left b other → SameOrCuts paged a b text other
-  one_answer_owed (searched s) one t rest left first second = one_input s one t first.1.1 second.1.1
+  one_answer_owed (searched s) one t rest left first second = one_input s one (input_of s t) first.1.1 second.1.1
   one_answer_owed (alone right tells) one t rest left (reads, is, told) (reads_too, is_too, told_too) =
       same (is ∙ sym is_too) (one text other told told_too)
 

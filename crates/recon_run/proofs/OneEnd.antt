@@ -1,6 +1,6 @@
 -- An input has one list of solids, and one end but for cuts.
 use Rattle.std.proofs.Common.{◌≡◌, refl, ℕ, List, length, subst, ap, arith}
-use Rattle.recon_run.specs.Answers.{CanEnd, head_of, node_count}
+use Rattle.recon_run.specs.Answers.{CanEnd, Input, head_of, node_count}
 use Rattle.recon_run.proofs.Problems.{one_problem}
 use Rattle.report.specs.Texts.{head_text}
 use Rattle.solid_model.specs.declared.cell.Cell.{Cell}
@@ -12,17 +12,17 @@ use Rattle.solid_model.specs.Search.{SearchLimits}
 use Rattle.solid_model.proofs.SolidOrder.{one_list_of_solids}
 
 -- the solids of an input, all of them, are one list
-pub one_solids : (limits : SearchLimits) (t : List ℕ) (kind other : EndKind) (c : CanEnd limits t kind) (d : CanEnd limits t other) → c.solids ≡ d.solids
+pub one_solids : (limits : SearchLimits) (t : Input) (kind other : EndKind) (c : CanEnd limits t kind) (d : CanEnd limits t other) → c.solids ≡ d.solids
 one_solids limits t kind other c d =
     one_list_of_solids (drawing_of d.has.lines) c.solids d.solids
     (subst (λ ls. AreSolidsOf (drawing_of ls) c.solids) (one_problem c.has d.has).lines c.all) d.all
 
-pub one_count : (limits : SearchLimits) (t : List ℕ) (kind other : EndKind) (c : CanEnd limits t kind) (d : CanEnd limits t other)
+pub one_count : (limits : SearchLimits) (t : Input) (kind other : EndKind) (c : CanEnd limits t kind) (d : CanEnd limits t other)
     → length c.solids ≡ length d.solids
 one_count limits t kind other c d = ap (λ (ss : List (List Cell)). length ss) (one_solids limits t kind other c d)
 
 -- where both limits are kept, none is passed
-pub kept_or_passed : (limits : SearchLimits) (t : List ℕ) (kind : EndKind) → CanEnd limits t Whole → CanEnd limits t kind → kind ≡ Whole
+pub kept_or_passed : (limits : SearchLimits) (t : Input) (kind : EndKind) → CanEnd limits t Whole → CanEnd limits t kind → kind ≡ Whole
 kept_or_passed limits t Whole kept passed = refl
 kept_or_passed limits t CutNodes kept passed =
     let same = ap node_count (one_problem kept.has passed.has).problem in let few = kept.allows.0 in let many = passed.allows in absurd (omega arith)
@@ -31,7 +31,7 @@ kept_or_passed limits t CutSolids kept passed =
     let few = kept.allows.1 in let many = passed.allows in absurd (omega arith)
 
 -- and one first line, where it is whole
-pub one_head : (limits : SearchLimits) (t : List ℕ) (c d : CanEnd limits t Whole) → head_of c ≡ head_of d
+pub one_head : (limits : SearchLimits) (t : Input) (c d : CanEnd limits t Whole) → head_of c ≡ head_of d
 one_head limits t c d =
     let p = (one_problem c.has d.has).problem in let solids = one_solids limits t Whole Whole c d in
     λ i. head_text limits Whole (length (solids i)) (node_count (p i)) (p i).blocks.count

@@ -2,7 +2,7 @@
 use Rattle.std.proofs.Common.{◌≡◌, ℕ, List, Option, sym, subst, ◌∙◌}
 use Rattle.dxf_entities.proofs.KeptLines.{read_lines_are_kept}
 use Rattle.dxf_entities.proofs.NearPoints.{ok_value}
-use Rattle.recon_run.specs.Answers.{HasProblem}
+use Rattle.recon_run.specs.Answers.{HasProblem, Input}
 use Rattle.recon_run.proofs.Grids.{one_grid}
 use Rattle.solid_model.specs.declared.cell.Axis.{Axis}
 use Rattle.solid_model.specs.declared.cell.Axis.TheVariants.{X, Y, Z}
@@ -18,9 +18,9 @@ use Rattle.solid_model.proofs.OneNumbering.{one_numbering}
 use Rattle.solid_model.proofs.Sheets.{without_lines-empty}
 
 -- the drawing of its lines keeps what a drawing of three views keeps
-pub problem_drawing : (t : List ℕ) (p : ProblemParts) (has : HasProblem t p) → IsDrawing (drawing_of has.lines)
+pub problem_drawing : (t : Input) (p : ProblemParts) (has : HasProblem t p) → IsDrawing (drawing_of has.lines)
 problem_drawing t p has =
-    lines_are_drawing has.lines (read_lines_are_kept 0 t has.lines has.reads) (λ v none. has.shown v (without_lines-empty has.lines v none))
+    lines_are_drawing has.lines (read_lines_are_kept t.decimals t.bytes has.lines has.reads) (λ v none. has.shown v (without_lines-empty has.lines v none))
 
 -- the blocks of one grid are one numbering
 pub one_block_count : (g h : GridParts) → g ≡ h → (numbers others : List (Option ℕ)) (count many : ℕ) → AreBlocksOf g numbers count → AreBlocksOf h others many
@@ -42,11 +42,11 @@ one_blocks g h same b c are are_too = λ t. record {
     numbered = one_block_count g h same b.numbers c.numbers b.count c.count are.blocks are_too.blocks
 
 -- two problems of an input are one
-pub record AreOneProblem {t : List ℕ} {p q : ProblemParts} (has : HasProblem t p) (has_too : HasProblem t q) : Type 0 where
+pub record AreOneProblem {t : Input} {p q : ProblemParts} (has : HasProblem t p) (has_too : HasProblem t q) : Type 0 where
   pub lines : has.lines ≡ has_too.lines
   pub problem : p ≡ q
 
-pub one_problem : {t : List ℕ} {p q : ProblemParts} (has : HasProblem t p) (has_too : HasProblem t q) → AreOneProblem has has_too
+pub one_problem : {t : Input} {p q : ProblemParts} (has : HasProblem t p) (has_too : HasProblem t q) → AreOneProblem has has_too
 one_problem {t} {p} {q} has has_too =
     let lines : has.lines ≡ has_too.lines = ok_value has.lines has_too.lines (sym has.reads ∙ has_too.reads) in
     let grid = one_grid (drawing_of has_too.lines) p.grid q.grid (subst (λ ls. IsGridOf (drawing_of ls) p.grid) lines has.grid) has_too.grid in

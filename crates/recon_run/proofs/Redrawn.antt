@@ -2,7 +2,7 @@
 use Rattle.std.proofs.Common.{◌≡◌, ℕ, zero, suc, ◌-◌, ◌<◌, ◌≤◌, List, [], ◌∷◌, Bool, Option, Some, inl, inr, refl, sym, ap, subst, ◌∙◌, cond, lt-ltb, le-ltb}
 use Rattle.std.specs.List.{slice_get}
 use Rattle.recon_run.specs.declared.status.Answer.TheVariants as answers
-use Rattle.recon_run.specs.Answers.{CanEnd, HasProblem, first_volume, numbered_answer}
+use Rattle.recon_run.specs.Answers.{CanEnd, HasProblem, Input, first_volume, numbered_answer}
 use Rattle.recon_run.specs.Findings.{IsOnGrid, TellsOne, TellsOneAt, first_choice_volume}
 use Rattle.recon_run.specs.Owed.{search_for_one}
 use Rattle.recon_run.proofs.Solved.{Fill, IsStated, listing, whole_listing}
@@ -53,28 +53,28 @@ fills_at coordinates numbers count (c ∷ choices) (s ∷ solids) filled zero ch
 fills_at coordinates numbers count (c ∷ choices) (s ∷ solids) filled (suc k) choice at =
     fills_at coordinates numbers count choices solids filled.2 k choice at
 
-module _ (limits : SearchLimits) (t : List ℕ) (p : ProblemParts) (has : HasProblem t p) where
+module _ (limits : SearchLimits) (t : Input) (p : ProblemParts) (has : HasProblem t p) where
   -- the solid that a choice fills is on the grid of its drawing
   pub on_grid : (choice : List Bool) (s : List Cell) → IsStated limits t p has s
       → IsUnionOf (coordinates_of p.grid) (cells_of_choice p.blocks.numbers choice) (is_full s) → IsOnGrid p.grid (cells_of_choice p.blocks.numbers choice) s
   on_grid choice s stated union = record { drawing = drawing_of has.lines; grid = has.grid; matches = stated.0; union = union }
 
   -- what is told of one solid of a search that ended so goes with its end
-  one_told_at : (writes : List Cell → List ℕ → Type 0) (which : ℕ) → 1 ≤ which → (kind : EndKind) (opened : ℕ) (choices : List (List Bool))
+  one_told_at : (writes : List Cell → List ℕ → Type 0) (which decimals : ℕ) → 1 ≤ which → (kind : EndKind) (opened : ℕ) (choices : List (List Bool))
       → EndsAs (is_live p) p.blocks.count limits kind opened choices → (text : List ℕ)
       → TellsOneAt writes limits which kind (record { problem = p; ended = record { kind = kind; opened = opened; solids = choices } }) text
-      → (c : CanEnd limits t kind) × (search_for_one writes which limits).tells t kind c text
-  one_told_at writes which some Whole opened choices ends text (inl (choice, at, draws)) =
+      → (c : CanEnd limits t kind) × (search_for_one writes which limits decimals).tells t kind c text
+  one_told_at writes which decimals some Whole opened choices ends text (inl (choice, at, draws)) =
       let is = whole_listing limits t p has opened choices ends in let solids = is.can.solids in
       let (s, at_s, union) = fills_at (coordinates_of p.grid) p.blocks.numbers p.blocks.count choices solids is.filled (which - 1) choice at in
       (is.can, inl (s, (some, at_s), draws s (on_grid choice s (each_get (IsStated limits t p has) solids (which - 1) s is.each at_s) union)))
-  one_told_at writes which some Whole opened choices ends text (inr (fewer, told)) =
+  one_told_at writes which decimals some Whole opened choices ends text (inr (fewer, told)) =
       let is = whole_listing limits t p has opened choices ends in
       let many = as_many (coordinates_of p.grid) p.blocks.numbers p.blocks.count choices is.can.solids is.filled in
       (is.can, inr (subst (λ n. n < which) many fewer, told ∙ ap (no_solid_text which) many))
-  one_told_at writes which some CutNodes opened choices ends text told =
+  one_told_at writes which decimals some CutNodes opened choices ends text told =
       let (solids, listed) = listing limits t p has CutNodes opened choices ends in (listed.can, told ∙ listed.head)
-  one_told_at writes which some CutSolids opened choices ends text told =
+  one_told_at writes which decimals some CutSolids opened choices ends text told =
       let (solids, listed) = listing limits t p has CutSolids opened choices ends in (listed.can, told ∙ listed.head)
 
   -- the first choice fills the first solid
@@ -87,7 +87,7 @@ module _ (limits : SearchLimits) (t : List ℕ) (p : ProblemParts) (has : HasPro
       sym (volume_counts (coordinates_of p.grid) (λ a. (has.grid.coordinates a).ordered) (cells_of_choice p.blocks.numbers choice) s filled.1 each.0.1)
 
 -- what is told of one solid goes with the end
-pub one_told : (writes : List Cell → List ℕ → Type 0) (which : ℕ) (limits : SearchLimits) → 1 ≤ which
-    → TellsRightly (search_for_one writes which limits) (TellsOne writes limits which)
-one_told writes which limits some t s (has, ends) text told =
-    one_told_at limits t s.problem has writes which some s.ended.kind s.ended.opened s.ended.solids ends text told
+pub one_told : (writes : List Cell → List ℕ → Type 0) (which : ℕ) (limits : SearchLimits) (decimals : ℕ) → 1 ≤ which
+    → TellsRightly (search_for_one writes which limits decimals) (TellsOne writes limits which)
+one_told writes which limits decimals some t s (has, ends) text told =
+    one_told_at limits (record { bytes = t; decimals = decimals }) s.problem has writes which decimals some s.ended.kind s.ended.opened s.ended.solids ends text told

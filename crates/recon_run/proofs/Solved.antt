@@ -1,8 +1,8 @@
 -- From the end of a search, and what `solve` tells of it, to the solids that are listed.
 use Rattle.std.proofs.Common.{◌≡◌, ℕ, zero, suc, ◌+◌, ◌<◌, ◌≤◌, List, [], ◌∷◌, ◌++◌, Bool, length, take, inl, inr, refl, sym, ap, subst, ◌∙◌, arith}
 use Rattle.columns.proofs.LivePrefixes.{live_keeps_matching}
-use Rattle.recon_run.specs.Answers.{node_count, HasProblem, CanEnd, AreListed, BeginsToList, ListedSolids, ListsSolids, TellsSolids, head_of}
-use Rattle.recon_run.specs.Findings.{TellsChoices}
+use Rattle.recon_run.specs.Answers.{node_count, HasProblem, Input, CanEnd, AreListed, BeginsToList, ListedSolids, ListsSolids, TellsSolids, head_of}
+use Rattle.recon_run.specs.Findings.{TellsChoices, told_of}
 use Rattle.recon_run.specs.Pages.{Page, ArePagesOf, pages_text}
 use Rattle.recon_run.proofs.Paged.{some_pages}
 use Rattle.recon_run.proofs.Problems.{problem_drawing}
@@ -31,7 +31,7 @@ use Rattle.face_laws.proofs.SomeFaces.{some_faces}
 use Rattle.solid_model.proofs.SolidsOfChoices.{as_many}
 use Rattle.solid_model.proofs.Volumes.{volume_counts}
 
-module _ (limits : SearchLimits) (t : List ℕ) (p : ProblemParts) (has : HasProblem t p) where
+module _ (limits : SearchLimits) (t : Input) (p : ProblemParts) (has : HasProblem t p) where
   abbrev pub drawing : Segment → Style
   drawing = drawing_of has.lines
 
@@ -45,7 +45,7 @@ module _ (limits : SearchLimits) (t : List ℕ) (p : ProblemParts) (has : HasPro
 
   -- the texts that tell choices tell the solids that they fill: a volume is a number of unit cells
   tells_solids : (number : ℕ) (choices : List (List Bool)) (solids : List (List Cell)) → Each IsStated solids → Fill choices solids
-      → (text : List ℕ) → TellsChoices p number choices text → TellsSolids number choices solids text
+      → (text : List ℕ) → TellsChoices (told_of p t.decimals) number choices text → TellsSolids t.decimals number choices solids text
   tells_solids number [] [] each filled text tells = tells
   tells_solids number [] (s ∷ solids) each filled text tells = absurd filled
   tells_solids number (choice ∷ choices) [] each filled text tells = absurd filled
@@ -54,7 +54,7 @@ module _ (limits : SearchLimits) (t : List ℕ) (p : ProblemParts) (has : HasPro
     are (is_full s) filled.1,
     rest,
     tells_solids (number + 1) choices solids each.1 filled.2 rest tells,
-    is ∙ ap (λ bytes. bytes ++ rest) told ∙ ap (λ volume. solid_text number choice volume faces ++ rest)
+    is ∙ ap (λ bytes. bytes ++ rest) told ∙ ap (λ volume. solid_text t.decimals number choice volume faces ++ rest)
         (sym (volume_counts (coordinates_of p.grid) (λ a. (has.grid.coordinates a).ordered) (cells_of_choice p.blocks.numbers choice) s filled.1 each.0.1)),
   )
 
@@ -170,7 +170,7 @@ module _ (limits : SearchLimits) (t : List ℕ) (p : ProblemParts) (has : HasPro
   module _ (paged : Bool) (kind : EndKind) (opened : ℕ) (choices : List (List Bool)) (ends : EndsAs (is_live p) p.blocks.count limits kind opened choices)
       (pages : List Page) (are : ArePagesOf paged choices pages) where
     -- pages, how the search ended, and the texts of all its choices, list its solids
-    pub solved : (texts : List ℕ) → TellsChoices p 1 choices texts → (c : CanEnd limits t kind)
+    pub solved : (texts : List ℕ) → TellsChoices (told_of p t.decimals) 1 choices texts → (c : CanEnd limits t kind)
         × ListsSolids paged limits t kind c (pages_text 0 0 pages ++ (head_text limits kind (length choices) opened p.blocks.count ++ texts))
     solved texts tells =
         let (solids, is) = listing kind opened choices ends in (
@@ -186,7 +186,7 @@ module _ (limits : SearchLimits) (t : List ℕ) (p : ProblemParts) (has : HasPro
         )
 
     -- with the texts of the first of them they begin to be,
-    pub begun : (first : ℕ) (texts : List ℕ) → TellsChoices p 1 (take first choices) texts → (c : CanEnd limits t kind)
+    pub begun : (first : ℕ) (texts : List ℕ) → TellsChoices (told_of p t.decimals) 1 (take first choices) texts → (c : CanEnd limits t kind)
         × BeginsToList paged limits t kind c (pages_text 0 0 pages ++ (head_text limits kind (length choices) opened p.blocks.count ++ texts))
     begun first texts tells =
         let (solids, is) = listing kind opened choices ends in (
@@ -214,13 +214,13 @@ module _ (limits : SearchLimits) (t : List ℕ) (p : ProblemParts) (has : HasPro
 
   -- it can't be that no text tells solids, since none lacks its faces
   some_telling : (number : ℕ) (choices : List (List Bool)) (solids : List (List Cell)) → Fill choices solids
-      → ((text : List ℕ) → TellsSolids number choices solids text → ⊥) → ⊥
+      → ((text : List ℕ) → TellsSolids t.decimals number choices solids text → ⊥) → ⊥
   some_telling number [] [] filled never = never [] refl
   some_telling number [] (s ∷ solids) filled never = absurd filled
   some_telling number (choice ∷ choices) [] filled never = absurd filled
   some_telling number (choice ∷ choices) (s ∷ solids) filled never =
       some_faces s (λ faces are. some_telling (number + 1) choices solids filled.2 (λ rest tells.
-      never (solid_text number choice (length s) faces ++ rest) (faces, are, rest, tells, refl)))
+      never (solid_text t.decimals number choice (length s) faces ++ rest) (faces, are, rest, tells, refl)))
 
   -- or that none lists them where the search ends so
   pub some_listing : (paged : Bool) (kind : EndKind) (opened : ℕ) (choices : List (List Bool)) → EndsAs (is_live p) p.blocks.count limits kind opened choices

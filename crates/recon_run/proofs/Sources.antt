@@ -14,14 +14,15 @@ reads_nothing None limit = ([], omega arith, tt)
 reads_nothing (Some bytes) limit = ([], omega arith, refl)
 
 -- all that was left was read, and what is found in it is found in what was left
-pub found_source : (left rest : Option (List ℕ)) (file : List ℕ) (found : Found) → length file ≤ most_file_bytes
-    → ReadsAll left rest file → IsFoundIn file found → IfSome left (λ t. ReadsAllOrPast t rest × IsFoundIn t found)
-found_source None rest file found short read is = tt
-found_source (Some t) rest file found short read is =
-    (inl (subst (λ s. length s ≤ most_file_bytes) read.0 short, read.1), subst (λ s. IsFoundIn s found) read.0 is)
+pub found_source : (decimals : ℕ) (left rest : Option (List ℕ)) (file : List ℕ) (found : Found) → length file ≤ most_file_bytes
+    → ReadsAll left rest file → IsFoundIn (record { bytes = file; decimals = decimals }) found
+    → IfSome left (λ t. ReadsAllOrPast t rest × IsFoundIn (record { bytes = t; decimals = decimals }) found)
+found_source decimals None rest file found short read is = tt
+found_source decimals (Some t) rest file found short read is =
+    (inl (subst (λ s. length s ≤ most_file_bytes) read.0 short, read.1), subst (λ s. IsFoundIn (record { bytes = s; decimals = decimals }) found) read.0 is)
 
 -- more was left than the most, and the fault is that it is too long
-pub too_long_source : (left rest : Option (List ℕ)) → ReadsPast left rest most_file_bytes
-    → IfSome left (λ t. ReadsAllOrPast t rest × IsFoundIn t (Fault TooLong))
-too_long_source None rest past = tt
-too_long_source (Some t) rest past = (inr past, inl (past.0, refl))
+pub too_long_source : (decimals : ℕ) (left rest : Option (List ℕ)) → ReadsPast left rest most_file_bytes
+    → IfSome left (λ t. ReadsAllOrPast t rest × IsFoundIn (record { bytes = t; decimals = decimals }) (Fault TooLong))
+too_long_source decimals None rest past = tt
+too_long_source decimals (Some t) rest past = (inr past, inl (past.0, refl))

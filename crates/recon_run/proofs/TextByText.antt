@@ -7,7 +7,7 @@ use Rattle.recon_run.specs.declared.status.Failure.{Failure}
 use Rattle.recon_run.specs.declared.status.Failure.TheVariants.{ReadFault, WriteFault, Memory}
 use Rattle.recon_run.specs.Findings.{TellsChoice, TellsChoices, EndsText, EndsWriting}
 use Rattle.recon_run.proofs.Gained.{prefix_after}
-use Rattle.solid_model.specs.Blocks.{ProblemParts}
+use Rattle.report.specs.Texts.{TextsParts}
 use Rattle.tv_base.proofs.Told.{appends_both}
 use Rattle.tv_base.specs.Faults.{Rose}
 use Rattle.tv_base.specs.Pieces.{AppendsPrefix}
@@ -65,7 +65,7 @@ module _ (tells others begins starts : List ℕ → Type 0) (first : List ℕ) (
 -- ---- solids
 
 -- the texts of the first solids, and then that of the next one, are those of one more
-pub tells_more : (p : ProblemParts) (number : ℕ) (choices : List (List Bool)) (place : ℕ) (default choice : List Bool) (text more : List ℕ) → place < length choices
+pub tells_more : (p : TextsParts) (number : ℕ) (choices : List (List Bool)) (place : ℕ) (default choice : List Bool) (text more : List ℕ) → place < length choices
     → get_or choices place default ≡ choice → TellsChoices p number (take place choices) text → TellsChoice p (number + place) choice more
     → TellsChoices p number (take (suc place) choices) (text ++ more)
 tells_more p number [] place default choice text more within at tells told = absurd (omega arith)

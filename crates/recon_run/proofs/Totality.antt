@@ -5,11 +5,11 @@ use Rattle.dxf_entities.specs.Reading.{read_of}
 use Rattle.dxf_entities.proofs.KeptLines.{read_lines_are_kept}
 use Rattle.recon_run.specs.declared.status.Answer.{Answer}
 use Rattle.recon_run.specs.declared.status.Answer.TheVariants as answers
-use Rattle.recon_run.specs.Answers.{usage_text, CanEnd, IsFaultAfter, IsFileFault, HasProblem, IsTried, TellsNumbered, head_of, numbered_answer}
+use Rattle.recon_run.specs.Answers.{usage_text, CanEnd, Input, IsFaultAfter, IsFileFault, HasProblem, IsTried, TellsNumbered, head_of, numbered_answer}
 use Rattle.solid_model.specs.Search.{default_limits, SearchLimits}
 use Rattle.recon_run.specs.Endings.{Answers}
 use Rattle.recon_run.specs.Findings.{IsOnGrid}
-use Rattle.recon_run.specs.Owed.{alone, AnswersOwed, Owed, ReadsAllOrPast, Search, answer_at, in_one_piece, search_for_one, owed, owed_for, searched}
+use Rattle.recon_run.specs.Owed.{alone, AnswersOwed, Owed, ReadsAllOrPast, Search, answer_at, in_one_piece, input_of, search_for_one, owed, owed_for, searched}
 use Rattle.recon_run.proofs.Redrawn.{each_get, fills_at, on_grid}
 use Rattle.recon_run.proofs.Faults.{file_fault}
 use Rattle.recon_run.proofs.PossibleEnds.{can_list}
@@ -90,24 +90,24 @@ grid_with drawing xs ys zs = record { xs = xs; ys = ys; zs = zs; panels = record
     panel v = record { level = grid_styles drawing (along xs ys zs) v false; upright = grid_styles drawing (along xs ys zs) v true }
 
 -- no search of an input's problem ends
-abbrev EndlessSearch : SearchLimits → List ℕ → Type 0
+abbrev EndlessSearch : SearchLimits → Input → Type 0
 EndlessSearch limits t = (p : ProblemParts) → HasProblem t p → (kind : EndKind) (opened : ℕ) (choices : List (List Bool))
     → EndsAs (is_live p) p.blocks.count limits kind opened choices → ⊥
 
-module _ (limits : SearchLimits) (t : List ℕ) (short : length t ≤ most_file_bytes) (faultless : (fault : Fault) → IsFileFault t fault → ⊥)
+module _ (limits : SearchLimits) (t : Input) (short : length t.bytes ≤ most_file_bytes) (faultless : (fault : Fault) → IsFileFault t fault → ⊥)
     (endless : EndlessSearch limits t) where
-  module _ (ls : List Line) (reads : read_of 0 t ≡ Ok ls) where
+  module _ (ls : List Line) (reads : read_of t.decimals t.bytes ≡ Ok ls) where
     abbrev drawing : Segment → Style
     drawing = drawing_of ls
 
     no_fault_after : (f : Fault) → IsFaultAfter (Ok ls) f → ⊥
-    no_fault_after f after = faultless f (file_fault 0 t (Ok ls) f short reads after)
+    no_fault_after f after = faultless f (file_fault t (Ok ls) f short reads after)
 
     shown : IsShown ls
     shown = shown_by_views ls (λ v empty. no_fault_after (EmptyView v) (inl (v, empty, refl)))
 
     is_drawing : IsDrawing drawing
-    is_drawing = lines_are_drawing ls (read_lines_are_kept 0 t ls reads) (λ v none. shown v (without_lines-empty ls v none))
+    is_drawing = lines_are_drawing ls (read_lines_are_kept t.decimals t.bytes ls reads) (λ v none. shown v (without_lines-empty ls v none))
 
     -- no axis is too fine
     not_first : (a : Axis) (count : ℕ) → IsFirstTooFine drawing a count → ⊥
@@ -184,15 +184,15 @@ module _ (limits : SearchLimits) (t : List ℕ) (short : length t ≤ most_file_
         styles xs ys zs Side true = refl
 
   -- it can't be that an input that isn't too long has no fault and no end of a search
-  short_input : (r : Result (List Line) Fault) → read_of 0 t ≡ r → ⊥
-  short_input (Err found) reads = faultless found (file_fault 0 t (Err found) found short reads refl)
+  short_input : (r : Result (List Line) Fault) → read_of t ≡ r → ⊥
+  short_input (Err found) reads = faultless found (file_fault t (Err found) found short reads refl)
   short_input (Ok ls) reads = input_with_lines ls reads
 
 -- it can't be that a text of any length has neither a fault nor an end of a search
-searched_somehow : (limits : SearchLimits) (t : List ℕ) → ((fault : Fault) → IsFileFault t fault → ⊥)
+searched_somehow : (limits : SearchLimits) (t : Input) → ((fault : Fault) → IsFileFault t fault → ⊥)
     → EndlessSearch limits t → ⊥
 searched_somehow limits t faultless endless = ⊎_elim (λ long. faultless TooLong (inl (long, refl)))
-    (λ short. short_input limits t short faultless endless (read_of 0 t) refl) (cases_lt most_file_bytes (length t))
+    (λ short. short_input limits t short faultless endless (read_of t.decimals t.bytes) refl) (cases_lt most_file_bytes (length t.bytes))
 
 -- a source that had t left can have been read to its end, or past the most
 can_be_read : (t : List ℕ) → ((rest : Option (List ℕ)) → ReadsAllOrPast t rest → ⊥) → ⊥
@@ -203,25 +203,25 @@ can_be_read t never = ⊎_elim (λ long. never (Some (drop (most_file_bytes + 1)
 
 -- it can't be that an end of a search is told by no text
 abbrev TellsSome : Search → Type 0
-TellsSome s = (t : List ℕ) (p : ProblemParts) → HasProblem t p → (kind : EndKind) (opened : ℕ) (choices : List (List Bool))
+TellsSome s = (t : Input) (p : ProblemParts) → HasProblem t p → (kind : EndKind) (opened : ℕ) (choices : List (List Bool))
     → EndsAs (is_live p) p.blocks.count s.limits kind opened choices
     → ((c : CanEnd s.limits t kind) (text : List ℕ) → s.tells t kind c text → ⊥) → ⊥
 
 -- nor one of a search that answers in one piece, if no whole one lacks its text, whose solids some choices fill
-some_in_one_piece : (limits : SearchLimits) (whole : ℕ → Answer) (tells : (t : List ℕ) → CanEnd limits t Whole → List ℕ → Type 0)
-    → ((t : List ℕ) (p : ProblemParts) (has : HasProblem t p) (opened : ℕ) (choices : List (List Bool)) (is : IsWholeListing limits t p has opened choices)
-    → ((text : List ℕ) → tells t is.can text → ⊥) → ⊥) → TellsSome (in_one_piece limits whole tells)
-some_in_one_piece limits whole tells some t p has Whole opened choices ends never =
+some_in_one_piece : (limits : SearchLimits) (decimals : ℕ) (whole : ℕ → Answer) (tells : (t : Input) → CanEnd limits t Whole → List ℕ → Type 0)
+    → ((t : Input) (p : ProblemParts) (has : HasProblem t p) (opened : ℕ) (choices : List (List Bool)) (is : IsWholeListing limits t p has opened choices)
+    → ((text : List ℕ) → tells t is.can text → ⊥) → ⊥) → TellsSome (in_one_piece limits decimals whole tells)
+some_in_one_piece limits decimals whole tells some t p has Whole opened choices ends never =
     let is = whole_listing limits t p has opened choices ends in some t p has opened choices is (never is.can)
-some_in_one_piece limits whole tells some t p has CutNodes opened choices ends never =
+some_in_one_piece limits decimals whole tells some t p has CutNodes opened choices ends never =
     let (solids, is) = listing limits t p has CutNodes opened choices ends in never is.can (head_of is.can) refl
-some_in_one_piece limits whole tells some t p has CutSolids opened choices ends never =
+some_in_one_piece limits decimals whole tells some t p has CutSolids opened choices ends never =
     let (solids, is) = listing limits t p has CutSolids opened choices ends in never is.can (head_of is.can) refl
 
 -- a whole search has a solid of a number, of which something is written; or there are fewer
 module _ (writes : List Cell → List ℕ → Type 0) (written : (g : GridParts) (chosen : List Bool) (s : List Cell) → IsOnGrid g chosen s → (text : List ℕ) × writes s text)
-    (which : ℕ) (some : 1 ≤ which) (limits : SearchLimits) where
-  module _ (t : List ℕ) (p : ProblemParts) (has : HasProblem t p) (opened : ℕ) (choices : List (List Bool)) (is : IsWholeListing limits t p has opened choices)
+    (which : ℕ) (some : 1 ≤ which) (limits : SearchLimits) (decimals : ℕ) where
+  module _ (t : Input) (p : ProblemParts) (has : HasProblem t p) (opened : ℕ) (choices : List (List Bool)) (is : IsWholeListing limits t p has opened choices)
       (never : (text : List ℕ) → TellsNumbered writes which is.can.solids text → ⊥) where
     many : length choices ≡ length is.can.solids
     many = as_many (coordinates_of p.grid) p.blocks.numbers p.blocks.count choices is.can.solids is.filled
@@ -239,12 +239,12 @@ module _ (writes : List Cell → List ℕ → Type 0) (written : (g : GridParts)
         (λ enough. choice_at (slice_get choices (which - 1)) refl (let e = many in let within : which - 1 < length choices = omega (arith, e, some, enough) in within))
         (cases_lt (length is.can.solids) which)
 
-  some_numbered : TellsSome (search_for_one writes which limits)
-  some_numbered = some_in_one_piece limits (numbered_answer which) (λ t c. TellsNumbered writes which c.solids) never_lacking
+  some_numbered : TellsSome (search_for_one writes which limits decimals)
+  some_numbered = some_in_one_piece limits decimals (numbered_answer which) (λ t c. TellsNumbered writes which c.solids) never_lacking
 
 -- no solid lacks a file,
-some_written_file : (s : List Cell) → IsSolid s → ((text : List ℕ) → IsFileOf s text → ⊥) → ⊥
-some_written_file s is never = let (text, file) = some_file s is in never text file
+some_written_file : (s : List Cell) → IsSolid s → ((text : List ℕ) → IsFileOf 0 s text → ⊥) → ⊥
+some_written_file s is never = let (text, file) = some_file s is 0 in never text file
 
 -- nor an STL text, where it is on a grid
 some_stl : (g : GridParts) (chosen : List Bool) (s : List Cell) → IsOnGrid g chosen s → (text : List ℕ) × IsSolidStl s text
@@ -253,9 +253,9 @@ some_stl g chosen s on = some_text on.drawing (coordinates_of g) on.grid.coordin
 -- the search of a made file ends, and has figures
 tried_somehow : (n : ℕ) → ((text : List ℕ) → IsTried n text → ⊥) → ⊥
 tried_somehow n never =
-    let (t, file) = some_file (made_solid n) (made_is_solid n) in
+    let (t, file) = some_file (made_solid n) (made_is_solid n) 0 in
     let p = made_problem n in let has = made_has_problem n t file in
-    let end = can_list (is_live p) p.blocks.count default_limits (matching default_limits t p has).ordered [] tt tt (omega arith) in
+    let end = can_list (is_live p) p.blocks.count default_limits (matching default_limits (record { bytes = t; decimals = 0 }) p has).ordered [] tt tt (omega arith) in
     never _ (figures_are n t file p has end.kind end.opened end.choices end.ends _ refl)
 
 -- what is owed for a job is told by some text
@@ -264,9 +264,9 @@ OwesSome (searched s) = TellsSome s
 OwesSome (alone right tells) = ((text : List ℕ) → tells text → ⊥) → ⊥
 
 some_owed : (j : Job) → IsCounted j → OwesSome (owed_for j)
-some_owed (job.Solve workers limits pages) counted = λ t p has. some_listing limits t p has pages
-some_owed (job.Redraw which workers limits) counted = some_numbered IsFileOf (λ g chosen s on. some_file s on.matches.0) which counted.0 limits
-some_owed (job.Stl which workers limits) counted = some_numbered IsSolidStl some_stl which counted.0 limits
+some_owed (job.Solve workers limits pages decimals) counted = λ t p has. some_listing limits t p has pages
+some_owed (job.Redraw which workers limits decimals) counted = some_numbered (IsFileOf decimals) (λ g chosen s on. some_file s on.matches.0 decimals) which counted.0 limits decimals
+some_owed (job.Stl which workers limits) counted = some_numbered IsSolidStl some_stl which counted.0 limits 0
 some_owed (job.Make n) counted = some_written_file (made_solid n) (made_is_solid n)
 some_owed (job.Trial n workers) counted = tried_somehow n
 
@@ -276,9 +276,9 @@ some_owed (job.Trial n workers) counted = tried_somehow n
 answered : (o : Owed) → OwesSome o → (t : List ℕ)
     → ((rest : Option (List ℕ)) (answer : Answer) (text : List ℕ) → AnswersOwed o (Some t) rest answer text → ⊥) → ⊥
 answered (alone right tells) some t never = some (λ text is. never (Some t) right text (refl, refl, is))
-answered (searched s) some t never = can_be_read t (λ rest reads. searched_somehow s.limits t
+answered (searched s) some t never = can_be_read t (λ rest reads. searched_somehow s.limits (input_of s t)
     (λ fault is. never rest answers.Faulty (fault_text fault) (inl refl, (reads, inl (refl, (fault, is, refl)))))
-    (λ p has kind opened choices ends. some t p has kind opened choices ends (λ c text tells.
+    (λ p has kind opened choices ends. some (input_of s t) p has kind opened choices ends (λ c text tells.
     never rest (answer_at s.whole kind (length c.solids)) text (inr (kind, length c.solids, refl), (reads, inr (kind, c, refl, tells))))))
 
 pub answered_somehow : (words : List (List ℕ)) (t : List ℕ)

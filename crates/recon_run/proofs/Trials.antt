@@ -7,7 +7,7 @@ use Rattle.made_laws.proofs.MadeFiles.{made_file_reads_back}
 use Rattle.made_laws.proofs.MadeLimits.{few_made_blocks, few_made_choices, few_made_nodes, made_blocks_are, made_problem}
 use Rattle.made_laws.proofs.SomeMadeGrid.{made_grid_is}
 use Rattle.redraw.specs.Files.{IsFileOf}
-use Rattle.recon_run.specs.Answers.{HasNoFault, HasProblem, IsTried, made_drawing, node_count}
+use Rattle.recon_run.specs.Answers.{HasNoFault, HasProblem, Input, IsTried, made_drawing, node_count}
 use Rattle.recon_run.specs.Findings.{figures_text}
 use Rattle.recon_run.proofs.Faults.{no_fault}
 use Rattle.recon_run.proofs.Redrawn.{first_counts}
@@ -28,19 +28,22 @@ use Rattle.solid_model.specs.Panels.{coordinates_of, IsGridOf}
 use Rattle.solid_model.specs.SearchEnds.{EndsAs}
 use Rattle.solid_model.specs.Search.{default_limits}
 
-module _ (n : ℕ) (t : List ℕ) (file : IsFileOf (made_solid n) t) where
+module _ (n : ℕ) (t : List ℕ) (file : IsFileOf 0 (made_solid n) t) where
   -- the lines that are read draw the made drawing
   drawn : (lines : List Line) → read_of 0 t ≡ Ok lines → drawing_of lines ≡ made_drawing n
   drawn lines reads =
       let (back, same) = made_file_reads_back n t file in
       ap drawing_of (ok_value lines back.lines (sym reads ∙ back.reads)) ∙ (λ i segment. same segment i)
 
+  abbrev pub input : Input
+  input = record { bytes = t; decimals = 0 }
+
   -- it isn't too long,
   pub made_is_short : length t ≤ most_file_bytes
   made_is_short = (made_file_reads_back n t file).0.short
 
   -- it has a problem, that of the made drawing,
-  pub made_has_problem : HasProblem t (made_problem n)
+  pub made_has_problem : HasProblem input (made_problem n)
   made_has_problem =
       let (back, same) = made_file_reads_back n t file in
       record {
@@ -54,19 +57,19 @@ module _ (n : ℕ) (t : List ℕ) (file : IsFileOf (made_solid n) t) where
       }
 
   -- and no fault
-  pub made_is_faultless : HasNoFault t
+  pub made_is_faultless : HasNoFault input
   made_is_faultless = no_fault made_has_problem
 
   -- the figures of its search are those of the made drawing's
-  pub figures_are : (p : ProblemParts) → HasProblem t p → (kind : EndKind) (opened : ℕ) (choices : List (List Bool))
+  pub figures_are : (p : ProblemParts) → HasProblem input p → (kind : EndKind) (opened : ℕ) (choices : List (List Bool))
       → EndsAs (is_live p) p.blocks.count default_limits kind opened choices → (text : List ℕ)
       → text ≡ figures_text n (record { problem = p; ended = record { kind = kind; opened = opened; solids = choices } }) → IsTried n text
   figures_are p has Whole opened choices ends text told =
-      let is = whole_listing default_limits t p has opened choices ends in
+      let is = whole_listing default_limits input p has opened choices ends in
       let c = is.can in
       let same = sym is.problem in
       let many = as_many (coordinates_of p.grid) p.blocks.numbers p.blocks.count choices c.solids is.filled in
-      let volume = first_counts default_limits t p has choices c.solids is.each is.filled in
+      let volume = first_counts default_limits input p has choices c.solids is.each is.filled in
       let nodes = is.counted ∙ ap node_count same in
       record {
         problem = c.problem;

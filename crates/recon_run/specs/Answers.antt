@@ -30,6 +30,11 @@ use Rattle.solid_model.specs.Panels.{GridParts, coordinates_of, IsGridOf}
 use Rattle.solid_model.specs.Search.{SearchLimits, default_limits}
 use Rattle.solid_model.specs.Tree.{live_count}
 
+-- an input: the bytes of a file, and how many decimals its coordinates are read with
+pub record Input : Type 0 where
+  pub bytes : List ℕ
+  pub decimals : ℕ
+
 -- ---- the faults of an input
 
 -- lines have this first empty view
@@ -51,34 +56,26 @@ abbrev pub IsFaultAfter : Result (List Line) Fault → Fault → Type 0
 IsFaultAfter (Err found) fault = fault ≡ found
 IsFaultAfter (Ok ls) fault = HasEmptyView ls fault ⊎ (HasFineAxis ls fault ⊎ HasManyBlocks ls fault)
 
--- the first fault of a file that is read with so many decimals: it is too long, or else that of what it reads as
-abbrev pub IsFaultOf : ℕ → List ℕ → Fault → Type 0
-IsFaultOf decimals t fault = ((most_file_bytes < length t) × (fault ≡ TooLong))
-    ⊎ ((length t ≤ most_file_bytes) × IsFaultAfter (read_of decimals t) fault)
-
--- that of an input, which is read without decimals
-abbrev pub IsFileFault : List ℕ → Fault → Type 0
-IsFileFault t fault = IsFaultOf 0 t fault
+-- the first fault of an input: its file is too long, or else that of what it reads as
+abbrev pub IsFileFault : Input → Fault → Type 0
+IsFileFault t fault = ((most_file_bytes < length t.bytes) × (fault ≡ TooLong))
+    ⊎ ((length t.bytes ≤ most_file_bytes) × IsFaultAfter (read_of t.decimals t.bytes) fault)
 
 -- the input has no fault
-abbrev pub HasNoFault : List ℕ → Type 0
+abbrev pub HasNoFault : Input → Type 0
 HasNoFault t = (fault : Fault) → IsFileFault t fault → ⊥
 
 -- ---- the problem of an input
 
--- a file without a fault that is read with so many decimals: its lines, and the grid of their drawing with its blocks
-pub record IsProblemOf (decimals : ℕ) (t : List ℕ) (p : ProblemParts) : Type 0 where
-  pub short : length t ≤ most_file_bytes
+-- an input without a fault: its lines, and the grid of their drawing with its blocks
+pub record HasProblem (t : Input) (p : ProblemParts) : Type 0 where
+  pub short : length t.bytes ≤ most_file_bytes
   pub lines : List Line
-  pub reads : read_of decimals t ≡ Ok lines
+  pub reads : read_of t.decimals t.bytes ≡ Ok lines
   pub shown : IsShown lines
   pub grid : IsGridOf (drawing_of lines) p.grid
   pub blocks : IsBlocksOf p.grid p.blocks
   pub few : p.blocks.count ≤ most_blocks
-
--- that of an input, which is read without decimals
-abbrev pub HasProblem : List ℕ → ProblemParts → Type 0
-HasProblem t p = IsProblemOf 0 t p
 
 -- ---- the ends of a search
 
@@ -94,7 +91,7 @@ AllowsEnd limits p solids CutNodes = limits.nodes < node_count p
 AllowsEnd limits p solids CutSolids = limits.solids < length solids
 
 -- the input has no fault, and its live prefixes and the solids that match its drawing keep or pass the limits so
-pub record CanEnd (limits : SearchLimits) (t : List ℕ) (kind : EndKind) : Type 0 where
+pub record CanEnd (limits : SearchLimits) (t : Input) (kind : EndKind) : Type 0 where
   pub problem : ProblemParts
   pub has : HasProblem t problem
   pub solids : List (List Cell)
@@ -114,7 +111,7 @@ abbrev pub usage_text : List ℕ
 usage_text = codes "usage: recon solve|redraw|make|trial\n"
 
 -- the first line, where a search of the input ends so
-abbrev pub head_of : {limits : SearchLimits} {t : List ℕ} {kind : EndKind} → CanEnd limits t kind → List ℕ
+abbrev pub head_of : {limits : SearchLimits} {t : Input} {kind : EndKind} → CanEnd limits t kind → List ℕ
 head_of {limits} {t} {kind} c = head_text limits kind (length c.solids) (node_count c.problem) c.problem.blocks.count
 
 -- ---- `solve`
@@ -126,7 +123,7 @@ AreListed limits drawing CutNodes solids = AreSomeSolidsOf drawing solids × (le
 AreListed limits drawing CutSolids solids = AreSomeSolidsOf drawing solids × (length solids ≡ limits.solids)
 
 -- solids that the input's drawing shows, as an end of this kind lists them, and the choices of blocks that fill them
-pub record ListedSolids (limits : SearchLimits) (t : List ℕ) (kind : EndKind) : Type 0 where
+pub record ListedSolids (limits : SearchLimits) (t : Input) (kind : EndKind) : Type 0 where
   pub problem : ProblemParts
   pub has : HasProblem t problem
   pub solids : List (List Cell)
@@ -134,26 +131,27 @@ pub record ListedSolids (limits : SearchLimits) (t : List ℕ) (kind : EndKind) 
   pub choices : List (List Bool)
   pub filled : AreSolidsOfChoices (coordinates_of problem.grid) problem.blocks.numbers problem.blocks.count choices solids
 
--- The texts of solids, numbered from this number on: each tells the choice that fills the solid, its number of unit cells, and
--- its faces.
-abbrev pub TellsSolids : ℕ → List (List Bool) → List (List Cell) → List ℕ → Type 0
-TellsSolids number [] [] text = text ≡ []
-TellsSolids number (choice ∷ choices) (s ∷ solids) text = (faces : List FaceParts) × AreFacesOf (is_full s) faces
-    × (rest : List ℕ) × TellsSolids (number + 1) choices solids rest × (text ≡ solid_text number choice (length s) faces ++ rest)
-TellsSolids number _ _ text = ⊥
+-- The texts of solids, numbered from this number on, with so many decimals: each tells the choice that fills the solid, its
+-- number of unit cells, and its faces.
+abbrev pub TellsSolids : ℕ → ℕ → List (List Bool) → List (List Cell) → List ℕ → Type 0
+TellsSolids decimals number [] [] text = text ≡ []
+TellsSolids decimals number (choice ∷ choices) (s ∷ solids) text = (faces : List FaceParts) × AreFacesOf (is_full s) faces
+    × (rest : List ℕ) × TellsSolids decimals (number + 1) choices solids rest
+    × (text ≡ solid_text decimals number choice (length s) faces ++ rest)
+TellsSolids decimals number _ _ text = ⊥
 
 -- Where a search ends so, the text lists solids, as an end of this kind has it: pages of them, if they are asked for; then how
 -- the search ended, and then all of them.
-abbrev pub ListsSolids : Bool → (limits : SearchLimits) (t : List ℕ) (kind : EndKind) → CanEnd limits t kind → List ℕ → Type 0
+abbrev pub ListsSolids : Bool → (limits : SearchLimits) (t : Input) (kind : EndKind) → CanEnd limits t kind → List ℕ → Type 0
 ListsSolids paged limits t kind c text = (l : ListedSolids limits t kind) × (pages : List Page) × ArePagesOf paged l.choices pages
-    × (texts : List ℕ) × TellsSolids 1 l.choices l.solids texts × (text ≡ pages_text 0 0 pages ++ (head_of c ++ texts))
+    × (texts : List ℕ) × TellsSolids t.decimals 1 l.choices l.solids texts × (text ≡ pages_text 0 0 pages ++ (head_of c ++ texts))
 
 -- The text begins to list them: it has the first of the pages; or all pages, how the search ended, and then the first of the
 -- solids.
-abbrev pub BeginsToList : Bool → (limits : SearchLimits) (t : List ℕ) (kind : EndKind) → CanEnd limits t kind → List ℕ → Type 0
+abbrev pub BeginsToList : Bool → (limits : SearchLimits) (t : Input) (kind : EndKind) → CanEnd limits t kind → List ℕ → Type 0
 BeginsToList paged limits t kind c text = (l : ListedSolids limits t kind) × (pages : List Page) × ArePagesOf paged l.choices pages
     × (first : ℕ) × ((text ≡ pages_text 0 0 (take first pages))
-    ⊎ ((texts : List ℕ) × TellsSolids 1 (take first l.choices) (take first l.solids) texts
+    ⊎ ((texts : List ℕ) × TellsSolids t.decimals 1 (take first l.choices) (take first l.solids) texts
     × (text ≡ pages_text 0 0 pages ++ (head_of c ++ texts))))
 
 -- ---- `redraw`

@@ -5,8 +5,8 @@ use Rattle.recon_run.specs.declared.status.Answer.{Answer}
 use Rattle.recon_run.specs.declared.status.Answer.TheVariants as answers
 use Rattle.recon_run.specs.declared.status.Failure.{Failure}
 use Rattle.recon_run.specs.declared.status.Failure.TheVariants.{ReadFault, WriteFault, Memory}
-use Rattle.recon_run.specs.Answers.{CanEnd}
-use Rattle.recon_run.specs.Owed.{AnswersOwed, Owed, Search, answer_at, begun, owed, reads_source, alone, searched}
+use Rattle.recon_run.specs.Answers.{CanEnd, Input}
+use Rattle.recon_run.specs.Owed.{AnswersOwed, Owed, Search, answer_at, begun, input_of, owed, reads_source, alone, searched}
 use Rattle.recon_run.specs.Pages.{Page, choices_on, pages_text}
 use Rattle.recon_run.specs.Status.{Status, answer_code, failure_code}
 use Rattle.solid_model.specs.declared.ended.EndKind.{EndKind}
@@ -50,14 +50,14 @@ Ends o left rest held now source_rose sink_rose (Err Memory) = Keeps held now �
 abbrev pub AnswersOrFails : Answer → ℕ → Type 0
 AnswersOrFails answer code = (code ≡ answer_code answer) ⊎ ((failure : Failure) × (code ≡ failure_code failure))
 
--- the number is that of an end whose limits the text keeps or passes so, or of a failure
-abbrev pub EndsOrFails : Search → List ℕ → ℕ → Type 0
+-- the number is that of an end whose limits the input keeps or passes so, or of a failure
+abbrev pub EndsOrFails : Search → Input → ℕ → Type 0
 EndsOrFails s t code = ((kind : EndKind) × (c : CanEnd s.limits t kind) × (code ≡ answer_code (answer_at s.whole kind (length c.solids))))
     ⊎ ((failure : Failure) × (code ≡ failure_code failure))
 
--- where a search is owed, and the source tells what it had left, this holds of them
-abbrev pub OfSearch : Owed → Option (List ℕ) → (Search → List ℕ → Type 0) → Type 0
-OfSearch (searched s) left P = IfSome left (P s)
+-- where a search is owed, and the source tells what it had left, this holds of the search and its input
+abbrev pub OfSearch : Owed → Option (List ℕ) → (Search → Input → Type 0) → Type 0
+OfSearch (searched s) left P = IfSome left (λ t. P s (input_of s t))
 OfSearch (alone answer tells) left P = Unit {0}
 
 -- where one answer is owed, this holds of it

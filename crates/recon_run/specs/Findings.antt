@@ -7,14 +7,14 @@ use Rattle.recon_run.specs.declared.status.Answer.{Answer}
 use Rattle.recon_run.specs.declared.status.Answer.TheVariants as answers
 use Rattle.recon_run.specs.declared.status.Failure.{Failure}
 use Rattle.recon_run.specs.declared.status.Failure.TheVariants.{ReadFault, WriteFault, Memory}
-use Rattle.recon_run.specs.Answers.{IsFileFault, HasProblem, numbered_answer}
+use Rattle.recon_run.specs.Answers.{Input, IsFileFault, HasProblem, numbered_answer}
 use Rattle.recon_run.specs.Owed.{answer_at}
 use Rattle.recon_run.specs.Searched.{SearchedParts}
 use Rattle.recon_run.specs.Pages.{Page, ArePagesOf, pages_text}
 use Rattle.search_run.specs.declared.page_out.RunFault.{RunFault}
 use Rattle.search_run.specs.declared.page_out.RunFault.TheVariants as run_fault
 use Rattle.report.specs.FaultText.{fault_text}
-use Rattle.report.specs.Texts.{head_text, no_solid_text, solid_text, trial_text}
+use Rattle.report.specs.Texts.{TextsParts, head_text, no_solid_text, solid_text, trial_text}
 use Rattle.solid_model.specs.declared.cell.Cell.{Cell}
 use Rattle.solid_model.specs.declared.ended.EndKind.{EndKind}
 use Rattle.solid_model.specs.declared.ended.EndKind.TheVariants.{Whole, CutNodes, CutSolids}
@@ -35,8 +35,8 @@ use Rattle.tv_base.specs.Pieces.{AppendsPrefix}
 
 -- ---- what is found
 
--- what is found in a file: its problem, or its first fault
-abbrev pub IsFoundIn : List ℕ → Found → Type 0
+-- what is found in an input: its problem, or its first fault
+abbrev pub IsFoundIn : Input → Found → Type 0
 IsFoundIn t (Problem p) = HasProblem t p
 IsFoundIn t (Fault fault) = IsFileFault t fault
 
@@ -55,32 +55,38 @@ AreFacesOfChoice p choice faces =
 abbrev pub choice_volume : ProblemParts → List Bool → ℕ
 choice_volume p choice = volume_of (coordinates_of p.grid) (cells_of_choice p.blocks.numbers choice)
 
--- the text of the solid of this number that a choice fills
-abbrev pub TellsChoice : ProblemParts → ℕ → List Bool → List ℕ → Type 0
-TellsChoice p number choice text = (faces : List FaceParts) × AreFacesOfChoice p choice faces
-    × (text ≡ solid_text number choice (choice_volume p choice) faces)
+-- the text of the solid of this number that a choice of a problem fills, with so many decimals
+abbrev pub TellsChoice : TextsParts → ℕ → List Bool → List ℕ → Type 0
+TellsChoice p number choice text = (faces : List FaceParts) × AreFacesOfChoice p.problem choice faces
+    × (text ≡ solid_text p.decimals number choice (choice_volume p.problem choice) faces)
 
 -- the texts of those that choices fill, numbered from this number on
-abbrev pub TellsChoices : ProblemParts → ℕ → List (List Bool) → List ℕ → Type 0
+abbrev pub TellsChoices : TextsParts → ℕ → List (List Bool) → List ℕ → Type 0
 TellsChoices p number [] text = text ≡ []
 TellsChoices p number (choice ∷ choices) text = (first : List ℕ) × TellsChoice p number choice first
     × (rest : List ℕ) × TellsChoices p (number + 1) choices rest × (text ≡ first ++ rest)
 
 -- or of the first of them
-abbrev pub BeginsChoices : ProblemParts → ℕ → List (List Bool) → List ℕ → Type 0
+abbrev pub BeginsChoices : TextsParts → ℕ → List (List Bool) → List ℕ → Type 0
 BeginsChoices p number choices text = (first : ℕ) × TellsChoices p number (take first choices) text
 
 -- the first line that is told of a search
 abbrev pub search_head : SearchLimits → SearchedParts → List ℕ
 search_head limits s = head_text limits s.ended.kind (length s.ended.solids) s.ended.opened s.problem.blocks.count
 
--- the text tells a search and its solids
-abbrev pub TellsAll : SearchLimits → SearchedParts → List ℕ → Type 0
-TellsAll limits s text = (texts : List ℕ) × TellsChoices s.problem 1 s.ended.solids texts × (text ≡ search_head limits s ++ texts)
+-- what is told of solids of a problem: it, with so many decimals
+abbrev pub told_of : ProblemParts → ℕ → TextsParts
+told_of p decimals = record { problem = p; decimals = decimals }
+
+-- the text tells a search and its solids, with so many decimals
+abbrev pub TellsAll : SearchLimits → ℕ → SearchedParts → List ℕ → Type 0
+TellsAll limits decimals s text =
+    (texts : List ℕ) × TellsChoices (told_of s.problem decimals) 1 s.ended.solids texts × (text ≡ search_head limits s ++ texts)
 
 -- it begins to tell that: a search and the first of its solids
-abbrev pub BeginsAll : SearchLimits → SearchedParts → List ℕ → Type 0
-BeginsAll limits s text = (texts : List ℕ) × BeginsChoices s.problem 1 s.ended.solids texts × (text ≡ search_head limits s ++ texts)
+abbrev pub BeginsAll : SearchLimits → ℕ → SearchedParts → List ℕ → Type 0
+BeginsAll limits decimals s text =
+    (texts : List ℕ) × BeginsChoices (told_of s.problem decimals) 1 s.ended.solids texts × (text ≡ search_head limits s ++ texts)
 
 -- ---- what `solve` tells of it
 
@@ -93,13 +99,14 @@ abbrev pub BeginsPages : Bool → SearchedParts → List ℕ → Type 0
 BeginsPages paged s text = (pages : List Page) × ArePagesOf paged s.ended.solids pages × (first : ℕ) × (text ≡ pages_text 0 0 (take first pages))
 
 -- the text tells pages, and then a search and its solids
-abbrev pub TellsPaged : Bool → SearchLimits → SearchedParts → List ℕ → Type 0
-TellsPaged paged limits s text = (before : List ℕ) × TellsPages paged s before × (rest : List ℕ) × TellsAll limits s rest × (text ≡ before ++ rest)
+abbrev pub TellsPaged : Bool → SearchLimits → ℕ → SearchedParts → List ℕ → Type 0
+TellsPaged paged limits decimals s text =
+    (before : List ℕ) × TellsPages paged s before × (rest : List ℕ) × TellsAll limits decimals s rest × (text ≡ before ++ rest)
 
 -- it begins to tell that
-abbrev pub BeginsPaged : Bool → SearchLimits → SearchedParts → List ℕ → Type 0
-BeginsPaged paged limits s text = BeginsPages paged s text
-    ⊎ ((before : List ℕ) × TellsPages paged s before × (rest : List ℕ) × BeginsAll limits s rest × (text ≡ before ++ rest))
+abbrev pub BeginsPaged : Bool → SearchLimits → ℕ → SearchedParts → List ℕ → Type 0
+BeginsPaged paged limits decimals s text = BeginsPages paged s text
+    ⊎ ((before : List ℕ) × TellsPages paged s before × (rest : List ℕ) × BeginsAll limits decimals s rest × (text ≡ before ++ rest))
 
 -- a search of the problem within limits has ended so, and these are such texts of it
 abbrev pub TellsSearch : SearchLimits → ProblemParts → (SearchedParts → List ℕ → Type 0) → SearchedParts → List ℕ → Type 0

@@ -3,7 +3,7 @@ use Rattle.std.specs.Prelude.{◌≡◌, ◌⊎◌, Bool, true, false, ℕ, ◌�
 use Rattle.drawing_maker.specs.Made.{made_solid}
 use Rattle.recon_run.specs.declared.status.Answer.{Answer}
 use Rattle.recon_run.specs.declared.status.Answer.TheVariants as answers
-use Rattle.recon_run.specs.Answers.{BeginsToList, CanEnd, IsFileFault, IsTried, ListsSolids, TellsNumbered, head_of, numbered_answer, usage_text}
+use Rattle.recon_run.specs.Answers.{BeginsToList, CanEnd, Input, IsFileFault, IsTried, ListsSolids, TellsNumbered, head_of, numbered_answer, usage_text}
 use Rattle.redraw.specs.Files.{IsFileOf}
 use Rattle.report.specs.FaultText.{fault_text}
 use Rattle.solid_model.specs.declared.cell.Cell.{Cell}
@@ -19,13 +19,14 @@ use Rattle.words.specs.declared.job.Job.TheVariants as job
 
 -- ---- searches
 
--- A search of what the source has left: its limits; the answer where it is whole, by how many solids match; the texts that tell
+-- A search of what the source has left: how many decimals its coordinates are read with; its limits; the answer where it is whole, by how many solids match; the texts that tell
 -- that the search of an input ends so; and those that begin to tell it.
 pub record Search : Type 1 where
+  pub decimals : ℕ
   pub limits : SearchLimits
   pub whole : ℕ → Answer
-  pub tells : (t : List ℕ) (kind : EndKind) → CanEnd limits t kind → List ℕ → Type 0
-  pub begins : (t : List ℕ) (kind : EndKind) → CanEnd limits t kind → List ℕ → Type 0
+  pub tells : (t : Input) (kind : EndKind) → CanEnd limits t kind → List ℕ → Type 0
+  pub begins : (t : Input) (kind : EndKind) → CanEnd limits t kind → List ℕ → Type 0
 
 -- the answer where a search ends so and so many solids match, by that to a whole one
 abbrev pub answer_at : (ℕ → Answer) → EndKind → ℕ → Answer
@@ -34,30 +35,40 @@ answer_at whole CutNodes solids = answers.CutNodes
 answer_at whole CutSolids solids = answers.CutSolids
 
 -- a search for all solids, which are listed, after pages of them or without
-abbrev pub search_for_all : Bool → SearchLimits → Search
-search_for_all paged limits =
-    record { limits = limits; whole = λ solids. answers.Done; tells = ListsSolids paged limits; begins = BeginsToList paged limits }
+abbrev pub search_for_all : Bool → SearchLimits → ℕ → Search
+search_for_all paged limits decimals = record {
+  decimals = decimals;
+  limits = limits;
+  whole = λ solids. answers.Done;
+  tells = ListsSolids paged limits;
+  begins = BeginsToList paged limits;
+}
 
 -- the same with the texts that begin to tell
 abbrev pub beginning : Search → Search
-beginning s = record { limits = s.limits; whole = s.whole; tells = s.begins; begins = s.begins }
+beginning s = record { decimals = s.decimals; limits = s.limits; whole = s.whole; tells = s.begins; begins = s.begins }
 
 -- where a search is whole, this text; at a cut how it ended, alone
-abbrev pub WholeOrHead : (limits : SearchLimits) → ((t : List ℕ) → CanEnd limits t Whole → List ℕ → Type 0)
-    → (t : List ℕ) (kind : EndKind) → CanEnd limits t kind → List ℕ → Type 0
+abbrev pub WholeOrHead : (limits : SearchLimits) → ((t : Input) → CanEnd limits t Whole → List ℕ → Type 0)
+    → (t : Input) (kind : EndKind) → CanEnd limits t kind → List ℕ → Type 0
 WholeOrHead limits tells t Whole c text = tells t c text
 WholeOrHead limits tells t CutNodes c text = text ≡ head_of c
 WholeOrHead limits tells t CutSolids c text = text ≡ head_of c
 
 -- a search that answers in one piece: so where it is whole
-abbrev pub in_one_piece : (limits : SearchLimits) → (ℕ → Answer) → ((t : List ℕ) → CanEnd limits t Whole → List ℕ → Type 0) → Search
-in_one_piece limits whole tells =
-    record { limits = limits; whole = whole; tells = WholeOrHead limits tells; begins = WholeOrHead limits tells }
+abbrev pub in_one_piece : (limits : SearchLimits) → ℕ → (ℕ → Answer) → ((t : Input) → CanEnd limits t Whole → List ℕ → Type 0) → Search
+in_one_piece limits decimals whole tells = record {
+  decimals = decimals;
+  limits = limits;
+  whole = whole;
+  tells = WholeOrHead limits tells;
+  begins = WholeOrHead limits tells;
+}
 
 -- a search for the solid of a number, of which this is written
-abbrev pub search_for_one : (List Cell → List ℕ → Type 0) → ℕ → SearchLimits → Search
-search_for_one writes which limits =
-    in_one_piece limits (numbered_answer which) (λ t c. TellsNumbered writes which c.solids)
+abbrev pub search_for_one : (List Cell → List ℕ → Type 0) → ℕ → SearchLimits → ℕ → Search
+search_for_one writes which limits decimals =
+    in_one_piece limits decimals (numbered_answer which) (λ t c. TellsNumbered writes which c.solids)
 
 -- ---- what is owed
 
@@ -68,10 +79,10 @@ pub data Owed : Type 1 where
 
 -- for each job, however many work at it: a command is one line
 abbrev pub owed_for : Job → Owed
-owed_for (job.Solve workers limits pages) = searched (search_for_all pages limits)
-owed_for (job.Redraw which workers limits) = searched (search_for_one IsFileOf which limits)
-owed_for (job.Stl which workers limits) = searched (search_for_one IsSolidStl which limits)
-owed_for (job.Make n) = alone answers.Done (IsFileOf (made_solid n))
+owed_for (job.Solve workers limits pages decimals) = searched (search_for_all pages limits decimals)
+owed_for (job.Redraw which workers limits decimals) = searched (search_for_one (IsFileOf decimals) which limits decimals)
+owed_for (job.Stl which workers limits) = searched (search_for_one IsSolidStl which limits 0)
+owed_for (job.Make n) = alone answers.Done (IsFileOf 0 (made_solid n))
 owed_for (job.Trial n workers) = alone answers.Done (IsTried n)
 
 -- and for words that ask for none the usage line
@@ -81,8 +92,8 @@ owed None = alone answers.Usage (λ text. text ≡ usage_text)
 
 -- pages are asked for
 abbrev pub asks_pages : Option Job → Bool
-asks_pages (Some (job.Solve workers limits pages)) = pages
-asks_pages (Some (job.Redraw which workers limits)) = false
+asks_pages (Some (job.Solve workers limits pages decimals)) = pages
+asks_pages (Some (job.Redraw which workers limits decimals)) = false
 asks_pages (Some (job.Stl which workers limits)) = false
 asks_pages (Some (job.Make n)) = false
 asks_pages (Some (job.Trial n workers)) = false
@@ -101,16 +112,16 @@ reads_source (alone answer tells) = false
 -- ---- the right answers
 
 -- an input has this first fault, and the text tells it
-abbrev pub TellsFault : List ℕ → List ℕ → Type 0
+abbrev pub TellsFault : Input → List ℕ → Type 0
 TellsFault t text = (fault : Fault) × IsFileFault t fault × (text ≡ fault_text fault)
 
 -- an input can end a search so, and the text tells that
-abbrev pub TellsEnd : Search → List ℕ → Answer → List ℕ → Type 0
+abbrev pub TellsEnd : Search → Input → Answer → List ℕ → Type 0
 TellsEnd s t answer text =
     (kind : EndKind) × (c : CanEnd s.limits t kind) × (answer ≡ answer_at s.whole kind (length c.solids)) × s.tells t kind c text
 
 -- the right answer of a search to an input, and its text
-abbrev pub AnswersInput : Search → List ℕ → Answer → List ℕ → Type 0
+abbrev pub AnswersInput : Search → Input → Answer → List ℕ → Type 0
 AnswersInput s t answer text = ((answer ≡ answers.Faulty) × TellsFault t text) ⊎ TellsEnd s t answer text
 
 -- a search has such an answer to some input
@@ -123,8 +134,12 @@ abbrev pub ReadsAllOrPast : List ℕ → Option (List ℕ) → Type 0
 ReadsAllOrPast t rest = ((length t ≤ most_file_bytes) × (rest ≡ Some []))
     ⊎ ReadsPast (Some t) rest most_file_bytes
 
+-- the input of a search whose source has these bytes left
+abbrev pub input_of : Search → List ℕ → Input
+input_of s t = record { bytes = t; decimals = s.decimals }
+
 -- the right answer, over a source that had `left` and has `rest`, where told, and its text
 abbrev pub AnswersOwed : Owed → Option (List ℕ) → Option (List ℕ) → Answer → List ℕ → Type 0
 AnswersOwed (searched s) left rest answer text =
-    IsAnswerOf s answer × IfSome left (λ t. ReadsAllOrPast t rest × AnswersInput s t answer text)
+    IsAnswerOf s answer × IfSome left (λ t. ReadsAllOrPast t rest × AnswersInput s (input_of s t) answer text)
 AnswersOwed (alone right tells) left rest answer text = (rest ≡ left) × (answer ≡ right) × tells text

@@ -9,7 +9,7 @@ ghost use Rattle.recon_run.specs.Owed.{owed_for, reads_source, search_for_all, s
 ghost use Rattle.recon_run.specs.Status.{Status, status_code, failure_code};
 ghost use Rattle.solid_model.specs.declared.ended.EndKind.TheVariants.{Whole};
 ghost use Rattle.solid_model.specs.declared.fault.Fault.{Fault};
-ghost use Rattle.solid_model.specs.Limits.{most_file_bytes};
+ghost use Rattle.solid_model.specs.Limits.{most_decimals, most_file_bytes};
 ghost use Rattle.tv_base.specs.Faults.{Rose};
 ghost use Rattle.tv_base.specs.Pieces.{ReadsWithin};
 ghost use Rattle.words.specs.Jobs.{IsCounted};
@@ -31,46 +31,51 @@ use words::{Job, WordFault, job_of};
 /// The usage line.
 const USAGE: &str = "usage: recon solve|redraw|make|trial\n";
 
-/// Searches within limits for the solids of the drawing that the source has left, and writes them,
-/// after pages of them or without.
+/// Searches within limits for the solids of the drawing that the source has left, whose coordinates
+/// have so many decimals, and writes them, after pages of them or without.
 fn solve<R: Threads + Wait + Sync, S: Source, K: Sink, G: Gate>(
     alloc: Global,
     limits: Limits,
     pages: bool,
+    decimals: u8,
     source: &mut S,
     sink: &mut K,
     crew: &Crew<'_, R, G>,
 ) -> Status
-    ensures ends { Ends (searched (search_for_all pages limits)) (S.left source.old)
+    requires { decimals ≤ most_decimals }
+    ensures ends { Ends (searched (search_for_all pages limits decimals)) (S.left source.old)
         (S.left source.new) (K.held sink.old) (K.held sink.new) (Rose (S.faults source.old) (S.faults source.new))
         (Rose (K.faults sink.old) (K.faults sink.new)) result }
     ensures within { ReadsWithin (S.left source.old) (S.left source.new) (most_file_bytes + 1) }
     ensures unwritten { result ≡ Err ReadFault → sink.new ≡ sink.old }
 {
-    let found = find(alloc, source)?;
-    write_found(alloc, found, limits, pages, sink, crew)
+    let found = find(alloc, decimals, source)?;
+    write_found(alloc, found, limits, pages, decimals, sink, crew)
 }
 
 /// Searches within limits for the solids of the drawing that the source has left, and writes the one
-/// of this number, counted from 1, in a form.
+/// of this number, counted from 1, in a form. Coordinates have so many decimals.
 fn write_one_solid<E: Export, R: Threads + Wait + Sync, S: Source, K: Sink, G: Gate>(
     alloc: Global,
+    form: &E,
     which: u32,
     limits: Limits,
+    decimals: u8,
     source: &mut S,
     sink: &mut K,
     crew: &Crew<'_, R, G>,
 ) -> Status
-    requires { 1 ≤ which }
-    ensures ends { Ends (searched (search_for_one E.writes which limits)) (S.left source.old)
+    requires which { 1 ≤ which }
+    requires decimals { decimals ≤ most_decimals }
+    ensures ends { Ends (searched (search_for_one (E.writes form.now) which limits decimals)) (S.left source.old)
         (S.left source.new) (K.held sink.old) (K.held sink.new)
         (Rose (S.faults source.old) (S.faults source.new))
         (Rose (K.faults sink.old) (K.faults sink.new)) result }
     ensures within { ReadsWithin (S.left source.old) (S.left source.new) (most_file_bytes + 1) }
     ensures unwritten { result ≡ Err ReadFault → sink.new ≡ sink.old }
 {
-    let found = find(alloc, source)?;
-    write_found_one::<E, R, K, G>(alloc, found, which, limits, sink, crew)
+    let found = find(alloc, decimals, source)?;
+    write_found_one(alloc, form, found, which, limits, sink, crew)
 }
 
 /// Does a job over what the source has left.
@@ -95,17 +100,20 @@ fn do_job<R: Threads + Wait + Sync, S: Source, K: Sink, G: Gate>(
             workers,
             limits,
             pages,
+            decimals,
         } => {
             let crew = Crew { rt, workers, gate };
-            solve(alloc, limits, pages, source, sink, &crew)
+            solve(alloc, limits, pages, decimals, source, sink, &crew)
         }
         Job::Redraw {
             which,
             workers,
             limits,
+            decimals,
         } => {
             let crew = Crew { rt, workers, gate };
-            write_one_solid::<Drawing, R, S, K, G>(alloc, which, limits, source, sink, &crew)
+            let form = Drawing::with(decimals);
+            write_one_solid(alloc, &form, which, limits, decimals, source, sink, &crew)
         }
         Job::Stl {
             which,
@@ -113,7 +121,7 @@ fn do_job<R: Threads + Wait + Sync, S: Source, K: Sink, G: Gate>(
             limits,
         } => {
             let crew = Crew { rt, workers, gate };
-            write_one_solid::<Triangles, R, S, K, G>(alloc, which, limits, source, sink, &crew)
+            write_one_solid(alloc, &Triangles, which, limits, 0, source, sink, &crew)
         }
         Job::Make { n } => write_reply(Answer::Done, made_file(alloc, n)?.as_slice(), sink),
         Job::Trial { n, workers } => {

@@ -12,40 +12,70 @@ use crate::writing::write_text;
 use redraw::dxf_of;
 use solid_model::{Choice, Problem};
 use std::alloc::Global;
+use std::marker::Model;
 use stl_out::write_stl;
 use tv_base::{Sink, SinkError};
 
 /// A form in which one solid is written.
 pub trait Export {
     /// The text is that of the solid in this form.
-    ghost writes: { List Cell → List ℕ → Type 0 };
+    ghost writes: { Self → List Cell → List ℕ → Type 0 };
 
     /// Writes the solid that a choice of a problem's blocks fills.
     fn write<K: Sink>(
+        &self,
         alloc: Global,
         problem: &Problem,
         choice: &Choice,
         sink: &mut K,
     ) -> Result<(), Failure>
-        ensures { EndsText (IsWrittenOf writes problem.now choice.now)
-            (IsWrittenOf writes problem.now choice.now) (K.held sink.old) (K.held sink.new)
+        ensures { EndsText (IsWrittenOf (writes self.now) problem.now choice.now)
+            (IsWrittenOf (writes self.now) problem.now choice.now) (K.held sink.old) (K.held sink.new)
             (Rose (K.faults sink.old) (K.faults sink.new)) result };
 }
 
-/// Its drawing, as a DXF file, in one piece.
-pub struct Drawing;
+/// Its drawing, as a DXF file, in one piece. Contracts see how many decimals its coordinates have.
+#[derive(Drop)]
+pub struct Drawing {
+    decimals: u8,
+}
+
+impl Model for Drawing {
+    ghost use Rattle.std.specs.Prelude.{◌≤◌, ℕ};
+    ghost use Rattle.solid_model.specs.Limits.{most_decimals};
+
+    ghost Value = { ℕ };
+
+    ghost view = { λ s. s.decimals };
+
+    ghost invariant = { λ s. s.decimals ≤ most_decimals };
+}
+
+impl Drawing {
+    ghost use Rattle.std.specs.Prelude.{◌≡◌, ◌≤◌};
+    ghost use Rattle.solid_model.specs.Limits.{most_decimals};
+
+    /// The drawing whose coordinates have so many decimals, at most 6.
+    pub fn with(decimals: u8) -> Drawing
+        requires { decimals ≤ most_decimals }
+        ensures { result ≡ decimals }
+    {
+        Drawing { decimals }
+    }
+}
 
 impl Export for Drawing {
     ghost writes = { IsFileOf };
 
     fn write<K: Sink>(
+        &self,
         alloc: Global,
         problem: &Problem,
         choice: &Choice,
         sink: &mut K,
     ) -> Result<(), Failure> {
         let cells = problem.cells(alloc, choice)?;
-        let text = dxf_of(alloc, problem.grid(), cells.as_slice())?;
+        let text = dxf_of(alloc, problem.grid(), cells.as_slice(), self.decimals)?;
         write_text(sink, text.as_slice())
     }
 }
@@ -54,9 +84,10 @@ impl Export for Drawing {
 pub struct Triangles;
 
 impl Export for Triangles {
-    ghost writes = { IsSolidStl };
+    ghost writes = { λ _. IsSolidStl };
 
     fn write<K: Sink>(
+        &self,
         alloc: Global,
         problem: &Problem,
         choice: &Choice,

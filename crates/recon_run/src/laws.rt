@@ -4,7 +4,7 @@ ghost use Rattle.std.specs.Prelude.{◌≡◌, ◌⊎◌, ℕ, List, Option, Som
 ghost use Rattle.recon_run.specs.declared.status.Answer.{Answer};
 ghost use Rattle.recon_run.specs.declared.status.Answer.TheVariants as answers;
 ghost use Rattle.recon_run.specs.declared.status.Failure.TheVariants as failures;
-ghost use Rattle.recon_run.specs.Answers.{HasNoFault, IsFileFault};
+ghost use Rattle.recon_run.specs.Answers.{HasNoFault, Input, IsFileFault};
 ghost use Rattle.recon_run.specs.Endings.{Answers, IsCut, SameButPages};
 ghost use Rattle.recon_run.specs.Owed.{AnswersOwed, asks_pages, owed_for};
 ghost use Rattle.recon_run.specs.Status.{status_code};
@@ -28,12 +28,12 @@ pub fn status_numbers()
 /// What `make` owes has no fault: whatever is made from a number can be searched.
 pub fn made_files_have_no_fault()
     ensures { (n : ℕ) (left rest : Option (List ℕ)) (answer : Answer) (text : List ℕ)
-        → AnswersOwed (owed_for (job.Make n)) left rest answer text → HasNoFault text }
+        → AnswersOwed (owed_for (job.Make n)) left rest answer text → HasNoFault (record { bytes = text; decimals = 0 }) }
 {}
 
 /// An input has at most one first fault.
 pub fn one_first_fault()
-    ensures { (input : List ℕ) (a b : Fault) → IsFileFault input a → IsFileFault input b → a ≡ b }
+    ensures { (input : Input) (a b : Fault) → IsFileFault input a → IsFileFault input b → a ≡ b }
 {}
 
 /// Arguments and an input have at most one right answer, and one text that goes with it; but where

@@ -22,19 +22,20 @@ use tv_base::{Gate, Sink};
 /// there are fewer.
 fn write_numbered<E: Export, K: Sink>(
     alloc: Global,
+    form: &E,
     searched: &Searched,
     which: u32,
     sink: &mut K,
 ) -> Status
     requires { 1 ≤ which }
-    ensures { EndsWriting (AnswersNumbered E.writes which searched.now)
-        (AnswersNumbered E.writes which searched.now) (K.held sink.old) (K.held sink.new)
+    ensures { EndsWriting (AnswersNumbered (E.writes form.now) which searched.now)
+        (AnswersNumbered (E.writes form.now) which searched.now) (K.held sink.old) (K.held sink.new)
         (Rose (K.faults sink.old) (K.faults sink.new)) result }
 {
     let solids = searched.ended().solids.as_slice();
     let place = which as usize - 1;
     if place < solids.len() {
-        E::write(alloc, searched.problem(), &solids[place], sink)?;
+        form.write(alloc, searched.problem(), &solids[place], sink)?;
         Ok(Answer::Done)
     } else {
         let text = no_solid_text(alloc, which, solids.len())?;
@@ -45,18 +46,19 @@ fn write_numbered<E: Export, K: Sink>(
 /// The same of a search; of one that was cut, how it ended.
 fn write_one<E: Export, K: Sink>(
     alloc: Global,
+    form: &E,
     searched: &Searched,
     which: u32,
     limits: Limits,
     sink: &mut K,
 ) -> Status
     requires { 1 ≤ which }
-    ensures { EndsWriting (AnswersOne E.writes limits which searched.now)
-        (AnswersOne E.writes limits which searched.now) (K.held sink.old) (K.held sink.new)
+    ensures { EndsWriting (AnswersOne (E.writes form.now) limits which searched.now)
+        (AnswersOne (E.writes form.now) limits which searched.now) (K.held sink.old) (K.held sink.new)
         (Rose (K.faults sink.old) (K.faults sink.new)) result }
 {
     match searched.ended().kind {
-        EndKind::Whole => write_numbered::<E, K>(alloc, searched, which, sink),
+        EndKind::Whole => write_numbered(alloc, form, searched, which, sink),
         kind => {
             let text = searched.head(alloc, limits)?;
             write_reply(Answer::at_end(kind), text.as_slice(), sink)
@@ -67,6 +69,7 @@ fn write_one<E: Export, K: Sink>(
 /// The same of a problem, which is searched within limits.
 fn write_one_of<E: Export, R: Threads + Wait + Sync, K: Sink, G: Gate>(
     alloc: Global,
+    form: &E,
     problem: Problem,
     which: u32,
     limits: Limits,
@@ -75,17 +78,18 @@ fn write_one_of<E: Export, R: Threads + Wait + Sync, K: Sink, G: Gate>(
 ) -> Status
     requires { 1 ≤ which }
     ensures { EndsWriting (AnswersSearch limits (numbered_answer which)
-        (TellsOne E.writes limits which) problem) (AnswersSearch limits (numbered_answer which)
-        (TellsOne E.writes limits which) problem) (K.held sink.old) (K.held sink.new)
+        (TellsOne (E.writes form.now) limits which) problem) (AnswersSearch limits (numbered_answer which)
+        (TellsOne (E.writes form.now) limits which) problem) (K.held sink.old) (K.held sink.new)
         (Rose (K.faults sink.old) (K.faults sink.new)) result }
 {
     let searched = search(alloc, problem, limits, crew)?;
-    write_one::<E, K>(alloc, &searched, which, limits, sink)
+    write_one(alloc, form, &searched, which, limits, sink)
 }
 
 /// Writes what is answered to what was found, where the solid of this number is asked for.
 pub fn write_found_one<E: Export, R: Threads + Wait + Sync, K: Sink, G: Gate>(
     alloc: Global,
+    form: &E,
     found: Found,
     which: u32,
     limits: Limits,
@@ -94,14 +98,12 @@ pub fn write_found_one<E: Export, R: Threads + Wait + Sync, K: Sink, G: Gate>(
 ) -> Status
     requires { 1 ≤ which }
     ensures { EndsWriting (AnswersFound limits (numbered_answer which)
-        (TellsOne E.writes limits which) found) (AnswersFound limits (numbered_answer which)
-        (TellsOne E.writes limits which) found) (K.held sink.old) (K.held sink.new)
+        (TellsOne (E.writes form.now) limits which) found) (AnswersFound limits (numbered_answer which)
+        (TellsOne (E.writes form.now) limits which) found) (K.held sink.old) (K.held sink.new)
         (Rose (K.faults sink.old) (K.faults sink.new)) result }
 {
     match found {
-        Found::Problem(problem) => {
-            write_one_of::<E, R, K, G>(alloc, problem, which, limits, sink, crew)
-        }
+        Found::Problem(problem) => { write_one_of(alloc, form, problem, which, limits, sink, crew) }
         Found::Fault(fault) => write_fault(alloc, &fault, sink),
     }
 }

@@ -3,7 +3,7 @@
 //! frame, virtual faces and blocks.
 
 ghost use Rattle.std.specs.Prelude.{◌≤◌, length, IfOk, IsErrOf};
-ghost use Rattle.recon_run.specs.Answers.{IsFaultOf, IsProblemOf};
+ghost use Rattle.recon_run.specs.Answers.{HasProblem, Input, IsFileFault};
 ghost use Rattle.solid_model.specs.declared.fault.Fault.{Fault};
 ghost use Rattle.solid_model.specs.Limits.{most_decimals, most_file_bytes};
 
@@ -17,15 +17,15 @@ use std::alloc::Global;
 use views::drawing;
 use virtual_faces::faces_of;
 
-/// The grid and the blocks of a file's drawing, whose coordinates count units of ten to the power of
-/// minus `decimals`, or the file's first fault; Memory comes when out of memory. The file has at most
-/// 16,777,216 bytes, and the decimals are at most 6.
+/// The grid and the blocks of the drawing of a file whose coordinates have so many decimals, or the
+/// file's first fault; Memory comes when out of memory. The file has at most 16,777,216 bytes, and
+/// there are at most 6 decimals.
 pub fn problem_of(alloc: Global, file: Vec<u8>, decimals: u8) -> Result<Problem, Refused>
     requires short { length file.items ≤ most_file_bytes }
     requires decimals { decimals ≤ most_decimals }
-    ensures problem { IfOk result (λ problem. IsProblemOf decimals file.items problem) }
+    ensures problem { IfOk result (λ problem. HasProblem (record { bytes = file.items; decimals = decimals }) problem) }
     ensures fault { (fault : Fault) → IsErrOf result (Refused.Fault fault)
-        → IsFaultOf decimals file.items fault }
+        → IsFileFault (record { bytes = file.items; decimals = decimals }) fault }
 {
     let lines = entities(alloc, &mut Groups::new(file), decimals)?;
     let drawing = drawing(alloc, lines.as_slice())?;

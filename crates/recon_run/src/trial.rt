@@ -20,10 +20,10 @@ use tv_base::Gate;
 
 /// The written file of the solid that is made from a number.
 pub fn made_file(alloc: Global, n: u64) -> Result<Vec<u8>, Memory>
-    ensures { IfOk result (λ text. IsFileOf (made_solid n) text.items) }
+    ensures { IfOk result (λ text. IsFileOf 0 (made_solid n) text.items) }
 {
     let (grid, cells) = make(alloc, n)?;
-    let text = dxf_of(alloc, &grid, cells.as_slice())?;
+    let text = dxf_of(alloc, &grid, cells.as_slice(), 0)?;
     Ok(text)
 }
 

@@ -4,7 +4,7 @@ ghost use Rattle.std.specs.Prelude.{◌≡◌, ◌≤◌, length};
 ghost use Rattle.recon_run.specs.declared.status.Answer.TheVariants as answers;
 ghost use Rattle.recon_run.specs.Findings.{AnswersFound, AnswersSearch, BeginsAll, BeginsChoices, BeginsPaged, EndsText, EndsWriting, IsReply, TellsAll, TellsChoice, TellsChoices, TellsPaged};
 ghost use Rattle.report.specs.FaultText.{fault_text};
-ghost use Rattle.solid_model.specs.Limits.{most_solid_limit};
+ghost use Rattle.solid_model.specs.Limits.{most_decimals, most_solid_limit};
 ghost use Rattle.tv_base.specs.Faults.{Rose};
 
 use crate::crew::Crew;
@@ -59,8 +59,8 @@ fn write_solid<K: Sink>(
     room: &mut SolidRoom,
     sink: &mut K,
 ) -> Result<(), Failure>
-    requires { room.old.rows.sizes ≡ texts.now.blocks.sizes }
-    ensures sizes { room.new.rows.sizes ≡ texts.now.blocks.sizes }
+    requires { room.old.rows.sizes ≡ texts.now.problem.blocks.sizes }
+    ensures sizes { room.new.rows.sizes ≡ texts.now.problem.blocks.sizes }
     ensures later { K.faults sink.old ≤ K.faults sink.new }
     ensures ends { EndsText (TellsChoice texts.now number choice.now)
         (TellsChoice texts.now number choice.now)
@@ -80,7 +80,7 @@ fn write_solids<K: Sink>(
     sink: &mut K,
 ) -> Result<(), Failure>
     requires few { length choices.now ≤ most_solid_limit }
-    requires sizes { room.old.rows.sizes ≡ texts.now.blocks.sizes }
+    requires sizes { room.old.rows.sizes ≡ texts.now.problem.blocks.sizes }
     ensures later { K.faults sink.old ≤ K.faults sink.new }
     ensures ends { EndsText (TellsChoices texts.now 1 choices.now)
         (BeginsChoices texts.now 1 choices.now)
@@ -92,18 +92,20 @@ fn write_solids<K: Sink>(
     Ok(())
 }
 
-/// Writes how a search within limits ended, and its solids.
+/// Writes how a search within limits ended, and its solids, whose coordinates have so many decimals.
 fn write_searched<K: Sink>(
     alloc: Global,
     searched: &Searched,
     limits: Limits,
+    decimals: u8,
     sink: &mut K,
 ) -> Result<(), Failure>
+    requires { decimals ≤ most_decimals }
     ensures later { K.faults sink.old ≤ K.faults sink.new }
-    ensures ends { EndsText (TellsAll limits searched.now) (BeginsAll limits searched.now)
-        (K.held sink.old) (K.held sink.new) (Rose (K.faults sink.old) (K.faults sink.new)) result }
+    ensures ends { EndsText (TellsAll limits decimals searched.now)
+        (BeginsAll limits decimals searched.now) (K.held sink.old) (K.held sink.new) (Rose (K.faults sink.old) (K.faults sink.new)) result }
 {
-    let texts = SolidTexts::of(alloc, searched.problem())?;
+    let texts = SolidTexts::of(alloc, searched.problem(), decimals)?;
     let mut room = texts.room(alloc)?;
     write_text(sink, searched.head(alloc, limits)?.as_slice())?;
     let solids = searched.ended().solids.as_slice();
@@ -117,16 +119,18 @@ fn write_problem<R: Threads + Wait + Sync, K: Sink, G: Gate>(
     problem: Problem,
     limits: Limits,
     pages: bool,
+    decimals: u8,
     sink: &mut K,
     crew: &Crew<'_, R, G>,
 ) -> Status
+    requires { decimals ≤ most_decimals }
     ensures { EndsWriting
-        (AnswersSearch limits (λ _. answers.Done) (TellsPaged pages limits) problem)
-        (AnswersSearch limits (λ _. answers.Done) (BeginsPaged pages limits) problem)
+        (AnswersSearch limits (λ _. answers.Done) (TellsPaged pages limits decimals) problem)
+        (AnswersSearch limits (λ _. answers.Done) (BeginsPaged pages limits decimals) problem)
         (K.held sink.old) (K.held sink.new) (Rose (K.faults sink.old) (K.faults sink.new)) result }
 {
     let searched = search_telling(alloc, problem, limits, pages, sink, crew)?;
-    write_searched(alloc, &searched, limits, sink)?;
+    write_searched(alloc, &searched, limits, decimals, sink)?;
     Ok(Answer::at_end(searched.ended().kind))
 }
 
@@ -136,16 +140,20 @@ pub fn write_found<R: Threads + Wait + Sync, K: Sink, G: Gate>(
     found: Found,
     limits: Limits,
     pages: bool,
+    decimals: u8,
     sink: &mut K,
     crew: &Crew<'_, R, G>,
 ) -> Status
+    requires { decimals ≤ most_decimals }
     ensures { EndsWriting
-        (AnswersFound limits (λ _. answers.Done) (TellsPaged pages limits) found)
-        (AnswersFound limits (λ _. answers.Done) (BeginsPaged pages limits) found)
+        (AnswersFound limits (λ _. answers.Done) (TellsPaged pages limits decimals) found)
+        (AnswersFound limits (λ _. answers.Done) (BeginsPaged pages limits decimals) found)
         (K.held sink.old) (K.held sink.new) (Rose (K.faults sink.old) (K.faults sink.new)) result }
 {
     match found {
-        Found::Problem(problem) => write_problem(alloc, problem, limits, pages, sink, crew),
+        Found::Problem(problem) => {
+            write_problem(alloc, problem, limits, pages, decimals, sink, crew)
+        }
         Found::Fault(fault) => write_fault(alloc, &fault, sink),
     }
 }

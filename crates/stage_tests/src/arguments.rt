@@ -6,7 +6,7 @@ use test_files::row_of;
 use words::{Job, WordFault, job_of};
 
 /// Words, divided by commas, and what they ask for: of a search how many work at it, the limits of
-/// nodes and of solids, and whether there are pages.
+/// nodes and of solids, whether there are pages, and how many decimals, if there are some.
 const WORDS: &str = "\
 solve -> solve 1 1000000 4096
  -> usage
@@ -80,6 +80,15 @@ solve, --pages, 1 -> usage
 solve, --pages, --pages -> usage
 solve, --nodes, --pages -> usage
 solve, --page -> usage
+solve, --decimals, 0 -> solve 1 1000000 4096
+solve, --decimals=6 -> solve 1 1000000 4096 decimals 6
+solve, --pages, --decimals, 03 -> solve 1 1000000 4096 pages decimals 3
+solve, --decimals, 7 -> usage
+solve, --decimals=-1 -> usage
+solve, --decimals -> usage
+solve, --decimals= -> usage
+solve, --decimals, 1, --decimals, 1 -> usage
+solve, --decimal, 1 -> usage
 solve, --number, 3 -> usage
 solve, -h -> usage
 solve, --help -> usage
@@ -108,6 +117,9 @@ redraw, 1, --workers, 2 -> redraw 1 2 1000000 4096
 redraw, --workers=3, 4, --nodes, 5 -> redraw 4 3 5 4096
 redraw, 1, --workers, 0 -> usage
 redraw, 1, --pages -> usage
+redraw, --decimals=2, 1 -> redraw 1 1 1000000 4096 decimals 2
+redraw, 1, --decimals, 7 -> usage
+stl, 1, --decimals, 2 -> usage
 redraw, -- , 1 -> usage
 redraw, 1, --nodes -> usage
 redraw, 1.0 -> usage
@@ -123,6 +135,7 @@ make, 7, 7 -> usage
 make, 7, --nodes, 3 -> usage
 make, 7, --workers, 2 -> usage
 make, --n=7 -> usage
+make, 7, --decimals, 0 -> usage
 trial, 7 -> trial 7 1
 trial, 007 -> trial 7 1
 trial -> usage
@@ -131,6 +144,7 @@ trial, 7, --workers, 2 -> trial 7 2
 trial, --workers=64, 7 -> trial 7 64
 trial, 7, --workers, 65 -> usage
 trial, 7, --pages -> usage
+trial, 7, --decimals=0 -> usage
 trail, 7 -> usage
 +3 -> usage
 -- -> usage
@@ -147,6 +161,14 @@ fn words_of(alloc: Global, told: &str) -> Result<Vec<String>, Fail> {
     Ok(words)
 }
 
+/// How many decimals there are, as in the table.
+fn decimals_text(alloc: Global, decimals: u8) -> Result<String, Fail> {
+    if decimals == 0 {
+        return Ok(String::new(alloc));
+    }
+    Ok(format!(in alloc; " decimals {decimals}")?)
+}
+
 /// What a job is, as in the table.
 fn job_text(alloc: Global, job: Job) -> Result<String, Fail> {
     Ok(match job {
@@ -154,18 +176,27 @@ fn job_text(alloc: Global, job: Job) -> Result<String, Fail> {
             workers,
             limits,
             pages,
+            decimals,
         } => {
-            let end = if pages { " pages" } else { "" };
-            format!(in alloc; "solve {workers} {} {}{end}", limits.nodes, limits.solids)?
+            let paged = if pages { " pages" } else { "" };
+            let end = decimals_text(alloc, decimals)?;
+            format!(in alloc;
+                "solve {workers} {} {}{paged}{end}",
+                limits.nodes, limits.solids
+            )?
         }
         Job::Redraw {
             which,
             workers,
             limits,
-        } => format!(in alloc;
-            "redraw {which} {workers} {} {}",
-            limits.nodes, limits.solids
-        )?,
+            decimals,
+        } => {
+            let end = decimals_text(alloc, decimals)?;
+            format!(in alloc;
+                "redraw {which} {workers} {} {}{end}",
+                limits.nodes, limits.solids
+            )?
+        }
         Job::Stl {
             which,
             workers,

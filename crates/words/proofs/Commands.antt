@@ -3,12 +3,12 @@ use Rattle.std.proofs.Common.{◌≡◌, ◌∙◌, ◌≤◌, refl, sym, ℕ, a
 use Rattle.std.specs.Prelude.{option_map}
 use Rattle.std.specs.Str.{bytes_eq}
 use Rattle.std.proofs.lemmas.Slice.Eq.{bytes_eq-Decides}
-use Rattle.solid_model.specs.Limits.{most_solid_limit}
+use Rattle.solid_model.specs.Limits.{most_decimals, most_solid_limit}
 use Rattle.solid_model.specs.Lists.{Each}
 use Rattle.words.specs.declared.job.Job.{Job}
-use Rattle.words.specs.Jobs.{AreWorkers, Command, IsCounted, command_said, commands, job_said, most_workers, number_in, one_table, said_among, solve_table, trial_table, workers_field, workers_in}
+use Rattle.words.specs.Jobs.{AreWorkers, Command, IsCounted, command_said, commands, decimals_field, decimals_in, job_said, most_workers, number_in, redraw_table, said_among, solve_table, stl_table, trial_table, workers_field, workers_in}
 use Rattle.words.specs.Rows.{is_sound}
-use Rattle.words.specs.Words.{Table, Text, Use, number_name, number_or, taken, text_in}
+use Rattle.words.specs.Words.{Table, Text, Use, number_field, number_name, number_or, taken, text_in}
 use Rattle.words.proofs.Values.{called, read_within, value_within}
 
 -- the first of some words is the command's name
@@ -73,15 +73,32 @@ has_workers : (t : Table) → is_sound t ≡ true → called t (codes "workers")
     → (words : List Text) (us : List Use) → taken t words ≡ Some us → AreWorkers (workers_in us)
 has_workers t sound found = within t (codes "workers") 1 most_workers 1 sound found (omega arith) (omega arith)
 
--- `redraw` and `stl` take a number that is 1 at least
-redraw_counts : (words : List Text) (us : List Use) → taken one_table words ≡ Some us → (1 ≤ number_in us) × AreWorkers (workers_in us)
-redraw_counts words us is = (
-  (within one_table number_name 1 most_solid_limit 1 refl refl (omega arith) (omega arith) words us is).0,
-  has_workers one_table refl refl words us is,
-)
+-- one that takes decimals has no more than may be
+has_decimals : (t : Table) → is_sound t ≡ true → called t (codes "decimals") ≡ Some decimals_field
+    → (words : List Text) (us : List Use) → taken t words ≡ Some us → decimals_in us ≤ most_decimals
+has_decimals t sound found words us is =
+    (within t (codes "decimals") 0 most_decimals 0 sound found (omega arith) (omega arith) words us is).1
+
+-- one that takes the number of a solid has one that is 1 at least
+has_number_of_solid : (t : Table) → is_sound t ≡ true → called t number_name ≡ Some (number_field (record { least = 1; most = most_solid_limit }))
+    → (words : List Text) (us : List Use) → taken t words ≡ Some us → 1 ≤ number_in us
+has_number_of_solid t sound found words us is =
+    (within t number_name 1 most_solid_limit 1 sound found (omega arith) (omega arith) words us is).0
 
 -- so the numbers of a job that words ask for can be met
 pub said_is_counted : (words : List Text) (j : Job) → job_said words ≡ Some j → IsCounted j
 said_is_counted [] j said = cc
-said_is_counted (name ∷ words) j said = counted_among commands
-    (has_workers solve_table refl refl, (redraw_counts, (redraw_counts, ((λ ws us is. tt), (has_workers trial_table refl refl, tt))))) name words j said
+said_is_counted (name ∷ words) j said = counted_among commands (
+  (λ ws us is. (has_workers solve_table refl refl ws us is, has_decimals solve_table refl refl ws us is)),
+  (
+    (λ ws us is. (
+      has_number_of_solid redraw_table refl refl ws us is,
+      has_workers redraw_table refl refl ws us is,
+      has_decimals redraw_table refl refl ws us is,
+    )),
+    (
+      (λ ws us is. (has_number_of_solid stl_table refl refl ws us is, has_workers stl_table refl refl ws us is)),
+      ((λ ws us is. tt), (has_workers trial_table refl refl, tt)),
+    ),
+  ),
+) name words j said

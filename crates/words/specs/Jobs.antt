@@ -1,7 +1,7 @@
 -- The commands, and what each is asked to do.
 use Rattle.std.specs.Prelude.{ℕ, ◌≤◌, ◌++◌, Bool, List, [], ◌∷◌, Option, Some, None, if◌then◌else◌, codes, option_map}
 use Rattle.std.specs.Str.{bytes_eq}
-use Rattle.solid_model.specs.Limits.{most_node_limit, most_solid_limit}
+use Rattle.solid_model.specs.Limits.{most_decimals, most_node_limit, most_solid_limit}
 use Rattle.solid_model.specs.Search.{SearchLimits, default_limits}
 use Rattle.words.specs.declared.job.Job.{Job}
 use Rattle.words.specs.declared.job.Job.TheVariants as job
@@ -29,17 +29,29 @@ solids_field = record { name = codes "solids"; range = Some (record { least = 1;
 abbrev pub pages_field : Field
 pages_field = record { name = codes "pages"; range = None }
 
+-- `--decimals`, how many decimals the coordinates of a drawing have
+abbrev pub decimals_field : Field
+decimals_field = record { name = codes "decimals"; range = Some (record { least = 0; most = most_decimals }) }
+
 -- the options of a search within limits
 abbrev pub search_fields : List Field
 search_fields = workers_field ∷ nodes_field ∷ solids_field ∷ []
 
--- what `solve` takes: these and pages, and no number
+-- what `solve` takes: these, pages and decimals, and no number
 abbrev pub solve_table : Table
-solve_table = record { options = search_fields ++ pages_field ∷ []; number = None }
+solve_table = record { options = search_fields ++ pages_field ∷ decimals_field ∷ []; number = None }
 
--- what a search for one solid takes: the options of a search, and the number of the solid, counted from 1
-abbrev pub one_table : Table
-one_table = record { options = search_fields; number = Some (record { least = 1; most = most_solid_limit }) }
+-- what a search for one solid takes: these options, and the number of the solid, counted from 1
+abbrev pub one_table : List Field → Table
+one_table options = record { options = options; number = Some (record { least = 1; most = most_solid_limit }) }
+
+-- what `redraw` takes: the options of a search and decimals
+abbrev pub redraw_table : Table
+redraw_table = one_table (search_fields ++ decimals_field ∷ [])
+
+-- what `stl` takes: those of a search
+abbrev pub stl_table : Table
+stl_table = one_table search_fields
 
 -- what `make` takes: no option, and any number of 64 bits
 abbrev pub make_table : Table
@@ -67,9 +79,9 @@ pages_in us = is_used (codes "pages") us
 abbrev pub number_in : List Use → ℕ
 number_in us = number_or us number_name 1
 
--- what a search for one solid is asked: its number, how many work at it, and its limits
-abbrev pub one_in : List Use → ℕ × ℕ × SearchLimits
-one_in us = (number_in us, workers_in us, limits_in us)
+-- coordinates have no decimals, where the words say nothing else
+abbrev pub decimals_in : List Use → ℕ
+decimals_in us = number_or us (codes "decimals") 0
 
 -- a command: its name, what it takes, and the job that its words say
 pub record Command : Type 0 where
@@ -79,9 +91,9 @@ pub record Command : Type 0 where
 
 -- all of them
 abbrev pub commands : List Command
-commands = record { name = codes "solve"; table = solve_table; job = λ us. job.Solve (workers_in us) (limits_in us) (pages_in us) }
-    ∷ record { name = codes "redraw"; table = one_table; job = λ us. job.Redraw (number_in us) (workers_in us) (limits_in us) }
-    ∷ record { name = codes "stl"; table = one_table; job = λ us. job.Stl (number_in us) (workers_in us) (limits_in us) }
+commands = record { name = codes "solve"; table = solve_table; job = λ us. job.Solve (workers_in us) (limits_in us) (pages_in us) (decimals_in us) }
+    ∷ record { name = codes "redraw"; table = redraw_table; job = λ us. job.Redraw (number_in us) (workers_in us) (limits_in us) (decimals_in us) }
+    ∷ record { name = codes "stl"; table = stl_table; job = λ us. job.Stl (number_in us) (workers_in us) (limits_in us) }
     ∷ record { name = codes "make"; table = make_table; job = λ us. job.Make (number_in us) }
     ∷ record { name = codes "trial"; table = trial_table; job = λ us. job.Trial (number_in us) (workers_in us) } ∷ []
 
@@ -103,10 +115,11 @@ job_said (name ∷ words) = said_among commands name words
 abbrev pub AreWorkers : ℕ → Type 0
 AreWorkers workers = (1 ≤ workers) × (workers ≤ most_workers)
 
--- the numbers that a job asks for can be met: it counts solids from 1, and as many work at it as may
+-- the numbers that a job asks for can be met: it counts solids from 1, as many work at it as may, and coordinates have no more
+-- decimals than they may
 abbrev pub IsCounted : Job → Type 0
-IsCounted (job.Solve workers limits pages) = AreWorkers workers
-IsCounted (job.Redraw which workers limits) = (1 ≤ which) × AreWorkers workers
+IsCounted (job.Solve workers limits pages decimals) = AreWorkers workers × (decimals ≤ most_decimals)
+IsCounted (job.Redraw which workers limits decimals) = (1 ≤ which) × AreWorkers workers × (decimals ≤ most_decimals)
 IsCounted (job.Stl which workers limits) = (1 ≤ which) × AreWorkers workers
 IsCounted (job.Make n) = Unit {0}
 IsCounted (job.Trial n workers) = AreWorkers workers

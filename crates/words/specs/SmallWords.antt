@@ -13,16 +13,16 @@ words_in line = slice_split (λ c. c == 32) line
 abbrev pub job_in : Text → Option Job
 job_in line = job_said (words_in line)
 
--- a search by so many workers, within limits, with pages or without
-abbrev pub search_by : ℕ → ℕ → ℕ → Bool → Option Job
-search_by workers nodes solids pages = Some (job.Solve workers (record { nodes = nodes; solids = solids }) pages)
+-- a search by so many workers, within limits, with pages or without, of coordinates with so many decimals
+abbrev pub search_by : ℕ → ℕ → ℕ → Bool → ℕ → Option Job
+search_by workers nodes solids pages decimals = Some (job.Solve workers (record { nodes = nodes; solids = solids }) pages decimals)
 
--- by one worker, without pages
+-- by one worker, without pages, of whole coordinates
 abbrev pub search_within : ℕ → ℕ → Option Job
-search_within nodes solids = search_by 1 nodes solids false
+search_within nodes solids = search_by 1 nodes solids false 0
 
-abbrev pub redrawn : ℕ → ℕ → ℕ → ℕ → Option Job
-redrawn which workers nodes solids = Some (job.Redraw which workers (record { nodes = nodes; solids = solids }))
+abbrev pub redrawn : ℕ → ℕ → ℕ → ℕ → ℕ → Option Job
+redrawn which workers nodes solids decimals = Some (job.Redraw which workers (record { nodes = nodes; solids = solids }) decimals)
 
 -- whether any of the lines is taken
 abbrev pub any_said : List Text → Bool

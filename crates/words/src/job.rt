@@ -7,7 +7,7 @@ ghost use Rattle.clap.specs.Words.{found_of, one_text};
 ghost use Rattle.words.specs.declared.job.Job.TheVariants as job;
 ghost use Rattle.words.specs.declared.job.WordFault.TheVariants as word_fault;
 ghost use Rattle.words.specs.Barred.{is_barred};
-ghost use Rattle.words.specs.Jobs.{job_said, limits_in, make_table, number_in, one_in, one_table, pages_in, solve_table, trial_table, workers_in};
+ghost use Rattle.words.specs.Jobs.{decimals_in, job_said, limits_in, make_table, number_in, pages_in, redraw_table, solve_table, stl_table, trial_table, workers_in};
 ghost use Rattle.words.specs.Rows.{table_of};
 ghost use Rattle.words.specs.Words.{lies_in_range, number_name, taken};
 
@@ -21,17 +21,20 @@ use std::alloc::Global;
 /// What the words ask for.
 #[derive(Clone, Copy, Debug)]
 pub enum Job {
-    /// A search for the solids of a drawing, by so many workers, with pages or without.
+    /// A search for the solids of a drawing whose coordinates have so many decimals, by so many
+    /// workers, with pages or without.
     Solve {
         workers: u32,
         limits: Limits,
         pages: bool,
+        decimals: u8,
     },
     /// The drawing of one of these solids, by its number, counted from 1.
     Redraw {
         which: u32,
         workers: u32,
         limits: Limits,
+        decimals: u8,
     },
     /// The boundary of one of these solids as triangles, by its number.
     Stl {
@@ -71,6 +74,8 @@ const SOLIDS: Range = Range {
     most: 65_536,
 };
 
+const DECIMALS: Range = Range { least: 0, most: 6 };
+
 const SEEDS: Range = Range {
     least: 0,
     most: u64::MAX,
@@ -96,9 +101,22 @@ const PAGES_ROW: Row<'static> = Row {
     range: None,
 };
 
-static SOLVE_ROWS: [Row<'static>; 4] = [WORKERS_ROW, NODES_ROW, SOLIDS_ROW, PAGES_ROW];
+const DECIMALS_ROW: Row<'static> = Row {
+    name: "decimals",
+    range: Some(DECIMALS),
+};
 
-static ONE_ROWS: [Row<'static>; 3] = [WORKERS_ROW, NODES_ROW, SOLIDS_ROW];
+static SOLVE_ROWS: [Row<'static>; 5] = [
+    WORKERS_ROW,
+    NODES_ROW,
+    SOLIDS_ROW,
+    PAGES_ROW,
+    DECIMALS_ROW,
+];
+
+static REDRAW_ROWS: [Row<'static>; 4] = [WORKERS_ROW, NODES_ROW, SOLIDS_ROW, DECIMALS_ROW];
+
+static STL_ROWS: [Row<'static>; 3] = [WORKERS_ROW, NODES_ROW, SOLIDS_ROW];
 
 static TRIAL_ROWS: [Row<'static>; 1] = [WORKERS_ROW];
 
@@ -112,12 +130,22 @@ fn solve_rows() -> Rows<'static>
     }
 }
 
-/// What a search for one solid takes.
-fn one_rows() -> Rows<'static>
-    ensures { table_of result ≡ one_table }
+/// What `redraw` takes.
+fn redraw_rows() -> Rows<'static>
+    ensures { table_of result ≡ redraw_table }
 {
     Rows {
-        options: ONE_ROWS.as_slice(),
+        options: REDRAW_ROWS.as_slice(),
+        number: Some(SOLIDS),
+    }
+}
+
+/// What `stl` takes.
+fn stl_rows() -> Rows<'static>
+    ensures { table_of result ≡ stl_table }
+{
+    Rows {
+        options: STL_ROWS.as_slice(),
         number: Some(SOLIDS),
     }
 }
@@ -175,11 +203,32 @@ fn limits_of(matches: &ArgMatches<'_>) -> Limits
     }
 }
 
+/// How many decimals coordinates have, by the option.
+fn decimals_of(matches: &ArgMatches<'_>) -> u8
+    requires { IfSome (one_text (found_of matches.now) (codes "decimals"))
+        (λ text. lies_in_range (record { least = 0; most = 6 }) text ≡ true) }
+    ensures { result ≡ unwrap_or (option_map (digits_value 10)
+        (one_text (found_of matches.now) (codes "decimals"))) 0 }
+{
+    number_or(matches, "decimals", DECIMALS.least, DECIMALS.most, 0) as u8
+}
+
+/// The number of the solid that is searched for.
+fn which_of(matches: &ArgMatches<'_>) -> u32
+    requires { IfSome (one_text (found_of matches.now) (codes "number"))
+        (λ text. lies_in_range (record { least = 1; most = 65536 }) text ≡ true) }
+    ensures { result ≡ unwrap_or (option_map (digits_value 10)
+        (one_text (found_of matches.now) (codes "number"))) 1 }
+{
+    number_or(matches, "number", SOLIDS.least, SOLIDS.most, 1) as u32
+}
+
 /// The job of `solve`.
 fn solve_of(alloc: Global, words: &[String]) -> Result<Job, WordFault>
     requires { list_any is_barred (map string_bytes words.now) ≡ false }
     ensures { MatchResult result
-        (λ asked. option_map (λ us. job.Solve (workers_in us) (limits_in us) (pages_in us))
+        (λ asked. option_map
+        (λ us. job.Solve (workers_in us) (limits_in us) (pages_in us) (decimals_in us))
         (taken solve_table (drop 1 (map string_bytes words.now))) ≡ Some asked)
         (λ e. e ≡ word_fault.Usage
         → taken solve_table (drop 1 (map string_bytes words.now)) ≡ None) }
@@ -190,38 +239,27 @@ fn solve_of(alloc: Global, words: &[String]) -> Result<Job, WordFault>
         workers: workers_of(&matches),
         limits: limits_of(&matches),
         pages: matches.get_flag("pages"),
+        decimals: decimals_of(&matches),
     })
-}
-
-/// What a search for one solid is asked: its number, how many work at it, and its limits.
-fn search_for_one(alloc: Global, words: &[String]) -> Result<(u32, u32, Limits), WordFault>
-    requires { list_any is_barred (map string_bytes words.now) ≡ false }
-    ensures { MatchResult result
-        (λ asked. option_map one_in (taken one_table (drop 1 (map string_bytes words.now)))
-        ≡ Some asked)
-        (λ e. e ≡ word_fault.Usage
-        → taken one_table (drop 1 (map string_bytes words.now)) ≡ None) }
-{
-    let table = one_rows();
-    let matches = parse(alloc, &table, words)?;
-    let which = number_or(&matches, "number", SOLIDS.least, SOLIDS.most, 1);
-    Ok((which as u32, workers_of(&matches), limits_of(&matches)))
 }
 
 /// The job of `redraw`.
 fn redraw_of(alloc: Global, words: &[String]) -> Result<Job, WordFault>
     requires { list_any is_barred (map string_bytes words.now) ≡ false }
     ensures { MatchResult result
-        (λ asked. option_map (λ us. job.Redraw (number_in us) (workers_in us) (limits_in us))
-        (taken one_table (drop 1 (map string_bytes words.now))) ≡ Some asked)
+        (λ asked. option_map
+        (λ us. job.Redraw (number_in us) (workers_in us) (limits_in us) (decimals_in us))
+        (taken redraw_table (drop 1 (map string_bytes words.now))) ≡ Some asked)
         (λ e. e ≡ word_fault.Usage
-        → taken one_table (drop 1 (map string_bytes words.now)) ≡ None) }
+        → taken redraw_table (drop 1 (map string_bytes words.now)) ≡ None) }
 {
-    let (which, workers, limits) = search_for_one(alloc, words)?;
+    let table = redraw_rows();
+    let matches = parse(alloc, &table, words)?;
     Ok(Job::Redraw {
-        which,
-        workers,
-        limits,
+        which: which_of(&matches),
+        workers: workers_of(&matches),
+        limits: limits_of(&matches),
+        decimals: decimals_of(&matches),
     })
 }
 
@@ -230,15 +268,16 @@ fn stl_of(alloc: Global, words: &[String]) -> Result<Job, WordFault>
     requires { list_any is_barred (map string_bytes words.now) ≡ false }
     ensures { MatchResult result
         (λ asked. option_map (λ us. job.Stl (number_in us) (workers_in us) (limits_in us))
-        (taken one_table (drop 1 (map string_bytes words.now))) ≡ Some asked)
+        (taken stl_table (drop 1 (map string_bytes words.now))) ≡ Some asked)
         (λ e. e ≡ word_fault.Usage
-        → taken one_table (drop 1 (map string_bytes words.now)) ≡ None) }
+        → taken stl_table (drop 1 (map string_bytes words.now)) ≡ None) }
 {
-    let (which, workers, limits) = search_for_one(alloc, words)?;
+    let table = stl_rows();
+    let matches = parse(alloc, &table, words)?;
     Ok(Job::Stl {
-        which,
-        workers,
-        limits,
+        which: which_of(&matches),
+        workers: workers_of(&matches),
+        limits: limits_of(&matches),
     })
 }
 
@@ -288,9 +327,9 @@ fn trial_of(alloc: Global, words: &[String]) -> Result<Job, WordFault>
 /// The job that the words ask for: the program's arguments, the first of which is the command.
 ///
 /// `solve` takes `--workers` from 1 to 64, by default 1, `--nodes` from 1 to 4,000,000, by default
-/// 1,000,000, `--solids` from 1 to 65,536, by default 4,096, and `--pages`, which has no value.
-/// `redraw` and `stl` take these but `--pages`, and a number from 1 to 65,536, which must be there.
-/// `make` and `trial` take a number below 2 to the power 64, which must be there, and `trial` takes
+/// 1,000,000, `--solids` from 1 to 65,536, by default 4,096, `--decimals` from 0 to 6, by default 0,
+/// and `--pages`, which has no value. `redraw` takes these but `--pages`, `stl` the first three, and
+/// both a number from 1 to 65,536, which must be there. `make` and `trial` take a number below 2 to the power 64, which must be there, and `trial` takes
 /// `--workers`.
 /// Options and the number stand in any order, each at most once; an option is written as
 /// `--name value` or as `--name=value`. A value is one or more digits; leading zeros count for

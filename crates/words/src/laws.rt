@@ -16,12 +16,15 @@ pub fn small_jobs()
     ensures order { job_in (codes "solve --solids 65536 --nodes=4000000")
         ≡ search_within 4000000 65536 }
     ensures least { job_in (codes "solve --nodes=1 --solids 1") ≡ search_within 1 1 }
-    ensures workers { job_in (codes "solve --workers=064") ≡ search_by 64 1000000 4096 false }
-    ensures pages { job_in (codes "solve --pages --workers 2") ≡ search_by 2 1000000 4096 true }
-    ensures last { job_in (codes "solve --nodes=3 --pages") ≡ search_by 1 3 4096 true }
-    ensures redraw { job_in (codes "redraw 02") ≡ redrawn 2 1 1000000 4096 }
+    ensures workers { job_in (codes "solve --workers=064") ≡ search_by 64 1000000 4096 false 0 }
+    ensures pages { job_in (codes "solve --pages --workers 2") ≡ search_by 2 1000000 4096 true 0 }
+    ensures last { job_in (codes "solve --nodes=3 --pages") ≡ search_by 1 3 4096 true 0 }
+    ensures redraw { job_in (codes "redraw 02") ≡ redrawn 2 1 1000000 4096 0 }
     ensures between { job_in (codes "redraw --nodes 5 1 --solids=6 --workers=3")
-        ≡ redrawn 1 3 5 6 }
+        ≡ redrawn 1 3 5 6 0 }
+    ensures decimals { job_in (codes "solve --decimals 6 --pages")
+        ≡ search_by 1 1000000 4096 true 6 }
+    ensures fractions { job_in (codes "redraw --decimals=03 2") ≡ redrawn 2 1 1000000 4096 3 }
     ensures stl { job_in (codes "stl --solids=7 3 --workers 2")
         ≡ Some (job.Stl 3 2 (record { nodes = 1000000; solids = 7 })) }
     ensures make { job_in (codes "make 18446744073709551615")
@@ -41,6 +44,7 @@ pub fn refused_words()
         ∷ codes "make 7 --nodes 3" ∷ codes "make --workers 2 7"
         ∷ codes "make 18446744073709551616" ∷ codes "trial"
         ∷ codes "trial 7 7" ∷ codes "trial --solids=3 7" ∷ codes "trial 7 --pages"
+        ∷ codes "stl 1 --decimals 3" ∷ codes "make 7 --decimals 3" ∷ codes "trial 7 --decimals=3"
         ∷ []) ≡ false }
     ensures more { any_said (codes "solve 4" ∷ codes "solve solve" ∷ codes "solve "
         ∷ codes "solve --nodes 3 4" ∷ codes "solve --nodes=3 4" ∷ codes "solve -" ∷ []) ≡ false }
@@ -51,10 +55,11 @@ pub fn refused_words()
     ensures ranges { any_said (codes "solve --nodes 0" ∷ codes "solve --nodes=4000001"
         ∷ codes "solve --solids=0" ∷ codes "solve --solids 65537"
         ∷ codes "solve --nodes 18446744073709551617" ∷ codes "solve --workers 0"
-        ∷ codes "solve --workers=65" ∷ codes "trial 7 --workers 65" ∷ []) ≡ false }
+        ∷ codes "solve --workers=65" ∷ codes "trial 7 --workers 65"
+        ∷ codes "solve --decimals 7" ∷ codes "redraw 1 --decimals=-1" ∷ []) ≡ false }
     ensures repeats { any_said (codes "solve --nodes 2 --nodes 2"
         ∷ codes "solve --solids=3 --nodes 2 --solids 3" ∷ codes "solve --workers 2 --workers 2"
-        ∷ codes "solve --pages --pages" ∷ []) ≡ false }
+        ∷ codes "solve --pages --pages" ∷ codes "solve --decimals 2 --decimals 2" ∷ []) ≡ false }
     ensures flags { any_said (codes "solve --pages=" ∷ codes "solve --pages=1"
         ∷ codes "solve --pages=true" ∷ codes "solve --pages 1" ∷ codes "redraw 1 --pages"
         ∷ []) ≡ false }

@@ -18,7 +18,7 @@ returns-in_ok-made_file-in-Make-clause-ends g c =
     let held = g.K.Sink.held c.args.sink.now in let now = g.K.Sink.held c.write_reply.new.sink in
     let source_rose = Rose (g.S.Source.faults c.args.source.now) (g.S.Source.faults c.args.source.now) in
     let sink_rose = Rose (g.K.Sink.faults c.args.sink.now) (g.K.Sink.faults c.write_reply.new.sink) in
-    let told = subst (IsFileOf (made_solid n)) (sym c.as_slice.ensures.value) c.in_ok-made_file-in-Make.ensures in
+    let told = subst (IsFileOf 0 (made_solid n)) (sym c.as_slice.ensures.value) c.in_ok-made_file-in-Make.ensures in
     subst (λ j. Ends (owed_for j) left left held now source_rose sink_rose c.write_reply.result) (sym c.in-Make.is)
     (reply_ends (owed_for (job.Make n)) left left held now source_rose sink_rose answers.Done c.as_slice.result.now (refl, refl, told) (refl, refl, told)
     c.write_reply.result c.write_reply.ensures)

@@ -14,7 +14,7 @@ use Rattle.recon_run.proofs.one_solid.write_numbered.Goals as goal
 
 pub returns-in_err-write : goal.returns-in_err-write
 returns-in_err-write g c =
-    let writes = g.E.Export.writes in
+    let writes = g.E.Export.writes c.args.form.now in
     let s = c.args.searched.now in
     let which = c.args.which in
     let choices = c.as_slice-solids.result.now in
@@ -31,7 +31,7 @@ returns-in_err-write g c =
 
 pub returns-in_ok-write : goal.returns-in_ok-write
 returns-in_ok-write g c =
-    let writes = g.E.Export.writes in
+    let writes = g.E.Export.writes c.args.form.now in
     let s = c.args.searched.now in
     let which = c.args.which in
     let choices = c.as_slice-solids.result.now in

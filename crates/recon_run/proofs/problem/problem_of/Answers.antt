@@ -3,7 +3,7 @@ use Rattle.std.proofs.Common.{◌≡◌, ℕ, List, Ok, Err, inl, inr, ◌∙◌
 use Rattle.std.proofs.lemmas.Result.{err_from_is_err_and}
 use Rattle.dxf_entities.specs.Reading.{read_of}
 use Rattle.dxf_groups.specs.Groups.{GroupsState}
-use Rattle.recon_run.specs.Answers.{IsProblemOf}
+use Rattle.recon_run.specs.Answers.{HasProblem, Input}
 use Rattle.recon_run.proofs.Faults.{file_fault}
 use Rattle.solid_model.specs.declared.fault.Refused.TheVariants as refused
 use Rattle.solid_model.specs.declared.segment.Segment.{Segment}
@@ -14,6 +14,10 @@ use Rattle.solid_model.specs.Line.{Line}
 use Rattle.solid_model.specs.Panels.{IsGridOf}
 use Rattle.solid_model.specs.Runs.{style_in}
 use Rattle.recon_run.proofs.problem.problem_of.Goals as goal
+
+-- a file whose coordinates have so many decimals
+abbrev input : List ℕ → ℕ → Input
+input file decimals = record { bytes = file; decimals = decimals }
 
 -- what the pairs of a file read as is what it reads as
 of_file : (decimals : ℕ) {pairs first : GroupsState} {read lines : List Line} → pairs ≡ first
@@ -32,7 +36,7 @@ returns-in_err-drawing-clause-fault c fault is =
     let refused : c.in_err-drawing.field-0.0 ≡ refused.Fault fault = cc in
     let reads = of_file c.args.decimals c.new.ensures c.in_ok-lines.ensures.lines c.as_slice.ensures.value in
     let empty = c.in_err-drawing.ensures.fault fault (ap Err refused) in
-    file_fault c.args.decimals c.args.file.items (Ok c.as_slice.result.now) fault c.requires.short reads (inl (empty.0, empty.2, empty.1))
+    file_fault (input c.args.file.items c.args.decimals) (Ok c.as_slice.result.now) fault c.requires.short reads (inl (empty.0, empty.2, empty.1))
 
 pub returns-in_err-grid-clause-fault : goal.returns-in_err-grid-clause-fault
 returns-in_err-grid-clause-fault c fault is =
@@ -41,7 +45,7 @@ returns-in_err-grid-clause-fault c fault is =
     let refused : c.in_err-grid.field-0.0 ≡ refused.Fault fault = cc in
     let reads = of_file c.args.decimals c.new.ensures c.in_ok-lines.ensures.lines c.as_slice.ensures.value in
     let (a, count, names, first) = c.in_err-grid.ensures.fault fault (ap Err refused) in
-    file_fault c.args.decimals c.args.file.items (Ok c.as_slice.result.now) fault c.requires.short reads
+    file_fault (input c.args.file.items c.args.decimals) (Ok c.as_slice.result.now) fault c.requires.short reads
     (inr (inl (c.in_ok-drawing.ensures.shown, a, count, of_lines c.as_slice.result.now c.in_ok-drawing.ensures.drawn (λ d. IsFirstTooFine d a count) first, names)))
 
 pub returns-in_err-blocks-clause-fault : goal.returns-in_err-blocks-clause-fault
@@ -52,7 +56,7 @@ returns-in_err-blocks-clause-fault c fault is =
     let reads = of_file c.args.decimals c.new.ensures c.in_ok-lines.ensures.lines c.as_slice.ensures.value in
     let (count, names, many) = c.in_err-blocks.ensures.many fault (ap Err refused) in
     let grid = of_lines c.as_slice.result.now {drawing = style_in c.in_ok-drawing.drawing} c.in_ok-drawing.ensures.drawn (λ d. IsGridOf d c.in_ok-grid.grid) c.in_ok-grid.ensures.grid in
-    file_fault c.args.decimals c.args.file.items (Ok c.as_slice.result.now) fault c.requires.short reads
+    file_fault (input c.args.file.items c.args.decimals) (Ok c.as_slice.result.now) fault c.requires.short reads
     (inr (inr (c.in_ok-drawing.ensures.shown, c.in_ok-grid.grid, grid, count, many, names)))
 
 pub returns-clause-problem : goal.returns-clause-problem
@@ -60,7 +64,7 @@ returns-clause-problem c =
     let blocks = c.in_ok-blocks.blocks in
     let reads = of_file c.args.decimals c.new.ensures c.in_ok-lines.ensures.lines c.as_slice.ensures.value in
     let grid = of_lines c.as_slice.result.now {drawing = style_in c.in_ok-drawing.drawing} c.in_ok-drawing.ensures.drawn (λ d. IsGridOf d c.in_ok-grid.grid) c.in_ok-grid.ensures.grid in
-    let has : IsProblemOf c.args.decimals c.args.file.items (record { grid = c.in_ok-grid.grid; blocks = blocks }) = record {
+    let has : HasProblem (input c.args.file.items c.args.decimals) (record { grid = c.in_ok-grid.grid; blocks = blocks }) = record {
       short = c.requires.short;
       lines = c.as_slice.result.now;
       reads = reads;
@@ -69,4 +73,4 @@ returns-clause-problem c =
       blocks = c.in_ok-blocks.ensures.blocks;
       few = c.in_ok-blocks.ensures.few;
     } in
-    subst (λ p. IsProblemOf c.args.decimals c.args.file.items p) (sym c.new-2.ensures) has
+    subst (λ p. HasProblem (input c.args.file.items c.args.decimals) p) (sym c.new-2.ensures) has

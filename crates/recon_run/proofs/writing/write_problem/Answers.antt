@@ -17,7 +17,7 @@ returns-in_err-searched g c =
     let held = g.K.Sink.held c.args.sink.now in let now = g.K.Sink.held c.search_telling.new.sink in
     let rose = Rose (g.K.Sink.faults c.args.sink.now) (g.K.Sink.faults c.search_telling.new.sink) in
     let failed = err_from_is_err_and c.from_residual.result c.from_residual.ensures.1 in
-    rw (failed.1, failed.2) (search_refused c.args.limits c.args.pages (λ _. answers.Done) c.args.problem held held now rose rose
+    rw (failed.1, failed.2) (search_refused c.args.limits c.args.decimals c.args.pages (λ _. answers.Done) c.args.problem held held now rose rose
     c.in_err-searched.field-0.0 c.in_err-searched.ensures.ends)
 
 pub returns-in_err-write_searched : goal.returns-in_err-write_searched
@@ -25,7 +25,7 @@ returns-in_err-write_searched g c =
     let s = c.in_ok-searched.searched in let (before, (is_of, pages), appends) = c.in_ok-searched.ensures.ends in
     let first = g.K.Sink.faults c.args.sink.now in let mid = g.K.Sink.faults c.search_telling.new.sink in let last = g.K.Sink.faults c.write_searched.new.sink in
     let failed = err_from_is_err_and c.from_residual-in_err-write_searched.result c.from_residual-in_err-write_searched.ensures.1 in
-    rw (failed.1, failed.2) (solids_refused c.args.limits c.args.pages (λ _. answers.Done) c.args.problem (g.K.Sink.held c.args.sink.now)
+    rw (failed.1, failed.2) (solids_refused c.args.limits c.args.decimals c.args.pages (λ _. answers.Done) c.args.problem (g.K.Sink.held c.args.sink.now)
     (g.K.Sink.held c.search_telling.new.sink) (g.K.Sink.held c.write_searched.new.sink) (Rose mid last) (Rose first last) s is_of before pages appends
     (rose_since first mid last c.in_ok-searched.ensures.later) c.in_err-write_searched.field-0.0 c.in_err-write_searched.ensures.ends)
 
@@ -39,7 +39,7 @@ pub returns : goal.returns
 returns g c =
     let s = c.in_ok-searched.searched in let (before, (is_of, pages), appends) = c.in_ok-searched.ensures.ends in
     let first = g.K.Sink.faults c.args.sink.now in let mid = g.K.Sink.faults c.search_telling.new.sink in let last = g.K.Sink.faults c.write_searched.new.sink in
-    solids_written c.args.limits c.args.pages (λ _. answers.Done) c.args.problem (g.K.Sink.held c.args.sink.now)
+    solids_written c.args.limits c.args.decimals c.args.pages (λ _. answers.Done) c.args.problem (g.K.Sink.held c.args.sink.now)
     (g.K.Sink.held c.search_telling.new.sink) (g.K.Sink.held c.write_searched.new.sink) (Rose mid last) (Rose first last) s is_of before pages appends
     (rose_since first mid last c.in_ok-searched.ensures.later) c.at_end.result
     (c.at_end.ensures ∙ ap (λ (e : SearchEnd). end_answer e.kind) (c.behind-searched.view_is ∙ c.ended.ensures.same) ∙ same_answer s.ended.kind (length s.ended.solids))

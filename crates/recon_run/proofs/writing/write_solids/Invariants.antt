@@ -5,5 +5,5 @@ use Rattle.recon_run.specs.Findings.{TellsChoices}
 use Rattle.recon_run.proofs.writing.write_solids.Given as goal
 
 abbrev pub invariant-loop-place : goal.invariant-loop-place
-invariant-loop-place g l = (l.room.rows.sizes ≡ l.texts.blocks.sizes) × (g.K.Sink.faults l.initial.sink ≤ g.K.Sink.faults l.sink)
+invariant-loop-place g l = (l.room.rows.sizes ≡ l.texts.problem.blocks.sizes) × (g.K.Sink.faults l.initial.sink ≤ g.K.Sink.faults l.sink)
     × (text : List ℕ) × TellsChoices l.texts 1 (take l.place l.choices) text × Appends (g.K.Sink.held l.initial.sink) (g.K.Sink.held l.sink) text
