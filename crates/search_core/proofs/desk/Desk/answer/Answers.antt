@@ -3,10 +3,19 @@ use Rattle.std.proofs.Common.{◌≡◌, ◌+◌, ℕ, List, Bool, None, refl, s
 use Rattle.std.specs.Arc.{arc_value}
 use Rattle.solid_model.specs.Lists.{Member}
 use Rattle.search_core.specs.Ledger.{ledger_of, history_of, desk_of}
-use Rattle.search_core.specs.Desk.{DeskParts, Takes, IsTaken}
+use Rattle.search_core.specs.Desk.{DeskParts, IsDesk, Takes, IsTaken}
 use Rattle.search_core.specs.Notes.{StandsAt}
 use Rattle.search_core.proofs.DeskLedger.{history-grown, desk-grown, desk-reported, desk-is, desk-gone, desk-counted, none-from, taken_on}
-use Rattle.search_core.proofs.desk.Desk.report.Goals as goal
+use Rattle.search_core.proofs.desk.Desk.answer.Goals as goal
+
+pub returns-then-not-same-clause-kept : goal.returns-then-not-same-clause-kept
+returns-then-not-same-clause-kept c = let self = c.self.inside in subst IsDesk c.self.view_is (desk-is (arc_value self.problem) self.limits (ledger_of self.ledger) self.opened self.end c.self.invariant)
+
+pub returns-then-is_some-clause-kept : goal.returns-then-is_some-clause-kept
+returns-then-is_some-clause-kept c = let self = c.self.inside in subst IsDesk c.self.view_is (desk-is (arc_value self.problem) self.limits (ledger_of self.ledger) self.opened self.end c.self.invariant)
+
+pub returns-in_default-clause-kept : goal.returns-in_default-clause-kept
+returns-in_default-clause-kept c = let self = c.self.inside in subst IsDesk c.self.view_is (desk-is (arc_value self.problem) self.limits (ledger_of self.ledger) self.opened self.end c.self.invariant)
 
 pub returns-in_default-clause-answer : goal.returns-in_default-clause-answer
 returns-in_default-clause-answer c =
