@@ -1,5 +1,5 @@
 -- What was handed out, with what was found besides, is listed as an answer.
-use Rattle.std.proofs.Common.{◌≡◌, ◌≢◌, ◌⊎◌, inl, inr, Bool, true, false, ℕ, zero, suc, ◌+◌, ◌-◌, ◌≤◌, ◌<◌, ◌||◌, List, [], ◌∷◌, ◌++◌, length, take, drop, filter, not, Some, IsPermutation, refl, sym, ◌∙◌, ap, subst, length-append, length-take, length-drop, arith}
+use Rattle.std.proofs.Common.{◌≡◌, ◌≢◌, ◌⊎◌, inl, inr, Bool, true, false, ℕ, ◌+◌, ◌-◌, ◌≤◌, ◌<◌, ◌||◌, List, [], ◌∷◌, ◌++◌, length, take, drop, filter, not, Some, IsPermutation, refl, sym, ◌∙◌, ap, subst, length-take, length-drop, arith}
 use Rattle.std.specs.List.{list_any}
 use Rattle.std.proofs.lemmas.Bool.{both_ways, cases_lt}
 use Rattle.std.proofs.lemmas.List.{take_all}
@@ -13,7 +13,7 @@ use Rattle.solid_model.specs.Lists.{Member, Each, Ascends}
 use Rattle.solid_model.specs.Search.{SearchLimits}
 use Rattle.solid_model.specs.SearchEnds.{AreSomeOf, EndsAs}
 use Rattle.solid_model.specs.Tree.{PrefixTest, live_from, is_whole, live_below}
-use Rattle.solid_model.proofs.Lists.{each-at, each-from, each-append, each-filter, ascends-append, ascends-append_across, ascends-filter, member-filter, member-from_filter, member-append, member-append_left, member-append_right, same_ascending}
+use Rattle.solid_model.proofs.Lists.{each-at, each-from, each-append, each-filter, ascends-append, ascends-append_across, ascends-filter, member-filter, member-from_filter, member-append_left, member-append_right, same_ascending}
 use Rattle.solid_model.proofs.Styles.{any_from_member}
 use Rattle.solid_model.proofs.AllowedReports.{filter_none}
 use Rattle.solid_model.proofs.ComparedChoices.{precedes_one_way}

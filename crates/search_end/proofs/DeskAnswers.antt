@@ -1,5 +1,5 @@
 -- The answer of a desk that has ended, in the words of its problem.
-use Rattle.std.proofs.Common.{◌≡◌, ◌≢◌, ◌⊎◌, inl, inr, Bool, ℕ, ◌+◌, ◌-◌, ◌≤◌, List, [], ◌∷◌, ◌++◌, length, take, Some, IsPermutation, refl, sym, ◌∙◌, ap, subst, length-append, length-take, arith}
+use Rattle.std.proofs.Common.{◌≡◌, ◌≢◌, ◌⊎◌, inl, inr, Bool, ℕ, ◌-◌, ◌≤◌, List, [], ◌++◌, length, take, Some, IsPermutation, sym, ◌∙◌, ap, subst}
 use Rattle.std.proofs.lemmas.Bool.{eqb-true}
 use Rattle.std.proofs.lemmas.List.Sorted.{length_permutation}
 use Rattle.solid_model.specs.declared.ended.EndKind.{EndKind}

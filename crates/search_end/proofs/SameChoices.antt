@@ -1,6 +1,5 @@
 -- The test for the same choice.
-use Rattle.std.proofs.Common.{◌≡◌, ◌↔◌, Bool, true, false, ℕ, List, [], ◌∷◌, ◌++◌, length, IsTrue, refl, sym, ◌∙◌, ap, subst, arith}
-use Rattle.std.specs.Bool.{Decides}
+use Rattle.std.proofs.Common.{◌≡◌, Bool, true, false, List, refl, sym}
 use Rattle.std.proofs.lemmas.Bool.{both_ways, false_from_ne_true}
 use Rattle.search_core.specs.Core.{same_prefix}
 use Rattle.search_core.proofs.TakenOut.{Decides-same_prefix}

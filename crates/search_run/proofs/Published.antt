@@ -1,7 +1,7 @@
 -- What is published of what a desk has found are solutions, and stays a beginning of it.
 use Rattle.std.proofs.Common.{◌≡◌, ◌≢◌, Bool, ℕ, List, [], ◌-◌, ◌++◌, append_assoc, append-nil, length, take, drop, sym, ◌∙◌, ap, subst}
 use Rattle.std.proofs.Math.Seq.{drop-append_seam}
-use Rattle.solid_model.specs.Blocks.{ProblemParts, IsBlocksOf}
+use Rattle.solid_model.specs.Blocks.{IsBlocksOf}
 use Rattle.solid_model.specs.Lists.{Each, Ascends}
 use Rattle.solid_model.specs.Reports.{Report}
 use Rattle.solid_model.specs.Solutions.{IsSolutionOf}

@@ -1,5 +1,5 @@
 -- What follows what was handed out is new.
-use Rattle.std.proofs.Common.{◌≡◌, length, sym, ◌∙◌}
+use Rattle.std.proofs.Common.{length, sym, ◌∙◌}
 use Rattle.search_end.proofs.AnswerLists.{new_behind, part_whole}
 use Rattle.search_end.proofs.left.all_left.Goals as goal
 

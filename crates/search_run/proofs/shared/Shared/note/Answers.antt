@@ -1,5 +1,5 @@
 -- After a report what is published is still a beginning of what is found.
-use Rattle.std.proofs.Common.{◌≡◌, sym, ◌∙◌, subst}
+use Rattle.std.proofs.Common.{◌∙◌, subst}
 use Rattle.solid_model.specs.Blocks.{ProblemParts, IsBlocksOf}
 use Rattle.search_run.proofs.Published.{noted}
 use Rattle.search_run.proofs.shared.Shared.note.Goals as goal
