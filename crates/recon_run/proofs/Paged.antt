@@ -1,5 +1,5 @@
 -- Pages that were handed out, as they are told.
-use Rattle.std.proofs.Common.{◌≡◌, Bool, true, false, ℕ, ◌+◌, List, [], ◌∷◌, ◌++◌, length, map, Option, Some, None, Err, inr, IsPermutation, refl, sym, ap, ap₂, subst, ◌∙◌, append_assoc, append-nil, arith}
+use Rattle.std.proofs.Common.{◌≡◌, Bool, true, false, ℕ, ◌+◌, List, [], ◌∷◌, ◌++◌, length, map, Option, Some, Err, inr, IsPermutation, refl, sym, ap, ap₂, subst, ◌∙◌, append_assoc, arith}
 use Rattle.std.proofs.Math.Seq.{take-length}
 use Rattle.std.proofs.lemmas.List.{take-append-le}
 use Rattle.std.proofs.lemmas.List.Sorted.{IsPermutation-refl}
@@ -11,9 +11,10 @@ use Rattle.recon_run.specs.Searched.{SearchedParts}
 use Rattle.recon_run.specs.SinkPages.{HasGained, calls_text}
 use Rattle.recon_run.proofs.PossibleEnds.{can_list}
 use Rattle.report.specs.Texts.{page_text}
-use Rattle.search_run.specs.Pages.{AddsCalls, AreNumbered, Call, HasAllPaged, HasPaged, choices_of}
-use Rattle.search_run.specs.declared.page_out.RunFault.{RunFault}
-use Rattle.search_run.specs.declared.page_out.RunFault.TheVariants as run_fault
+use Rattle.search_end.specs.Pages.{AreNumbered, Call, HasAllPaged, HasPaged, choices_of}
+use Rattle.search_end.specs.declared.page_out.RunFault.{RunFault}
+use Rattle.search_end.specs.declared.page_out.RunFault.TheVariants as run_fault
+use Rattle.search_end.proofs.DeskAnswers.{live_solution}
 use Rattle.solid_model.specs.Blocks.{IsBlocksOf, ProblemParts}
 use Rattle.solid_model.specs.Choices.{ChoicePrecedes}
 use Rattle.solid_model.specs.Demands.{is_live}
@@ -49,19 +50,6 @@ numbered_text n t (c ∷ calls) (number, some, few, total, rest) =
 -- the calls that were added are all, where there were none before
 added : (calls more : List Call) → Some calls ≡ Some ([] ++ more) → more ≡ calls
 added calls more e = cc
-
--- where no page was handed out, pages were: none
-pub unpaged : (p : ProblemParts) (most : ℕ) (calls : Option (List Call)) → HasPaged p most calls calls
-unpaged p most calls = record {
-  calls = [];
-  adds = none calls;
-  pages = record { numbered = tt; solutions = record { each = tt; once = tt }; done = []; refused = []; parts = refl; accepted = tt; few = omega arith };
-  few = omega arith;
-}
-  where
-    none : (calls : Option (List Call)) → AddsCalls calls calls []
-    none None = tt
-    none (Some told) = ap Some (sym (append-nil told))
 
 -- ---- pages of all that was found
 
@@ -124,11 +112,6 @@ module _ (p : ProblemParts) (limits : SearchLimits) (blocks : IsBlocksOf p.grid 
   ordered : IsGrid p.grid → Ascends ChoicePrecedes all
   ordered (drawing, is, of) = (complete_tree _ (is_live p) p.blocks.count (live_keeps_matching drawing is p of blocks)).ordered
 
-  -- each solution is live
-  live_solution : IsGrid p.grid → (choice : List Bool) → IsSolutionOf p choice → Member all choice
-  live_solution (drawing, is, of) choice solution =
-      (complete_tree _ (is_live p) p.blocks.count (live_keeps_matching drawing is p of blocks)).complete choice solution.whole (solution.matching drawing is of)
-
   -- pages of some solutions, no more than the limit of solids, are the first pages of a search that can end so
   pub some_told : (before now : Option (List ℕ)) (refused : Bool) (calls : List Call) → HasGained refused before now calls
       → HasPaged p limits.solids (Some []) (Some calls)
@@ -136,7 +119,7 @@ module _ (p : ProblemParts) (limits : SearchLimits) (blocks : IsBlocksOf p.grid 
   some_told before now refused calls gained paged =
       let same = added calls paged.calls paged.adds in let numbered = paged.pages.numbered in let given = choices_of paged.calls in
       let pages = pages_of paged.calls in
-      let each = each-from (Member all) given (λ x k. live_solution grid x (each-at (IsSolutionOf p) given x paged.pages.solutions.each k)) in
+      let each = each-from (Member all) given (λ x k. live_solution p blocks grid x (each-at (IsSolutionOf p) given x paged.pages.solutions.each k)) in
       let can = can_list (is_live p) p.blocks.count limits (ordered grid) given each paged.pages.solutions.once paged.few in
       let told : choices_on (pages ++ singles can.more) ≡ given ++ can.more =
       choices_append pages (singles can.more) ∙ ap₂ (λ xs ys. xs ++ ys) (sym (same_choices paged.calls)) (single_choices can.more) in (

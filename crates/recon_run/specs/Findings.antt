@@ -11,8 +11,8 @@ use Rattle.recon_run.specs.Answers.{Input, IsFileFault, HasProblem, numbered_ans
 use Rattle.recon_run.specs.Owed.{answer_at}
 use Rattle.recon_run.specs.Searched.{SearchedParts}
 use Rattle.recon_run.specs.Pages.{Page, ArePagesOf, pages_text}
-use Rattle.search_run.specs.declared.page_out.RunFault.{RunFault}
-use Rattle.search_run.specs.declared.page_out.RunFault.TheVariants as run_fault
+use Rattle.search_end.specs.declared.page_out.RunFault.{RunFault}
+use Rattle.search_end.specs.declared.page_out.RunFault.TheVariants as run_fault
 use Rattle.report.specs.FaultText.{fault_text}
 use Rattle.report.specs.Texts.{TextsParts, head_text, no_solid_text, solid_text, trial_text}
 use Rattle.solid_model.specs.declared.cell.Cell.{Cell}

@@ -1,6 +1,6 @@
 -- Calls that hand out pages, as they are kept.
 use Rattle.recon_run.specs.declared.sink_pages.Told.{Told}
-use Rattle.search_run.specs.Pages.{Call}
+use Rattle.search_end.specs.Pages.{Call}
 
 -- the call that is kept so
 abbrev pub call_of : Told → Call

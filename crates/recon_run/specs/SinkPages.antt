@@ -2,7 +2,7 @@
 use Rattle.std.specs.Prelude.{◌≡◌, Bool, true, false, ℕ, List, Option}
 use Rattle.std.specs.Io.KnownBytes.{Appends}
 use Rattle.std.specs.List.{flat_map}
-use Rattle.search_run.specs.Pages.{Call}
+use Rattle.search_end.specs.Pages.{Call}
 use Rattle.report.specs.Texts.{page_text}
 use Rattle.solid_model.specs.Lists.{Each}
 use Rattle.tv_base.specs.Pieces.{AppendsPrefix}

@@ -1,7 +1,7 @@
 //! Pages that go to a sink, as texts.
 
 ghost use Rattle.std.specs.Prelude.{◌≡◌, ◌∷◌, [], List, Option, Some, None, ℕ, Bool, true, false, IfOk, OnOk, OnErr};
-ghost use Rattle.search_run.specs.Pages.{Call, AddsCalls, CountsFaults, MayAddCall};
+ghost use Rattle.search_end.specs.Pages.{Call, AddsCalls, CountsFaults, MayAddCall};
 ghost use Rattle.recon_run.specs.SinkPages.{HasGained};
 
 use report::page_text;

@@ -1,3 +1,4 @@
+pub mod Copies
 pub mod Core
 pub mod Conserves
 pub mod SmallCore

@@ -4,7 +4,9 @@ ghost use Rattle.std.specs.Prelude.{◌≡◌, ℕ, Bool, List, length, take};
 ghost use Rattle.search_core.specs.Core.{end_after};
 ghost use Rattle.search_core.specs.Ledger.{ledger_of, KeepsFrontier};
 
+use crate::copies::Copies;
 use crate::ledger::Ledger;
+use crate::ready::ReadyReport;
 use solid_model::{Choice, EndKind, Expansion, Limits, Memory, Prefix, Problem};
 use std::alloc::Global;
 use std::marker::Model;
@@ -80,9 +82,10 @@ impl Model for Desk {
 }
 
 impl Desk {
-    ghost use Rattle.std.specs.Prelude.{◌≡◌, ◌↔◌, [], None, MatchOption, MatchResult, IfOk};
+    ghost use Rattle.std.specs.Prelude.{◌≡◌, ◌↔◌, [], None, MatchOption, MatchResult, IfOk, IfSome};
     ghost use Rattle.std.specs.Arc.{arc_value};
     ghost use Rattle.solid_model.specs.Demands.{is_live};
+    ghost use Rattle.search_core.specs.Copies.{AreCopies};
     ghost use Rattle.search_core.specs.Desk.{IsDesk, IsFirstPiece, Takes};
     ghost use Rattle.search_core.specs.Reported.{IsReported};
 
@@ -111,10 +114,9 @@ impl Desk {
         })
     }
 
-    /// Takes a report: its piece is taken out of the frontier, its rest is added, its choices are
-    /// found as far as the limit of solids has room, and it stands behind the history. An `Err` is
-    /// out of memory, and hands the report back; nothing has changed then.
-    pub fn report(&mut self, expansion: Expansion) -> Result<Reported, Expansion>
+    /// Answers a report, of which copies may be ready, as [`Desk::report`] does.
+    fn answer(&mut self, expansion: Expansion, ready: Option<Copies>) -> Result<Reported, Expansion>
+        requires { IfSome ready (AreCopies expansion.found expansion.rest) }
         ensures answer { MatchResult result (IsReported self.old expansion self.new)
             (λ back. Takes self.old expansion × (back ≡ expansion) × (self.new ≡ self.old)) }
         ensures kept { IsDesk self.new }
@@ -128,7 +130,10 @@ impl Desk {
         let Some(piece) = self.ledger.frontier_place(expansion.piece()) else {
             return Ok(Reported::Gone);
         };
-        let Ok(posting) = self.ledger.prepare(expansion.found(), expansion.rest()) else {
+        let Ok(posting) = self
+            .ledger
+            .prepare(expansion.found(), expansion.rest(), ready)
+        else {
             return Err(expansion);
         };
         self.ledger.post(piece, expansion.opened(), posting);
@@ -137,6 +142,27 @@ impl Desk {
         Ok(Reported::Taken {
             rest: expansion.take_rest(),
         })
+    }
+
+    /// Takes a report: its piece is taken out of the frontier, its rest is added, its choices are
+    /// found as far as the limit of solids has room, and it stands behind the history. An `Err` is
+    /// out of memory, and hands the report back; nothing has changed then.
+    pub fn report(&mut self, expansion: Expansion) -> Result<Reported, Expansion>
+        ensures answer { MatchResult result (IsReported self.old expansion self.new)
+            (λ back. Takes self.old expansion × (back ≡ expansion) × (self.new ≡ self.old)) }
+        ensures kept { IsDesk self.new }
+    {
+        self.answer(expansion, None)
+    }
+
+    /// Takes a report that is ready, as [`Desk::report`] takes one.
+    pub fn report_ready(&mut self, report: ReadyReport) -> Result<Reported, Expansion>
+        ensures answer { MatchResult result (IsReported self.old report self.new)
+            (λ back. Takes self.old report × (back ≡ report) × (self.new ≡ self.old)) }
+        ensures kept { IsDesk self.new }
+    {
+        let ReadyReport { expansion, copies } = report;
+        self.answer(expansion, Some(copies))
     }
 
     /// How the search has ended, if it has.

@@ -1,12 +1,14 @@
 //! The ledger of a desk.
 
-ghost use Rattle.std.specs.Prelude.{◌≡◌, ◌==◌, ◌<◌, ◌≤◌, ◌+◌, ◌-◌, ◌++◌, ◌∷◌, [], ℕ, Bool, List, length, map, vec_len, vec_capacity, IfOk, MatchOption, if◌then◌else◌};
+ghost use Rattle.std.specs.Prelude.{◌≡◌, ◌==◌, ◌<◌, ◌≤◌, ◌+◌, ◌-◌, ◌++◌, ◌∷◌, [], ℕ, Bool, List, length, map, vec_len, vec_capacity, IfOk, IfSome, MatchOption, if◌then◌else◌};
 ghost use Rattle.solid_model.specs.Lists.{Member, Each};
 ghost use Rattle.search_core.specs.Ledger.{ledger_of, IsBegun, HasGrown, HasPosted};
+ghost use Rattle.search_core.specs.Copies.{AreCopies};
 ghost use Rattle.search_core.specs.Postings.{HasRoom, IsPosting};
 ghost use Rattle.search_core.specs.Notes.{prefix_at, AreDistinct, StandsAt};
 ghost use Rattle.search_core.specs.Frontier.{count_of, times_in};
 
+use crate::copies::Copies;
 use crate::frontier::Frontier;
 use crate::note::Note;
 use crate::prefixes::Prefixes;
@@ -32,28 +34,39 @@ pub struct Posting {
     pub rest: Vec<u32>,
 }
 
-/// The places of prefixes, each of which is stored if it isn't yet. An `Err` is out of memory.
-fn keep_all(alloc: Global, prefixes: &mut Prefixes, rest: &[Prefix]) -> Result<Vec<u32>, Memory>
+/// The places of prefixes, each of which is stored if it isn't yet, in a list that is empty yet. An
+/// `Err` is out of memory.
+fn keep_all(
+    prefixes: &mut Prefixes,
+    rest: Vec<Prefix>,
+    places: Vec<u32>,
+) -> Result<Vec<u32>, Memory>
+    requires { places.items ≡ [] }
     ensures grown { (more : List (List Bool)) × (prefixes.new ≡ prefixes.old ++ more) }
     ensures below { IfOk result (λ places. Each (λ k. k < length prefixes.new) places.items) }
-    ensures places { IfOk result (λ places. map (prefix_at prefixes.new) places.items ≡ rest.now) }
+    ensures places { IfOk result (λ places. map (prefix_at prefixes.new) places.items ≡ rest.items) }
 {
-    let mut places = Vec::new(alloc);
+    let mut places = places;
     for prefix in rest {
         places.push(prefixes.keep(prefix)?)?;
     }
     Ok(places)
 }
 
-/// Copies of choices. An `Err` is out of memory.
-fn copy_all(alloc: Global, found: &[Choice]) -> Result<Vec<Choice>, Memory>
-    ensures { IfOk result (λ copies. copies.items ≡ found.now) }
+/// The copies that are there, or else new ones. An `Err` is out of memory.
+fn copies_of(
+    alloc: Global,
+    found: &[Choice],
+    rest: &[Prefix],
+    ready: Option<Copies>,
+) -> Result<Copies, Memory>
+    requires { IfSome ready (AreCopies found.now rest.now) }
+    ensures { IfOk result (AreCopies found.now rest.now) }
 {
-    let mut copies = Vec::new(alloc);
-    for choice in found {
-        copies.push(choice.try_clone()?)?;
+    match ready {
+        Some(copies) => Ok(copies),
+        None => Copies::new(alloc, found, rest),
     }
-    Ok(copies)
 }
 
 /// Puts all these places.
@@ -77,7 +90,7 @@ impl Ledger {
     {
         let mut prefixes = Prefixes::new(alloc)?;
         let mut frontier = Frontier::new(alloc);
-        let root = prefixes.keep(&Prefix::from_bools(alloc, &[])?)?;
+        let root = prefixes.keep(Prefix::from_bools(alloc, &[])?)?;
         frontier.reserve(prefixes.len(), 1)?;
         frontier.put(root);
         if !live {
@@ -109,17 +122,30 @@ impl Ledger {
         }
     }
 
-    /// Takes all the memory that a report needs. An `Err` is out of memory. What the ledger tells
-    /// stays the same.
-    pub fn prepare(&mut self, found: &[Choice], rest: &[Prefix]) -> Result<Posting, Memory>
+    /// Takes all the memory that a report needs, and keeps copies of its choices and of its rest:
+    /// those that are ready, or else new ones. An `Err` is out of memory. What the ledger tells stays
+    /// the same.
+    pub fn prepare(
+        &mut self,
+        found: &[Choice],
+        rest: &[Prefix],
+        ready: Option<Copies>,
+    ) -> Result<Posting, Memory>
+        requires { IfSome ready (AreCopies found.now rest.now) }
         ensures grown { HasGrown (ledger_of self.old) (ledger_of self.new) }
         ensures posting { IfOk result (IsPosting self.new found.now rest.now) }
     {
+        // A look at the prefixes tells that each is stored once.
+        let _count = self.prefixes.len();
         let alloc = *self.notes.allocator();
-        let rest = keep_all(alloc, &mut self.prefixes, rest);
+        let Copies {
+            found,
+            rest,
+            places,
+        } = copies_of(alloc, found, rest, ready)?;
+        let rest = keep_all(&mut self.prefixes, rest, places);
         let places = self.prefixes.len();
         let rest = rest?;
-        let found = copy_all(alloc, found)?;
         self.frontier.reserve(places, rest.len())?;
         self.notes.reserve(1)?;
         self.found.reserve(found.len())?;

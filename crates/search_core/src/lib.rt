@@ -2,6 +2,7 @@
 //! may happen to it.
 #![tactic(auto)]
 
+mod copies;
 mod desk;
 mod frontier;
 mod laws;
@@ -9,8 +10,10 @@ mod ledger;
 mod nodes;
 mod note;
 mod prefixes;
+mod ready;
 mod trie;
 mod way;
 
 pub use desk::{Desk, Reported};
 pub use laws::{small_core, the_core_conserves};
+pub use ready::ReadyReport;

@@ -62,13 +62,13 @@ impl Prefixes {
         self.trie.place(prefix)
     }
 
-    /// The place of a prefix; if it isn't stored, a copy comes behind the others. An `Err` is out of
-    /// memory, or of 32-bit numbers for places.
-    pub fn keep(&mut self, prefix: &Prefix) -> Result<u32, Memory>
+    /// The place of a prefix; if it isn't stored, it comes behind the others. An `Err` is out of memory,
+    /// or of 32-bit numbers for places.
+    pub fn keep(&mut self, prefix: Prefix) -> Result<u32, Memory>
         ensures grown { (more : List (List Bool)) × (self.new ≡ self.old ++ more) }
-        ensures place { IfOk result (StandsAt self.new prefix.now) }
+        ensures place { IfOk result (StandsAt self.new prefix) }
     {
-        let at = self.trie.reach(prefix)?;
+        let at = self.trie.reach(&prefix)?;
         if let Some(place) = self.trie.place_at(at) {
             return Ok(place);
         }
@@ -76,7 +76,7 @@ impl Prefixes {
         if place > u32::MAX as usize {
             return Err(Memory);
         }
-        self.stored.push(prefix.try_clone()?)?;
+        self.stored.push(prefix)?;
         self.trie.put(at, place as u32);
         Ok(place as u32)
     }

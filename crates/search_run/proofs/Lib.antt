@@ -1,7 +1,2 @@
-mod SortedChoices
-mod SameChoices
-mod PageCalls
-mod AnswerLists
-mod DeskAnswers
 mod Published
 mod ReadPages

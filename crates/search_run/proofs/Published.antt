@@ -1,24 +1,19 @@
--- What a desk has found only grows, and what is published of it are solutions.
-use Rattle.std.proofs.Common.{◌≡◌, ◌≢◌, Bool, ℕ, ◌≤◌, List, [], ◌-◌, ◌++◌, append_assoc, append-nil, length, take, drop, sym, ◌∙◌, ap, subst, arith}
+-- What is published of what a desk has found are solutions, and stays a beginning of it.
+use Rattle.std.proofs.Common.{◌≡◌, ◌≢◌, Bool, ℕ, List, [], ◌-◌, ◌++◌, append_assoc, append-nil, length, take, drop, sym, ◌∙◌, ap, subst}
 use Rattle.std.proofs.Math.Seq.{drop-append_seam}
-use Rattle.solid_model.specs.Blocks.{ProblemParts, IsBlocksOf}
-use Rattle.solid_model.specs.Demands.{is_live}
-use Rattle.solid_model.specs.Lists.{Member, Each, Ascends}
+use Rattle.solid_model.specs.Blocks.{IsBlocksOf}
+use Rattle.solid_model.specs.Lists.{Each, Ascends}
 use Rattle.solid_model.specs.Reports.{Report}
 use Rattle.solid_model.specs.Solutions.{IsSolutionOf}
-use Rattle.solid_model.specs.Tree.{live_below, IsClosed}
-use Rattle.solid_model.proofs.Lists.{each-from, each-at, each-append_right}
-use Rattle.columns.proofs.LiveTree.{problem_tree}
+use Rattle.solid_model.proofs.Lists.{each-append_right}
 use Rattle.search_core.specs.declared.desk.Reported.{Reported}
 use Rattle.search_core.specs.declared.desk.Reported.TheVariants.{Taken, Stranger, Stop, Gone}
-use Rattle.search_core.specs.Conserves.{IsConserved}
-use Rattle.search_core.specs.Desk.{DeskParts, IsDesk, IsTaken, desk_state}
+use Rattle.search_core.specs.Desk.{DeskParts, IsDesk}
 use Rattle.search_core.specs.Reported.{IsReported}
-use Rattle.search_core.proofs.Desks.{desk_conserved}
 use Rattle.solution_book.specs.Editions.{EditionParts, StartsWith}
 use Rattle.search_run.specs.Shared.{IsShared}
-use Rattle.search_run.proofs.AnswerLists.{take_behind, part_whole}
-use Rattle.search_run.proofs.DeskAnswers.{solution_of}
+use Rattle.search_end.proofs.AnswerLists.{part_whole}
+use Rattle.search_end.proofs.DeskFound.{found_solutions, found_once, found_grows}
 
 -- a list that begins with one that begins with a third begins with that
 pub starts_on : (xs ys zs : List (List Bool)) → StartsWith xs ys → StartsWith ys zs → StartsWith xs zs
@@ -31,33 +26,12 @@ starts_split xs ys (rest, e) n same =
     e ∙ ap (λ l. ys ++ l) (sym left)
 
 module _ (d : DeskParts) (desk : IsDesk d) (blocks : IsBlocksOf d.problem.grid d.problem.blocks) where
-  kept : IsConserved (is_live d.problem) d.problem.blocks.count d.limits (desk_state d.problem d.limits d.history)
-  kept = desk_conserved d desk (problem_tree d.problem blocks.sized).closed
-
-  -- what is found are solutions
-  found_solutions : Each (IsSolutionOf d.problem) d.found
-  found_solutions = subst (Each (IsSolutionOf d.problem)) (sym desk.found)
-      (each-from (IsSolutionOf d.problem) _ (λ x k. solution_of d.problem blocks x (each-at (Member (live_below (is_live d.problem) d.problem.blocks.count [])) _ x kept.listed k)))
-
-  -- none stands twice
-  pub found_once : Ascends ◌≢◌ d.found
-  found_once = subst (Ascends ◌≢◌) (sym desk.found) kept.once
-
-  -- and they are within the limit
-  found_few : length d.found ≤ d.limits.solids
-  found_few = omega (arith, ap length desk.found, kept.few)
-
-  -- a report leaves them, and more may follow
-  found_grows : (after : DeskParts) (r : Report) → IsTaken d r after → StartsWith after.found d.found
-  found_grows after r taken =
-      (take (d.limits.solids - length d.found) r.found, taken.found ∙ sym (take_behind d.limits.solids d.found r.found found_few))
-
-  -- so a report leaves what is published a beginning of what is found
+  -- a report leaves what is published a beginning of what is found
   pub noted : (after : DeskParts) (r : Report) (e : EditionParts) (answer : Reported) → IsReported d r after answer
       → IsShared record { desk = d; edition = e } → IsShared record { desk = after; edition = e }
   noted after r e (Taken rest) (takes, taken, handed) h = record {
     problem = h.problem ∙ sym taken.problem;
-    begins = starts_on after.found d.found e.solids (found_grows after r taken) h.begins;
+    begins = starts_on after.found d.found e.solids (found_grows d desk blocks after r taken) h.begins;
   }
   noted after r e Stranger (a, same) h = subst (λ (x : DeskParts). IsShared record { desk = x; edition = e }) (sym same) h
   noted after r e Stop (a, b, same) h = subst (λ (x : DeskParts). IsShared record { desk = x; edition = e }) (sym same) h

@@ -5,7 +5,7 @@ use Rattle.solid_model.specs.Blocks.{ProblemParts}
 use Rattle.solid_model.specs.Solutions.{AreSolutions}
 use Rattle.solution_book.specs.Editions.{EditionParts, Begins, Looked}
 use Rattle.search_run.specs.Reading.{IsReadUpTo}
-use Rattle.search_run.proofs.PageCalls.{solutions_left}
+use Rattle.search_end.proofs.PageCalls.{solutions_left}
 use Rattle.search_run.proofs.Published.{starts_on}
 
 -- what was handed out are solutions

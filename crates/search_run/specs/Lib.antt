@@ -1,6 +1,2 @@
-pub mod Sorting
-pub mod Pages
-pub mod Handed
-pub mod Answers
 pub mod Shared
 pub mod Reading

@@ -1,18 +1,11 @@
 //! The search of a problem by workers at one desk, with pages of choices as it goes on.
 #![tactic(auto)]
 
-mod closing;
-mod desk_search;
-mod handed;
-mod left;
-mod page_out;
 mod paging;
 mod room;
 mod running;
 mod shared;
-mod sorted;
 mod working;
 
-pub use desk_search::begin;
-pub use page_out::{NoPages, PageOut, RunFault};
-pub use running::{run_search, search_by_desk};
+pub use running::run_search;
+pub use search_end::{NoPages, PageOut, RunFault, begin, search_by_desk};

@@ -2,14 +2,13 @@
 
 ghost use Rattle.std.specs.Prelude.{◌≡◌, ◌≤◌, [], length, IsTrue, OnOk, MatchResult};
 ghost use Rattle.std.specs.Arc.{arc_value};
-ghost use Rattle.search_run.specs.Handed.{BreaksOff, HandsOn, PagesOn};
-ghost use Rattle.search_run.specs.Pages.{CountsFaults};
+ghost use Rattle.search_end.specs.Handed.{BreaksOff, HandsOn, PagesOn};
+ghost use Rattle.search_end.specs.Pages.{CountsFaults};
 ghost use Rattle.search_run.specs.Reading.{IsReadUpTo};
 
-use crate::handed::{Handed, PAGE};
-use crate::page_out::{PageOut, RunFault};
 use crate::room::Room;
 use crate::working::work;
+use search_end::{Handed, PAGE, PageOut, RunFault};
 use solid_model::{Limits, Problem};
 use solution_book::BookReader;
 use std::alloc::Global;

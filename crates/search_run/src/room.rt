@@ -1,8 +1,8 @@
 //! Where the workers of a search meet: the lock, and where they wait for a change.
 
 use crate::shared::Shared;
-use search_core::Desk;
-use solid_model::{Expansion, Prefix};
+use search_core::{Desk, ReadyReport};
+use solid_model::Prefix;
 use std::alloc::Global;
 use std::sync::{Condvar, Mutex, Wait};
 
@@ -38,28 +38,30 @@ impl<B: Wait + Drop> Room<B> {
         self.shared.lock(rt).changes()
     }
 
-    /// Signals a change.
-    pub fn signal<R: Wait>(&self, rt: &R) {
-        self.shared.lock(rt).change();
+    /// Signals a change, and tells how many were signalled.
+    pub fn signal<R: Wait>(&self, rt: &R) -> u64 {
+        let changes = self.shared.lock(rt).change();
         self.changed.notify_all();
+        changes
     }
 
     /// A worker without a piece stops counting, and waits while no more changes are signalled than it
-    /// has seen. False: nothing is left to be done or nobody is at work, and it leaves.
-    pub fn wait<R: Wait>(&self, rt: &R, seen: u64) -> bool {
+    /// has seen. It is told how many were signalled then. `None`: nothing is left to be done or nobody
+    /// is at work, and it leaves.
+    pub fn wait<R: Wait>(&self, rt: &R, seen: u64) -> Option<u64> {
         let mut shared = self.shared.lock(rt);
         shared.rest();
         if shared.is_still() {
             shared.change();
             drop(shared);
             self.wake_all();
-            return false;
+            return None;
         }
         let mut shared = self
             .changed
             .wait_while(rt, shared, |shared| shared.changes() == seen);
         shared.resume();
-        true
+        Some(shared.changes())
     }
 
     /// A worker that is at work stops counting and leaves.
@@ -85,14 +87,13 @@ impl<B: Wait + Drop> Room<B> {
         &self,
         rt: &R,
         alloc: Global,
-        expansion: Expansion,
+        report: ReadyReport,
     ) -> Option<Vec<Prefix>> {
         let mut shared = self.shared.lock(rt);
         let before = shared.published();
-        let rest = shared.report(alloc, expansion);
+        let rest = shared.report(alloc, report);
         let now = shared.published();
         drop(shared);
-        self.changed.notify_all();
         if now != before {
             self.news.notify_all();
         }

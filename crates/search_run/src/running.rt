@@ -1,22 +1,17 @@
-//! The search of a problem, by several workers or by the calling thread alone.
+//! The search of a problem by several workers.
 
 ghost use Rattle.std.specs.Prelude.{◌≡◌, ◌≤◌, IfOk, MatchResult};
 ghost use Rattle.std.specs.Arc.{arc_value};
 ghost use Rattle.solid_model.specs.Demands.{is_live};
 ghost use Rattle.solid_model.specs.SearchEnds.{EndsSearch};
-ghost use Rattle.search_tree.specs.BlockPaths.{IsWayOf};
-ghost use Rattle.search_run.specs.Answers.{IsAnswer};
-ghost use Rattle.search_run.specs.Pages.{CountsFaults, HasPaged, HasAllPaged};
+ghost use Rattle.search_end.specs.Answers.{IsAnswer};
+ghost use Rattle.search_end.specs.Pages.{CountsFaults, HasPaged, HasAllPaged};
 
-use crate::closing::finish;
-use crate::desk_search::begin_from;
-use crate::handed::Handed;
-use crate::page_out::{NoPages, PageOut, RunFault};
 use crate::paging::search_together;
 use crate::room::Room;
 use crate::shared::Shared;
 use search_core::Desk;
-use search_tree::BlockPath;
+use search_end::{PageOut, RunFault, finish, set_up};
 use solid_model::{Ended, Limits, Memory, Problem};
 use solution_book::{Book, BookReader};
 use std::alloc::Global;
@@ -27,64 +22,6 @@ use tv_base::Gate;
 
 /// How many pieces each worker is sure to put into its deque.
 const PIECES: usize = 1024;
-
-/// A way down the tree of a problem's prefixes, and the desk of a search of it that begins. An `Err`
-/// is out of memory.
-fn set_up<'a>(
-    alloc: Global,
-    problem: &'a Arc<Problem>,
-    limits: Limits,
-) -> Result<(BlockPath<'a>, Desk), Memory>
-    ensures way { IfOk result (λ r. IsWayOf (arc_value problem.now) r.0) }
-    ensures problem { IfOk result (λ r. r.1.problem ≡ arc_value problem.now) }
-{
-    let mut path = BlockPath::new(alloc, problem)?;
-    let desk = begin_from(alloc, &mut path, problem, limits)?;
-    Ok((path, desk))
-}
-
-/// The search of all prefixes of a problem within limits, and how it ended, by a desk on the calling
-/// thread. Hands the choices out in pages.
-fn search_alone<P: PageOut>(
-    alloc: Global,
-    problem: &Arc<Problem>,
-    limits: Limits,
-    pages: &mut P,
-) -> Result<(Ended, Desk), RunFault>
-    ensures answer { IfOk result (λ r. EndsSearch (is_live (arc_value problem.now))
-        (arc_value problem.now).blocks.count limits r.0) }
-    ensures desk { IfOk result (λ r. IsAnswer (arc_value problem.now) limits r.0 r.1) }
-    ensures paged { MatchResult result
-        (λ r. HasAllPaged (arc_value problem.now) (P.calls pages.old) (P.calls pages.new) r.0.solids)
-        (λ _. HasPaged (arc_value problem.now) limits.solids (P.calls pages.old)
-        (P.calls pages.new)) }
-    ensures faults { CountsFaults (P.faults pages.old) (P.faults pages.new) result
-        RunFault.PageFault }
-{
-    match set_up(alloc, problem, limits) {
-        Ok((mut path, desk)) => {
-            let handed = Handed::new(alloc);
-            finish(alloc, &mut path, problem, limits, desk, handed, pages)
-        }
-        Err(_) => Err(RunFault::Memory),
-    }
-}
-
-/// The search of all prefixes of a problem within limits, and how it ended, by a desk on the calling
-/// thread. An `Err` is out of memory.
-pub fn search_by_desk(
-    alloc: Global,
-    problem: &Arc<Problem>,
-    limits: Limits,
-) -> Result<Ended, Memory>
-    ensures { IfOk result (EndsSearch (is_live (arc_value problem.now))
-        (arc_value problem.now).blocks.count limits) }
-{
-    match search_alone(alloc, problem, limits, &mut NoPages) {
-        Ok((ended, _)) => Ok(ended),
-        Err(_) => Err(Memory),
-    }
-}
 
 /// The seats of so many workers in a pool that holds the desk's first piece, if it has one, in the
 /// first deque. An `Err` is out of memory.

@@ -1,7 +1,7 @@
 //! What the workers of a search share, under their lock.
 
-use search_core::{Desk, Reported};
-use solid_model::{Expansion, Memory, Prefix};
+use search_core::{Desk, ReadyReport, Reported};
+use solid_model::{Memory, Prefix};
 use solution_book::BookWriter;
 use std::alloc::Global;
 use std::marker::Model;
@@ -53,9 +53,10 @@ impl<B: Wait + Drop> Shared<B> {
         self.changes
     }
 
-    /// Signals a change.
-    pub fn change(&mut self) {
+    /// Signals a change, and tells how many were signalled.
+    pub fn change(&mut self) -> u64 {
         self.changes = self.changes.wrapping_add(1);
+        self.changes
     }
 
     /// How many solids are published.
@@ -89,11 +90,11 @@ impl<B: Wait + Drop> Shared<B> {
     }
 
     /// Takes a report. An `Err` is out of memory.
-    fn note(&mut self, expansion: Expansion) -> Result<Reported, Memory> {
+    fn note(&mut self, report: ReadyReport) -> Result<Reported, Memory> {
         // Looks at the problem and the desk tell that the desk stands as its history leaves it.
         let _grid = self.desk.problem().grid();
         let _end = self.desk.end();
-        match self.desk.report(expansion) {
+        match self.desk.report_ready(report) {
             Ok(answer) => Ok(answer),
             Err(_) => Err(Memory),
         }
@@ -113,8 +114,8 @@ impl<B: Wait + Drop> Shared<B> {
 
     /// Takes a report and publishes what is new. The rest is handed over, of a report that is taken.
     /// An `Err` is out of memory.
-    fn take_in(&mut self, alloc: Global, expansion: Expansion) -> Result<Vec<Prefix>, Memory> {
-        let answer = self.note(expansion)?;
+    fn take_in(&mut self, alloc: Global, report: ReadyReport) -> Result<Vec<Prefix>, Memory> {
+        let answer = self.note(report)?;
         self.publish_new(alloc)?;
         match answer {
             Reported::Taken { rest } => Ok(rest),
@@ -122,12 +123,11 @@ impl<B: Wait + Drop> Shared<B> {
         }
     }
 
-    /// Takes a report, publishes what is new and signals a change. The rest is handed over, of a
-    /// report that is taken. `None`: the worker is to leave, since the desk has ended or all are to
-    /// stop, as they are where memory runs out.
-    pub fn report(&mut self, alloc: Global, expansion: Expansion) -> Option<Vec<Prefix>> {
-        self.change();
-        match self.take_in(alloc, expansion) {
+    /// Takes a report and publishes what is new. The rest is handed over, of a report that is taken.
+    /// `None`: the worker is to leave, since the desk has ended or all are to stop, as they are where
+    /// memory runs out; it signals that change when it leaves.
+    pub fn report(&mut self, alloc: Global, report: ReadyReport) -> Option<Vec<Prefix>> {
+        match self.take_in(alloc, report) {
             Ok(_) if self.is_over() => None,
             Ok(rest) => Some(rest),
             Err(Memory) => {

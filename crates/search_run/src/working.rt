@@ -3,10 +3,11 @@
 ghost use Rattle.std.specs.Arc.{arc_value};
 ghost use Rattle.search_tree.specs.BlockPaths.{IsWayOf};
 
-use crate::desk_search::QUANTUM;
 use crate::room::Room;
+use search_core::ReadyReport;
+use search_end::QUANTUM;
 use search_tree::{BlockPath, expand_from};
-use solid_model::{Prefix, Problem};
+use solid_model::{Memory, Prefix, Problem};
 use std::alloc::Global;
 use std::sync::{Arc, Wait};
 use steal_pool::WorkerSeat;
@@ -32,6 +33,26 @@ fn put_all(seat: &mut WorkerSeat, rest: Vec<Prefix>) {
     }
 }
 
+/// The report of a piece, if it is live, ready for the desk before its lock is taken. An `Err` is out
+/// of memory.
+fn report_of(
+    alloc: Global,
+    path: &mut BlockPath,
+    problem: &Arc<Problem>,
+    piece: &Prefix,
+) -> Result<Option<ReadyReport>, Memory>
+    requires way { IsWayOf (arc_value problem.now) path.old }
+    ensures way { IsWayOf (arc_value problem.now) path.new }
+{
+    match expand_from(alloc, path, problem, piece, QUANTUM)? {
+        Some(expansion) => match ReadyReport::new(alloc, expansion) {
+            Ok(report) => Ok(Some(report)),
+            Err(_) => Err(Memory),
+        },
+        None => Ok(None),
+    }
+}
+
 /// Expands a piece and reports it. The rest is handed over; `None`: the worker is to leave. Out of
 /// memory, all are to stop.
 fn work_at<B: Wait + Drop, R: Wait, G: Gate>(
@@ -48,9 +69,9 @@ fn work_at<B: Wait + Drop, R: Wait, G: Gate>(
     ensures way { IsWayOf (arc_value problem.now) path.new }
 {
     gate.pass(worker, Point::BeforeExpand);
-    match expand_from(alloc, path, problem, piece, QUANTUM) {
-        Ok(Some(expansion)) => {
-            let rest = room.report(rt, alloc, expansion);
+    match report_of(alloc, path, problem, piece) {
+        Ok(Some(report)) => {
+            let rest = room.report(rt, alloc, report);
             gate.pass(worker, Point::AfterReport);
             rest
         }
@@ -62,7 +83,8 @@ fn work_at<B: Wait + Drop, R: Wait, G: Gate>(
     }
 }
 
-/// The rounds of a worker, from a way down the tree of the problem's prefixes on, until it leaves.
+/// The rounds of a worker, from a way down the tree of the problem's prefixes on, until it leaves. How
+/// many changes were signalled it is told each time before it looks for a piece.
 fn go_round<B: Wait + Drop, R: Wait, G: Gate>(
     rt: &R,
     alloc: Global,
@@ -75,8 +97,8 @@ fn go_round<B: Wait + Drop, R: Wait, G: Gate>(
 )
     requires way { IsWayOf (arc_value problem.now) path.old }
 {
+    let mut seen = room.changes(rt);
     for _ in rt.forever() {
-        let seen = room.changes(rt);
         match find(rt, seat) {
             Some(piece) => {
                 let Some(rest) = work_at(rt, alloc, path, problem, room, gate, worker, &piece)
@@ -86,14 +108,13 @@ fn go_round<B: Wait + Drop, R: Wait, G: Gate>(
                 };
                 if !rest.is_empty() {
                     put_all(seat, rest);
-                    room.signal(rt);
+                    seen = room.signal(rt);
                 }
             }
-            None => {
-                if !room.wait(rt, seen) {
-                    return;
-                }
-            }
+            None => match room.wait(rt, seen) {
+                Some(changes) => seen = changes,
+                None => return,
+            },
         }
     }
 }

@@ -1,5 +1,5 @@
 -- Before the search no page is handed out.
-use Rattle.recon_run.proofs.Paged.{unpaged}
+use Rattle.search_end.proofs.PageCalls.{unpaged}
 use Rattle.recon_run.proofs.searched.search_by.Goals as goal
 
 pub returns-in_default-clause-paged : goal.returns-in_default-clause-paged

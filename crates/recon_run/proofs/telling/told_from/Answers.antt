@@ -5,7 +5,7 @@ use Rattle.recon_run.specs.declared.status.Failure.{Failure}
 use Rattle.recon_run.specs.Findings.{BeginsPages, EndsWriting, TellsPages, TellsSearch}
 use Rattle.recon_run.specs.SinkPages.{PagesState}
 use Rattle.recon_run.proofs.Paged.{all_told, failed_ends}
-use Rattle.search_run.specs.Pages.{HasAllPaged, HasPaged}
+use Rattle.search_end.specs.Pages.{HasAllPaged, HasPaged}
 use Rattle.solid_model.specs.Panels.{GridParts, IsGrid}
 use Rattle.tv_base.specs.Faults.{Rose}
 use Rattle.recon_run.proofs.telling.told_from.Goals as goal

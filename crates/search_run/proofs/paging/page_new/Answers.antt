@@ -2,7 +2,7 @@
 use Rattle.std.proofs.Common.{◌≤◌, ◌-◌, [], length, sym, ap, subst, rules}
 use Rattle.std.specs.Arc.{arc_value}
 use Rattle.search_run.specs.Reading.{IsReadUpTo}
-use Rattle.search_run.proofs.PageCalls.{paged}
+use Rattle.search_end.proofs.PageCalls.{paged}
 use Rattle.search_run.proofs.ReadPages.{read_solutions, read_on, within_room}
 use Rattle.search_run.proofs.paging.page_new.Goals as goal
 

@@ -1,7 +1,7 @@
 -- Each page so far was accepted, and what was handed out is the beginning of what was seen.
 use Rattle.std.proofs.Common.{◌≤◌, length}
 use Rattle.std.specs.Arc.{arc_value}
-use Rattle.search_run.specs.Handed.{HandsOn}
+use Rattle.search_end.specs.Handed.{HandsOn}
 use Rattle.search_run.specs.Reading.{IsReadUpTo}
 use Rattle.search_run.proofs.paging.page_on.Given as goal
 

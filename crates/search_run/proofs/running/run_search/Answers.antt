@@ -1,7 +1,7 @@
 -- At first nothing is handed out; what then was is handed on.
 use Rattle.std.proofs.Common.{[]}
 use Rattle.std.specs.Arc.{arc_value}
-use Rattle.search_run.proofs.PageCalls.{paged, none_yet, unpaged}
+use Rattle.search_end.proofs.PageCalls.{paged, none_yet, unpaged}
 use Rattle.search_run.proofs.running.run_search.Goals as goal
 
 pub returns-in_default-clause-paged : goal.returns-in_default-clause-paged

@@ -15,15 +15,12 @@ invariant_of-self-in-Some c = places_same c.self.inside.trie c.reach.new.self c.
 
 pub returns-in-Some-clause-place : goal.returns-in-Some-clause-place
 returns-in-Some-clause-place c =
-    let p = c.args.prefix.now in
+    let p = c.args.prefix in
     let here : trie_place c.reach.new.self p ≡ Some c.in-Some.place = place-there c.reach.new.self p c.in_ok-at.at c.in_ok-at.ensures.there ∙ sym c.place_at.ensures ∙ c.in-Some.is in
     (c.self.invariant p c.in-Some.place).0 (sym (c.reach.ensures.places p) ∙ here)
 
 pub invariant_of-self-then-place : goal.invariant_of-self-then-place
 invariant_of-self-then-place c = places_same c.self.inside.trie c.reach.new.self c.self.inside.stored.items c.reach.ensures.places c.self.invariant
-
-pub invariant_of-self-in_err-try_clone : goal.invariant_of-self-in_err-try_clone
-invariant_of-self-in_err-try_clone c = places_same c.self.inside.trie c.reach.new.self c.self.inside.stored.items c.reach.ensures.places c.self.invariant
 
 pub invariant_of-self-in_err-push : goal.invariant_of-self-in_err-push
 invariant_of-self-in_err-push c =
@@ -32,8 +29,8 @@ invariant_of-self-in_err-push c =
 pub invariant_of-self-2 : goal.invariant_of-self-2
 invariant_of-self-2 c =
     let stored = c.self.inside.stored.items in
-    let p = c.args.prefix.now in
-    let items : c.push.new.self.items ≡ stored ++ p ∷ [] = c.in_ok-push.ensures.items ∙ ap (λ (q : List Bool). stored ++ q ∷ []) c.in_ok-try_clone.ensures in
+    let p = c.args.prefix in
+    let items : c.push.new.self.items ≡ stored ++ p ∷ [] = c.in_ok-push.ensures.items in
     let place : c.len-place.result ≡ length stored = omega arith in
     let none : trie_place c.reach.new.self p ≡ None = place-there c.reach.new.self p c.in_ok-at.at c.in_ok-at.ensures.there ∙ sym c.place_at.ensures ∙ c.in_default.is in
     let given : (q : List Bool) → trie_place c.put.new.self q ≡ (if same_prefix p q then Some (length stored) else trie_place c.reach.new.self q) =

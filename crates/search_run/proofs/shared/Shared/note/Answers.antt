@@ -1,5 +1,5 @@
 -- After a report what is published is still a beginning of what is found.
-use Rattle.std.proofs.Common.{◌≡◌, sym, ◌∙◌, subst}
+use Rattle.std.proofs.Common.{◌∙◌, subst}
 use Rattle.solid_model.specs.Blocks.{ProblemParts, IsBlocksOf}
 use Rattle.search_run.proofs.Published.{noted}
 use Rattle.search_run.proofs.shared.Shared.note.Goals as goal
@@ -8,4 +8,4 @@ pub invariant_of-self : goal.invariant_of-self
 invariant_of-self g c =
     let d = c.self.inside.desk in
     let blocks : IsBlocksOf d.problem.grid d.problem.blocks = subst (λ (p : ProblemParts). IsBlocksOf p.grid p.blocks) (c.deref.ensures ∙ c.problem.ensures.problem) c.grid-grid.ensures.kept in
-    noted d c.end-end.ensures.kept blocks c.report.new.self c.args.expansion c.self.inside.book.edition c.in-Ok.answer c.in-Ok.ensures.answer c.self.invariant
+    noted d c.end-end.ensures.kept blocks c.report_ready.new.self c.args.report c.self.inside.book.edition c.in-Ok.answer c.in-Ok.ensures.answer c.self.invariant

@@ -1,5 +1,5 @@
 -- What is published are solutions, none of them twice.
-use Rattle.std.proofs.Common.{◌≡◌, ◌≢◌, ◌-◌, List, Bool, length, take, drop, ◌++◌, sym, ◌∙◌, ap, subst}
+use Rattle.std.proofs.Common.{◌≢◌, ◌-◌, List, Bool, length, take, drop, ◌++◌, sym, ◌∙◌, ap, subst}
 use Rattle.solid_model.specs.Blocks.{ProblemParts, IsBlocksOf}
 use Rattle.solid_model.specs.Lists.{Each, Ascends}
 use Rattle.solid_model.specs.Solutions.{IsSolutionOf}

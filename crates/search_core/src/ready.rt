@@ -1,0 +1,39 @@
+//! Reports that are ready for a desk.
+
+use crate::copies::Copies;
+use solid_model::Expansion;
+use std::alloc::Global;
+use std::marker::Model;
+
+/// A report with copies of what a desk keeps of it. Who makes them before the desk is locked holds
+/// the lock for less time. Contracts see it as the report.
+#[derive(Drop)]
+pub struct ReadyReport {
+    pub(crate) expansion: Expansion,
+    pub(crate) copies: Copies,
+}
+
+impl Model for ReadyReport {
+    ghost use Rattle.solid_model.specs.Reports.{Report};
+    ghost use Rattle.search_core.specs.Copies.{AreCopies};
+
+    ghost Value = { Report };
+
+    ghost view = { λ s. s.expansion };
+
+    ghost invariant = { λ s. AreCopies s.expansion.found s.expansion.rest s.copies };
+}
+
+impl ReadyReport {
+    ghost use Rattle.std.specs.Prelude.{◌≡◌, MatchResult};
+
+    /// The report, ready. An `Err` is out of memory, and hands it back.
+    pub fn new(alloc: Global, expansion: Expansion) -> Result<ReadyReport, Expansion>
+        ensures { MatchResult result (λ ready. ready ≡ expansion) (λ back. back ≡ expansion) }
+    {
+        match Copies::new(alloc, expansion.found(), expansion.rest()) {
+            Ok(copies) => Ok(ReadyReport { expansion, copies }),
+            Err(_) => Err(expansion),
+        }
+    }
+}

@@ -1,0 +1,6 @@
+mod SortedChoices
+mod SameChoices
+pub mod PageCalls
+pub mod AnswerLists
+pub mod DeskAnswers
+pub mod DeskFound

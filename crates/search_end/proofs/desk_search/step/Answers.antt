@@ -1,0 +1,26 @@
+-- A desk without an end has a live piece, of which a report is taken.
+use Rattle.std.proofs.Common.{sym, ◌∙◌, ap, subst}
+use Rattle.std.proofs.lemmas.Bool.{both_ways}
+use Rattle.std.proofs.lemmas.Option.{MatchOption-at_none}
+use Rattle.solid_model.specs.Demands.{is_live}
+use Rattle.search_core.specs.Reported.{IsReported}
+use Rattle.search_core.proofs.Desks.{piece_waits, piece_lives, report_opens}
+use Rattle.search_end.proofs.desk_search.step.Goals as goal
+
+pub unreachable-requires : goal.unreachable-requires
+unreachable-requires c = piece_waits c.args.desk.now c.end-end.ensures.kept c.requires.going c.in_default.ensures.piece
+
+pub unreachable-requires-in_default-2 : goal.unreachable-requires-in_default-2
+unreachable-requires-in_default-2 c =
+    let p = c.args.desk.now.problem in
+    let piece = c.in-Some.piece.now in
+    let dead = MatchOption-at_none _ _ c.in_default-2.is c.in_ok-expansion.ensures.live in
+    both_ways (is_live p piece) (ap (λ q. is_live q piece) (sym c.problem.ensures.problem) ∙ dead)
+    (piece_lives c.args.desk.now c.end-end.ensures.kept piece c.in-Some.ensures.piece.stands)
+
+pub returns-in-Ok-Taken-clause-opened : goal.returns-in-Ok-Taken-clause-opened
+returns-in-Ok-Taken-clause-opened c =
+    let before = c.args.desk.now in
+    let after = c.report.new.self in
+    let answer = subst (IsReported before c.in-Some-2.expansion after) c.in-Ok-Taken.field-0-is c.in-Ok-Taken.ensures.answer in
+    report_opens before after c.in-Some-2.expansion c.end-end.ensures.kept c.report.ensures.kept answer.1

@@ -1,0 +1,4 @@
+pub mod Sorting
+pub mod Pages
+pub mod Handed
+pub mod Answers

@@ -1,0 +1,183 @@
+//! The end of a search, at which several may have worked.
+
+ghost use Rattle.std.specs.Prelude.{◌≡◌, ◌≤◌, ◌++◌, ℕ, List, Option, Some, length, IsTrue, IfOk, OnOk, IsPermutation, MatchResult};
+ghost use Rattle.std.specs.Arc.{arc_value};
+ghost use Rattle.solid_model.specs.Blocks.{ProblemParts};
+ghost use Rattle.solid_model.specs.Demands.{is_live};
+ghost use Rattle.solid_model.specs.Limits.{most_solid_limit};
+ghost use Rattle.solid_model.specs.SearchEnds.{EndsSearch};
+ghost use Rattle.search_core.specs.Desk.{IsDesk};
+ghost use Rattle.search_tree.specs.BlockPaths.{IsWayOf};
+ghost use Rattle.search_end.specs.Answers.{IsAnswer, IsAnswerList};
+ghost use Rattle.search_end.specs.Handed.{AreFewSolutions, BreaksOff, HandsOn, IsHandedOut};
+ghost use Rattle.search_end.specs.Pages.{Call, CountsFaults, HasPaged, HasAllPaged};
+
+use crate::desk_search::{begin_from, go_on};
+use crate::handed::{Handed, PAGE};
+use crate::left::left_over;
+use crate::page_out::{PageOut, RunFault};
+use crate::sorted::sort_choices;
+use search_core::Desk;
+use search_tree::BlockPath;
+use solid_model::{Axis, Choice, EndKind, Ended, Limits, Memory, Problem};
+use std::alloc::Global;
+use std::sync::Arc;
+
+/// Whether a desk is of this problem and within these limits.
+fn is_of(desk: &Desk, problem: &Problem, limits: Limits) -> bool
+    ensures { IsTrue result → (desk.now.problem ≡ problem.now) × (desk.now.limits ≡ limits) }
+{
+    let own = desk.limits();
+    desk.problem().same(problem) && own.nodes == limits.nodes && own.solids == limits.solids
+}
+
+/// This desk, if it is of this problem and within these limits; else a new one that is. An `Err` is
+/// out of memory.
+fn own_desk(
+    alloc: Global,
+    path: &mut BlockPath,
+    problem: &Arc<Problem>,
+    limits: Limits,
+    desk: Desk,
+) -> Result<Desk, Memory>
+    requires way { IsWayOf (arc_value problem.now) path.old }
+    ensures way { IsWayOf (arc_value problem.now) path.new }
+    ensures problem { IfOk result (λ own. own.problem ≡ arc_value problem.now) }
+    ensures limits { IfOk result (λ own. own.limits ≡ limits) }
+{
+    if is_of(&desk, problem, limits) {
+        Ok(desk)
+    } else {
+        begin_from(alloc, path, problem, limits)
+    }
+}
+
+/// A desk of this search that has ended, how it has, and what it has found besides what was handed
+/// out, as far as the limit of solids has room. An `Err` is out of memory.
+fn settled(
+    alloc: Global,
+    path: &mut BlockPath,
+    problem: &Arc<Problem>,
+    limits: Limits,
+    desk: Desk,
+    handed: &Handed,
+) -> Result<(Desk, EndKind, Vec<Choice>), Memory>
+    requires way { IsWayOf (arc_value problem.now) path.old }
+    requires handed { AreFewSolutions (arc_value problem.now) limits.solids handed.now.choices }
+    ensures problem { IfOk result (λ r. r.0.problem ≡ arc_value problem.now) }
+    ensures limits { IfOk result (λ r. r.0.limits ≡ limits) }
+    ensures end { IfOk result (λ r. r.0.end ≡ Some r.1) }
+    ensures kept { IfOk result (λ r. IsDesk r.0) }
+    ensures listed { IfOk result (λ r. IsAnswerList (arc_value problem.now) limits r.0.found
+        (handed.now.choices ++ r.2.items)) }
+    ensures solutions { IfOk result (λ r. AreFewSolutions (arc_value problem.now) limits.solids
+        (handed.now.choices ++ r.2.items)) }
+{
+    // Looks at the problem tell that its blocks are those of its grid, and its grid a drawing's.
+    let _coordinates = problem.grid().coordinates(Axis::X);
+    let desk = own_desk(alloc, path, problem, limits, desk)?;
+    let (desk, kind) = go_on(alloc, path, problem, desk)?;
+    let room = limits.solids as usize - handed.choices().len();
+    let left = left_over(alloc, handed.choices(), desk.found(), room)?;
+    Ok((desk, kind, left))
+}
+
+/// Hands out what is left, page by page. An `Err` is that of a page, or out of memory.
+fn hand_rest<P: PageOut>(
+    pages: &mut P,
+    handed: &mut Handed,
+    left: Vec<Choice>,
+) -> Result<(), RunFault>
+    requires room { length (handed.old.choices ++ left.items) ≤ most_solid_limit }
+    ensures choices { OnOk result (handed.new.choices ≡ handed.old.choices ++ left.items) }
+    ensures out { MatchResult result
+        (λ _. HandsOn (P.calls pages.old) handed.old (P.calls pages.new) handed.new)
+        (λ _. (p : ProblemParts) → (most : ℕ)
+        → AreFewSolutions p most (handed.old.choices ++ left.items)
+        → BreaksOff p most (P.calls pages.old) handed.old (P.calls pages.new)) }
+    ensures faults { CountsFaults (P.faults pages.old) (P.faults pages.new) result
+        RunFault.PageFault }
+{
+    let mut left = left;
+    while left.len() > PAGE {
+        let Ok(later) = left.split_off(PAGE) else {
+            return Err(RunFault::Memory);
+        };
+        match handed.hand_out(pages, left) {
+            Ok(()) => left = later,
+            Err(fault) => return Err(fault),
+        }
+    }
+    if left.is_empty() {
+        return Ok(());
+    }
+    handed.hand_out(pages, left)
+}
+
+/// The answer of a desk that has ended so, where these are listed.
+fn answer(
+    problem: &Problem,
+    limits: Limits,
+    desk: &Desk,
+    kind: EndKind,
+    solids: Vec<Choice>,
+) -> Ended
+    requires problem { desk.now.problem ≡ problem.now }
+    requires limits { desk.now.limits ≡ limits }
+    requires end { desk.now.end ≡ Some kind }
+    requires solids { IsAnswerList problem.now limits desk.now.found solids.items }
+    ensures answer { EndsSearch (is_live problem.now) problem.now.blocks.count limits result }
+    ensures desk { IsAnswer problem.now limits result desk.now }
+    ensures moved { IsPermutation solids.items result.solids }
+{
+    // Looks at the problem tell that its blocks are those of its grid, and its grid a drawing's.
+    let _coordinates = problem.grid().coordinates(Axis::X);
+    let opened = desk.opened();
+    let mut solids = solids;
+    sort_choices(&mut solids);
+    Ended {
+        kind,
+        opened,
+        solids,
+    }
+}
+
+/// Ends a search by its desk, or by a new one where that is of another problem or within other
+/// limits: makes the events that are missing, and hands out what was found and not yet handed out,
+/// as far as the limit of solids has room. The answer lists what was handed out. An `Err` is that of
+/// a page, or out of memory.
+pub fn finish<P: PageOut>(
+    alloc: Global,
+    path: &mut BlockPath,
+    problem: &Arc<Problem>,
+    limits: Limits,
+    desk: Desk,
+    handed: Handed,
+    pages: &mut P,
+) -> Result<(Ended, Desk), RunFault>
+    requires way { IsWayOf (arc_value problem.now) path.old }
+    requires handed { AreFewSolutions (arc_value problem.now) limits.solids handed.choices }
+    ensures answer { IfOk result (λ r. EndsSearch (is_live (arc_value problem.now))
+        (arc_value problem.now).blocks.count limits r.0) }
+    ensures desk { IfOk result (λ r. IsAnswer (arc_value problem.now) limits r.0 r.1) }
+    ensures paged { (before : Option (List Call))
+        → IsHandedOut before (P.calls pages.old) handed
+        → MatchResult result
+        (λ r. HasAllPaged (arc_value problem.now) before (P.calls pages.new) r.0.solids)
+        (λ _. HasPaged (arc_value problem.now) limits.solids before (P.calls pages.new)) }
+    ensures faults { CountsFaults (P.faults pages.old) (P.faults pages.new) result
+        RunFault.PageFault }
+{
+    let mut handed = handed;
+    let (desk, kind, left) = match settled(alloc, path, problem, limits, desk, &handed) {
+        Ok(settled) => settled,
+        Err(_) => return Err(RunFault::Memory),
+    };
+    match hand_rest(pages, &mut handed, left) {
+        Ok(()) => {
+            let ended = answer(problem, limits, &desk, kind, handed.into_choices());
+            Ok((ended, desk))
+        }
+        Err(fault) => Err(fault),
+    }
+}

@@ -1,0 +1,17 @@
+//! The end of a search, at which several may have worked: the calling thread makes the events that
+//! are missing, and hands out in pages what was found.
+#![tactic(auto)]
+
+mod by_desk;
+mod closing;
+mod desk_search;
+mod handed;
+mod left;
+mod page_out;
+mod sorted;
+
+pub use by_desk::{search_by_desk, set_up};
+pub use closing::finish;
+pub use desk_search::{QUANTUM, begin};
+pub use handed::{Handed, PAGE};
+pub use page_out::{NoPages, PageOut, RunFault};

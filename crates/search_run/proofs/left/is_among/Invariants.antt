@@ -1,7 +1,0 @@
-use Rattle.std.proofs.Common.{◌≡◌, take, false}
-use Rattle.std.specs.List.{list_any}
-use Rattle.search_core.specs.Core.{same_prefix}
-use Rattle.search_run.proofs.left.is_among.Given as goal
-
-abbrev pub invariant-loop-other : goal.invariant-loop-other
-invariant-loop-other l = list_any (same_prefix l.choice) (take l.other-index l.choices) ≡ false

@@ -1,7 +1,0 @@
--- The new ones so far.
-use Rattle.std.proofs.Common.{◌≡◌, take}
-use Rattle.search_run.specs.Answers.{new_ones}
-use Rattle.search_run.proofs.left.new_copies.Given as goal
-
-abbrev pub invariant-loop-choice : goal.invariant-loop-choice
-invariant-loop-choice l = l.copies.items ≡ new_ones l.fn.handed (take l.choice-index l.found)
