@@ -131,6 +131,26 @@ def one_box(side):
     return drawing(*map(view, VIEWS))
 
 
+def comb(side):
+    """A spine along x = 0, from which slabs stand out at the odd heights, and on the diagonal of the topmost slab every other unit
+    cube. The side is an odd number: so many grid cells it has along each axis. One solid has these views."""
+    top = side - 1
+    front = [line("FRONT", 0, 0, 1, 0), line("FRONT", 0, 0, 0, top), line("FRONT", 0, top, 1, top, linetype="DASHED")]
+    above = [rectangle("TOP", 0, 0, side, side), line("TOP", 1, 0, 1, side, linetype="DASHED")]
+    right = [line("SIDE", y, 0, y, top) for y in (0, side)] + [line("SIDE", top, top, side, top, linetype="DASHED")]
+    for low in range(0, top, 2):
+        front += (line("FRONT", 1, z, side, z) for z in (low + 1, low + 2))
+        front += [line("FRONT", 1, low, 1, low + 1), line("FRONT", side, low + 1, side, low + 2)]
+    right += (line("SIDE", 0, z, side, z) for z in range(top))
+    right.append(line("SIDE", 0, top, top, top))
+    for i in range(0, side, 2):
+        # No edge is seen below the cube whose side goes on with the slab's, and one behind it.
+        for name, view in (("FRONT", front), ("SIDE", right)):
+            view += [line(name, at, top, at, side) for at in (i, i + 1)] + [line(name, i, side, i + 1, side)]
+        above.append(rectangle("TOP", i, i, i + 1, i + 1))
+    return drawing(*front, *above, *right)
+
+
 # The pieces of a row, as `make` has them: the side of a full cube, and where its voids of 1 stand along each axis.
 PIECES = {"P": (1, ()), "V": (3, (1,)), "M": (5, (1, 3))}
 

@@ -11,7 +11,7 @@
 use crate::drawings::DRAWINGS;
 use crate::entities::ENTITIES;
 use crate::polylines::POLYLINES;
-use crate::runs::{Runtime, UNIT_CUBE, solve};
+use crate::runs::{Runtime, UNIT_CUBE, run_words};
 use crate::texts::{SIZES, TEXTS};
 use crate::values::{LINETYPES, NUMERALS};
 use std::alloc::{AllocError, Global};
@@ -65,9 +65,14 @@ fn is_wanted(wrote: &str, wanted: &str) -> bool {
     wrote.starts_with(first) && wrote.ends_with(last)
 }
 
-/// Whether a row is right.
-fn is_right<R: Runtime>(rt: &R, frame: &str, row: Row<'_>) -> Result<bool, AllocError> {
-    let wrote = solve(rt, told_file(rt.alloc(), frame, row)?)?;
+/// Whether a row is right for a run with these words.
+fn is_right<R: Runtime>(
+    rt: &R,
+    words: &str,
+    frame: &str,
+    row: Row<'_>,
+) -> Result<bool, AllocError> {
+    let wrote = run_words(rt, words, told_file(rt.alloc(), frame, row)?)?;
     let wanted = wanted_text(rt.alloc(), row.wanted)?;
     Ok(match wrote.as_str().strip_suffix('\n') {
         Some(wrote) => is_wanted(wrote, wanted.as_str()),
@@ -75,12 +80,16 @@ fn is_right<R: Runtime>(rt: &R, frame: &str, row: Row<'_>) -> Result<bool, Alloc
     })
 }
 
-/// The first row of a table that isn't right; nothing where all are.
-fn wrong_row<'a, R: Runtime>(rt: &R, table: &'a str) -> Result<&'a str, AllocError> {
+/// The first row of a table that isn't right for runs with these words; nothing where all are.
+pub fn wrong_row<'a, R: Runtime>(
+    rt: &R,
+    words: &str,
+    table: &'a str,
+) -> Result<&'a str, AllocError> {
     for framed in table.split("\n= ").skip(1) {
         let (frame, rows) = framed.split_once('\n').unwrap_or((framed, ""));
         for line in rows.lines() {
-            if !line.starts_with("-- ") && !is_right(rt, frame, row_of(line))? {
+            if !line.starts_with("-- ") && !is_right(rt, words, frame, row_of(line))? {
                 return Ok(line);
             }
         }
@@ -91,7 +100,7 @@ fn wrong_row<'a, R: Runtime>(rt: &R, table: &'a str) -> Result<&'a str, AllocErr
 #[test]
 fn files_give_their_texts(rt: HostRuntime) -> Result<(), Fail> {
     for table in [TEXTS, ENTITIES, POLYLINES, LINETYPES, NUMERALS, DRAWINGS] {
-        let row = wrong_row(&rt, table)?;
+        let row = wrong_row(&rt, "solve|", table)?;
         assert!(rt; row.is_empty(), "{row}");
     }
     Ok(())
@@ -99,7 +108,7 @@ fn files_give_their_texts(rt: HostRuntime) -> Result<(), Fail> {
 
 #[test]
 fn files_at_the_limits_give_their_texts(rt: HostRuntime) -> Result<(), Fail> {
-    let row = wrong_row(&rt, SIZES)?;
+    let row = wrong_row(&rt, "solve|", SIZES)?;
     assert!(rt; row.is_empty(), "{row}");
     Ok(())
 }

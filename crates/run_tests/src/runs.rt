@@ -6,7 +6,7 @@ use std::sync::Wait;
 use std::test::Fail;
 use std::thread::Threads;
 use test_files::{Row, file_of, row_of};
-use tv_base::{MemSink, MemSource, OpenGate};
+use tv_base::{Gate, MemSink, MemSource, OpenGate};
 
 /// What a run is given to run on.
 pub trait Runtime: AllocGlobal + Threads + Wait + Sync {}
@@ -20,19 +20,22 @@ fn run_over<R: Runtime>(
     source: &mut MemSource,
     faults: Vec<(u32, usize)>,
 ) -> Result<String, AllocError> {
+    run_gated(rt, words, source, MemSink::new(faults), &OpenGate)
+}
+
+/// The status and the text of a run over a source and a sink, whose workers pass a gate.
+pub fn run_gated<R: Runtime, G: Gate>(
+    rt: &R,
+    words: &str,
+    source: &mut MemSource,
+    mut sink: MemSink,
+    gate: &G,
+) -> Result<String, AllocError> {
     let mut command = Vec::new(rt.alloc());
     for word in words.split_terminator('|') {
         command.push(String::from_str(rt.alloc(), word)?)?;
     }
-    let mut sink = MemSink::new(faults);
-    let status = run(
-        rt,
-        rt.alloc(),
-        command.as_slice(),
-        source,
-        &mut sink,
-        &OpenGate,
-    );
+    let status = run(rt, rt.alloc(), command.as_slice(), source, &mut sink, gate);
     let text = std::str::from_utf8(sink.bytes()).unwrap_or("no text");
     format!(in rt.alloc(); "{status} {text}")
 }
@@ -65,7 +68,7 @@ pub fn run_failing<R: Runtime>(
 }
 
 /// The file of the unit cube.
-fn cube_file(alloc: Global) -> Result<String, AllocError> {
+pub fn cube_file(alloc: Global) -> Result<String, AllocError> {
     file_of(alloc, "0 SECTION, 2 ENTITIES, cube, 0 ENDSEC, 0 EOF")
 }
 

@@ -10,3 +10,5 @@ pub mod WrittenPieces
 pub mod Texts
 pub mod SomeRectangles
 pub mod SolidTexts
+pub mod Mapped
+pub mod CornerNumbers

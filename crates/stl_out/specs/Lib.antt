@@ -6,3 +6,4 @@ pub mod Numbered
 pub mod Pieces
 pub mod SmallStl
 pub mod SolidStl
+pub mod CornerParts

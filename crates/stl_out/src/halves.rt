@@ -33,7 +33,7 @@ fn ends(coordinates: &[i64], number: i64) -> (i64, i64)
 }
 
 /// The point of space at a point of a plane, so far to the right and upwards.
-fn place(out: Out, at: i64, right: i64, up: i64) -> Cell
+pub fn place(out: Out, at: i64, right: i64, up: i64) -> Cell
     ensures { result ≡ place out at (record { u = right; v = up }) }
 {
     match out {

@@ -2,9 +2,11 @@
 //! programs open.
 #![tactic(auto)]
 
+mod corner_parts;
 mod halves;
 mod laws;
 mod rectangle;
+mod rectangle_corners;
 mod surface;
 mod text;
 mod triangle;

@@ -7,17 +7,17 @@ ghost use Rattle.face_laws.specs.GridFaces.{grid_planes};
 ghost use Rattle.solid_model.specs.Choices.{cells_of_choice};
 ghost use Rattle.solid_model.specs.Lists.{Each};
 ghost use Rattle.solid_model.specs.Panels.{coordinates_of};
-ghost use Rattle.stl_out.specs.Numbered.{IsOfGrid};
+ghost use Rattle.stl_out.specs.Numbered.{AreFew, IsOfGrid};
 ghost use Rattle.stl_out.specs.Pieces.{WritesOn, rectangle_text};
 ghost use Rattle.stl_out.specs.Rectangles.{all_triangles};
 ghost use Rattle.stl_out.specs.StlText.{stl_text, IsStlOf};
 ghost use Rattle.tv_base.specs.Faults.{Rose};
 ghost use Rattle.tv_base.specs.Pieces.{AppendsPrefix};
 
-use crate::halves::halves;
+use crate::corner_parts::CornerParts;
 use crate::rectangle::Rectangle;
 use crate::surface::rectangles_of;
-use crate::text::push_facets;
+use crate::text::push_rectangle;
 use solid_model::{Choice, Grid, Problem};
 use std::alloc::Global;
 use tv_base::{Sink, SinkError};
@@ -62,16 +62,17 @@ fn make_room<K: Sink>(piece: &mut Vec<u8>, sink: &mut K) -> Result<(), SinkError
 
 /// Adds a rectangle's two triangles to the piece, after it was written where it was full.
 fn write_rectangle<K: Sink>(
-    grid: &Grid,
+    parts: &CornerParts<'_>,
     rectangle: &Rectangle,
     piece: &mut Vec<u8>,
     sink: &mut K,
 ) -> Result<(), SinkError>
-    requires numbered { IsOfGrid (coordinates_of grid.now) rectangle.now }
+    requires few { AreFew (coordinates_of parts.now) }
+    requires numbered { IsOfGrid (coordinates_of parts.now) rectangle.now }
     requires fits { length piece.old.items ≤ 65536 }
     ensures later { K.faults sink.old ≤ K.faults sink.new }
     ensures ok { OnOk result (WritesOn (K.held sink.old) (K.held sink.new)
-        (piece.old.items ++ rectangle_text (grid_planes (coordinates_of grid.now)) rectangle.now)
+        (piece.old.items ++ rectangle_text (grid_planes (coordinates_of parts.now)) rectangle.now)
         piece.new.items) }
     ensures room { OnOk result (length piece.new.items ≤ 65200) }
     ensures err { OnErr result
@@ -79,34 +80,34 @@ fn write_rectangle<K: Sink>(
     ensures failed { IsErrOf result SinkError.Failed →
         Rose (K.faults sink.old) (K.faults sink.new) }
 {
-    let triangles = halves(grid, rectangle);
     make_room(piece, sink)?;
-    push_facets(piece, &triangles)?;
+    push_rectangle(piece, parts, rectangle)?;
     Ok(())
 }
 
 /// Adds the triangles of all rectangles to the piece, which is written each time that it is full.
 fn write_rectangles<K: Sink>(
-    grid: &Grid,
+    parts: &CornerParts<'_>,
     rectangles: &[Rectangle],
     piece: &mut Vec<u8>,
     sink: &mut K,
 ) -> Result<(), SinkError>
-    requires numbered { Each (IsOfGrid (coordinates_of grid.now)) rectangles.now }
+    requires few { AreFew (coordinates_of parts.now) }
+    requires numbered { Each (IsOfGrid (coordinates_of parts.now)) rectangles.now }
     requires fits { length piece.old.items ≤ 65200 }
     ensures later { K.faults sink.old ≤ K.faults sink.new }
     ensures ok { OnOk result (WritesOn (K.held sink.old) (K.held sink.new)
-        (piece.old.items ++ flat_map (rectangle_text (grid_planes (coordinates_of grid.now)))
+        (piece.old.items ++ flat_map (rectangle_text (grid_planes (coordinates_of parts.now)))
         rectangles.now) piece.new.items) }
     ensures room { OnOk result (length piece.new.items ≤ 65200) }
     ensures err { OnErr result (AppendsPrefix (K.held sink.old) (K.held sink.new)
-        (piece.old.items ++ flat_map (rectangle_text (grid_planes (coordinates_of grid.now)))
+        (piece.old.items ++ flat_map (rectangle_text (grid_planes (coordinates_of parts.now)))
         rectangles.now)) }
     ensures failed { IsErrOf result SinkError.Failed →
         Rose (K.faults sink.old) (K.faults sink.new) }
 {
     for rectangle in rectangles {
-        write_rectangle(grid, rectangle, piece, sink)?;
+        write_rectangle(parts, rectangle, piece, sink)?;
     }
     Ok(())
 }
@@ -128,8 +129,9 @@ fn write_text<K: Sink>(
         Rose (K.faults sink.old) (K.faults sink.new) }
 {
     let mut piece = Vec::with_capacity(alloc, PIECE)?;
+    let parts = CornerParts::of(alloc, grid)?;
     piece.extend_from_slice(b"solid recon\n")?;
-    write_rectangles(grid, rectangles, &mut piece, sink)?;
+    write_rectangles(&parts, rectangles, &mut piece, sink)?;
     piece.extend_from_slice(b"endsolid recon\n")?;
     write_piece(sink, &piece)
 }

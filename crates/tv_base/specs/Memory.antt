@@ -1,10 +1,11 @@
 -- A source and a sink in memory, as their callers see them.
 use Rattle.std.specs.Prelude.{ℕ, List, Option, option_map, find, ◌==◌}
 
--- a source: the bytes not yet read, the numbers of the calls that fail, how many calls were made and
--- failed
+-- a source: the bytes not yet read, the most that a call gives, the numbers of the calls that fail, how
+-- many calls were made and failed
 pub record SourceState : Type 0 where
   pub left : List ℕ
+  pub step : ℕ
   pub fail : List ℕ
   pub calls : ℕ
   pub faults : ℕ

@@ -1,18 +1,19 @@
 //! A source in memory, whose calls fail where they are told to.
 
-ghost use Rattle.std.specs.Prelude.{◌≡◌, ◌<◌, ◌≤◌, ◌↔◌, ◌++◌, length, take, drop, min, Some, Contains, IsTrue, IsErr, IfOk, OnErr};
+ghost use Rattle.std.specs.Prelude.{◌≡◌, ◌-◌, ◌^◌, ◌<◌, ◌≤◌, ◌↔◌, ◌++◌, length, take, drop, min, Some, Contains, IsTrue, IsErr, IfOk, OnErr};
 ghost use Rattle.std.specs.Io.KnownBytes.{Consumes, IsAtEnd};
 ghost use Rattle.tv_base.specs.Faults.{Rose, one_more};
 
 use crate::{Failed, Source};
 use std::marker::Model;
 
-/// A source of the bytes that it was made with. Its calls are numbered from 1, and those whose
-/// numbers it was given fail and read nothing.
+/// A source of the bytes that it was made with. A call gives at most so many bytes as a step has.
+/// Calls are numbered from 1, and those whose numbers it was given fail and read nothing.
 #[derive(Debug, Drop)]
 pub struct MemSource {
     bytes: Vec<u8>,
     at: usize,
+    step: usize,
     fail: Vec<u32>,
     calls: u64,
     faults: u64,
@@ -26,23 +27,46 @@ impl Model for MemSource {
 
     ghost view = { λ s. record {
       left = drop s.at s.bytes.items;
+      step = s.step;
       fail = s.fail.items;
       calls = s.calls;
       faults = s.faults;
     } };
 
-    ghost invariant = { λ s. s.at ≤ length s.bytes.items };
+    ghost invariant = { λ s. (s.at ≤ length s.bytes.items) × (1 ≤ s.step) };
 }
 
 impl MemSource {
-    /// A source of these bytes, whose calls of the numbers in `fail` fail. A number of a call is
-    /// a `u64` that stays at its greatest value.
+    /// A source of these bytes, whose calls of the numbers in `fail` fail. A call gives as many bytes
+    /// as are left and its room can have. A number of a call is a `u64` that stays at its greatest
+    /// value.
     pub fn new(bytes: Vec<u8>, fail: Vec<u32>) -> Self
-        ensures { result ≡ record { left = bytes.items; fail = fail.items; calls = 0; faults = 0 } }
+        ensures { result ≡ record {
+          left = bytes.items;
+          step = 2 ^ 64 - 1;
+          fail = fail.items;
+          calls = 0;
+          faults = 0;
+        } }
+    {
+        MemSource::in_steps(bytes, usize::MAX, fail)
+    }
+
+    /// The same, but a call gives at most `step` bytes.
+    pub fn in_steps(bytes: Vec<u8>, step: usize, fail: Vec<u32>) -> Self
+        requires { 1 ≤ step }
+        ensures { result ≡ record {
+          left = bytes.items;
+          step = step;
+          fail = fail.items;
+          calls = 0;
+          faults = 0;
+        } }
     {
         MemSource {
             bytes,
             at: 0,
+            step,
             fail,
             calls: 0,
             faults: 0,
@@ -57,12 +81,13 @@ fn is_listed(fail: &[u32], call: u64) -> bool
     fail.iter().any(|listed| u64::from(*listed) == call)
 }
 
-/// Copies as many bytes as both have to the beginning of the room, and says how many.
-fn copy_prefix(from: &[u8], room: &mut [u8]) -> usize
-    ensures count { result ≡ min (length room.old) (length from.now) }
+/// Copies as many bytes as both have, and at most so many, to the beginning of the room, and says
+/// how many they are.
+fn copy_prefix(from: &[u8], most: usize, room: &mut [u8]) -> usize
+    ensures count { result ≡ min (min (length room.old) (length from.now)) most }
     ensures copied { room.new ≡ take result from.now ++ drop result room.old }
 {
-    let count = room.len().min(from.len());
+    let count = room.len().min(from.len()).min(most);
     room[..count].copy_from_slice(&from[..count]);
     count
 }
@@ -83,7 +108,8 @@ impl Source for MemSource {
 
         // A call fails exactly where its number is listed.
         ensures listed { IsErr result ↔ Contains self.old.fail (one_more self.old.calls) }
-        ensures count { IfOk result (λ n. n ≡ min (length room.old) (length self.old.left)) }
+        ensures count { IfOk result (λ n.
+            n ≡ min (min (length room.old) (length self.old.left)) self.old.step) }
         ensures copied { IfOk result (λ n. room.new ≡ take n self.old.left ++ drop n room.old) }
         ensures ok { IfOk result (λ n. self.new ≡ record self.old {
           left = drop n self.old.left;
@@ -100,7 +126,7 @@ impl Source for MemSource {
             self.faults = self.faults.saturating_add(1);
             return Err(Failed);
         }
-        let count = copy_prefix(&self.bytes[self.at..], room);
+        let count = copy_prefix(&self.bytes[self.at..], self.step, room);
         self.at += count;
         Ok(count)
     }

@@ -28,7 +28,7 @@ other_texts planes piece rs i =
 
 pub returns-in_err-write_rectangle-clause-err : goal.returns-in_err-write_rectangle-clause-err
 returns-in_err-write_rectangle-clause-err g c =
-    let planes : Planes = grid_planes (coordinates_of c.args.grid.now) in
+    let planes : Planes = grid_planes (coordinates_of c.args.parts.now) in
     let i = c.loop-rectangle.rectangle-index in
     let rs = c.args.rectangles.now in
     let a = g.K.Sink.held c.args.sink.now in
@@ -41,7 +41,7 @@ returns-in_err-write_rectangle-clause-err g c =
 
 pub loop-rectangle-preserved : goal.loop-rectangle-preserved
 loop-rectangle-preserved g c =
-    let planes : Planes = grid_planes (coordinates_of c.args.grid.now) in
+    let planes : Planes = grid_planes (coordinates_of c.args.parts.now) in
     let i = c.loop-rectangle.rectangle-index in
     let rs = c.args.rectangles.now in
     let a = g.K.Sink.held c.args.sink.now in

@@ -10,6 +10,6 @@ abbrev pub invariant-loop-rectangle : goal.invariant-loop-rectangle
 invariant-loop-rectangle g l = record {
   later : g.K.Sink.faults l.initial.sink ≤ g.K.Sink.faults l.sink;
   written : WritesOn (g.K.Sink.held l.initial.sink) (g.K.Sink.held l.sink)
-      (l.initial.piece.items ++ flat_map (rectangle_text (grid_planes (coordinates_of l.grid))) (take l.rectangle-index l.rectangles)) l.piece.items;
+      (l.initial.piece.items ++ flat_map (rectangle_text (grid_planes (coordinates_of l.parts))) (take l.rectangle-index l.rectangles)) l.piece.items;
   room : length l.piece.items ≤ 65200;
 }

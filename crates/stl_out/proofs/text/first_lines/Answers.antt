@@ -2,7 +2,7 @@
 use Rattle.std.proofs.Common.{refl}
 use Rattle.std.specs.Fmt.{digits}
 use Rattle.stl_out.specs.StlText.{numbers_text}
-use Rattle.stl_out.proofs.text.normal_line.Goals as goal
+use Rattle.stl_out.proofs.text.first_lines.Goals as goal
 
 pub returns-in-MinusX-clause-text : goal.returns-in-MinusX-clause-text
 unfolding digits numbers_text
