@@ -62,6 +62,14 @@ impl Drawing {
     {
         Drawing { decimals }
     }
+
+    /// How many decimals its coordinates have.
+    fn decimals(&self) -> u8
+        ensures decimals { result ≡ self.now }
+        ensures few { result ≤ most_decimals }
+    {
+        self.decimals
+    }
 }
 
 impl Export for Drawing {
@@ -75,7 +83,7 @@ impl Export for Drawing {
         sink: &mut K,
     ) -> Result<(), Failure> {
         let cells = problem.cells(alloc, choice)?;
-        let text = dxf_of(alloc, problem.grid(), cells.as_slice(), self.decimals)?;
+        let text = dxf_of(alloc, problem.grid(), cells.as_slice(), self.decimals())?;
         write_text(sink, text.as_slice())
     }
 }

@@ -13,11 +13,11 @@ use Rattle.recon_run.proofs.export.DrawingExport.write.Goals as goal
 pub returns : goal.returns
 returns g c =
     let p = c.args.problem.now in
-    let choice = c.args.choice.now in let decimals = c.args.self.now in
+    let choice = c.args.choice.now in let decimals = c.decimals.result in let told = c.args.self.now in
     let file = subst₂ (λ (grid : GridParts) (cells : List Bool). (s : List Cell) → IsSolid s → IsUnionOf (coordinates_of grid) cells (is_full s)
     → IsFileOf decimals s c.in_ok-text.text.items) c.grid.ensures.grid (c.as_slice.ensures.value ∙ c.in_ok-cells.ensures) c.in_ok-text.ensures in
-    let written : (text : List ℕ) → text ≡ c.as_slice-2.result.now → IsWrittenOf (IsFileOf decimals) p choice text =
-    λ text is s on. subst (IsFileOf decimals s) (sym (is ∙ c.as_slice-2.ensures.value)) (file s on.matches.0 on.union) in
-    ends_weaker (λ text. text ≡ c.as_slice-2.result.now) (λ text. text ≡ c.as_slice-2.result.now) (IsWrittenOf (IsFileOf decimals) p choice) (IsWrittenOf (IsFileOf decimals) p choice)
+    let written : (text : List ℕ) → text ≡ c.as_slice-2.result.now → IsWrittenOf (IsFileOf told) p choice text =
+    λ text is s on. subst (λ d. IsFileOf d s text) c.decimals.ensures.decimals (subst (IsFileOf decimals s) (sym (is ∙ c.as_slice-2.ensures.value)) (file s on.matches.0 on.union)) in
+    ends_weaker (λ text. text ≡ c.as_slice-2.result.now) (λ text. text ≡ c.as_slice-2.result.now) (IsWrittenOf (IsFileOf told) p choice) (IsWrittenOf (IsFileOf told) p choice)
     (g.K.Sink.held c.args.sink.now) (g.K.Sink.held c.write_text.new.sink)
     (Rose (g.K.Sink.faults c.args.sink.now) (g.K.Sink.faults c.write_text.new.sink)) written written c.write_text.result c.write_text.ensures.ends
