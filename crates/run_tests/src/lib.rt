@@ -5,6 +5,8 @@
 #[cfg(test)]
 mod columns_anew;
 #[cfg(test)]
+mod decimals;
+#[cfg(test)]
 mod demands;
 #[cfg(test)]
 mod drawings;

@@ -14,6 +14,8 @@ const REDRAWS: &str = "\
 rect S 100 200 101 201; line S 101 350 100 350, rect D 100 350 101 351, rect S 100 350 101 351; \
     rect S 250 200 251 201; redraw|1| -> \
     0 drawing rect S 0 0 1 1; rect S 0 11 1 12; rect S 11 0 12 1
+rect S 0 0 0.5 0.5; rect S 0 0 0.5 0.5; rect S 0 0 0.5 0.5; redraw|1|--decimals=1| -> \
+    0 drawing rect S 0.0 0.0 0.5 0.5; rect S 0.0 1.5 0.5 2.0; rect S 1.5 0.0 2.0 0.5
 rect S 0 0 1 1; rect S 0 0 1 1; rect S 0 0 1 1; redraw|2| -> 8 none 2 of 1
 rect S 0 0 1 1; rect S 0 0 1 1; rect S 0 0 1 1; stl|2| -> 8 none 2 of 1
 rect S 0 0 3 3, rect D 1 1 2 2; rect S 0 0 3 3, rect D 1 1 2 2; rect S 0 0 3 3, rect D 1 1 2 2; \

@@ -8,6 +8,7 @@
 //! file itself, with `|` for the end of a line. Where a frame begins with `padded: ` or
 //! `padded CR LF: `, the codes of the file are right in three places.
 
+use crate::decimals::DECIMALS;
 use crate::drawings::DRAWINGS;
 use crate::entities::ENTITIES;
 use crate::polylines::POLYLINES;
@@ -109,6 +110,13 @@ fn files_give_their_texts(rt: HostRuntime) -> Result<(), Fail> {
 #[test]
 fn files_at_the_limits_give_their_texts(rt: HostRuntime) -> Result<(), Fail> {
     let row = wrong_row(&rt, "solve|", SIZES)?;
+    assert!(rt; row.is_empty(), "{row}");
+    Ok(())
+}
+
+#[test]
+fn files_are_read_with_a_decimal(rt: HostRuntime) -> Result<(), Fail> {
+    let row = wrong_row(&rt, "solve|--decimals|1|", DECIMALS)?;
     assert!(rt; row.is_empty(), "{row}");
     Ok(())
 }
