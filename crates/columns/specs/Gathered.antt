@@ -8,7 +8,7 @@ use Rattle.columns.specs.declared.spans.Span.{Span}
 use Rattle.columns.specs.Touching.{is_of, view_width, shown_cell}
 use Rattle.columns.specs.Lines.{times_listed, AreMarked}
 use Rattle.columns.specs.Spans.{is_on, known_there, AreWithin, AreAdded}
-use Rattle.columns.specs.Decisions.{decided_by}
+use Rattle.solid_model.specs.Decisions.{decided_by}
 use Rattle.solid_model.specs.Demands.{known_in}
 use Rattle.columns.specs.Plans.{IsAddedOnce, with_hit, is_listed}
 use Rattle.columns.specs.declared.known.KnownColumn.{KnownColumn}

@@ -2,7 +2,6 @@ pub mod GridColumns
 pub mod GridPanels
 pub mod Known
 pub mod Broken
-pub mod Decisions
 pub mod DrawnDemands
 pub mod Touching
 pub mod Spans

@@ -4,7 +4,6 @@
 
 mod beside;
 mod column;
-mod decision;
 mod draw;
 mod gather;
 mod grid_columns;
@@ -20,7 +19,6 @@ mod spans;
 mod steps;
 
 pub use column::{Column, style_of};
-pub use decision::Decision;
 pub use draw::{ColumnSet, columns_in, columns_of, draw_cells, draw_in};
 pub use grid_columns::cell_in;
 pub use known::{KnownColumn, can_draw, meets};

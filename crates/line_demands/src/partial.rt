@@ -1,8 +1,8 @@
 //! A problem, some of whose blocks are decided.
 
 use crate::whole::{all_draw, wanted_styles};
-use columns::{Decision, PartialState, Steps};
-use solid_model::{LineId, Memory, Problem, View};
+use columns::{PartialState, Steps};
+use solid_model::{Decision, LineId, Memory, Problem, View};
 use std::alloc::Global;
 use std::marker::Model;
 use std::sync::ledger::Ledger;
@@ -20,7 +20,7 @@ pub struct Partial<'p> {
 }
 
 impl<'p> Model for Partial<'p> {
-    ghost use Rattle.columns.specs.Decisions.{PartialParts};
+    ghost use Rattle.solid_model.specs.Decisions.{PartialParts};
 
     ghost Value = { PartialParts };
 
@@ -34,8 +34,8 @@ impl<'p> Model for Partial<'p> {
 
 impl<'p> Partial<'p> {
     ghost use Rattle.std.specs.Prelude.{◌≡◌, ◌↔◌, ◌<◌, ◌≤◌, ◌+◌, ◌++◌, ◌∷◌, [], ℕ, pos, None, false, IsTrue, IfSome, IfOk};
-    ghost use Rattle.columns.specs.declared.decision.Decision.{Decision};
-    ghost use Rattle.columns.specs.Decisions.{decided_by, AreOnAll};
+    ghost use Rattle.solid_model.specs.declared.decision.Decision.{Decision};
+    ghost use Rattle.solid_model.specs.Decisions.{decided_by, AreOnAll};
     ghost use Rattle.line_demands.specs.WholeChoices.{TellsMatching};
     ghost use Rattle.columns.specs.Touching.{touching, view_width, view_height, shown_cell};
     ghost use Rattle.columns.specs.Known.{known_bits, LiesWithin};

@@ -1,7 +1,7 @@
 //! Whether a solid matches, once every block is decided: all lines are looked at together.
 
 ghost use Rattle.std.specs.Prelude.{◌≡◌, ◌↔◌, length, IsTrue, IfOk};
-ghost use Rattle.columns.specs.Decisions.{decided_by, AreOnAll};
+ghost use Rattle.solid_model.specs.Decisions.{decided_by, AreOnAll};
 ghost use Rattle.line_demands.specs.WholeChoices.{TellsMatching, AreStylesTo};
 ghost use Rattle.solid_model.specs.declared.line_id.LineId.{LineId};
 ghost use Rattle.solid_model.specs.Demands.{has_line, lines_of, CanBeMet};

@@ -101,6 +101,10 @@ CanDraw known other style = (after before : ℤ → Bool) × AgreesWith known af
 abbrev pub CanBeMet : ProblemParts → (ℕ → Option Bool) → LineId → Type 0
 CanBeMet p known l = CanDraw (known_after p.grid (known_cell p.blocks known) l) (known_before p.grid (known_cell p.blocks known) l) (line_style p.grid l)
 
+-- every line can still be met
+abbrev pub AllMet : ProblemParts → (ℕ → Option Bool) → Type 0
+AllMet p known = (l : LineId) → IsTrue (has_line p.grid l) → CanBeMet p known l
+
 -- the line is the first of these lines that can't be met
 pub record IsFirstBrokenOf (p : ProblemParts) (known : ℕ → Option Bool) (lines : List LineId) (l : LineId) : Type 0 where
   pub earlier : List LineId
@@ -116,7 +120,7 @@ IsFirstBroken p known = IsFirstBrokenOf p known (lines_of p.grid)
 -- A prefix says for some of the first blocks whether they are full. It is live where every line can still be met.
 pub record IsLive (p : ProblemParts) (prefix : List Bool) : Type 0 where
   pub short : length prefix ≤ p.blocks.count
-  pub met : (l : LineId) → IsTrue (has_line p.grid l) → CanBeMet p (said_by prefix) l
+  pub met : AllMet p (said_by prefix)
 
 -- ---- the same, computed
 

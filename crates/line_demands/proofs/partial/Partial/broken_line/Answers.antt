@@ -1,6 +1,6 @@
 -- The state is seen as the partial is.
 use Rattle.std.proofs.Common.{◌≡◌, ◌↔◌, None, IsTrue, subst}
-use Rattle.columns.specs.Decisions.{decided_by, PartialParts}
+use Rattle.solid_model.specs.Decisions.{decided_by, PartialParts}
 use Rattle.line_demands.proofs.partial.Partial.broken_line.Goals as goal
 use Rattle.solid_model.specs.declared.line_id.LineId.{LineId}
 use Rattle.solid_model.specs.Demands.{has_line, CanBeMet}

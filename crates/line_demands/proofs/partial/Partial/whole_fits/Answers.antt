@@ -1,6 +1,6 @@
 -- The state is seen as the partial is.
 use Rattle.std.proofs.Common.{◌↔◌, IsTrue, subst}
-use Rattle.columns.specs.Decisions.{decided_by, PartialParts}
+use Rattle.solid_model.specs.Decisions.{decided_by, PartialParts}
 use Rattle.line_demands.specs.WholeChoices.{TellsMatching}
 use Rattle.line_demands.proofs.partial.Partial.whole_fits.Goals as goal
 use Rattle.solid_model.specs.declared.line_id.LineId.{LineId}

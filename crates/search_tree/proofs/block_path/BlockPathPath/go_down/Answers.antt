@@ -2,7 +2,7 @@
 use Rattle.std.proofs.Common.{◌≡◌, ◌<◌, ◌≤◌, ◌+◌, ◌++◌, ◌∷◌, [], List, Bool, ℕ, length, take, set, ap, ◌∙◌, subst, arith}
 use Rattle.std.proofs.lemmas.List.{length-take, length-set, take_more_set}
 use Rattle.std.proofs.lemmas.Option.{slice_get_past}
-use Rattle.columns.specs.Decisions.{decided_by, PartialParts}
+use Rattle.solid_model.specs.Decisions.{decided_by, PartialParts}
 use Rattle.solid_model.specs.Blocks.{ProblemParts}
 use Rattle.solid_model.specs.Demands.{is_live}
 use Rattle.search_tree.specs.BlockPaths.{PathParts}
