@@ -5,8 +5,8 @@ use Rattle.std.proofs.lemmas.Bool.{false≢true, or_cases, eqb-true, eqb-false}
 use Rattle.std.proofs.lemmas.List.{length-map, length_push, same_from_push}
 use Rattle.std.proofs.lemmas.Map.Steps.{length-le_from_distinct_below}
 use Rattle.std.proofs.lemmas.Option.{none-some}
-use Rattle.columns.specs.declared.decision.Decision.{Decision}
-use Rattle.columns.specs.Decisions.{decided_by, AreDecisions}
+use Rattle.solid_model.specs.declared.decision.Decision.{Decision}
+use Rattle.solid_model.specs.Decisions.{decided_by, AreDecisions}
 
 -- ---- what decisions say
 

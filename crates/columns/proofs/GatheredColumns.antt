@@ -11,7 +11,7 @@ use Rattle.columns.specs.Known.{known_of, LiesWithin}
 use Rattle.columns.specs.declared.gather.ColumnPlace.{ColumnPlace}
 use Rattle.columns.specs.declared.spans.Span.{Span}
 use Rattle.columns.specs.Touching.{is_of, shown_cell}
-use Rattle.columns.specs.Decisions.{decided_by}
+use Rattle.solid_model.specs.Decisions.{decided_by}
 use Rattle.columns.specs.Lines.{times_listed}
 use Rattle.columns.specs.Gathered.{block_of_place, block_of_column, place_numbered, IsGathered, AreGatheredTo}
 use Rattle.columns.specs.Spans.{is_on, no_column, column_there, known_there}

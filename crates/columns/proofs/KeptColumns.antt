@@ -7,10 +7,10 @@ use Rattle.std.proofs.lemmas.Option.{none-some}
 use Rattle.columns.specs.declared.known.KnownColumn.{KnownColumn}
 use Rattle.columns.specs.Known.{known_bits}
 use Rattle.columns.specs.declared.lines.Beside.{Beside}
-use Rattle.columns.specs.declared.decision.Decision.{Decision}
+use Rattle.solid_model.specs.declared.decision.Decision.{Decision}
 use Rattle.columns.specs.declared.spans.Span.{Span}
 use Rattle.columns.specs.Touching.{is_of, view_width, view_height, shown_cell}
-use Rattle.columns.specs.Decisions.{decided_by}
+use Rattle.solid_model.specs.Decisions.{decided_by}
 use Rattle.columns.specs.Lines.{times_listed, IsMetBy, AreTried}
 use Rattle.columns.specs.Spans.{is_on, is_in_span, column_there, known_there, AreWithin}
 use Rattle.columns.specs.KeptColumns.{column_count, column_number, AreKnownColumns, AreSpans, IsColumnOf, IsBeside, IsPlanOf}

@@ -7,9 +7,9 @@ use Rattle.std.proofs.lemmas.Bool.{cases_Bool, eqb-true}
 use Rattle.std.proofs.lemmas.List.Sums.{sum_by-append}
 use Rattle.columns.specs.declared.known.KnownColumn.{KnownColumn}
 use Rattle.columns.specs.declared.lines.Beside.{Beside}
-use Rattle.columns.specs.declared.decision.Decision.{Decision}
+use Rattle.solid_model.specs.declared.decision.Decision.{Decision}
 use Rattle.columns.specs.declared.spans.Span.{Span}
-use Rattle.columns.specs.Decisions.{decided_by}
+use Rattle.solid_model.specs.Decisions.{decided_by}
 use Rattle.columns.specs.Broken.{TellsBroken}
 use Rattle.columns.specs.Lines.{one_if, times_listed, AreMarked, AreBeside, AreTried, IsMetBy, IsLeast}
 use Rattle.columns.specs.Spans.{is_on, known_there, AreWithin}

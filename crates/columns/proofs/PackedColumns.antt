@@ -3,10 +3,10 @@ use Rattle.std.proofs.Common.{◌≡◌, Bool, true, false, ℕ, ◌<◌, ℤ, p
 use Rattle.std.proofs.lemmas.Bool.{false≢true}
 use Rattle.std.proofs.lemmas.List.{length-map, get_or-map}
 use Rattle.std.proofs.lemmas.Option.{none-some}
-use Rattle.columns.specs.declared.decision.Decision.{Decision}
+use Rattle.solid_model.specs.declared.decision.Decision.{Decision}
 use Rattle.columns.specs.declared.known.KnownColumn.{KnownColumn}
 use Rattle.columns.specs.declared.lines.Beside.{Beside}
-use Rattle.columns.specs.Decisions.{decided_by, AreOnAll}
+use Rattle.solid_model.specs.Decisions.{decided_by, AreOnAll}
 use Rattle.columns.specs.Gathered.{no_side}
 use Rattle.columns.specs.KeptColumns.{AreKnownColumns, AreSides, IsColumnOf}
 use Rattle.columns.specs.Known.{known_of, known_bits}

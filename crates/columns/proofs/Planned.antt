@@ -13,10 +13,10 @@ use Rattle.columns.specs.declared.known.KnownColumn.{KnownColumn}
 use Rattle.columns.specs.Known.{LiesWithin}
 use Rattle.columns.specs.declared.gather.ColumnPlace.{ColumnPlace}
 use Rattle.columns.specs.declared.lines.Beside.{Beside}
-use Rattle.columns.specs.declared.decision.Decision.{Decision}
+use Rattle.solid_model.specs.declared.decision.Decision.{Decision}
 use Rattle.columns.specs.declared.spans.Span.{Span}
 use Rattle.columns.specs.Touching.{is_of, view_width, view_height, touching}
-use Rattle.columns.specs.Decisions.{decided_by}
+use Rattle.solid_model.specs.Decisions.{decided_by}
 use Rattle.columns.specs.Gathered.{place_in_view, place_numbered, block_of_place, block_of_column, AreGatheredTo, AreTouchedTo}
 use Rattle.columns.specs.KeptColumns.{columns_before, column_count, column_number, AreKnownColumns, AreSpans, AreSides, IsTrail, IsKeptBy}
 use Rattle.columns.specs.Lines.{times_listed, AreMarked, AreBrokenTo, AreBeside}

@@ -5,8 +5,8 @@ use Rattle.std.proofs.lemmas.List.{length_push, length-take-le, take-append-le, 
 use Rattle.std.proofs.Math.ListN.{get_or-eq_default}
 use Rattle.std.proofs.Math.Seq.{get_or-append_seam}
 use Rattle.columns.specs.declared.lines.Beside.{Beside}
-use Rattle.columns.specs.declared.decision.Decision.{Decision}
-use Rattle.columns.specs.Decisions.{decided_by}
+use Rattle.solid_model.specs.declared.decision.Decision.{Decision}
+use Rattle.solid_model.specs.Decisions.{decided_by}
 use Rattle.columns.specs.Lines.{times_listed, BeginsWith}
 use Rattle.columns.specs.KeptColumns.{IsTrail}
 use Rattle.solid_model.specs.Blocks.{ProblemParts}

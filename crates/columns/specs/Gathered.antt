@@ -8,7 +8,7 @@ use Rattle.columns.specs.declared.spans.Span.{Span}
 use Rattle.columns.specs.Touching.{is_of, view_width, shown_cell}
 use Rattle.columns.specs.Lines.{times_listed, AreMarked}
 use Rattle.columns.specs.Spans.{is_on, known_there, AreWithin, AreAdded}
-use Rattle.columns.specs.Decisions.{decided_by}
+use Rattle.solid_model.specs.Decisions.{decided_by}
 use Rattle.solid_model.specs.Demands.{known_in}
 use Rattle.columns.specs.Plans.{IsAddedOnce, with_hit, is_listed}
 use Rattle.columns.specs.declared.known.KnownColumn.{KnownColumn}
@@ -110,8 +110,8 @@ abbrev pub AllEmpty : {A : Type 0} → ℕ → List (List A) → Type 0
 AllEmpty count lists = (length lists ≡ count) × All (λ xs. xs ≡ []) lists
 
 -- so many lines that can be met
-abbrev pub AllMet : ℕ → List Bool → Type 0
-AllMet count met = (length met ≡ count) × AreMarked met []
+abbrev pub AreMarkedMet : ℕ → List Bool → Type 0
+AreMarkedMet count met = (length met ≡ count) × AreMarked met []
 
 -- these lines more, so many at most
 pub record AreMoreSides (p : ProblemParts) (lines : List LineId) (most : ℕ) (old new : List Beside) : Type 0 where

@@ -5,8 +5,8 @@ use Rattle.columns.specs.declared.known.KnownColumn.{KnownColumn}
 use Rattle.columns.specs.declared.lines.Beside.{Beside}
 use Rattle.columns.specs.declared.spans.Span.{Span}
 use Rattle.columns.specs.Touching.{is_of, view_width, view_height, shown_cell, touching}
-use Rattle.columns.specs.declared.decision.Decision.{Decision}
-use Rattle.columns.specs.Decisions.{decided_by, AreDecisions}
+use Rattle.solid_model.specs.declared.decision.Decision.{Decision}
+use Rattle.solid_model.specs.Decisions.{decided_by, AreDecisions}
 use Rattle.columns.specs.Lines.{times_listed, AreMarked}
 use Rattle.columns.specs.Spans.{is_on, known_there, AreWithin}
 use Rattle.solid_model.specs.declared.frame.View.{View}

@@ -2,8 +2,8 @@ pub mod GridColumns
 pub mod GridPanels
 pub mod Known
 pub mod Broken
-pub mod Decisions
 pub mod DrawnDemands
+pub mod SmallForcing
 pub mod Touching
 pub mod Spans
 pub mod Lines

@@ -4,7 +4,6 @@
 
 mod beside;
 mod column;
-mod decision;
 mod draw;
 mod gather;
 mod grid_columns;
@@ -20,13 +19,13 @@ mod spans;
 mod steps;
 
 pub use column::{Column, style_of};
-pub use decision::Decision;
 pub use draw::{ColumnSet, columns_in, columns_of, draw_cells, draw_in};
 pub use grid_columns::cell_in;
 pub use known::{KnownColumn, can_draw, meets};
 pub use laws::{
     demands_are_computed, lines_are_met_by_drawings, lines_in_order,
-    live_prefixes_end_in_matching_solids,
+    live_prefixes_end_in_matching_solids, live_prefixes_leave_all_lines_met,
+    quartered_cube_half_hidden,
 };
 pub use partial_state::PartialState;
 pub use steps::Steps;

@@ -2,10 +2,9 @@
 
 ghost use Rattle.std.specs.Prelude.{◌≡◌, ◌<◌, ◌++◌, ◌∷◌, [], None};
 ghost use Rattle.columns.specs.Broken.{TellsBroken};
-ghost use Rattle.columns.specs.Decisions.{decided_by};
+ghost use Rattle.solid_model.specs.Decisions.{decided_by};
 
 use crate::beside::{beside_of, number_of_column};
-use crate::decision::Decision;
 use crate::gather::{
     all_met, all_sides, break_all, empty_lists, empty_spans, gather_columns, touch_all,
 };
@@ -15,7 +14,7 @@ use crate::packed::pack;
 use crate::plan::{LineList, SpanList};
 use crate::spans::set_spans;
 use crate::steps::Steps;
-use solid_model::{LineId, Memory, Problem, Style, View};
+use solid_model::{Decision, LineId, Memory, Problem, Style, View};
 use std::alloc::Global;
 use std::marker::{Brand, Model};
 use std::sync::ledger::{Blank, Ledger};
@@ -47,7 +46,7 @@ pub struct PartialState<'p> {
 
 impl<'p> Model for PartialState<'p> {
     ghost use Rattle.std.specs.Prelude.{vec_capacity};
-    ghost use Rattle.columns.specs.Decisions.{PartialParts};
+    ghost use Rattle.solid_model.specs.Decisions.{PartialParts};
 
     ghost Value = { PartialParts };
 
@@ -62,12 +61,12 @@ impl<'p> Model for PartialState<'p> {
 
 impl<'p> PartialState<'p> {
     ghost use Rattle.std.specs.Prelude.{◌≡◌, ◌↔◌, ◌<◌, ◌≤◌, ◌+◌, ◌++◌, ◌∷◌, [], ℕ, pos, None, false, length, slice_index_or, IsTrue, IfSome, IfOk};
-    ghost use Rattle.columns.specs.Decisions.{decided_by, AreOnAll};
+    ghost use Rattle.solid_model.specs.Decisions.{decided_by, AreOnAll};
     ghost use Rattle.columns.specs.Packed.{ArePacked};
     ghost use Rattle.columns.specs.Touching.{touching, view_width, view_height, shown_cell};
     ghost use Rattle.columns.specs.Known.{known_bits, LiesWithin};
     ghost use Rattle.solid_model.specs.GridBox.{grid_sizes};
-    ghost use Rattle.solid_model.specs.Demands.{has_line, known_cell, line_style, lines_of, CanBeMet, IsFirstBroken};
+    ghost use Rattle.solid_model.specs.Demands.{has_line, known_cell, line_style, lines_of, CanBeMet, AllMet, IsFirstBroken};
 
     /// The problem, while no block is decided. An `Err` is out of memory.
     pub fn new(alloc: Global, problem: &'p Problem) -> Result<PartialState<'p>, Memory>
@@ -222,9 +221,8 @@ impl<'p> PartialState<'p> {
     pub fn broken_line(&self) -> Option<LineId>
         ensures some { IfSome result
             (IsFirstBroken self.now.problem (decided_by self.now.decisions)) }
-        ensures none { (result ≡ None) ↔ ((l : LineId)
-            → IsTrue (has_line self.now.problem.grid l)
-            → CanBeMet self.now.problem (decided_by self.now.decisions) l) }
+        ensures none { (result ≡ None)
+            ↔ AllMet self.now.problem (decided_by self.now.decisions) }
     {
         first_broken(self)
     }

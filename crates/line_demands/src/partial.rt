@@ -1,8 +1,8 @@
 //! A problem, some of whose blocks are decided.
 
 use crate::whole::{all_draw, wanted_styles};
-use columns::{Decision, PartialState, Steps};
-use solid_model::{LineId, Memory, Problem, View};
+use columns::{PartialState, Steps};
+use solid_model::{Decision, LineId, Memory, Problem, View};
 use std::alloc::Global;
 use std::marker::Model;
 use std::sync::ledger::Ledger;
@@ -20,7 +20,7 @@ pub struct Partial<'p> {
 }
 
 impl<'p> Model for Partial<'p> {
-    ghost use Rattle.columns.specs.Decisions.{PartialParts};
+    ghost use Rattle.solid_model.specs.Decisions.{PartialParts};
 
     ghost Value = { PartialParts };
 
@@ -34,13 +34,13 @@ impl<'p> Model for Partial<'p> {
 
 impl<'p> Partial<'p> {
     ghost use Rattle.std.specs.Prelude.{◌≡◌, ◌↔◌, ◌<◌, ◌≤◌, ◌+◌, ◌++◌, ◌∷◌, [], ℕ, pos, None, false, IsTrue, IfSome, IfOk};
-    ghost use Rattle.columns.specs.declared.decision.Decision.{Decision};
-    ghost use Rattle.columns.specs.Decisions.{decided_by, AreOnAll};
+    ghost use Rattle.solid_model.specs.declared.decision.Decision.{Decision};
+    ghost use Rattle.solid_model.specs.Decisions.{decided_by, AreOnAll};
     ghost use Rattle.line_demands.specs.WholeChoices.{TellsMatching};
     ghost use Rattle.columns.specs.Touching.{touching, view_width, view_height, shown_cell};
     ghost use Rattle.columns.specs.Known.{known_bits, LiesWithin};
     ghost use Rattle.solid_model.specs.GridBox.{grid_sizes};
-    ghost use Rattle.solid_model.specs.Demands.{has_line, known_cell, CanBeMet, IsFirstBroken};
+    ghost use Rattle.solid_model.specs.Demands.{has_line, known_cell, CanBeMet, AllMet, IsFirstBroken};
 
     /// The problem, while no block is decided. An `Err` is out of memory.
     pub fn new(alloc: Global, problem: &'p Problem) -> Result<Partial<'p>, Memory>
@@ -133,9 +133,8 @@ impl<'p> Partial<'p> {
     pub fn broken_line(&self) -> Option<LineId>
         ensures some { IfSome result
             (IsFirstBroken self.now.problem (decided_by self.now.decisions)) }
-        ensures none { (result ≡ None) ↔ ((l : LineId)
-            → IsTrue (has_line self.now.problem.grid l)
-            → CanBeMet self.now.problem (decided_by self.now.decisions) l) }
+        ensures none { (result ≡ None)
+            ↔ AllMet self.now.problem (decided_by self.now.decisions) }
     {
         self.state.broken_line()
     }
@@ -146,8 +145,7 @@ impl<'p> Partial<'p> {
         requires { AreOnAll self.old.problem.blocks.count self.old.decisions }
         ensures same { self.new ≡ self.old }
         ensures matches { TellsMatching self.old result }
-        ensures met { IsTrue result ↔ ((l : LineId) → IsTrue (has_line self.old.problem.grid l)
-            → CanBeMet self.old.problem (decided_by self.old.decisions) l) }
+        ensures met { IsTrue result ↔ AllMet self.old.problem (decided_by self.old.decisions) }
     {
         all_draw(
             &self.state,

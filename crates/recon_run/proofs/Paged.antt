@@ -17,7 +17,7 @@ use Rattle.search_end.specs.declared.page_out.RunFault.TheVariants as run_fault
 use Rattle.search_end.proofs.DeskAnswers.{live_solution}
 use Rattle.solid_model.specs.Blocks.{IsBlocksOf, ProblemParts}
 use Rattle.solid_model.specs.Choices.{ChoicePrecedes}
-use Rattle.solid_model.specs.Demands.{is_live}
+use Rattle.solid_model.specs.Forcing.{is_live}
 use Rattle.solid_model.specs.Lists.{Each, Ascends, Member}
 use Rattle.solid_model.specs.Panels.{IsGrid}
 use Rattle.solid_model.specs.Search.{SearchLimits}

@@ -5,7 +5,7 @@ use Rattle.std.proofs.lemmas.List.Sorted.{length_permutation}
 use Rattle.solid_model.specs.declared.ended.EndKind.{EndKind}
 use Rattle.solid_model.specs.Blocks.{ProblemParts, IsBlocksOf}
 use Rattle.solid_model.specs.Choices.{ChoicePrecedes}
-use Rattle.solid_model.specs.Demands.{is_live}
+use Rattle.solid_model.specs.Forcing.{is_live}
 use Rattle.solid_model.specs.Lists.{Member, Each, Ascends}
 use Rattle.solid_model.specs.Panels.{IsGrid}
 use Rattle.solid_model.specs.Search.{SearchLimits}
@@ -52,7 +52,7 @@ module _ (p : ProblemParts) (limits : SearchLimits) (blocks : IsBlocksOf p.grid 
   state = desk_state d.problem d.limits d.history
 
   closed : IsClosed (is_live d.problem)
-  closed = subst (λ q. IsClosed (is_live q)) (sym same) (problem_tree p blocks.sized).closed
+  closed = subst (λ q. IsClosed (is_live q)) (sym same) (problem_tree p blocks).closed
 
   -- what the desk's state keeps, in the problem's words
   kept : IsConserved live n limits state

@@ -1,7 +1,7 @@
 -- What a desk has found are solutions, none of them twice, and only grows.
 use Rattle.std.proofs.Common.{◌≡◌, ◌≢◌, Bool, ◌≤◌, List, [], ◌-◌, ◌++◌, length, take, sym, ◌∙◌, ap, subst, arith}
 use Rattle.solid_model.specs.Blocks.{IsBlocksOf}
-use Rattle.solid_model.specs.Demands.{is_live}
+use Rattle.solid_model.specs.Forcing.{is_live}
 use Rattle.solid_model.specs.Lists.{Member, Each, Ascends}
 use Rattle.solid_model.specs.Reports.{Report}
 use Rattle.solid_model.specs.Solutions.{IsSolutionOf}
@@ -16,7 +16,7 @@ use Rattle.search_end.proofs.DeskAnswers.{solution_of}
 
 module _ (d : DeskParts) (desk : IsDesk d) (blocks : IsBlocksOf d.problem.grid d.problem.blocks) where
   kept : IsConserved (is_live d.problem) d.problem.blocks.count d.limits (desk_state d.problem d.limits d.history)
-  kept = desk_conserved d desk (problem_tree d.problem blocks.sized).closed
+  kept = desk_conserved d desk (problem_tree d.problem blocks).closed
 
   -- what is found are solutions
   pub found_solutions : Each (IsSolutionOf d.problem) d.found

@@ -3,11 +3,12 @@ use Rattle.std.proofs.Common.{◌≡◌, Bool, true, false, ℕ, zero, suc, ◌+
 use Rattle.std.proofs.lemmas.Bool.{false≢true, false_from_ne_true, eq-eqb, ne_eqb}
 use Rattle.std.proofs.lemmas.List.{same_from_push}
 use Rattle.std.proofs.lemmas.Option.{slice_get-get_or}
-use Rattle.columns.specs.declared.decision.Decision.{Decision}
-use Rattle.columns.specs.Decisions.{decided_by, AreOnAll, PartialParts}
+use Rattle.solid_model.specs.declared.decision.Decision.{Decision}
+use Rattle.solid_model.specs.Decisions.{decided_by, AreOnAll, PartialParts}
 use Rattle.solid_model.specs.declared.line_id.LineId.{LineId}
 use Rattle.solid_model.specs.Blocks.{ProblemParts}
-use Rattle.solid_model.specs.Demands.{has_line, said_by, CanBeMet, is_live}
+use Rattle.solid_model.specs.Demands.{has_line, said_by, CanBeMet}
+use Rattle.solid_model.specs.Forcing.{is_live}
 use Rattle.columns.proofs.MetLines.{AreSized, live_computed}
 use Rattle.search_tree.specs.BlockPaths.{decisions_of, IsPath}
 

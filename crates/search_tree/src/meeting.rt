@@ -1,7 +1,7 @@
 //! Whether the lines of a grid can be met.
 
 ghost use Rattle.std.specs.Prelude.{◌≡◌, ◌↔◌, true, IsTrue};
-ghost use Rattle.columns.specs.Decisions.{decided_by, AreOnAll};
+ghost use Rattle.solid_model.specs.Decisions.{decided_by, AreOnAll};
 ghost use Rattle.solid_model.specs.declared.line_id.LineId.{LineId};
 ghost use Rattle.solid_model.specs.Demands.{has_line, CanBeMet};
 

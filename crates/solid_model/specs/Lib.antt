@@ -32,7 +32,9 @@ pub mod VirtualFaces
 pub mod Blocks
 pub mod Kept
 pub mod Volumes
+pub mod Decisions
 pub mod Demands
+pub mod Forcing
 pub mod Tree
 pub mod Reports
 pub mod Search

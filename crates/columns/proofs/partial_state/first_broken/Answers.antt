@@ -2,7 +2,7 @@
 use Rattle.std.proofs.Common.{Some, None, sym, subst, arith}
 use Rattle.columns.specs.declared.lines.Beside.{Beside}
 use Rattle.columns.specs.Broken.{TellsBroken}
-use Rattle.columns.specs.Decisions.{decided_by, PartialParts}
+use Rattle.solid_model.specs.Decisions.{decided_by, PartialParts}
 use Rattle.columns.specs.Lines.{IsLeast}
 use Rattle.columns.proofs.KeptState.{broken_there, first_some, first_none}
 use Rattle.columns.proofs.partial_state.first_broken.Goals as goal

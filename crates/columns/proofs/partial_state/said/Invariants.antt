@@ -1,6 +1,6 @@
 -- The decisions so far are on other blocks.
 use Rattle.std.proofs.Common.{◌≡◌, drop}
-use Rattle.columns.specs.Decisions.{decided_by}
+use Rattle.solid_model.specs.Decisions.{decided_by}
 use Rattle.columns.proofs.partial_state.said.Given as goal
 
 abbrev pub invariant-loop-decision : goal.invariant-loop-decision

@@ -3,7 +3,7 @@ use Rattle.std.proofs.Common.{◌≡◌, ◌<◌, ℕ, length, get_or, subst, �
 use Rattle.std.proofs.lemmas.Bool.Decides.{Decides-eqb}
 use Rattle.std.proofs.lemmas.Slice.Eq.{slice_eq-Decides}
 use Rattle.column_lanes.specs.Styles.{IsStyleByte}
-use Rattle.columns.specs.Decisions.{decided_by}
+use Rattle.solid_model.specs.Decisions.{decided_by}
 use Rattle.columns.proofs.WholeChoices.{whole_matches}
 use Rattle.line_demands.proofs.WholeBytes.{all_met, all_wanted}
 use Rattle.solid_model.specs.Bits.{bits}

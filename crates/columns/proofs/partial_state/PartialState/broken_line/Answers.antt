@@ -1,5 +1,5 @@
 -- The first of all lines, or none.
-use Rattle.columns.specs.Decisions.{decided_by}
+use Rattle.solid_model.specs.Decisions.{decided_by}
 use Rattle.columns.proofs.LeastBroken.{told_some, told_none}
 use Rattle.columns.proofs.partial_state.PartialState.broken_line.Goals as goal
 

@@ -1,7 +1,7 @@
 -- The columns beside the line tell it.
 use Rattle.std.proofs.Common.{◌↔◌, IsTrue, List, subst}
 use Rattle.columns.specs.declared.known.KnownColumn.{KnownColumn}
-use Rattle.columns.specs.Decisions.{decided_by, PartialParts}
+use Rattle.solid_model.specs.Decisions.{decided_by, PartialParts}
 use Rattle.columns.specs.Lines.{IsMetBy}
 use Rattle.columns.proofs.KeptState.{is_beside, meet_told}
 use Rattle.columns.proofs.partial_state.PartialState.can_meet.Goals as goal

@@ -1,8 +1,8 @@
 -- The columns of the block are set, and the lines that touch it are tried.
 use Rattle.std.proofs.Common.{◌≡◌, ◌<◌, ◌++◌, ◌∷◌, [], Some, None, List, if◌then◌else◌, length, take, drop, get_or, vec_capacity, ap, sym, subst, ◌∙◌, refl, arith}
 use Rattle.std.proofs.lemmas.List.{take_at}
-use Rattle.columns.specs.declared.decision.Decision.{Decision}
-use Rattle.columns.specs.Decisions.{decided_by, PartialParts}
+use Rattle.solid_model.specs.declared.decision.Decision.{Decision}
+use Rattle.solid_model.specs.Decisions.{decided_by, PartialParts}
 use Rattle.columns.specs.KeptColumns.{IsKeptBy}
 use Rattle.columns.specs.Lines.{AreTried, AreBeside}
 use Rattle.columns.specs.Spans.{is_on, known_there, AreWithin}

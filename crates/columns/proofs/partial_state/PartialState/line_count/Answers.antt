@@ -1,7 +1,7 @@
 -- A line is kept for each.
 use Rattle.std.proofs.Common.{length, ap, sym, ◌∙◌}
 use Rattle.std.proofs.lemmas.List.{length-map}
-use Rattle.columns.specs.Decisions.{PartialParts}
+use Rattle.solid_model.specs.Decisions.{PartialParts}
 use Rattle.columns.proofs.partial_state.PartialState.line_count.Goals as goal
 use Rattle.solid_model.specs.Demands.{lines_of}
 

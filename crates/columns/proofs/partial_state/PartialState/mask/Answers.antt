@@ -3,7 +3,7 @@ use Rattle.std.proofs.Common.{◌≡◌, ◌<◌, pos, length, ap, sym, subst, �
 use Rattle.std.proofs.lemmas.List.{get_or_default}
 use Rattle.columns.specs.declared.known.KnownColumn.{KnownColumn}
 use Rattle.columns.specs.Known.{known_bits, LiesWithin}
-use Rattle.columns.specs.Decisions.{decided_by, PartialParts}
+use Rattle.solid_model.specs.Decisions.{decided_by, PartialParts}
 use Rattle.columns.specs.KeptColumns.{column_count, column_number}
 use Rattle.columns.specs.Touching.{view_width, view_height, shown_cell}
 use Rattle.columns.specs.Spans.{no_column, known_there}

@@ -2,7 +2,7 @@
 use Rattle.std.proofs.Common.{List, length, sym, subst}
 use Rattle.columns.specs.declared.known.KnownColumn.{KnownColumn}
 use Rattle.columns.specs.declared.lines.Beside.{Beside}
-use Rattle.columns.specs.Decisions.{decided_by, AreOnAll, PartialParts}
+use Rattle.solid_model.specs.Decisions.{decided_by, AreOnAll, PartialParts}
 use Rattle.columns.specs.Packed.{ArePackedTo, ArePacked}
 use Rattle.columns.proofs.PackedColumns.{all_packed}
 use Rattle.columns.proofs.partial_state.PartialState.pack.Goals as goal

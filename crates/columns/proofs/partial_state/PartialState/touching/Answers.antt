@@ -1,6 +1,6 @@
 -- There are few lines.
 use Rattle.std.proofs.Common.{◌≡◌, ◌<◌, ◌≤◌, ℕ, List, length, get_or, ap, sym, subst, ◌∙◌, arith}
-use Rattle.columns.specs.Decisions.{PartialParts}
+use Rattle.solid_model.specs.Decisions.{PartialParts}
 use Rattle.columns.proofs.KeptState.{few_touched}
 use Rattle.columns.proofs.partial_state.PartialState.touching.Goals as goal
 

@@ -1,7 +1,7 @@
 -- The block is free again, and the lines that it broke are mended.
 use Rattle.std.proofs.Common.{◌≡◌, ◌++◌, ◌∷◌, [], None, List, if◌then◌else◌, length, take, drop, get_or, vec_capacity, ap, sym, subst, ◌∙◌}
 use Rattle.std.proofs.lemmas.List.{take_at}
-use Rattle.columns.specs.declared.decision.Decision.{Decision}
+use Rattle.solid_model.specs.declared.decision.Decision.{Decision}
 use Rattle.columns.specs.KeptColumns.{IsKeptBy}
 use Rattle.columns.specs.Lines.{AreMarked}
 use Rattle.columns.specs.Spans.{is_on, known_there}

@@ -1,6 +1,6 @@
 -- The state is seen as the partial is.
 use Rattle.std.proofs.Common.{◌↔◌, IsTrue, subst}
-use Rattle.columns.specs.Decisions.{decided_by, PartialParts}
+use Rattle.solid_model.specs.Decisions.{decided_by, PartialParts}
 use Rattle.line_demands.proofs.partial.Partial.can_meet.Goals as goal
 use Rattle.solid_model.specs.Demands.{CanBeMet}
 

@@ -1,6 +1,6 @@
 -- No block is decided, and there is room for all.
 use Rattle.std.proofs.Common.{length, ap, sym, subst, ◌∙◌, arith}
-use Rattle.columns.specs.Decisions.{PartialParts}
+use Rattle.solid_model.specs.Decisions.{PartialParts}
 use Rattle.columns.proofs.MetLines.{AreSized}
 use Rattle.search_tree.proofs.block_path.BlockPath.new.Goals as goal
 
