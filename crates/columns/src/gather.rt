@@ -73,7 +73,7 @@ fn listed(numbers: &[Option<u16>], at: usize) -> Option<u16>
 }
 
 /// The block of the cell at a depth of a column that stands there.
-fn block_at_depth(
+pub fn block_at_depth(
     problem: &Problem,
     sizes: PerAxis,
     place: ColumnPlace,

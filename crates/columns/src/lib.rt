@@ -13,6 +13,7 @@ mod lines;
 mod packed;
 mod partial_state;
 mod plan;
+mod seen;
 mod segment_styles;
 mod sight;
 mod spans;
@@ -27,4 +28,5 @@ pub use laws::{
     live_prefixes_end_in_matching_solids,
 };
 pub use partial_state::PartialState;
+pub use seen::{SeenLine, block_beside};
 pub use steps::Steps;

@@ -12,6 +12,7 @@ use crate::known::KnownColumn;
 use crate::lines::{Beside, can_be_met, least, mend_lines, try_lines};
 use crate::packed::pack;
 use crate::plan::{LineList, SpanList};
+use crate::seen::{SeenLine, seen_line};
 use crate::spans::set_spans;
 use crate::steps::Steps;
 use solid_model::{Decision, LineId, Memory, Problem, Style, View};
@@ -60,10 +61,11 @@ impl<'p> Model for PartialState<'p> {
 }
 
 impl<'p> PartialState<'p> {
-    ghost use Rattle.std.specs.Prelude.{◌≡◌, ◌↔◌, ◌<◌, ◌≤◌, ◌+◌, ◌++◌, ◌∷◌, [], ℕ, pos, None, false, length, slice_index_or, IsTrue, IfSome, IfOk};
-    ghost use Rattle.solid_model.specs.Decisions.{decided_by, AreOnAll};
+    ghost use Rattle.std.specs.Prelude.{◌≡◌, ◌↔◌, ◌<◌, ◌≤◌, ◌+◌, ◌++◌, ◌∷◌, [], ℕ, pos, Some, None, false, length, slice_get, slice_index_or, IsTrue, IfSome, IfOk};
+    ghost use Rattle.solid_model.specs.Decisions.{decided_by, AreDecisions, AreOnAll};
     ghost use Rattle.columns.specs.Packed.{ArePacked};
-    ghost use Rattle.columns.specs.Touching.{touching, view_width, view_height, shown_cell};
+    ghost use Rattle.columns.specs.Touching.{lines_touching, touching, view_width, view_height, shown_cell};
+    ghost use Rattle.columns.specs.Seen.{IsSeen};
     ghost use Rattle.columns.specs.Known.{known_bits, LiesWithin};
     ghost use Rattle.solid_model.specs.GridBox.{grid_sizes};
     ghost use Rattle.solid_model.specs.Demands.{has_line, known_cell, line_style, lines_of, CanBeMet, IsFirstBroken};
@@ -117,6 +119,17 @@ impl<'p> PartialState<'p> {
         // A look at the problem tells that its blocks are those of its grid.
         let _grid = self.problem.grid();
         self.touched[usize::from(block)].as_slice().len() as u32
+    }
+
+    /// The number, among all lines in their order, of one of the lines that touch a block.
+    pub fn touched(&self, block: u16, at: u32) -> usize
+        requires block { block < self.now.problem.blocks.count }
+        requires at { at < touching self.now.problem block }
+        ensures there { result < length (lines_of self.now.problem.grid) }
+        ensures line { (d : LineId) → slice_get (lines_touching self.now.problem block) at
+            ≡ Some (slice_index_or (lines_of self.now.problem.grid) result d) }
+    {
+        self.touched[usize::from(block)].as_slice()[at as usize] as usize
     }
 
     /// Decides a block that isn't decided.
@@ -200,6 +213,18 @@ impl<'p> PartialState<'p> {
         self.decisions.as_slice()
     }
 
+    /// How many decisions there are. No block is decided twice.
+    pub fn decided(&self) -> u16
+        ensures count { result ≡ length self.now.decisions }
+        ensures few { length self.now.decisions ≤ self.now.problem.blocks.count }
+        ensures each { AreDecisions self.now.problem.blocks.count self.now.decisions }
+    {
+        // A look at the problem tells that its blocks are those of its grid.
+        let _grid = self.problem.grid();
+        let _count = self.problem.blocks().count();
+        self.decisions.len() as u16
+    }
+
     /// What is decided of a block.
     pub fn value(&self, block: u16) -> Option<bool>
         ensures { result ≡ decided_by self.now.decisions block }
@@ -253,6 +278,16 @@ impl<'p> PartialState<'p> {
         ensures { result ≡ length (lines_of self.now.problem.grid) }
     {
         self.sides.len()
+    }
+
+    /// The line of a number, in the order of all lines, with what is known of the columns beside it.
+    pub fn seen(&self, number: usize) -> SeenLine
+        requires { number < length (lines_of self.now.problem.grid) }
+        ensures line { (d : LineId)
+            → result.line ≡ slice_index_or (lines_of self.now.problem.grid) number d }
+        ensures seen { IsSeen self.now.problem (decided_by self.now.decisions) result }
+    {
+        seen_line(self.columns.as_slice(), self.sides[number])
     }
 
     /// The style of the line of a number, in the order of all lines.

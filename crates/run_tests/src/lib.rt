@@ -11,6 +11,8 @@ mod drawings;
 #[cfg(test)]
 mod entities;
 #[cfg(test)]
+mod forced;
+#[cfg(test)]
 mod options;
 #[cfg(test)]
 mod pages;

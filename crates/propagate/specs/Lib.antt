@@ -1,0 +1,4 @@
+pub mod Looking
+pub mod Beside
+pub mod Forced
+pub mod Closing

@@ -1,0 +1,84 @@
+//! Whether two columns leave each other free, told at a few looks.
+
+ghost use Rattle.std.specs.Prelude.{◌≡◌, ◌↔◌, ◌<◌, ℕ, true, not, ◌&&◌, IsTrue};
+ghost use Rattle.columns.specs.Known.{known_bits, LiesWithin};
+ghost use Rattle.propagate.specs.Looking.{IsFree, AreFree};
+ghost use Rattle.solid_model.specs.Bits.{is_set};
+ghost use Rattle.solid_model.specs.Demands.{CanDraw};
+ghost use Rattle.solid_model.specs.declared.segment.Style.TheVariants.{Blank, Dashed, Solid};
+
+use columns::{KnownColumn, can_draw};
+use solid_model::Style;
+
+/// The cells of which nothing is known.
+fn undecided(column: KnownColumn) -> u64
+    ensures { (k : ℕ) → is_set result k ≡ (is_set column.may k && not (is_set column.full k)) }
+{
+    column.may & !column.full
+}
+
+/// The bits of a number but its lowest one.
+fn without_lowest(number: u64) -> u64
+    ensures { (k : ℕ) → (is_set result k ≡ true) ↔ ((is_set number k ≡ true)
+        × ((j : ℕ) × (j < k) × (is_set number j ≡ true))) }
+{
+    number & !(number ^ number.wrapping_sub(1))
+}
+
+/// Columns that can be equal leave each other free where the same of their cells are undecided.
+fn are_free_equal(after: KnownColumn, before: KnownColumn) -> bool
+    requires after { LiesWithin after.full after.may }
+    requires before { LiesWithin before.full before.may }
+    requires met { CanDraw (known_bits after.full after.may) (known_bits before.full before.may) Blank }
+    ensures { IsTrue result → AreFree (known_bits after.full after.may)
+        (known_bits before.full before.may) Blank }
+{
+    undecided(after) == undecided(before)
+}
+
+/// A column is free beside one that can begin at two depths. Beside one that begins at a certain
+/// depth, or is empty for certain, it is where it can begin elsewhere whatever one of its cells is.
+fn is_free_apart(column: KnownColumn, beside: KnownColumn) -> bool
+    requires column { LiesWithin column.full column.may }
+    requires beside { LiesWithin beside.full beside.may }
+    ensures { IsTrue result → IsFree (known_bits column.full column.may)
+        (known_bits beside.full beside.may) Solid }
+{
+    let begin = beside.may.trailing_zeros();
+    if beside.full.trailing_zeros() != begin {
+        return true;
+    }
+    if column.may.trailing_zeros() == begin {
+        return false;
+    }
+    column.full.trailing_zeros() != begin
+        || without_lowest(column.may).trailing_zeros() != begin
+}
+
+/// Columns that can begin at one depth and differ behind it leave each other free where all cells
+/// are decided.
+fn are_free_behind(after: KnownColumn, before: KnownColumn) -> bool
+    requires after { LiesWithin after.full after.may }
+    requires before { LiesWithin before.full before.may }
+    requires met { CanDraw (known_bits after.full after.may) (known_bits before.full before.may) Dashed }
+    ensures { IsTrue result → AreFree (known_bits after.full after.may)
+        (known_bits before.full before.may) Dashed }
+{
+    undecided(after) | undecided(before) == 0
+}
+
+/// The columns beside a line that can be met leave each other free: each undecided cell can have
+/// either value. Where it isn't told that they do, they may all the same.
+pub fn are_free(style: Style, after: KnownColumn, before: KnownColumn) -> bool
+    requires after { LiesWithin after.full after.may }
+    requires before { LiesWithin before.full before.may }
+    requires met { CanDraw (known_bits after.full after.may) (known_bits before.full before.may) style }
+    ensures { IsTrue result → AreFree (known_bits after.full after.may)
+        (known_bits before.full before.may) style }
+{
+    match style {
+        Style::Blank => are_free_equal(after, before),
+        Style::Dashed => are_free_behind(after, before),
+        Style::Solid => is_free_apart(after, before) && is_free_apart(before, after),
+    }
+}
