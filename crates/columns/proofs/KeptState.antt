@@ -144,11 +144,6 @@ module _ (p : ProblemParts) (blocks : IsBlocksOf p.grid p.blocks) (spans : List 
   pub first_some : (x : ℕ) (d : Beside) → IsLeast broken (Some x) → TellsBroken p (decided_by decisions) (Some (get_or sides x d).line)
   first_some x d least = some_broken p (decided_by decisions) sides kept.plan.lines.listed broken (all_broken p sides decisions heights broken kept.state.trail) x d (broken_there x least.there) least
 
-  -- so many lines are listed with a block as touch it
-  pub touched_count : (b : ℕ) (ls : List ℕ) → b < p.blocks.count → length (get_or touched b ls) ≡ touching p b
-  touched_count b ls l = sym (length-map (get_or touched b ls) (λ i. (get_or sides i no_side).line))
-      ∙ ap length (kept.plan.beside.exact b ls no_side (let f = kept.plan.cells.count in omega arith))
-
   -- the line of a number
   pub line_there : (n : ℕ) (d : LineId) (e : Beside) → n < length sides → (get_or sides n e).line ≡ get_or (lines_of p.grid) n d
   line_there n d e l = sym (ap (λ ls. get_or ls n d) (sym kept.plan.lines.listed) ∙ get_or-map (λ (s : Beside). s.line) sides n e d l)

@@ -34,7 +34,7 @@ some_bit : (n : ℕ) → n < 2 ^ 64 → n ≢ 0 → (k : ℕ) × (is_set n k ≡
 some_bit n fits some = (zeros n, (lowest_set n fits some).0)
 
 -- a column that is empty before depth 0 has a first full depth before a given one, or is empty down to it
-first_before : (c : ℤ → Bool) → ((k : ℕ) → c (negsuc k) ≡ false) → (n : ℕ)
+pub first_before : (c : ℤ → Bool) → ((k : ℕ) → c (negsuc k) ≡ false) → (n : ℕ)
     → ((d : ℕ) × (d < n) × IsFirstFull c (pos d)) ⊎ ((k : ℕ) → k < n → c (pos k) ≡ false)
 first_before c empty zero = inr (λ k l. absurd (omega arith))
 first_before c empty (suc n) = at (first_before c empty n) (c (pos n)) refl

@@ -129,6 +129,8 @@ impl<'p> PartialState<'p> {
         ensures line { (d : LineId) → slice_get (lines_touching self.now.problem block) at
             ≡ Some (slice_index_or (lines_of self.now.problem.grid) result d) }
     {
+        // A look at the problem tells that its blocks are those of its grid.
+        let _grid = self.problem.grid();
         self.touched[usize::from(block)].as_slice()[at as usize] as usize
     }
 
@@ -287,6 +289,8 @@ impl<'p> PartialState<'p> {
             → result.line ≡ slice_index_or (lines_of self.now.problem.grid) number d }
         ensures seen { IsSeen self.now.problem (decided_by self.now.decisions) result }
     {
+        // A look at the problem tells that its blocks are those of its grid.
+        let _grid = self.problem.grid();
         seen_line(self.columns.as_slice(), self.sides[number])
     }
 

@@ -1,3 +1,10 @@
 pub mod Lives
 pub mod WithValue
 pub mod Least
+pub mod LineCells
+pub mod Chains
+pub mod Handled
+pub mod Replaced
+pub mod FreeApart
+pub mod FreeBehind
+pub mod LowestLeft

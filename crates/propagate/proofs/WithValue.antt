@@ -36,17 +36,28 @@ module _ (depth : ℕ) (value : Bool) (known : ℤ → Option Bool) where
 
 -- ---- as bits
 
-abbrev bit : ℕ → ℕ
+-- a cell of which nothing is known isn't full for certain, and may be full
+pub undecided_bits : (full may k : ℕ) → known_bits full may (pos k) ≡ None → (is_set full k ≡ false) × (is_set may k ≡ true)
+undecided_bits full may k = by (is_set full k) (is_set may k)
+  where
+    by : (f m : Bool) → known_of f m ≡ None → (f ≡ false) × (m ≡ true)
+    by true m e = absurd (none-some true (sym e))
+    by false true e = (refl, refl)
+    by false false e = absurd (none-some false (sym e))
+
+-- and it stands within the word
+pub undecided_within : (full may k : ℕ) → may < 2 ^ 64 → known_bits full may (pos k) ≡ None → k < 64
+undecided_within full may k fits none = elim (cases_lt k 64) as (λ _. k < 64) [
+  | inl l ↦ l
+  | inr far ↦ absurd (both_ways (is_set may k) (ap (λ b. b == 1) (bit_at_above may 64 k fits far)) (undecided_bits full may k none).1)
+]
+
+abbrev pub bit : ℕ → ℕ
 bit d = 1 * 2 ^ d % 2 ^ 64
 
 module _ (full may d : ℕ) (within : LiesWithin full may) (l : d < 64) (m_fits : may < 2 ^ 64) (undecided : known_bits full may (pos d) ≡ None) where
-  both_of : (f m : Bool) → known_of f m ≡ None → (f ≡ false) × (m ≡ true)
-  both_of true m e = absurd (none-some true (sym e))
-  both_of false true e = (refl, refl)
-  both_of false false e = absurd (none-some false (sym e))
-
   free : (is_set full d ≡ false) × (is_set may d ≡ true)
-  free = both_of (is_set full d) (is_set may d) undecided
+  free = undecided_bits full may d undecided
 
   set_there : is_set (bit_or full (bit d)) d ≡ true
   set_there = ap (λ b. b == 1) (bit_at_set_same w64 full d l)
@@ -54,10 +65,10 @@ module _ (full may d : ℕ) (within : LiesWithin full may) (l : d < 64) (m_fits 
   set_kept : (k : ℕ) → k ≢ d → is_set (bit_or full (bit d)) k ≡ is_set full k
   set_kept k other = ap (λ b. b == 1) (bit_at_set_other w64 full d l k other)
 
-  clear_there : is_set (bit_and may (bit_not w64 (bit d))) d ≡ false
+  pub clear_there : is_set (bit_and may (bit_not w64 (bit d))) d ≡ false
   clear_there = ap (λ b. b == 1) (bit_at_clear_same w64 may d l)
 
-  clear_kept : (k : ℕ) → k ≢ d → is_set (bit_and may (bit_not w64 (bit d))) k ≡ is_set may k
+  pub clear_kept : (k : ℕ) → k ≢ d → is_set (bit_and may (bit_not w64 (bit d))) k ≡ is_set may k
   clear_kept k other = elim (cases_lt k 64) as (λ _. is_set (bit_and may (bit_not w64 (bit d))) k ≡ is_set may k) [
     | inl m ↦ ap (λ b. b == 1) (bit_at_clear_other w64 may d l k m other)
     | inr m ↦ ap (λ b. b == 1) (bit_at_above (bit_and may (bit_not w64 (bit d))) 64 k (and_lt 64 may (bit_not w64 (bit d)) m_fits (omega arith)) m ∙ sym (bit_at_above may 64 k m_fits m))

@@ -1,5 +1,5 @@
 -- What the columns beside a line that is seen exclude.
-use Rattle.std.specs.Prelude.{Bool, true, false, ℕ, Option, pos}
+use Rattle.std.specs.Prelude.{Bool, true, false, not, ℕ, Option, pos}
 use Rattle.columns.specs.declared.known.KnownColumn.{KnownColumn}
 use Rattle.columns.specs.declared.seen.SeenLine.{SeenLine}
 use Rattle.columns.specs.Known.{known_bits}
@@ -14,15 +14,10 @@ abbrev pub column_of : SeenLine → Bool → KnownColumn
 column_of s true = s.after
 column_of s false = s.before
 
--- and the one beyond the line
-abbrev pub beyond_of : SeenLine → Bool → KnownColumn
-beyond_of s true = s.before
-beyond_of s false = s.after
-
 -- one of its nearest cells excludes a value of its block, so many
 abbrev pub ExcludesTo : ProblemParts → SeenLine → Bool → ℕ → ℕ → Bool → Type 0
 ExcludesTo p s of_after count = ColumnExcludes (known_bits (column_of s of_after).full (column_of s of_after).may)
-    (known_bits (beyond_of s of_after).full (beyond_of s of_after).may) s.style
+    (known_bits (column_of s (not of_after)).full (column_of s (not of_after)).may) s.style
     (λ k. block_at p.blocks (cell_beside p.grid s.line of_after (pos k))) count
 
 -- one of all of them does

@@ -2,12 +2,14 @@
 
 ghost use Rattle.std.specs.Prelude.{◌≡◌, ◌↔◌, ◌<◌, ℕ, true, not, ◌&&◌, IsTrue};
 ghost use Rattle.columns.specs.Known.{known_bits, LiesWithin};
+ghost use Rattle.propagate.specs.Behind.{IsFreeBegin, CanPart};
 ghost use Rattle.propagate.specs.Looking.{IsFree, AreFree};
 ghost use Rattle.solid_model.specs.Bits.{is_set};
 ghost use Rattle.solid_model.specs.Demands.{CanDraw};
 ghost use Rattle.solid_model.specs.declared.segment.Style.TheVariants.{Blank, Dashed, Solid};
 
-use columns::{KnownColumn, can_draw};
+use crate::cells::{is_undecided, with_value};
+use columns::{KnownColumn, can_differ, can_draw};
 use solid_model::Style;
 
 /// The cells of which nothing is known.
@@ -55,8 +57,44 @@ fn is_free_apart(column: KnownColumn, beside: KnownColumn) -> bool
         || without_lowest(column.may).trailing_zeros() != begin
 }
 
-/// Columns that can begin at one depth and differ behind it leave each other free where all cells
-/// are decided.
+/// Each cell nearer than a depth is decided. Where the two there aren't, both can be empty, and the
+/// columns begin farther away.
+fn is_free_begin(after: KnownColumn, before: KnownColumn, begin: usize) -> bool
+    requires after { LiesWithin after.full after.may }
+    requires before { LiesWithin before.full before.may }
+    requires begin { begin < 64 }
+    ensures after { IsTrue result → IsFreeBegin (known_bits after.full after.may)
+        (known_bits before.full before.may) begin }
+    ensures before { IsTrue result → IsFreeBegin (known_bits before.full before.may)
+        (known_bits after.full after.may) begin }
+{
+    let open = (undecided(after) | undecided(before)).trailing_zeros() as usize;
+    if open != begin {
+        return open > begin;
+    }
+    is_undecided(after, begin)
+        && is_undecided(before, begin)
+        && can_draw(
+            Style::Dashed,
+            with_value(after, begin, false),
+            with_value(before, begin, false),
+        )
+}
+
+/// Behind a depth the columns can differ at a cell that is undecided in both, or at two cells.
+fn can_part(after: KnownColumn, before: KnownColumn, begin: usize) -> bool
+    requires begin { begin < 64 }
+    ensures after { IsTrue result → CanPart (known_bits after.full after.may)
+        (known_bits before.full before.may) begin }
+    ensures before { IsTrue result → CanPart (known_bits before.full before.may)
+        (known_bits after.full after.may) begin }
+{
+    let both = undecided(after) & undecided(before);
+    both >> begin >> 1 != 0 || without_lowest(can_differ(after, before) >> begin >> 1) != 0
+}
+
+/// Columns that can begin at one depth and differ behind it leave each other free where neither that
+/// beginning nor that difference hangs on one undecided cell.
 fn are_free_behind(after: KnownColumn, before: KnownColumn) -> bool
     requires after { LiesWithin after.full after.may }
     requires before { LiesWithin before.full before.may }
@@ -64,7 +102,12 @@ fn are_free_behind(after: KnownColumn, before: KnownColumn) -> bool
     ensures { IsTrue result → AreFree (known_bits after.full after.may)
         (known_bits before.full before.may) Dashed }
 {
-    undecided(after) | undecided(before) == 0
+    let both = after.may & before.may;
+    if both == 0 {
+        return false;
+    }
+    let begin = both.trailing_zeros() as usize;
+    is_free_begin(after, before, begin) && can_part(after, before, begin)
 }
 
 /// The columns beside a line that can be met leave each other free: each undecided cell can have

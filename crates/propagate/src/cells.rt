@@ -9,7 +9,7 @@ use columns::{KnownColumn, can_draw};
 use solid_model::{Decision, Style};
 
 /// The column, where an undecided cell has a value.
-fn with_value(column: KnownColumn, depth: usize, value: bool) -> KnownColumn
+pub fn with_value(column: KnownColumn, depth: usize, value: bool) -> KnownColumn
     requires depth { depth < 64 }
     requires within { LiesWithin column.full column.may }
     requires undecided { known_bits column.full column.may (pos depth) ≡ None }
@@ -50,7 +50,7 @@ fn can_draw_with(
 }
 
 /// Nothing is known of a cell.
-fn is_undecided(column: KnownColumn, depth: usize) -> bool
+pub fn is_undecided(column: KnownColumn, depth: usize) -> bool
     requires { depth < 64 }
     ensures { IsTrue result ↔ (known_bits column.full column.may (pos depth) ≡ None) }
 {

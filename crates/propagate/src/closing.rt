@@ -1,8 +1,9 @@
 //! All that is forced.
 
-ghost use Rattle.std.specs.Prelude.{◌≡◌, ◌<◌, ◌≤◌, ◌+◌, ℕ, None, length, slice_get, slice_index_or, IfSome, IsTrue, take};
+ghost use Rattle.std.specs.Prelude.{◌≡◌, ◌<◌, ◌≤◌, ◌+◌, ℕ, Some, None, length, slice_get, slice_index_or, IfSome, IsTrue, take};
 ghost use Rattle.propagate.specs.Closing.{Grows, IsClosed, IsHandled};
 ghost use Rattle.propagate.specs.Forced.{IsCalm};
+ghost use Rattle.solid_model.specs.declared.decision.Decision.{Decision};
 ghost use Rattle.solid_model.specs.declared.line_id.LineId.{LineId};
 ghost use Rattle.solid_model.specs.Decisions.{decided_by};
 ghost use Rattle.solid_model.specs.Demands.{has_line, lines_of, AllMet, IsFirstBroken};
@@ -36,10 +37,23 @@ fn settle_line(partial: &mut Partial<'_>, number: usize) -> Option<LineId>
         → IsHandled partial.old.problem partial.old.decisions from l
         → IsHandled partial.old.problem partial.new.decisions from l }
 {
+    // A look at the problem tells that its blocks are those of its grid.
+    let _grid = partial.problem().grid();
     let seen = partial.seen(number);
     let decision = forced_by_line(partial, seen)?;
     partial.decide(decision.block, decision.full);
     partial.broken_line()
+}
+
+/// The block of a decision.
+fn decided_block(partial: &Partial<'_>, at: u16) -> u16
+    requires { at < length partial.now.decisions }
+    ensures decision { (d : Decision) × (slice_get partial.now.decisions at ≡ Some d)
+        × (d.block ≡ result) }
+    ensures there { result < partial.now.problem.blocks.count }
+{
+    let _count = partial.decided();
+    partial.decisions()[usize::from(at)].block
 }
 
 /// Looks at each line that touches the block of a decision, until one can't be met.
@@ -54,7 +68,7 @@ fn settle_touching(partial: &mut Partial<'_>, at: u16) -> Option<LineId>
         → IsHandled partial.old.problem partial.old.decisions at l
         → IsHandled partial.old.problem partial.new.decisions (at + 1) l }
 {
-    let block = partial.decisions()[usize::from(at)].block;
+    let block = decided_block(partial, at);
     for place in 0..partial.touching(block) {
         let number = partial.touched(block, place);
         if let Some(line) = settle_line(partial, number) {
@@ -137,6 +151,9 @@ pub fn close_after(partial: &mut Partial<'_>, closed: u16) -> Closed
     ensures grows { Grows partial.old.problem partial.old.decisions partial.new.decisions }
     ensures closed { IsClosed partial.old.problem partial.old.decisions partial.new.decisions result }
 {
+    // A look at the problem tells that its blocks are those of its grid.
+    let _grid = partial.problem().grid();
+    let _count = partial.decided();
     if let Some(line) = partial.broken_line() {
         return Closed::Conflict { line };
     }

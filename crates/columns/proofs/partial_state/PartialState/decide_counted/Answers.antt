@@ -1,5 +1,5 @@
 -- The columns of the block are set, and the lines that touch it are tried.
-use Rattle.std.proofs.Common.{◌≡◌, ◌<◌, ◌++◌, ◌∷◌, [], Some, None, List, if◌then◌else◌, length, take, drop, get_or, vec_capacity, ap, sym, subst, ◌∙◌, refl, arith}
+use Rattle.std.proofs.Common.{◌≡◌, ◌<◌, ◌≤◌, ◌+◌, ℕ, ◌++◌, ◌∷◌, [], Some, None, List, if◌then◌else◌, length, take, drop, get_or, vec_capacity, ap, sym, subst, ◌∙◌, refl, arith}
 use Rattle.std.proofs.lemmas.List.{take_at}
 use Rattle.solid_model.specs.declared.decision.Decision.{Decision}
 use Rattle.solid_model.specs.Decisions.{decided_by, PartialParts}
@@ -7,7 +7,8 @@ use Rattle.columns.specs.KeptColumns.{IsKeptBy}
 use Rattle.columns.specs.Lines.{AreTried, AreBeside}
 use Rattle.columns.specs.Spans.{is_on, known_there, AreWithin}
 use Rattle.columns.proofs.Deciding.{room_for_one}
-use Rattle.columns.proofs.KeptState.{kept_more, seen_as, sides_inside}
+use Rattle.columns.specs.Touching.{touching}
+use Rattle.columns.proofs.KeptState.{kept_more, seen_as, sides_inside, touched_count}
 use Rattle.columns.proofs.partial_state.PartialState.decide_counted.Goals as goal
 
 pub push_reserved-requires : goal.push_reserved-requires
@@ -82,3 +83,13 @@ invariant_of-self g c =
     seen_as p c.grid-grid.ensures.kept self.spans.items self.touched.items self.sides.items c.push_reserved-2.new.self.items columns _ met _ c.push_reserved.new.self.items broken _
     (vec_capacity self.decisions) _ (vec_capacity self.heights) _ (vec_capacity self.broken) _
     all_columns all_met refl c.push_reserved-2.ensures.capacity c.push_reserved.ensures.capacity c.try_lines.ensures.room full
+
+pub returns-clause-steps : goal.returns-clause-steps
+returns-clause-steps g c =
+    let self = c.self.inside in
+    let p = self.problem.now in
+    let there : c.args.block < p.blocks.count = subst (λ (v : PartialParts). c.args.block < v.problem.blocks.count) (sym c.self.view_is) c.requires.there in
+    let of_lines : c.as_slice-4.result.now ≡ get_or self.touched.items c.args.block c.index-2.result.now = c.as_slice-4.ensures ∙ c.index-2.ensures ∙ ap (λ b. get_or self.touched.items b c.index-2.result.now) c.from-number.ensures in
+    let count = ap length of_lines ∙ touched_count p c.grid-grid.ensures.kept self.spans.items self.touched.items self.sides.items self.decisions.items self.columns.items self.met.items self.heights.items self.broken.items _ _ _ c.self.invariant c.args.block c.index-2.result.now there
+    ∙ ap (λ (v : PartialParts). touching v.problem c.args.block) c.self.view_is in
+    subst (λ n. c.try_lines.new.steps ≤ c.args.steps.now + n) count c.try_lines.ensures.steps
