@@ -8,7 +8,10 @@ pub mod AllLines
 pub mod SettledColumns
 pub mod SightLines
 pub mod MetLines
+pub mod WithValue
+pub mod ForcedDecisions
 pub mod Prefixes
+pub mod LiveComputed
 pub mod OwnColumns
 pub mod ColumnNumbers
 pub mod SomeStyle

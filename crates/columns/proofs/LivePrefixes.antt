@@ -4,6 +4,7 @@ use Rattle.std.specs.List.{flat_map}
 use Rattle.std.proofs.lemmas.Bool.{and_from, lt-ltb}
 use Rattle.std.proofs.lemmas.List.{get_or-take}
 use Rattle.std.proofs.lemmas.List.Folds.{flat_map-map}
+use Rattle.std.proofs.lemmas.Option.{none-some}
 use Rattle.solid_model.specs.declared.cell.Cell.{Cell}
 use Rattle.solid_model.specs.declared.line_id.LineId.{LineId}
 use Rattle.solid_model.specs.declared.segment.Segment.{Segment}
@@ -12,7 +13,8 @@ use Rattle.solid_model.specs.Blocks.{ProblemParts, IsBlocksOf}
 use Rattle.solid_model.specs.Cells.{is_full}
 use Rattle.solid_model.specs.Choices.{cells_of_choice, IsMatchingChoice}
 use Rattle.solid_model.specs.Columns.{ColumnsDraw}
-use Rattle.solid_model.specs.Demands.{has_line, line_style, said_by, CanDraw, CanBeMet, IsLive, is_live}
+use Rattle.solid_model.specs.Demands.{has_line, line_style, said_by, known_in, CanDraw, CanBeMet, AllMet}
+use Rattle.solid_model.specs.Forcing.{IsStable, IsLive, is_live}
 use Rattle.solid_model.specs.DrawnStyle.{solid_drawing}
 use Rattle.solid_model.specs.Grid.{IsUnionOf}
 use Rattle.solid_model.specs.Panels.{coordinates_of, starts_of, AreGridStyles, IsGridOf}
@@ -24,7 +26,8 @@ use Rattle.solid_model.proofs.Corners.{length-starts_of}
 use Rattle.solid_model.proofs.Gaps.{member}
 use Rattle.solid_model.proofs.GridMatching.{matching_on_grid}
 use Rattle.columns.proofs.LiveTree.{problem_tree}
-use Rattle.columns.proofs.MetLines.{live_computed}
+use Rattle.columns.proofs.LiveComputed.{live_computed}
+use Rattle.solid_model.proofs.Lives.{stable_lives}
 use Rattle.solid_model.proofs.Unions.{some_union}
 use Rattle.columns.proofs.LineStyles.{own_style_drawn, line_drawing, matching_draws_line}
 use Rattle.columns.proofs.OwnColumns.{own_column}
@@ -54,25 +57,22 @@ module _ (drawing : Segment → Style) (is : IsDrawing drawing) (p : ProblemPart
   -- ---- matching choices
 
   -- what a matching choice fills meets each line
-  matching_live : (choice : List Bool) → length choice ≡ p.blocks.count → IsMatching choice → IsLive p choice
-  matching_live choice whole (s, union, matches) = record {
-    short = omega (arith, whole);
-    met = λ l has. (
-      fills_after choice l,
-      fills_before choice l,
-      (λ k value e. known_filled p.blocks choice _ value e),
-      (λ k value e. known_filled p.blocks choice _ value e),
-      matching_draws_line drawing is p.grid grid p.blocks blocks choice l has s union matches,
-    );
-  }
+  pub matching_met : (choice : List Bool) → length choice ≡ p.blocks.count → IsMatching choice → AllMet p (said_by choice)
+  matching_met choice whole (s, union, matches) l has = (
+    fills_after choice l,
+    fills_before choice l,
+    (λ k value e. known_filled p.blocks choice _ value e),
+    (λ k value e. known_filled p.blocks choice _ value e),
+    matching_draws_line drawing is p.grid grid p.blocks blocks choice l has s union matches,
+  )
 
-  -- ---- live choices
+  -- ---- choices under which all lines can be met
 
-  module _ (choice : List Bool) (whole : length choice ≡ p.blocks.count) (live : IsLive p choice) (s : List Cell)
+  module _ (choice : List Bool) (whole : length choice ≡ p.blocks.count) (met : AllMet p (said_by choice)) (s : List Cell)
       (union : IsUnionOf (coordinates_of p.grid) (cells_of_choice p.blocks.numbers choice) (is_full s)) where
     -- each line is met by what the choice fills, since all is decided
     own_draws : (l : LineId) → IsTrue (has_line p.grid l) → ColumnsDraw (fills_after choice l) (fills_before choice l) (line_style p.grid l)
-    own_draws l has = decided_draw (fills_after choice l) (fills_before choice l) (line_style p.grid l) (by (live.met l has))
+    own_draws l has = decided_draw (fills_after choice l) (fills_before choice l) (line_style p.grid l) (by (met l has))
       where
         by : CanBeMet p (said_by choice) l → CanDraw (λ k. Some (fills_after choice l k)) (λ k. Some (fills_before choice l k)) (line_style p.grid l)
         by (after, before, agrees, agrees_too, draws) = (
@@ -111,21 +111,36 @@ module _ (drawing : Segment → Style) (is : IsDrawing drawing) (p : ProblemPart
             let along = lt-ltb i (grid_sizes p.grid (axis_along v upright)) within in
             subst (λ z. Alike z (get_or lines j (pos 0))) (sym (get_or-take (length all - 1) all i (pos 0) within)) (drawn_at line (and_from _ _ across along))
 
-  live_matching : (choice : List Bool) → length choice ≡ p.blocks.count → IsLive p choice → IsMatching choice
-  live_matching choice whole live = by (some_union (coordinates_of p.grid) (λ a. (grid.coordinates a).ordered) (cells_of_choice p.blocks.numbers choice))
+  pub met_matching : (choice : List Bool) → length choice ≡ p.blocks.count → AllMet p (said_by choice) → IsMatching choice
+  met_matching choice whole met = by (some_union (coordinates_of p.grid) (λ a. (grid.coordinates a).ordered) (cells_of_choice p.blocks.numbers choice))
     where
       by : (s : List Cell) × IsUnionOf (coordinates_of p.grid) (cells_of_choice p.blocks.numbers choice) (is_full s)
           → IsMatching choice
       by (s, union) =
-          let same = matching_on_grid drawing is p.grid grid (cells_of_choice p.blocks.numbers choice) s union p.grid.panels (styles_drawn choice whole live s union) in
+          let same = matching_on_grid drawing is p.grid grid (cells_of_choice p.blocks.numbers choice) s union p.grid.panels (styles_drawn choice whole met s union) in
           (s, union, same.0 refl)
 
   -- ---- all of it
 
+  -- a choice of all blocks leaves nothing to be excluded
+  whole_stable : (choice : List Bool) → length choice ≡ p.blocks.count → AllMet p (said_by choice) → IsStable p (said_by choice)
+  whole_stable choice whole met = record {
+    met = met;
+    none = λ block value (none, l, has, (of_after, k, at, out)).
+        none-some _ (sym none ∙ sym (ap (known_in (said_by choice)) at) ∙ all_known p.grid p.blocks blocks choice whole _);
+  }
+
+  -- so a matching one is live
+  matching_live : (choice : List Bool) → length choice ≡ p.blocks.count → IsMatching choice → IsLive p choice
+  matching_live choice whole matches = record {
+    short = omega (arith, whole);
+    lives = stable_lives p (said_by choice) (whole_stable choice whole (matching_met choice whole matches));
+  }
+
   pub live_keeps_matching : KeepsMatching (is_live p) p.blocks.count IsMatching
   live_keeps_matching = record {
-    tree = problem_tree p blocks.sized;
-    reached = λ prefix rest whole matches. (problem_tree p blocks.sized).closed prefix rest
-        ((live_computed p blocks.sized (prefix ++ rest)).1 (matching_live (prefix ++ rest) whole matches));
-    ends = λ choice whole live. live_matching choice whole ((live_computed p blocks.sized choice).0 live);
+    tree = problem_tree p blocks;
+    reached = λ prefix rest whole matches. (problem_tree p blocks).closed prefix rest
+        ((live_computed p blocks (prefix ++ rest)).1 (matching_live (prefix ++ rest) whole matches));
+    ends = λ choice whole live. met_matching choice whole (((live_computed p blocks choice).0 live).lives [] tt);
   }

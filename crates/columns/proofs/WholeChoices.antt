@@ -1,10 +1,8 @@
 -- Lines, where every block is decided: what their columns draw, and whether the solid matches.
-use Rattle.std.proofs.Common.{◌≡◌, ◌↔◌, Bool, ℕ, ◌<◌, ℤ, List, [], ◌++◌, length, Option, Some, None, IsTrue, refl, ap, sym, subst, ◌∙◌, arith}
-use Rattle.std.proofs.lemmas.List.{append-nil}
+use Rattle.std.proofs.Common.{◌≡◌, ◌↔◌, Bool, ℕ, ◌<◌, ℤ, List, length, Option, Some, None, refl, sym, ◌∙◌}
 use Rattle.std.proofs.lemmas.Option.{same_Some}
 use Rattle.columns.proofs.KeptColumns.{draw_from}
-use Rattle.columns.proofs.LivePrefixes.{live_keeps_matching}
-use Rattle.columns.proofs.MetLines.{live_computed}
+use Rattle.columns.proofs.LivePrefixes.{matching_met, met_matching}
 use Rattle.columns.proofs.Prefixes.{block_below}
 use Rattle.columns.proofs.SomeStyle.{decided_draw}
 use Rattle.solid_model.specs.declared.cell.Cell.{Cell}
@@ -15,10 +13,9 @@ use Rattle.solid_model.specs.declared.segment.Style.TheVariants.{Blank, Dashed, 
 use Rattle.solid_model.specs.Blocks.{ProblemParts, IsBlocksOf, block_at}
 use Rattle.solid_model.specs.Choices.{IsMatchingChoice}
 use Rattle.solid_model.specs.Columns.{HaveSameFirstFull, ColumnsDraw}
-use Rattle.solid_model.specs.Demands.{has_line, known_in, known_cell, known_after, known_before, line_style, said_by, CanBeMet, is_live}
+use Rattle.solid_model.specs.Demands.{known_in, known_cell, known_after, known_before, line_style, said_by, CanBeMet, AllMet}
 use Rattle.solid_model.specs.Panels.{coordinates_of, IsGridOf}
 use Rattle.solid_model.specs.Runs.{IsDrawing}
-use Rattle.solid_model.specs.Tree.{KeepsMatching}
 
 -- ---- styles
 
@@ -65,21 +62,10 @@ module _ (drawing : Segment → Style) (is : IsDrawing drawing) (p : ProblemPart
       by (Some b) e = says b (block_below p.grid p.blocks blocks n b e)
 
   -- all lines can be met exactly where the choice matches
-  pub whole_matches : ((l : LineId) → IsTrue (has_line p.grid l) → CanBeMet p known l) ↔ IsMatchingChoice drawing (coordinates_of p.grid) p.blocks.numbers choice
-  whole_matches = (to, from)
-    where
-      keeps : KeepsMatching (is_live p) p.blocks.count (IsMatchingChoice drawing (coordinates_of p.grid) p.blocks.numbers)
-      keeps = live_keeps_matching drawing is p grid blocks
-
-      to : ((l : LineId) → IsTrue (has_line p.grid l) → CanBeMet p known l) → IsMatchingChoice drawing (coordinates_of p.grid) p.blocks.numbers choice
-      to met = keeps.ends choice whole ((live_computed p blocks.sized choice).1 (record {
-        short = omega (arith, whole);
-        met = λ l has. draw_from _ _ _ _ (line_style p.grid l) (line_style p.grid l) (λ k. same_cell _) (λ k. same_cell _) refl (met l has);
-      }))
-
-      from : IsMatchingChoice drawing (coordinates_of p.grid) p.blocks.numbers choice → (l : LineId) → IsTrue (has_line p.grid l) → CanBeMet p known l
-      from matches l has =
-          let nothing_more : choice ++ [] ≡ choice = append-nil choice in
-          let live = (live_computed p blocks.sized choice).0 (keeps.reached choice [] (ap length nothing_more ∙ whole)
-          (subst (IsMatchingChoice drawing (coordinates_of p.grid) p.blocks.numbers) (sym nothing_more) matches)) in
-          draw_from _ _ _ _ (line_style p.grid l) (line_style p.grid l) (λ k. sym (same_cell _)) (λ k. sym (same_cell _)) refl (live.met l has)
+  pub whole_matches : AllMet p known ↔ IsMatchingChoice drawing (coordinates_of p.grid) p.blocks.numbers choice
+  whole_matches = (
+    (λ met. met_matching drawing is p grid blocks choice whole
+        (λ l has. draw_from _ _ _ _ (line_style p.grid l) (line_style p.grid l) (λ k. same_cell _) (λ k. same_cell _) refl (met l has))),
+    (λ matches l has. draw_from _ _ _ _ (line_style p.grid l) (line_style p.grid l) (λ k. sym (same_cell _)) (λ k. sym (same_cell _)) refl
+        (matching_met drawing is p grid blocks choice whole matches l has)),
+  )

@@ -6,7 +6,8 @@ use Rattle.std.proofs.lemmas.List.{get_or-drop, get_or-take, drop-drop, length-d
 use Rattle.std.proofs.lemmas.Option.{slice_get-get_or}
 use Rattle.solid_model.specs.declared.frame.View.TheVariants.{Front}
 use Rattle.solid_model.specs.Blocks.{ProblemParts}
-use Rattle.solid_model.specs.Demands.{said_by, IsLive, is_live}
+use Rattle.solid_model.specs.Demands.{said_by}
+use Rattle.solid_model.specs.Forcing.{IsLive, is_live}
 use Rattle.solid_model.specs.Lists.{Member}
 use Rattle.solid_model.specs.Tree.{live_count, live_below}
 use Rattle.solid_model.proofs.Lists.{member-map}

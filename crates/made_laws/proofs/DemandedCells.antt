@@ -9,7 +9,8 @@ use Rattle.solid_model.specs.declared.frame.View.{View}
 use Rattle.solid_model.specs.Blocks.{ProblemParts}
 use Rattle.solid_model.specs.Cells.{coordinate, is_full}
 use Rattle.solid_model.specs.Columns.{cell_in}
-use Rattle.solid_model.specs.Demands.{said_by, IsLive}
+use Rattle.solid_model.specs.Demands.{said_by}
+use Rattle.solid_model.specs.Forcing.{IsLive}
 use Rattle.solid_model.specs.Frames.{frame_of, along, across, cell_on}
 use Rattle.solid_model.specs.Panels.{coordinates_of}
 use Rattle.solid_model.specs.GridBox.{grid_sizes}

@@ -11,7 +11,8 @@ use Rattle.solid_model.specs.declared.segment.Style.TheVariants.{Blank, Dashed, 
 use Rattle.solid_model.specs.Blocks.{ProblemParts}
 use Rattle.solid_model.specs.Cells.{is_full}
 use Rattle.solid_model.specs.Columns.{column_after, column_before, IsFirstFull, HaveSameFirstFull, ColumnsDraw}
-use Rattle.solid_model.specs.Demands.{line_style, said_by, known_cell, known_after, known_before, CanDraw, IsLive}
+use Rattle.solid_model.specs.Demands.{line_style, said_by, known_cell, known_after, known_before, CanDraw}
+use Rattle.solid_model.specs.Forcing.{IsLive}
 use Rattle.solid_model.specs.Draws.{Draws}
 use Rattle.solid_model.specs.DrawnStyle.{solid_drawing, drawn_style}
 use Rattle.solid_model.specs.Frames.{frame_of}

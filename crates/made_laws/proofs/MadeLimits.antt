@@ -22,7 +22,7 @@ use Rattle.solid_model.specs.declared.cell.Axis.TheVariants.{X, Y, Z}
 use Rattle.solid_model.specs.declared.cell.Cell.{Cell}
 use Rattle.solid_model.specs.Blocks.{AreBlocksOf, IsBlocksOf, ProblemParts}
 use Rattle.solid_model.specs.Choices.{IsMatchingChoice}
-use Rattle.solid_model.specs.Demands.{is_live}
+use Rattle.solid_model.specs.Forcing.{is_live}
 use Rattle.solid_model.specs.DrawnStyle.{solid_drawing}
 use Rattle.solid_model.specs.Limits.{most_blocks}
 use Rattle.solid_model.specs.Matching.{AreSolidsOf}

@@ -4,7 +4,7 @@ ghost use Rattle.std.specs.Prelude.{◌≡◌, ◌≤◌, [], length, List, ℕ,
 ghost use Rattle.solid_model.specs.declared.cell.Cell.{Cell};
 ghost use Rattle.solid_model.specs.declared.segment.Segment.{Segment};
 ghost use Rattle.solid_model.specs.Blocks.{AreBlocksOf, IsBlocksOf, ProblemParts};
-ghost use Rattle.solid_model.specs.Demands.{is_live};
+ghost use Rattle.solid_model.specs.Forcing.{is_live};
 ghost use Rattle.solid_model.specs.Drawings.{drawing_of};
 ghost use Rattle.solid_model.specs.DrawnStyle.{solid_drawing};
 ghost use Rattle.solid_model.specs.Limits.{most_blocks};

@@ -16,7 +16,7 @@ use Rattle.search_run.specs.declared.page_out.RunFault.{RunFault}
 use Rattle.search_run.specs.declared.page_out.RunFault.TheVariants as run_fault
 use Rattle.solid_model.specs.Blocks.{IsBlocksOf, ProblemParts}
 use Rattle.solid_model.specs.Choices.{ChoicePrecedes}
-use Rattle.solid_model.specs.Demands.{is_live}
+use Rattle.solid_model.specs.Forcing.{is_live}
 use Rattle.solid_model.specs.Lists.{Each, Ascends, Member}
 use Rattle.solid_model.specs.Panels.{IsGrid}
 use Rattle.solid_model.specs.Search.{SearchLimits}

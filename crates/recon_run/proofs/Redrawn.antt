@@ -15,7 +15,7 @@ use Rattle.solid_model.specs.declared.ended.EndKind.TheVariants.{Whole, CutNodes
 use Rattle.solid_model.specs.Blocks.{ProblemParts}
 use Rattle.solid_model.specs.Cells.{is_full}
 use Rattle.solid_model.specs.Choices.{AreSolidsOfChoices, cells_of_choice}
-use Rattle.solid_model.specs.Demands.{is_live}
+use Rattle.solid_model.specs.Forcing.{is_live}
 use Rattle.solid_model.specs.Drawings.{drawing_of}
 use Rattle.solid_model.specs.Grid.{Coordinates, IsUnionOf}
 use Rattle.solid_model.specs.Lists.{Each}

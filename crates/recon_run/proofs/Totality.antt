@@ -28,7 +28,7 @@ use Rattle.solid_model.specs.declared.segment.Style.{Style}
 use Rattle.solid_model.specs.Blocks.{AreBlocksOf, ProblemParts}
 use Rattle.solid_model.specs.Cells.{IsSolid}
 use Rattle.solid_model.specs.Choices.{cells_of_choice}
-use Rattle.solid_model.specs.Demands.{is_live}
+use Rattle.solid_model.specs.Forcing.{is_live}
 use Rattle.solid_model.specs.Drawings.{drawing_of, IsShown, IsEmptyView, IsFirstEmptyView}
 use Rattle.solid_model.specs.Grid.{Coordinates, AreGridCoordinates, IsFineEnough, IsFirstTooFine}
 use Rattle.solid_model.specs.Limits.{most_blocks, most_file_bytes, most_grid_coordinates}

@@ -19,7 +19,7 @@ use Rattle.solid_model.specs.declared.ended.EndKind.TheVariants.{Whole, CutNodes
 use Rattle.solid_model.specs.declared.segment.Segment.{Segment}
 use Rattle.solid_model.specs.declared.segment.Style.{Style}
 use Rattle.solid_model.specs.Blocks.{ProblemParts}
-use Rattle.solid_model.specs.Demands.{is_live}
+use Rattle.solid_model.specs.Forcing.{is_live}
 use Rattle.solid_model.specs.Drawings.{drawing_of}
 use Rattle.solid_model.specs.Limits.{most_file_bytes}
 use Rattle.solid_model.specs.Line.{Line}

@@ -18,7 +18,7 @@ use Rattle.solid_model.specs.declared.segment.Style.{Style}
 use Rattle.solid_model.specs.Blocks.{ProblemParts, IsBlocksOf, HasTooManyBlocks}
 use Rattle.solid_model.specs.Cells.{is_full}
 use Rattle.solid_model.specs.Choices.{AreSolidsOfChoices}
-use Rattle.solid_model.specs.Demands.{is_live}
+use Rattle.solid_model.specs.Forcing.{is_live}
 use Rattle.solid_model.specs.Drawings.{drawing_of, IsShown, IsFirstEmptyView}
 use Rattle.solid_model.specs.DrawnStyle.{solid_drawing}
 use Rattle.solid_model.specs.Faces.{FaceParts, AreFacesOf}

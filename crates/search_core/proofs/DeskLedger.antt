@@ -8,7 +8,7 @@ use Rattle.std.specs.Prelude.{Option, if◌then◌else◌, nat_lt}
 use Rattle.solid_model.specs.declared.ended.EndKind.{EndKind}
 use Rattle.solid_model.specs.declared.ended.EndKind.TheVariants.{Whole, CutNodes, CutSolids}
 use Rattle.solid_model.specs.Blocks.{ProblemParts}
-use Rattle.solid_model.specs.Demands.{is_live}
+use Rattle.solid_model.specs.Forcing.{is_live}
 use Rattle.solid_model.specs.Lists.{Member, Each}
 use Rattle.solid_model.specs.Reports.{Report, IsReport}
 use Rattle.solid_model.specs.Search.{SearchLimits}

@@ -82,7 +82,7 @@ impl Model for Desk {
 impl Desk {
     ghost use Rattle.std.specs.Prelude.{◌≡◌, ◌↔◌, [], None, MatchOption, MatchResult, IfOk};
     ghost use Rattle.std.specs.Arc.{arc_value};
-    ghost use Rattle.solid_model.specs.Demands.{is_live};
+    ghost use Rattle.solid_model.specs.Forcing.{is_live};
     ghost use Rattle.search_core.specs.Desk.{IsDesk, IsFirstPiece, Takes};
     ghost use Rattle.search_core.specs.Reported.{IsReported};
 

@@ -3,7 +3,7 @@
 ghost use Rattle.std.specs.Prelude.{◌≡◌, ◌≤◌, ◌++◌, ℕ, List, Option, Some, length, IsTrue, IfOk, OnOk, IsPermutation, MatchResult};
 ghost use Rattle.std.specs.Arc.{arc_value};
 ghost use Rattle.solid_model.specs.Blocks.{ProblemParts};
-ghost use Rattle.solid_model.specs.Demands.{is_live};
+ghost use Rattle.solid_model.specs.Forcing.{is_live};
 ghost use Rattle.solid_model.specs.Limits.{most_solid_limit};
 ghost use Rattle.solid_model.specs.SearchEnds.{EndsSearch};
 ghost use Rattle.search_core.specs.Desk.{IsDesk};

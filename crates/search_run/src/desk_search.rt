@@ -2,7 +2,7 @@
 
 ghost use Rattle.std.specs.Prelude.{◌≡◌, ◌<◌, None, Some, [], IfOk, OnOk};
 ghost use Rattle.std.specs.Arc.{arc_value};
-ghost use Rattle.solid_model.specs.Demands.{is_live};
+ghost use Rattle.solid_model.specs.Forcing.{is_live};
 ghost use Rattle.search_core.specs.Desk.{IsDesk};
 ghost use Rattle.search_tree.specs.BlockPaths.{IsWayOf};
 

@@ -7,7 +7,8 @@ use Rattle.solid_model.specs.declared.decision.Decision.{Decision}
 use Rattle.solid_model.specs.Decisions.{decided_by, AreOnAll, PartialParts}
 use Rattle.solid_model.specs.declared.line_id.LineId.{LineId}
 use Rattle.solid_model.specs.Blocks.{ProblemParts}
-use Rattle.solid_model.specs.Demands.{has_line, said_by, CanBeMet, is_live}
+use Rattle.solid_model.specs.Demands.{has_line, said_by, CanBeMet}
+use Rattle.solid_model.specs.Forcing.{is_live}
 use Rattle.columns.proofs.MetLines.{AreSized, live_computed}
 use Rattle.search_tree.specs.BlockPaths.{decisions_of, IsPath}
 

@@ -2,7 +2,7 @@
 
 ghost use Rattle.std.specs.Prelude.{◌≡◌, [], IfOk};
 ghost use Rattle.std.specs.Arc.{arc_value};
-ghost use Rattle.solid_model.specs.Demands.{is_live};
+ghost use Rattle.solid_model.specs.Forcing.{is_live};
 ghost use Rattle.solid_model.specs.SearchEnds.{EndsSearch};
 
 use crate::block_path::BlockPath;

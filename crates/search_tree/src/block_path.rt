@@ -59,8 +59,7 @@ impl<'a> BlockPath<'a> {
 }
 
 impl<'a> Path for BlockPath<'a> {
-    ghost use Rattle.solid_model.specs.Demands.{is_live};
-
+    ghost use Rattle.solid_model.specs.Forcing.{is_live};
     ghost live = { λ s. is_live s.problem };
 
     ghost blocks = { λ s. s.problem.blocks.count };

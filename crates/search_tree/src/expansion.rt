@@ -2,7 +2,7 @@
 
 ghost use Rattle.std.specs.Prelude.{◌≡◌, ◌≤◌, false, length, IsTrue, IfOk, IfSome, MatchOption};
 ghost use Rattle.std.specs.Arc.{arc_value};
-ghost use Rattle.solid_model.specs.Demands.{is_live};
+ghost use Rattle.solid_model.specs.Forcing.{is_live};
 ghost use Rattle.solid_model.specs.Tree.{opened_of, found_of, rest_of, IsAllowed, IsTree};
 ghost use Rattle.search_tree.specs.BlockPaths.{IsWayOf};
 

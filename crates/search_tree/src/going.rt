@@ -1,8 +1,7 @@
 //! The way to a piece.
 
 ghost use Rattle.std.specs.Prelude.{◌≡◌, ◌≤◌, length, take};
-ghost use Rattle.solid_model.specs.Demands.{is_live};
-
+ghost use Rattle.solid_model.specs.Forcing.{is_live};
 use crate::block_path::BlockPath;
 use crate::path::Path;
 use solid_model::Prefix;

@@ -1,6 +1,7 @@
 pub mod Integers
 pub mod Lists
 pub mod Tests
+pub mod Lives
 pub mod ListPlaces
 pub mod Ranges
 pub mod Concatenations

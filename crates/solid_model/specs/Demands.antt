@@ -1,6 +1,6 @@
--- What the lines of a grid demand of its blocks, and which choices for the first blocks are live. Where a line is told of, the
+-- What the lines of a grid demand of its blocks. Where a line is told of, the
 -- box of grid cells is counted by its own coordinates, and its columns from the nearest grid cell on, which stands at depth 0.
-use Rattle.std.specs.Prelude.{◌≡◌, Bool, true, false, ◌&&◌, ◌||◌, ℕ, suc, ◌≤◌, nat_lt, nat_le, List, [], ◌∷◌, ◌++◌, length, map, slice_get, ℤ, pos, ◌-ℤ◌, Option, Some, None, IsTrue, if◌then◌else◌}
+use Rattle.std.specs.Prelude.{◌≡◌, Bool, true, false, ◌&&◌, ◌||◌, ℕ, suc, nat_lt, List, [], ◌∷◌, ◌++◌, map, slice_get, ℤ, pos, ◌-ℤ◌, Option, Some, None, IsTrue, if◌then◌else◌}
 use Rattle.std.specs.List.{flat_map, list_any, list_all, range_with_len}
 use Rattle.solid_model.specs.declared.cell.Cell.{Cell}
 use Rattle.solid_model.specs.declared.frame.Direction.{Direction}
@@ -117,11 +117,6 @@ pub record IsFirstBrokenOf (p : ProblemParts) (known : ℕ → Option Bool) (lin
 abbrev pub IsFirstBroken : ProblemParts → (ℕ → Option Bool) → LineId → Type 0
 IsFirstBroken p known = IsFirstBrokenOf p known (lines_of p.grid)
 
--- A prefix says for some of the first blocks whether they are full. It is live where every line can still be met.
-pub record IsLive (p : ProblemParts) (prefix : List Bool) : Type 0 where
-  pub short : length prefix ≤ p.blocks.count
-  pub met : AllMet p (said_by prefix)
-
 -- ---- the same, computed
 
 -- what is known of the two cells beside a line at one depth
@@ -164,7 +159,3 @@ cells_beside g known l = map (λ k. record { after = known_after g known l (pos 
 -- a line can still be met
 abbrev pub can_be_met : ProblemParts → (ℕ → Option Bool) → LineId → Bool
 can_be_met p known l = can_draw (line_style p.grid l) (cells_beside p.grid (known_cell p.blocks known) l)
-
--- a prefix is live
-abbrev pub is_live : ProblemParts → List Bool → Bool
-is_live p prefix = nat_le (length prefix) p.blocks.count && list_all (can_be_met p (said_by prefix)) (lines_of p.grid)

@@ -1,12 +1,12 @@
--- Which decisions the lines of a grid force.
-use Rattle.std.specs.Prelude.{◌≡◌, ◌==◌, Bool, true, false, not, ℕ, zero, suc, List, [], ◌∷◌, ◌++◌, map, ℤ, pos, negsuc, ◌-ℤ◌, Option, Some, None, IsTrue, if◌then◌else◌}
-use Rattle.std.specs.List.{flat_map, range_with_len}
+-- Which decisions the lines of a grid force, and which prefixes are live.
+use Rattle.std.specs.Prelude.{◌≡◌, ◌==◌, Bool, true, false, not, ◌&&◌, ℕ, zero, suc, ◌≤◌, nat_le, List, [], ◌∷◌, ◌++◌, length, map, ℤ, pos, negsuc, ◌-ℤ◌, Option, Some, None, IsTrue, if◌then◌else◌}
+use Rattle.std.specs.List.{flat_map, list_all, range_with_len}
 use Rattle.solid_model.specs.declared.cell.Cell.{Cell}
 use Rattle.solid_model.specs.declared.decision.Decision.{Decision}
 use Rattle.solid_model.specs.declared.line_id.LineId.{LineId}
 use Rattle.solid_model.specs.Blocks.{ProblemParts, block_at}
 use Rattle.solid_model.specs.Columns.{ColumnsDraw}
-use Rattle.solid_model.specs.Demands.{has_line, line_style, lines_of, known_cell, box_cell_in, known_after, known_before, AgreesWith, AllMet, can_draw}
+use Rattle.solid_model.specs.Demands.{has_line, line_style, lines_of, said_by, known_cell, box_cell_in, known_after, known_before, AgreesWith, AllMet, can_draw, can_be_met}
 use Rattle.solid_model.specs.Frames.{frame_of}
 use Rattle.solid_model.specs.GridBox.{grid_sizes}
 use Rattle.solid_model.specs.Panels.{GridParts}
@@ -68,6 +68,12 @@ pub record IsStable (p : ProblemParts) (known : ℕ → Option Bool) : Type 0 wh
   pub met : AllMet p known
   pub none : (block : ℕ) (value : Bool) → IsExcluded p known block value → ⊥
 
+-- A prefix says for some of the first blocks whether they are full. It is live where under every forcing chain from it every line
+-- can still be met.
+pub record IsLive (p : ProblemParts) (prefix : List Bool) : Type 0 where
+  pub short : length prefix ≤ p.blocks.count
+  pub lives : Lives p (said_by prefix)
+
 -- what says at least so much as both, and lives
 abbrev pub LivesBeyond : ProblemParts → (ℕ → Option Bool) → (ℕ → Option Bool) → Type 0
 LivesBeyond p known more = (most : ℕ → Option Bool) × IsLess known most × IsLess more most × Lives p most
@@ -111,6 +117,7 @@ abbrev pub forced_in : Option ℕ → (ℕ → Option Bool) → (Bool → Bool) 
 forced_in None known can = []
 forced_in (Some block) known can = forced_if block can (known block)
 
+-- what a cell beside a line forces
 abbrev pub forced_at : ProblemParts → (ℕ → Option Bool) → LineId → Bool → ℕ → List Decision
 forced_at p known l of_after depth = forced_in (block_at p.blocks (cell_beside p.grid l of_after (pos depth))) known (can_be_met_with p known l of_after depth)
 
@@ -119,14 +126,23 @@ abbrev pub forced_on : ProblemParts → (ℕ → Option Bool) → LineId → Lis
 forced_on p known l = flat_map (forced_at p known l true) (depths_at p.grid l) ++ flat_map (forced_at p known l false) (depths_at p.grid l)
 
 -- all that are forced
-abbrev pub forced : ProblemParts → (ℕ → Option Bool) → List Decision
-forced p known = flat_map (forced_on p known) (lines_of p.grid)
+abbrev pub all_forced : ProblemParts → (ℕ → Option Bool) → List Decision
+all_forced p known = flat_map (forced_on p known) (lines_of p.grid)
 
--- forced decisions, each under those before it, at most so many
+-- the first of some decisions, and those that it leads to
 abbrev pub chain_on : (Decision → List Decision) → List Decision → List Decision
 chain_on on [] = []
 chain_on on (d ∷ others) = d ∷ on d
 
+-- a forcing chain of at most so many: each time the first decision that is forced
 abbrev pub forced_chain : ProblemParts → ℕ → (ℕ → Option Bool) → List Decision
 forced_chain p zero known = []
-forced_chain p (suc more) known = chain_on (λ d. forced_chain p more (known_with known d)) (forced p known)
+forced_chain p (suc more) known = chain_on (λ d. forced_chain p more (known_with known d)) (all_forced p known)
+
+-- what is known at the end of one that can't be longer
+abbrev pub known_closed : ProblemParts → (ℕ → Option Bool) → ℕ → Option Bool
+known_closed p known = known_by known (forced_chain p p.blocks.count known)
+
+-- a prefix is live: it needs no other forcing chain
+abbrev pub is_live : ProblemParts → List Bool → Bool
+is_live p prefix = nat_le (length prefix) p.blocks.count && list_all (can_be_met p (known_closed p (said_by prefix))) (lines_of p.grid)

@@ -1,7 +1,7 @@
 -- Reports of pieces of a problem.
 use Rattle.std.specs.Prelude.{Bool, ℕ, List}
 use Rattle.solid_model.specs.Blocks.{ProblemParts}
-use Rattle.solid_model.specs.Demands.{is_live}
+use Rattle.solid_model.specs.Forcing.{is_live}
 use Rattle.solid_model.specs.Tree.{IsAllowed}
 
 -- a report: of a piece of a problem, how many prefixes were opened, which choices were found, and which prefixes are the rest

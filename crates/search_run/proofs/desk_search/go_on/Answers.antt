@@ -1,7 +1,7 @@
 -- No more live prefixes are opened than there are.
 use Rattle.std.proofs.Common.{◌≡◌, ◌≤◌, [], sym, ◌∙◌, subst, arith}
 use Rattle.solid_model.specs.Blocks.{ProblemParts}
-use Rattle.solid_model.specs.Demands.{is_live}
+use Rattle.solid_model.specs.Forcing.{is_live}
 use Rattle.solid_model.specs.Tree.{live_count, IsClosed}
 use Rattle.search_core.proofs.Desks.{few_opened}
 use Rattle.columns.proofs.LiveTree.{problem_tree}

@@ -1,7 +1,7 @@
 -- The desk is one of the problem within its limits, and the way goes down the problem's tree. Each turn opens a live prefix at
 -- least, and there are only so many.
 use Rattle.std.proofs.Common.{◌≡◌, [], ◌-◌}
-use Rattle.solid_model.specs.Demands.{is_live}
+use Rattle.solid_model.specs.Forcing.{is_live}
 use Rattle.solid_model.specs.Tree.{live_count}
 use Rattle.search_tree.specs.BlockPaths.{IsWayOf}
 use Rattle.search_run.proofs.desk_search.go_on.Given as goal

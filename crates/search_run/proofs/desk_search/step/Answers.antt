@@ -2,7 +2,7 @@
 use Rattle.std.proofs.Common.{sym, ◌∙◌, ap, subst}
 use Rattle.std.proofs.lemmas.Bool.{both_ways}
 use Rattle.std.proofs.lemmas.Option.{MatchOption-at_none}
-use Rattle.solid_model.specs.Demands.{is_live}
+use Rattle.solid_model.specs.Forcing.{is_live}
 use Rattle.search_core.specs.Reported.{IsReported}
 use Rattle.search_core.proofs.Desks.{piece_waits, piece_lives, report_opens}
 use Rattle.search_run.proofs.desk_search.step.Goals as goal

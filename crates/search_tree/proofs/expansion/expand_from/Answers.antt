@@ -1,7 +1,7 @@
 -- Whether the piece is live is asked where the way stands at it.
 use Rattle.std.proofs.Common.{◌≡◌, sym, ◌∙◌, ap}
 use Rattle.std.specs.Arc.{arc_value}
-use Rattle.solid_model.specs.Demands.{is_live}
+use Rattle.solid_model.specs.Forcing.{is_live}
 use Rattle.search_tree.proofs.expansion.expand_from.Goals as goal
 
 pub returns-then-not-is_live-clause-live : goal.returns-then-not-is_live-clause-live

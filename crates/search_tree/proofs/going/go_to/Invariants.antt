@@ -1,6 +1,6 @@
 -- So many of the piece's values are taken.
 use Rattle.std.proofs.Common.{◌≡◌, take}
-use Rattle.solid_model.specs.Demands.{is_live}
+use Rattle.solid_model.specs.Forcing.{is_live}
 use Rattle.search_tree.proofs.going.go_to.Given as goal
 
 abbrev pub invariant-loop-at : goal.invariant-loop-at

@@ -1,6 +1,6 @@
 -- The live prefixes of the problem make a tree.
 use Rattle.std.proofs.Common.{ap, subst}
-use Rattle.solid_model.specs.Demands.{is_live}
+use Rattle.solid_model.specs.Forcing.{is_live}
 use Rattle.solid_model.specs.Tree.{IsTree}
 use Rattle.columns.proofs.LiveTree.{problem_tree}
 use Rattle.search_tree.proofs.block_path.BlockPathPath.block_count.Goals as goal

@@ -4,7 +4,7 @@ use Rattle.std.proofs.lemmas.List.{length-take, length-set, take_more_set}
 use Rattle.std.proofs.lemmas.Option.{slice_get_past}
 use Rattle.solid_model.specs.Decisions.{decided_by, PartialParts}
 use Rattle.solid_model.specs.Blocks.{ProblemParts}
-use Rattle.solid_model.specs.Demands.{is_live}
+use Rattle.solid_model.specs.Forcing.{is_live}
 use Rattle.search_tree.specs.BlockPaths.{PathParts}
 use Rattle.search_tree.proofs.ProblemTrees.{decided_said, path_down}
 use Rattle.search_tree.proofs.block_path.BlockPathPath.go_down.Goals as goal

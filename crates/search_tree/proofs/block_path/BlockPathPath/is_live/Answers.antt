@@ -2,7 +2,7 @@
 use Rattle.std.proofs.Common.{◌≤◌, length, take, ap, ◌∙◌, subst, arith}
 use Rattle.std.proofs.lemmas.Bool.{eqb-true}
 use Rattle.std.proofs.lemmas.List.{length-take-le}
-use Rattle.solid_model.specs.Demands.{is_live}
+use Rattle.solid_model.specs.Forcing.{is_live}
 use Rattle.solid_model.specs.Tree.{IsTree}
 use Rattle.search_tree.proofs.ProblemTrees.{path_live, all_decided}
 use Rattle.columns.proofs.LiveTree.{problem_tree}
