@@ -1,10 +1,11 @@
 -- The blocks of the cells beside a line.
-use Rattle.std.proofs.Common.{◌≡◌, Bool, false, suc, if◌then◌else◌, ◌&&◌, ℕ, ◌<◌, ◌≤◌, ℤ, pos, Option, None, IsTrue, ap, sym, ◌∙◌, arith}
+use Rattle.std.proofs.Common.{◌≡◌, Bool, false, suc, if◌then◌else◌, ◌&&◌, ℕ, ◌<◌, ◌≤◌, ℤ, pos, Option, None, IsTrue, ap, sym, subst, ◌∙◌, arith}
 use Rattle.std.proofs.lemmas.Bool.{and_parts, and_right, ltb-true}
 use Rattle.columns.specs.declared.gather.ColumnPlace.{ColumnPlace}
 use Rattle.columns.specs.Gathered.{block_of_place}
+use Rattle.columns.specs.Touching.{view_width, view_height}
 use Rattle.columns.proofs.BoxSight.{shown_within}
-use Rattle.columns.proofs.KeptColumns.{same_shown}
+use Rattle.columns.proofs.KeptColumns.{same_shown, in_width, in_height}
 use Rattle.solid_model.specs.declared.line_id.LineId.{LineId}
 use Rattle.solid_model.specs.Blocks.{ProblemParts, IsBlocksOf, block_at}
 use Rattle.solid_model.specs.Demands.{has_line, box_cell_in}
@@ -12,7 +13,7 @@ use Rattle.solid_model.specs.Forcing.{place_beside, cell_beside}
 use Rattle.solid_model.specs.Frames.{frame_of}
 use Rattle.solid_model.specs.Panels.{GridParts}
 use Rattle.solid_model.specs.PerAxis.{numbers_of}
-use Rattle.solid_model.specs.Rooms.{is_within, is_below, number_at}
+use Rattle.solid_model.specs.Rooms.{Sizes, is_within, is_below, number_at}
 use Rattle.solid_model.specs.GridBox.{grid_sizes, axis_along, axis_across}
 
 -- a line that a grid has stands within it
@@ -38,3 +39,9 @@ module _ (p : ProblemParts) (blocks : IsBlocksOf p.grid p.blocks) (l : LineId) w
   block_there of_after at across k place is = ap (λ (x : ColumnPlace). block_of_place p x k) is
       ∙ ap (block_at p.blocks) (same_shown (grid_sizes p.grid) l.view l.upright across l.cell (pos k)
       ∙ ap (λ x. box_cell_in (grid_sizes p.grid) (frame_of l.view) l.upright (pos l.cell) x (pos k)) place)
+
+-- a column that a line has beside it stands within its view
+pub column_stands : (sizes : Sizes) (l : LineId) (at : ColumnPlace) (across : ℕ) → at ≡ record { view = l.view; right = if l.upright then across else l.cell; up = if l.upright then l.cell else across }
+    → across < sizes (axis_across l.view l.upright) → l.cell < sizes (axis_along l.view l.upright) → (at.right < view_width sizes at.view) × (at.up < view_height sizes at.view)
+column_stands sizes l at across is inside cell = subst (λ (x : ColumnPlace). (x.right < view_width sizes x.view) × (x.up < view_height sizes x.view)) (sym is)
+    (in_width sizes l.view l.upright across l.cell inside cell, in_height sizes l.view l.upright across l.cell inside cell)

@@ -106,3 +106,8 @@ pub record IsKeptBy (p : ProblemParts) (decisions : List Decision) (spans : List
   pub roomy_lines : length met ≤ wide
   pub plan : IsPlanOf p spans touched sides
   pub state : IsStateOf p sides decisions columns met heights broken
+
+-- for each block what is decided of it
+pub record AreValues (blocks : ℕ) (decisions : List Decision) (values : List (Option Bool)) : Type 0 where
+  pub count : length values ≡ blocks
+  pub each : (b : ℕ) (d : Option Bool) → b < blocks → slice_index_or values b d ≡ decided_by decisions b

@@ -27,6 +27,8 @@ use std::sync::ledger::{Blank, Ledger};
 pub struct PartialState<'p> {
     problem: &'p Problem,
     decisions: Vec<Decision>,
+    /// For each block what is decided of it.
+    values: Vec<Option<bool>>,
     /// The cells of each block, column by column.
     spans: Vec<SpanList>,
     /// The numbers of the lines that touch each block.
@@ -51,13 +53,14 @@ impl<'p> Model for PartialState<'p> {
 
     ghost Value = { PartialParts };
 
-    ghost use Rattle.columns.specs.KeptColumns.{IsKeptBy};
+    ghost use Rattle.columns.specs.KeptColumns.{IsKeptBy, AreValues};
 
     ghost view = { λ s. record { problem = s.problem.now; decisions = s.decisions.items } };
 
     ghost invariant = { λ s. IsKeptBy s.problem.now s.decisions.items s.spans.items s.touched.items
         s.sides.items s.columns.items s.met.items s.heights.items s.broken.items
-        (vec_capacity s.decisions) (vec_capacity s.heights) (vec_capacity s.broken) };
+        (vec_capacity s.decisions) (vec_capacity s.heights) (vec_capacity s.broken)
+        × AreValues s.problem.now.blocks.count s.decisions.items s.values.items };
 }
 
 impl<'p> PartialState<'p> {
@@ -82,6 +85,7 @@ impl<'p> PartialState<'p> {
         let count = usize::from(problem.blocks().count());
         let decisions = Vec::with_capacity(alloc, count)?;
         let heights = Vec::with_capacity(alloc, count)?;
+        let values = vec![in alloc; None; count]?;
         let mut spans = empty_spans(alloc, count)?;
         let mut on = Vec::new(alloc);
         let mut columns = gather_columns(alloc, problem, spans.as_mut_slice(), &mut on)?;
@@ -101,6 +105,7 @@ impl<'p> PartialState<'p> {
         Ok(PartialState {
             problem,
             decisions,
+            values,
             spans,
             touched,
             sides,
@@ -152,6 +157,7 @@ impl<'p> PartialState<'p> {
             self.spans[number].as_slice(),
             Some(full),
         );
+        self.values[number] = Some(full);
         self.heights.push_reserved(self.broken.len());
         try_lines(
             self.columns.as_slice(),
@@ -180,6 +186,7 @@ impl<'p> PartialState<'p> {
                     self.spans[usize::from(last.block)].as_slice(),
                     None,
                 );
+                self.values[usize::from(last.block)] = None;
                 if let Some(height) = self.heights.pop() {
                     mend_lines(self.met.as_mut_slice(), &mut self.broken, height);
                 }
@@ -231,7 +238,12 @@ impl<'p> PartialState<'p> {
     pub fn value(&self, block: u16) -> Option<bool>
         ensures { result ≡ decided_by self.now.decisions block }
     {
-        said(self.decisions.as_slice(), block)
+        let number = usize::from(block);
+        if number < self.values.len() {
+            self.values[number]
+        } else {
+            None
+        }
     }
 
     /// A line can still be met: some pair of columns beside it that agrees with every decided cell
@@ -321,18 +333,6 @@ impl<'p> PartialState<'p> {
             before,
         );
     }
-}
-
-/// What decisions say of a block.
-fn said(decisions: &[Decision], block: u16) -> Option<bool>
-    ensures { result ≡ decided_by decisions.now block }
-{
-    for decision in decisions {
-        if decision.block == block {
-            return Some(decision.full);
-        }
-    }
-    None
 }
 
 /// Decides a block, and counts the steps in a ledger of its own.

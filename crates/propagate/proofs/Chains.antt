@@ -1,13 +1,13 @@
 -- Forcing chains that go on, and where they end.
 use Rattle.std.proofs.Common.{◌≡◌, ◌==◌, Bool, not, ℕ, ◌≤◌, ◌+◌, List, [], ◌∷◌, ◌++◌, length, take, drop, slice_get, ◌<◌, Option, Some, None, IsTrue, refl, ap, sym, subst, ◌∙◌, arith, append_assoc, zero, suc, inl}
 use Rattle.std.proofs.lemmas.List.{append-nil, length-append}
-use Rattle.std.proofs.lemmas.Option.{none-some, same_Some}
+use Rattle.std.proofs.lemmas.Option.{none-some}
 use Rattle.columns.proofs.AllLines.{lines_are_there}
 use Rattle.columns.proofs.Deciding.{decided_more}
 use Rattle.propagate.specs.declared.closing.Closed.TheVariants.{Stable, Conflict}
 use Rattle.propagate.specs.Closing.{Grows, IsClosed}
 use Rattle.propagate.specs.Forced.{IsCalm}
-use Rattle.propagate.proofs.Lives.{less_self, less_on, less_with, lives_less, stable_lives}
+use Rattle.propagate.proofs.Steps.{place_parts}
 use Rattle.solid_model.specs.declared.decision.Decision.{Decision}
 use Rattle.solid_model.specs.declared.line_id.LineId.{LineId}
 use Rattle.solid_model.specs.Blocks.{ProblemParts}
@@ -16,6 +16,7 @@ use Rattle.solid_model.specs.Demands.{has_line, AllMet, CanBeMet, IsFirstBroken}
 use Rattle.solid_model.specs.Forcing.{known_with, known_by, IsLess, IsExcluded, IsForced, IsStable}
 use Rattle.solid_model.specs.Lists.{Member}
 use Rattle.solid_model.proofs.Lists.{member-append_right}
+use Rattle.solid_model.proofs.Lives.{less_chain, lives_less, stable_lives}
 
 -- one decision more says what it says of its block
 pub decided_push : (ds : List Decision) (d : Decision) → decided_by ds d.block ≡ None → decided_by (ds ++ d ∷ []) ≡ known_with (decided_by ds) d
@@ -28,12 +29,7 @@ at_before (y ∷ xs) ys (suc k) x e = at_before xs ys k x e
 
 -- a decision at a place is on a block that is there
 pub decision_there : (count : ℕ) (ds : List Decision) (at : ℕ) (d : Decision) → AreDecisions count ds → slice_get ds at ≡ Some d → d.block < count
-decision_there count ds at d each is = (each (take at ds) (drop (suc at) ds) d (parts ds at d is)).0
-  where
-    parts : (xs : List Decision) (k : ℕ) (x : Decision) → slice_get xs k ≡ Some x → xs ≡ take k xs ++ x ∷ drop (suc k) xs
-    parts [] k x e = absurd (none-some x e)
-    parts (y ∷ xs) zero x e = ap (λ z. z ∷ xs) (same_Some y x e)
-    parts (y ∷ xs) (suc k) x e = ap (λ zs. y ∷ zs) (parts xs k x e)
+decision_there count ds at d each is = (each (take at ds) (drop (suc at) ds) d (place_parts ds at d is)).0
 
 module _ (p : ProblemParts) where
   pub grows_self : (ds : List Decision) → Grows p ds ds
@@ -79,16 +75,12 @@ module _ (p : ProblemParts) where
   pub grows_at : (a b : List Decision) (k : ℕ) (d : Decision) → Grows p a b → slice_get a k ≡ Some d → slice_get b k ≡ Some d
   grows_at a b k d grows at = ap (λ ds. slice_get ds k) grows.longer ∙ at_before a grows.chain k d at
 
-  less_chain : (known : ℕ → Option Bool) (chain : List Decision) → IsForced p known chain → IsLess known (known_by known chain)
-  less_chain known [] forced = less_self known
-  less_chain known (d ∷ ds) (excluded, forced) = less_on known (known_with known d) (known_by (known_with known d) ds) (less_with known d excluded.0) (less_chain (known_with known d) ds forced)
-
   -- ---- the end
 
   -- where each line can be met and excludes nothing
   pub closed_stable : (old now : List Decision) → Grows p old now → AllMet p (decided_by now) → ((l : LineId) → IsTrue (has_line p.grid l) → IsCalm p (decided_by now) l) → IsClosed p old now Stable
   closed_stable old now grows met calm =
-      let less : IsLess (decided_by old) (decided_by now) = subst (IsLess (decided_by old)) (sym grows.known) (less_chain (decided_by old) grows.chain grows.forced) in
+      let less : IsLess (decided_by old) (decided_by now) = subst (IsLess (decided_by old)) (sym grows.known) (less_chain p (decided_by old) grows.chain grows.forced) in
       let stable : IsStable p (decided_by now) = record { met = met; none = λ block value (undecided, l, has, out). calm l has block value (undecided, out) } in
       (lives_less p (decided_by old) (decided_by now) less (stable_lives p (decided_by now) stable), stable)
 

@@ -7,7 +7,7 @@ use Rattle.std.proofs.lemmas.Nat.Bits.{bit_at-lt, same_from_bits}
 use Rattle.columns.specs.Known.{known_bits, LiesWithin}
 use Rattle.columns.proofs.KnownColumns.{fits_to}
 use Rattle.propagate.specs.Looking.{CanDrawWith, IsFree}
-use Rattle.propagate.proofs.WithValue.{bit, undecided_bits, undecided_within, clear_there, clear_kept}
+use Rattle.propagate.proofs.ValueBits.{bit, undecided_bits, undecided_within, clear_there, clear_kept}
 use Rattle.solid_model.specs.declared.segment.Style.TheVariants.{Solid}
 use Rattle.solid_model.specs.Bits.{is_set, bits}
 use Rattle.solid_model.specs.Demands.{AgreesWith}

@@ -1,5 +1,6 @@
 -- Lines that exclude nothing, or are still to be looked at.
 use Rattle.std.proofs.Common.{◌⊎◌, ◌≡◌, ◌==◌, Bool, true, false, ℕ, zero, suc, ◌<◌, ◌≤◌, ◌+◌, List, [], ◌∷◌, ◌++◌, length, take, drop, get_or, slice_get, ℤ, pos, negsuc, ◌-ℤ◌, Option, Some, None, IsTrue, if◌then◌else◌, ◌||◌, inl, inr, refl, ap, sym, subst, ◌∙◌, arith, append_assoc}
+use Rattle.std.specs.Prelude.{IfSome}
 use Rattle.std.specs.List.{range_with_len}
 use Rattle.std.proofs.lemmas.Bool.{eqb-true, eq-eqb, both_ways, cases_lt, or_left, or_right}
 use Rattle.std.proofs.lemmas.List.{append-nil, length-append, length-take-le, take-append-drop}
@@ -7,7 +8,8 @@ use Rattle.std.proofs.lemmas.List.Folds.{list_any_at}
 use Rattle.std.proofs.lemmas.List.FromFn.{length-range_with_len, get_or-range_with_len}
 use Rattle.std.proofs.lemmas.Option.{none-some, same_Some}
 use Rattle.columns.specs.Touching.{is_of, block_beside, touches, lines_touching}
-use Rattle.columns.proofs.AllLines.{lines_are_there, lines_are_listed}
+use Rattle.columns.proofs.AllLines.{lines_are_listed}
+use Rattle.columns.proofs.Gathering.{block_below}
 use Rattle.propagate.specs.Closing.{Awaits, IsHandled, Grows}
 use Rattle.propagate.specs.Forced.{ExcludesOpen, IsCalm}
 use Rattle.propagate.proofs.Chains.{decided_push, at_before, grows_at}
@@ -40,7 +42,7 @@ module _ (p : ProblemParts) (blocks : IsBlocksOf p.grid p.blocks) (l : LineId) w
   ]
     where
       here : ℕ → Bool
-      here k = is_of block (block_beside p l (pos l.at) k) || is_of block (block_beside p l (pos l.at -ℤ pos 1) k)
+      here n = is_of block (block_beside p l (pos l.at) n) || is_of block (block_beside p l (pos l.at -ℤ pos 1) n)
 
       one : (of_after : Bool) → block_at p.blocks (cell_beside p.grid l of_after (pos k)) ≡ Some block → here k ≡ true
       one true at = or_left _ _ (ap (is_of block) at ∙ eq-eqb block block refl)
@@ -80,6 +82,14 @@ module _ (p : ProblemParts) (blocks : IsBlocksOf p.grid p.blocks) (l : LineId) w
             on : (c : Bool) → (if c then Some d.full else known block) ≡ None → known block ≡ None
             on false e = e
             on true e = absurd (none-some d.full (sym e))
+
+-- ---- what a line excludes
+
+-- a value of a block that is there, and which the line touches
+pub excluded_there : (p : ProblemParts) → IsBlocksOf p.grid p.blocks → (known : ℕ → Option Bool) (l : LineId) (block : ℕ) (value : Bool) → ExcludesOpen p known l block value
+    → (block < p.blocks.count) × (touches p block l ≡ true)
+excluded_there p blocks known l block value (none, (of_after, k, at, out)) =
+    (subst (λ r. IfSome r (λ b. b < p.blocks.count)) at (block_below p blocks (cell_beside p.grid l of_after k)), touches_by p blocks l block of_after k at)
 
 -- ---- a decision more
 

@@ -1,7 +1,7 @@
-pub mod Lives
-pub mod WithValue
+pub mod ValueBits
 pub mod Least
 pub mod LineCells
+pub mod Steps
 pub mod Chains
 pub mod Handled
 pub mod Replaced

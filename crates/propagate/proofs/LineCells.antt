@@ -1,11 +1,12 @@
 -- What a line that is seen excludes is what the cells of its two columns exclude.
-use Rattle.std.proofs.Common.{◌≡◌, ◌⊎◌, inl, inr, Bool, true, false, not, ◌<◌, ℕ, ℤ, pos, negsuc, Option, Some, None, refl, ap, sym, subst, ◌∙◌}
-use Rattle.std.proofs.lemmas.Bool.{cases_lt, and_right, le-ltb}
+use Rattle.std.proofs.Common.{◌≡◌, ◌⊎◌, inl, inr, Bool, true, false, not, ◌<◌, ◌≤◌, ℕ, ℤ, pos, negsuc, Option, Some, None, refl, ap, sym, subst, ◌∙◌, arith}
+use Rattle.std.proofs.lemmas.Bool.{cases_lt}
+use Rattle.std.proofs.lemmas.Int.{ints}
 use Rattle.std.proofs.lemmas.Option.{none-some}
 use Rattle.columns.specs.declared.seen.SeenLine.{SeenLine}
 use Rattle.columns.specs.Known.{known_bits}
 use Rattle.columns.specs.Seen.{IsSeen}
-use Rattle.columns.proofs.CellsBeside.{none_at}
+use Rattle.columns.proofs.MetLines.{none_beyond}
 use Rattle.columns.proofs.KnownColumns.{same_first_back}
 use Rattle.propagate.specs.Beside.{column_of, ExcludesBeside}
 use Rattle.propagate.specs.Forced.{ExcludesOpen, IsCalm}
@@ -20,8 +21,7 @@ use Rattle.solid_model.specs.Columns.{ColumnsDraw}
 use Rattle.solid_model.specs.Demands.{known_in, AgreesWith}
 use Rattle.solid_model.specs.Forcing.{place_beside, cell_beside, CanBeMetWith}
 use Rattle.solid_model.specs.Frames.{frame_of}
-use Rattle.solid_model.specs.Rooms.{is_below}
-use Rattle.solid_model.specs.GridBox.{grid_sizes, axis_across}
+use Rattle.solid_model.specs.GridBox.{grid_sizes}
 
 -- two columns draw the same, whichever of them comes first
 pub draw_back : (a b : ℤ → Bool) (style : Style) → ColumnsDraw a b style → ColumnsDraw b a style
@@ -35,11 +35,10 @@ agrees_as f g column same agrees k value e = agrees k value (same k ∙ e)
 -- beyond the box no cell beside a line has a block
 module _ (p : ProblemParts) (blocks : IsBlocksOf p.grid p.blocks) (l : LineId) (of_after : Bool) where
   pub none_before : (k : ℕ) → block_at p.blocks (cell_beside p.grid l of_after (negsuc k)) ≡ None
-  none_before k = none_at p blocks l (place_beside l of_after) (negsuc k) (and_right (is_below (grid_sizes p.grid (axis_across l.view l.upright)) (place_beside l of_after)) false refl)
+  none_before k = none_beyond p blocks.sized l (place_beside l of_after) (negsuc k) (λ r. let low = r.0 in omega (arith, ints))
 
   pub none_behind : (k : ℕ) → grid_sizes p.grid (frame_of l.view).away.axis ≤ k → block_at p.blocks (cell_beside p.grid l of_after (pos k)) ≡ None
-  none_behind k far = none_at p blocks l (place_beside l of_after) (pos k)
-      (and_right (is_below (grid_sizes p.grid (axis_across l.view l.upright)) (place_beside l of_after)) _ (le-ltb k (grid_sizes p.grid (frame_of l.view).away.axis) far))
+  none_behind k far = none_beyond p blocks.sized l (place_beside l of_after) (pos k) (λ r. let high = r.1 in omega (arith, ints))
 
 module _ (p : ProblemParts) (blocks : IsBlocksOf p.grid p.blocks) (known : ℕ → Option Bool) (s : SeenLine) (seen : IsSeen p known s) where
   abbrev column : Bool → ℤ → Option Bool

@@ -8,7 +8,7 @@ use Rattle.columns.proofs.KnownColumns.{same_first_down_to}
 use Rattle.propagate.specs.Behind.{Allows}
 use Rattle.propagate.specs.Looking.{CanDrawWith, IsFree}
 use Rattle.solid_model.specs.declared.segment.Style.TheVariants.{Blank, Dashed}
-use Rattle.propagate.proofs.WithValue.{undecided_bits}
+use Rattle.propagate.proofs.ValueBits.{undecided_bits}
 use Rattle.solid_model.specs.Bits.{is_set}
 use Rattle.solid_model.specs.Columns.{IsFirstFull, HaveSameFirstFull}
 use Rattle.solid_model.specs.Demands.{AgreesWith, CanDraw}
@@ -42,6 +42,15 @@ open_same fa ma fb mb k same none =
     let parts = and_parts (is_set mb k) (not (is_set fb k)) (sym same ∙ and_from (is_set ma k) (not (is_set fa k)) bits.1 (not_from_false (is_set fa k) bits.0)) in
     ap₂ known_of (not-true (is_set fb k) parts.1) parts.0
 
+-- two columns that are as they are known to be, and begin at a depth
+pub record Begin (known other : ℤ → Option Bool) (d : ℕ) : Type 0 where
+  pub one : ℤ → Bool
+  pub two : ℤ → Bool
+  pub fits : AgreesWith known one
+  pub too : AgreesWith other two
+  pub first_one : IsFirstFull one (pos d)
+  pub first_two : IsFirstFull two (pos d)
+
 module _ (known other : ℤ → Option Bool) where
   -- ---- Blank
 
@@ -65,18 +74,9 @@ module _ (known other : ℤ → Option Bool) where
 
   -- ---- Dashed
 
-  -- two columns that begin at a depth, and are as they are known to be
-  pub record Begin (d : ℕ) : Type 0 where
-    pub one : ℤ → Bool
-    pub two : ℤ → Bool
-    pub fits : AgreesWith known one
-    pub too : AgreesWith other two
-    pub first_one : IsFirstFull one (pos d)
-    pub first_two : IsFirstFull two (pos d)
-
   -- columns with the same first full depth can begin at a nearer one too, where both may be full
   pub begin_nearer : (a b : ℤ → Bool) → AgreesWith known a → AgreesWith other b → (d d' : ℕ) → d ≤ d' → IsFirstFull a (pos d') → IsFirstFull b (pos d')
-      → Allows known d true → Allows other d true → Begin d
+      → Allows known d true → Allows other d true → Begin known other d
   begin_nearer a b fits too d d' near first second may may_too = record {
     one = replaced d true a;
     two = replaced d true b;
@@ -92,7 +92,7 @@ module _ (known other : ℤ → Option Bool) where
 
   -- with another value at a depth, at which they don't begin or begin all the same, and different values at one farther away,
   -- they draw Dashed
-  pub dashed_with : (d : ℕ) → Begin d → (e : ℕ) (x : Bool) → d < e → Allows known e x → Allows other e (not x)
+  pub dashed_with : (d : ℕ) → Begin known other d → (e : ℕ) (x : Bool) → d < e → Allows known e x → Allows other e (not x)
       → (k : ℕ) (v : Bool) → d ≤ k → (k ≡ d → v ≡ true) → (k ≡ e → x ≡ v) → known (pos k) ≡ None → CanDrawWith known other Dashed k v
   dashed_with d begin e x far may may_too k v near at_begin at_far none =
       (a, b, a_fits, b_fits, replaced_at k v (replaced e x begin.one), ((pos e, differ), same_first_down_to a b d same a_begin))

@@ -53,8 +53,10 @@ fn is_free_apart(column: KnownColumn, beside: KnownColumn) -> bool
     if column.may.trailing_zeros() == begin {
         return false;
     }
-    column.full.trailing_zeros() != begin
-        || without_lowest(column.may).trailing_zeros() != begin
+    if column.full.trailing_zeros() != begin {
+        return true;
+    }
+    without_lowest(column.may).trailing_zeros() != begin
 }
 
 /// Each cell nearer than a depth is decided. Where the two there aren't, both can be empty, and the
@@ -72,13 +74,14 @@ fn is_free_begin(after: KnownColumn, before: KnownColumn, begin: usize) -> bool
     if open != begin {
         return open > begin;
     }
-    is_undecided(after, begin)
-        && is_undecided(before, begin)
-        && can_draw(
-            Style::Dashed,
-            with_value(after, begin, false),
-            with_value(before, begin, false),
-        )
+    if !is_undecided(after, begin) || !is_undecided(before, begin) {
+        return false;
+    }
+    can_draw(
+        Style::Dashed,
+        with_value(after, begin, false),
+        with_value(before, begin, false),
+    )
 }
 
 /// Behind a depth the columns can differ at a cell that is undecided in both, or at two cells.
@@ -90,7 +93,10 @@ fn can_part(after: KnownColumn, before: KnownColumn, begin: usize) -> bool
         (known_bits after.full after.may) begin }
 {
     let both = undecided(after) & undecided(before);
-    both >> begin >> 1 != 0 || without_lowest(can_differ(after, before) >> begin >> 1) != 0
+    if both >> begin >> 1 != 0 {
+        return true;
+    }
+    without_lowest(can_differ(after, before) >> begin >> 1) != 0
 }
 
 /// Columns that can begin at one depth and differ behind it leave each other free where neither that

@@ -11,10 +11,29 @@ use test_files::{Row, layer_of, row_of};
 
 /// A row a drawing, by its strokes in front, from the top and from the side, and which of its first
 /// blocks are decided: a `1` for a full one, a `0` for an empty one. Wanted are the steps that its
-/// lines force, each block with its value and the line, to their end; and the end of closing, with
-/// what is known of each block then.
+/// lines force, each block with its value and the line, and how they end; and how closing ends, with
+/// what is then known of each block where it is stable. The drawings show one cell, the quartered cube,
+/// that cube with half of a stroke hidden from above, and two cubes along an edge.
 const FORCED: &str = "\
-rect S 0 0 1 1; rect S 0 0 1 1; rect S 0 0 1 1 -> ";
+rect S 0 0 1 1; rect S 0 0 1 1; rect S 0 0 1 1 -> 0+ FRONT false 0 0, stable; stable 1
+rect S 0 0 2 2, line S 0 1 2 1, line S 1 0 1 2; rect S 0 0 2 2, line S 0 1 2 1, line S 1 0 1 2; \
+    rect S 0 0 2 2, line S 0 1 2 1, line S 1 0 1 2 -> stable; stable ........
+rect S 0 0 2 2, line S 0 1 2 1, line S 1 0 1 2; rect S 0 0 2 2, line S 0 1 2 1, line S 1 0 1 2; \
+    rect S 0 0 2 2, line S 0 1 2 1, line S 1 0 1 2; 1 -> 4- FRONT false 1 0, 6+ FRONT false 2 0, \
+    1- FRONT true 1 0, 3+ FRONT false 0 1, 5+ TOP false 0 1, 7- TOP false 1 1, stable; stable 10.10110
+rect S 0 0 2 2, line S 0 1 2 1, line S 1 0 1 2; rect S 0 0 2 2, line S 0 1 2 1, line S 1 0 1 2; \
+    rect S 0 0 2 2, line S 0 1 2 1, line S 1 0 1 2; 0 -> 2+ FRONT false 0 0, 4+ TOP false 0 0, \
+    5- FRONT true 1 1, 7+ FRONT false 2 1, 1+ TOP false 0 1, 6- TOP false 1 0, 3- SIDE false 1 1, \
+    stable; stable 01101001
+rect S 0 0 2 2, line S 0 1 2 1, line S 1 0 1 2; rect S 0 0 2 2, line S 0 1 2 1, line S 1 0 1 2; \
+    rect S 0 0 2 2, line S 0 1 2 1, line S 1 0 1 2; 11 -> conflict FRONT true 1 0; conflict
+rect S 0 0 2 2, line S 0 1 2 1, line S 1 0 1 2; \
+    rect S 0 0 2 2, line S 0 1 2 1, line S 1 0 1 1, line D 1 1 1 2; \
+    rect S 0 0 2 2, line S 0 1 2 1, line S 1 0 1 2 -> 6+ TOP true 1 1, 4- TOP false 1 0, \
+    0+ TOP false 0 0, 1- FRONT true 1 0, 3+ FRONT false 0 1, 5+ TOP false 0 1, 7- TOP false 1 1, \
+    conflict TOP true 1 1; conflict
+rect S 0 0 2 1, line S 1 0 1 1; rect S 0 0 1 1, rect S 1 1 2 2; rect S 0 0 2 1, line S 1 0 1 1 -> \
+    0+ FRONT false 0 0, 1+ FRONT false 0 1, stable; stable 11";
 
 /// A line.
 fn push_line(text: &mut String, line: LineId) -> Result<(), Fail> {
@@ -87,14 +106,15 @@ fn push_steps(text: &mut String, partial: &mut Partial<'_>) -> Result<(), Fail> 
 /// How closing ends.
 fn push_closed(text: &mut String, partial: &mut Partial<'_>) -> Result<(), Fail> {
     match close(partial) {
-        Closed::Stable => text.push_str("; stable ")?,
-        Closed::Conflict { line } => {
-            text.push_str("; conflict ")?;
-            push_line(text, line)?;
-            text.push_str(" ")?;
+        Closed::Stable => {
+            text.push_str("; stable ")?;
+            push_known(text, partial)
+        }
+        Closed::Conflict { line: _ } => {
+            text.push_str("; conflict")?;
+            Ok(())
         }
     }
-    push_known(text, partial)
 }
 
 /// What the lines of a row's drawing force.

@@ -2,7 +2,7 @@
 use Rattle.std.proofs.Common.{◌≡◌, ◌<◌, ◌≤◌, inl, inr, length, get_or, slice_get, Some, None, IsTrue, refl, ap, sym, subst, ◌∙◌, arith}
 use Rattle.std.proofs.lemmas.Option.{slice_get-get_or}
 use Rattle.columns.proofs.AllLines.{lines_are_listed}
-use Rattle.line_demands.proofs.WholeBytes.{no_line}
+use Rattle.propagate.proofs.Steps.{no_line}
 use Rattle.propagate.specs.Closing.{IsHandled, Grows}
 use Rattle.propagate.proofs.Chains.{grows_self, grows_both, grows_length}
 use Rattle.propagate.proofs.Handled.{left_after, none_left}

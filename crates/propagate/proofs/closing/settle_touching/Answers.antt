@@ -1,7 +1,7 @@
 -- One line more is looked at.
 use Rattle.std.proofs.Common.{◌≡◌, ◌<◌, ◌≤◌, ◌+◌, inl, inr, length, get_or, slice_get, Some, None, IsTrue, refl, ap, sym, subst, ◌∙◌, arith}
 use Rattle.columns.specs.Touching.{lines_touching, touching}
-use Rattle.line_demands.proofs.WholeBytes.{no_line}
+use Rattle.propagate.proofs.Steps.{no_line}
 use Rattle.propagate.specs.Closing.{IsHandled, Grows}
 use Rattle.propagate.proofs.Chains.{grows_self, grows_both, grows_length}
 use Rattle.propagate.proofs.Handled.{handled_past, left_after, none_left}

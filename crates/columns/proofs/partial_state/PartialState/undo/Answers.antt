@@ -27,10 +27,10 @@ invariant_of-self c =
     c.pop-in-Some.new.self.items height self.broken.items (vec_capacity self.decisions) (vec_capacity self.heights) (vec_capacity self.broken) c.index.result.now
     (subst (λ (ds : List Decision). IsKeptBy p ds self.spans.items self.touched.items self.sides.items self.columns.items self.met.items (c.pop-in-Some.new.self.items ++ height ∷ []) self.broken.items (vec_capacity self.decisions) (vec_capacity self.heights) (vec_capacity self.broken)) c.in-Some.ensures.items
     (subst (λ hs. IsKeptBy p self.decisions.items self.spans.items self.touched.items self.sides.items self.columns.items self.met.items hs self.broken.items (vec_capacity self.decisions) (vec_capacity self.heights) (vec_capacity self.broken)) c.in-Some-pop.ensures.items
-    c.self.invariant))
+    c.self.invariant.0))
     long c.set_spans.ensures.within
     (λ n k. c.set_spans.ensures.known n k ∙ (λ t. if is_on (of_block t) n k then None else known_there (was t) n k))
     met_long (subst (AreMarked met) c.mend_lines.ensures.broken c.mend_lines.ensures.marked) in
-    seen_as p c.grid-grid.ensures.kept self.spans.items self.touched.items self.sides.items c.pop.new.self.items columns _ met _ c.pop-in-Some.new.self.items (take height self.broken.items) _
+    (seen_as p c.grid-grid.ensures.kept self.spans.items self.touched.items self.sides.items c.pop.new.self.items columns _ met _ c.pop-in-Some.new.self.items (take height self.broken.items) _
     (vec_capacity self.decisions) _ (vec_capacity self.heights) _ (vec_capacity self.broken) _
-    all_columns all_met c.mend_lines.ensures.broken c.in-Some.ensures.capacity c.in-Some-pop.ensures.capacity c.mend_lines.ensures.room kept
+    all_columns all_met c.mend_lines.ensures.broken c.in-Some.ensures.capacity c.in-Some-pop.ensures.capacity c.mend_lines.ensures.room kept, ?)

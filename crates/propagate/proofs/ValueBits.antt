@@ -10,31 +10,8 @@ use Rattle.solid_model.specs.declared.segment.Style.{Style}
 use Rattle.solid_model.specs.Bits.{is_set}
 use Rattle.solid_model.specs.Demands.{AgreesWith, CanDraw}
 use Rattle.solid_model.specs.Forcing.{with_value}
+use Rattle.columns.proofs.WithValue.{agrees_from, agrees_to}
 use Rattle.propagate.specs.Looking.{CanDrawWith}
-
--- ---- a value in an undecided cell
-
-module _ (depth : ℕ) (value : Bool) (known : ℤ → Option Bool) where
-  pub agrees_from : (column : ℤ → Bool) → known (pos depth) ≡ None → AgreesWith (with_value depth value known) column → AgreesWith known column × (column (pos depth) ≡ value)
-  agrees_from column none agrees = (each, agrees (pos depth) value (let same : (depth == depth) ≡ true = eq-eqb depth depth refl in rw same refl))
-    where
-      each : AgreesWith known column
-      each (negsuc k) v e = agrees (negsuc k) v e
-      each (pos k) v e = agrees (pos k) v (by (k == depth) refl)
-        where
-          by : (b : Bool) → (k == depth) ≡ b → (if b then Some value else known (pos k)) ≡ Some v
-          by false f = e
-          by true f = absurd (none-some v (sym none ∙ ap (λ (n : ℕ). known (pos n)) (sym (eqb-true k depth f)) ∙ e))
-
-  pub agrees_to : (column : ℤ → Bool) → AgreesWith known column → column (pos depth) ≡ value → AgreesWith (with_value depth value known) column
-  agrees_to column agrees at (negsuc k) v e = agrees (negsuc k) v e
-  agrees_to column agrees at (pos k) v e = by (k == depth) refl e
-    where
-      by : (b : Bool) → (k == depth) ≡ b → (if b then Some value else known (pos k)) ≡ Some v → column (pos k) ≡ v
-      by false f g = agrees (pos k) v g
-      by true f g = ap (λ (n : ℕ). column (pos n)) (eqb-true k depth f) ∙ at ∙ same_Some value v g
-
--- ---- as bits
 
 -- a cell of which nothing is known isn't full for certain, and may be full
 pub undecided_bits : (full may k : ℕ) → known_bits full may (pos k) ≡ None → (is_set full k ≡ false) × (is_set may k ≡ true)
