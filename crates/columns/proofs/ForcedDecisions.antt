@@ -63,7 +63,8 @@ module _ (p : ProblemParts) (sized : AreSized p) (known : ℕ → Option Bool) (
       computed : (value : Bool) → IsTrue (can value) ↔ CanBeMetWith p known l of_after (pos depth) value
       computed value = met_with_computed of_after depth value few (ap (known_in known) at ∙ none)
 
-      out_with : (value : Bool) → can value ≡ false → LineExcludes p known l block value
+      -- a value with which the test fails is excluded
+      pub out_with : (value : Bool) → can value ≡ false → LineExcludes p known l block value
       out_with value cannot = (of_after, pos depth, at, λ met. false≢true (sym cannot ∙ (computed value).1 met))
 
       -- a decision that it forces

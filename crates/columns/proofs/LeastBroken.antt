@@ -11,7 +11,7 @@ use Rattle.columns.specs.Lines.{one_if, times_listed, IsLeastNumber, IsLeast, le
 use Rattle.solid_model.specs.declared.line_id.LineId.{LineId}
 use Rattle.solid_model.specs.declared.segment.Style.TheVariants.{Blank}
 use Rattle.solid_model.specs.Blocks.{ProblemParts}
-use Rattle.solid_model.specs.Demands.{has_line, lines_of, CanBeMet, IsFirstBroken}
+use Rattle.solid_model.specs.Demands.{lines_of, CanBeMet, AllMet, IsFirstBroken}
 use Rattle.solid_model.specs.Lists.{Member}
 use Rattle.columns.proofs.AllLines.{lines_are_there, lines_are_listed}
 use Rattle.solid_model.proofs.ListPlaces.{member-place}
@@ -99,7 +99,7 @@ pub told_some : (p : ProblemParts) (known : ℕ → Option Bool) (r : Option Lin
 told_some p known None told = tt
 told_some p known (Some l) told = told
 
-pub told_none : (p : ProblemParts) (known : ℕ → Option Bool) (r : Option LineId) → TellsBroken p known r → (r ≡ None) ↔ ((l : LineId) → IsTrue (has_line p.grid l) → CanBeMet p known l)
+pub told_none : (p : ProblemParts) (known : ℕ → Option Bool) (r : Option LineId) → TellsBroken p known r → (r ≡ None) ↔ AllMet p known
 told_none p known None told = (λ e l has. told l (lines_are_listed p.grid l has), λ met. refl)
 told_none p known (Some l) told = (
   λ e. absurd (none-some l (sym e)),

@@ -10,7 +10,7 @@ use Rattle.std.proofs.lemmas.List.FromFn.{map-range_with_len_more}
 use Rattle.std.proofs.lemmas.List.Sums.{sum_by_push}
 use Rattle.std.proofs.Math.Seq.{get_or-append_seam}
 use Rattle.columns.specs.declared.lines.Beside.{Beside}
-use Rattle.columns.specs.Gathered.{AreMoreSides, AllMet}
+use Rattle.columns.specs.Gathered.{AreMoreSides, AreMarkedMet}
 use Rattle.columns.specs.KeptColumns.{IsBeside, AreSides}
 use Rattle.columns.specs.Lines.{one_if, times_listed}
 use Rattle.columns.proofs.ListParts.{range_more}
@@ -56,7 +56,7 @@ module _ (p : ProblemParts) where
   fewer xs a b old new l more = record { listed = more.listed; each = more.each; few = (let e = more.few in omega arith) }
 
 -- one mark more
-pub met_more : (n : ℕ) (met : List Bool) → AllMet n met → AllMet (n + 1) (met ++ true ∷ [])
+pub met_more : (n : ℕ) (met : List Bool) → AreMarkedMet n met → AreMarkedMet (n + 1) (met ++ true ∷ [])
 met_more n met so_far = (
   (let e = length_push met true in let f = so_far.0 in omega arith),
   record {
@@ -69,7 +69,7 @@ met_more n met so_far = (
   },
 )
 
-pub none_met : AllMet 0 []
+pub none_met : AreMarkedMet 0 []
 none_met = (refl, record { once = λ i l. absurd (omega arith); below = λ k d l. absurd (omega arith); counted = refl })
 
 -- the six kinds of lines, one after another

@@ -110,8 +110,8 @@ abbrev pub AllEmpty : {A : Type 0} → ℕ → List (List A) → Type 0
 AllEmpty count lists = (length lists ≡ count) × All (λ xs. xs ≡ []) lists
 
 -- so many lines that can be met
-abbrev pub AllMet : ℕ → List Bool → Type 0
-AllMet count met = (length met ≡ count) × AreMarked met []
+abbrev pub AreMarkedMet : ℕ → List Bool → Type 0
+AreMarkedMet count met = (length met ≡ count) × AreMarked met []
 
 -- these lines more, so many at most
 pub record AreMoreSides (p : ProblemParts) (lines : List LineId) (most : ℕ) (old new : List Beside) : Type 0 where

@@ -3,6 +3,7 @@ pub mod GridPanels
 pub mod Known
 pub mod Broken
 pub mod DrawnDemands
+pub mod SmallForcing
 pub mod Touching
 pub mod Spans
 pub mod Lines

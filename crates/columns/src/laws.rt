@@ -8,16 +8,17 @@ ghost use Rattle.solid_model.specs.declared.segment.Segment.{Segment};
 ghost use Rattle.solid_model.specs.declared.segment.Style.{Style};
 ghost use Rattle.solid_model.specs.Blocks.{ProblemParts, IsBlocksOf};
 ghost use Rattle.solid_model.specs.Choices.{IsMatchingChoice};
-ghost use Rattle.solid_model.specs.Demands.{CanBeMet, can_be_met, lines_of};
-ghost use Rattle.solid_model.specs.Forcing.{IsLive, is_live};
+ghost use Rattle.solid_model.specs.Demands.{said_by, AllMet, CanBeMet, can_be_met, lines_of};
+ghost use Rattle.solid_model.specs.Forcing.{IsForced, IsLive, is_live};
 ghost use Rattle.solid_model.specs.Panels.{coordinates_of, IsGridOf};
 ghost use Rattle.solid_model.specs.Runs.{IsDrawing};
 ghost use Rattle.solid_model.specs.SmallLines.{two_cells, line};
 ghost use Rattle.solid_model.specs.Tree.{KeepsMatching};
 ghost use Rattle.columns.specs.DrawnDemands.{Meets};
+ghost use Rattle.columns.specs.SmallForcing.{quartered_half_hidden, upper_cells};
 
 /// Whether a line of a problem can still be met, and whether a prefix is live, can be computed: no
-/// pair of columns has to be tried.
+/// pair of columns has to be tried, and of all forcing chains only one.
 pub fn demands_are_computed()
     ensures met { (p : ProblemParts) → IsBlocksOf p.grid p.blocks
         → (known : ℕ → Option Bool) (l : LineId)
@@ -53,4 +54,20 @@ pub fn live_prefixes_end_in_matching_solids()
         → (p : ProblemParts) → IsGridOf drawing p.grid → IsBlocksOf p.grid p.blocks
         → KeepsMatching (is_live p) p.blocks.count
         (IsMatchingChoice drawing (coordinates_of p.grid) p.blocks.numbers) }
+{}
+
+/// A live prefix leaves every line able to be met: forcing decisions only ever makes fewer prefixes
+/// live than looking at each line alone.
+pub fn live_prefixes_leave_all_lines_met()
+    ensures { (p : ProblemParts) (prefix : List Bool) → IsLive p prefix
+        → AllMet p (said_by prefix) }
+{}
+
+/// The quartered cube of which half a stroke is hidden from above, which no solid shows: while
+/// nothing is decided each of its lines can be met; but the lines force its upper cells, and with
+/// these a line of the front can't be met. So none of its prefixes is live.
+pub fn quartered_cube_half_hidden()
+    ensures met { AllMet quartered_half_hidden (said_by []) }
+    ensures forced { IsForced quartered_half_hidden (said_by []) upper_cells }
+    ensures none { (prefix : List Bool) → IsLive quartered_half_hidden prefix → ⊥ }
 {}

@@ -25,7 +25,8 @@ pub use grid_columns::cell_in;
 pub use known::{KnownColumn, can_differ, can_draw, meets};
 pub use laws::{
     demands_are_computed, lines_are_met_by_drawings, lines_in_order,
-    live_prefixes_end_in_matching_solids,
+    live_prefixes_end_in_matching_solids, live_prefixes_leave_all_lines_met,
+    quartered_cube_half_hidden,
 };
 pub use partial_state::PartialState;
 pub use seen::{SeenLine, block_beside};

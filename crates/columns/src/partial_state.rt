@@ -71,7 +71,7 @@ impl<'p> PartialState<'p> {
     ghost use Rattle.columns.specs.Seen.{IsSeen};
     ghost use Rattle.columns.specs.Known.{known_bits, LiesWithin};
     ghost use Rattle.solid_model.specs.GridBox.{grid_sizes};
-    ghost use Rattle.solid_model.specs.Demands.{has_line, known_cell, line_style, lines_of, CanBeMet, IsFirstBroken};
+    ghost use Rattle.solid_model.specs.Demands.{has_line, known_cell, line_style, lines_of, CanBeMet, AllMet, IsFirstBroken};
 
     /// The problem, while no block is decided. An `Err` is out of memory.
     pub fn new(alloc: Global, problem: &'p Problem) -> Result<PartialState<'p>, Memory>
@@ -260,9 +260,8 @@ impl<'p> PartialState<'p> {
     pub fn broken_line(&self) -> Option<LineId>
         ensures some { IfSome result
             (IsFirstBroken self.now.problem (decided_by self.now.decisions)) }
-        ensures none { (result ≡ None) ↔ ((l : LineId)
-            → IsTrue (has_line self.now.problem.grid l)
-            → CanBeMet self.now.problem (decided_by self.now.decisions) l) }
+        ensures none { (result ≡ None)
+            ↔ AllMet self.now.problem (decided_by self.now.decisions) }
     {
         first_broken(self)
     }

@@ -13,7 +13,7 @@ use Rattle.solid_model.specs.declared.segment.Style.TheVariants.{Blank, Dashed, 
 use Rattle.solid_model.specs.Bits.{bits}
 use Rattle.solid_model.specs.Blocks.{ProblemParts}
 use Rattle.solid_model.specs.Columns.{ColumnsDraw}
-use Rattle.solid_model.specs.Demands.{has_line, line_style, lines_of, CanBeMet}
+use Rattle.solid_model.specs.Demands.{line_style, lines_of, CanBeMet, AllMet}
 use Rattle.solid_model.proofs.ListPlaces.{member-at, member-place}
 
 -- styles with the same byte are the same
@@ -39,7 +39,7 @@ module _ (p : ProblemParts) (known : ℕ → Option Bool) (after before drawn wa
   lines = lines_of p.grid
 
   -- where the bytes are those that are wanted, each line is met by its columns
-  pub all_met : drawn ≡ wanted → (l : LineId) → IsTrue (has_line p.grid l) → CanBeMet p known l
+  pub all_met : drawn ≡ wanted → AllMet p known
   all_met same l has =
       let (i, there, is) = member-place lines l (lines_are_listed p.grid l has) in
       let m = get_or lines i l in
@@ -49,7 +49,7 @@ module _ (p : ProblemParts) (known : ℕ → Option Bool) (after before drawn wa
       (subst (ColumnsDraw (bits (get_or after i 0)) (bits (get_or before i 0))) wished draws))
 
   -- and where each line can be met they are
-  pub all_wanted : length drawn ≡ length lines → length wanted ≡ length lines → ((l : LineId) → IsTrue (has_line p.grid l) → CanBeMet p known l) → drawn ≡ wanted
+  pub all_wanted : length drawn ≡ length lines → length wanted ≡ length lines → AllMet p known → drawn ≡ wanted
   all_wanted count wanted_count met = ext_get_or 0 drawn wanted (count ∙ sym wanted_count) (λ i l.
       let there : i < length lines = omega (arith, count) in
       let m = get_or lines i no_line in

@@ -41,7 +41,7 @@ impl<'p> Partial<'p> {
     ghost use Rattle.columns.specs.Known.{known_bits, LiesWithin};
     ghost use Rattle.columns.specs.Seen.{IsSeen};
     ghost use Rattle.solid_model.specs.GridBox.{grid_sizes};
-    ghost use Rattle.solid_model.specs.Demands.{has_line, known_cell, lines_of, CanBeMet, IsFirstBroken};
+    ghost use Rattle.solid_model.specs.Demands.{has_line, known_cell, lines_of, CanBeMet, AllMet, IsFirstBroken};
 
     /// The problem, while no block is decided. An `Err` is out of memory.
     pub fn new(alloc: Global, problem: &'p Problem) -> Result<Partial<'p>, Memory>
@@ -143,9 +143,8 @@ impl<'p> Partial<'p> {
     pub fn broken_line(&self) -> Option<LineId>
         ensures some { IfSome result
             (IsFirstBroken self.now.problem (decided_by self.now.decisions)) }
-        ensures none { (result ≡ None) ↔ ((l : LineId)
-            → IsTrue (has_line self.now.problem.grid l)
-            → CanBeMet self.now.problem (decided_by self.now.decisions) l) }
+        ensures none { (result ≡ None)
+            ↔ AllMet self.now.problem (decided_by self.now.decisions) }
     {
         self.state.broken_line()
     }
@@ -156,8 +155,7 @@ impl<'p> Partial<'p> {
         requires { AreOnAll self.old.problem.blocks.count self.old.decisions }
         ensures same { self.new ≡ self.old }
         ensures matches { TellsMatching self.old result }
-        ensures met { IsTrue result ↔ ((l : LineId) → IsTrue (has_line self.old.problem.grid l)
-            → CanBeMet self.old.problem (decided_by self.old.decisions) l) }
+        ensures met { IsTrue result ↔ AllMet self.old.problem (decided_by self.old.decisions) }
     {
         all_draw(
             &self.state,

@@ -3,8 +3,7 @@
 ghost use Rattle.std.specs.Prelude.{◌≡◌, ◌↔◌, length, IsTrue, IfOk};
 ghost use Rattle.solid_model.specs.Decisions.{decided_by, AreOnAll};
 ghost use Rattle.line_demands.specs.WholeChoices.{TellsMatching, AreStylesTo};
-ghost use Rattle.solid_model.specs.declared.line_id.LineId.{LineId};
-ghost use Rattle.solid_model.specs.Demands.{has_line, lines_of, CanBeMet};
+ghost use Rattle.solid_model.specs.Demands.{lines_of, AllMet};
 
 use column_lanes::{style_byte, styles};
 use columns::PartialState;
@@ -42,8 +41,7 @@ pub fn all_draw(
     requires wanted { length wanted.now ≡ length (lines_of state.now.problem.grid) }
     requires styles { AreStylesTo state.now.problem.grid
         (length (lines_of state.now.problem.grid)) wanted.now }
-    ensures met { IsTrue result ↔ ((l : LineId) → IsTrue (has_line state.now.problem.grid l)
-        → CanBeMet state.now.problem (decided_by state.now.decisions) l) }
+    ensures met { IsTrue result ↔ AllMet state.now.problem (decided_by state.now.decisions) }
     ensures matches { TellsMatching state.now result }
 {
     // A look at the problem tells that its blocks are those of its grid.

@@ -11,7 +11,7 @@ use Rattle.solid_model.specs.Forcing.{IsLive, is_live}
 use Rattle.solid_model.specs.Lists.{Member}
 use Rattle.solid_model.specs.Tree.{live_count, live_below}
 use Rattle.solid_model.proofs.Lists.{member-map}
-use Rattle.columns.proofs.MetLines.{live_computed}
+use Rattle.columns.proofs.LiveComputed.{live_computed}
 use Rattle.drawing_maker.specs.declared.cube.Cube.{Cube}
 use Rattle.drawing_maker.specs.Made.{made_cubes}
 use Rattle.drawing_maker.specs.Cubes.{cube_side}
@@ -114,7 +114,7 @@ module _ (ps : List Cube) (q : ProblemParts) (is : IsProblemOf ps q) (prefix : L
 
 module _ (ps : List Cube) (q : ProblemParts) (is : IsProblemOf ps q) where
   all_fit : (prefix : List Bool) → IsTrue (is_live q prefix) → Fits (map rule_of ps) prefix
-  all_fit prefix e = fits_from ps q is prefix ((live_computed q is.blocks.sized prefix).0 e) [] ps refl
+  all_fit prefix e = fits_from ps q is prefix ((live_computed q is.blocks prefix).0 e) [] ps refl
 
   count_is : all_sizes (map rule_of ps) ≡ q.blocks.count
   count_is = sizes_of_rules ps ∙ sym is.count

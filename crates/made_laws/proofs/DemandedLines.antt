@@ -1,6 +1,6 @@
 -- A line of a solid's own grid can't be met where the solid's columns beside it differ, and what is known of the two columns makes
 -- them equal.
-use Rattle.std.proofs.Common.{◌≡◌, ◌≢◌, Bool, false, nat_lt, ℕ, suc, ◌<◌, List, length, ℤ, Option, Some, sym, subst, ◌∙◌, arith}
+use Rattle.std.proofs.Common.{◌≡◌, ◌≢◌, Bool, false, nat_lt, ℕ, suc, ◌<◌, List, [], length, ℤ, Option, Some, sym, subst, ◌∙◌, arith}
 use Rattle.std.proofs.lemmas.Bool.{and_from, lt-ltb}
 use Rattle.solid_model.specs.declared.cell.Cell.{Cell}
 use Rattle.solid_model.specs.declared.frame.View.{View}
@@ -78,7 +78,7 @@ module _ (s : List Cell) (p : ProblemParts) (grid : IsGridOf (solid_drawing s) p
       → (prefix : List Bool) → IsLive p prefix
       → AreKnownEqual (known_after p.grid (known_cell p.blocks (said_by prefix)) level_line) (known_before p.grid (known_cell p.blocks (said_by prefix)) level_line) → ⊥
   not_known_equal k differ prefix live equal =
-      let met = live.met level_line (and_from (nat_lt at (suc (grid_sizes p.grid (axis_across v false)))) (nat_lt cell (grid_sizes p.grid (axis_along v false)))
+      let met = live.lives [] tt level_line (and_from (nat_lt at (suc (grid_sizes p.grid (axis_across v false)))) (nat_lt cell (grid_sizes p.grid (axis_along v false)))
       (lt-ltb at (suc (grid_sizes p.grid (axis_across v false))) (omega arith)) (lt-ltb cell (grid_sizes p.grid (axis_along v false)) in_row)) in
       let blank = known_equal_blank _ _ (line_style p.grid level_line) equal met in
       drawn_where_different v s first_segment k differ

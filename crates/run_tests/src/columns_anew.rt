@@ -131,18 +131,18 @@ fn decides(partial: &mut Partial<'_>, block: u16, full: bool) -> bool {
 }
 
 /// Decides the blocks from this one on as the digits of a choice say, the first block by the
-/// highest of nine. How many of the prefixes on the way are live; `None` where some line stands
-/// otherwise.
+/// highest of nine. With how many of the prefixes on the way every line can be met; `None` where
+/// some line stands otherwise.
 fn decide_from(partial: &mut Partial<'_>, from: u16, choice: u16) -> Option<u32> {
-    let mut live = 0u32;
+    let mut met = 0u32;
     for block in from..9u16 {
         let full = choice >> (8 - block) & 1 == 1;
         if !decides(partial, block, full) || !all_stand_so(partial) {
             return None;
         }
-        live = live.saturating_add(u32::from(partial.broken_line().is_none()));
+        met = met.saturating_add(u32::from(partial.broken_line().is_none()));
     }
-    Some(live)
+    Some(met)
 }
 
 /// Takes back so many decisions. False: some line stands otherwise.
@@ -155,31 +155,31 @@ fn undo_some(partial: &mut Partial<'_>, count: u32) -> bool {
     true
 }
 
-/// Goes through all choices, from each to the next by what they share. How many prefixes are live;
-/// `None` where after some step a line stands otherwise.
-fn live_on_the_way(partial: &mut Partial<'_>) -> Option<u32> {
-    let (mut live, mut from) = (1u32, 0u16);
+/// Goes through all choices, from each to the next by what they share. With how many prefixes every
+/// line can be met; `None` where after some step a line stands otherwise.
+fn met_on_the_way(partial: &mut Partial<'_>) -> Option<u32> {
+    let (mut met, mut from) = (1u32, 0u16);
     for choice in 0..512u16 {
-        live = live.saturating_add(decide_from(partial, from, choice)?);
+        met = met.saturating_add(decide_from(partial, from, choice)?);
         let count = choice.trailing_ones().min(8) + 1;
         if !undo_some(partial, count) {
             return None;
         }
         from = 9 - count as u16;
     }
-    Some(live)
+    Some(met)
 }
 
-/// How many prefixes of the cube are live, where each line stands as its columns tell after each
+/// With how many prefixes of the cube every line can be met, where each line stands as its columns tell after each
 /// decision and after each that is taken back.
-fn live_prefixes(alloc: Global) -> Result<Option<u32>, Fail> {
+fn met_prefixes(alloc: Global) -> Result<Option<u32>, Fail> {
     let problem = problem_in(alloc, row_of(EIGHT_VOIDS))?;
     let mut partial = Partial::new(alloc, &problem)?;
-    Ok(live_on_the_way(&mut partial))
+    Ok(met_on_the_way(&mut partial))
 }
 
 #[test]
 fn lines_stand_as_their_columns_tell(rt: HostRuntime) -> Result<(), Fail> {
-    assert_eq!(rt; live_prefixes(rt.alloc())?, Some(109));
+    assert_eq!(rt; met_prefixes(rt.alloc())?, Some(109));
     Ok(())
 }

@@ -40,10 +40,10 @@ rect S -7 1000 -6 1001; rect S 999999999 -1000000000 1000000000 -999999999; \
     rect S -1 -1 0 0 -> unit cube
 line S 101 200 100 200, line S 100 201 101 201, line S 100 200 100 201, line S 101 200 101 201; \
     rect S 100 350 101 351; rect S 250 200 251 201 -> unit cube
--- The quartered cube with half of a stroke hidden from above, which no solid shows.
+-- The quartered cube with half of a stroke hidden from above, which no solid shows: what lines force refutes it.
 rect S 0 0 2 2, line S 0 1 2 1, line S 1 0 1 2; \
     rect S 0 0 2 2, line S 0 1 2 1, line S 1 0 1 1, line D 1 1 1 2; \
-    rect S 0 0 2 2, line S 0 1 2 1, line S 1 0 1 2 -> 0 whole 0 nodes 15 blocks 8
+    rect S 0 0 2 2, line S 0 1 2 1, line S 1 0 1 2 -> 0 whole 0 nodes 0 blocks 8
 -- Two cubes along an edge.
 rect S 0 0 2 1, line S 1 0 1 1; rect S 0 0 1 1, rect S 1 1 2 2; rect S 0 0 2 1, line S 1 0 1 1 -> \
     0 whole 1 nodes 3 blocks 2|solid 1 choice 11 volume 2 faces 12| .. |\

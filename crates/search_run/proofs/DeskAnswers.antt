@@ -52,7 +52,7 @@ module _ (p : ProblemParts) (limits : SearchLimits) (blocks : IsBlocksOf p.grid 
   state = desk_state d.problem d.limits d.history
 
   closed : IsClosed (is_live d.problem)
-  closed = subst (λ q. IsClosed (is_live q)) (sym same) (problem_tree p blocks.sized).closed
+  closed = subst (λ q. IsClosed (is_live q)) (sym same) (problem_tree p blocks).closed
 
   -- what the desk's state keeps, in the problem's words
   kept : IsConserved live n limits state

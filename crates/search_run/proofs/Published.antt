@@ -32,7 +32,7 @@ starts_split xs ys (rest, e) n same =
 
 module _ (d : DeskParts) (desk : IsDesk d) (blocks : IsBlocksOf d.problem.grid d.problem.blocks) where
   kept : IsConserved (is_live d.problem) d.problem.blocks.count d.limits (desk_state d.problem d.limits d.history)
-  kept = desk_conserved d desk (problem_tree d.problem blocks.sized).closed
+  kept = desk_conserved d desk (problem_tree d.problem blocks).closed
 
   -- what is found are solutions
   found_solutions : Each (IsSolutionOf d.problem) d.found
