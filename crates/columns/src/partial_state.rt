@@ -6,7 +6,7 @@ ghost use Rattle.solid_model.specs.Decisions.{decided_by};
 
 use crate::beside::{beside_of, number_of_column};
 use crate::gather::{
-    all_met, all_sides, break_all, empty_lists, empty_spans, gather_columns, touch_all,
+    all_met, all_sides, break_all, empty_lists, empty_spans, gather_columns, no_values, touch_all,
 };
 use crate::known::KnownColumn;
 use crate::lines::{Beside, can_be_met, least, mend_lines, try_lines};
@@ -85,7 +85,7 @@ impl<'p> PartialState<'p> {
         let count = usize::from(problem.blocks().count());
         let decisions = Vec::with_capacity(alloc, count)?;
         let heights = Vec::with_capacity(alloc, count)?;
-        let values = vec![in alloc; None; count]?;
+        let values = no_values(alloc, count)?;
         let mut spans = empty_spans(alloc, count)?;
         let mut on = Vec::new(alloc);
         let mut columns = gather_columns(alloc, problem, spans.as_mut_slice(), &mut on)?;

@@ -25,6 +25,13 @@ loop-place-init c =
       left = λ m has h. subst (λ b. IsHandled p old (c.args.at + 1) m ⊎ Member (lines_touching p b) m) is (handled_past p old c.args.at d there m has h);
     }
 
+pub touched-number-requires-clause-block : goal.touched-number-requires-clause-block
+touched-number-requires-clause-block c = subst (λ (q : ProblemParts). c.decided_block-block.result < q.blocks.count) (sym c.loop-place.invariant.problem) c.decided_block-block.ensures.there
+
+pub touched-number-requires-clause-at : goal.touched-number-requires-clause-at
+touched-number-requires-clause-at c = subst (λ (q : ProblemParts). c.loop-place.place < touching q c.decided_block-block.result) (sym c.loop-place.invariant.problem)
+    (omega (arith, c.loop-place.invariant.end, c.loop-place-test.true))
+
 pub settle_line-requires-clause-met : goal.settle_line-requires-clause-met
 settle_line-requires-clause-met c = subst (λ (q : ProblemParts). AllMet q (decided_by c.loop-place.partial.decisions)) (sym c.loop-place.invariant.problem) c.loop-place.invariant.met
 
