@@ -1,18 +1,23 @@
 -- Columns that can begin at one depth and differ behind it, whatever one of their cells is.
-use Rattle.std.proofs.Common.{◌≡◌, ◌≢◌, ◌⊎◌, inl, inr, ◌==◌, ◌||◌, ◌&&◌, Bool, true, false, not, if◌then◌else◌, ℕ, suc, ◌<◌, ◌≤◌, ◌^◌, ℤ, pos, negsuc, Option, Some, None, bit_and, refl, ap, ap₂, sym, subst, ◌∙◌, arith}
-use Rattle.std.proofs.lemmas.Bool.{cases_Bool, eqb-true, eqb-false, eq-eqb, both_ways, and_parts, and_from, or_cases, not-true}
+use Rattle.std.proofs.Common.{◌≡◌, ◌≢◌, ◌⊎◌, inl, inr, ◌==◌, ◌||◌, ◌&&◌, Bool, true, false, not, if◌then◌else◌, ℕ, suc, ◌<◌, ◌≤◌, ◌^◌, ◌/◌, ◌+◌, ◌↔◌, bit_or, ℤ, pos, negsuc, Option, Some, None, bit_and, refl, ap, ap₂, sym, subst, ◌∙◌, arith}
+use Rattle.std.proofs.lemmas.Bool.{cases_Bool, eqb-true, eqb-false, eq-eqb, both_ways, and_parts, and_from, or_cases, or_left, or_right, not-true, not_from_false}
+use Rattle.std.proofs.Math.Nat.{div-le_self}
 use Rattle.std.proofs.lemmas.Option.{none-some, same_Some}
 use Rattle.columns.specs.Known.{known_of, known_bits, LiesWithin}
-use Rattle.columns.proofs.KnownBits.{first_before}
+use Rattle.columns.proofs.KnownBits.{behind, some_bit, first_before}
 use Rattle.columns.proofs.KnownColumns.{Fits, fits_from, CanDifferAt}
+use Rattle.columns.proofs.WithValue.{agrees_from}
 use Rattle.propagate.specs.Looking.{CanDrawWith, IsFree}
 use Rattle.propagate.specs.Behind.{Allows, IsFreeBegin, CanPart, PartsAt}
+use Rattle.propagate.proofs.LineCells.{agrees_as, draw_back}
+use Rattle.propagate.proofs.ValueBits.{undecided_bits}
 use Rattle.propagate.proofs.Replaced.{allows_open, Begin, begin_nearer, dashed_with}
 use Rattle.solid_model.specs.declared.segment.Style.TheVariants.{Dashed}
 use Rattle.solid_model.specs.Bits.{is_set}
 use Rattle.solid_model.specs.Columns.{IsFirstFull, HaveSameFirstFull}
 use Rattle.solid_model.specs.Demands.{AgreesWith, CanDraw}
-use Rattle.solid_model.proofs.WordBits.{zeros, set_both, not_zero, lowest_set, lowest_at_most}
+use Rattle.solid_model.specs.Forcing.{with_value}
+use Rattle.solid_model.proofs.WordBits.{zeros, set_both, set_either, not_zero, lowest_set, lowest_at_most}
 
 -- a cell that may be full can be, and one that isn't full for certain can be empty
 pub allows_full : (full may k : ℕ) → is_set may k ≡ true → Allows (known_bits full may) k true
@@ -112,3 +117,62 @@ free_behind known other d begin begins part k v none =
 -- the other way round
 pub begin_back : (known other : ℤ → Option Bool) (d : ℕ) → Begin known other d → Begin other known d
 begin_back known other d begin = record { one = begin.two; two = begin.one; fits = begin.too; too = begin.fits; first_one = begin.first_two; first_two = begin.first_one }
+
+-- ---- told by bits
+
+-- a cell that may be full, and isn't for certain, is undecided
+open_bits : (full may k : ℕ) → is_set may k ≡ true → is_set full k ≡ false → known_bits full may (pos k) ≡ None
+open_bits full may k set clear = ap₂ known_of clear set
+
+-- an undecided cell isn't nearer than the first one
+pub open_at_least : (fa ma fb mb ua ub : ℕ) → ((k : ℕ) → is_set ua k ≡ (is_set ma k && not (is_set fa k))) → ((k : ℕ) → is_set ub k ≡ (is_set mb k && not (is_set fb k)))
+    → bit_or ua ub < 2 ^ 64 → (k : ℕ) → (known_bits fa ma (pos k) ≡ None) ⊎ (known_bits fb mb (pos k) ≡ None) → zeros (bit_or ua ub) ≤ k
+open_at_least fa ma fb mb ua ub ua_is ub_is fits k (inl none) =
+    let bits = undecided_bits fa ma k none in
+    lowest_at_most (bit_or ua ub) fits k (set_either ua ub k ∙ or_left (is_set ua k) (is_set ub k) (ua_is k ∙ and_from (is_set ma k) (not (is_set fa k)) bits.1 (not_from_false (is_set fa k) bits.0)))
+open_at_least fa ma fb mb ua ub ua_is ub_is fits k (inr none) =
+    let bits = undecided_bits fb mb k none in
+    lowest_at_most (bit_or ua ub) fits k (set_either ua ub k ∙ or_right (is_set ua k) (is_set ub k) (ub_is k ∙ and_from (is_set mb k) (not (is_set fb k)) bits.1 (not_from_false (is_set fb k) bits.0)))
+
+-- columns that can draw Dashed with both cells at a depth empty
+pub begin_empty : (known other changed changed_too : ℤ → Option Bool) (d : ℕ) → known (pos d) ≡ None → other (pos d) ≡ None
+    → ((k : ℤ) → changed k ≡ with_value d false known k) → ((k : ℤ) → changed_too k ≡ with_value d false other k) → CanDraw changed changed_too Dashed
+    → CanDrawWith known other Dashed d false × CanDrawWith other known Dashed d false
+begin_empty known other changed changed_too d none none_too is is_too (a, b, fits, too, draws) =
+    let a_fits = agrees_from d false known a none (agrees_as changed (with_value d false known) a is fits) in
+    let b_fits = agrees_from d false other b none_too (agrees_as changed_too (with_value d false other) b is_too too) in
+    ((a, b, a_fits.0, b_fits.0, a_fits.1, draws), (b, a, b_fits.0, a_fits.0, b_fits.1, draw_back a b Dashed draws))
+
+below_word : (n d : ℕ) → n < 2 ^ 64 → n / 2 ^ d / 2 < 2 ^ 64
+below_word n d fits = omega (arith, div-le_self n (2 ^ d), div-le_self (n / 2 ^ d) 2, fits)
+
+-- a cell behind a depth that is undecided in both
+pub part_shared : (fa ma fb mb ua ub d : ℕ) → ((k : ℕ) → is_set ua k ≡ (is_set ma k && not (is_set fa k))) → ((k : ℕ) → is_set ub k ≡ (is_set mb k && not (is_set fb k)))
+    → bit_and ua ub < 2 ^ 64 → bit_and ua ub / 2 ^ d / 2 ≢ 0 → CanPart (known_bits fa ma) (known_bits fb mb) d × CanPart (known_bits fb mb) (known_bits fa ma) d
+part_shared fa ma fb mb ua ub d ua_is ub_is fits some =
+    let (i, set) = some_bit (bit_and ua ub / 2 ^ d / 2) (below_word (bit_and ua ub) d fits) some in
+    let e : ℕ = d + 1 + i in
+    let both = and_parts (is_set ua e) (is_set ub e) (sym (set_both ua ub e) ∙ sym (behind (bit_and ua ub) d i) ∙ set) in
+    let one = and_parts (is_set ma e) (not (is_set fa e)) (sym (ua_is e) ∙ both.0) in
+    let two = and_parts (is_set mb e) (not (is_set fb e)) (sym (ub_is e) ∙ both.1) in
+    let none = open_bits fa ma e one.0 (not-true (is_set fa e) one.1) in
+    let none_too = open_bits fb mb e two.0 (not-true (is_set fb e) two.1) in
+    (part_at_open (known_bits fa ma) (known_bits fb mb) d e (omega arith) none none_too, part_at_open (known_bits fb mb) (known_bits fa ma) d e (omega arith) none_too none)
+
+-- two cells behind a depth at which they can differ
+pub part_apart : (fa ma fb mb differ d rest : ℕ) → LiesWithin fa ma → LiesWithin fb mb → ((k : ℕ) → is_set differ k ≡ ((is_set ma k && not (is_set fb k)) || (is_set mb k && not (is_set fa k))))
+    → ((k : ℕ) → (is_set rest k ≡ true) ↔ ((is_set (differ / 2 ^ d / 2) k ≡ true) × ((j : ℕ) × (j < k) × (is_set (differ / 2 ^ d / 2) j ≡ true)))) → rest < 2 ^ 64 → rest ≢ 0
+    → CanPart (known_bits fa ma) (known_bits fb mb) d × CanPart (known_bits fb mb) (known_bits fa ma) d
+part_apart fa ma fb mb differ d rest a_within b_within differ_is rest_is fits some =
+    let (f, set) = some_bit rest fits some in
+    let (far, (e, below, near)) = (rest_is f).0 set in
+    let at_e = sym (differ_is (d + 1 + e)) ∙ sym (behind differ d e) ∙ near in
+    let at_f = sym (differ_is (d + 1 + f)) ∙ sym (behind differ d f) ∙ far in
+    (part_at_two fa ma fb mb a_within b_within d (d + 1 + e) (d + 1 + f) (omega arith) (omega arith) at_e at_f,
+      part_at_two fb mb fa ma b_within a_within d (d + 1 + e) (d + 1 + f) (omega arith) (omega arith) (either_way _ _ at_e) (either_way _ _ at_f))
+  where
+    either_way : (x y : Bool) → (x || y) ≡ true → (y || x) ≡ true
+    either_way true true e = refl
+    either_way true false e = refl
+    either_way false true e = refl
+    either_way false false e = e

@@ -7,6 +7,7 @@ use Rattle.columns.specs.declared.seen.SeenLine.{SeenLine}
 use Rattle.columns.specs.Known.{known_bits}
 use Rattle.columns.specs.Seen.{IsSeen}
 use Rattle.columns.proofs.MetLines.{none_beyond}
+use Rattle.columns.proofs.KeptColumns.{draw_from}
 use Rattle.columns.proofs.KnownColumns.{same_first_back}
 use Rattle.propagate.specs.Beside.{column_of, ExcludesBeside}
 use Rattle.propagate.specs.Forced.{ExcludesOpen, IsCalm}
@@ -18,7 +19,7 @@ use Rattle.solid_model.specs.declared.segment.Style.{Style}
 use Rattle.solid_model.specs.declared.segment.Style.TheVariants.{Blank, Dashed, Solid}
 use Rattle.solid_model.specs.Blocks.{ProblemParts, IsBlocksOf, block_at}
 use Rattle.solid_model.specs.Columns.{ColumnsDraw}
-use Rattle.solid_model.specs.Demands.{known_in, AgreesWith}
+use Rattle.solid_model.specs.Demands.{line_style, known_in, known_cell, known_after, known_before, AgreesWith, CanDraw, CanBeMet}
 use Rattle.solid_model.specs.Forcing.{place_beside, cell_beside, CanBeMetWith}
 use Rattle.solid_model.specs.Frames.{frame_of}
 use Rattle.solid_model.specs.GridBox.{grid_sizes}
@@ -29,7 +30,7 @@ draw_back a b Blank same = λ k. sym (same k)
 draw_back a b Dashed (differ, same) = ((differ.0, λ e. differ.1 (sym e)), same_first_back a b same)
 draw_back a b Solid apart = λ same. apart (same_first_back b a same)
 
-agrees_as : (f g : ℤ → Option Bool) (column : ℤ → Bool) → ((k : ℤ) → f k ≡ g k) → AgreesWith f column → AgreesWith g column
+pub agrees_as : (f g : ℤ → Option Bool) (column : ℤ → Bool) → ((k : ℤ) → f k ≡ g k) → AgreesWith f column → AgreesWith g column
 agrees_as f g column same agrees k value e = agrees k value (same k ∙ e)
 
 -- beyond the box no cell beside a line has a block
@@ -63,6 +64,11 @@ module _ (p : ProblemParts) (blocks : IsBlocksOf p.grid p.blocks) (known : ℕ �
       (a, b, agrees_as _ _ a (λ k. sym (seen.after k)) fits, agrees_as _ _ b (λ k. sym (seen.before k)) too, is, subst (λ (x : Style). ColumnsDraw a b x) (sym seen.style) draws)
   with_met false depth value (a, b, fits, too, is, draws) =
       (b, a, agrees_as _ _ b (λ k. sym (seen.before k)) too, agrees_as _ _ a (λ k. sym (seen.after k)) fits, is, draw_back a b s.style (subst (λ (x : Style). ColumnsDraw a b x) (sym seen.style) draws))
+
+  -- so they can draw it where the line can be met
+  pub seen_draws : CanBeMet p known s.line → CanDraw (column true) (column false) s.style
+  seen_draws met = draw_from (known_after p.grid (known_cell p.blocks known) s.line) (column true) (known_before p.grid (known_cell p.blocks known) s.line) (column false) (line_style p.grid s.line) s.style
+      (λ k. sym (seen.after k)) (λ k. sym (seen.before k)) (sym seen.style) met
 
   -- what a cell excludes the line excludes,
   cells_to : (of_after : Bool) (block : ℕ) (value : Bool) → ExcludesBeside p s of_after block value → ExcludesOpen p known s.line block value

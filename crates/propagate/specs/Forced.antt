@@ -1,7 +1,7 @@
 -- What the lines of a grid force, one after another.
 use Rattle.std.specs.Prelude.{◌≡◌, Bool, not, ℕ, List, [], ◌∷◌, ◌++◌, Option, None, IsTrue}
-use Rattle.propagate.specs.declared.step.Forcing.{Forcing}
-use Rattle.propagate.specs.declared.step.Forcing.TheVariants.{Forced, Stable, Conflict}
+use Rattle.propagate.specs.declared.stepping.Forcing.{Forcing}
+use Rattle.propagate.specs.declared.stepping.Forcing.TheVariants.{Forced, Stable, Conflict}
 use Rattle.propagate.specs.Looking.{IsLeastIn, TellsLeast}
 use Rattle.solid_model.specs.declared.decision.Decision.{Decision}
 use Rattle.solid_model.specs.declared.line_id.LineId.{LineId}

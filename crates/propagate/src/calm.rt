@@ -70,11 +70,14 @@ fn is_free_begin(after: KnownColumn, before: KnownColumn, begin: usize) -> bool
     ensures before { IsTrue result → IsFreeBegin (known_bits before.full before.may)
         (known_bits after.full after.may) begin }
 {
-    let open = (undecided(after) | undecided(before)).trailing_zeros() as usize;
-    if open != begin {
-        return open > begin;
+    let first = (undecided(after) | undecided(before)).trailing_zeros() as usize;
+    if first != begin {
+        return first > begin;
     }
-    if !is_undecided(after, begin) || !is_undecided(before, begin) {
+    if !is_undecided(after, begin) {
+        return false;
+    }
+    if !is_undecided(before, begin) {
         return false;
     }
     can_draw(
@@ -92,11 +95,12 @@ fn can_part(after: KnownColumn, before: KnownColumn, begin: usize) -> bool
     ensures before { IsTrue result → CanPart (known_bits before.full before.may)
         (known_bits after.full after.may) begin }
 {
-    let both = undecided(after) & undecided(before);
-    if both >> begin >> 1 != 0 {
+    let shared = (undecided(after) & undecided(before)) >> begin >> 1;
+    if shared != 0 {
         return true;
     }
-    without_lowest(can_differ(after, before) >> begin >> 1) != 0
+    let apart = can_differ(after, before) >> begin >> 1;
+    without_lowest(apart) != 0
 }
 
 /// Columns that can begin at one depth and differ behind it leave each other free where neither that

@@ -6,7 +6,7 @@ mod calm;
 mod cells;
 mod closing;
 mod line;
-mod step;
+mod stepping;
 
 pub use closing::{Closed, close, close_after};
-pub use step::{Forcing, step};
+pub use stepping::{Forcing, step};

@@ -17,7 +17,10 @@ use solid_model::{Decision, Problem};
 
 /// The column after the line, or the one before it.
 fn column_of(seen: SeenLine, of_after: bool) -> KnownColumn
-    ensures { result ≡ column_of seen of_after }
+    requires after { LiesWithin seen.after.full seen.after.may }
+    requires before { LiesWithin seen.before.full seen.before.may }
+    ensures column { result ≡ column_of seen of_after }
+    ensures within { LiesWithin result.full result.may }
 {
     if of_after { seen.after } else { seen.before }
 }
@@ -52,13 +55,14 @@ pub fn forced_by_line(partial: &Partial<'_>, seen: SeenLine) -> Option<Decision>
     ensures { TellsLeast (ExcludesOpen partial.now.problem (decided_by partial.now.decisions) seen.line)
         result }
 {
+    let problem = partial.problem();
     // A look at the problem tells that its blocks are those of its grid.
-    let _grid = partial.problem().grid();
+    let _grid = problem.grid();
     if are_free(seen.style, seen.after, seen.before) {
         return None;
     }
     lesser(
-        forced_beside(partial.problem(), seen, true),
-        forced_beside(partial.problem(), seen, false),
+        forced_beside(problem, seen, true),
+        forced_beside(problem, seen, false),
     )
 }

@@ -1,7 +1,7 @@
 -- The lines so far exclude nothing.
 use Rattle.std.proofs.Common.{◌≡◌, length, take}
 use Rattle.propagate.specs.Forced.{IsCalm}
-use Rattle.propagate.proofs.step.step.Given as goal
+use Rattle.propagate.proofs.stepping.step.Given as goal
 use Rattle.solid_model.specs.declared.line_id.LineId.{LineId}
 use Rattle.solid_model.specs.Decisions.{decided_by}
 use Rattle.solid_model.specs.Demands.{lines_of, AllMet}

@@ -6,7 +6,7 @@ use Rattle.propagate.specs.Forced.{ExcludesOpen, IsCalm}
 use Rattle.propagate.specs.Looking.{TellsLeast}
 use Rattle.propagate.proofs.Handled.{excluded_there}
 use Rattle.propagate.proofs.Steps.{member_take, no_line, place_parts}
-use Rattle.propagate.proofs.step.step.Goals as goal
+use Rattle.propagate.proofs.stepping.step.Goals as goal
 use Rattle.solid_model.specs.declared.line_id.LineId.{LineId}
 use Rattle.solid_model.specs.Decisions.{decided_by, PartialParts}
 use Rattle.solid_model.specs.Demands.{lines_of}
