@@ -59,6 +59,16 @@ fn is_free_apart(column: KnownColumn, beside: KnownColumn) -> bool
     without_lowest(column.may).trailing_zeros() != begin
 }
 
+/// Columns that can begin at different depths leave each other free where each is beside the other.
+fn are_free_apart(after: KnownColumn, before: KnownColumn) -> bool
+    requires after { LiesWithin after.full after.may }
+    requires before { LiesWithin before.full before.may }
+    ensures { IsTrue result → AreFree (known_bits after.full after.may)
+        (known_bits before.full before.may) Solid }
+{
+    is_free_apart(after, before) && is_free_apart(before, after)
+}
+
 /// Each cell nearer than a depth is decided. Where the two there aren't, both can be empty, and the
 /// columns begin farther away.
 fn is_free_begin(after: KnownColumn, before: KnownColumn, begin: usize) -> bool
@@ -89,6 +99,8 @@ fn is_free_begin(after: KnownColumn, before: KnownColumn, begin: usize) -> bool
 
 /// Behind a depth the columns can differ at a cell that is undecided in both, or at two cells.
 fn can_part(after: KnownColumn, before: KnownColumn, begin: usize) -> bool
+    requires after { LiesWithin after.full after.may }
+    requires before { LiesWithin before.full before.may }
     requires begin { begin < 64 }
     ensures after { IsTrue result → CanPart (known_bits after.full after.may)
         (known_bits before.full before.may) begin }
@@ -132,6 +144,6 @@ pub fn are_free(style: Style, after: KnownColumn, before: KnownColumn) -> bool
     match style {
         Style::Blank => are_free_equal(after, before),
         Style::Dashed => are_free_behind(after, before),
-        Style::Solid => is_free_apart(after, before) && is_free_apart(before, after),
+        Style::Solid => are_free_apart(after, before),
     }
 }

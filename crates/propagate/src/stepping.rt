@@ -30,6 +30,8 @@ pub fn step(partial: &mut Partial<'_>) -> Forcing
     ensures problem { partial.new.problem ≡ partial.old.problem }
     ensures step { IsStep partial.old.problem partial.old.decisions partial.new.decisions result }
 {
+    // A look at the problem tells that its blocks are those of its grid.
+    let _grid = partial.problem().grid();
     if let Some(line) = partial.broken_line() {
         return Forcing::Conflict { line };
     }
