@@ -1,5 +1,5 @@
 -- Where the cells of a column stand in a list of all cells of a box.
-use Rattle.std.proofs.Common.{◌≡◌, false, ◌&&◌, if◌then◌else◌, ℕ, ◌+◌, ◌-◌, ◌*◌, ◌<◌, pos, Option, None, get_or, ap, ap₂, sym, ◌∙◌, arith}
+use Rattle.std.proofs.Common.{◌≡◌, false, if◌then◌else◌, ℕ, ◌+◌, ◌-◌, ◌*◌, ◌<◌, pos, None, get_or, ap, ap₂, sym, ◌∙◌, arith}
 use Rattle.std.proofs.Math.Nat.{add-mul, mul_assoc, zero-mul}
 use Rattle.columns.specs.declared.gather.ColumnPlace.{ColumnPlace}
 use Rattle.columns.specs.declared.sight.ColumnCells.{ColumnCells}
@@ -13,7 +13,6 @@ use Rattle.solid_model.specs.declared.cell.Axis.TheVariants.{X, Y, Z}
 use Rattle.solid_model.specs.declared.frame.View.{View}
 use Rattle.solid_model.specs.declared.frame.View.TheVariants.{Front, Top, Side}
 use Rattle.solid_model.specs.Blocks.{ProblemParts, block_at}
-use Rattle.solid_model.specs.Cells.{cell_at}
 use Rattle.solid_model.specs.Frames.{frame_of}
 use Rattle.solid_model.specs.PerAxis.{numbers_of}
 use Rattle.solid_model.specs.Rooms.{Sizes, is_within, box_place, number_at}

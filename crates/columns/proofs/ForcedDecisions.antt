@@ -1,5 +1,5 @@
 -- Which decisions are forced is computed, where the blocks are numbered in the grid's own box.
-use Rattle.std.proofs.Common.{◌↔◌, ◌≡◌, inl, inr, Bool, true, false, not, ℕ, ◌<◌, List, [], ◌∷◌, ◌++◌, ℤ, pos, negsuc, ◌-ℤ◌, ◌≤ℤ◌, ◌<ℤ◌, Option, Some, None, IsTrue, if◌then◌else◌, refl, ap, sym, subst, ◌∙◌, arith}
+use Rattle.std.proofs.Common.{◌↔◌, ◌≡◌, inl, inr, Bool, true, false, not, ℕ, ◌<◌, List, [], ◌∷◌, ℤ, pos, negsuc, ◌-ℤ◌, Option, Some, None, IsTrue, if◌then◌else◌, refl, ap, sym, subst, ◌∙◌, arith}
 use Rattle.std.specs.List.{flat_map, range_with_len}
 use Rattle.std.proofs.lemmas.Bool.{false≢true, cases_lt}
 use Rattle.std.proofs.lemmas.Int.{ints}
@@ -35,13 +35,13 @@ module _ (p : ProblemParts) (sized : AreSized p) (known : ℕ → Option Bool) (
       → IsTrue (can_be_met_with p known l of_after depth value) ↔ CanBeMetWith p known l of_after (pos depth) value
   met_with_computed true depth value few none =
       let drawn = drawing_computed (with_value depth value after) before depths (beyond_with depth value after depths few (column_beyond p sized known l (pos l.at)))
-          (column_beyond p sized known l (pos l.at -ℤ pos 1)) (line_style p.grid l) in (
+      (column_beyond p sized known l (pos l.at -ℤ pos 1)) (line_style p.grid l) in (
         λ e. let (a, b, agrees, agrees_too, draws) = drawn.0 e in let both = agrees_from depth value after a none agrees in (a, b, both.0, agrees_too, both.1, draws),
         λ (a, b, agrees, agrees_too, is, draws). drawn.1 (a, b, agrees_to depth value after a agrees is, agrees_too, draws),
       )
   met_with_computed false depth value few none =
       let drawn = drawing_computed after (with_value depth value before) depths (column_beyond p sized known l (pos l.at))
-          (beyond_with depth value before depths few (column_beyond p sized known l (pos l.at -ℤ pos 1))) (line_style p.grid l) in (
+      (beyond_with depth value before depths few (column_beyond p sized known l (pos l.at -ℤ pos 1))) (line_style p.grid l) in (
         λ e. let (a, b, agrees, agrees_too, draws) = drawn.0 e in let both = agrees_from depth value before b none agrees_too in (a, b, agrees, both.0, both.1, draws),
         λ (a, b, agrees, agrees_too, is, draws). drawn.1 (a, b, agrees, agrees_to depth value before b agrees_too is, draws),
       )

@@ -1,5 +1,5 @@
 -- Whether a prefix is live is computed: one forcing chain that can't be longer tells it.
-use Rattle.std.proofs.Common.{◌≡◌, ◌↔◌, Bool, true, false, not, nat_le, ℕ, zero, suc, ◌+◌, ◌<◌, ◌≤◌, List, [], ◌∷◌, length, Option, Some, None, IsTrue, if◌then◌else◌, inl, inr, refl, ap, ap₂, sym, subst, ◌∙◌, arith}
+use Rattle.std.proofs.Common.{◌≡◌, ◌↔◌, Bool, not, nat_le, ℕ, zero, suc, ◌+◌, ◌<◌, ◌≤◌, List, [], ◌∷◌, length, Option, Some, None, IsTrue, if◌then◌else◌, inl, inr, refl, ap, ap₂, sym, subst, ◌∙◌, arith}
 use Rattle.std.proofs.lemmas.Bool.{eq-eqb, ne_eqb, cases_lt, and_parts, and_from, le-leb, leb-true}
 use Rattle.columns.proofs.AllLines.{lines_are_there, lines_are_listed}
 use Rattle.columns.proofs.ForcedDecisions.{listed_excluded, excluded_listed}

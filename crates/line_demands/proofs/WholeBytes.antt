@@ -1,5 +1,5 @@
 -- Where every block is decided the bytes of the styles that the columns draw tell whether all lines can be met.
-use Rattle.std.proofs.Common.{◌≡◌, Bool, false, ℕ, ◌<◌, List, length, get_or, Option, IsTrue, refl, ap, sym, subst, ◌∙◌, arith}
+use Rattle.std.proofs.Common.{◌≡◌, Bool, false, ℕ, ◌<◌, List, length, get_or, Option, refl, ap, sym, subst, ◌∙◌, arith}
 use Rattle.std.proofs.lemmas.List.{ext_get_or}
 use Rattle.column_lanes.specs.Styles.{style_byte, IsStyleByte}
 use Rattle.columns.specs.Packed.{ArePacked}

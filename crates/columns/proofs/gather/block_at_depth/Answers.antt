@@ -2,7 +2,6 @@
 use Rattle.std.proofs.Common.{◌≡◌, ◌<◌, ◌≤◌, ◌+◌, ◌*◌, None, get_or, pos, ap, sym, subst, ◌∙◌, arith}
 use Rattle.std.specs.Prelude.{IfSome}
 use Rattle.std.proofs.lemmas.Nat.{mul-le}
-use Rattle.columns.specs.Gathered.{block_of_place}
 use Rattle.columns.specs.GridColumns.{number_on}
 use Rattle.columns.specs.SightCells.{AreColumnCells}
 use Rattle.columns.specs.Touching.{view_width, view_height, shown_cell}
@@ -10,7 +9,6 @@ use Rattle.columns.proofs.CellPlaces.{block_told}
 use Rattle.columns.proofs.Gathering.{block_below}
 use Rattle.columns.proofs.gather.block_at_depth.Goals as goal
 use Rattle.solid_model.specs.Frames.{frame_of}
-use Rattle.solid_model.specs.PerAxis.{numbers_of}
 use Rattle.solid_model.specs.Rooms.{Sizes}
 use Rattle.solid_model.specs.GridBox.{grid_sizes}
 

@@ -1,13 +1,13 @@
 -- Each decision is excluded by one line and one of its cells, which the tests tell.
-use Rattle.std.proofs.Common.{◌≡◌, Bool, true, false, not, ℕ, ◌<◌, List, [], ◌∷◌, Option, Some, None, pos, IsTrue, refl, sym, ◌∙◌, arith}
+use Rattle.std.proofs.Common.{◌≡◌, Bool, true, false, ℕ, ◌<◌, List, [], ◌∷◌, Option, Some, None, pos, IsTrue, refl, arith}
 use Rattle.std.proofs.lemmas.Bool.{false≢true}
 use Rattle.solid_model.specs.declared.cell.Axis.TheVariants.{X, Y, Z}
 use Rattle.solid_model.specs.declared.decision.Decision.{Decision}
-use Rattle.solid_model.specs.declared.frame.View.TheVariants.{Front, Top, Side}
+use Rattle.solid_model.specs.declared.frame.View.TheVariants.{Front, Top}
 use Rattle.solid_model.specs.declared.line_id.LineId.{LineId}
 use Rattle.solid_model.specs.Blocks.{block_at}
 use Rattle.solid_model.specs.Demands.{has_line, lines_of, said_by, can_be_met}
-use Rattle.solid_model.specs.Forcing.{known_with, known_by, cell_beside, can_be_met_with, IsExcluded, IsForced}
+use Rattle.solid_model.specs.Forcing.{known_by, cell_beside, can_be_met_with, IsExcluded, IsForced}
 use Rattle.solid_model.specs.Frames.{frame_of}
 use Rattle.solid_model.specs.GridBox.{grid_sizes}
 use Rattle.solid_model.specs.SmallLines.{line}

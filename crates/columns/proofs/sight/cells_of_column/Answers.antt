@@ -1,5 +1,5 @@
 -- The numbers are put in one after another.
-use Rattle.std.proofs.Common.{refl, ap, ap₂, ◌∙◌, arith}
+use Rattle.std.proofs.Common.{refl, ap, ◌∙◌, arith}
 use Rattle.solid_model.specs.Limits.{most_grid_coordinates}
 use Rattle.solid_model.specs.PerAxis.{numbers_of, numbered}
 use Rattle.columns.specs.GridColumns.{place_in}

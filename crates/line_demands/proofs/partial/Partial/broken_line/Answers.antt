@@ -1,5 +1,5 @@
 -- The state is seen as the partial is.
-use Rattle.std.proofs.Common.{◌≡◌, ◌↔◌, None, IsTrue, subst}
+use Rattle.std.proofs.Common.{◌≡◌, ◌↔◌, None, subst}
 use Rattle.solid_model.specs.Decisions.{decided_by, PartialParts}
 use Rattle.line_demands.proofs.partial.Partial.broken_line.Goals as goal
 use Rattle.solid_model.specs.Demands.{AllMet}
