@@ -74,7 +74,7 @@ module _ (fa ma fb mb : ℕ) (a_within : LiesWithin fa ma) (b_within : LiesWithi
 
     -- where the cells that may be full begin elsewhere without the first one too
     module _ (rest : ℕ) (rest_is : (k : ℕ) → (is_set rest k ≡ true) ↔ ((is_set ma k ≡ true) × ((j : ℕ) × (j < k) × (is_set ma j ≡ true)))) where
-      without : ℕ → ℕ
+      abbrev without : ℕ → ℕ
       without k = bit_and ma (bit_not w64 (bit k))
 
       pub free_rest : zeros rest ≢ zeros fb → IsFree known other Solid
@@ -115,7 +115,7 @@ module _ (fa ma fb mb : ℕ) (a_within : LiesWithin fa ma) (b_within : LiesWithi
           ]
             where
               to : (zeros ma == k) ≡ true → (j : ℕ) → is_set rest j ≡ true → is_set (without k) j ≡ true
-              to at j set = let (may, i, below, there) = (rest_is j).0 set in
+              to at j set = let (may, (i, below, there)) = (rest_is j).0 set in
                   kept j (λ e. (let low = lowest_at_most ma ma_fits i there in let same = eqb-true (zeros ma) k at in omega arith)) ∙ may
 
               from : (zeros ma == k) ≡ true → (j : ℕ) → is_set (without k) j ≡ true → is_set rest j ≡ true

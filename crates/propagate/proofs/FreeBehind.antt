@@ -5,7 +5,7 @@ use Rattle.std.proofs.Math.Nat.{div-le_self}
 use Rattle.std.proofs.lemmas.Option.{none-some, same_Some}
 use Rattle.columns.specs.Known.{known_of, known_bits, LiesWithin}
 use Rattle.columns.proofs.KnownBits.{behind, some_bit, first_before}
-use Rattle.columns.proofs.KnownColumns.{Fits, fits_from, CanDifferAt}
+use Rattle.columns.proofs.KnownColumns.{Fits, fits_from}
 use Rattle.columns.proofs.WithValue.{agrees_from}
 use Rattle.propagate.specs.Looking.{CanDrawWith, IsFree}
 use Rattle.propagate.specs.Behind.{Allows, IsFreeBegin, CanPart, PartsAt}
@@ -35,6 +35,10 @@ allows_empty full may k clear w = by (is_set full k) (is_set may k) clear
     by true m c e = absurd (both_ways true c refl)
     by false true c e = absurd (none-some w e)
     by false false c e = same_Some false w e
+
+-- two columns can differ at a depth
+abbrev MayDiffer : ℕ → ℕ → ℕ → ℕ → ℕ → Type 0
+MayDiffer fa ma fb mb k = ((is_set ma k && not (is_set fb k)) || (is_set mb k && not (is_set fa k))) ≡ true
 
 module _ (fa ma fb mb : ℕ) (a_within : LiesWithin fa ma) (b_within : LiesWithin fb mb) where
   abbrev known : ℤ → Option Bool
@@ -79,13 +83,13 @@ module _ (fa ma fb mb : ℕ) (a_within : LiesWithin fa ma) (b_within : LiesWithi
   -- ---- where they can differ
 
   -- two depths at one of which they can differ, whichever cell is given
-  pub part_at_two : (d e f : ℕ) → d < e → e < f → CanDifferAt fa ma fb mb e → CanDifferAt fa ma fb mb f → CanPart known other d
+  pub part_at_two : (d e f : ℕ) → d < e → e < f → MayDiffer fa ma fb mb e → MayDiffer fa ma fb mb f → CanPart known other d
   part_at_two d e f near far at_e at_f k v none = elim (cases_Bool (k == e)) as (λ _. PartsAt known other d k v) [
     | inl at ↦ (let same : k ≡ e = eqb-true k e at in one f (omega arith) at_f (λ g. (omega arith)))
     | inr off ↦ one e near at_e (eqb-false k e off)
   ]
     where
-      one : (g : ℕ) → d < g → CanDifferAt fa ma fb mb g → k ≢ g → PartsAt known other d k v
+      one : (g : ℕ) → d < g → MayDiffer fa ma fb mb g → k ≢ g → PartsAt known other d k v
       one g behind can off = elim (or_cases (is_set ma g && not (is_set fb g)) (is_set mb g && not (is_set fa g)) can) as (λ _. PartsAt known other d k v) [
         | inl at ↦ (let parts = and_parts (is_set ma g) (not (is_set fb g)) at in
             (g, true, behind, allows_full fa ma g parts.0, allows_empty fb mb g (not-true (is_set fb g) parts.1), λ same. absurd (off same)))
@@ -95,7 +99,7 @@ module _ (fa ma fb mb : ℕ) (a_within : LiesWithin fa ma) (b_within : LiesWithi
 
 -- a depth at which neither is decided
 pub part_at_open : (known other : ℤ → Option Bool) (d e : ℕ) → d < e → known (pos e) ≡ None → other (pos e) ≡ None → CanPart known other d
-part_at_open known other d e far none none_too k v open = elim (cases_Bool (k == e)) as (λ _. PartsAt known other d k v) [
+part_at_open known other d e far none none_too k v untold = elim (cases_Bool (k == e)) as (λ _. PartsAt known other d k v) [
   | inl at ↦ (e, v, far, allows_open known e v none, allows_open other e (not v) none_too, λ same. refl)
   | inr off ↦ (e, true, far, allows_open known e true none, allows_open other e false none_too, λ same. absurd (eqb-false k e off same))
 ]

@@ -1,6 +1,6 @@
 //! What a line forces.
 
-ghost use Rattle.std.specs.Prelude.{IsTrue};
+ghost use Rattle.std.specs.Prelude.{◌≡◌, IsTrue};
 ghost use Rattle.columns.specs.Known.{LiesWithin};
 ghost use Rattle.columns.specs.Seen.{IsSeen};
 ghost use Rattle.propagate.specs.Forced.{ExcludesOpen};

@@ -19,14 +19,14 @@ returns-then-shared-ne0-clause-before c = λ _.
     let fits : bit_and c.undecided.result c.undecided-2.result < 2 ^ 64 = and_lt 64 _ _ (search rules) (search rules) in
     (part_shared a.full a.may b.full b.may c.undecided.result c.undecided-2.result c.args.begin c.undecided.ensures c.undecided-2.ensures fits c.if-shared-ne0.true).1
 
-pub returns-else-shared-ne0-clause-after : goal.returns-else-shared-ne0-clause-after
-returns-else-shared-ne0-clause-after c = λ yes.
+pub returns-clause-after : goal.returns-clause-after
+returns-clause-after c = λ yes.
     let a = c.args.after in
     let b = c.args.before in
     (part_apart a.full a.may b.full b.may c.can_differ.result c.args.begin c.without_lowest.result c.requires.after c.requires.before c.can_differ.ensures c.without_lowest.ensures (search rules) (eqb-false _ 0 (not-true _ yes))).0
 
-pub returns-else-shared-ne0-clause-before : goal.returns-else-shared-ne0-clause-before
-returns-else-shared-ne0-clause-before c = λ yes.
+pub returns-clause-before : goal.returns-clause-before
+returns-clause-before c = λ yes.
     let a = c.args.after in
     let b = c.args.before in
     (part_apart a.full a.may b.full b.may c.can_differ.result c.args.begin c.without_lowest.result c.requires.after c.requires.before c.can_differ.ensures c.without_lowest.ensures (search rules) (eqb-false _ 0 (not-true _ yes))).1

@@ -17,8 +17,8 @@ returns-then-column-begin-2 c = λ _.
     free_certain a.full a.may b.full b.may c.requires.column c.requires.beside (search rules) (search rules) (search rules) (search rules)
     (λ e. c.if-column-begin.false (e ∙ c.if-beside-begin.false)) (λ e. c.if-column-begin-2.true (e ∙ c.if-beside-begin.false))
 
-pub returns-else-column-begin-2 : goal.returns-else-column-begin-2
-returns-else-column-begin-2 c = λ yes.
+pub returns : goal.returns
+returns c = λ yes.
     let a = c.args.column in
     let b = c.args.beside in
     free_rest a.full a.may b.full b.may c.requires.column c.requires.beside (search rules) (search rules) (search rules) (search rules)

@@ -18,7 +18,7 @@ returns-in-Some-clause-closed c =
     closed_conflict p old old c.in-Some.line (grows_self p old) c.in-Some.ensures.some
 
 pub settle_all-requires : goal.settle_all-requires
-settle_all-requires c = c.broken_line.ensures.none.0 c.in_default.is
+settle_all-requires c = record { met = c.broken_line.ensures.none.0 c.in_default.is }
 
 pub returns-in-Some-settle_all-clause-closed : goal.returns-in-Some-settle_all-clause-closed
 returns-in-Some-settle_all-clause-closed c =

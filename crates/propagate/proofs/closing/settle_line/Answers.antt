@@ -43,10 +43,10 @@ returns-clause-grows c =
     (grows_on p ds ds d (grows_self p ds) is.0 (is.0, c.seen-seen.result.line, c.seen-seen.ensures.seen.has, is.1))
 
 pub returns-clause-lost : goal.returns-clause-lost
-returns-clause-lost c = subst (λ (q : ProblemParts). IfSome c.broken_line.result (IsFirstBroken q (decided_by c.decide.new.partial.decisions))) (ap (λ (v : PartialParts). v.problem) c.decide.ensures) c.broken_line.ensures.some
+returns-clause-lost c = subst (λ (q : ProblemParts). IfSome c.broken_line.result (IsFirstBroken q (decided_by c.decide.new.self.decisions))) (ap (λ (v : PartialParts). v.problem) c.decide.ensures) c.broken_line.ensures.some
 
 pub returns-clause-met : goal.returns-clause-met
-returns-clause-met c = λ none. subst (λ (q : ProblemParts). AllMet q (decided_by c.decide.new.partial.decisions)) (ap (λ (v : PartialParts). v.problem) c.decide.ensures) (c.broken_line.ensures.none.0 none)
+returns-clause-met c = λ none. subst (λ (q : ProblemParts). AllMet q (decided_by c.decide.new.self.decisions)) (ap (λ (v : PartialParts). v.problem) c.decide.ensures) (c.broken_line.ensures.none.0 none)
 
 pub returns-clause-done : goal.returns-clause-done
 returns-clause-done c = λ from e few.

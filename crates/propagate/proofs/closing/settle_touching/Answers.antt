@@ -1,5 +1,5 @@
 -- One line more is looked at.
-use Rattle.std.proofs.Common.{◌≡◌, ◌<◌, ◌≤◌, ◌+◌, inl, inr, length, get_or, slice_get, Some, None, IsTrue, refl, ap, sym, subst, ◌∙◌, arith}
+use Rattle.std.proofs.Common.{◌≡◌, ◌⊎◌, ◌<◌, ◌≤◌, ◌+◌, inl, inr, length, get_or, slice_get, Some, None, IsTrue, refl, ap, sym, subst, ◌∙◌, arith}
 use Rattle.columns.specs.Touching.{lines_touching, touching}
 use Rattle.propagate.proofs.Steps.{no_line}
 use Rattle.propagate.specs.Closing.{IsHandled, Grows}

@@ -26,8 +26,8 @@ forced_beside-requires-clause-line c = subst (λ (q : ProblemParts). IsTrue (has
 pub forced_beside-requires-2-clause-line : goal.forced_beside-requires-2-clause-line
 forced_beside-requires-2-clause-line c = subst (λ (q : ProblemParts). IsTrue (has_line q.grid c.args.seen.line)) (sym c.problem-problem.ensures) c.requires.seen.has
 
-pub returns-else-are_free : goal.returns-else-are_free
-returns-else-are_free c =
+pub returns : goal.returns
+returns c =
     let p = c.args.partial.now.problem in
     let known = decided_by c.args.partial.now.decisions in
     let s = c.args.seen in
