@@ -173,10 +173,13 @@ part_apart fa ma fb mb differ d rest a_within b_within differ_is rest_is fits so
     let at_e = sym (differ_is (d + 1 + e)) ∙ sym (behind differ d e) ∙ near in
     let at_f = sym (differ_is (d + 1 + f)) ∙ sym (behind differ d f) ∙ far in
     (part_at_two fa ma fb mb a_within b_within d (d + 1 + e) (d + 1 + f) (omega arith) (omega arith) at_e at_f,
-      part_at_two fb mb fa ma b_within a_within d (d + 1 + e) (d + 1 + f) (omega arith) (omega arith) (either_way _ _ at_e) (either_way _ _ at_f))
+      part_at_two fb mb fa ma b_within a_within d (d + 1 + e) (d + 1 + f) (omega arith) (omega arith) (back (d + 1 + e) at_e) (back (d + 1 + f) at_f))
   where
     either_way : (x y : Bool) → (x || y) ≡ true → (y || x) ≡ true
     either_way true true e = refl
     either_way true false e = refl
     either_way false true e = refl
     either_way false false e = e
+
+    back : (k : ℕ) → MayDiffer fa ma fb mb k → MayDiffer fb mb fa ma k
+    back k at = either_way (is_set ma k && not (is_set fb k)) (is_set mb k && not (is_set fa k)) at
