@@ -1,11 +1,12 @@
 -- One decision more, or one less.
-use Rattle.std.proofs.Common.{◌≡◌, ◌⊎◌, inl, inr, Bool, true, false, if◌then◌else◌, ◌==◌, ℕ, ◌<◌, ◌≤◌, List, [], ◌∷◌, ◌++◌, length, map, Option, Some, None, refl, ap, sym, subst, ◌∙◌, append_assoc, arith}
+use Rattle.std.proofs.Common.{◌≡◌, ◌⊎◌, inl, inr, Bool, true, false, if◌then◌else◌, ◌==◌, ℕ, ◌<◌, ◌≤◌, List, [], ◌∷◌, ◌++◌, length, map, get_or, set, Option, Some, None, refl, ap, sym, subst, ◌∙◌, append_assoc, arith}
 use Rattle.std.specs.List.{IsDistinct, AllByRecursion, list_any}
-use Rattle.std.proofs.lemmas.Bool.{false≢true, or_cases, eqb-true, eqb-false}
-use Rattle.std.proofs.lemmas.List.{length-map, length_push, same_from_push}
+use Rattle.std.proofs.lemmas.Bool.{false≢true, or_cases, cases_Bool, eqb-true, eqb-false}
+use Rattle.std.proofs.lemmas.List.{length-map, length-set, length_push, same_from_push, get_or-set_same, get_or-set_other}
 use Rattle.std.proofs.lemmas.Map.Steps.{length-le_from_distinct_below}
 use Rattle.std.proofs.lemmas.Option.{none-some}
 use Rattle.solid_model.specs.declared.decision.Decision.{Decision}
+use Rattle.columns.specs.KeptColumns.{AreValues}
 use Rattle.solid_model.specs.Decisions.{decided_by, AreDecisions}
 
 -- ---- what decisions say
@@ -104,3 +105,39 @@ room_for_one count room decisions d taken there untaken roomy =
 
 pub same_test : (a b : ℕ) → (a == b) ≡ (b == a)
 same_test a b = grind arith
+
+-- ---- what is decided of each block
+
+-- no decision is on a block beyond them
+pub none_above : (count : ℕ) (decisions : List Decision) (b : ℕ) → AreDecisions count decisions → count ≤ b → decided_by decisions b ≡ None
+none_above count [] b taken l = refl
+none_above count (d ∷ decisions) b taken l = by (d.block == b) refl (none_above count decisions b (others_taken count d decisions taken) l)
+  where
+    by : (t : Bool) → (d.block == b) ≡ t → decided_by decisions b ≡ None → (if t then Some d.full else decided_by decisions b) ≡ None
+    by true is rest = absurd (let e = eqb-true d.block b is in let m = (taken [] decisions d refl).0 in omega arith)
+    by false off rest = rest
+
+module _ (count : ℕ) (decisions : List Decision) (d : Decision) (values : List (Option Bool)) (there : d.block < count) (untaken : decided_by decisions d.block ≡ None) where
+  -- one decision more
+  pub values_more : AreValues count decisions values → AreValues count (decisions ++ d ∷ []) (set values d.block (Some d.full))
+  values_more are = record {
+    count = length-set values d.block (Some d.full) ∙ are.count;
+    each = λ b e l. elim (cases_Bool (d.block == b)) as (λ _. get_or (set values d.block (Some d.full)) b e ≡ decided_by (decisions ++ d ∷ []) b) [
+      | inl is ↦ ap (λ j. get_or (set values d.block (Some d.full)) j e) (sym (eqb-true d.block b is)) ∙ get_or-set_same values d.block (Some d.full) e (let m = are.count in omega arith)
+          ∙ sym (decided_more decisions d b untaken ∙ ap (λ (t : Bool). if t then Some d.full else decided_by decisions b) is)
+      | inr off ↦ get_or-set_other values d.block b (Some d.full) e (λ g. eqb-false d.block b off (sym g)) ∙ are.each b e l
+          ∙ sym (decided_more decisions d b untaken ∙ ap (λ (t : Bool). if t then Some d.full else decided_by decisions b) off)
+    ];
+  }
+
+  -- one decision less
+  pub values_less : AreValues count (decisions ++ d ∷ []) values → AreValues count decisions (set values d.block None)
+  values_less are = record {
+    count = length-set values d.block None ∙ are.count;
+    each = λ b e l. elim (cases_Bool (d.block == b)) as (λ _. get_or (set values d.block None) b e ≡ decided_by decisions b) [
+      | inl is ↦ (let same : d.block ≡ b = eqb-true d.block b is in
+          ap (λ j. get_or (set values d.block None) j e) (sym same) ∙ get_or-set_same values d.block None e (let m = are.count in omega arith) ∙ sym (ap (decided_by decisions) (sym same) ∙ untaken))
+      | inr off ↦ get_or-set_other values d.block b None e (λ g. eqb-false d.block b off (sym g)) ∙ are.each b e l
+          ∙ decided_more decisions d b untaken ∙ ap (λ (t : Bool). if t then Some d.full else decided_by decisions b) off
+    ];
+  }

@@ -1,8 +1,9 @@
 -- What is kept, with one decision more or less.
-use Rattle.std.proofs.Common.{◌≡◌, inl, inr, ◌↔◌, Bool, true, false, if◌then◌else◌, ◌==◌, pos, ◌-ℤ◌, IsTrue, ℕ, suc, ◌+◌, ◌<◌, ◌≤◌, List, [], ◌∷◌, ◌++◌, length, take, get_or, Some, None, refl, ap, sym, subst, ◌∙◌, arith}
+use Rattle.std.proofs.Common.{◌≡◌, inl, inr, ◌↔◌, Bool, true, false, if◌then◌else◌, ◌==◌, pos, ◌-ℤ◌, IsTrue, ℕ, suc, ◌+◌, ◌<◌, ◌≤◌, List, [], ◌∷◌, ◌++◌, length, take, get_or, slice_get, Some, None, refl, ap, sym, subst, ◌∙◌, arith}
 use Rattle.std.specs.Prelude.{All}
 use Rattle.std.specs.List.{filter}
-use Rattle.std.proofs.lemmas.List.{length-map}
+use Rattle.std.proofs.lemmas.List.{length-map, get_or-map}
+use Rattle.std.proofs.lemmas.Option.{slice_get-get_or}
 use Rattle.std.proofs.lemmas.Bool.{cases_Bool, eqb-true}
 use Rattle.std.proofs.lemmas.List.Sums.{sum_by-append}
 use Rattle.columns.specs.declared.known.KnownColumn.{KnownColumn}
@@ -12,17 +13,23 @@ use Rattle.columns.specs.declared.spans.Span.{Span}
 use Rattle.solid_model.specs.Decisions.{decided_by}
 use Rattle.columns.specs.Broken.{TellsBroken}
 use Rattle.columns.specs.Lines.{one_if, times_listed, AreMarked, AreBeside, AreTried, IsMetBy, IsLeast}
-use Rattle.columns.specs.Spans.{is_on, known_there, AreWithin}
+use Rattle.columns.specs.Spans.{is_on, column_there, known_there, AreWithin}
 use Rattle.columns.specs.KeptColumns.{column_count, IsColumnOf, IsBeside, IsKeptBy}
-use Rattle.columns.specs.Touching.{touches}
+use Rattle.columns.specs.declared.seen.SeenLine.{SeenLine}
+use Rattle.columns.specs.Gathered.{no_side}
+use Rattle.columns.specs.Seen.{IsSeen}
+use Rattle.columns.specs.Touching.{touches, lines_touching, touching}
 use Rattle.columns.proofs.Deciding.{one_taken, one_untaken, last_untaken}
-use Rattle.columns.proofs.KeptColumns.{known_more, known_less, columns_set, broken_more, side_met}
+use Rattle.columns.proofs.AllLines.{lines_are_there}
+use Rattle.columns.proofs.KeptColumns.{known_more, known_less, columns_set, column_known, broken_more, side_met}
 use Rattle.columns.proofs.LeastBroken.{none_broken, some_broken}
 use Rattle.columns.proofs.Trails.{all_broken, trail_more, trail_less}
 use Rattle.solid_model.specs.declared.line_id.LineId.{LineId}
 use Rattle.solid_model.specs.Blocks.{ProblemParts, IsBlocksOf}
 use Rattle.solid_model.specs.Demands.{lines_of, line_style, CanBeMet}
+use Rattle.solid_model.specs.Lists.{Member}
 use Rattle.solid_model.specs.Panels.{GridParts}
+use Rattle.solid_model.proofs.ListPlaces.{member-at}
 use Rattle.solid_model.specs.PerAxis.{numbers_of}
 use Rattle.solid_model.specs.GridBox.{grid_sizes, axis_along}
 
@@ -137,10 +144,46 @@ module _ (p : ProblemParts) (blocks : IsBlocksOf p.grid p.blocks) (spans : List 
   pub first_some : (x : ℕ) (d : Beside) → IsLeast broken (Some x) → TellsBroken p (decided_by decisions) (Some (get_or sides x d).line)
   first_some x d least = some_broken p (decided_by decisions) sides kept.plan.lines.listed broken (all_broken p sides decisions heights broken kept.state.trail) x d (broken_there x least.there) least
 
+  -- the line of a number
+  pub line_there : (n : ℕ) (d : LineId) (e : Beside) → n < length sides → (get_or sides n e).line ≡ get_or (lines_of p.grid) n d
+  line_there n d e l = sym (ap (λ ls. get_or ls n d) (sym kept.plan.lines.listed) ∙ get_or-map (λ (s : Beside). s.line) sides n e d l)
+
+  -- so many lines are listed with a block as touch it,
+  pub touched_count : (b : ℕ) (ls : List ℕ) → b < p.blocks.count → length (get_or touched b ls) ≡ touching p b
+  touched_count b ls l = sym (length-map (get_or touched b ls) (λ i. (get_or sides i no_side).line))
+      ∙ ap length (kept.plan.beside.exact b ls no_side (let f = kept.plan.cells.count in omega arith))
+
+  -- those of the numbers that are listed, in the same order
+  pub touched_there : (b k : ℕ) (ls : List ℕ) (e : ℕ) → b < p.blocks.count → k < touching p b → get_or (get_or touched b ls) k e < length sides
+  touched_there b k ls e l m = kept.plan.beside.there b ls (let f = kept.plan.cells.count in let g = kept.plan.beside.count in omega arith) k e
+      (let h = touched_count b ls l in omega arith)
+
+  pub touched_line : (b k : ℕ) (ls : List ℕ) (e : ℕ) (d : LineId) → b < p.blocks.count → k < touching p b
+      → slice_get (lines_touching p b) k ≡ Some (get_or (lines_of p.grid) (get_or (get_or touched b ls) k e) d)
+  touched_line b k ls e d l m = slice_get-get_or (lines_touching p b) k d m
+      ∙ ap Some (ap (λ ys. get_or ys k d) (sym (kept.plan.beside.exact b ls no_side (let f = kept.plan.cells.count in omega arith)))
+      ∙ get_or-map (λ i. (get_or sides i no_side).line) (get_or touched b ls) k e d (let h = touched_count b ls l in omega arith)
+      ∙ line_there (get_or (get_or touched b ls) k e) d no_side (touched_there b k ls e l m))
+
+  -- what is seen of a line
+  pub seen_told : (n : ℕ) (b : Beside) (d : Beside) → n < length sides → b ≡ get_or sides n d → (s : SeenLine)
+      → s ≡ record { line = b.line; style = b.style; after = column_there columns b.after; before = column_there columns b.before } → IsSeen p (decided_by decisions) s
+  seen_told n b d l is s seen =
+      let at : IsBeside p b = subst (IsBeside p) (sym is) (kept.plan.lines.each n d l) in
+      subst (IsSeen p (decided_by decisions)) (sym seen) record {
+        has = lines_are_there p.grid b.line (subst (Member (lines_of p.grid)) (sym (line_there n b.line d l) ∙ ap (λ (x : Beside). x.line) (sym is))
+            (member-at (lines_of p.grid) n b.line (subst (λ m. n < m) (sym (length-map sides (λ (x : Beside). x.line)) ∙ ap length kept.plan.lines.listed) l)));
+        style = at.style;
+        within_after = kept.state.known.within b.after;
+        within_before = kept.state.known.within b.before;
+        after = column_known p (sizes_same p blocks spans touched sides) (decided_by decisions) columns kept.state.known b.line (pos b.line.at) b.after at.cell at.after;
+        before = column_known p (sizes_same p blocks spans touched sides) (decided_by decisions) columns kept.state.known b.line (pos b.line.at -ℤ pos 1) b.before at.cell at.before;
+      }
+
   -- few lines touch a block
   pub few_touched : (b : ℕ) (ls : List ℕ) → b < p.blocks.count → length (get_or touched b ls) ≤ 24192
   few_touched b ls l =
-      let e = kept.plan.beside.exact b ls (let f = kept.plan.cells.count in omega arith) in
+      let e = touched_count b ls l in
       let few = kept.plan.few in
       let same = ap length (sym kept.plan.lines.listed) ∙ length-map sides (λ s. s.line) in
       let less = filter_less (touches p b) (lines_of p.grid) in omega arith

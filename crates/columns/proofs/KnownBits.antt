@@ -23,18 +23,18 @@ all_clear n clear = same_from_bits n 0 (λ k. none (bit_at n k) (bit_at-lt n k) 
     none x l e = grind arith
 
 -- behind the bit d and one more, the bits are the farther ones
-behind : (n d i : ℕ) → is_set (n / 2 ^ d / 2) i ≡ is_set n (d + 1 + i)
+pub behind : (n d i : ℕ) → is_set (n / 2 ^ d / 2) i ≡ is_set n (d + 1 + i)
 behind n d i = ap (λ x. x % 2 == 1) (div-div-eq-div-mul (n / 2 ^ d) 2 (2 ^ i) ∙ div-div-eq-div-mul n (2 ^ d) (2 * 2 ^ i)
     ∙ ap (λ x. n / x) (sym (mul_assoc (2 ^ d) 2 (2 ^ i)) ∙ ap (λ x. x * 2 ^ i) (sym (pow-add 2 d 1)) ∙ sym (pow-add 2 (d + 1) i)))
 
 -- ---- the lowest bit
 
 -- some bit of a number that isn't 0 is set
-some_bit : (n : ℕ) → n < 2 ^ 64 → n ≢ 0 → (k : ℕ) × (is_set n k ≡ true)
+pub some_bit : (n : ℕ) → n < 2 ^ 64 → n ≢ 0 → (k : ℕ) × (is_set n k ≡ true)
 some_bit n fits some = (zeros n, (lowest_set n fits some).0)
 
 -- a column that is empty before depth 0 has a first full depth before a given one, or is empty down to it
-first_before : (c : ℤ → Bool) → ((k : ℕ) → c (negsuc k) ≡ false) → (n : ℕ)
+pub first_before : (c : ℤ → Bool) → ((k : ℕ) → c (negsuc k) ≡ false) → (n : ℕ)
     → ((d : ℕ) × (d < n) × IsFirstFull c (pos d)) ⊎ ((k : ℕ) → k < n → c (pos k) ≡ false)
 first_before c empty zero = inr (λ k l. absurd (omega arith))
 first_before c empty (suc n) = at (first_before c empty n) (c (pos n)) refl

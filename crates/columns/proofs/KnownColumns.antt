@@ -29,7 +29,7 @@ fits_from full may column within agrees = record {
     at k is true false set is_may = within k set
     at k is false false set is_may = absurd (both_ways (column (pos k)) (agrees (pos k) false (ap₂ known_of set is_may)) is)
 
-fits_to : (full may : ℕ) (column : ℤ → Bool) → Fits full may column → AgreesWith (known_bits full may) column
+pub fits_to : (full may : ℕ) (column : ℤ → Bool) → Fits full may column → AgreesWith (known_bits full may) column
 fits_to full may column fits (negsuc k) value e = fits.below k ∙ same_Some false value e
 fits_to full may column fits (pos k) value e = at (is_set full k) (is_set may k) refl refl (column (pos k)) refl
   where

@@ -40,3 +40,4 @@ pub mod LiveTree
 pub mod PackedColumns
 pub mod WholeChoices
 pub mod CellPlaces
+pub mod CellsBeside

@@ -1,5 +1,5 @@
 -- What was gathered is the plan of a problem, while no block is decided.
-use Rattle.std.proofs.Common.{◌≡◌, ◌↔◌, inl, inr, Bool, true, false, if◌then◌else◌, ◌&&◌, ◌==◌, nat_lt, ℕ, ◌+◌, ◌-◌, ◌*◌, ◌<◌, ◌≤◌, List, [], ◌∷◌, ◌++◌, length, take, get_or, Option, Some, None, refl, ap, sym, subst, ◌∙◌, arith}
+use Rattle.std.proofs.Common.{◌≡◌, ◌↔◌, inl, inr, Bool, true, false, if◌then◌else◌, ◌&&◌, ◌==◌, nat_lt, ℕ, ◌+◌, ◌-◌, ◌*◌, ◌<◌, ◌≤◌, List, [], ◌∷◌, ◌++◌, length, map, take, get_or, Option, Some, None, refl, ap, sym, subst, ◌∙◌, arith}
 use Rattle.std.proofs.lemmas.List.Elements.{All-push}
 use Rattle.std.specs.Prelude.{All, IfSome}
 use Rattle.std.proofs.Math.Nat.{le_refl, mul-add-mod_self_right, mod-eq_of_lt}
@@ -15,7 +15,7 @@ use Rattle.columns.specs.declared.gather.ColumnPlace.{ColumnPlace}
 use Rattle.columns.specs.declared.lines.Beside.{Beside}
 use Rattle.solid_model.specs.declared.decision.Decision.{Decision}
 use Rattle.columns.specs.declared.spans.Span.{Span}
-use Rattle.columns.specs.Touching.{is_of, view_width, view_height, touching}
+use Rattle.columns.specs.Touching.{is_of, view_width, view_height, lines_touching}
 use Rattle.solid_model.specs.Decisions.{decided_by}
 use Rattle.columns.specs.Gathered.{place_in_view, place_numbered, block_of_place, block_of_column, AreGatheredTo, AreTouchedTo}
 use Rattle.columns.specs.KeptColumns.{columns_before, column_count, column_number, AreKnownColumns, AreSpans, AreSides, IsTrail, IsKeptBy}
@@ -154,7 +154,7 @@ planned_trail p sides broken told = record {
 -- all of it
 pub planned : (p : ProblemParts) → IsBlocksOf p.grid p.blocks → (spans : List (List Span)) (columns : List KnownColumn) (on touched : List (List ℕ)) (sides : List Beside) (met : List Bool) (broken : List ℕ) (room high wide : ℕ)
     → AreGatheredTo p (column_count (grid_sizes p.grid)) spans columns on → AreSides p sides → length sides ≤ 24192 → AreTouchedTo sides (on ++ [] ∷ []) p.blocks.count (length sides) touched
-    → ((b : ℕ) (ls : List ℕ) → b < length spans → length (get_or touched b ls) ≡ touching p b)
+    → ((b : ℕ) (ls : List ℕ) (d : Beside) → b < length spans → map (λ i. (get_or sides i d).line) (get_or touched b ls) ≡ lines_touching p b)
     → length met ≡ length sides → AreMarked met broken → AreBrokenTo (columns ++ no_column ∷ []) sides (length sides) broken
     → p.blocks.count ≤ room → p.blocks.count ≤ high → length met ≤ wide
     → IsKeptBy p [] spans touched sides (columns ++ no_column ∷ []) met [] broken room high wide

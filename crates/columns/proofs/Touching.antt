@@ -14,9 +14,9 @@ use Rattle.columns.specs.Touching.{is_of}
 use Rattle.columns.specs.Plans.{is_listed}
 use Rattle.columns.specs.Gathered.{block_of_column, AreGatheredTo, AreTouchedTo, no_side, hits}
 use Rattle.columns.specs.KeptColumns.{column_count, IsColumnOf, AreSides}
-use Rattle.columns.specs.Touching.{block_beside, touches, touching}
+use Rattle.columns.specs.Touching.{block_beside, touches, lines_touching}
 use Rattle.columns.specs.Lines.{one_if, times_listed}
-use Rattle.columns.proofs.BoxSight.{shown_within}
+use Rattle.columns.proofs.CellsBeside.{none_at}
 use Rattle.columns.proofs.ColumnPlaces.{number_inside}
 use Rattle.columns.proofs.KeptColumns.{same_shown, in_width, in_height}
 use Rattle.columns.proofs.Planned.{block_own}
@@ -60,34 +60,33 @@ either_any f g (x ∷ xs) = ap (λ t. (f x || g x) || t) (either_any f g xs) ∙
     swap false true false d = refl
     swap false false c d = refl
 
-same_count : {A : Type 0} (p : A → Bool) (xs : List A) (q : ℕ → Bool) (a : ℕ) → ((i : ℕ) (d : A) → i < length xs → q (a + i) ≡ p (get_or xs i d))
-    → length (filter q (range_with_len a (length xs))) ≡ length (filter p xs)
-same_count p [] q a same = refl
-same_count p (x ∷ xs) q a same =
-    let rest = same_count p xs q (a + 1) (λ i d l. ap q (let e : a + 1 + i ≡ a + suc i = omega arith in e) ∙ same (suc i) d (omega arith)) in
-    let e : q a ≡ p x = ap q (let f : a ≡ a + 0 = omega arith in f) ∙ same 0 x (omega arith) in
-    ap (λ (t : Bool). length (if t then a ∷ filter q (range_with_len (a + 1) (length xs)) else filter q (range_with_len (a + 1) (length xs)))) e ∙ by (p x) rest
+-- of some items, numbered, those that a test of the numbers keeps are those that a test of what stands for them keeps
+kept_items : {A B : Type 0} (p : B → Bool) (item : A → B) (xs : List A) (q : ℕ → Bool) (get : ℕ → B) (a : ℕ)
+    → ((i : ℕ) (d : A) → i < length xs → (q (a + i) ≡ p (item (get_or xs i d))) × (get (a + i) ≡ item (get_or xs i d)))
+    → map get (filter q (range_with_len a (length xs))) ≡ filter p (map item xs)
+kept_items p item [] q get a same = refl
+kept_items {A} {B} p item (x ∷ xs) q get a same =
+    let rest = kept_items p item xs q get (a + 1) (λ i d l. let e : a + 1 + i ≡ a + suc i = omega arith in let at = same (suc i) d (omega arith) in (ap q e ∙ at.0, ap get e ∙ at.1)) in
+    let e : a ≡ a + 0 = omega arith in
+    let at = same 0 x (omega arith) in
+    ap (λ (t : Bool). map get (if t then a ∷ filter q (range_with_len (a + 1) (length xs)) else filter q (range_with_len (a + 1) (length xs)))) (ap q e ∙ at.0)
+    ∙ by (p (item x)) rest (ap get e ∙ at.1)
   where
-    by : (t : Bool) → length (filter q (range_with_len (a + 1) (length xs))) ≡ length (filter p xs)
-        → length (if t then a ∷ filter q (range_with_len (a + 1) (length xs)) else filter q (range_with_len (a + 1) (length xs))) ≡ length (if t then x ∷ filter p xs else filter p xs)
-    by true r = omega arith
-    by false r = r
+    by : (t : Bool) → map get (filter q (range_with_len (a + 1) (length xs))) ≡ filter p (map item xs) → get a ≡ item x
+        → map get (if t then a ∷ filter q (range_with_len (a + 1) (length xs)) else filter q (range_with_len (a + 1) (length xs)))
+        ≡ (if t then item x ∷ filter p (map item xs) else filter p (map item xs))
+    by true r f = ap₂ (λ (y : B) ys. y ∷ ys) f r
+    by false r f = r
 
 module _ (p : ProblemParts) (blocks : IsBlocksOf p.grid p.blocks) (spans : List (List Span)) (columns : List KnownColumn) (on : List (List ℕ))
     (gathered : AreGatheredTo p (column_count (grid_sizes p.grid)) spans columns on) where
-  -- a cell beyond the box is in no block
-  none_beside : (l : LineId) (j : ℤ) (k : ℕ) → (is_below (grid_sizes p.grid (axis_across l.view l.upright)) j && is_below (grid_sizes p.grid (frame_of l.view).away.axis) (pos k)) ≡ false → block_beside p l j k ≡ None
-  none_beside l j k far = ap (λ (t : Bool). if t then number_at (numbers_of p.blocks.sizes) p.blocks.numbers (box_cell_in (grid_sizes p.grid) (frame_of l.view) l.upright (pos l.cell) j (pos k)) else None)
-      (ap (λ s. is_within s (box_cell_in (grid_sizes p.grid) (frame_of l.view) l.upright (pos l.cell) j (pos k))) (λ t a. blocks.sized a t) ∙ shown_within (grid_sizes p.grid) l.view l.upright (pos l.cell) j (pos k)
-      ∙ and_right (is_below (grid_sizes p.grid (axis_along l.view l.upright)) (pos l.cell)) _ far)
-
   -- the blocks of a column beside a line
   there_beside : (b : ℕ) (l : LineId) (j : ℤ) (c : ℕ) → l.cell < grid_sizes p.grid (axis_along l.view l.upright) → IsColumnOf (grid_sizes p.grid) l j c
       → is_listed b (get_or (on ++ [] ∷ []) c []) ≡ list_any (λ k. is_of b (block_beside p l j k)) (range_with_len 0 (grid_sizes p.grid (frame_of l.view).away.axis))
   there_beside b l j c cell (inr beyond) =
       ap (is_listed b) (ap (λ n. get_or (on ++ [] ∷ []) n []) (beyond.1 ∙ sym gathered.count_on) ∙ get_or-append_seam on [] [] [])
       ∙ sym (list_any_none (λ k. is_of b (block_beside p l j k)) (range_with_len 0 (grid_sizes p.grid (frame_of l.view).away.axis))
-      (λ i d m. ap (is_of b) (none_beside l j _ (and_left (is_below (grid_sizes p.grid (axis_across l.view l.upright)) j) _ beyond.0))))
+      (λ i d m. ap (is_of b) (none_at p blocks l j _ (and_left (is_below (grid_sizes p.grid (axis_across l.view l.upright)) j) _ beyond.0))))
   there_beside b l j c cell (inl at) = elim (cases_Bool (is_listed b (get_or on c []))) as (λ _. is_listed b (get_or (on ++ [] ∷ []) c []) ≡ list_any f depths) [
     | inl some ↦ listed ∙ some ∙ sym (elim (cases_Bool (list_any f depths)) as (λ _. list_any f depths ≡ true) [
       | inl any ↦ any
@@ -122,18 +121,21 @@ module _ (p : ProblemParts) (blocks : IsBlocksOf p.grid p.blocks) (spans : List 
               (ap f (get_or-range_with_len 0 (grid_sizes p.grid (frame_of l.view).away.axis) k 0 m ∙ (let e : 0 + k ≡ k = omega arith in e)) ∙ is)))
           | inr off ↦ off
         ]
-        | inr far ↦ ap (is_of b) (none_beside l j k (and_right (is_below (grid_sizes p.grid (axis_across l.view l.upright)) j) _ (le-ltb k (grid_sizes p.grid (frame_of l.view).away.axis) far)))
+        | inr far ↦ ap (is_of b) (none_at p blocks l j (pos k) (and_right (is_below (grid_sizes p.grid (axis_across l.view l.upright)) j) _ (le-ltb k (grid_sizes p.grid (frame_of l.view).away.axis) far)))
       ]
 
       zero : is_listed b (get_or on c []) ≡ false → times_listed b (get_or on c []) ≡ 0
       zero off = no_times b (get_or on c []) off
 
   module _ (sides : List Beside) (lines : AreSides p sides) (touched : List (List ℕ)) (listed : AreTouchedTo sides (on ++ [] ∷ []) p.blocks.count (length sides) touched) where
-    pub touched_exact : (b : ℕ) (ls : List ℕ) → b < length spans → length (get_or touched b ls) ≡ touching p b
-    touched_exact b ls l = ap length (listed.lists b ls (let e = gathered.count in omega arith))
-        ∙ same_count (λ (s : Beside). touches p b s.line) sides (hits sides (on ++ [] ∷ []) b) 0 hit
-        ∙ mapped sides ∙ ap (λ xs. length (filter (touches p b) xs)) lines.listed
+    pub touched_exact : (b : ℕ) (ls : List ℕ) (d : Beside) → b < length spans → map (λ i. (get_or sides i d).line) (get_or touched b ls) ≡ lines_touching p b
+    touched_exact b ls d l = ap (map (λ i. (get_or sides i d).line)) (listed.lists b ls (let e = gathered.count in omega arith))
+        ∙ kept_items (touches p b) (λ (s : Beside). s.line) sides (hits sides (on ++ [] ∷ []) b) (λ i. (get_or sides i d).line) 0 (λ i e m. (hit i e m, item i e m))
+        ∙ ap (filter (touches p b)) lines.listed
       where
+        item : (i : ℕ) (e : Beside) → i < length sides → (get_or sides (0 + i) d).line ≡ (get_or sides i e).line
+        item i e m = (let zero_in : 0 + i ≡ i = omega arith in ap (λ n. (get_or sides n d).line) zero_in) ∙ ap (λ (s : Beside). s.line) (get_or_default sides i d e m)
+
         hit : (i : ℕ) (d : Beside) → i < length sides → hits sides (on ++ [] ∷ []) b (0 + i) ≡ touches p b (get_or sides i d).line
         hit i d m =
             let s = get_or sides i d in
@@ -144,13 +146,3 @@ module _ (p : ProblemParts) (blocks : IsBlocksOf p.grid p.blocks) (spans : List 
             ∙ ap (λ (x : Beside). is_listed b (get_or (on ++ [] ∷ []) x.after []) || is_listed b (get_or (on ++ [] ∷ []) x.before [])) same
             ∙ ap₂ ◌||◌ (there_beside b s.line (pos s.line.at) s.after is.cell is.after) (there_beside b s.line (pos s.line.at -ℤ pos 1) s.before is.cell is.before)
             ∙ sym (either_any (λ k. is_of b (block_beside p s.line (pos s.line.at) k)) (λ k. is_of b (block_beside p s.line (pos s.line.at -ℤ pos 1) k)) (range_with_len 0 (grid_sizes p.grid (frame_of s.line.view).away.axis)))
-
-        mapped : (xs : List Beside) → length (filter (λ (s : Beside). touches p b s.line) xs) ≡ length (filter (touches p b) (map (λ s. s.line) xs))
-        mapped [] = refl
-        mapped (x ∷ xs) = by (touches p b x.line) (mapped xs)
-          where
-            by : (t : Bool) → length (filter (λ (s : Beside). touches p b s.line) xs) ≡ length (filter (touches p b) (map (λ s. s.line) xs))
-                → length (if t then x ∷ filter (λ (s : Beside). touches p b s.line) xs else filter (λ (s : Beside). touches p b s.line) xs)
-                ≡ length (if t then x.line ∷ filter (touches p b) (map (λ s. s.line) xs) else filter (touches p b) (map (λ s. s.line) xs))
-            by true r = omega arith
-            by false r = r

@@ -109,6 +109,10 @@ pub record AreTouchedTo (sides : List Beside) (on : List (List ℕ)) (blocks n :
 abbrev pub AllEmpty : {A : Type 0} → ℕ → List (List A) → Type 0
 AllEmpty count lists = (length lists ≡ count) × All (λ xs. xs ≡ []) lists
 
+-- so many blocks, of none of which anything is decided
+abbrev pub AreUndecided : ℕ → List (Option Bool) → Type 0
+AreUndecided count values = (length values ≡ count) × All (λ v. v ≡ None) values
+
 -- so many lines that can be met
 abbrev pub AreMarkedMet : ℕ → List Bool → Type 0
 AreMarkedMet count met = (length met ≡ count) × AreMarked met []

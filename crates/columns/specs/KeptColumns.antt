@@ -4,7 +4,7 @@ use Rattle.std.specs.Prelude.{◌≡◌, ◌⊎◌, ◌↔◌, ◌<◌, ◌≤�
 use Rattle.columns.specs.declared.known.KnownColumn.{KnownColumn}
 use Rattle.columns.specs.declared.lines.Beside.{Beside}
 use Rattle.columns.specs.declared.spans.Span.{Span}
-use Rattle.columns.specs.Touching.{is_of, view_width, view_height, shown_cell, touching}
+use Rattle.columns.specs.Touching.{is_of, view_width, view_height, shown_cell, lines_touching}
 use Rattle.solid_model.specs.declared.decision.Decision.{Decision}
 use Rattle.solid_model.specs.Decisions.{decided_by, AreDecisions}
 use Rattle.columns.specs.Lines.{times_listed, AreMarked}
@@ -66,14 +66,14 @@ pub record AreSides (p : ProblemParts) (sides : List Beside) : Type 0 where
   pub listed : map (λ b. b.line) sides ≡ lines_of p.grid
   pub each : All (IsBeside p) sides
 
--- a line is listed with a block where a column beside it has a cell of the block
+-- a line is listed with a block where a column beside it has a cell of the block, in the order of all lines
 pub record AreTouched (p : ProblemParts) (sides : List Beside) (spans : List (List Span)) (touched : List (List ℕ)) : Type 0 where
   pub count : length touched ≡ length spans
   pub there : All (λ ls. All (λ i. i < length sides) ls) touched
   pub each : (b i : ℕ) (s : List Span) (ls : List ℕ) (d : Beside) → b < length spans → i < length sides
       → times_listed i (slice_index_or touched b ls) ≡ 0
       → (k : ℕ) → (is_on (slice_index_or spans b s) (slice_index_or sides i d).after k ≡ false) × (is_on (slice_index_or spans b s) (slice_index_or sides i d).before k ≡ false)
-  pub exact : (b : ℕ) (ls : List ℕ) → b < length spans → length (slice_index_or touched b ls) ≡ touching p b
+  pub exact : (b : ℕ) (ls : List ℕ) (d : Beside) → b < length spans → map (λ i. (slice_index_or sides i d).line) (slice_index_or touched b ls) ≡ lines_touching p b
 
 -- The lines that can't be met under the first decisions, for each number of them, are the first so many of those that are
 -- listed.
@@ -106,3 +106,8 @@ pub record IsKeptBy (p : ProblemParts) (decisions : List Decision) (spans : List
   pub roomy_lines : length met ≤ wide
   pub plan : IsPlanOf p spans touched sides
   pub state : IsStateOf p sides decisions columns met heights broken
+
+-- for each block what is decided of it
+pub record AreValues (blocks : ℕ) (decisions : List Decision) (values : List (Option Bool)) : Type 0 where
+  pub count : length values ≡ blocks
+  pub each : (b : ℕ) (d : Option Bool) → b < blocks → slice_index_or values b d ≡ decided_by decisions b

@@ -13,3 +13,4 @@ pub mod Gathered
 pub mod Packed
 pub mod Sight
 pub mod SightCells
+pub mod Seen

@@ -1,5 +1,5 @@
 -- The columns of cells that a view shows, and the lines that touch a block.
-use Rattle.std.specs.Prelude.{◌==◌, ◌||◌, Bool, false, ℕ, ℤ, pos, ◌-ℤ◌, length, Option, Some, None}
+use Rattle.std.specs.Prelude.{◌==◌, ◌||◌, Bool, false, ℕ, ℤ, pos, ◌-ℤ◌, List, length, Option, Some, None}
 use Rattle.std.specs.List.{list_any, filter, range_with_len}
 use Rattle.solid_model.specs.declared.cell.Cell.{Cell}
 use Rattle.solid_model.specs.declared.frame.View.{View}
@@ -35,6 +35,10 @@ abbrev pub touches : ProblemParts → ℕ → LineId → Bool
 touches p b l = list_any (λ k. is_of b (block_beside p l (pos l.at) k) || is_of b (block_beside p l (pos l.at -ℤ pos 1) k))
     (range_with_len 0 (grid_sizes p.grid (frame_of l.view).away.axis))
 
--- how many lines do
+-- the lines that do, in their order,
+abbrev pub lines_touching : ProblemParts → ℕ → List LineId
+lines_touching p b = filter (touches p b) (lines_of p.grid)
+
+-- and how many they are
 abbrev pub touching : ProblemParts → ℕ → ℕ
-touching p b = length (filter (touches p b) (lines_of p.grid))
+touching p b = length (lines_touching p b)

@@ -2,7 +2,7 @@
 
 ghost use Rattle.std.specs.Prelude.{◌≡◌, ◌==◌, ◌&&◌, ◌||◌, ◌<◌, ◌≤◌, ℕ, [], length, slice_index_or, All, None, is_some, vec_capacity, IsTrue, IfOk, IfSome};
 ghost use Rattle.solid_model.specs.Demands.{has_line, lines_at, lines_along};
-ghost use Rattle.columns.specs.Gathered.{place_in_view, place_numbered, block_of_place, IsListed, AreAddedTo, IsGathered, AreGatheredTo, AreTouchedBy, AreTouchedTo, AllEmpty, AreMarkedMet, AreMoreSides};
+ghost use Rattle.columns.specs.Gathered.{place_in_view, place_numbered, block_of_place, IsListed, AreAddedTo, IsGathered, AreGatheredTo, AreTouchedBy, AreTouchedTo, AllEmpty, AreMarkedMet, AreMoreSides, AreUndecided};
 ghost use Rattle.columns.specs.KeptColumns.{column_count, IsBeside, AreSides};
 ghost use Rattle.columns.specs.Touching.{view_width, view_height};
 ghost use Rattle.solid_model.specs.declared.cell.Axis.{Axis};
@@ -73,7 +73,7 @@ fn listed(numbers: &[Option<u16>], at: usize) -> Option<u16>
 }
 
 /// The block of the cell at a depth of a column that stands there.
-fn block_at_depth(
+pub fn block_at_depth(
     problem: &Problem,
     sizes: PerAxis,
     place: ColumnPlace,
@@ -302,6 +302,17 @@ pub fn break_all(columns: &[KnownColumn], sides: &[Beside], met: &mut [bool], br
             break_line(met, broken, line as u32);
         }
     }
+}
+
+/// So many blocks, of none of which anything is decided.
+pub fn no_values(alloc: Global, count: usize) -> Result<Vec<Option<bool>>, Memory>
+    ensures { IfOk result (λ values. AreUndecided count values.items) }
+{
+    let mut values = Vec::with_capacity(alloc, count)?;
+    for _made in 0..count {
+        values.push(None)?;
+    }
+    Ok(values)
 }
 
 /// So many marks of lines that can be met.

@@ -6,12 +6,13 @@ ghost use Rattle.solid_model.specs.Decisions.{decided_by};
 
 use crate::beside::{beside_of, number_of_column};
 use crate::gather::{
-    all_met, all_sides, break_all, empty_lists, empty_spans, gather_columns, touch_all,
+    all_met, all_sides, break_all, empty_lists, empty_spans, gather_columns, no_values, touch_all,
 };
 use crate::known::KnownColumn;
 use crate::lines::{Beside, can_be_met, least, mend_lines, try_lines};
 use crate::packed::pack;
 use crate::plan::{LineList, SpanList};
+use crate::seen::{SeenLine, seen_line};
 use crate::spans::set_spans;
 use crate::steps::Steps;
 use solid_model::{Decision, LineId, Memory, Problem, Style, View};
@@ -26,6 +27,8 @@ use std::sync::ledger::{Blank, Ledger};
 pub struct PartialState<'p> {
     problem: &'p Problem,
     decisions: Vec<Decision>,
+    /// For each block what is decided of it.
+    values: Vec<Option<bool>>,
     /// The cells of each block, column by column.
     spans: Vec<SpanList>,
     /// The numbers of the lines that touch each block.
@@ -50,20 +53,22 @@ impl<'p> Model for PartialState<'p> {
 
     ghost Value = { PartialParts };
 
-    ghost use Rattle.columns.specs.KeptColumns.{IsKeptBy};
+    ghost use Rattle.columns.specs.KeptColumns.{IsKeptBy, AreValues};
 
     ghost view = { λ s. record { problem = s.problem.now; decisions = s.decisions.items } };
 
     ghost invariant = { λ s. IsKeptBy s.problem.now s.decisions.items s.spans.items s.touched.items
         s.sides.items s.columns.items s.met.items s.heights.items s.broken.items
-        (vec_capacity s.decisions) (vec_capacity s.heights) (vec_capacity s.broken) };
+        (vec_capacity s.decisions) (vec_capacity s.heights) (vec_capacity s.broken)
+        × AreValues s.problem.now.blocks.count s.decisions.items s.values.items };
 }
 
 impl<'p> PartialState<'p> {
-    ghost use Rattle.std.specs.Prelude.{◌≡◌, ◌↔◌, ◌<◌, ◌≤◌, ◌+◌, ◌++◌, ◌∷◌, [], ℕ, pos, None, false, length, slice_index_or, IsTrue, IfSome, IfOk};
-    ghost use Rattle.solid_model.specs.Decisions.{decided_by, AreOnAll};
+    ghost use Rattle.std.specs.Prelude.{◌≡◌, ◌↔◌, ◌<◌, ◌≤◌, ◌+◌, ◌++◌, ◌∷◌, [], ℕ, pos, Some, None, false, length, slice_get, slice_index_or, IsTrue, IfSome, IfOk};
+    ghost use Rattle.solid_model.specs.Decisions.{decided_by, AreDecisions, AreOnAll};
     ghost use Rattle.columns.specs.Packed.{ArePacked};
-    ghost use Rattle.columns.specs.Touching.{touching, view_width, view_height, shown_cell};
+    ghost use Rattle.columns.specs.Touching.{lines_touching, touching, view_width, view_height, shown_cell};
+    ghost use Rattle.columns.specs.Seen.{IsSeen};
     ghost use Rattle.columns.specs.Known.{known_bits, LiesWithin};
     ghost use Rattle.solid_model.specs.GridBox.{grid_sizes};
     ghost use Rattle.solid_model.specs.Demands.{has_line, known_cell, line_style, lines_of, CanBeMet, AllMet, IsFirstBroken};
@@ -80,6 +85,7 @@ impl<'p> PartialState<'p> {
         let count = usize::from(problem.blocks().count());
         let decisions = Vec::with_capacity(alloc, count)?;
         let heights = Vec::with_capacity(alloc, count)?;
+        let values = no_values(alloc, count)?;
         let mut spans = empty_spans(alloc, count)?;
         let mut on = Vec::new(alloc);
         let mut columns = gather_columns(alloc, problem, spans.as_mut_slice(), &mut on)?;
@@ -99,6 +105,7 @@ impl<'p> PartialState<'p> {
         Ok(PartialState {
             problem,
             decisions,
+            values,
             spans,
             touched,
             sides,
@@ -119,6 +126,19 @@ impl<'p> PartialState<'p> {
         self.touched[usize::from(block)].as_slice().len() as u32
     }
 
+    /// The number, among all lines in their order, of one of the lines that touch a block.
+    pub fn touched(&self, block: u16, at: u32) -> usize
+        requires block { block < self.now.problem.blocks.count }
+        requires at { at < touching self.now.problem block }
+        ensures there { result < length (lines_of self.now.problem.grid) }
+        ensures line { (d : LineId) → slice_get (lines_touching self.now.problem block) at
+            ≡ Some (slice_index_or (lines_of self.now.problem.grid) result d) }
+    {
+        // A look at the problem tells that its blocks are those of its grid.
+        let _grid = self.problem.grid();
+        self.touched[usize::from(block)].as_slice()[at as usize] as usize
+    }
+
     /// Decides a block that isn't decided.
     pub fn decide_counted<L: Ledger>(&mut self, block: u16, full: bool, steps: &mut Steps<L>)
         requires there { block < self.old.problem.blocks.count }
@@ -137,6 +157,7 @@ impl<'p> PartialState<'p> {
             self.spans[number].as_slice(),
             Some(full),
         );
+        self.values[number] = Some(full);
         self.heights.push_reserved(self.broken.len());
         try_lines(
             self.columns.as_slice(),
@@ -165,6 +186,7 @@ impl<'p> PartialState<'p> {
                     self.spans[usize::from(last.block)].as_slice(),
                     None,
                 );
+                self.values[usize::from(last.block)] = None;
                 if let Some(height) = self.heights.pop() {
                     mend_lines(self.met.as_mut_slice(), &mut self.broken, height);
                 }
@@ -200,11 +222,28 @@ impl<'p> PartialState<'p> {
         self.decisions.as_slice()
     }
 
+    /// How many decisions there are. No block is decided twice.
+    pub fn decided(&self) -> u16
+        ensures count { result ≡ length self.now.decisions }
+        ensures few { length self.now.decisions ≤ self.now.problem.blocks.count }
+        ensures each { AreDecisions self.now.problem.blocks.count self.now.decisions }
+    {
+        // A look at the problem tells that its blocks are those of its grid.
+        let _grid = self.problem.grid();
+        let _count = self.problem.blocks().count();
+        self.decisions.len() as u16
+    }
+
     /// What is decided of a block.
     pub fn value(&self, block: u16) -> Option<bool>
         ensures { result ≡ decided_by self.now.decisions block }
     {
-        said(self.decisions.as_slice(), block)
+        let number = usize::from(block);
+        if number < self.values.len() {
+            self.values[number]
+        } else {
+            None
+        }
     }
 
     /// A line can still be met: some pair of columns beside it that agrees with every decided cell
@@ -254,6 +293,18 @@ impl<'p> PartialState<'p> {
         self.sides.len()
     }
 
+    /// The line of a number, in the order of all lines, with what is known of the columns beside it.
+    pub fn seen(&self, number: usize) -> SeenLine
+        requires { number < length (lines_of self.now.problem.grid) }
+        ensures line { (d : LineId)
+            → result.line ≡ slice_index_or (lines_of self.now.problem.grid) number d }
+        ensures seen { IsSeen self.now.problem (decided_by self.now.decisions) result }
+    {
+        // A look at the problem tells that its blocks are those of its grid.
+        let _grid = self.problem.grid();
+        seen_line(self.columns.as_slice(), self.sides[number])
+    }
+
     /// The style of the line of a number, in the order of all lines.
     pub fn line_style(&self, number: usize) -> Style
         requires { number < length (lines_of self.now.problem.grid) }
@@ -281,18 +332,6 @@ impl<'p> PartialState<'p> {
             before,
         );
     }
-}
-
-/// What decisions say of a block.
-fn said(decisions: &[Decision], block: u16) -> Option<bool>
-    ensures { result ≡ decided_by decisions.now block }
-{
-    for decision in decisions {
-        if decision.block == block {
-            return Some(decision.full);
-        }
-    }
-    None
 }
 
 /// Decides a block, and counts the steps in a ledger of its own.

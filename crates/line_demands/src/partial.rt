@@ -1,7 +1,7 @@
 //! A problem, some of whose blocks are decided.
 
 use crate::whole::{all_draw, wanted_styles};
-use columns::{PartialState, Steps};
+use columns::{PartialState, SeenLine, Steps};
 use solid_model::{Decision, LineId, Memory, Problem, View};
 use std::alloc::Global;
 use std::marker::Model;
@@ -33,14 +33,15 @@ impl<'p> Model for Partial<'p> {
 }
 
 impl<'p> Partial<'p> {
-    ghost use Rattle.std.specs.Prelude.{◌≡◌, ◌↔◌, ◌<◌, ◌≤◌, ◌+◌, ◌++◌, ◌∷◌, [], ℕ, pos, None, false, IsTrue, IfSome, IfOk};
+    ghost use Rattle.std.specs.Prelude.{◌≡◌, ◌↔◌, ◌<◌, ◌≤◌, ◌+◌, ◌++◌, ◌∷◌, [], ℕ, pos, Some, None, false, length, slice_get, slice_index_or, IsTrue, IfSome, IfOk};
     ghost use Rattle.solid_model.specs.declared.decision.Decision.{Decision};
-    ghost use Rattle.solid_model.specs.Decisions.{decided_by, AreOnAll};
+    ghost use Rattle.solid_model.specs.Decisions.{decided_by, AreDecisions, AreOnAll};
     ghost use Rattle.line_demands.specs.WholeChoices.{TellsMatching};
-    ghost use Rattle.columns.specs.Touching.{touching, view_width, view_height, shown_cell};
+    ghost use Rattle.columns.specs.Touching.{lines_touching, touching, view_width, view_height, shown_cell};
     ghost use Rattle.columns.specs.Known.{known_bits, LiesWithin};
+    ghost use Rattle.columns.specs.Seen.{IsSeen};
     ghost use Rattle.solid_model.specs.GridBox.{grid_sizes};
-    ghost use Rattle.solid_model.specs.Demands.{has_line, known_cell, CanBeMet, AllMet, IsFirstBroken};
+    ghost use Rattle.solid_model.specs.Demands.{has_line, known_cell, lines_of, CanBeMet, AllMet, IsFirstBroken};
 
     /// The problem, while no block is decided. An `Err` is out of memory.
     pub fn new(alloc: Global, problem: &'p Problem) -> Result<Partial<'p>, Memory>
@@ -113,6 +114,15 @@ impl<'p> Partial<'p> {
         self.state.decisions()
     }
 
+    /// How many decisions there are. No block is decided twice.
+    pub fn decided(&self) -> u16
+        ensures count { result ≡ length self.now.decisions }
+        ensures few { length self.now.decisions ≤ self.now.problem.blocks.count }
+        ensures each { AreDecisions self.now.problem.blocks.count self.now.decisions }
+    {
+        self.state.decided()
+    }
+
     /// What is decided of a block.
     pub fn value(&self, block: u16) -> Option<bool>
         ensures { result ≡ decided_by self.now.decisions block }
@@ -162,6 +172,34 @@ impl<'p> Partial<'p> {
         ensures { result ≡ touching self.now.problem block }
     {
         self.state.touching(block)
+    }
+
+    /// The number, among all lines in their order, of one of the lines that touch a block.
+    pub fn touched(&self, block: u16, at: u32) -> usize
+        requires block { block < self.now.problem.blocks.count }
+        requires at { at < touching self.now.problem block }
+        ensures there { result < length (lines_of self.now.problem.grid) }
+        ensures line { (d : LineId) → slice_get (lines_touching self.now.problem block) at
+            ≡ Some (slice_index_or (lines_of self.now.problem.grid) result d) }
+    {
+        self.state.touched(block, at)
+    }
+
+    /// How many lines the grid has.
+    pub fn line_count(&self) -> usize
+        ensures { result ≡ length (lines_of self.now.problem.grid) }
+    {
+        self.state.line_count()
+    }
+
+    /// The line of a number, in the order of all lines, with what is known of the columns beside it.
+    pub fn seen(&self, number: usize) -> SeenLine
+        requires { number < length (lines_of self.now.problem.grid) }
+        ensures line { (d : LineId)
+            → result.line ≡ slice_index_or (lines_of self.now.problem.grid) number d }
+        ensures seen { IsSeen self.now.problem (decided_by self.now.decisions) result }
+    {
+        self.state.seen(number)
     }
 
     /// What is known of a column of a view, by its places to the right and upwards: the cells that

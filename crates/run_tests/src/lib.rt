@@ -13,6 +13,8 @@ mod drawings;
 #[cfg(test)]
 mod entities;
 #[cfg(test)]
+mod forced;
+#[cfg(test)]
 mod hostile;
 #[cfg(test)]
 mod options;

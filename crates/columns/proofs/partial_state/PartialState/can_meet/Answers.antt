@@ -13,7 +13,7 @@ returns c =
     let b = c.beside_of-beside.result in
     let told = c.beside_of-beside.ensures in
     subst (λ (v : PartialParts). IsTrue c.can_be_met.result ↔ CanBeMet v.problem (decided_by v.decisions) c.args.line) c.self.view_is
-    (meet_told self.problem.now c.grid.ensures.kept self.spans.items self.touched.items self.sides.items self.decisions.items self.columns.items self.met.items self.heights.items self.broken.items _ _ _ c.self.invariant
+    (meet_told self.problem.now c.grid.ensures.kept self.spans.items self.touched.items self.sides.items self.decisions.items self.columns.items self.met.items self.heights.items self.broken.items _ _ _ c.self.invariant.0
     b c.args.line c.can_be_met.result
     (is_beside self.problem.now c.grid.result.now b c.args.line c.grid.ensures.grid told.line told.cell told.style told.after told.before told.inside_after told.inside_before)
     told.line (subst (λ (cs : List KnownColumn). IsTrue c.can_be_met.result ↔ IsMetBy cs b) c.as_slice.ensures.value c.can_be_met.ensures))

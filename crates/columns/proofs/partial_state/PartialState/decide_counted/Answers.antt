@@ -1,13 +1,14 @@
 -- The columns of the block are set, and the lines that touch it are tried.
-use Rattle.std.proofs.Common.{◌≡◌, ◌<◌, ◌++◌, ◌∷◌, [], Some, None, List, if◌then◌else◌, length, take, drop, get_or, vec_capacity, ap, sym, subst, ◌∙◌, refl, arith}
+use Rattle.std.proofs.Common.{◌≡◌, ◌<◌, ◌≤◌, ◌+◌, ℕ, ◌++◌, ◌∷◌, [], Some, None, List, if◌then◌else◌, length, take, drop, get_or, set, vec_capacity, ap, sym, subst, ◌∙◌, refl, arith}
 use Rattle.std.proofs.lemmas.List.{take_at}
 use Rattle.solid_model.specs.declared.decision.Decision.{Decision}
 use Rattle.solid_model.specs.Decisions.{decided_by, PartialParts}
-use Rattle.columns.specs.KeptColumns.{IsKeptBy}
+use Rattle.columns.specs.KeptColumns.{IsKeptBy, AreValues}
 use Rattle.columns.specs.Lines.{AreTried, AreBeside}
 use Rattle.columns.specs.Spans.{is_on, known_there, AreWithin}
-use Rattle.columns.proofs.Deciding.{room_for_one}
-use Rattle.columns.proofs.KeptState.{kept_more, seen_as, sides_inside}
+use Rattle.columns.proofs.Deciding.{room_for_one, values_more}
+use Rattle.columns.specs.Touching.{touching}
+use Rattle.columns.proofs.KeptState.{kept_more, seen_as, sides_inside, touched_count}
 use Rattle.columns.proofs.partial_state.PartialState.decide_counted.Goals as goal
 
 pub push_reserved-requires : goal.push_reserved-requires
@@ -16,8 +17,8 @@ push_reserved-requires g c =
     let d : Decision = record { block = c.args.block; full = c.args.full } in
     let there : d.block < self.problem.now.blocks.count = subst (λ (v : PartialParts). d.block < v.problem.blocks.count) (sym c.self.view_is) c.requires.there in
     let untaken : decided_by self.decisions.items d.block ≡ None = ap (λ (v : PartialParts). decided_by v.decisions d.block) c.self.view_is ∙ c.requires.open in
-    let room = room_for_one self.problem.now.blocks.count (vec_capacity self.heights) self.decisions.items d c.self.invariant.decided there untaken c.self.invariant.roomy_heights in
-    omega (arith, room, self.heights.ok.0, c.self.invariant.state.trail.count)
+    let room = room_for_one self.problem.now.blocks.count (vec_capacity self.heights) self.decisions.items d c.self.invariant.0.decided there untaken c.self.invariant.0.roomy_heights in
+    omega (arith, room, self.heights.ok.0, c.self.invariant.0.state.trail.count)
 
 pub push_reserved-requires-2 : goal.push_reserved-requires-2
 push_reserved-requires-2 g c =
@@ -25,7 +26,7 @@ push_reserved-requires-2 g c =
     let d : Decision = record { block = c.args.block; full = c.args.full } in
     let there : d.block < self.problem.now.blocks.count = subst (λ (v : PartialParts). d.block < v.problem.blocks.count) (sym c.self.view_is) c.requires.there in
     let untaken : decided_by self.decisions.items d.block ≡ None = ap (λ (v : PartialParts). decided_by v.decisions d.block) c.self.view_is ∙ c.requires.open in
-    let room = room_for_one self.problem.now.blocks.count (vec_capacity self.decisions) self.decisions.items d c.self.invariant.decided there untaken c.self.invariant.roomy in
+    let room = room_for_one self.problem.now.blocks.count (vec_capacity self.decisions) self.decisions.items d c.self.invariant.0.decided there untaken c.self.invariant.0.roomy in
     omega (arith, room, self.decisions.ok.0)
 
 pub try_lines-requires-clause-within : goal.try_lines-requires-clause-within
@@ -42,7 +43,7 @@ try_lines-requires-clause-sides g c =
     let seen : c.as_slice-2.result.now ≡ columns = c.as_slice-2.ensures.value ∙ take_at columns _ self.columns.len (c.set_spans.auto.columns ∙ c.as_mut_slice.ensures.len) in
     subst (AreBeside (length c.as_slice-2.result.now)) (sym c.as_slice-3.ensures.value)
     (sides_inside self.problem.now c.grid-grid.ensures.kept self.spans.items self.touched.items self.sides.items self.decisions.items self.columns.items c.as_slice-2.result.now self.met.items self.heights.items self.broken.items
-    _ _ _ c.self.invariant (ap length seen ∙ c.set_spans.auto.columns ∙ ap length c.as_mut_slice.ensures.value))
+    _ _ _ c.self.invariant.0 (ap length seen ∙ c.set_spans.auto.columns ∙ ap length c.as_mut_slice.ensures.value))
 
 pub invariant_of-self : goal.invariant_of-self
 invariant_of-self g c =
@@ -69,7 +70,7 @@ invariant_of-self g c =
     (subst (λ ls. AreTried c.as_slice-2.result.now c.as_slice-3.result.now ls self.broken.items broken) of_lines c.try_lines.ensures.tried)) in
     let kept = kept_more p c.grid-grid.ensures.kept self.spans.items self.touched.items self.sides.items self.decisions.items d self.columns.items columns self.met.items met
     self.heights.items self.broken.items broken (vec_capacity self.decisions) (vec_capacity self.heights) (vec_capacity self.broken) c.index.result.now c.index-2.result.now
-    c.self.invariant there untaken long c.set_spans.ensures.within
+    c.self.invariant.0 there untaken long c.set_spans.ensures.within
     (λ n k. c.set_spans.ensures.known n k ∙ (λ t. if is_on (of_block t) n k then Some c.args.full else known_there (was t) n k))
     met_long c.try_lines.ensures.marked tried in
     let height : c.len.result ≡ length self.broken.items = c.len.ensures ∙ self.broken.ok.0 in
@@ -79,6 +80,19 @@ invariant_of-self g c =
     subst (λ hs. IsKeptBy p (self.decisions.items ++ d ∷ []) self.spans.items self.touched.items self.sides.items columns met hs broken (vec_capacity self.decisions) (vec_capacity self.heights) (vec_capacity self.broken)) counted kept in
     let full : IsKeptBy p c.push_reserved-2.new.self.items self.spans.items self.touched.items self.sides.items columns met c.push_reserved.new.self.items broken (vec_capacity self.decisions) (vec_capacity self.heights) (vec_capacity self.broken) =
     subst (λ (ds : List Decision). IsKeptBy p ds self.spans.items self.touched.items self.sides.items columns met c.push_reserved.new.self.items broken (vec_capacity self.decisions) (vec_capacity self.heights) (vec_capacity self.broken)) more high in
-    seen_as p c.grid-grid.ensures.kept self.spans.items self.touched.items self.sides.items c.push_reserved-2.new.self.items columns _ met _ c.push_reserved.new.self.items broken _
+    let table : AreValues p.blocks.count (self.decisions.items ++ d ∷ []) (set self.values.items d.block (Some d.full)) = values_more p.blocks.count self.decisions.items d self.values.items there untaken c.self.invariant.1 in
+    (seen_as p c.grid-grid.ensures.kept self.spans.items self.touched.items self.sides.items c.push_reserved-2.new.self.items columns _ met _ c.push_reserved.new.self.items broken _
     (vec_capacity self.decisions) _ (vec_capacity self.heights) _ (vec_capacity self.broken) _
-    all_columns all_met refl c.push_reserved-2.ensures.capacity c.push_reserved.ensures.capacity c.try_lines.ensures.room full
+    all_columns all_met refl c.push_reserved-2.ensures.capacity c.push_reserved.ensures.capacity c.try_lines.ensures.room full,
+      subst (λ (ds : List Decision). AreValues p.blocks.count ds (set self.values.items c.from-number.result (Some c.args.full))) more
+          (subst (λ n. AreValues p.blocks.count (self.decisions.items ++ d ∷ []) (set self.values.items n (Some c.args.full))) (sym c.from-number.ensures) table))
+
+pub returns-clause-steps : goal.returns-clause-steps
+returns-clause-steps g c =
+    let self = c.self.inside in
+    let p = self.problem.now in
+    let there : c.args.block < p.blocks.count = subst (λ (v : PartialParts). c.args.block < v.problem.blocks.count) (sym c.self.view_is) c.requires.there in
+    let of_lines : c.as_slice-4.result.now ≡ get_or self.touched.items c.args.block c.index-2.result.now = c.as_slice-4.ensures ∙ c.index-2.ensures ∙ ap (λ b. get_or self.touched.items b c.index-2.result.now) c.from-number.ensures in
+    let count = ap length of_lines ∙ touched_count p c.grid-grid.ensures.kept self.spans.items self.touched.items self.sides.items self.decisions.items self.columns.items self.met.items self.heights.items self.broken.items _ _ _ c.self.invariant.0 c.args.block c.index-2.result.now there
+    ∙ ap (λ (v : PartialParts). touching v.problem c.args.block) c.self.view_is in
+    subst (λ n. c.try_lines.new.steps ≤ c.args.steps.now + n) count c.try_lines.ensures.steps

@@ -7,5 +7,5 @@ use Rattle.solid_model.specs.Demands.{lines_of}
 
 pub returns : goal.returns
 returns c =
-    c.len.ensures ∙ c.self.inside.sides.ok.0 ∙ sym (length-map c.self.inside.sides.items (λ b. b.line)) ∙ ap length c.self.invariant.plan.lines.listed
+    c.len.ensures ∙ c.self.inside.sides.ok.0 ∙ sym (length-map c.self.inside.sides.items (λ b. b.line)) ∙ ap length c.self.invariant.0.plan.lines.listed
     ∙ ap (λ (v : PartialParts). length (lines_of v.problem.grid)) c.self.view_is

@@ -17,4 +17,4 @@ returns c =
     subst (λ (cs : List KnownColumn). ArePackedTo cs self.sides.items (length self.sides.items) after before) c.as_slice.ensures.value
     (subst (λ (bs : List Beside). ArePackedTo c.as_slice.result.now bs (length bs) after before) c.as_slice-2.ensures.value c.pack.ensures) in
     subst (λ (v : PartialParts). ArePacked v.problem (decided_by v.decisions) after before) c.self.view_is
-    (all_packed self.problem.now c.grid-grid.ensures.kept self.decisions.items decided self.columns.items self.sides.items c.self.invariant.state.known c.self.invariant.plan.lines after before packed)
+    (all_packed self.problem.now c.grid-grid.ensures.kept self.decisions.items decided self.columns.items self.sides.items c.self.invariant.0.state.known c.self.invariant.0.plan.lines after before packed)

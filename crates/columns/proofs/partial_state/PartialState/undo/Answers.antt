@@ -1,10 +1,12 @@
 -- The block is free again, and the lines that it broke are mended.
-use Rattle.std.proofs.Common.{◌≡◌, ◌++◌, ◌∷◌, [], None, List, if◌then◌else◌, length, take, drop, get_or, vec_capacity, ap, sym, subst, ◌∙◌}
+use Rattle.std.proofs.Common.{◌≡◌, ◌++◌, ◌∷◌, [], None, List, if◌then◌else◌, length, take, drop, get_or, set, vec_capacity, refl, ap, sym, subst, ◌∙◌}
 use Rattle.std.proofs.lemmas.List.{take_at}
 use Rattle.solid_model.specs.declared.decision.Decision.{Decision}
-use Rattle.columns.specs.KeptColumns.{IsKeptBy}
+use Rattle.solid_model.specs.Decisions.{AreDecisions}
+use Rattle.columns.specs.KeptColumns.{IsKeptBy, AreValues}
 use Rattle.columns.specs.Lines.{AreMarked}
 use Rattle.columns.specs.Spans.{is_on, known_there}
+use Rattle.columns.proofs.Deciding.{last_untaken, values_less}
 use Rattle.columns.proofs.KeptState.{kept_less, seen_as}
 use Rattle.columns.proofs.partial_state.PartialState.undo.Goals as goal
 
@@ -27,10 +29,15 @@ invariant_of-self c =
     c.pop-in-Some.new.self.items height self.broken.items (vec_capacity self.decisions) (vec_capacity self.heights) (vec_capacity self.broken) c.index.result.now
     (subst (λ (ds : List Decision). IsKeptBy p ds self.spans.items self.touched.items self.sides.items self.columns.items self.met.items (c.pop-in-Some.new.self.items ++ height ∷ []) self.broken.items (vec_capacity self.decisions) (vec_capacity self.heights) (vec_capacity self.broken)) c.in-Some.ensures.items
     (subst (λ hs. IsKeptBy p self.decisions.items self.spans.items self.touched.items self.sides.items self.columns.items self.met.items hs self.broken.items (vec_capacity self.decisions) (vec_capacity self.heights) (vec_capacity self.broken)) c.in-Some-pop.ensures.items
-    c.self.invariant))
+    c.self.invariant.0))
     long c.set_spans.ensures.within
     (λ n k. c.set_spans.ensures.known n k ∙ (λ t. if is_on (of_block t) n k then None else known_there (was t) n k))
     met_long (subst (AreMarked met) c.mend_lines.ensures.broken c.mend_lines.ensures.marked) in
-    seen_as p c.grid-grid.ensures.kept self.spans.items self.touched.items self.sides.items c.pop.new.self.items columns _ met _ c.pop-in-Some.new.self.items (take height self.broken.items) _
+    let taken : AreDecisions p.blocks.count (c.pop.new.self.items ++ last ∷ []) = subst (AreDecisions p.blocks.count) c.in-Some.ensures.items c.self.invariant.0.decided in
+    let table : AreValues p.blocks.count c.pop.new.self.items (set self.values.items last.block None) =
+    values_less p.blocks.count c.pop.new.self.items last self.values.items (taken c.pop.new.self.items [] last refl).0 (last_untaken p.blocks.count c.pop.new.self.items last taken)
+    (subst (λ (ds : List Decision). AreValues p.blocks.count ds self.values.items) c.in-Some.ensures.items c.self.invariant.1) in
+    (seen_as p c.grid-grid.ensures.kept self.spans.items self.touched.items self.sides.items c.pop.new.self.items columns _ met _ c.pop-in-Some.new.self.items (take height self.broken.items) _
     (vec_capacity self.decisions) _ (vec_capacity self.heights) _ (vec_capacity self.broken) _
-    all_columns all_met c.mend_lines.ensures.broken c.in-Some.ensures.capacity c.in-Some-pop.ensures.capacity c.mend_lines.ensures.room kept
+    all_columns all_met c.mend_lines.ensures.broken c.in-Some.ensures.capacity c.in-Some-pop.ensures.capacity c.mend_lines.ensures.room kept,
+      subst (λ n. AreValues p.blocks.count c.pop.new.self.items (set self.values.items n None)) (sym c.from-in-Some.ensures) table)

@@ -1,0 +1,5 @@
+pub mod Looking
+pub mod Behind
+pub mod Beside
+pub mod Forced
+pub mod Closing

@@ -1,0 +1,110 @@
+//! What the cells of a column beside a line force.
+
+ghost use Rattle.std.specs.Prelude.{◌≡◌, ◌↔◌, ◌<◌, ℤ, pos, None, IsTrue};
+ghost use Rattle.columns.specs.Known.{known_bits, LiesWithin};
+ghost use Rattle.propagate.specs.Looking.{CanDrawWith, CellExcludes, TellsLeast, lesser_decision};
+ghost use Rattle.solid_model.specs.Forcing.{with_value};
+
+use columns::{KnownColumn, can_draw};
+use solid_model::{Decision, Style};
+
+/// The column, where an undecided cell has a value.
+pub fn with_value(column: KnownColumn, depth: usize, value: bool) -> KnownColumn
+    requires depth { depth < 64 }
+    requires within { LiesWithin column.full column.may }
+    requires undecided { known_bits column.full column.may (pos depth) ≡ None }
+    ensures within { LiesWithin result.full result.may }
+    ensures known { (k : ℤ) → known_bits result.full result.may k
+        ≡ with_value depth value (known_bits column.full column.may) k }
+{
+    let cell: u64 = 1 << depth;
+    if value {
+        KnownColumn {
+            full: column.full | cell,
+            may: column.may,
+        }
+    } else {
+        KnownColumn {
+            full: column.full,
+            may: column.may & !cell,
+        }
+    }
+}
+
+/// Some pair of columns of which the first one has the value draws the style.
+fn can_draw_with(
+    style: Style,
+    column: KnownColumn,
+    beside: KnownColumn,
+    depth: usize,
+    value: bool,
+) -> bool
+    requires depth { depth < 64 }
+    requires within { LiesWithin column.full column.may }
+    requires beside { LiesWithin beside.full beside.may }
+    requires undecided { known_bits column.full column.may (pos depth) ≡ None }
+    ensures { IsTrue result ↔ CanDrawWith (known_bits column.full column.may)
+        (known_bits beside.full beside.may) style depth value }
+{
+    can_draw(style, with_value(column, depth, value), beside)
+}
+
+/// Nothing is known of a cell.
+pub fn is_undecided(column: KnownColumn, depth: usize) -> bool
+    requires { depth < 64 }
+    ensures { IsTrue result ↔ (known_bits column.full column.may (pos depth) ≡ None) }
+{
+    (column.may >> depth) & 1 == 1 && (column.full >> depth) & 1 != 1
+}
+
+/// Of two decisions the one on the lesser block. Of two on one block: full, if one of them is.
+pub fn lesser(one: Option<Decision>, other: Option<Decision>) -> Option<Decision>
+    ensures { result ≡ lesser_decision one other }
+{
+    match one {
+        None => other,
+        Some(first) => match other {
+            None => one,
+            Some(second) => {
+                if first.block == second.block {
+                    Some(Decision {
+                        block: first.block,
+                        full: first.full || second.full,
+                    })
+                } else if first.block < second.block {
+                    one
+                } else {
+                    other
+                }
+            }
+        },
+    }
+}
+
+/// The decision that a cell of a block, or of none, forces: the opposite of a value that it can't
+/// have, and full where it can have neither.
+pub fn forced_by_cell(
+    style: Style,
+    column: KnownColumn,
+    beside: KnownColumn,
+    depth: usize,
+    block: Option<u16>,
+) -> Option<Decision>
+    requires depth { depth < 64 }
+    requires within { LiesWithin column.full column.may }
+    requires beside { LiesWithin beside.full beside.may }
+    ensures { TellsLeast (CellExcludes (known_bits column.full column.may)
+        (known_bits beside.full beside.may) style depth block) result }
+{
+    let block = block?;
+    if !is_undecided(column, depth) {
+        return None;
+    }
+    if !can_draw_with(style, column, beside, depth, false) {
+        return Some(Decision { block, full: true });
+    }
+    if !can_draw_with(style, column, beside, depth, true) {
+        return Some(Decision { block, full: false });
+    }
+    None
+}
