@@ -33,14 +33,21 @@ struct Masks {
     want: Vec<u8>,
 }
 
-/// Whether what is full for certain may be full, column by column.
+/// Whether what is full for certain may be full.
+fn is_within(full: u64, may: u64) -> bool
+    ensures { result ≡ true → LiesWithin full may }
+{
+    full | may == may
+}
+
+/// The same of many columns.
 fn lie_within(full: &[u64], may: &[u64]) -> bool
     requires { length may.now ≡ length full.now }
     ensures { result ≡ true → (k : ℕ) → k < length full.now
         → LiesWithin (slice_index_or full.now k 0) (slice_index_or may.now k 0) }
 {
     for at in 0..full.len() {
-        if full[at] | may[at] != may[at] {
+        if !is_within(full[at], may[at]) {
             return false;
         }
     }
