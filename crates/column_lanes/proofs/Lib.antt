@@ -1,2 +1,4 @@
-pub mod Lanes
-pub mod LowestBits
+mod EightLanes
+mod LowestBits
+mod NearBits
+mod MetColumns

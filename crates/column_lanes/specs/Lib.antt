@@ -1,1 +1,3 @@
+pub mod Lanes
 pub mod Styles
+pub mod Meets

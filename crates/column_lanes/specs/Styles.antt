@@ -1,11 +1,10 @@
--- The styles that columns draw, as bytes.
-use Rattle.std.specs.Prelude.{◌≡◌, ◌==◌, ◌<◌, ℤ, Bool, ℕ, List, slice_index_or, if◌then◌else◌}
+-- The styles of columns, as bytes.
+use Rattle.std.specs.Prelude.{◌≡◌, ◌==◌, ℤ, Bool, ℕ, List, slice_index_or, if◌then◌else◌}
 use Rattle.std.specs.Int.Bits.{bit_and}
 use Rattle.solid_model.specs.declared.segment.Style.{Style}
 use Rattle.solid_model.specs.declared.segment.Style.TheVariants.{Blank, Dashed, Solid}
 use Rattle.solid_model.specs.Bits.{near}
 use Rattle.solid_model.specs.Columns.{ColumnsDraw}
-use lib.Lanes.{zip2}
 
 -- the byte of a style
 abbrev pub style_byte : Style → ℕ
@@ -27,10 +26,6 @@ lowest_bit n = bit_and n (near n)
 abbrev pub style_code : ℕ → ℕ → ℕ
 style_code after before = if after == before then 0 else (if lowest_bit after == lowest_bit before then 1 else 2)
 
--- of each two
-abbrev pub style_codes : List ℕ → List ℕ → List ℕ
-style_codes after before = zip2 style_code after before
-
--- the first so many bytes are those of the first so many columns
-abbrev pub AreCodes : List ℕ → List ℕ → List ℕ → ℕ → Type 0
-AreCodes after before bytes n = (k : ℕ) → k < n → slice_index_or bytes k 0 ≡ style_code (slice_index_or after k 0) (slice_index_or before k 0)
+-- of the two at a place
+abbrev pub code_at : List ℕ → List ℕ → ℕ → ℕ
+code_at after before k = style_code (slice_index_or after k 0) (slice_index_or before k 0)

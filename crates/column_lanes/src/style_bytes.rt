@@ -2,8 +2,10 @@
 
 ghost use Rattle.std.specs.Prelude.{◌≡◌, ◌<◌, ◌≤◌, ◌+◌, ◌*◌, ◌/◌, ℕ, length, slice_index_or};
 ghost use Rattle.solid_model.specs.Bits.{bits};
-ghost use Rattle.column_lanes.specs.Styles.{style_byte, style_code, style_codes, AreCodes, IsStyleByte};
+ghost use Rattle.column_lanes.specs.Lanes.{AreLanes, AreBytes};
+ghost use Rattle.column_lanes.specs.Styles.{style_byte, style_code, code_at, IsStyleByte};
 
+use crate::lanes::{LANES, near, put_lanes};
 use solid_model::Style;
 use std::simd::prelude::*;
 
@@ -17,9 +19,6 @@ pub fn style_byte(style: Style) -> u8
         Style::Solid => 2,
     }
 }
-
-/// How many pairs are looked at together.
-const LANES: usize = 8;
 
 /// The style of one pair, as its byte.
 fn code(after: u64, before: u64) -> u64
@@ -40,14 +39,13 @@ fn code(after: u64, before: u64) -> u64
 fn codes(after: u64x8, before: u64x8) -> u64x8
     requires after { length after ≡ 8 }
     requires before { length before ≡ 8 }
-    ensures { result ≡ style_codes after before }
+    ensures { AreLanes result (code_at after before) }
 {
-    let one = u64x8::splat(1);
-    let first_after = after & (after ^ (after - one));
-    let first_before = before & (before ^ (before - one));
+    let first_after = after & near(after);
+    let first_before = before & near(before);
     let unequal = first_after
         .simd_eq(first_before)
-        .select(one, u64x8::splat(2));
+        .select(u64x8::splat(1), u64x8::splat(2));
     after.simd_eq(before).select(u64x8::splat(0), unequal)
 }
 
@@ -56,21 +54,23 @@ fn put_codes(after: &[u64], before: &[u64], out: &mut [u8], at: usize)
     requires there { at + 8 ≤ length after.now }
     requires before { length before.now ≡ length after.now }
     requires out { length out.old ≡ length after.now }
-    requires so_far { AreCodes after.now before.now out.old at }
-    ensures { AreCodes after.now before.now out.new (at + 8) }
+    requires so_far { AreBytes (code_at after.now before.now) out.old at }
+    ensures length { length out.new ≡ length out.old }
+    ensures put { AreBytes (code_at after.now before.now) out.new (at + 8) }
 {
     let codes = codes(
         u64x8::from_slice(&after[at..]),
         u64x8::from_slice(&before[at..]),
     );
-    codes.cast::<u8>().copy_to_slice(&mut out[at..]);
+    put_lanes(codes, out, at);
 }
 
 /// Puts the bytes of all whole eights of pairs.
 fn put_eights(after: &[u64], before: &[u64], out: &mut [u8])
     requires before { length before.now ≡ length after.now }
     requires out { length out.old ≡ length after.now }
-    ensures { AreCodes after.now before.now out.new (length after.now / 8 * 8) }
+    ensures length { length out.new ≡ length out.old }
+    ensures put { AreBytes (code_at after.now before.now) out.new (length after.now / 8 * 8) }
 {
     for eight in 0..after.len() / LANES {
         put_codes(after, before, out, eight * LANES);
@@ -82,8 +82,8 @@ fn put_rest(after: &[u64], before: &[u64], out: &mut [u8], from: usize)
     requires from { from ≤ length after.now }
     requires before { length before.now ≡ length after.now }
     requires out { length out.old ≡ length after.now }
-    requires so_far { AreCodes after.now before.now out.old from }
-    ensures { AreCodes after.now before.now out.new (length after.now) }
+    requires so_far { AreBytes (code_at after.now before.now) out.old from }
+    ensures { AreBytes (code_at after.now before.now) out.new (length after.now) }
 {
     for at in from..after.len() {
         out[at] = code(after[at], before[at]) as u8;

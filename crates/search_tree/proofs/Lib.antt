@@ -4,4 +4,6 @@ pub mod StatedOrder
 pub mod SearchEnds
 pub mod NextPrefixes
 pub mod ToldTrees
+pub mod Implied
+pub mod Marked
 pub mod ProblemTrees

@@ -1,5 +1,6 @@
 //! A way down the tree of a problem's prefixes.
 
+use crate::descent::{begin, step_down, step_up};
 use crate::meeting::meets_all;
 use crate::path::Path;
 use line_demands::Partial;
@@ -7,19 +8,24 @@ use solid_model::{Memory, Prefix, Problem};
 use std::alloc::Global;
 use std::marker::Model;
 
-/// A way down the tree of a problem's prefixes, which decides its blocks one after another. All
-/// memory is taken at the beginning. Contracts see it as the problem and the values of its first
-/// blocks: of what is said of all blocks, the first so many; what is said of the others is left over.
+/// A way down the tree of a problem's prefixes, which decides its blocks one after another, and with
+/// each live prefix what follows from it. All memory is taken at the beginning. Contracts see it as the
+/// problem and the values of its first blocks: of what is said of all blocks, the first so many; what is
+/// said of the others is left over.
 #[derive(Debug, Drop)]
 pub struct BlockPath<'a> {
+    /// What the last live prefix on the way says, and what follows from it.
     partial: Partial<'a>,
+    /// For each live prefix on the way, from the empty one on, how many decisions there were before its
+    /// last value.
+    marks: Vec<u16>,
     blocks: u16,
     said: Prefix,
     depth: u16,
 }
 
 impl<'a> Model for BlockPath<'a> {
-    ghost use Rattle.std.specs.Prelude.{◌≤◌, length, take};
+    ghost use Rattle.std.specs.Prelude.{◌≤◌, length, take, vec_capacity};
     ghost use Rattle.search_tree.specs.BlockPaths.{PathParts, IsPath};
 
     ghost Value = { PathParts };
@@ -27,7 +33,8 @@ impl<'a> Model for BlockPath<'a> {
     ghost view = { λ s. record { problem = s.partial.problem; values = take s.depth s.said } };
 
     ghost invariant = { λ s. (s.depth ≤ length s.said)
-        × IsPath s.partial s.blocks (take s.depth s.said) (length s.said) };
+        × IsPath s.partial s.blocks (take s.depth s.said) s.marks.items (length s.said)
+        (vec_capacity s.marks) };
 }
 
 impl<'a> BlockPath<'a> {
@@ -40,9 +47,14 @@ impl<'a> BlockPath<'a> {
         // A look at the problem tells that its blocks are those of its grid.
         let _grid = problem.grid();
         let blocks = problem.blocks().count();
-        let said = Vec::from_elem(alloc, false, usize::from(blocks))?;
+        let count = usize::from(blocks);
+        let said = Vec::from_elem(alloc, false, count)?;
+        let mut marks = Vec::with_capacity(alloc, count + 1)?;
+        let mut partial = Partial::new(alloc, problem)?;
+        begin(&mut partial, &mut marks);
         Ok(BlockPath {
-            partial: Partial::new(alloc, problem)?,
+            partial,
+            marks,
             blocks,
             said: Prefix::from_bools(alloc, said.as_slice())?,
             depth: 0,
@@ -60,6 +72,7 @@ impl<'a> BlockPath<'a> {
 
 impl<'a> Path for BlockPath<'a> {
     ghost use Rattle.solid_model.specs.Forcing.{is_live};
+
     ghost live = { λ s. is_live s.problem };
 
     ghost blocks = { λ s. s.problem.blocks.count };
@@ -79,12 +92,21 @@ impl<'a> Path for BlockPath<'a> {
     }
 
     fn is_live(&mut self) -> bool {
+        if self.marks.len() <= usize::from(self.depth) {
+            return false;
+        }
         let whole = self.depth == self.blocks;
         meets_all(&mut self.partial, whole)
     }
 
     fn go_down(&mut self, full: bool) {
-        self.partial.decide(self.depth, full);
+        step_down(
+            &mut self.partial,
+            &mut self.marks,
+            &self.said,
+            self.depth,
+            full,
+        );
         self.said.set(usize::from(self.depth), full);
         self.depth += 1;
     }
@@ -93,8 +115,8 @@ impl<'a> Path for BlockPath<'a> {
         if self.depth == 0 {
             return None;
         }
+        step_up(&mut self.partial, &mut self.marks, &self.said, self.depth);
         self.depth -= 1;
-        self.partial.undo();
         Some(self.said.get(usize::from(self.depth)))
     }
 }

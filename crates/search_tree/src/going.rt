@@ -2,6 +2,7 @@
 
 ghost use Rattle.std.specs.Prelude.{◌≡◌, ◌≤◌, length, take};
 ghost use Rattle.solid_model.specs.Forcing.{is_live};
+
 use crate::block_path::BlockPath;
 use crate::path::Path;
 use solid_model::Prefix;

@@ -3,6 +3,7 @@
 
 mod alone;
 mod block_path;
+mod descent;
 mod expansion;
 mod going;
 mod meeting;

@@ -15,7 +15,7 @@ const STYLES: &str = "\
 1 1 0 3 5 8 0 6 12 7; 1 3 4 2 13 8 0 6 4 8 -> 0122100012";
 
 /// Columns, told by numbers.
-fn columns(alloc: Global, text: &str) -> Result<Vec<u64>, Fail> {
+pub fn columns(alloc: Global, text: &str) -> Result<Vec<u64>, Fail> {
     let mut columns = Vec::new(alloc);
     for word in text.split(' ') {
         if !word.is_empty() {
@@ -59,7 +59,7 @@ fn pairs_of_columns_have_their_styles(rt: HostRuntime) -> Result<(), Fail> {
 
 /// A pair of columns, of which each kind comes: equal ones, one with a farther cell more, and such
 /// as begin at different depths, or one of them nowhere.
-fn pair(number: u32) -> (u64, u64) {
+pub fn pair(number: u32) -> (u64, u64) {
     let near = 1_u64 << (number % 64);
     match number % 5 {
         0 => (near, near),

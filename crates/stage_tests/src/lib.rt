@@ -6,6 +6,8 @@ mod arguments;
 #[cfg(test)]
 mod column_styles;
 #[cfg(test)]
+mod columns_met;
+#[cfg(test)]
 mod drawn_columns;
 #[cfg(test)]
 mod face_lists;

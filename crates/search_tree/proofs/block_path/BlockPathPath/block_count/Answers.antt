@@ -7,4 +7,4 @@ use Rattle.search_tree.proofs.block_path.BlockPathPath.block_count.Goals as goal
 
 pub returns-clause-tree : goal.returns-clause-tree
 returns-clause-tree c =
-    subst (λ p. IsTree (is_live p) p.blocks.count) (ap (λ v. v.problem) c.self.view_is) (problem_tree c.self.inside.partial.problem c.self.invariant.1.sized)
+    subst (λ p. IsTree (is_live p) p.blocks.count) (ap (λ v. v.problem) c.self.view_is) (problem_tree c.self.inside.partial.problem c.self.invariant.1.parts)
