@@ -3,8 +3,8 @@ use Rattle.std.proofs.Common.{div-le_self, ◌≡◌, ◌≢◌, ◌↔◌, ◌=
 use Rattle.std.specs.Int.Bits.{and_lt}
 use Rattle.std.proofs.lemmas.Bool.{and_parts, and_from, eqb-true, eqb-false}
 use Rattle.std.proofs.lemmas.Nat.{or_lt}
-use Rattle.columns.specs.Known.{known_bits, LiesWithin}
-use Rattle.columns.proofs.KnownBits.{blank_from, blank_to, solid_from, solid_to, dashed_from, dashed_to}
+use Rattle.solid_model.specs.Known.{known_bits, LiesWithin}
+use Rattle.solid_model.proofs.KnownBits.{blank_from, blank_to, solid_from, solid_to, dashed_from, dashed_to}
 use Rattle.solid_model.specs.declared.segment.Style.TheVariants.{Blank, Dashed, Solid}
 use Rattle.solid_model.specs.Bits.{is_set, near}
 use Rattle.solid_model.specs.Demands.{CanDraw}

@@ -5,7 +5,7 @@ use Rattle.std.specs.Int.Bits.{and_lt}
 use Rattle.std.proofs.lemmas.Bool.{false≢true, both_ways, and_parts, and_from, cases_lt, not_from_false, not-true, false_from_ne_true}
 use Rattle.std.proofs.lemmas.Nat.{xor_lt}
 use Rattle.std.proofs.lemmas.Nat.Bits.{bit_at-lt, bit_at_xor, bit_at_above}
-use Rattle.columns.proofs.KnownBits.{behind, some_bit}
+use Rattle.solid_model.proofs.KnownBits.{behind, some_bit}
 use Rattle.solid_model.specs.Bits.{is_set, near}
 use Rattle.solid_model.proofs.NearBits.{near_to, near_from}
 use Rattle.solid_model.proofs.WordBits.{set_both, not_zero, zeros, zeros_of_none, lowest_set, lowest_at_most}

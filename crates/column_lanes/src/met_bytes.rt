@@ -1,7 +1,7 @@
 //! Which pairs of columns can still draw a wanted style.
 
 ghost use Rattle.std.specs.Prelude.{◌≡◌, ◌<◌, ◌≤◌, ◌+◌, ◌*◌, ◌/◌, ℕ, length, slice_index_or};
-ghost use Rattle.columns.specs.Known.{known_bits, LiesWithin};
+ghost use Rattle.solid_model.specs.Known.{known_bits, LiesWithin};
 ghost use Rattle.column_lanes.specs.Lanes.{AreLanes, AreBytes};
 ghost use Rattle.column_lanes.specs.Meets.{met_code, met_at, IsMetByte};
 

@@ -7,7 +7,7 @@ use Rattle.std.proofs.lemmas.Nat.Bits.{bit_at-zero}
 use Rattle.std.proofs.Math.ListN.{get_or-eq_default}
 use Rattle.std.proofs.Math.Seq.{get_or-append_seam}
 use Rattle.columns.specs.declared.known.KnownColumn.{KnownColumn}
-use Rattle.columns.specs.Known.{known_of, LiesWithin}
+use Rattle.solid_model.specs.Known.{known_of, LiesWithin}
 use Rattle.columns.specs.declared.gather.ColumnPlace.{ColumnPlace}
 use Rattle.columns.specs.declared.spans.Span.{Span}
 use Rattle.columns.specs.Touching.{is_of, shown_cell}

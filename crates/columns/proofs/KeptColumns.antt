@@ -5,7 +5,7 @@ use Rattle.std.proofs.lemmas.Bool.{cases_Bool, cases_lt, eqb-true, and_left, and
 use Rattle.std.proofs.lemmas.List.Folds.{list_any_none}
 use Rattle.std.proofs.lemmas.Option.{none-some}
 use Rattle.columns.specs.declared.known.KnownColumn.{KnownColumn}
-use Rattle.columns.specs.Known.{known_bits}
+use Rattle.solid_model.specs.Known.{known_bits}
 use Rattle.columns.specs.declared.lines.Beside.{Beside}
 use Rattle.solid_model.specs.declared.decision.Decision.{Decision}
 use Rattle.columns.specs.declared.spans.Span.{Span}

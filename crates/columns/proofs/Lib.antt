@@ -1,5 +1,3 @@
-pub mod KnownColumns
-pub mod KnownBits
 pub mod GridColumns
 pub mod Stretched
 pub mod GridSegments

@@ -9,7 +9,7 @@ use Rattle.columns.specs.declared.lines.Beside.{Beside}
 use Rattle.solid_model.specs.Decisions.{decided_by, AreOnAll}
 use Rattle.columns.specs.Gathered.{no_side}
 use Rattle.columns.specs.KeptColumns.{AreKnownColumns, AreSides, IsColumnOf}
-use Rattle.columns.specs.Known.{known_of, known_bits}
+use Rattle.solid_model.specs.Known.{known_of, known_bits}
 use Rattle.columns.specs.Packed.{ArePackedTo, ArePacked}
 use Rattle.columns.specs.Spans.{column_there}
 use Rattle.columns.proofs.KeptColumns.{column_known}

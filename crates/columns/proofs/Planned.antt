@@ -10,7 +10,7 @@ use Rattle.std.proofs.lemmas.List.{length_push, get_or_append_left, take_all}
 use Rattle.std.proofs.lemmas.Nat.{div-mul-add}
 use Rattle.std.proofs.Math.Seq.{get_or-append_seam}
 use Rattle.columns.specs.declared.known.KnownColumn.{KnownColumn}
-use Rattle.columns.specs.Known.{LiesWithin}
+use Rattle.solid_model.specs.Known.{LiesWithin}
 use Rattle.columns.specs.declared.gather.ColumnPlace.{ColumnPlace}
 use Rattle.columns.specs.declared.lines.Beside.{Beside}
 use Rattle.solid_model.specs.declared.decision.Decision.{Decision}

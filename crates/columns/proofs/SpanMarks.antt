@@ -6,7 +6,7 @@ use Rattle.std.proofs.lemmas.List.{length-set, get_or-set_same, get_or-set_other
 use Rattle.std.proofs.lemmas.Nat.Bits.{bit_at-zero}
 use Rattle.std.proofs.lemmas.List.Folds.{list_any_more}
 use Rattle.columns.specs.declared.known.KnownColumn.{KnownColumn}
-use Rattle.columns.specs.Known.{known_of, known_bits, LiesWithin}
+use Rattle.solid_model.specs.Known.{known_of, known_bits, LiesWithin}
 use Rattle.columns.specs.declared.spans.Span.{Span}
 use Rattle.columns.specs.Spans.{is_in_span, is_on, no_column, column_there, known_there, AreWithin}
 use Rattle.solid_model.specs.Bits.{is_set}

@@ -1,6 +1,5 @@
 pub mod GridColumns
 pub mod GridPanels
-pub mod Known
 pub mod Broken
 pub mod DrawnDemands
 pub mod SmallForcing

@@ -1,7 +1,7 @@
 -- Lines that can't be met, by number.
 use Rattle.std.specs.Prelude.{◌≡◌, ◌↔◌, ◌==◌, ◌<◌, ◌≤◌, ◌+◌, Bool, false, ℕ, Option, Some, None, nat_lt, List, length, take, All, slice_index_or, if◌then◌else◌}
 use Rattle.std.specs.List.{sum_by}
-use Rattle.columns.specs.Known.{known_bits}
+use Rattle.solid_model.specs.Known.{known_bits}
 use Rattle.columns.specs.declared.known.KnownColumn.{KnownColumn}
 use Rattle.columns.specs.declared.lines.Beside.{Beside}
 use Rattle.columns.specs.Spans.{column_there}

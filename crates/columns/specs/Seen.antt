@@ -1,7 +1,7 @@
 -- What is seen of a line, where so much is known of the blocks.
 use Rattle.std.specs.Prelude.{◌≡◌, Bool, ℕ, ℤ, Option, IsTrue}
 use Rattle.columns.specs.declared.seen.SeenLine.{SeenLine}
-use Rattle.columns.specs.Known.{known_bits, LiesWithin}
+use Rattle.solid_model.specs.Known.{known_bits, LiesWithin}
 use Rattle.solid_model.specs.Blocks.{ProblemParts}
 use Rattle.solid_model.specs.Demands.{has_line, line_style, known_cell, known_after, known_before}
 

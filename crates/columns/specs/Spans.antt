@@ -1,7 +1,7 @@
 -- Cells of blocks by columns, and what is known of numbered columns.
 use Rattle.std.specs.Prelude.{◌≡◌, ◌<◌, Bool, ℕ, pos, ◌==◌, ◌&&◌, ◌||◌, All, List, slice_index_or, Option}
 use Rattle.std.specs.List.{list_any}
-use Rattle.columns.specs.Known.{known_bits, LiesWithin}
+use Rattle.solid_model.specs.Known.{known_bits, LiesWithin}
 use Rattle.columns.specs.declared.known.KnownColumn.{KnownColumn}
 use Rattle.columns.specs.declared.spans.Span.{Span}
 use Rattle.solid_model.specs.Bits.{is_set}

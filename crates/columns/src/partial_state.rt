@@ -69,7 +69,7 @@ impl<'p> PartialState<'p> {
     ghost use Rattle.columns.specs.Packed.{ArePacked};
     ghost use Rattle.columns.specs.Touching.{lines_touching, touching, view_width, view_height, shown_cell};
     ghost use Rattle.columns.specs.Seen.{IsSeen};
-    ghost use Rattle.columns.specs.Known.{known_bits, LiesWithin};
+    ghost use Rattle.solid_model.specs.Known.{known_bits, LiesWithin};
     ghost use Rattle.solid_model.specs.GridBox.{grid_sizes};
     ghost use Rattle.solid_model.specs.Demands.{has_line, known_cell, line_style, lines_of, CanBeMet, AllMet, IsFirstBroken};
 

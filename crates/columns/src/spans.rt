@@ -1,7 +1,7 @@
 //! The cells of a block, column by column.
 
 ghost use Rattle.std.specs.Prelude.{◌≡◌, ◌<◌, ℕ, pos, length, All, if◌then◌else◌};
-ghost use Rattle.columns.specs.Known.{known_bits, LiesWithin};
+ghost use Rattle.solid_model.specs.Known.{known_bits, LiesWithin};
 ghost use Rattle.columns.specs.Spans.{is_on, known_there, AreWithin};
 ghost use Rattle.solid_model.specs.Bits.{is_set};
 

@@ -38,7 +38,7 @@ impl<'p> Partial<'p> {
     ghost use Rattle.solid_model.specs.Decisions.{decided_by, AreDecisions, AreOnAll};
     ghost use Rattle.line_demands.specs.WholeChoices.{TellsMatching};
     ghost use Rattle.columns.specs.Touching.{lines_touching, touching, view_width, view_height, shown_cell};
-    ghost use Rattle.columns.specs.Known.{known_bits, LiesWithin};
+    ghost use Rattle.solid_model.specs.Known.{known_bits, LiesWithin};
     ghost use Rattle.columns.specs.Seen.{IsSeen};
     ghost use Rattle.solid_model.specs.GridBox.{grid_sizes};
     ghost use Rattle.solid_model.specs.Demands.{has_line, known_cell, lines_of, CanBeMet, AllMet, IsFirstBroken};

@@ -4,8 +4,8 @@ use Rattle.std.specs.Int.{bit_at, bit_not}
 use Rattle.std.specs.Int.Bits.{and_lt}
 use Rattle.std.proofs.lemmas.Bool.{false≢true, cases_Bool, cases_lt, eqb-true, eqb-false, both_ways}
 use Rattle.std.proofs.lemmas.Nat.Bits.{bit_at-lt, same_from_bits}
-use Rattle.columns.specs.Known.{known_bits, LiesWithin}
-use Rattle.columns.proofs.KnownColumns.{fits_to}
+use Rattle.solid_model.specs.Known.{known_bits, LiesWithin}
+use Rattle.solid_model.proofs.KnownColumns.{fits_to}
 use Rattle.propagate.specs.Looking.{CanDrawWith, IsFree}
 use Rattle.propagate.proofs.ValueBits.{bit, undecided_bits, undecided_within, clear_there, clear_kept}
 use Rattle.solid_model.specs.declared.segment.Style.TheVariants.{Solid}

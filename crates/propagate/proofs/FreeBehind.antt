@@ -3,9 +3,9 @@ use Rattle.std.proofs.Common.{◌≡◌, ◌≢◌, ◌⊎◌, inl, inr, ◌==�
 use Rattle.std.proofs.lemmas.Bool.{cases_Bool, eqb-true, eqb-false, eq-eqb, both_ways, and_parts, and_from, or_cases, or_left, or_right, not-true, not_from_false}
 use Rattle.std.proofs.Math.Nat.{div-le_self}
 use Rattle.std.proofs.lemmas.Option.{none-some, same_Some}
-use Rattle.columns.specs.Known.{known_of, known_bits, LiesWithin}
-use Rattle.columns.proofs.KnownBits.{behind, some_bit, first_before}
-use Rattle.columns.proofs.KnownColumns.{Fits, fits_from}
+use Rattle.solid_model.specs.Known.{known_of, known_bits, LiesWithin}
+use Rattle.solid_model.proofs.KnownBits.{behind, some_bit, first_before}
+use Rattle.solid_model.proofs.KnownColumns.{Fits, fits_from}
 use Rattle.columns.proofs.WithValue.{agrees_from}
 use Rattle.propagate.specs.Looking.{CanDrawWith, IsFree}
 use Rattle.propagate.specs.Behind.{Allows, IsFreeBegin, CanPart, PartsAt}
@@ -171,9 +171,10 @@ part_apart fa ma fb mb differ d rest a_within b_within differ_is rest_is fits so
     let (f, set) = some_bit rest fits some in
     let (far, (e, below, near)) = (rest_is f).0 set in
     let at_e = sym (differ_is (d + 1 + e)) ∙ sym (behind differ d e) ∙ near in
-    let at_f = sym (differ_is (d + 1 + f)) ∙ sym (behind differ d f) ∙ far in
-    (part_at_two fa ma fb mb a_within b_within d (d + 1 + e) (d + 1 + f) (omega arith) (omega arith) at_e at_f,
-      part_at_two fb mb fa ma b_within a_within d (d + 1 + e) (d + 1 + f) (omega arith) (omega arith) (back (d + 1 + e) at_e) (back (d + 1 + f) at_f))
+    let at_f = sym (differ_is (d + 1 + f)) ∙ sym (behind differ d f) ∙ far in (
+      part_at_two fa ma fb mb a_within b_within d (d + 1 + e) (d + 1 + f) (omega arith) (omega arith) at_e at_f,
+      part_at_two fb mb fa ma b_within a_within d (d + 1 + e) (d + 1 + f) (omega arith) (omega arith) (back (d + 1 + e) at_e) (back (d + 1 + f) at_f),
+    )
   where
     either_way : (x y : Bool) → (x || y) ≡ true → (y || x) ≡ true
     either_way true true e = refl

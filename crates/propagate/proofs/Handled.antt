@@ -72,9 +72,17 @@ module _ (p : ProblemParts) (blocks : IsBlocksOf p.grid p.blocks) (l : LineId) w
 
     -- so it excludes nothing more
     calm_same : IsCalm p known l → IsCalm p (known_with known d) l
-    calm_same calm block value (undecided, (of_after, k, at, out)) = calm block value (fewer block undecided, (of_after, k, at, λ with. out
-        (subst (λ a. MetWith a (known_before p.grid (known_cell p.blocks (known_with known d)) l) of_after k value) (sym after_same)
-        (subst (λ b. MetWith (known_after p.grid (known_cell p.blocks known) l) b of_after k value) (sym before_same) with))))
+    calm_same calm block value (undecided, (of_after, k, at, out)) = calm block value (
+      fewer block undecided,
+      (
+        of_after,
+        k,
+        at,
+        λ with. out
+            (subst (λ a. MetWith a (known_before p.grid (known_cell p.blocks (known_with known d)) l) of_after k value) (sym after_same)
+            (subst (λ b. MetWith (known_after p.grid (known_cell p.blocks known) l) b of_after k value) (sym before_same) with)),
+      ),
+    )
       where
         fewer : (block : ℕ) → known_with known d block ≡ None → known block ≡ None
         fewer block = on (d.block == block)

@@ -4,11 +4,11 @@ use Rattle.std.proofs.lemmas.Bool.{cases_lt}
 use Rattle.std.proofs.lemmas.Int.{ints}
 use Rattle.std.proofs.lemmas.Option.{none-some}
 use Rattle.columns.specs.declared.seen.SeenLine.{SeenLine}
-use Rattle.columns.specs.Known.{known_bits}
+use Rattle.solid_model.specs.Known.{known_bits}
 use Rattle.columns.specs.Seen.{IsSeen}
 use Rattle.columns.proofs.MetLines.{none_beyond}
 use Rattle.columns.proofs.KeptColumns.{draw_from}
-use Rattle.columns.proofs.KnownColumns.{same_first_back}
+use Rattle.solid_model.proofs.KnownColumns.{same_first_back}
 use Rattle.propagate.specs.Beside.{column_of, ExcludesBeside}
 use Rattle.propagate.specs.Forced.{ExcludesOpen, IsCalm}
 use Rattle.propagate.specs.Looking.{CanDrawWith, IsFree, TellsLeast, lesser_decision}

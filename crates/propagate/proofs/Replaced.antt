@@ -3,8 +3,8 @@ use Rattle.std.proofs.Common.{◌≡◌, ◌≢◌, ◌==◌, inl, inr, Bool, tr
 use Rattle.std.proofs.lemmas.Bool.{cases_Bool, cases_lt, eqb-true, eqb-false, eq-eqb, ne_eqb, both_ways, and_parts, and_from, not-true, not_from_false}
 use Rattle.std.proofs.lemmas.Int.{ints}
 use Rattle.std.proofs.lemmas.Option.{none-some, same_Some}
-use Rattle.columns.specs.Known.{known_of, known_bits}
-use Rattle.columns.proofs.KnownColumns.{same_first_down_to}
+use Rattle.solid_model.specs.Known.{known_of, known_bits}
+use Rattle.solid_model.proofs.KnownColumns.{same_first_down_to}
 use Rattle.propagate.specs.Behind.{Allows}
 use Rattle.propagate.specs.Looking.{CanDrawWith, IsFree}
 use Rattle.solid_model.specs.declared.segment.Style.TheVariants.{Blank, Dashed}

@@ -5,7 +5,7 @@ use Rattle.std.specs.Int.Bits.{and_lt}
 use Rattle.std.proofs.lemmas.Bool.{both_ways, cases_Bool, cases_lt, eqb-true, eqb-false, eq-eqb}
 use Rattle.std.proofs.lemmas.Nat.Bits.{bit_at_set_same, bit_at_set_other, bit_at_clear_same, bit_at_clear_other, bit_at_above}
 use Rattle.std.proofs.lemmas.Option.{none-some, same_Some}
-use Rattle.columns.specs.Known.{known_of, known_bits, LiesWithin}
+use Rattle.solid_model.specs.Known.{known_of, known_bits, LiesWithin}
 use Rattle.solid_model.specs.declared.segment.Style.{Style}
 use Rattle.solid_model.specs.Bits.{is_set}
 use Rattle.solid_model.specs.Demands.{AgreesWith, CanDraw}

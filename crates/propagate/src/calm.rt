@@ -1,7 +1,7 @@
 //! Whether two columns leave each other free, told at a few looks.
 
 ghost use Rattle.std.specs.Prelude.{◌≡◌, ◌↔◌, ◌<◌, ℕ, true, not, ◌&&◌, IsTrue};
-ghost use Rattle.columns.specs.Known.{known_bits, LiesWithin};
+ghost use Rattle.solid_model.specs.Known.{known_bits, LiesWithin};
 ghost use Rattle.propagate.specs.Behind.{IsFreeBegin, CanPart};
 ghost use Rattle.propagate.specs.Looking.{IsFree, AreFree};
 ghost use Rattle.solid_model.specs.Bits.{is_set};

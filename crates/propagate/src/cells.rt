@@ -1,7 +1,7 @@
 //! What the cells of a column beside a line force.
 
 ghost use Rattle.std.specs.Prelude.{◌≡◌, ◌↔◌, ◌<◌, ℤ, pos, None, IsTrue};
-ghost use Rattle.columns.specs.Known.{known_bits, LiesWithin};
+ghost use Rattle.solid_model.specs.Known.{known_bits, LiesWithin};
 ghost use Rattle.propagate.specs.Looking.{CanDrawWith, CellExcludes, TellsLeast, lesser_decision};
 ghost use Rattle.solid_model.specs.Forcing.{with_value};
 

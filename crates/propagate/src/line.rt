@@ -1,7 +1,7 @@
 //! What a line forces.
 
 ghost use Rattle.std.specs.Prelude.{◌≡◌, IsTrue};
-ghost use Rattle.columns.specs.Known.{LiesWithin};
+ghost use Rattle.solid_model.specs.Known.{LiesWithin};
 ghost use Rattle.columns.specs.Seen.{IsSeen};
 ghost use Rattle.propagate.specs.Forced.{ExcludesOpen};
 ghost use Rattle.propagate.specs.Looking.{TellsLeast};

@@ -19,7 +19,9 @@ pub enum Forcing {
     /// Every line can be met, and none excludes a value.
     Stable,
     /// The line can't be met.
-    Conflict { line: LineId },
+    Conflict {
+        line: LineId,
+    },
 }
 
 /// Takes one decision that the lines force. Where a line can't be met, it names the least such line.

@@ -1,7 +1,7 @@
 //! Whether lines can be met, beside the same looked for cell by cell.
 
 ghost use Rattle.std.specs.Prelude.{IsTrue};
-ghost use Rattle.columns.specs.Known.{LiesWithin};
+ghost use Rattle.solid_model.specs.Known.{LiesWithin};
 ghost use Rattle.solid_model.specs.Demands.{has_line};
 
 use crate::demands::problem_in;

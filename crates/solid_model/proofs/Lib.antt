@@ -57,6 +57,8 @@ pub mod BitChanges
 pub mod WordBits
 pub mod NearBits
 pub mod FirstBits
+pub mod KnownColumns
+pub mod KnownBits
 pub mod ComparedChoices
 pub mod WithoutRepeats
 pub mod Volumes

@@ -5,6 +5,7 @@ pub mod Edges
 pub mod Frames
 pub mod Segments
 pub mod Columns
+pub mod Known
 pub mod Draws
 pub mod Moved
 pub mod Line

@@ -1,7 +1,7 @@
 //! Which pairs of columns can still draw a wanted style, told together.
 
 ghost use Rattle.std.specs.Prelude.{◌≡◌, ◌<◌, ℕ, true, length, slice_index_or};
-ghost use Rattle.columns.specs.Known.{LiesWithin};
+ghost use Rattle.solid_model.specs.Known.{LiesWithin};
 
 use crate::column_styles::{columns, pair};
 use column_lanes::{still_meets, style_byte};

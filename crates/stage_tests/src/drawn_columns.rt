@@ -4,7 +4,7 @@ ghost use Rattle.std.specs.Prelude.{◌≤◌};
 ghost use Rattle.solid_model.specs.declared.cell.Axis.{Axis};
 ghost use Rattle.solid_model.specs.Limits.{most_grid_coordinates};
 ghost use Rattle.solid_model.specs.PerAxis.{numbers_of};
-ghost use Rattle.columns.specs.Known.{LiesWithin};
+ghost use Rattle.solid_model.specs.Known.{LiesWithin};
 
 use crate::grids::grid_in;
 use columns::{

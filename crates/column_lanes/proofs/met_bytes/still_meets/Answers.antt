@@ -1,6 +1,6 @@
 -- Each byte tells whether its columns can draw their style.
 use Rattle.std.proofs.Common.{get_or, sym, subst}
-use Rattle.columns.specs.Known.{known_bits}
+use Rattle.solid_model.specs.Known.{known_bits}
 use Rattle.column_lanes.specs.Meets.{IsMetByte}
 use Rattle.column_lanes.proofs.MetColumns.{code_is_met}
 use Rattle.column_lanes.proofs.met_bytes.still_meets.Goals as goal

@@ -1,7 +1,7 @@
 -- No depth is left at which one must be full and the other one can't be.
 use Rattle.std.proofs.Common.{bit_or}
 use Rattle.std.proofs.lemmas.Bool.{eqb-true, eq-eqb}
-use Rattle.columns.proofs.KnownBits.{blank_from, blank_to}
+use Rattle.solid_model.proofs.KnownBits.{blank_from, blank_to}
 use Rattle.columns.proofs.known.can_be_equal.Goals as goal
 
 pub returns : goal.returns

@@ -3,7 +3,7 @@ use Rattle.std.proofs.Common.{◌<◌, ◌^◌, bit_or, w64, rules}
 use Rattle.std.specs.Int.{trailing_zeros}
 use Rattle.std.proofs.lemmas.Bool.{leb-true, le-leb, not-true, eqb-false}
 use Rattle.std.proofs.lemmas.Nat.{or_lt}
-use Rattle.columns.proofs.KnownBits.{solid_from, solid_to}
+use Rattle.solid_model.proofs.KnownBits.{solid_from, solid_to}
 use Rattle.columns.proofs.known.can_begin_apart.Goals as goal
 
 pub returns-then-differ-ne0 : goal.returns-then-differ-ne0

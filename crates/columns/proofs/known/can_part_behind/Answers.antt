@@ -6,7 +6,7 @@ use Rattle.std.specs.Int.Bits.{and_lt}
 use Rattle.std.proofs.lemmas.Bool.{false≢true, leb-true, le-leb, not-true, eqb-false, not_from_false, ne_eqb}
 use Rattle.std.proofs.lemmas.Nat.{or_lt}
 use Rattle.std.proofs.Math.Nat.{div-le_self}
-use Rattle.columns.proofs.KnownBits.{dashed_from, dashed_to}
+use Rattle.solid_model.proofs.KnownBits.{dashed_from, dashed_to}
 use Rattle.solid_model.proofs.WordBits.{set_both}
 use Rattle.columns.proofs.known.can_part_behind.Goals as goal
 

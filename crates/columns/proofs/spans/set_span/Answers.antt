@@ -1,6 +1,6 @@
 -- Bit by bit.
 use Rattle.std.proofs.Common.{if◌then◌else◌, pos, Bool, Option, Some, ap, sym, ◌∙◌, rules}
-use Rattle.columns.specs.Known.{known_bits}
+use Rattle.solid_model.specs.Known.{known_bits}
 use Rattle.columns.proofs.SpanMarks.{within_full, known_full, within_empty, known_empty, within_free, known_free}
 use Rattle.columns.proofs.spans.set_span.Goals as goal
 use Rattle.solid_model.specs.Bits.{is_set}

@@ -1,6 +1,6 @@
 -- Style by style.
 use Rattle.std.proofs.Common.{sym, subst}
-use Rattle.columns.specs.Known.{known_bits}
+use Rattle.solid_model.specs.Known.{known_bits}
 use Rattle.propagate.specs.Looking.{AreFree}
 use Rattle.propagate.proofs.calm.are_free.Goals as goal
 use Rattle.solid_model.specs.declared.segment.Style.{Style}

@@ -1,7 +1,7 @@
 -- Where a cell of the one is undecided, so is that of the other.
 use Rattle.std.proofs.Common.{◌≡◌, ◌&&◌, not, ℕ, pos, None, ap, sym, ◌∙◌}
 use Rattle.std.proofs.lemmas.Bool.{eqb-true}
-use Rattle.columns.specs.Known.{known_bits}
+use Rattle.solid_model.specs.Known.{known_bits}
 use Rattle.solid_model.specs.Bits.{is_set}
 use Rattle.propagate.proofs.Replaced.{free_equal, equal_back, open_same}
 use Rattle.propagate.proofs.calm.are_free_equal.Goals as goal

@@ -1,6 +1,6 @@
 -- Both values are tried.
 use Rattle.std.proofs.Common.{Bool, true, false}
-use Rattle.columns.specs.Known.{known_bits}
+use Rattle.solid_model.specs.Known.{known_bits}
 use Rattle.propagate.specs.Looking.{CanDrawWith}
 use Rattle.propagate.proofs.cells.forced_by_cell.Goals as goal
 

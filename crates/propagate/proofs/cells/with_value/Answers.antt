@@ -1,6 +1,6 @@
 -- A bit is set or taken away.
 use Rattle.std.proofs.Common.{◌<◌, ◌^◌, rules, ap, sym, ◌∙◌}
-use Rattle.columns.specs.Known.{known_bits}
+use Rattle.solid_model.specs.Known.{known_bits}
 use Rattle.solid_model.specs.Forcing.{with_value}
 use Rattle.propagate.proofs.ValueBits.{within_more, within_less, known_more, known_less}
 use Rattle.propagate.proofs.cells.with_value.Goals as goal

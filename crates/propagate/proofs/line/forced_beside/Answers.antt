@@ -1,7 +1,7 @@
 -- One cell more.
 use Rattle.std.proofs.Common.{◌≡◌, ◌<◌, ◌+◌, ℕ, Option, pos, not, ap, sym, subst, ◌∙◌, arith}
 use Rattle.columns.specs.declared.known.KnownColumn.{KnownColumn}
-use Rattle.columns.specs.Known.{known_bits}
+use Rattle.solid_model.specs.Known.{known_bits}
 use Rattle.propagate.specs.Beside.{column_of, ExcludesTo}
 use Rattle.propagate.specs.Looking.{CellExcludes, TellsLeast}
 use Rattle.propagate.proofs.Least.{told_more}

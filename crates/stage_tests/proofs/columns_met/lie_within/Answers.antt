@@ -1,7 +1,7 @@
 -- The column that was looked at last lies within too.
 use Rattle.std.proofs.Common.{◌≡◌, inl, inr, get_or, sym, subst, arith}
 use Rattle.std.proofs.lemmas.Bool.{cases_lt}
-use Rattle.columns.specs.Known.{LiesWithin}
+use Rattle.solid_model.specs.Known.{LiesWithin}
 use Rattle.stage_tests.proofs.columns_met.lie_within.Goals as goal
 
 pub loop-at-preserved : goal.loop-at-preserved

@@ -1,5 +1,5 @@
 use Rattle.std.proofs.Common.{◌<◌, ℕ, slice_index_or}
-use Rattle.columns.specs.Known.{LiesWithin}
+use Rattle.solid_model.specs.Known.{LiesWithin}
 use Rattle.stage_tests.proofs.columns_met.lie_within.Given as goal
 
 abbrev pub invariant-loop-at : goal.invariant-loop-at

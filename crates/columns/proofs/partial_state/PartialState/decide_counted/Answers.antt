@@ -80,12 +80,13 @@ invariant_of-self g c =
     subst (λ hs. IsKeptBy p (self.decisions.items ++ d ∷ []) self.spans.items self.touched.items self.sides.items columns met hs broken (vec_capacity self.decisions) (vec_capacity self.heights) (vec_capacity self.broken)) counted kept in
     let full : IsKeptBy p c.push_reserved-2.new.self.items self.spans.items self.touched.items self.sides.items columns met c.push_reserved.new.self.items broken (vec_capacity self.decisions) (vec_capacity self.heights) (vec_capacity self.broken) =
     subst (λ (ds : List Decision). IsKeptBy p ds self.spans.items self.touched.items self.sides.items columns met c.push_reserved.new.self.items broken (vec_capacity self.decisions) (vec_capacity self.heights) (vec_capacity self.broken)) more high in
-    let table : AreValues p.blocks.count (self.decisions.items ++ d ∷ []) (set self.values.items d.block (Some d.full)) = values_more p.blocks.count self.decisions.items d self.values.items there untaken c.self.invariant.1 in
-    (seen_as p c.grid-grid.ensures.kept self.spans.items self.touched.items self.sides.items c.push_reserved-2.new.self.items columns _ met _ c.push_reserved.new.self.items broken _
-    (vec_capacity self.decisions) _ (vec_capacity self.heights) _ (vec_capacity self.broken) _
-    all_columns all_met refl c.push_reserved-2.ensures.capacity c.push_reserved.ensures.capacity c.try_lines.ensures.room full,
+    let table : AreValues p.blocks.count (self.decisions.items ++ d ∷ []) (set self.values.items d.block (Some d.full)) = values_more p.blocks.count self.decisions.items d self.values.items there untaken c.self.invariant.1 in (
+      seen_as p c.grid-grid.ensures.kept self.spans.items self.touched.items self.sides.items c.push_reserved-2.new.self.items columns _ met _ c.push_reserved.new.self.items broken _
+          (vec_capacity self.decisions) _ (vec_capacity self.heights) _ (vec_capacity self.broken) _
+          all_columns all_met refl c.push_reserved-2.ensures.capacity c.push_reserved.ensures.capacity c.try_lines.ensures.room full,
       subst (λ (ds : List Decision). AreValues p.blocks.count ds (set self.values.items c.from-number.result (Some c.args.full))) more
-          (subst (λ n. AreValues p.blocks.count (self.decisions.items ++ d ∷ []) (set self.values.items n (Some c.args.full))) (sym c.from-number.ensures) table))
+          (subst (λ n. AreValues p.blocks.count (self.decisions.items ++ d ∷ []) (set self.values.items n (Some c.args.full))) (sym c.from-number.ensures) table),
+    )
 
 pub returns-clause-steps : goal.returns-clause-steps
 returns-clause-steps g c =

@@ -2,7 +2,7 @@
 use Rattle.std.proofs.Common.{◌≡◌, ◌<◌, pos, length, ap, sym, subst, ◌∙◌, arith}
 use Rattle.std.proofs.lemmas.List.{get_or_default}
 use Rattle.columns.specs.declared.known.KnownColumn.{KnownColumn}
-use Rattle.columns.specs.Known.{known_bits, LiesWithin}
+use Rattle.solid_model.specs.Known.{known_bits, LiesWithin}
 use Rattle.solid_model.specs.Decisions.{decided_by, PartialParts}
 use Rattle.columns.specs.KeptColumns.{column_count, column_number}
 use Rattle.columns.specs.Touching.{view_width, view_height, shown_cell}

@@ -58,8 +58,9 @@ invariant_of-result c =
     let wide : length met ≤ vec_capacity c.break_all.new.broken = (let a = c.break_all.ensures.room in let b = c.in_ok-broken.ensures.exact in omega (arith, a, b, met_count, c.len-2.ensures, c.in_ok-sides.sides.ok.0)) in
     let exact : (b : ℕ) (ls : List ℕ) (d : Beside) → b < length spans → map (λ i. (get_or sides i d).line) (get_or touched b ls) ≡ lines_touching p b =
     touched_exact p c.grid-grid.ensures.kept spans columns on c.in_ok-columns.ensures sides c.in_ok-sides.ensures.sides touched listed in
-    let table : AreValues p.blocks.count [] c.in_ok-values.values.items = record { count = c.in_ok-values.ensures.0 ∙ size; each = λ b e l. c.in_ok-values.ensures.1 b e (let m = c.in_ok-values.ensures.0 in omega (arith, m, size, l)) } in
-    (planned_as p c.in_ok-decisions.decisions.items spans _ touched _ sides (columns ++ no_column ∷ []) _ met _ c.in_ok-heights.heights.items broken _ _ _
-    c.in_ok-decisions.ensures.items all_spans all_touched c.in_ok-push.ensures.items all_met c.in_ok-heights.ensures.items
-    (planned p c.grid-grid.ensures.kept spans columns on touched sides met broken _ _ _ c.in_ok-columns.ensures c.in_ok-sides.ensures.sides c.in_ok-sides.ensures.few listed exact met_count c.break_all.ensures.marked lost roomy tall wide),
-      subst (λ (ds : List Decision). AreValues p.blocks.count ds c.in_ok-values.values.items) (sym c.in_ok-decisions.ensures.items) table)
+    let table : AreValues p.blocks.count [] c.in_ok-values.values.items = record { count = c.in_ok-values.ensures.0 ∙ size; each = λ b e l. c.in_ok-values.ensures.1 b e (let m = c.in_ok-values.ensures.0 in omega (arith, m, size, l)) } in (
+      planned_as p c.in_ok-decisions.decisions.items spans _ touched _ sides (columns ++ no_column ∷ []) _ met _ c.in_ok-heights.heights.items broken _ _ _
+          c.in_ok-decisions.ensures.items all_spans all_touched c.in_ok-push.ensures.items all_met c.in_ok-heights.ensures.items
+          (planned p c.grid-grid.ensures.kept spans columns on touched sides met broken _ _ _ c.in_ok-columns.ensures c.in_ok-sides.ensures.sides c.in_ok-sides.ensures.few listed exact met_count c.break_all.ensures.marked lost roomy tall wide),
+      subst (λ (ds : List Decision). AreValues p.blocks.count ds c.in_ok-values.values.items) (sym c.in_ok-decisions.ensures.items) table,
+    )

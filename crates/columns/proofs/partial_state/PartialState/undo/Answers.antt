@@ -36,8 +36,9 @@ invariant_of-self c =
     let taken : AreDecisions p.blocks.count (c.pop.new.self.items ++ last ∷ []) = subst (AreDecisions p.blocks.count) c.in-Some.ensures.items c.self.invariant.0.decided in
     let table : AreValues p.blocks.count c.pop.new.self.items (set self.values.items last.block None) =
     values_less p.blocks.count c.pop.new.self.items last self.values.items (taken c.pop.new.self.items [] last refl).0 (last_untaken p.blocks.count c.pop.new.self.items last taken)
-    (subst (λ (ds : List Decision). AreValues p.blocks.count ds self.values.items) c.in-Some.ensures.items c.self.invariant.1) in
-    (seen_as p c.grid-grid.ensures.kept self.spans.items self.touched.items self.sides.items c.pop.new.self.items columns _ met _ c.pop-in-Some.new.self.items (take height self.broken.items) _
-    (vec_capacity self.decisions) _ (vec_capacity self.heights) _ (vec_capacity self.broken) _
-    all_columns all_met c.mend_lines.ensures.broken c.in-Some.ensures.capacity c.in-Some-pop.ensures.capacity c.mend_lines.ensures.room kept,
-      subst (λ n. AreValues p.blocks.count c.pop.new.self.items (set self.values.items n None)) (sym c.from-in-Some.ensures) table)
+    (subst (λ (ds : List Decision). AreValues p.blocks.count ds self.values.items) c.in-Some.ensures.items c.self.invariant.1) in (
+      seen_as p c.grid-grid.ensures.kept self.spans.items self.touched.items self.sides.items c.pop.new.self.items columns _ met _ c.pop-in-Some.new.self.items (take height self.broken.items) _
+          (vec_capacity self.decisions) _ (vec_capacity self.heights) _ (vec_capacity self.broken) _
+          all_columns all_met c.mend_lines.ensures.broken c.in-Some.ensures.capacity c.in-Some-pop.ensures.capacity c.mend_lines.ensures.room kept,
+      subst (λ n. AreValues p.blocks.count c.pop.new.self.items (set self.values.items n None)) (sym c.from-in-Some.ensures) table,
+    )

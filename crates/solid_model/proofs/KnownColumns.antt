@@ -7,7 +7,7 @@ use Rattle.solid_model.specs.declared.segment.Style.TheVariants.{Blank, Dashed, 
 use Rattle.solid_model.specs.Bits.{is_set}
 use Rattle.solid_model.specs.Columns.{IsFirstFull, HaveSameFirstFull}
 use Rattle.solid_model.specs.Demands.{AgreesWith, CanDraw}
-use Rattle.columns.specs.Known.{known_of, known_bits, LiesWithin}
+use Rattle.solid_model.specs.Known.{known_of, known_bits, LiesWithin}
 
 -- ---- one column
 

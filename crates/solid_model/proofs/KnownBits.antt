@@ -9,9 +9,9 @@ use Rattle.solid_model.specs.declared.segment.Style.TheVariants.{Blank, Dashed, 
 use Rattle.solid_model.specs.Bits.{is_set}
 use Rattle.solid_model.specs.Columns.{IsFirstFull, HaveSameFirstFull}
 use Rattle.solid_model.specs.Demands.{CanDraw}
-use Rattle.columns.specs.Known.{known_bits, LiesWithin}
+use Rattle.solid_model.specs.Known.{known_bits, LiesWithin}
 use Rattle.solid_model.proofs.WordBits.{set_either, not_zero, zeros, zeros_of_none, lowest_set, below_lowest, lowest_at_most, lowest_at_least}
-use Rattle.columns.proofs.KnownColumns.{Fits, fits_from, draw_blank, draw_solid, draw_dashed, same_first_back, same_first_down_to, differ_at, same_at}
+use Rattle.solid_model.proofs.KnownColumns.{Fits, fits_from, draw_blank, draw_solid, draw_dashed, same_first_back, same_first_down_to, differ_at, same_at}
 
 -- ---- bits of masks
 
