@@ -1,5 +1,7 @@
 """The files that are measured: one of which nearly all is passed over, one of which all lines are kept, three drawings whose
-grids are fine, and rows of pieces, of which much is searched."""
+grids are fine, and rows of pieces and scattered cells, of which much is searched."""
+import itertools
+import random
 
 MOST_BYTES = 16_777_216
 MOST_LINES = 100_000
@@ -168,3 +170,51 @@ def row(kinds):
         return "".join(text)
 
     return drawing(*map(view, VIEWS))
+
+
+# For each view the axes to the right, upwards and away from the viewer, and whether depth counts along the last one.
+FRAMES = {"FRONT": (0, 2, 1, True), "TOP": (0, 1, 2, False), "SIDE": (1, 2, 0, False)}
+
+
+def styles_beside(after, before):
+    """The linetype of a line between two columns of cells, by whether each cell is full, from the nearest on; None of no line."""
+    for depth, (one, other) in enumerate(zip(after, before)):
+        if one != other:
+            return "CONTINUOUS"
+        if one:
+            return "DASHED" if after[depth:] != before[depth:] else None
+    return None
+
+
+def solid(cells, side):
+    """The drawing of unit cells within a cube of this side at 0, line by line, by the columns of cells that a view shows."""
+    depths = range(side)
+
+    def view(name):
+        right, up, away, forward = FRAMES[name]
+
+        def column(i, k):
+            place = [0, 0, 0]
+            place[right], place[up] = i, k
+            full = []
+            for place[away] in depths if forward else reversed(depths):
+                full.append(tuple(place) in cells)
+            return full
+
+        columns = {place: column(*place) for place in itertools.product(range(-1, side + 1), repeat=2)}
+        for at, cell in itertools.product(range(side + 1), range(side)):
+            upright = styles_beside(columns[at, cell], columns[at - 1, cell])
+            level = styles_beside(columns[cell, at], columns[cell, at - 1])
+            if upright:
+                yield line(name, at, cell, at, cell + 1, linetype=upright)
+            if level:
+                yield line(name, cell, at, cell + 1, at, linetype=level)
+
+    return drawing(*("".join(view(name)) for name in VIEWS))
+
+
+def scattered(side, percent, seed):
+    """The drawing of the cells of a cube of this side of which so many of a hundred are full, at random."""
+    chance = random.Random(seed)
+    cells = {cell for cell in itertools.product(range(side), repeat=3) if chance.randrange(100) < percent}
+    return solid(cells, side)
