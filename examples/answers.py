@@ -20,7 +20,8 @@ WHOLE = re.compile(r"whole (\d+) nodes \d+ blocks \d+")
 CUT = re.compile(r"cut (nodes|solids) (\d+)")
 FAULT = re.compile(r"fault (F\d+ \w+)(?: line (\d+))?(?: \w+ \w+)*")
 SOLID = re.compile(r"solid (\d+) choice ([01]+) volume (\d+) faces (\d+)")
-FACE = re.compile(r"face ([-+])([xyz]) at (-?\d+)((?: loop(?: -?\d+,-?\d+,-?\d+)+)+)")
+NUMBER = r"-?\d+(?:\.\d+)?"
+FACE = re.compile(rf"face ([-+])([xyz]) at ({NUMBER})((?: loop(?: {NUMBER},{NUMBER},{NUMBER})+)+)")
 
 Point = tuple[int, ...]
 Way = tuple[Point, Point]
@@ -168,15 +169,22 @@ class Solid(NamedTuple):
 
 
 class Answer(NamedTuple):
-    """What `recon solve` wrote: its first line, its first solids, and how many it lists in all."""
+    """What `recon solve` wrote: its first line, its first solids, in units of their coordinates' last decimal, how many it lists
+    in all, and how many decimals there are."""
 
     head: str
     solids: list[Solid]
     listed: int
+    decimals: int
 
 
 def ways_along(loop: list[Point]) -> list[Way]:
     return list(zip(loop, loop[1:] + loop[:1]))
+
+
+def number_of(told: str) -> int:
+    """A coordinate, in units of its last decimal: in one answer all have as many."""
+    return int(told.replace(".", ""))
 
 
 def face_of(line: str) -> Face | None:
@@ -185,9 +193,9 @@ def face_of(line: str) -> Face | None:
         return None
     axis = "xyz".index(told[2])
     outward = tuple((1 if told[1] == "+" else -1) * (at == axis) for at in range(3))
-    loops = [[tuple(map(int, corner.split(","))) for corner in loop.split()] for loop in told[4].split(" loop ")[1:]]
+    loops = [[tuple(map(number_of, corner.split(","))) for corner in loop.split()] for loop in told[4].split(" loop ")[1:]]
     ways = [way for loop in loops for way in ways_along(loop)]
-    flat = all(start[axis] == int(told[3]) and sum(map(int.__ne__, start, end)) == 1 for start, end in ways)
+    flat = all(start[axis] == number_of(told[3]) and sum(map(int.__ne__, start, end)) == 1 for start, end in ways)
     return Face(outward, loops) if flat else None
 
 
@@ -223,7 +231,8 @@ def answer_of(text: str, most: int | None = None) -> Answer:
         at += 1 + len(faces)
     if not text.endswith("\n") or whole and int(whole[1]) != count or FAULT.fullmatch(head) and lines:
         raise Refused("the answer isn't whole")
-    return Answer(head, solids, count)
+    face = FACE.fullmatch(lines[1]) if count else None
+    return Answer(head, solids, count, len(face[3].partition(".")[2]) if face else 0)
 
 
 # ---- cells

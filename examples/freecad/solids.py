@@ -19,7 +19,7 @@ from typing import NamedTuple
 
 # cad comes first: it finds FreeCAD's modules, and answers.
 from cad import FreeCAD, Part, is_shape_file, save
-from answers import FAULT, Face, Point, Refused, Solid, Way, answer_of, run, usage, ways_along
+from answers import FAULT, Answer, Face, Point, Refused, Solid, Way, answer_of, run, usage, ways_along
 
 
 class Side(NamedTuple):
@@ -32,12 +32,12 @@ class Side(NamedTuple):
 
 # ---- what is read
 
-def told_solids(text: str) -> list[Solid]:
-    """The solids of an answer, which has to be whole."""
+def told_answer(text: str) -> Answer:
+    """An answer with solids, which has to be whole."""
     answer = answer_of(text)
     if FAULT.fullmatch(answer.head):
         raise Refused(f"no solids of a drawing: {answer.head}")
-    return answer.solids
+    return answer
 
 
 # ---- the faces' sides
@@ -169,8 +169,9 @@ def main(arguments: list[str]) -> None:
     if len(arguments) != 1 or not is_shape_file(arguments[0]):
         raise usage()
     text = sys.stdin.read()
+    answer = told_answer(text)
     solids = []
-    for number, told in enumerate(told_solids(text), 1):
+    for number, told in enumerate(answer.solids, 1):
         try:
             solids.append((told.volume, shape_of(told)))
         except (Refused, Part.OCCError) as refusal:
@@ -179,7 +180,7 @@ def main(arguments: list[str]) -> None:
     path = pathlib.Path(arguments[0])
     for number, (volume, shape) in enumerate(solids, 1):
         file = str(path.with_name(f"{path.stem}_{number}{path.suffix}"))
-        save(shape, file)
+        save(shape.scale(10**-answer.decimals), file)
         parts = len(shape.Solids)
         print(f"{file} volume {volume} parts {parts} voids {len(shape.Shells) - parts}")
 

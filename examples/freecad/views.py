@@ -1,7 +1,8 @@
 #!/usr/bin/python3
-"""examples/freecad/views.py SHAPE [DRAWING.dxf]
+"""examples/freecad/views.py [--decimals D] SHAPE [DRAWING.dxf]
 
-Draws the three views of a shape as a file for `recon solve`, to standard output or into DRAWING.dxf. The shape is a STEP
+Draws the three views of a shape as a file for `recon solve`, to standard output or into DRAWING.dxf; with D decimals, 0 to 6,
+for `recon solve --decimals D`. The shape is a STEP
 file (.step, .stp), a BREP file (.brep, .brp), or else a text of boxes, each line of which adds a box or cuts one off, by its
 least and its greatest corner; what follows a # is a comment:
 
@@ -10,13 +11,14 @@ least and its greatest corner; what follows a # is a comment:
 
 FreeCAD's TechDraw projects the shape by OpenCASCADE's hidden line removal. Solids of one file are united, and faces of one
 plane that touch are joined. A shape is refused, with status 1 and no drawing, where it has no solid, a face that isn't
-parallel to a view plane, or a corner that isn't whole. docs/FORMAT.md says what is read of the drawing.
+parallel to a view plane, or a corner that has more decimals. docs/FORMAT.md says what is read of the drawing.
 """
 import itertools
 import pathlib
 import sys
 from collections import defaultdict
 from collections.abc import Callable, Iterable, Iterator
+from decimal import Decimal, InvalidOperation
 from typing import NamedTuple
 
 # cad comes first: it finds FreeCAD's modules, and answers.
@@ -37,7 +39,8 @@ MARGIN = 10
 
 
 class Edge(NamedTuple):
-    """An edge of a view, level or upright, at a coordinate across its way, from one along it to a greater one."""
+    """An edge of a view, level or upright, at a coordinate across its way, from one along it to a greater one, in units of the
+    last decimal."""
 
     hidden: bool
     upright: bool
@@ -57,29 +60,30 @@ class Edge(NamedTuple):
 
 # ---- the part
 
-def box_of(line: str) -> tuple[str, Part.Shape]:
+def box_of(line: str, decimals: int) -> tuple[str, Part.Shape]:
     """What a line of a text of boxes does, and its box."""
     word, *numbers = line.split()
     try:
-        coordinates = [int(number) for number in numbers]
-    except ValueError:
+        coordinates = [Decimal(number).scaleb(decimals) for number in numbers]
+    except InvalidOperation:
         coordinates = []
-    if word not in ("add", "cut") or len(coordinates) != 6:
-        raise Refused("not `add` or `cut` with six whole numbers")
+    if word not in ("add", "cut") or len(coordinates) != 6 or any(it % 1 for it in coordinates):
+        raise Refused(f"not `add` or `cut` with six numbers of {decimals} decimals")
+    coordinates = list(map(int, coordinates))
     sides = [high - low for low, high in zip(coordinates[:3], coordinates[3:])]
     if min(sides) <= 0:
         raise Refused("the second corner isn't greater than the first one")
     return word, Part.makeBox(*sides, FreeCAD.Vector(*coordinates[:3]))
 
 
-def shape_of_boxes(path: str) -> Part.Shape:
+def shape_of_boxes(path: str, decimals: int) -> Part.Shape:
     shape = None
     for number, line in enumerate(pathlib.Path(path).read_text(errors="replace").splitlines(), 1):
         line = line.partition("#")[0].strip()
         if not line:
             continue
         try:
-            word, box = box_of(line)
+            word, box = box_of(line, decimals)
         except Refused as refusal:
             raise Refused(f"{path}: line {number}: {refusal}") from None
         if shape is not None:
@@ -110,7 +114,7 @@ def part_of(shape: Part.Shape) -> Part.Shape:
             raise Refused("a face isn't parallel to a view plane")
     for vertex in part.Vertexes:
         if not are_whole(vertex.Point):
-            raise Refused("the corner {:.9g}, {:.9g}, {:.9g} isn't whole".format(*vertex.Point))
+            raise Refused("the corner {:.9g}, {:.9g}, {:.9g} has more decimals".format(*vertex.Point))
     if not part.isValid() or part.Volume < 0.5:
         raise Refused("what FreeCAD makes of it is no closed solid")
     return part
@@ -162,30 +166,34 @@ def pairs(*members: tuple[int, object]) -> str:
     return "".join(f"{code}\n{value}\n" for code, value in members)
 
 
-def line(view: str, edge: Edge) -> str:
-    (x0, y0), (x1, y1) = edge.ends()
+def line(view: str, edge: Edge, decimals: int) -> str:
+    (x0, y0), (x1, y1) = ([Decimal(it).scaleb(-decimals) for it in end] for end in edge.ends())
     style = "HIDDEN" if edge.hidden else "CONTINUOUS"
     return pairs((0, "LINE"), (8, view), (6, style), (10, x0), (20, y0), (30, 0), (11, x1), (21, y1), (31, 0))
 
 
-def drawing(views: dict[str, list[Edge]]) -> str:
+def drawing(views: dict[str, list[Edge]], decimals: int) -> str:
     """The file. It has a table of what HIDDEN looks like, which a CAD program asks for and recon passes over."""
     hidden = [(3, "Hidden"), (72, 65), (73, 2), (40, 0.375), (49, 0.25), (49, -0.125)]
     tables = pairs(
         (0, "SECTION"), (2, "TABLES"), (0, "TABLE"), (2, "LTYPE"), (70, 1), (0, "LTYPE"), (2, "HIDDEN"), (70, 0), *hidden,
         (0, "ENDTAB"), (0, "ENDSEC"),
     )
-    lines = "".join(line(view, edge) for view, edges in views.items() for edge in edges)
+    lines = "".join(line(view, edge, decimals) for view, edges in views.items() for edge in edges)
     return tables + pairs((0, "SECTION"), (2, "ENTITIES")) + lines + pairs((0, "ENDSEC"), (0, "EOF"))
 
 
 def main(arguments: list[str]) -> None:
+    decimals = 0
+    if arguments[:1] == ["--decimals"] and arguments[1:] and arguments[1] in map(str, range(7)):
+        decimals = int(arguments[1])
+        arguments = arguments[2:]
     if len(arguments) not in (1, 2):
         raise usage()
     path = arguments[0]
-    shape = load(path) if is_shape_file(path) else shape_of_boxes(path)
+    shape = load(path).scale(10**decimals) if is_shape_file(path) else shape_of_boxes(path, decimals)
     try:
-        text = drawing(views_of(part_of(shape)))
+        text = drawing(views_of(part_of(shape)), decimals)
     except Refused as refusal:
         raise Refused(f"{path}: {refusal}") from None
     if len(arguments) == 2:

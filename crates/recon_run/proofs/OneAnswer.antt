@@ -6,9 +6,9 @@ use Rattle.std.proofs.lemmas.Option.{slice_get_within}
 use Rattle.std.specs.List.{slice_get}
 use Rattle.drawing_maker.specs.Made.{made_solid}
 use Rattle.recon_run.specs.declared.status.Answer.{Answer}
-use Rattle.recon_run.specs.Answers.{node_count, CanEnd, TellsNumbered, TellsSolids, IsTried, first_volume, head_of, made_drawing}
+use Rattle.recon_run.specs.Answers.{node_count, CanEnd, Input, TellsNumbered, TellsSolids, IsTried, first_volume, head_of, made_drawing}
 use Rattle.recon_run.specs.Endings.{Answers, IsCut, SameButPages}
-use Rattle.recon_run.specs.Owed.{alone, AnswersInput, AnswersOwed, Owed, Search, answer_at, asks_pages, search_for_all, search_for_one, owed, searched}
+use Rattle.recon_run.specs.Owed.{alone, AnswersInput, AnswersOwed, Owed, Search, answer_at, asks_pages, input_of, search_for_all, search_for_one, owed, searched}
 use Rattle.recon_run.specs.Pages.{Page, ArePagesOf, choices_on, pages_text}
 use Rattle.recon_run.proofs.Faults.{one_fault, no_fault}
 use Rattle.recon_run.proofs.Grids.{one_grid}

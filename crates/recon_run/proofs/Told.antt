@@ -32,18 +32,18 @@ TellsRightly s tells = (t : List ℕ) (found : SearchedParts) → IsSearched s.l
 -- so do those that `solve` writes,
 pub all_told : (paged : Bool) (limits : SearchLimits) (decimals : ℕ) → TellsRightly (search_for_all paged limits decimals) (TellsPaged paged limits decimals)
 all_told paged limits decimals bytes s (has, ends) text (before, (pages, are, told), rest, (texts, tells, is), both) =
-    let t = record { bytes = bytes; decimals = decimals } in
+    let t : Input = record { bytes = bytes; decimals = decimals } in
     subst (λ text. (c : CanEnd limits t s.ended.kind) × ListsSolids paged limits t s.ended.kind c text) (sym (both ∙ ap₂ ◌++◌ told is))
     (solved limits t s.problem has paged s.ended.kind s.ended.opened s.ended.solids ends pages are texts tells)
 
 -- and those that it begins
 pub first_told : (paged : Bool) (limits : SearchLimits) (decimals : ℕ) → TellsRightly (beginning (search_for_all paged limits decimals)) (BeginsPaged paged limits decimals)
 first_told paged limits decimals bytes s (has, ends) text (inl (pages, are, first, told)) =
-    let t = record { bytes = bytes; decimals = decimals } in
+    let t : Input = record { bytes = bytes; decimals = decimals } in
     subst (λ text. (c : CanEnd limits t s.ended.kind) × BeginsToList paged limits t s.ended.kind c text) (sym told)
     (pages_begun limits t s.problem has paged s.ended.kind s.ended.opened s.ended.solids ends pages are first)
 first_told paged limits decimals bytes s (has, ends) text (inr (before, (pages, are, told), rest, (texts, (first, tells), is), both)) =
-    let t = record { bytes = bytes; decimals = decimals } in
+    let t : Input = record { bytes = bytes; decimals = decimals } in
     subst (λ text. (c : CanEnd limits t s.ended.kind) × BeginsToList paged limits t s.ended.kind c text) (sym (both ∙ ap₂ ◌++◌ told is))
     (begun limits t s.problem has paged s.ended.kind s.ended.opened s.ended.solids ends pages are first texts tells)
 

@@ -184,7 +184,7 @@ module _ (limits : SearchLimits) (t : Input) (short : length t.bytes ≤ most_fi
         styles xs ys zs Side true = refl
 
   -- it can't be that an input that isn't too long has no fault and no end of a search
-  short_input : (r : Result (List Line) Fault) → read_of t ≡ r → ⊥
+  short_input : (r : Result (List Line) Fault) → read_of t.decimals t.bytes ≡ r → ⊥
   short_input (Err found) reads = faultless found (file_fault t (Err found) found short reads refl)
   short_input (Ok ls) reads = input_with_lines ls reads
 
