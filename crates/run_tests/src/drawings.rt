@@ -71,7 +71,7 @@ rect S 0 0 12 1; rect S 0 0 12 1; rect S 0 0 1 1 -> 0 whole 1 nodes 2 blocks 1|\
     solid 1 choice 1 volume 12 faces 6| .. |face +z at 1 loop 0,0,1 12,0,1 12,1,1 0,1,1
 rect S 0 0 12 1; rect S 0 0 12 1, rect S 1 0 11 1, rect S 2 0 10 1, rect S 3 0 9 1, \
     rect S 4 0 8 1, rect S 5 0 7 1, line S 6 0 6 1; rect S 0 0 1 1 -> \
-    0 whole 0 nodes 1 blocks 1
+    0 whole 0 nodes 0 blocks 1
 -- Strokes that overlap: a solid one wins, and where they are cut leaves no trace.
 line S 0 0 6 0, line S 4 0 10 0, line D 2 0 9 0, line S 0 10 10 10, line S 0 0 0 10, \
     line S 10 0 10 10; \
