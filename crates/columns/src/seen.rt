@@ -20,10 +20,10 @@ use solid_model::{LineId, PerAxis, Problem, Style};
 /// A line, its style, and what is known of the columns after it and before it.
 #[derive(Clone, Copy, Debug)]
 pub struct SeenLine {
-    pub line: LineId,
-    pub style: Style,
     pub after: KnownColumn,
     pub before: KnownColumn,
+    pub line: LineId,
+    pub style: Style,
 }
 
 /// The line with what is known of the columns beside it.

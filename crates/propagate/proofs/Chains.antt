@@ -1,5 +1,5 @@
 -- Forcing chains that go on, and where they end.
-use Rattle.std.proofs.Common.{◌≡◌, ◌==◌, Bool, not, ℕ, ◌≤◌, ◌+◌, List, [], ◌∷◌, ◌++◌, length, take, drop, slice_get, ◌<◌, Option, Some, None, IsTrue, refl, ap, sym, subst, ◌∙◌, arith, append_assoc, zero, suc, inl}
+use Rattle.std.proofs.Common.{◌≡◌, Bool, not, ℕ, ◌≤◌, List, [], ◌∷◌, ◌++◌, length, take, drop, slice_get, ◌<◌, Option, Some, None, IsTrue, refl, ap, sym, subst, ◌∙◌, arith, append_assoc, zero, suc, inl}
 use Rattle.std.proofs.lemmas.List.{append-nil, length-append}
 use Rattle.std.proofs.lemmas.Option.{none-some}
 use Rattle.columns.proofs.AllLines.{lines_are_there}

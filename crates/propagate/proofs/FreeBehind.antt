@@ -1,23 +1,25 @@
 -- Columns that can begin at one depth and differ behind it, whatever one of their cells is.
-use Rattle.std.proofs.Common.{◌≡◌, ◌≢◌, ◌⊎◌, inl, inr, ◌==◌, ◌||◌, ◌&&◌, Bool, true, false, not, if◌then◌else◌, ℕ, suc, ◌<◌, ◌≤◌, ◌^◌, ◌/◌, ◌+◌, ◌↔◌, bit_or, ℤ, pos, negsuc, Option, Some, None, bit_and, refl, ap, ap₂, sym, subst, ◌∙◌, arith}
-use Rattle.std.proofs.lemmas.Bool.{cases_Bool, eqb-true, eqb-false, eq-eqb, both_ways, and_parts, and_from, or_cases, or_left, or_right, not-true, not_from_false}
-use Rattle.std.proofs.Math.Nat.{div-le_self}
+use Rattle.std.proofs.Common.{◌≡◌, ◌≢◌, ◌⊎◌, inl, inr, ◌==◌, ◌||◌, ◌&&◌, Bool, true, false, not, ℕ, suc, ◌<◌, ◌≤◌, ◌^◌, ◌↔◌, ℤ, pos, negsuc, Option, Some, None, bit_and, refl, ap, sym, subst, ◌∙◌, arith}
+use Rattle.std.proofs.lemmas.Bool.{cases_Bool, cases_lt, eqb-true, eqb-false, both_ways, and_parts, and_from, or_cases, or_left, or_right, not-true, not_from_false}
+use Rattle.std.proofs.lemmas.Int.{ints}
 use Rattle.std.proofs.lemmas.Option.{none-some, same_Some}
 use Rattle.solid_model.specs.Known.{known_of, known_bits, LiesWithin}
-use Rattle.solid_model.proofs.KnownBits.{behind, some_bit, first_before}
+use Rattle.solid_model.proofs.KnownBits.{some_bit, first_before}
 use Rattle.solid_model.proofs.KnownColumns.{Fits, fits_from}
-use Rattle.columns.proofs.WithValue.{agrees_from}
-use Rattle.propagate.specs.Looking.{CanDrawWith, IsFree}
-use Rattle.propagate.specs.Behind.{Allows, IsFreeBegin, CanPart, PartsAt}
-use Rattle.propagate.proofs.LineCells.{agrees_as, draw_back}
-use Rattle.propagate.proofs.ValueBits.{undecided_bits}
-use Rattle.propagate.proofs.Replaced.{allows_open, Begin, begin_nearer, dashed_with}
+use Rattle.propagate.specs.Looking.{CanDrawWith}
+use Rattle.propagate.proofs.LowestLeft.{set_within}
+use Rattle.propagate.proofs.ValueBits.{undecided_within}
+use Rattle.propagate.proofs.Replaced.{Allows, allows_open, Begin, begin_nearer, dashed_with}
 use Rattle.solid_model.specs.declared.segment.Style.TheVariants.{Dashed}
-use Rattle.solid_model.specs.Bits.{is_set}
+use Rattle.solid_model.specs.Bits.{is_set, near}
 use Rattle.solid_model.specs.Columns.{IsFirstFull, HaveSameFirstFull}
 use Rattle.solid_model.specs.Demands.{AgreesWith, CanDraw}
-use Rattle.solid_model.specs.Forcing.{with_value}
-use Rattle.solid_model.proofs.WordBits.{zeros, set_both, set_either, not_zero, lowest_set, lowest_at_most}
+use Rattle.solid_model.proofs.NearBits.{near_to, near_from}
+use Rattle.solid_model.proofs.WordBits.{zeros, set_both, not_zero, lowest_set, lowest_at_most}
+
+-- they can differ behind the depth though a cell has a value
+abbrev PartsAt : (ℤ → Option Bool) → (ℤ → Option Bool) → ℕ → ℕ → Bool → Type 0
+PartsAt known other d k v = (e : ℕ) × (x : Bool) × (d < e) × Allows known e x × Allows other e (not x) × (k ≡ e → x ≡ v)
 
 -- a cell that may be full can be, and one that isn't full for certain can be empty
 pub allows_full : (full may k : ℕ) → is_set may k ≡ true → Allows (known_bits full may) k true
@@ -80,107 +82,127 @@ module _ (fa ma fb mb : ℕ) (a_within : LiesWithin fa ma) (b_within : LiesWithi
       begin_nearer known other a b agrees too (zeros (bit_and ma mb)) d (lowest_at_most (bit_and ma mb) fits d there) first second
       (allows_full fa ma (zeros (bit_and ma mb)) parts.0) (allows_full fb mb (zeros (bit_and ma mb)) parts.1)
 
-  -- ---- where they can differ
-
-  -- two depths at one of which they can differ, whichever cell is given
-  pub part_at_two : (d e f : ℕ) → d < e → e < f → MayDiffer fa ma fb mb e → MayDiffer fa ma fb mb f → CanPart known other d
-  part_at_two d e f near far at_e at_f k v none = elim (cases_Bool (k == e)) as (λ _. PartsAt known other d k v) [
-    | inl at ↦ (let same : k ≡ e = eqb-true k e at in one f (omega arith) at_f (λ g. (omega arith)))
-    | inr off ↦ one e near at_e (eqb-false k e off)
-  ]
+  -- and they can differ behind it
+  pub differ_behind : bit_and ma mb < 2 ^ 64 → CanDraw known other Dashed → (e : ℕ) × (zeros (bit_and ma mb) < e) × MayDiffer fa ma fb mb e
+  differ_behind fits (a, b, agrees, too, ((z, ne), same)) = by z ne
     where
-      one : (g : ℕ) → d < g → MayDiffer fa ma fb mb g → k ≢ g → PartsAt known other d k v
-      one g behind can off = elim (or_cases (is_set ma g && not (is_set fb g)) (is_set mb g && not (is_set fa g)) can) as (λ _. PartsAt known other d k v) [
-        | inl at ↦ (let parts = and_parts (is_set ma g) (not (is_set fb g)) at in
-            (g, true, behind, allows_full fa ma g parts.0, allows_empty fb mb g (not-true (is_set fb g) parts.1), λ same. absurd (off same)))
-        | inr at ↦ (let parts = and_parts (is_set mb g) (not (is_set fa g)) at in
-            (g, false, behind, allows_empty fa ma g (not-true (is_set fa g) parts.1), allows_full fb mb g parts.0, λ same. absurd (off same)))
+      a_fits : Fits fa ma a
+      a_fits = fits_from fa ma a a_within agrees
+
+      b_fits : Fits fb mb b
+      b_fits = fits_from fb mb b b_within too
+
+      not_certain : (full may : ℕ) (column : ℤ → Bool) → Fits full may column → (e : ℕ) → column (pos e) ≡ false → is_set full e ≡ false
+      not_certain full may column c_fits e empty = elim (cases_Bool (is_set full e)) as (λ _. is_set full e ≡ false) [
+        | inl set ↦ absurd (both_ways (column (pos e)) empty (c_fits.certain e set))
+        | inr clear ↦ clear
       ]
 
--- a depth at which neither is decided
-pub part_at_open : (known other : ℤ → Option Bool) (d e : ℕ) → d < e → known (pos e) ≡ None → other (pos e) ≡ None → CanPart known other d
-part_at_open known other d e far none none_too k v untold = elim (cases_Bool (k == e)) as (λ _. PartsAt known other d k v) [
-  | inl at ↦ (e, v, far, allows_open known e v none, allows_open other e (not v) none_too, λ same. refl)
-  | inr off ↦ (e, true, far, allows_open known e true none, allows_open other e false none_too, λ same. absurd (eqb-false k e off same))
-]
+      by : (z : ℤ) → a z ≢ b z → (e : ℕ) × (zeros (bit_and ma mb) < e) × MayDiffer fa ma fb mb e
+      by (negsuc k) off = absurd (off (a_fits.below k ∙ sym (b_fits.below k)))
+      by (pos e) off =
+          let (d, first, second) = begins a b agrees too (pos e) off same in
+          let there = set_both ma mb d ∙ and_from (is_set ma d) (is_set mb d) (a_fits.allowed d first.0) (b_fits.allowed d second.0) in
+          let near = lowest_at_most (bit_and ma mb) fits d there in
+          (e, far d near first second, differ (a (pos e)) (b (pos e)) refl refl off)
+        where
+          far : (d : ℕ) → zeros (bit_and ma mb) ≤ d → IsFirstFull a (pos d) → IsFirstFull b (pos d) → zeros (bit_and ma mb) < e
+          far d near first second = elim (cases_lt d e) as (λ _. zeros (bit_and ma mb) < e) [
+            | inl l ↦ omega (arith, near, l)
+            | inr l ↦ absurd (elim (cases_lt e d) as (λ _. ⊥) [
+              | inl m ↦ off (first.1 (pos e) (omega (arith, ints)) ∙ sym (second.1 (pos e) (omega (arith, ints))))
+              | inr m ↦ (let at : e ≡ d = omega arith in off (ap (λ n. a (pos n)) at ∙ first.0 ∙ sym (ap (λ n. b (pos n)) at ∙ second.0)))
+            ])
+          ]
 
--- so they leave the first one free
-pub free_behind : (known other : ℤ → Option Bool) (d : ℕ) → Begin known other d → IsFreeBegin known other d → CanPart known other d → IsFree known other Dashed
-free_behind known other d begin begins part k v none =
-    let (near, empty) = begins k none in
-    let (e, x, far, may, may_too, at) = part k v none in
-    elim (cases_Bool (k == d)) as (λ _. CanDrawWith known other Dashed k v) [
-      | inl is ↦ by v (eqb-true k d is) empty near e x far may may_too at
-      | inr off ↦ dashed_with known other d begin e x far may may_too k v near (λ same. absurd (eqb-false k d off same)) at none
-    ]
-  where
-    by : (v : Bool) → k ≡ d → (k ≡ d → CanDrawWith known other Dashed k false) → d ≤ k → (e : ℕ) (x : Bool) → d < e → Allows known e x → Allows other e (not x) → (k ≡ e → x ≡ v) → CanDrawWith known other Dashed k v
-    by true is empty near e x far may may_too at = dashed_with known other d begin e x far may may_too k true near (λ _. refl) at none
-    by false is empty near e x far may may_too at = empty is
+          differ : (x y : Bool) → a (pos e) ≡ x → b (pos e) ≡ y → x ≢ y → MayDiffer fa ma fb mb e
+          differ true true x_is y_is ne = absurd (ne refl)
+          differ false false x_is y_is ne = absurd (ne refl)
+          differ true false x_is y_is ne = or_left (is_set ma e && not (is_set fb e)) (is_set mb e && not (is_set fa e))
+              (and_from (is_set ma e) (not (is_set fb e)) (a_fits.allowed e x_is) (not_from_false (is_set fb e) (not_certain fb mb b b_fits e y_is)))
+          differ false true x_is y_is ne = or_right (is_set ma e && not (is_set fb e)) (is_set mb e && not (is_set fa e))
+              (and_from (is_set mb e) (not (is_set fa e)) (b_fits.allowed e y_is) (not_from_false (is_set fa e) (not_certain fa ma a a_fits e x_is)))
 
--- the other way round
-pub begin_back : (known other : ℤ → Option Bool) (d : ℕ) → Begin known other d → Begin other known d
-begin_back known other d begin = record { one = begin.two; two = begin.one; fits = begin.too; too = begin.fits; first_one = begin.first_two; first_two = begin.first_one }
+  -- ---- where they can differ though a cell has a value
+
+  -- at another depth at which they can differ,
+  pub part_other : (d g : ℕ) → d < g → MayDiffer fa ma fb mb g → (k : ℕ) (v : Bool) → k ≢ g → PartsAt known other d k v
+  part_other d g behind can k v off = elim (or_cases (is_set ma g && not (is_set fb g)) (is_set mb g && not (is_set fa g)) can) as (λ _. PartsAt known other d k v) [
+    | inl at ↦ (let parts = and_parts (is_set ma g) (not (is_set fb g)) at in
+        (g, true, behind, allows_full fa ma g parts.0, allows_empty fb mb g (not-true (is_set fb g) parts.1), λ same. absurd (off same)))
+    | inr at ↦ (let parts = and_parts (is_set mb g) (not (is_set fa g)) at in
+        (g, false, behind, allows_empty fa ma g (not-true (is_set fa g) parts.1), allows_full fb mb g parts.0, λ same. absurd (off same)))
+  ]
+
+-- or at it, where neither is decided
+pub part_open : (known other : ℤ → Option Bool) (d k : ℕ) (v : Bool) → d < k → known (pos k) ≡ None → other (pos k) ≡ None → PartsAt known other d k v
+part_open known other d k v far none none_too = (k, v, far, allows_open known k v none, allows_open other k (not v) none_too, λ same. refl)
 
 -- ---- told by bits
 
--- a cell that may be full, and isn't for certain, is undecided
-open_bits : (full may k : ℕ) → is_set may k ≡ true → is_set full k ≡ false → known_bits full may (pos k) ≡ None
-open_bits full may k set clear = ap₂ known_of clear set
+-- The columns can begin at a depth. Of the depths behind it at which they can differ, with the bits of differ, some are left.
+module _ (fa ma fb mb : ℕ) (a_within : LiesWithin fa ma) (b_within : LiesWithin fb mb) (fits : bit_and ma mb < 2 ^ 64) (met : CanDraw (known_bits fa ma) (known_bits fb mb) Dashed)
+    (differ apart : ℕ) (apart_fits : apart < 2 ^ 64) (differ_is : (k : ℕ) → is_set differ k ≡ ((is_set ma k && not (is_set fb k)) || (is_set mb k && not (is_set fa k))))
+    (apart_is : (k : ℕ) → is_set apart k ≡ (is_set differ k && not (is_set (near (bit_and ma mb)) k))) where
+  abbrev first : ℕ
+  first = zeros (bit_and ma mb)
 
--- an undecided cell isn't nearer than the first one
-pub open_at_least : (fa ma fb mb ua ub : ℕ) → ((k : ℕ) → is_set ua k ≡ (is_set ma k && not (is_set fa k))) → ((k : ℕ) → is_set ub k ≡ (is_set mb k && not (is_set fb k)))
-    → bit_or ua ub < 2 ^ 64 → (k : ℕ) → (known_bits fa ma (pos k) ≡ None) ⊎ (known_bits fb mb (pos k) ≡ None) → zeros (bit_or ua ub) ≤ k
-open_at_least fa ma fb mb ua ub ua_is ub_is fits k (inl none) =
-    let bits = undecided_bits fa ma k none in
-    lowest_at_most (bit_or ua ub) fits k (set_either ua ub k ∙ or_left (is_set ua k) (is_set ub k) (ua_is k ∙ and_from (is_set ma k) (not (is_set fa k)) bits.1 (not_from_false (is_set fa k) bits.0)))
-open_at_least fa ma fb mb ua ub ua_is ub_is fits k (inr none) =
-    let bits = undecided_bits fb mb k none in
-    lowest_at_most (bit_or ua ub) fits k (set_either ua ub k ∙ or_right (is_set ua k) (is_set ub k) (ub_is k ∙ and_from (is_set mb k) (not (is_set fb k)) bits.1 (not_from_false (is_set fb k) bits.0)))
+  abbrev column : ℤ → Option Bool
+  column = known_bits fa ma
 
--- columns that can draw Dashed with both cells at a depth empty
-pub begin_empty : (known other changed changed_too : ℤ → Option Bool) (d : ℕ) → known (pos d) ≡ None → other (pos d) ≡ None
-    → ((k : ℤ) → changed k ≡ with_value d false known k) → ((k : ℤ) → changed_too k ≡ with_value d false other k) → CanDraw changed changed_too Dashed
-    → CanDrawWith known other Dashed d false × CanDrawWith other known Dashed d false
-begin_empty known other changed changed_too d none none_too is is_too (a, b, fits, too, draws) =
-    let a_fits = agrees_from d false known a none (agrees_as changed (with_value d false known) a is fits) in
-    let b_fits = agrees_from d false other b none_too (agrees_as changed_too (with_value d false other) b is_too too) in
-    ((a, b, a_fits.0, b_fits.0, a_fits.1, draws), (b, a, b_fits.0, a_fits.0, b_fits.1, draw_back a b Dashed draws))
+  abbrev beside : ℤ → Option Bool
+  beside = known_bits fb mb
 
-below_word : (n d : ℕ) → n < 2 ^ 64 → n / 2 ^ d / 2 < 2 ^ 64
-below_word n d fits = omega (arith, div-le_self n (2 ^ d), div-le_self (n / 2 ^ d) 2, fits)
+  -- a cell that isn't down to that depth is behind it
+  behind_near : (k : ℕ) → k < 64 → is_set (near (bit_and ma mb)) k ≡ false → first < k
+  behind_near k within off = elim (cases_lt first k) as (λ _. first < k) [
+    | inl l ↦ l
+    | inr l ↦ absurd (both_ways (is_set (near (bit_and ma mb)) k) off (near_to (bit_and ma mb) k fits within l))
+  ]
 
--- a cell behind a depth that is undecided in both
-pub part_shared : (fa ma fb mb ua ub d : ℕ) → ((k : ℕ) → is_set ua k ≡ (is_set ma k && not (is_set fa k))) → ((k : ℕ) → is_set ub k ≡ (is_set mb k && not (is_set fb k)))
-    → bit_and ua ub < 2 ^ 64 → bit_and ua ub / 2 ^ d / 2 ≢ 0 → CanPart (known_bits fa ma) (known_bits fb mb) d × CanPart (known_bits fb mb) (known_bits fa ma) d
-part_shared fa ma fb mb ua ub d ua_is ub_is fits some =
-    let (i, set) = some_bit (bit_and ua ub / 2 ^ d / 2) (below_word (bit_and ua ub) d fits) some in
-    let e : ℕ = d + 1 + i in
-    let both = and_parts (is_set ua e) (is_set ub e) (sym (set_both ua ub e) ∙ sym (behind (bit_and ua ub) d i) ∙ set) in
-    let one = and_parts (is_set ma e) (not (is_set fa e)) (sym (ua_is e) ∙ both.0) in
-    let two = and_parts (is_set mb e) (not (is_set fb e)) (sym (ub_is e) ∙ both.1) in
-    let none = open_bits fa ma e one.0 (not-true (is_set fa e) one.1) in
-    let none_too = open_bits fb mb e two.0 (not-true (is_set fb e) two.1) in
-    (part_at_open (known_bits fa ma) (known_bits fb mb) d e (omega arith) none none_too, part_at_open (known_bits fb mb) (known_bits fa ma) d e (omega arith) none_too none)
+  apart_behind : (e : ℕ) → is_set apart e ≡ true → (first < e) × MayDiffer fa ma fb mb e
+  apart_behind e set =
+      let parts = and_parts (is_set differ e) (not (is_set (near (bit_and ma mb)) e)) (sym (apart_is e) ∙ set) in
+      (behind_near e (set_within apart apart_fits e set) (not-true (is_set (near (bit_and ma mb)) e) parts.1), sym (differ_is e) ∙ parts.0)
 
--- two cells behind a depth at which they can differ
-pub part_apart : (fa ma fb mb differ d rest : ℕ) → LiesWithin fa ma → LiesWithin fb mb → ((k : ℕ) → is_set differ k ≡ ((is_set ma k && not (is_set fb k)) || (is_set mb k && not (is_set fa k))))
-    → ((k : ℕ) → (is_set rest k ≡ true) ↔ ((is_set (differ / 2 ^ d / 2) k ≡ true) × ((j : ℕ) × (j < k) × (is_set (differ / 2 ^ d / 2) j ≡ true)))) → rest < 2 ^ 64 → rest ≢ 0
-    → CanPart (known_bits fa ma) (known_bits fb mb) d × CanPart (known_bits fb mb) (known_bits fa ma) d
-part_apart fa ma fb mb differ d rest a_within b_within differ_is rest_is fits some =
-    let (f, set) = some_bit rest fits some in
-    let (far, (e, below, near)) = (rest_is f).0 set in
-    let at_e = sym (differ_is (d + 1 + e)) ∙ sym (behind differ d e) ∙ near in
-    let at_f = sym (differ_is (d + 1 + f)) ∙ sym (behind differ d f) ∙ far in (
-      part_at_two fa ma fb mb a_within b_within d (d + 1 + e) (d + 1 + f) (omega arith) (omega arith) at_e at_f,
-      part_at_two fb mb fa ma b_within a_within d (d + 1 + e) (d + 1 + f) (omega arith) (omega arith) (back (d + 1 + e) at_e) (back (d + 1 + f) at_f),
-    )
-  where
-    either_way : (x y : Bool) → (x || y) ≡ true → (y || x) ≡ true
-    either_way true true e = refl
-    either_way true false e = refl
-    either_way false true e = refl
-    either_way false false e = e
+  behind_apart : (e : ℕ) → e < 64 → first < e → MayDiffer fa ma fb mb e → is_set apart e ≡ true
+  behind_apart e within far may = apart_is e ∙ and_from (is_set differ e) (not (is_set (near (bit_and ma mb)) e)) (differ_is e ∙ may)
+      (not_from_false (is_set (near (bit_and ma mb)) e) (elim (cases_Bool (is_set (near (bit_and ma mb)) e)) as (λ _. is_set (near (bit_and ma mb)) e ≡ false) [
+        | inl set ↦ (let low = near_from (bit_and ma mb) e fits within set in absurd (omega (arith, low, far)))
+        | inr off ↦ off
+      ]))
 
-    back : (k : ℕ) → MayDiffer fa ma fb mb k → MayDiffer fb mb fa ma k
-    back k at = either_way (is_set ma k && not (is_set fb k)) (is_set mb k && not (is_set fa k)) at
+  -- a cell behind that depth can have a value where they can differ though it has
+  module _ (ma_fits : ma < 2 ^ 64) (k : ℕ) (v : Bool) (none : column (pos k) ≡ None) (off : is_set (near (bit_and ma mb)) k ≡ false) where
+    k_within : k < 64
+    k_within = undecided_within fa ma k ma_fits none
+
+    far : first < k
+    far = behind_near k k_within off
+
+    with_parts : PartsAt column beside first k v → CanDrawWith column beside Dashed k v
+    with_parts (e, x, behind, may, may_too, at) = dashed_with column beside first (begin_first fa ma fb mb a_within b_within fits met) e x behind may may_too k v
+        (let l = far in omega (arith, l)) (λ same. absurd (let l = far in omega (arith, l, same))) at none
+
+    -- they can differ at two depths,
+    pub free_of_two : (rest : ℕ) → ((j : ℕ) → (is_set rest j ≡ true) ↔ ((is_set apart j ≡ true) × ((i : ℕ) × (i < j) × (is_set apart i ≡ true)))) → rest < 2 ^ 64 → rest ≢ 0
+        → CanDrawWith column beside Dashed k v
+    free_of_two rest rest_is rest_fits some =
+        let (f, set) = some_bit rest rest_fits some in
+        let (at_f, (e, below, at_e)) = (rest_is f).0 set in
+        let behind_f = apart_behind f at_f in
+        let behind_e = apart_behind e at_e in
+        with_parts (elim (cases_Bool (k == e)) as (λ _. PartsAt column beside first k v) [
+          | inl same ↦ (let is = eqb-true k e same in part_other fa ma fb mb a_within b_within first f behind_f.0 behind_f.1 k v (λ g. (omega (arith, is, below, g))))
+          | inr other ↦ part_other fa ma fb mb a_within b_within first e behind_e.0 behind_e.1 k v (eqb-false k e other)
+        ])
+
+    -- or at this one neither is decided
+    pub free_of_one : (is_set apart k ≡ true → beside (pos k) ≡ None) → CanDrawWith column beside Dashed k v
+    free_of_one shared =
+        let (e, behind, may) = differ_behind fa ma fb mb a_within b_within fits met in
+        with_parts (elim (cases_Bool (k == e)) as (λ _. PartsAt column beside first k v) [
+          | inl same ↦ (let is = eqb-true k e same in part_open column beside first k v far none
+              (shared (behind_apart k k_within far (subst (MayDiffer fa ma fb mb) (sym is) may))))
+          | inr other ↦ part_other fa ma fb mb a_within b_within first e behind may k v (eqb-false k e other)
+        ])

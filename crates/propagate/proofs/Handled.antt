@@ -1,5 +1,5 @@
 -- Lines that exclude nothing, or are still to be looked at.
-use Rattle.std.proofs.Common.{◌⊎◌, ◌≡◌, ◌==◌, Bool, true, false, ℕ, zero, suc, ◌<◌, ◌≤◌, ◌+◌, List, [], ◌∷◌, ◌++◌, length, take, drop, get_or, slice_get, ℤ, pos, negsuc, ◌-ℤ◌, Option, Some, None, IsTrue, if◌then◌else◌, ◌||◌, inl, inr, refl, ap, sym, subst, ◌∙◌, arith, append_assoc}
+use Rattle.std.proofs.Common.{◌⊎◌, ◌≡◌, ◌==◌, Bool, true, false, ℕ, zero, suc, ◌<◌, ◌≤◌, ◌+◌, List, [], ◌∷◌, ◌++◌, length, take, drop, slice_get, ℤ, pos, negsuc, ◌-ℤ◌, Option, Some, None, IsTrue, if◌then◌else◌, ◌||◌, inl, inr, refl, ap, sym, subst, ◌∙◌, arith, append_assoc}
 use Rattle.std.specs.Prelude.{IfSome}
 use Rattle.std.specs.List.{range_with_len}
 use Rattle.std.proofs.lemmas.Bool.{eqb-true, eq-eqb, both_ways, cases_lt, or_left, or_right}
@@ -10,9 +10,9 @@ use Rattle.std.proofs.lemmas.Option.{none-some, same_Some}
 use Rattle.columns.specs.Touching.{is_of, block_beside, touches, lines_touching}
 use Rattle.columns.proofs.AllLines.{lines_are_listed}
 use Rattle.columns.proofs.Gathering.{block_below}
-use Rattle.propagate.specs.Closing.{Awaits, IsHandled, Grows}
+use Rattle.propagate.specs.Closing.{Awaits, IsHandled}
 use Rattle.propagate.specs.Forced.{ExcludesOpen, IsCalm}
-use Rattle.propagate.proofs.Chains.{decided_push, at_before, grows_at}
+use Rattle.propagate.proofs.Chains.{decided_push, at_before}
 use Rattle.propagate.proofs.LineCells.{none_before, none_behind}
 use Rattle.solid_model.specs.declared.decision.Decision.{Decision}
 use Rattle.solid_model.specs.declared.line_id.LineId.{LineId}
@@ -24,7 +24,7 @@ use Rattle.solid_model.specs.Forcing.{known_with, cell_beside}
 use Rattle.solid_model.specs.Frames.{frame_of}
 use Rattle.solid_model.specs.GridBox.{grid_sizes}
 use Rattle.solid_model.specs.Lists.{Member}
-use Rattle.solid_model.proofs.Lists.{member-filter, member-from_filter}
+use Rattle.solid_model.proofs.Lists.{member-filter}
 
 -- ---- lines and decisions
 

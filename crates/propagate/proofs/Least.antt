@@ -1,9 +1,11 @@
 -- The least of what is excluded, gathered.
-use Rattle.std.proofs.Common.{◌≡◌, ◌⊎◌, inl, inr, ◌==◌, ◌||◌, Bool, true, false, not, ℕ, ◌+◌, ◌≤◌, nat_lt, ℤ, Option, Some, None, if◌then◌else◌, refl, ap, sym, subst, ◌∙◌, arith}
-use Rattle.std.proofs.lemmas.Bool.{eqb-true, eqb-false, false≢true, cases_lt, ltb-true, ltb-false}
+use Rattle.std.proofs.Common.{◌≡◌, ◌≢◌, ◌↔◌, ◌⊎◌, inl, inr, ◌==◌, ◌||◌, Bool, true, false, not, ℕ, ◌<◌, ◌≤◌, ◌^◌, nat_lt, Option, Some, None, if◌then◌else◌, refl, ap, sym, subst, ◌∙◌, arith}
+use Rattle.std.proofs.lemmas.Bool.{cases_Bool, eqb-true, eqb-false, false≢true, ltb-true, ltb-false}
 use Rattle.solid_model.specs.declared.decision.Decision.{Decision}
-use Rattle.solid_model.specs.declared.segment.Style.{Style}
-use Rattle.propagate.specs.Looking.{CellExcludes, ColumnExcludes, IsLeastIn, TellsLeast, lesser_decision}
+use Rattle.solid_model.specs.Bits.{is_set}
+use Rattle.solid_model.proofs.WordBits.{zeros}
+use Rattle.propagate.specs.Looking.{IsLeastIn, TellsLeast, lesser_decision}
+use Rattle.propagate.proofs.LowestLeft.{rest_off, rest_lowest, rest_other}
 
 -- the same for what is excluded alike
 pub told_alike : (P Q : ℕ → Bool → Type 0) (best : Option Decision) → ((b : ℕ) (v : Bool) → P b v → Q b v) → ((b : ℕ) (v : Bool) → Q b v → P b v) → TellsLeast P best → TellsLeast Q best
@@ -68,15 +70,25 @@ module _ (P Q : ℕ → Bool → Type 0) where
         full = λ f h. elim h as (λ _. ⊥) [ inl k ↦ (let m = one.least e.block false k in absurd (omega arith)) | inr k ↦ two.full f k ];
       }
 
+-- ---- cells of a word, taken one after another, the lowest first
+
+-- a cell that isn't left excludes a value
+abbrev pub Taken : (ℕ → ℕ → Bool → Type 0) → ℕ → ℕ → ℕ → Bool → Type 0
+Taken excludes cells left block value = (k : ℕ) × (is_set cells k ≡ true) × (is_set left k ≡ false) × excludes k block value
+
 -- one cell more
-pub told_more : (known other : ℤ → Option Bool) (style : Style) (blocks : ℕ → Option ℕ) (k : ℕ) (best cell : Option Decision)
-    → TellsLeast (ColumnExcludes known other style blocks k) best → TellsLeast (CellExcludes known other style k (blocks k)) cell
-    → TellsLeast (ColumnExcludes known other style blocks (k + 1)) (lesser_decision best cell)
-told_more known other style blocks k best cell told here = told_alike (λ b v. ColumnExcludes known other style blocks k b v ⊎ CellExcludes known other style k (blocks k) b v)
-    (ColumnExcludes known other style blocks (k + 1)) (lesser_decision best cell)
-    (λ b v h. elim h as (λ _. ColumnExcludes known other style blocks (k + 1) b v) [ inl (j, l, e) ↦ (j, omega arith, e) | inr e ↦ (k, omega arith, e) ])
-    (λ b v (j, l, e). elim (cases_lt j k) as (λ _. ColumnExcludes known other style blocks k b v ⊎ CellExcludes known other style k (blocks k) b v) [
-      | inl m ↦ inl (j, m, e)
-      | inr m ↦ (let same : j ≡ k = omega arith in inr (subst (λ i. CellExcludes known other style i (blocks i) b v) same e))
+pub told_more : (excludes : ℕ → ℕ → Bool → Type 0) (cells left rest : ℕ) → left < 2 ^ 64 → rest < 2 ^ 64 → left ≢ 0
+    → ((k : ℕ) → (is_set rest k ≡ true) ↔ ((is_set left k ≡ true) × ((j : ℕ) × (j < k) × (is_set left j ≡ true))))
+    → is_set cells (zeros left) ≡ true → (best cell : Option Decision)
+    → TellsLeast (Taken excludes cells left) best → TellsLeast (excludes (zeros left)) cell → TellsLeast (Taken excludes cells rest) (lesser_decision best cell)
+told_more excludes cells left rest fits fits_too some is there best cell told here = told_alike (λ b v. Taken excludes cells left b v ⊎ excludes (zeros left) b v) (Taken excludes cells rest)
+    (lesser_decision best cell)
+    (λ b v h. elim h as (λ _. Taken excludes cells rest b v) [
+      | inl (k, in_cells, off, e) ↦ (k, in_cells, rest_off left rest fits fits_too some is k off, e)
+      | inr e ↦ (zeros left, there, rest_lowest left rest fits fits_too some is, e)
     ])
-    (told_lesser (ColumnExcludes known other style blocks k) (CellExcludes known other style k (blocks k)) best cell told here)
+    (λ b v (k, in_cells, off, e). elim (cases_Bool (is_set left k)) as (λ _. Taken excludes cells left b v ⊎ excludes (zeros left) b v) [
+      | inl set ↦ inr (subst (λ j. excludes j b v) (rest_other left rest fits fits_too some is k set off) e)
+      | inr clear ↦ inl (k, in_cells, clear, e)
+    ])
+    (told_lesser (Taken excludes cells left) (excludes (zeros left)) best cell told here)

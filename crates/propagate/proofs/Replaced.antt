@@ -1,16 +1,12 @@
 -- A column with another value in one of its cells, and what it draws beside others.
-use Rattle.std.proofs.Common.{◌≡◌, ◌≢◌, ◌==◌, inl, inr, Bool, true, false, not, if◌then◌else◌, ℕ, ◌<◌, ◌≤◌, Option, Some, None, ℤ, pos, negsuc, ◌<ℤ◌, ◌≤ℤ◌, IsTrue, ◌&&◌, refl, ap, ap₂, sym, subst, ◌∙◌, arith}
-use Rattle.std.proofs.lemmas.Bool.{cases_Bool, cases_lt, eqb-true, eqb-false, eq-eqb, ne_eqb, both_ways, and_parts, and_from, not-true, not_from_false}
+use Rattle.std.proofs.Common.{◌≡◌, ◌≢◌, ◌==◌, inl, inr, Bool, true, false, not, if◌then◌else◌, ℕ, ◌<◌, ◌≤◌, Option, Some, None, ℤ, pos, negsuc, ◌<ℤ◌, ◌≤ℤ◌, refl, ap, sym, ◌∙◌, arith}
+use Rattle.std.proofs.lemmas.Bool.{cases_Bool, cases_lt, eqb-true, eqb-false, eq-eqb, ne_eqb, both_ways}
 use Rattle.std.proofs.lemmas.Int.{ints}
-use Rattle.std.proofs.lemmas.Option.{none-some, same_Some}
-use Rattle.solid_model.specs.Known.{known_of, known_bits}
+use Rattle.std.proofs.lemmas.Option.{none-some}
 use Rattle.solid_model.proofs.KnownColumns.{same_first_down_to}
-use Rattle.propagate.specs.Behind.{Allows}
-use Rattle.propagate.specs.Looking.{CanDrawWith, IsFree}
+use Rattle.propagate.specs.Looking.{CanDrawWith}
 use Rattle.solid_model.specs.declared.segment.Style.TheVariants.{Blank, Dashed}
-use Rattle.propagate.proofs.ValueBits.{undecided_bits}
-use Rattle.solid_model.specs.Bits.{is_set}
-use Rattle.solid_model.specs.Columns.{IsFirstFull, HaveSameFirstFull}
+use Rattle.solid_model.specs.Columns.{IsFirstFull}
 use Rattle.solid_model.specs.Demands.{AgreesWith, CanDraw}
 
 -- the value of one cell is replaced
@@ -24,6 +20,10 @@ replaced_at k v column = ap (λ (t : Bool). if t then v else column (pos k)) (eq
 pub replaced_off : (k : ℕ) (v : Bool) (column : ℤ → Bool) (j : ℕ) → j ≢ k → replaced k v column (pos j) ≡ column (pos j)
 replaced_off k v column j off = ap (λ (t : Bool). if t then v else column (pos j)) (ne_eqb j k off)
 
+-- what is known of a cell allows a value
+abbrev pub Allows : (ℤ → Option Bool) → ℕ → Bool → Type 0
+Allows known k v = (w : Bool) → known (pos k) ≡ Some w → v ≡ w
+
 -- nothing is known of a cell
 pub allows_open : (known : ℤ → Option Bool) (k : ℕ) (v : Bool) → known (pos k) ≡ None → Allows known k v
 allows_open known k v none w e = absurd (none-some w (sym none ∙ e))
@@ -34,13 +34,6 @@ replaced_agrees known k v column allows agrees (pos j) w e = elim (cases_Bool (j
   | inl at ↦ (let same : j ≡ k = eqb-true j k at in ap (λ n. replaced k v column (pos n)) same ∙ replaced_at k v column ∙ allows w (ap (λ n. known (pos n)) (sym same) ∙ e))
   | inr off ↦ replaced_off k v column j (eqb-false j k off) ∙ agrees (pos j) w e
 ]
-
--- a cell that is undecided in a column is so in one with the same undecided cells
-pub open_same : (fa ma fb mb k : ℕ) → (is_set ma k && not (is_set fa k)) ≡ (is_set mb k && not (is_set fb k)) → known_bits fa ma (pos k) ≡ None → known_bits fb mb (pos k) ≡ None
-open_same fa ma fb mb k same none =
-    let bits = undecided_bits fa ma k none in
-    let parts = and_parts (is_set mb k) (not (is_set fb k)) (sym same ∙ and_from (is_set ma k) (not (is_set fa k)) bits.1 (not_from_false (is_set fa k) bits.0)) in
-    ap₂ known_of (not-true (is_set fb k) parts.1) parts.0
 
 -- two columns that are as they are known to be, and begin at a depth
 pub record Begin (known other : ℤ → Option Bool) (d : ℕ) : Type 0 where
@@ -54,13 +47,13 @@ pub record Begin (known other : ℤ → Option Bool) (d : ℕ) : Type 0 where
 module _ (known other : ℤ → Option Bool) where
   -- ---- Blank
 
-  -- columns that can be equal leave the one free where what is undecided of it is so of the other
-  pub free_equal : CanDraw known other Blank → ((k : ℕ) → known (pos k) ≡ None → other (pos k) ≡ None) → IsFree known other Blank
-  free_equal (a, b, fits, too, same) both k v none = (
+  -- columns that can be equal can be so with either value in a cell that is undecided in both
+  pub equal_with : CanDraw known other Blank → (k : ℕ) (v : Bool) → known (pos k) ≡ None → other (pos k) ≡ None → CanDrawWith known other Blank k v
+  equal_with (a, b, fits, too, same) k v none none_too = (
     replaced k v a,
     replaced k v b,
     replaced_agrees known k v a (allows_open known k v none) fits,
-    replaced_agrees other k v b (allows_open other k v (both k none)) too,
+    replaced_agrees other k v b (allows_open other k v none_too) too,
     replaced_at k v a,
     equal,
   )
@@ -68,9 +61,6 @@ module _ (known other : ℤ → Option Bool) where
       equal : (j : ℤ) → replaced k v a j ≡ replaced k v b j
       equal (pos j) = ap (λ (x : Bool). if j == k then v else x) (same (pos j))
       equal (negsuc j) = same (negsuc j)
-
-  pub equal_back : CanDraw known other Blank → CanDraw other known Blank
-  equal_back (a, b, fits, too, same) = (b, a, too, fits, λ k. sym (same k))
 
   -- ---- Dashed
 

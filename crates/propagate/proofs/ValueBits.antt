@@ -1,14 +1,14 @@
 -- A bit more of what is full, or one less of what may be.
-use Rattle.std.proofs.Common.{◌≡◌, ◌≢◌, ◌↔◌, ◌==◌, inl, inr, Bool, true, false, if◌then◌else◌, ℕ, ◌*◌, ◌%◌, ◌^◌, ◌<◌, Option, Some, None, bit_and, bit_or, w64, ℤ, pos, negsuc, refl, ap, ap₂, sym, subst, ◌∙◌, arith}
+use Rattle.std.proofs.Common.{◌≡◌, ◌≢◌, ◌↔◌, ◌==◌, ◌&&◌, ◌||◌, inl, inr, Bool, true, false, not, if◌then◌else◌, ℕ, ◌*◌, ◌%◌, ◌^◌, ◌<◌, Option, Some, None, bit_and, bit_or, w64, ℤ, pos, negsuc, refl, ap, ap₂, sym, subst, ◌∙◌, arith}
 use Rattle.std.specs.Int.{bit_not}
 use Rattle.std.specs.Int.Bits.{and_lt}
-use Rattle.std.proofs.lemmas.Bool.{both_ways, cases_Bool, cases_lt, eqb-true, eqb-false, eq-eqb}
+use Rattle.std.proofs.lemmas.Bool.{both_ways, cases_Bool, cases_lt, eqb-true, eqb-false, and_parts, and_from, not-true, not_from_false}
 use Rattle.std.proofs.lemmas.Nat.Bits.{bit_at_set_same, bit_at_set_other, bit_at_clear_same, bit_at_clear_other, bit_at_above}
-use Rattle.std.proofs.lemmas.Option.{none-some, same_Some}
+use Rattle.std.proofs.lemmas.Option.{none-some}
 use Rattle.solid_model.specs.Known.{known_of, known_bits, LiesWithin}
 use Rattle.solid_model.specs.declared.segment.Style.{Style}
 use Rattle.solid_model.specs.Bits.{is_set}
-use Rattle.solid_model.specs.Demands.{AgreesWith, CanDraw}
+use Rattle.solid_model.specs.Demands.{CanDraw}
 use Rattle.solid_model.specs.Forcing.{with_value}
 use Rattle.columns.proofs.WithValue.{agrees_from, agrees_to}
 use Rattle.propagate.specs.Looking.{CanDrawWith}
@@ -22,7 +22,40 @@ undecided_bits full may k = by (is_set full k) (is_set may k)
     by false true e = (refl, refl)
     by false false e = absurd (none-some false (sym e))
 
--- and it stands within the word
+-- such a cell is undecided
+pub open_bits : (full may k : ℕ) → is_set may k ≡ true → is_set full k ≡ false → known_bits full may (pos k) ≡ None
+open_bits full may k set clear = ap₂ known_of clear set
+
+-- its bit is one of those that may be full but aren't for certain
+module _ (full may u : ℕ) (is : (k : ℕ) → is_set u k ≡ (is_set may k && not (is_set full k))) (k : ℕ) where
+  pub open_from : is_set u k ≡ true → known_bits full may (pos k) ≡ None
+  open_from set = let parts = and_parts (is_set may k) (not (is_set full k)) (sym (is k) ∙ set) in open_bits full may k parts.0 (not-true (is_set full k) parts.1)
+
+  pub open_to : known_bits full may (pos k) ≡ None → is_set u k ≡ true
+  open_to none = let bits = undecided_bits full may k none in is k ∙ and_from (is_set may k) (not (is_set full k)) bits.1 (not_from_false (is_set full k) bits.0)
+
+-- ---- of two bits
+
+pub shared_bit : (x y : Bool) → x ≡ true → (x && not y) ≡ false → y ≡ true
+shared_bit true true e off = refl
+shared_bit true false e off = sym off
+shared_bit false y e off = absurd (both_ways false refl e)
+
+pub clear_beside : (x y : Bool) → x ≡ true → (x && y) ≡ false → y ≡ false
+clear_beside true y e off = off
+clear_beside false y e off = absurd (both_ways false refl e)
+
+pub clear_first : (x y : Bool) → (x || y) ≡ false → x ≡ false
+clear_first true y off = off
+clear_first false y off = refl
+
+pub clear_second : (x y : Bool) → (x || y) ≡ false → y ≡ false
+clear_second true y off = absurd (both_ways true off refl)
+clear_second false y off = off
+
+-- ----
+
+-- an undecided cell stands within the word
 pub undecided_within : (full may k : ℕ) → may < 2 ^ 64 → known_bits full may (pos k) ≡ None → k < 64
 undecided_within full may k fits none = elim (cases_lt k 64) as (λ _. k < 64) [
   | inl l ↦ l

@@ -1,12 +1,12 @@
 -- What the lines of a grid force, one after another.
-use Rattle.std.specs.Prelude.{◌≡◌, Bool, not, ℕ, List, [], ◌∷◌, ◌++◌, Option, None, IsTrue}
+use Rattle.std.specs.Prelude.{◌≡◌, Bool, ℕ, List, [], ◌∷◌, ◌++◌, Option, None}
 use Rattle.propagate.specs.declared.stepping.Forcing.{Forcing}
 use Rattle.propagate.specs.declared.stepping.Forcing.TheVariants.{Forced, Stable, Conflict}
-use Rattle.propagate.specs.Looking.{IsLeastIn, TellsLeast}
+use Rattle.propagate.specs.Looking.{IsLeastIn}
 use Rattle.solid_model.specs.declared.decision.Decision.{Decision}
 use Rattle.solid_model.specs.declared.line_id.LineId.{LineId}
 use Rattle.solid_model.specs.Blocks.{ProblemParts}
-use Rattle.solid_model.specs.Decisions.{decided_by, PartialParts}
+use Rattle.solid_model.specs.Decisions.{decided_by}
 use Rattle.solid_model.specs.Demands.{lines_of, AllMet, IsFirstBroken}
 use Rattle.solid_model.specs.Forcing.{LineExcludes, IsExcluded}
 use Rattle.solid_model.specs.Lists.{Member}

@@ -1,7 +1,8 @@
 -- What the cells of two columns exclude of each other.
-use Rattle.std.specs.Prelude.{◌≡◌, ◌==◌, ◌||◌, ◌<◌, ◌≤◌, Bool, false, not, ℕ, nat_lt, ℤ, pos, Option, Some, None, if◌then◌else◌}
+use Rattle.std.specs.Prelude.{◌≡◌, ◌==◌, ◌||◌, ◌≤◌, Bool, true, false, not, ℕ, nat_lt, ℤ, pos, Option, Some, None, if◌then◌else◌}
 use Rattle.solid_model.specs.declared.decision.Decision.{Decision}
 use Rattle.solid_model.specs.declared.segment.Style.{Style}
+use Rattle.solid_model.specs.Bits.{is_set}
 use Rattle.solid_model.specs.Columns.{ColumnsDraw}
 use Rattle.solid_model.specs.Demands.{AgreesWith}
 
@@ -10,23 +11,16 @@ abbrev pub CanDrawWith : (ℤ → Option Bool) → (ℤ → Option Bool) → Sty
 CanDrawWith known other style depth value = (column beside : ℤ → Bool) × AgreesWith known column × AgreesWith other beside
     × (column (pos depth) ≡ value) × ColumnsDraw column beside style
 
--- a column is free beside another one: each of its undecided cells can have either value
-abbrev pub IsFree : (ℤ → Option Bool) → (ℤ → Option Bool) → Style → Type 0
-IsFree known other style = (depth : ℕ) (value : Bool) → known (pos depth) ≡ None → CanDrawWith known other style depth value
-
--- two columns are, each beside the other one
-abbrev pub AreFree : (ℤ → Option Bool) → (ℤ → Option Bool) → Style → Type 0
-AreFree known other style = IsFree known other style × IsFree other known style
+-- These cells of a column are undecided, and each other undecided one can have either value beside another column.
+pub record IsDoubted (known other : ℤ → Option Bool) (style : Style) (cells : ℕ) : Type 0 where
+  pub undecided : (depth : ℕ) → is_set cells depth ≡ true → known (pos depth) ≡ None
+  pub free : (depth : ℕ) (value : Bool) → known (pos depth) ≡ None → is_set cells depth ≡ false → CanDrawWith known other style depth value
 
 -- ---- blocks
 
 -- a cell excludes a value of its block, if it has one
 abbrev pub CellExcludes : (ℤ → Option Bool) → (ℤ → Option Bool) → Style → ℕ → Option ℕ → ℕ → Bool → Type 0
 CellExcludes known other style depth cell block value = (cell ≡ Some block) × (known (pos depth) ≡ None) × (CanDrawWith known other style depth value → ⊥)
-
--- one of the nearest cells does, so many, each of which has a block or none
-abbrev pub ColumnExcludes : (ℤ → Option Bool) → (ℤ → Option Bool) → Style → (ℕ → Option ℕ) → ℕ → ℕ → Bool → Type 0
-ColumnExcludes known other style blocks count block value = (depth : ℕ) × (depth < count) × CellExcludes known other style depth (blocks depth) block value
 
 -- Of what is excluded, the least block, the opposite of a value of it that is excluded, and full where both are.
 pub record IsLeastIn (excluded : ℕ → Bool → Type 0) (d : Decision) : Type 0 where
@@ -38,6 +32,11 @@ pub record IsLeastIn (excluded : ℕ → Bool → Type 0) (d : Decision) : Type 
 abbrev pub TellsLeast : (ℕ → Bool → Type 0) → Option Decision → Type 0
 TellsLeast excluded None = (block : ℕ) (value : Bool) → excluded block value → ⊥
 TellsLeast excluded (Some d) = IsLeastIn excluded d
+
+-- the decision that a block has a value, if there is one
+abbrev pub decision_on : ℕ → Option Bool → Option Decision
+decision_on block None = None
+decision_on block (Some full) = Some (record { block = block; full = full })
 
 -- of two decisions the one on the lesser block, or of two on one block that it is full, if one of them is
 abbrev pub lesser_decision : Option Decision → Option Decision → Option Decision

@@ -1,8 +1,8 @@
 //! What the cells of a column beside a line force.
 
-ghost use Rattle.std.specs.Prelude.{◌≡◌, ◌↔◌, ◌<◌, ℤ, pos, None, IsTrue};
+ghost use Rattle.std.specs.Prelude.{◌≡◌, ◌↔◌, ◌<◌, ℕ, ℤ, pos, Some, None, IsTrue};
 ghost use Rattle.solid_model.specs.Known.{known_bits, LiesWithin};
-ghost use Rattle.propagate.specs.Looking.{CanDrawWith, CellExcludes, TellsLeast, lesser_decision};
+ghost use Rattle.propagate.specs.Looking.{CanDrawWith, CellExcludes, TellsLeast, decision_on, lesser_decision};
 ghost use Rattle.solid_model.specs.Forcing.{with_value};
 
 use columns::{KnownColumn, can_draw};
@@ -49,14 +49,6 @@ fn can_draw_with(
     can_draw(style, with_value(column, depth, value), beside)
 }
 
-/// Nothing is known of a cell.
-pub fn is_undecided(column: KnownColumn, depth: usize) -> bool
-    requires { depth < 64 }
-    ensures { IsTrue result ↔ (known_bits column.full column.may (pos depth) ≡ None) }
-{
-    (column.may >> depth) & 1 == 1 && (column.full >> depth) & 1 != 1
-}
-
 /// Of two decisions the one on the lesser block. Of two on one block: full, if one of them is.
 pub fn lesser(one: Option<Decision>, other: Option<Decision>) -> Option<Decision>
     ensures { result ≡ lesser_decision one other }
@@ -81,30 +73,26 @@ pub fn lesser(one: Option<Decision>, other: Option<Decision>) -> Option<Decision
     }
 }
 
-/// The decision that a cell of a block, or of none, forces: the opposite of a value that it can't
-/// have, and full where it can have neither.
-pub fn forced_by_cell(
+/// The value that an undecided cell has to have: the opposite of one that it can't have, and full
+/// where it can have neither.
+pub fn forced_value(
     style: Style,
     column: KnownColumn,
     beside: KnownColumn,
     depth: usize,
-    block: Option<u16>,
-) -> Option<Decision>
+) -> Option<bool>
     requires depth { depth < 64 }
     requires within { LiesWithin column.full column.may }
     requires beside { LiesWithin beside.full beside.may }
-    ensures { TellsLeast (CellExcludes (known_bits column.full column.may)
-        (known_bits beside.full beside.may) style depth block) result }
+    requires undecided { known_bits column.full column.may (pos depth) ≡ None }
+    ensures { (block : ℕ) → TellsLeast (CellExcludes (known_bits column.full column.may)
+        (known_bits beside.full beside.may) style depth (Some block)) (decision_on block result) }
 {
-    let block = block?;
-    if !is_undecided(column, depth) {
-        return None;
-    }
     if !can_draw_with(style, column, beside, depth, false) {
-        return Some(Decision { block, full: true });
+        return Some(true);
     }
     if !can_draw_with(style, column, beside, depth, true) {
-        return Some(Decision { block, full: false });
+        return Some(false);
     }
     None
 }

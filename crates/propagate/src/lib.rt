@@ -2,9 +2,9 @@
 //! follow from one another.
 #![tactic(auto)]
 
-mod calm;
 mod cells;
 mod closing;
+mod doubted;
 mod line;
 mod stepping;
 

@@ -1,16 +1,19 @@
 //! What a line forces.
 
-ghost use Rattle.std.specs.Prelude.{◌≡◌, IsTrue};
+ghost use Rattle.std.specs.Prelude.{◌≡◌, ◌<◌, ℕ, pos, true, None, IsTrue};
 ghost use Rattle.solid_model.specs.Known.{LiesWithin};
 ghost use Rattle.columns.specs.Seen.{IsSeen};
 ghost use Rattle.propagate.specs.Forced.{ExcludesOpen};
 ghost use Rattle.propagate.specs.Looking.{TellsLeast};
-ghost use Rattle.propagate.specs.Beside.{column_of, ExcludesBeside};
+ghost use Rattle.propagate.specs.Beside.{column_of, known_beside, ExcludesAt, ExcludesAmong};
+ghost use Rattle.solid_model.specs.Bits.{is_set};
+ghost use Rattle.solid_model.specs.Frames.{frame_of};
+ghost use Rattle.solid_model.specs.GridBox.{grid_sizes};
 ghost use Rattle.solid_model.specs.Decisions.{decided_by};
 ghost use Rattle.solid_model.specs.Demands.{has_line, CanBeMet};
 
-use crate::calm::are_free;
-use crate::cells::{forced_by_cell, lesser};
+use crate::cells::{forced_value, lesser};
+use crate::doubted::{doubted, without_lowest};
 use columns::{KnownColumn, SeenLine, block_beside};
 use line_demands::Partial;
 use solid_model::{Decision, Problem};
@@ -25,24 +28,40 @@ fn column_of(seen: SeenLine, of_after: bool) -> KnownColumn
     if of_after { seen.after } else { seen.before }
 }
 
-/// The decision that the cells of the column after a line force, or those of the one before it: on
-/// the least block, full if one of them is.
-fn forced_beside(problem: &Problem, seen: SeenLine, of_after: bool) -> Option<Decision>
+/// The decision that an undecided cell of the column after a line, or of the one before it, forces.
+fn forced_at(problem: &Problem, seen: SeenLine, of_after: bool, depth: usize) -> Option<Decision>
     requires line { IsTrue (has_line problem.now.grid seen.line) }
     requires after { LiesWithin seen.after.full seen.after.may }
     requires before { LiesWithin seen.before.full seen.before.may }
-    ensures { TellsLeast (ExcludesBeside problem.now seen of_after) result }
+    requires depth { depth < grid_sizes problem.now.grid (frame_of seen.line.view).away.axis }
+    requires within { depth < 64 }
+    requires open { known_beside seen of_after (pos depth) ≡ None }
+    ensures { TellsLeast (ExcludesAt problem.now seen of_after depth) result }
 {
-    let sizes = problem.grid().sizes();
     let column = column_of(seen, of_after);
     let beyond = column_of(seen, !of_after);
+    let full = forced_value(seen.style, column, beyond, depth)?;
+    let block = block_beside(problem, seen.line, of_after, depth)?;
+    Some(Decision { block, full })
+}
+
+/// The decision that some cells of the column after a line force, or some of the one before it, all of
+/// them undecided: on the least block, full if one of them is.
+fn forced_among(problem: &Problem, seen: SeenLine, of_after: bool, cells: u64) -> Option<Decision>
+    requires line { IsTrue (has_line problem.now.grid seen.line) }
+    requires after { LiesWithin seen.after.full seen.after.may }
+    requires before { LiesWithin seen.before.full seen.before.may }
+    requires inside { (k : ℕ) → is_set cells k ≡ true
+        → k < grid_sizes problem.now.grid (frame_of seen.line.view).away.axis }
+    requires open { (k : ℕ) → is_set cells k ≡ true → known_beside seen of_after (pos k) ≡ None }
+    ensures { TellsLeast (ExcludesAmong problem.now seen of_after cells) result }
+{
+    let mut left = cells;
     let mut least = None;
-    for depth in 0..sizes.along(seen.line.view.frame().away.axis) {
-        let block = block_beside(problem, seen.line, of_after, depth);
-        least = lesser(
-            least,
-            forced_by_cell(seen.style, column, beyond, depth, block),
-        );
+    while left != 0 {
+        let depth = left.trailing_zeros() as usize;
+        left = without_lowest(left);
+        least = lesser(least, forced_at(problem, seen, of_after, depth));
     }
     least
 }
@@ -58,11 +77,13 @@ pub fn forced_by_line(partial: &Partial<'_>, seen: SeenLine) -> Option<Decision>
     let problem = partial.problem();
     // A look at the problem tells that its blocks are those of its grid.
     let _grid = problem.grid();
-    if are_free(seen.style, seen.after, seen.before) {
+    let after = doubted(seen.style, seen.after, seen.before);
+    let before = doubted(seen.style, seen.before, seen.after);
+    if after | before == 0 {
         return None;
     }
     lesser(
-        forced_beside(problem, seen, true),
-        forced_beside(problem, seen, false),
+        forced_among(problem, seen, true, after),
+        forced_among(problem, seen, false, before),
     )
 }

@@ -1,5 +1,5 @@
 -- All lines are looked at, and then those that the decisions since touch.
-use Rattle.std.proofs.Common.{◌≡◌, ◌∙◌, length, IsTrue, refl, sym, subst}
+use Rattle.std.proofs.Common.{IsTrue, refl, sym, subst}
 use Rattle.propagate.specs.Closing.{IsHandled, Grows}
 use Rattle.propagate.specs.Forced.{IsCalm}
 use Rattle.propagate.proofs.Chains.{grows_self, grows_both, closed_stable, closed_conflict}

@@ -1,5 +1,5 @@
 -- The lines that the decisions since touch are looked at.
-use Rattle.std.proofs.Common.{◌≡◌, ◌∙◌, length, IsTrue, refl, sym, subst}
+use Rattle.std.proofs.Common.{refl, subst}
 use Rattle.propagate.proofs.Chains.{grows_self, closed_stable, closed_conflict}
 use Rattle.propagate.proofs.Handled.{handled_since}
 use Rattle.propagate.proofs.closing.close_after.Goals as goal

@@ -1,5 +1,5 @@
 -- Each decision is on a block that is there.
-use Rattle.std.proofs.Common.{◌≡◌, ◌<◌, List, Some, false, length, get_or, slice_get, refl, ap, sym, subst, ◌∙◌}
+use Rattle.std.proofs.Common.{◌<◌, List, false, get_or, sym, subst}
 use Rattle.std.proofs.lemmas.Option.{slice_get-get_or}
 use Rattle.propagate.proofs.Chains.{decision_there}
 use Rattle.propagate.proofs.closing.decided_block.Goals as goal

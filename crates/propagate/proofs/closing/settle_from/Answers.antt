@@ -1,5 +1,5 @@
 -- One decision more is looked at.
-use Rattle.std.proofs.Common.{◌≤◌, ◌+◌, None, length, IsTrue, refl, sym, subst, ◌∙◌, arith}
+use Rattle.std.proofs.Common.{◌+◌, IsTrue, refl, sym, subst, ◌∙◌, arith}
 use Rattle.propagate.specs.Closing.{IsHandled, Grows}
 use Rattle.propagate.proofs.Chains.{grows_self, grows_both}
 use Rattle.propagate.proofs.Handled.{handled_calm}

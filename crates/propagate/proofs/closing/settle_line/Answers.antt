@@ -1,5 +1,5 @@
 -- The line excludes nothing, or is to be looked at again once its decision is taken.
-use Rattle.std.proofs.Common.{◌≡◌, ◌∷◌, ◌++◌, [], None, not, get_or, inl, inr, ap, sym, subst}
+use Rattle.std.proofs.Common.{◌∷◌, ◌++◌, [], not, get_or, inl, inr, ap, sym, subst}
 use Rattle.std.specs.Prelude.{IfSome}
 use Rattle.propagate.specs.Closing.{IsHandled, Grows}
 use Rattle.propagate.specs.Forced.{IsCalm}

@@ -1,16 +1,14 @@
 -- One line more is looked at.
-use Rattle.std.proofs.Common.{◌≡◌, ◌⊎◌, ◌<◌, ◌≤◌, ◌+◌, inl, inr, length, get_or, slice_get, Some, None, IsTrue, refl, ap, sym, subst, ◌∙◌, arith}
+use Rattle.std.proofs.Common.{◌≡◌, ◌⊎◌, ◌<◌, ◌≤◌, ◌+◌, inl, inr, length, get_or, slice_get, Some, refl, sym, subst, ◌∙◌, arith}
 use Rattle.columns.specs.Touching.{lines_touching, touching}
 use Rattle.propagate.proofs.Steps.{no_line}
 use Rattle.propagate.specs.Closing.{IsHandled, Grows}
 use Rattle.propagate.proofs.Chains.{grows_self, grows_both, grows_length}
 use Rattle.propagate.proofs.Handled.{handled_past, left_after, none_left}
 use Rattle.propagate.proofs.closing.settle_touching.Goals as goal
-use Rattle.solid_model.specs.declared.decision.Decision.{Decision}
-use Rattle.solid_model.specs.declared.line_id.LineId.{LineId}
 use Rattle.solid_model.specs.Blocks.{ProblemParts}
 use Rattle.solid_model.specs.Decisions.{decided_by}
-use Rattle.solid_model.specs.Demands.{has_line, lines_of, AllMet, IsFirstBroken}
+use Rattle.solid_model.specs.Demands.{lines_of, AllMet, IsFirstBroken}
 use Rattle.solid_model.specs.Lists.{Member}
 
 pub loop-place-init : goal.loop-place-init

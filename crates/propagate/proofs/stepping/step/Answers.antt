@@ -1,5 +1,5 @@
 -- The first line that excludes something decides.
-use Rattle.std.proofs.Common.{◌≡◌, ◌<◌, ◌∷◌, ◌++◌, [], inl, inr, not, take, drop, length, suc, get_or, slice_get, Some, None, IsTrue, refl, sym, subst, ap, ◌∙◌, arith}
+use Rattle.std.proofs.Common.{◌≡◌, ◌<◌, ◌∷◌, ◌++◌, [], inl, inr, not, take, drop, length, suc, get_or, slice_get, Some, IsTrue, refl, sym, subst, ap, ◌∙◌, arith}
 use Rattle.std.proofs.lemmas.List.{take_all}
 use Rattle.std.proofs.lemmas.Option.{slice_get-get_or}
 use Rattle.columns.proofs.AllLines.{lines_are_listed}
@@ -8,7 +8,6 @@ use Rattle.propagate.specs.Looking.{IsLeastIn, TellsLeast}
 use Rattle.propagate.proofs.Handled.{excluded_there}
 use Rattle.propagate.proofs.Steps.{no_line, member_take, place_parts}
 use Rattle.propagate.proofs.stepping.step.Goals as goal
-use Rattle.solid_model.specs.declared.line_id.LineId.{LineId}
 use Rattle.solid_model.specs.Blocks.{ProblemParts, IsBlocksOf}
 use Rattle.solid_model.specs.Decisions.{decided_by, PartialParts}
 use Rattle.solid_model.specs.Demands.{has_line, lines_of, CanBeMet}
