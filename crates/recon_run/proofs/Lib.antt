@@ -14,6 +14,5 @@ pub mod TextByText
 pub mod Totality
 pub mod OneSolid
 pub mod PossibleEnds
-pub mod Gained
 pub mod Paged
 pub mod Searching

@@ -8,7 +8,7 @@ use Rattle.columns.proofs.LivePrefixes.{live_keeps_matching}
 use Rattle.recon_run.specs.Findings.{BeginsPages, EndsWriting, TellsPages, TellsSearch, run_failure}
 use Rattle.recon_run.specs.Pages.{Page, ArePagesOf, IsPage, choices_on, pages_text}
 use Rattle.recon_run.specs.Searched.{SearchedParts}
-use Rattle.recon_run.specs.SinkPages.{HasGained, calls_text}
+use Rattle.sink_pages.specs.Gained.{HasGained, calls_text}
 use Rattle.recon_run.proofs.PossibleEnds.{can_list}
 use Rattle.report.specs.Texts.{page_text}
 use Rattle.search_end.specs.Pages.{AreNumbered, Call, HasAllPaged, HasPaged, choices_of}

@@ -6,7 +6,7 @@ use Rattle.std.specs.Io.KnownBytes.{Appends, Keeps}
 use Rattle.recon_run.specs.declared.status.Failure.{Failure}
 use Rattle.recon_run.specs.declared.status.Failure.TheVariants.{ReadFault, WriteFault, Memory}
 use Rattle.recon_run.specs.Findings.{TellsChoice, TellsChoices, EndsText, EndsWriting}
-use Rattle.recon_run.proofs.Gained.{prefix_after}
+use Rattle.sink_pages.proofs.Gained.{prefix_after}
 use Rattle.report.specs.Texts.{TextsParts}
 use Rattle.tv_base.proofs.Told.{appends_both}
 use Rattle.tv_base.specs.Faults.{Rose}

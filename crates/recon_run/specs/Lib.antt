@@ -5,5 +5,3 @@ pub mod Owed
 pub mod Endings
 pub mod Searched
 pub mod Findings
-pub mod SinkPages
-pub mod KeptCalls

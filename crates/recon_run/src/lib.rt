@@ -9,7 +9,6 @@ mod laws;
 mod one_solid;
 mod problem;
 mod searched;
-mod sink_pages;
 mod status;
 mod telling;
 mod trial;

@@ -6,10 +6,10 @@ ghost use Rattle.tv_base.specs.Faults.{Rose};
 
 use crate::crew::Crew;
 use crate::searched::{Searched, search, search_by};
-use crate::sink_pages::{Begun, SinkPages};
 use crate::status::Failure;
 use core::mem::replace_with;
 use search_run::RunFault;
+use sink_pages::{Begun, SinkPages};
 use solid_model::{Axis, Limits, Problem};
 use std::alloc::Global;
 use std::marker::Brand;

@@ -3,7 +3,7 @@ use Rattle.std.proofs.Common.{ℕ, List, Option, Some, Err, true, ap, subst, sub
 use Rattle.std.specs.Io.KnownBytes.{Appends}
 use Rattle.recon_run.specs.declared.status.Failure.{Failure}
 use Rattle.recon_run.specs.Findings.{BeginsPages, EndsWriting, TellsPages, TellsSearch}
-use Rattle.recon_run.specs.SinkPages.{PagesState}
+use Rattle.sink_pages.specs.Gained.{PagesState}
 use Rattle.recon_run.proofs.Paged.{all_told, failed_ends}
 use Rattle.search_end.specs.Pages.{HasAllPaged, HasPaged}
 use Rattle.solid_model.specs.Panels.{GridParts, IsGrid}

@@ -1,11 +1,11 @@
-//! Pages that go to a sink, as texts.
+//! Pages that were handed out, each kept with its text written.
 
 ghost use Rattle.std.specs.Prelude.{◌≡◌, ◌∷◌, [], List, Option, Some, None, ℕ, Bool, true, false, IfOk, OnOk, OnErr};
 ghost use Rattle.search_end.specs.Pages.{Call, AddsCalls, CountsFaults, MayAddCall};
-ghost use Rattle.recon_run.specs.SinkPages.{HasGained};
+ghost use Rattle.sink_pages.specs.Gained.{HasGained};
 
 use report::page_text;
-use search_run::PageOut;
+use search_end::PageOut;
 use solid_model::{Choice, Memory};
 use std::alloc::Global;
 use std::marker::{Brand, Model, PhantomData};
@@ -41,11 +41,11 @@ pub struct SinkPages<K: Sink, B: Begun> {
 
 impl<K: Sink, B: Begun> Model for SinkPages<K, B> {
     ghost use Rattle.std.specs.Prelude.{map};
-    ghost use Rattle.recon_run.specs.SinkPages.{PagesState, HasGained};
+    ghost use Rattle.sink_pages.specs.Gained.{PagesState, HasGained};
 
     ghost Value = { PagesState };
 
-    ghost use Rattle.recon_run.specs.KeptCalls.{call_of};
+    ghost use Rattle.sink_pages.specs.KeptCalls.{call_of};
 
     ghost view = { λ s. record {
       held = K.held s.sink;

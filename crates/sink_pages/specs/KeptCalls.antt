@@ -1,5 +1,5 @@
 -- Calls that hand out pages, as they are kept.
-use Rattle.recon_run.specs.declared.sink_pages.Told.{Told}
+use Rattle.sink_pages.specs.declared.pages.Told.{Told}
 use Rattle.search_end.specs.Pages.{Call}
 
 -- the call that is kept so

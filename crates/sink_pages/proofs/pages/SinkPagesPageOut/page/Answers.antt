@@ -2,13 +2,13 @@
 use Rattle.std.proofs.Common.{◌≡◌, ◌∙◌, ◌++◌, ◌∷◌, [], List, map, ap, subst, sym, OnOk, OnErr}
 use Rattle.std.specs.Io.KnownBytes.{Appends}
 use Rattle.tv_base.specs.Pieces.{AppendsPrefix}
-use Rattle.recon_run.specs.declared.sink_pages.Told.{Told}
-use Rattle.recon_run.specs.SinkPages.{call_text}
+use Rattle.sink_pages.specs.declared.pages.Told.{Told}
+use Rattle.sink_pages.specs.Gained.{call_text}
 use Rattle.report.specs.Texts.{page_text}
 use Rattle.std.proofs.lemmas.List.{map-append}
-use Rattle.recon_run.specs.KeptCalls.{call_of}
-use Rattle.recon_run.proofs.Gained.{told_next}
-use Rattle.recon_run.proofs.sink_pages.SinkPagesPageOut.page.Goals as goal
+use Rattle.sink_pages.specs.KeptCalls.{call_of}
+use Rattle.sink_pages.proofs.Gained.{told_next}
+use Rattle.sink_pages.proofs.pages.SinkPagesPageOut.page.Goals as goal
 
 -- one page more is kept behind the others
 kept_next : (kept reserved pushed : List Told) (one : Told) → pushed ≡ reserved ++ one ∷ [] → reserved ≡ kept

@@ -4,7 +4,7 @@ use Rattle.std.proofs.Math.Seq.{take-append-add}
 use Rattle.std.proofs.lemmas.Grind.{flat_map-append}
 use Rattle.std.specs.Io.KnownBytes.{Appends}
 use Rattle.search_end.specs.Pages.{Call}
-use Rattle.recon_run.specs.SinkPages.{HasGained, call_text, calls_text}
+use Rattle.sink_pages.specs.Gained.{HasGained, call_text, calls_text}
 use Rattle.solid_model.proofs.Lists.{each-append_right}
 use Rattle.tv_base.proofs.Told.{appends_both}
 use Rattle.tv_base.specs.declared.sink.SinkError.{SinkError}
