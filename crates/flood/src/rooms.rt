@@ -91,9 +91,10 @@ fn room_numbers(
 {
     let count = sizes.count();
     let mut rooms = Vec::with_capacity(alloc, count)?;
+    let mut cell = PerAxis::FIRST;
     for place in 0..count {
-        let node = node_of(sizes, sizes.cell(place));
-        rooms.push(room_of(components, node))?;
+        cell = sizes.next_cell(cell, place);
+        rooms.push_reserved(room_of(components, node_of(sizes, cell)));
     }
     Ok(rooms)
 }
