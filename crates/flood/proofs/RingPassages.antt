@@ -1,6 +1,6 @@
 -- With the right bars, the ways between nodes are the steps of the ringed box.
 use Rattle.std.proofs.Common.{◌≡◌, ◌↔◌, ◌⊎◌, inl, inr, Bool, true, false, ◌&&◌, ◌||◌, ℕ, zero, suc, ◌<◌, ℤ, pos, negsuc, ◌-ℤ◌, ◌≤ℤ◌, List, slice_index_or, IsTrue, refl, ap, sym, subst, ◌∙◌, arith, ◌+ℤ◌}
-use Rattle.std.proofs.lemmas.Bool.{false≢true, and_parts, and_from, both_ways, false_from_ne_true}
+use Rattle.std.proofs.lemmas.Bool.{false≢true, and_from, both_ways, false_from_ne_true}
 use Rattle.std.proofs.lemmas.Int.{ints}
 use Rattle.std.proofs.lemmas.Bool.Decides.{Decides-int_eq}
 use Rattle.std.specs.Ordering.{int_eq}
@@ -14,7 +14,7 @@ use Rattle.solid_model.proofs.BoxCells.{below-bounds, within-below}
 use Rattle.solid_model.proofs.BoxPlaces.{one_cell}
 use Rattle.solid_model.proofs.Pushed.{HoldsSoFar}
 use Rattle.flood.specs.Graph.{GoesBack}
-use Rattle.flood.specs.declared.bars.Bars.{Bars}
+use Rattle.flood.specs.declared.cell_bars.CellBars.{CellBars}
 use Rattle.flood.specs.Passages.{PassageParts, no_bars, has_bar, LeadsBack, StepsAlong}
 use Rattle.flood.specs.Ring.{ringed, inner, outer, IsRinged, IsRingedNumber, ring_count, ring_place, ring_cell, ring_stride, OwnWalls, RingStep, touches_box, has_bar_before, AreBarsBefore, AreAllBars, ArePassages}
 use Rattle.flood.proofs.RingPlaces.{ring_cell-ringed, ring_place-ring_cell, ring_cell-ring_place, ring_place-before, ring_place-below, outer-within}
@@ -186,17 +186,17 @@ inner-outer n = λ t. record { x = back n.x t; y = back n.y t; z = back n.z t }
     back z = omega (arith, ints)
 
 -- bars are those before the cell that has this place, counted from the ring
-abbrev pub AreBarsAt : Sizes → (Axis → Cell → Bool) → ℕ → Bars → Type 0
+abbrev pub AreBarsAt : Sizes → (Axis → Cell → Bool) → ℕ → CellBars → Type 0
 AreBarsAt sizes stands p bars = (c : Cell) → IsTrue (is_within (ringed sizes) c) → box_place (ringed sizes) c ≡ p → AreBarsBefore sizes stands (inner c) bars
 
 -- those before a cell are
-pub bars_at : (sizes : Sizes) (stands : Axis → Cell → Bool) (c : Cell) (p : ℕ) (bars : Bars) → IsTrue (is_within (ringed sizes) c)
+pub bars_at : (sizes : Sizes) (stands : Axis → Cell → Bool) (c : Cell) (p : ℕ) (bars : CellBars) → IsTrue (is_within (ringed sizes) c)
     → p ≡ box_place (ringed sizes) c → AreBarsBefore sizes stands (inner c) bars → AreBarsAt sizes stands p bars
 bars_at sizes stands c p bars within there are d d_within e =
     subst (λ m. AreBarsBefore sizes stands (inner m) bars) (one_cell (ringed sizes) c d within d_within (sym there ∙ sym e)) are
 
 -- all of them are those before each node
-pub all_bars_told : (sizes : Sizes) (stands : Axis → Cell → Bool) (bars : List Bars) (count : ℕ) → HoldsSoFar (AreBarsAt sizes stands) bars count
+pub all_bars_told : (sizes : Sizes) (stands : Axis → Cell → Bool) (bars : List CellBars) (count : ℕ) → HoldsSoFar (AreBarsAt sizes stands) bars count
     → count ≡ ring_count sizes → AreAllBars sizes stands bars
 all_bars_told sizes stands bars count so_far all n ring =
     subst (λ m. AreBarsBefore sizes stands m (slice_index_or bars (ring_place sizes n) no_bars)) (inner-outer n)

@@ -3,15 +3,15 @@ use Rattle.std.specs.Prelude.{◌≡◌, ◌⊎◌, ◌&&◌, not, Bool, false, 
 use Rattle.solid_model.specs.declared.cell.Axis.{Axis}
 use Rattle.solid_model.specs.declared.cell.Axis.TheVariants.{X, Y, Z}
 use Rattle.solid_model.specs.PerAxis.{numbers_of}
-use Rattle.flood.specs.declared.bars.Bars.{Bars}
+use Rattle.flood.specs.declared.cell_bars.CellBars.{CellBars}
 use Rattle.flood.specs.declared.passages.Passages.{Passages}
 
 -- nothing bars a way
-abbrev pub no_bars : Bars
+abbrev pub no_bars : CellBars
 no_bars = record { x = false; y = false; z = false }
 
 -- whether something does along an axis
-abbrev pub bar_along : Axis → Bars → Bool
+abbrev pub bar_along : Axis → CellBars → Bool
 bar_along X bars = bars.x
 bar_along Y bars = bars.y
 bar_along Z bars = bars.z
@@ -20,7 +20,7 @@ bar_along Z bars = bars.z
 pub record PassageParts : Type 0 where
   pub count : ℕ
   pub strides : Axis → ℕ
-  pub bars : List Bars
+  pub bars : List CellBars
 
 -- those that are kept
 abbrev pub parts_of : Passages → PassageParts

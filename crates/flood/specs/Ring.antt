@@ -6,7 +6,7 @@ use Rattle.solid_model.specs.declared.cell.Axis.TheVariants.{X, Y, Z}
 use Rattle.solid_model.specs.declared.cell.Cell.{Cell}
 use Rattle.solid_model.specs.Cells.{coordinate, cell_before}
 use Rattle.solid_model.specs.Rooms.{Sizes, box_place, box_count, is_within, Walls, Passes, number_at}
-use Rattle.flood.specs.declared.bars.Bars.{Bars}
+use Rattle.flood.specs.declared.cell_bars.CellBars.{CellBars}
 use Rattle.flood.specs.Passages.{PassageParts, no_bars, bar_along}
 
 -- how many cells stand in a row with the ring: one more at either end
@@ -75,11 +75,11 @@ abbrev pub has_bar_before : Sizes → (Axis → Cell → Bool) → Axis → Cell
 has_bar_before sizes stands a n = int_eq (coordinate a n) (negsuc 0) || (touches_box sizes a n && stands a n)
 
 -- those before a cell along each axis
-abbrev pub AreBarsBefore : Sizes → (Axis → Cell → Bool) → Cell → Bars → Type 0
+abbrev pub AreBarsBefore : Sizes → (Axis → Cell → Bool) → Cell → CellBars → Type 0
 AreBarsBefore sizes stands n bars = (a : Axis) → bar_along a bars ≡ has_bar_before sizes stands a n
 
 -- those before each node
-abbrev pub AreAllBars : Sizes → (Axis → Cell → Bool) → List Bars → Type 0
+abbrev pub AreAllBars : Sizes → (Axis → Cell → Bool) → List CellBars → Type 0
 AreAllBars sizes stands bars = (n : Cell) → IsRinged sizes n → AreBarsBefore sizes stands n (slice_index_or bars (ring_place sizes n) no_bars)
 
 -- the nodes of the ringed box with such bars before them

@@ -4,7 +4,7 @@ ghost use Rattle.std.specs.Prelude.{◌≡◌, ◌<◌, IfSome};
 ghost use Rattle.flood.specs.Passages.{parts_of, StepsAlong, has_bar, back, forth, way_on};
 ghost use Rattle.solid_model.specs.PerAxis.{numbers_of};
 
-use crate::bars::Bars;
+use crate::cell_bars::CellBars;
 use crate::graph::Graph;
 use solid_model::{Axis, PerAxis};
 
@@ -16,7 +16,7 @@ pub struct Passages {
     /// How far neighbours along each axis stand apart in the list of all cells.
     pub strides: PerAxis,
     /// What bars the ways back from each cell.
-    pub bars: Vec<Bars>,
+    pub bars: Vec<CellBars>,
 }
 
 impl Passages {

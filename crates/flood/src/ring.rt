@@ -7,7 +7,7 @@ ghost use Rattle.solid_model.specs.declared.cell.Axis.{Axis};
 ghost use Rattle.solid_model.specs.PerAxis.{numbers_of, cell_of, AreFew};
 ghost use Rattle.solid_model.specs.Rooms.{Sizes, is_within};
 
-use crate::bars::Bars;
+use crate::cell_bars::CellBars;
 use crate::passages::Passages;
 use crate::walls::Walls;
 use solid_model::{Axis, Memory, PerAxis};
@@ -79,11 +79,11 @@ fn has_bar<W: Walls>(walls: &W, sizes: PerAxis, axis: Axis, cell: PerAxis) -> bo
 }
 
 /// What bars the ways back from a cell of the box.
-fn bars_within<W: Walls>(walls: &W, cell: PerAxis) -> Bars
+fn bars_within<W: Walls>(walls: &W, cell: PerAxis) -> CellBars
     requires { IsTrue (is_within (W.sizes walls.now) (cell_of cell)) }
     ensures { AreBarsBefore (W.sizes walls.now) (W.stands walls.now) (cell_of cell) result }
 {
-    Bars {
+    CellBars {
         x: walls.stands(Axis::X, cell),
         y: walls.stands(Axis::Y, cell),
         z: walls.stands(Axis::Z, cell),
@@ -91,7 +91,7 @@ fn bars_within<W: Walls>(walls: &W, cell: PerAxis) -> Bars
 }
 
 /// What bars the ways back from a cell that is counted from the ring.
-fn bars_before<W: Walls>(walls: &W, sizes: PerAxis, cell: PerAxis) -> Bars
+fn bars_before<W: Walls>(walls: &W, sizes: PerAxis, cell: PerAxis) -> CellBars
     requires sizes { numbers_of sizes ≡ W.sizes walls.now }
     requires within { IsTrue (is_within (ringed (W.sizes walls.now)) (cell_of cell)) }
     ensures { AreBarsBefore (W.sizes walls.now) (W.stands walls.now) (inner (cell_of cell))
@@ -99,7 +99,7 @@ fn bars_before<W: Walls>(walls: &W, sizes: PerAxis, cell: PerAxis) -> Bars
 {
     match inner(cell) {
         Some(own) if sizes.has(own) => bars_within(walls, own),
-        _ => Bars {
+        _ => CellBars {
             x: has_bar(walls, sizes, Axis::X, cell),
             y: has_bar(walls, sizes, Axis::Y, cell),
             z: has_bar(walls, sizes, Axis::Z, cell),
@@ -108,7 +108,7 @@ fn bars_before<W: Walls>(walls: &W, sizes: PerAxis, cell: PerAxis) -> Bars
 }
 
 /// What bars the ways back from the cells of a box and its ring.
-fn all_bars<W: Walls>(alloc: Global, walls: &W) -> Result<Vec<Bars>, Memory>
+fn all_bars<W: Walls>(alloc: Global, walls: &W) -> Result<Vec<CellBars>, Memory>
     ensures { IfOk result (λ bars. AreAllBars (W.sizes walls.now) (W.stands walls.now)
         bars.items) }
 {

@@ -1,7 +1,7 @@
 -- A cell has a mark exactly where it had none.
 use Rattle.std.proofs.Common.{◌≡◌, not, length, map, IsTrue, ap, sym, subst, ◌∙◌}
 use Rattle.std.proofs.lemmas.List.{length-map}
-use Rattle.solid_model.specs.Marks.{BoxMarks, AreMarksOf, is_marked}
+use Rattle.solid_model.specs.Marks.{AreMarksOf, is_marked}
 use Rattle.solid_model.specs.PerAxis.{numbers_of}
 use Rattle.solid_model.specs.Rooms.{box_count}
 use Rattle.virtual_faces.proofs.EnclosedFaces.{others_marked}

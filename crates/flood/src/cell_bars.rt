@@ -7,13 +7,13 @@ use solid_model::Axis;
 
 /// Whether something bars the way back from a cell, along each axis.
 #[derive(Clone, Copy)]
-pub struct Bars {
+pub struct CellBars {
     pub x: bool,
     pub y: bool,
     pub z: bool,
 }
 
-impl Bars {
+impl CellBars {
     /// Whether it does along an axis.
     pub fn along(self, axis: Axis) -> bool
         ensures { result ≡ bar_along axis self }
