@@ -2,7 +2,6 @@
 use Rattle.std.proofs.Common.{◌≡◌, ◌↔◌, ◌⊎◌, inl, inr, Bool, true, false, ◌&&◌, ◌||◌, ℕ, zero, suc, ◌<◌, ℤ, pos, negsuc, ◌-ℤ◌, ◌≤ℤ◌, List, slice_index_or, IsTrue, refl, ap, sym, subst, ◌∙◌, arith, ◌+ℤ◌}
 use Rattle.std.proofs.lemmas.Bool.{false≢true, and_from, both_ways, false_from_ne_true}
 use Rattle.std.proofs.lemmas.Int.{ints}
-use Rattle.std.proofs.lemmas.Bool.Decides.{Decides-int_eq}
 use Rattle.std.specs.Ordering.{int_eq}
 use Rattle.solid_model.specs.declared.cell.Axis.{Axis}
 use Rattle.solid_model.specs.declared.cell.Axis.TheVariants.{X, Y, Z}
@@ -10,7 +9,6 @@ use Rattle.solid_model.specs.declared.cell.Cell.{Cell}
 use Rattle.solid_model.specs.Cells.{coordinate, cell_before}
 use Rattle.solid_model.specs.Rooms.{Sizes, is_within, box_place, Walls}
 use Rattle.solid_model.proofs.InGrid.{placed_at}
-use Rattle.solid_model.proofs.BoxCells.{below-bounds, within-below}
 use Rattle.solid_model.proofs.BoxPlaces.{one_cell}
 use Rattle.solid_model.proofs.Pushed.{HoldsSoFar}
 use Rattle.flood.specs.Graph.{GoesBack}
@@ -202,14 +200,3 @@ all_bars_told sizes stands bars count so_far all n ring =
     subst (λ m. AreBarsBefore sizes stands m (slice_index_or bars (ring_place sizes n) no_bars)) (inner-outer n)
     (so_far.each (ring_place sizes n) no_bars (subst (λ c. ring_place sizes n < c) (sym all) (ring_place-below sizes n ring))
     (outer n) (outer-within sizes n ring) refl)
-
--- from a cell of the box the ways back are barred by the box's walls alone
-pub bars-within : (sizes : Sizes) (stands : Axis → Cell → Bool) (a : Axis) (n : Cell) → IsTrue (is_within sizes n)
-    → has_bar_before sizes stands a n ≡ stands a n
-bars-within sizes stands a n within = λ t. not_first t || ((within t || is_within sizes (cell_before a n)) && stands a n)
-  where
-    not_first : int_eq (coordinate a n) (negsuc 0) ≡ false
-    not_first = false_from_ne_true (int_eq (coordinate a n) (negsuc 0)) (λ same.
-        let first = (Decides-int_eq (coordinate a n) (negsuc 0)).0 same in
-        let at = below-bounds (sizes a) (coordinate a n) (within-below sizes n within a) in
-        omega (arith, ints))
