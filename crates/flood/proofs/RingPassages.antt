@@ -1,21 +1,21 @@
 -- With the right bars, the ways between nodes are the steps of the ringed box.
-use Rattle.std.proofs.Common.{◌≡◌, ◌↔◌, ◌⊎◌, inl, inr, Bool, true, false, ◌&&◌, ◌||◌, ℕ, zero, suc, ◌<◌, ℤ, pos, negsuc, ◌-ℤ◌, ◌≤ℤ◌, slice_index_or, IsTrue, refl, ap, sym, subst, ◌∙◌, arith, ◌+ℤ◌}
-use Rattle.std.proofs.lemmas.Bool.{false≢true, and_parts, and_from, both_ways, false_from_ne_true}
+use Rattle.std.proofs.Common.{◌≡◌, ◌↔◌, ◌⊎◌, inl, inr, Bool, true, false, ◌&&◌, ◌||◌, ℕ, zero, suc, ◌<◌, ℤ, pos, negsuc, ◌-ℤ◌, ◌≤ℤ◌, List, slice_index_or, IsTrue, refl, ap, sym, subst, ◌∙◌, arith, ◌+ℤ◌}
+use Rattle.std.proofs.lemmas.Bool.{false≢true, and_from, both_ways, false_from_ne_true}
 use Rattle.std.proofs.lemmas.Int.{ints}
 use Rattle.std.specs.Ordering.{int_eq}
 use Rattle.solid_model.specs.declared.cell.Axis.{Axis}
 use Rattle.solid_model.specs.declared.cell.Axis.TheVariants.{X, Y, Z}
 use Rattle.solid_model.specs.declared.cell.Cell.{Cell}
 use Rattle.solid_model.specs.Cells.{coordinate, cell_before}
-use Rattle.solid_model.specs.Marks.{AxisMarks, marks_along, AreMarksOf}
-use Rattle.solid_model.specs.PerAxis.{numbers_of}
 use Rattle.solid_model.specs.Rooms.{Sizes, is_within, box_place, Walls}
 use Rattle.solid_model.proofs.InGrid.{placed_at}
-use Rattle.solid_model.proofs.Tests.{same_tests}
+use Rattle.solid_model.proofs.BoxPlaces.{one_cell}
+use Rattle.solid_model.proofs.Pushed.{HoldsSoFar}
 use Rattle.flood.specs.Graph.{GoesBack}
-use Rattle.flood.specs.Passages.{PassageParts, has_bar, LeadsBack, StepsAlong}
-use Rattle.flood.specs.Ring.{ringed, inner, outer, IsRinged, IsRingedNumber, ring_count, ring_place, ring_cell, ring_stride, OwnWalls, RingStep, touches_box, has_bar_before, ArePassages}
-use Rattle.flood.proofs.RingPlaces.{ring_cell-ringed, ring_place-ring_cell, ring_cell-ring_place, ring_place-before, outer-within}
+use Rattle.flood.specs.declared.cell_bars.CellBars.{CellBars}
+use Rattle.flood.specs.Passages.{PassageParts, no_bars, has_bar, LeadsBack, StepsAlong}
+use Rattle.flood.specs.Ring.{ringed, inner, outer, IsRinged, IsRingedNumber, ring_count, ring_place, ring_cell, ring_stride, OwnWalls, RingStep, touches_box, has_bar_before, AreBarsBefore, AreAllBars, ArePassages}
+use Rattle.flood.proofs.RingPlaces.{ring_cell-ringed, ring_place-ring_cell, ring_cell-ring_place, ring_place-before, ring_place-below, outer-within}
 
 -- steps go back
 pub steps_back : (g : PassageParts) → GoesBack g.count (StepsAlong g)
@@ -100,7 +100,7 @@ module _ (sizes : Sizes) (stands : Axis → Cell → Bool) (g : PassageParts) (a
       place = ring_place-ring_cell sizes p
 
       free : IsFree sizes stands a n
-      free = free-parts sizes stands a n (sym (are.bars a n ringed_n) ∙ ap (has_bar g a) place ∙ leads.free)
+      free = free-parts sizes stands a n (sym (are.bars n ringed_n a) ∙ ap (has_bar g a) place ∙ leads.free)
 
       ringed_before : IsRinged sizes (cell_before a n)
       ringed_before = ringed-before sizes a n ringed_n free.not_first
@@ -120,7 +120,7 @@ module _ (sizes : Sizes) (stands : Axis → Cell → Bool) (g : PassageParts) (a
         let apart = ring_place-before sizes a n ringed_before in
         let stride : g.strides a ≡ ring_stride sizes a = λ t. are.strides t a in
         omega (arith, place_p, place_q, apart, ap (ring_place sizes) same, stride);
-    free = ap (has_bar g a) (sym place_p) ∙ are.bars a n ringed_n ∙ parts-free sizes stands a n (record { not_first = not_first; no_wall = no_wall });
+    free = ap (has_bar g a) (sym place_p) ∙ are.bars n ringed_n a ∙ parts-free sizes stands a n (record { not_first = not_first; no_wall = no_wall });
   }
     where
       n : Cell
@@ -174,7 +174,7 @@ module _ (sizes : Sizes) (stands : Axis → Cell → Bool) (g : PassageParts) (a
           by a (inl passes) = inl (passes-back a p q step.from step.to passes.0 passes.1)
           by a (inr passes) = inr (passes-back a q p step.to step.from passes.0 passes.1)
 
--- ---- the bars, as they are marked
+-- ---- the bars, as they are told one by one
 
 -- counted from the ring and back it is the same
 pub inner-outer : (n : Cell) → inner (outer n) ≡ n
@@ -183,19 +183,20 @@ inner-outer n = λ t. record { x = back n.x t; y = back n.y t; z = back n.z t }
     back : (z : ℤ) → (z +ℤ pos 1) -ℤ pos 1 ≡ z
     back z = omega (arith, ints)
 
--- marks of the right bars are the right bars
-pub bars_marked : (sizes : Sizes) (stands : Axis → Cell → Bool) (bars : AxisMarks)
-    → ((a : Axis) → AreMarksOf (ringed sizes) (λ c. IsTrue (has_bar_before sizes stands a (inner c))) (marks_along a bars))
-    → (a : Axis) (n : Cell) → IsRinged sizes n → slice_index_or (marks_along a bars).values (ring_place sizes n) false ≡ has_bar_before sizes stands a n
-bars_marked sizes stands bars are a n ring =
-    let marks = marks_along a bars in
-    let exact = (are a).exact (outer n) (outer-within sizes n ring) in
-    let place : box_place (numbers_of marks.sizes) (outer n) ≡ ring_place sizes n = λ t. box_place (λ b. (are a).sized b t) (outer n) in
-    let barred : has_bar_before sizes stands a (inner (outer n)) ≡ has_bar_before sizes stands a n = ap (has_bar_before sizes stands a) (inner-outer n) in
-    let there = box_place (numbers_of marks.sizes) (outer n) in
-    let ringed_box : is_within (numbers_of marks.sizes) (outer n) ≡ true = (λ t. is_within (λ b. (are a).sized b t) (outer n)) ∙ outer-within sizes n ring in
-    same_tests (slice_index_or marks.values (ring_place sizes n) false) (has_bar_before sizes stands a n)
-    (λ has. sym barred ∙ exact.0 (and_from (is_within (numbers_of marks.sizes) (outer n)) (slice_index_or marks.values there false) ringed_box
-    (ap (λ p. slice_index_or marks.values p false) place ∙ has)))
-    (λ is. ap (λ p. slice_index_or marks.values p false) (sym place)
-    ∙ (and_parts (is_within (numbers_of marks.sizes) (outer n)) (slice_index_or marks.values there false) (exact.1 (barred ∙ is))).1)
+-- bars are those before the cell that has this place, counted from the ring
+abbrev pub AreBarsAt : Sizes → (Axis → Cell → Bool) → ℕ → CellBars → Type 0
+AreBarsAt sizes stands p bars = (c : Cell) → IsTrue (is_within (ringed sizes) c) → box_place (ringed sizes) c ≡ p → AreBarsBefore sizes stands (inner c) bars
+
+-- those before a cell are
+pub bars_at : (sizes : Sizes) (stands : Axis → Cell → Bool) (c : Cell) (p : ℕ) (bars : CellBars) → IsTrue (is_within (ringed sizes) c)
+    → p ≡ box_place (ringed sizes) c → AreBarsBefore sizes stands (inner c) bars → AreBarsAt sizes stands p bars
+bars_at sizes stands c p bars within there are d d_within e =
+    subst (λ m. AreBarsBefore sizes stands (inner m) bars) (one_cell (ringed sizes) c d within d_within (sym there ∙ sym e)) are
+
+-- all of them are those before each node
+pub all_bars_told : (sizes : Sizes) (stands : Axis → Cell → Bool) (bars : List CellBars) (count : ℕ) → HoldsSoFar (AreBarsAt sizes stands) bars count
+    → count ≡ ring_count sizes → AreAllBars sizes stands bars
+all_bars_told sizes stands bars count so_far all n ring =
+    subst (λ m. AreBarsBefore sizes stands m (slice_index_or bars (ring_place sizes n) no_bars)) (inner-outer n)
+    (so_far.each (ring_place sizes n) no_bars (subst (λ c. ring_place sizes n < c) (sym all) (ring_place-below sizes n ring))
+    (outer n) (outer-within sizes n ring) refl)

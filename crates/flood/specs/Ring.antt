@@ -1,12 +1,13 @@
 -- A box with a ring of cells round it, as a graph: whatever stands outside the box is one with the ring.
-use Rattle.std.specs.Prelude.{◌≡◌, ◌||◌, ◌&&◌, Bool, ℕ, zero, suc, ◌+◌, ◌*◌, ◌/◌, ◌%◌, ◌<◌, List, length, Option, Some, None, ℤ, pos, negsuc, ◌-ℤ◌, ◌+ℤ◌, ◌≤ℤ◌, IsTrue}
+use Rattle.std.specs.Prelude.{◌≡◌, ◌||◌, ◌&&◌, Bool, ℕ, zero, suc, ◌+◌, ◌*◌, ◌/◌, ◌%◌, ◌<◌, List, length, slice_index_or, Option, Some, None, ℤ, pos, negsuc, ◌-ℤ◌, ◌+ℤ◌, ◌≤ℤ◌, IsTrue}
 use Rattle.std.specs.Ordering.{int_eq}
 use Rattle.solid_model.specs.declared.cell.Axis.{Axis}
 use Rattle.solid_model.specs.declared.cell.Axis.TheVariants.{X, Y, Z}
 use Rattle.solid_model.specs.declared.cell.Cell.{Cell}
 use Rattle.solid_model.specs.Cells.{coordinate, cell_before}
 use Rattle.solid_model.specs.Rooms.{Sizes, box_place, box_count, is_within, Walls, Passes, number_at}
-use Rattle.flood.specs.Passages.{PassageParts, has_bar}
+use Rattle.flood.specs.declared.cell_bars.CellBars.{CellBars}
+use Rattle.flood.specs.Passages.{PassageParts, no_bars, bar_along}
 
 -- how many cells stand in a row with the ring: one more at either end
 abbrev pub ringed : Sizes → Sizes
@@ -73,11 +74,19 @@ room_of (suc k) = Some k
 abbrev pub has_bar_before : Sizes → (Axis → Cell → Bool) → Axis → Cell → Bool
 has_bar_before sizes stands a n = int_eq (coordinate a n) (negsuc 0) || (touches_box sizes a n && stands a n)
 
+-- those before a cell along each axis
+abbrev pub AreBarsBefore : Sizes → (Axis → Cell → Bool) → Cell → CellBars → Type 0
+AreBarsBefore sizes stands n bars = (a : Axis) → bar_along a bars ≡ has_bar_before sizes stands a n
+
+-- those before each node
+abbrev pub AreAllBars : Sizes → (Axis → Cell → Bool) → List CellBars → Type 0
+AreAllBars sizes stands bars = (n : Cell) → IsRinged sizes n → AreBarsBefore sizes stands n (slice_index_or bars (ring_place sizes n) no_bars)
+
 -- the nodes of the ringed box with such bars before them
 pub record ArePassages (sizes : Sizes) (stands : Axis → Cell → Bool) (g : PassageParts) : Type 0 where
   pub count : g.count ≡ ring_count sizes
   pub strides : g.strides ≡ ring_stride sizes
-  pub bars : (a : Axis) (n : Cell) → IsRinged sizes n → has_bar g a (ring_place sizes n) ≡ has_bar_before sizes stands a n
+  pub bars : AreAllBars sizes stands g.bars
 
 -- the numbers of the rooms of a box's cells, where each node of the ringed box is in a component
 pub record AreRoomNumbers (sizes : Sizes) (component : ℕ → ℕ) (rooms : List (Option ℕ)) : Type 0 where

@@ -1,6 +1,7 @@
 //! Which nodes of a finite graph a chain of steps reaches, and the rooms of a box with walls.
 #![tactic(auto)]
 
+mod cell_bars;
 mod flood;
 mod graph;
 mod numbering;

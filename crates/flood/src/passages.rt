@@ -4,8 +4,9 @@ ghost use Rattle.std.specs.Prelude.{◌≡◌, ◌<◌, IfSome};
 ghost use Rattle.flood.specs.Passages.{parts_of, StepsAlong, has_bar, back, forth, way_on};
 ghost use Rattle.solid_model.specs.PerAxis.{numbers_of};
 
+use crate::cell_bars::CellBars;
 use crate::graph::Graph;
-use solid_model::{Axis, MarksByAxis, PerAxis};
+use solid_model::{Axis, PerAxis};
 
 /// The cells of a box as the nodes of a graph.
 #[derive(Drop)]
@@ -14,8 +15,8 @@ pub struct Passages {
     pub count: usize,
     /// How far neighbours along each axis stand apart in the list of all cells.
     pub strides: PerAxis,
-    /// What bars the way back from a cell along each axis.
-    pub bars: MarksByAxis,
+    /// What bars the ways back from each cell.
+    pub bars: Vec<CellBars>,
 }
 
 impl Passages {
@@ -23,8 +24,8 @@ impl Passages {
     fn has_bar(&self, axis: Axis, node: usize) -> bool
         ensures { result ≡ has_bar (parts_of self.now) axis node }
     {
-        let bars = self.bars.along(axis).values();
-        node < bars.len() && bars[node]
+        let bars = self.bars.as_slice();
+        node < bars.len() && bars[node].along(axis)
     }
 
     /// The node before one along an axis, if nothing bars the way.
@@ -70,14 +71,15 @@ impl Graph for Passages {
         6
     }
 
+    // The last way is the first that a flood goes on by: along x nodes lie side by side in memory.
     fn neighbour(&self, node: usize, way: usize) -> Option<usize> {
         match way {
-            0 => self.back(Axis::X, node),
-            1 => self.forth(Axis::X, node),
+            0 => self.back(Axis::Z, node),
+            1 => self.forth(Axis::Z, node),
             2 => self.back(Axis::Y, node),
             3 => self.forth(Axis::Y, node),
-            4 => self.back(Axis::Z, node),
-            _ => self.forth(Axis::Z, node),
+            4 => self.back(Axis::X, node),
+            _ => self.forth(Axis::X, node),
         }
     }
 }

@@ -2,15 +2,15 @@
 
 ghost use Rattle.std.specs.Prelude.{◌≡◌, ◌≤◌, None, false, IsTrue, IfSome, IfOk};
 ghost use Rattle.flood.specs.Passages.{parts_of};
-ghost use Rattle.flood.specs.Ring.{ringed, inner, outer, touches_box, has_bar_before, ArePassages};
+ghost use Rattle.flood.specs.Ring.{ringed, inner, outer, touches_box, has_bar_before, AreBarsBefore, AreAllBars, ArePassages};
 ghost use Rattle.solid_model.specs.declared.cell.Axis.{Axis};
-ghost use Rattle.solid_model.specs.Marks.{AreMarksOf};
 ghost use Rattle.solid_model.specs.PerAxis.{numbers_of, cell_of, AreFew};
 ghost use Rattle.solid_model.specs.Rooms.{Sizes, is_within};
 
+use crate::cell_bars::CellBars;
 use crate::passages::Passages;
 use crate::walls::Walls;
-use solid_model::{Axis, CellTest, Marks, MarksByAxis, Memory, PerAxis};
+use solid_model::{Axis, Memory, PerAxis};
 use std::alloc::Global;
 
 /// The sizes of a box with its ring.
@@ -62,44 +62,65 @@ fn touches_box(sizes: PerAxis, axis: Axis, cell: PerAxis) -> bool
         }
 }
 
-/// What bars the way back along an axis from the cells of a box and its ring.
-#[derive(Clone, Copy)]
-struct BarsAlong<'a, W: Walls> {
-    walls: &'a W,
-    axis: Axis,
-}
-
-impl<W: Walls> CellTest for BarsAlong<'_, W> {
-    ghost sizes = { λ s. ringed (W.sizes s.walls.now) };
-
-    ghost holds = { λ s c.
-        has_bar_before (W.sizes s.walls.now) (W.stands s.walls.now) s.axis (inner c) };
-
-    fn sizes(&self) -> PerAxis {
-        ringed(self.walls.sizes())
-    }
-
-    fn test(&self, cell: PerAxis) -> bool {
-        if cell.along(self.axis) == 0 {
-            return true;
-        }
-        match inner(cell) {
-            Some(cell) => {
-                touches_box(self.walls.sizes(), self.axis, cell)
-                    && self.walls.stands(self.axis, cell)
-            }
-            None => false,
-        }
-    }
-}
-
-/// The marks of what bars the way back along an axis.
-fn bars_along<W: Walls>(alloc: Global, walls: &W, axis: Axis) -> Result<Marks, Memory>
-    ensures { IfOk result (λ bars. AreMarksOf (ringed (W.sizes walls.now))
-        (λ c. IsTrue (has_bar_before (W.sizes walls.now) (W.stands walls.now) axis (inner c)))
-        bars) }
+/// Something bars the way back along an axis from a cell that is counted from the ring.
+fn has_bar<W: Walls>(walls: &W, sizes: PerAxis, axis: Axis, cell: PerAxis) -> bool
+    requires sizes { numbers_of sizes ≡ W.sizes walls.now }
+    requires within { IsTrue (is_within (ringed (W.sizes walls.now)) (cell_of cell)) }
+    ensures { result ≡ has_bar_before (W.sizes walls.now) (W.stands walls.now) axis
+        (inner (cell_of cell)) }
 {
-    Marks::of(alloc, &BarsAlong { walls, axis })
+    if cell.along(axis) == 0 {
+        return true;
+    }
+    match inner(cell) {
+        Some(cell) => touches_box(sizes, axis, cell) && walls.stands(axis, cell),
+        None => false,
+    }
+}
+
+/// What bars the ways back from a cell of the box.
+fn bars_within<W: Walls>(walls: &W, cell: PerAxis) -> CellBars
+    requires { IsTrue (is_within (W.sizes walls.now) (cell_of cell)) }
+    ensures { AreBarsBefore (W.sizes walls.now) (W.stands walls.now) (cell_of cell) result }
+{
+    CellBars {
+        x: walls.stands(Axis::X, cell),
+        y: walls.stands(Axis::Y, cell),
+        z: walls.stands(Axis::Z, cell),
+    }
+}
+
+/// What bars the ways back from a cell that is counted from the ring.
+fn bars_before<W: Walls>(walls: &W, sizes: PerAxis, cell: PerAxis) -> CellBars
+    requires sizes { numbers_of sizes ≡ W.sizes walls.now }
+    requires within { IsTrue (is_within (ringed (W.sizes walls.now)) (cell_of cell)) }
+    ensures { AreBarsBefore (W.sizes walls.now) (W.stands walls.now) (inner (cell_of cell))
+        result }
+{
+    match inner(cell) {
+        Some(own) if sizes.has(own) => bars_within(walls, own),
+        _ => CellBars {
+            x: has_bar(walls, sizes, Axis::X, cell),
+            y: has_bar(walls, sizes, Axis::Y, cell),
+            z: has_bar(walls, sizes, Axis::Z, cell),
+        },
+    }
+}
+
+/// What bars the ways back from the cells of a box and its ring.
+fn all_bars<W: Walls>(alloc: Global, walls: &W) -> Result<Vec<CellBars>, Memory>
+    ensures { IfOk result (λ bars. AreAllBars (W.sizes walls.now) (W.stands walls.now)
+        bars.items) }
+{
+    let sizes = walls.sizes();
+    let all = ringed(sizes);
+    let mut bars = Vec::with_capacity(alloc, all.count())?;
+    let mut cell = PerAxis::FIRST;
+    for place in 0..all.count() {
+        cell = all.next_cell(cell, place);
+        bars.push_reserved(bars_before(walls, sizes, cell));
+    }
+    Ok(bars)
 }
 
 /// The cells of a box and its ring, and the ways between them that no wall bars.
@@ -115,10 +136,6 @@ pub fn passages<W: Walls>(alloc: Global, walls: &W) -> Result<Passages, Memory>
             y: sizes.x,
             z: sizes.x * sizes.y,
         },
-        bars: MarksByAxis {
-            x: bars_along(alloc, walls, Axis::X)?,
-            y: bars_along(alloc, walls, Axis::Y)?,
-            z: bars_along(alloc, walls, Axis::Z)?,
-        },
+        bars: all_bars(alloc, walls)?,
     })
 }

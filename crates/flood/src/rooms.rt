@@ -1,6 +1,6 @@
 //! The rooms of a box with walls.
 
-ghost use Rattle.std.specs.Prelude.{◌≡◌, ◌≤◌, length, IsTrue, IfOk};
+ghost use Rattle.std.specs.Prelude.{◌≡◌, ◌≤◌, false, length, slice_index_or, IsTrue, IfOk};
 ghost use Rattle.flood.specs.Graph.{component};
 ghost use Rattle.flood.specs.Ring.{ring_place, room_of, AreRoomNumbers};
 ghost use Rattle.solid_model.specs.declared.cell.Axis.{Axis};
@@ -12,7 +12,7 @@ use crate::flood::reached;
 use crate::numbering::components;
 use crate::ring::{outer, passages, ringed};
 use crate::walls::Walls;
-use solid_model::{CellTest, Marks, Memory, PerAxis};
+use solid_model::{Marks, Memory, PerAxis};
 use std::alloc::Global;
 
 /// The node of the ringed box that stands for a cell of the box.
@@ -24,28 +24,27 @@ fn node_of(sizes: PerAxis, cell: PerAxis) -> usize
     ringed(sizes).place(outer(cell))
 }
 
-/// The cells of a box, asked whether their nodes in the ringed box are reached.
-#[derive(Clone, Copy)]
-struct Reached<'a, W: Walls> {
-    walls: &'a W,
-    nodes: &'a [bool],
+/// A node is told as reached.
+fn is_reached(nodes: &[bool], node: usize) -> bool
+    ensures { result ≡ slice_index_or nodes.now node false }
+{
+    node < nodes.len() && nodes[node]
 }
 
-impl<W: Walls> CellTest for Reached<'_, W> {
-    ghost use Rattle.std.specs.Prelude.{false, slice_index_or};
-
-    ghost sizes = { λ s. W.sizes s.walls.now };
-
-    ghost holds = { λ s n. slice_index_or s.nodes.now (ring_place (W.sizes s.walls.now) n) false };
-
-    fn sizes(&self) -> PerAxis {
-        self.walls.sizes()
+/// The marks on the cells of a box whose nodes in the ringed box are reached.
+fn reached_cells(alloc: Global, sizes: PerAxis, nodes: &[bool]) -> Result<Marks, Memory>
+    requires { (a : Axis) → numbers_of sizes a ≤ 1022 }
+    ensures { IfOk result (λ marks. AreMarksOf (numbers_of sizes)
+        (λ n. IsTrue (slice_index_or nodes.now (ring_place (numbers_of sizes) n) false)) marks) }
+{
+    let count = sizes.count();
+    let mut values = Vec::with_capacity(alloc, count)?;
+    let mut cell = PerAxis::FIRST;
+    for place in 0..count {
+        cell = sizes.next_cell(cell, place);
+        values.push_reserved(is_reached(nodes, node_of(sizes, cell)));
     }
-
-    fn test(&self, cell: PerAxis) -> bool {
-        let node = node_of(self.walls.sizes(), cell);
-        node < self.nodes.len() && self.nodes[node]
-    }
+    Ok(Marks::new(sizes, values))
 }
 
 /// The cells of a box from which a chain of steps that pass no wall leads out of it, in time that
@@ -55,8 +54,7 @@ pub fn leading_out<W: Walls>(alloc: Global, walls: &W) -> Result<Marks, Memory>
         (LeadsOut (W.sizes walls.now) (λ a n. IsTrue (W.stands walls.now a n))) marks) }
 {
     let reached = reached(alloc, &passages(alloc, walls)?, 0)?;
-    let nodes = reached.as_slice();
-    let marks = Marks::of(alloc, &Reached { walls, nodes })?;
+    let marks = reached_cells(alloc, walls.sizes(), reached.as_slice())?;
     Ok(marks)
 }
 
@@ -91,9 +89,10 @@ fn room_numbers(
 {
     let count = sizes.count();
     let mut rooms = Vec::with_capacity(alloc, count)?;
+    let mut cell = PerAxis::FIRST;
     for place in 0..count {
-        let node = node_of(sizes, sizes.cell(place));
-        rooms.push(room_of(components, node))?;
+        cell = sizes.next_cell(cell, place);
+        rooms.push_reserved(room_of(components, node_of(sizes, cell)));
     }
     Ok(rooms)
 }

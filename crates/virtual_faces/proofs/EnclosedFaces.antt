@@ -1,7 +1,8 @@
 -- The faces of a plane that no chain leads out of are the virtual ones.
-use Rattle.std.proofs.Common.{◌≡◌, Bool, true, false, not, ◌||◌, if◌then◌else◌, suc, pos, ◌-ℤ◌, IsTrue, refl, ap, sym, ◌∙◌, arith}
+use Rattle.std.proofs.Common.{◌≡◌, ◌<◌, Bool, true, false, not, ◌&&◌, ◌||◌, if◌then◌else◌, suc, pos, ◌-ℤ◌, length, map, get_or, IsTrue, refl, ap, sym, subst, ◌∙◌, arith}
 use Rattle.std.proofs.lemmas.Bool.{false≢true}
 use Rattle.std.proofs.lemmas.Int.{ints}
+use Rattle.std.proofs.lemmas.List.{get_or-map}
 use Rattle.solid_model.specs.declared.cell.Axis.{Axis}
 use Rattle.solid_model.specs.declared.cell.Axis.TheVariants.{X, Y, Z}
 use Rattle.solid_model.specs.declared.cell.Cell.{Cell}
@@ -9,12 +10,13 @@ use Rattle.solid_model.specs.Cells.{coordinate, cell_before}
 use Rattle.solid_model.specs.Marks.{BoxMarks, AxisMarks, marks_along, is_marked, AreMarksOf}
 use Rattle.solid_model.specs.Panels.{GridParts}
 use Rattle.solid_model.specs.PerAxis.{numbers_of}
-use Rattle.solid_model.specs.Rooms.{Sizes, same_axis, is_below, is_within, face_sizes, Walls, LeadsOut}
+use Rattle.solid_model.specs.Rooms.{Sizes, same_axis, is_below, is_within, box_place, box_count, face_sizes, Walls, LeadsOut}
 use Rattle.solid_model.specs.Kept.{edge_sizes, IsWireOf}
 use Rattle.solid_model.specs.VirtualFaces.{axis_across_both, Bars, IsVirtual}
 use Rattle.solid_model.specs.Wire.{is_pseudo_edge}
 use Rattle.solid_model.specs.GridBox.{grid_sizes}
 use Rattle.solid_model.proofs.BoxCells.{below-bounds, bounds-below, within-below, below-within}
+use Rattle.solid_model.proofs.BoxPlaces.{cell_there}
 use Rattle.flood.specs.Ring.{touches_box}
 use Rattle.flood.proofs.LeadingOut.{leads_out-past_fewer}
 
@@ -112,3 +114,19 @@ module _ (g : GridParts) (wire : AxisMarks) (is_wire : IsWireOf g wire) (a : Axi
       not_true : (b : Bool) → (b ≡ true → ⊥) → not b ≡ true
       not_true true none = absurd (none refl)
       not_true false none = refl
+
+-- ---- the other cells of a box
+
+-- marks that say the contrary stand on the other cells
+pub others_marked : (m : BoxMarks) → length m.values ≡ box_count (numbers_of m.sizes)
+    → AreMarksOf (numbers_of m.sizes) (λ n. IsTrue (not (is_marked m n))) (record { sizes = m.sizes; values = map not m.values })
+others_marked m listed = record {
+  sized = λ a. refl;
+  exact = λ n within.
+      let sizes = numbers_of m.sizes in let place = box_place sizes n in
+      let there = subst (λ count. place < count) (sym listed) (cell_there sizes n within) in
+      let told : get_or (map not m.values) place false ≡ not (get_or m.values place false) = get_or-map not m.values place false false there in
+      let same : (is_within sizes n && get_or (map not m.values) place false) ≡ not (is_within sizes n && get_or m.values place false) =
+      (λ t. within t && told t) ∙ (λ t. not (sym within t && get_or m.values place false)) in
+      (λ marked. sym same ∙ marked, λ is. same ∙ is);
+}

@@ -1,14 +1,15 @@
 //! The virtual faces of a grid, across each axis.
 
-ghost use Rattle.std.specs.Prelude.{◌≡◌, ◌||◌, not, IsTrue, IfOk};
+ghost use Rattle.std.specs.Prelude.{◌≡◌, ◌||◌, not, map, IsTrue, IfOk};
 ghost use Rattle.solid_model.specs.Marks.{marks_along, is_marked, AreMarksOf};
+ghost use Rattle.solid_model.specs.PerAxis.{numbers_of};
 ghost use Rattle.solid_model.specs.Rooms.{same_axis, face_sizes};
 ghost use Rattle.solid_model.specs.VirtualFaces.{axis_across_both, IsVirtual};
 ghost use Rattle.solid_model.specs.Kept.{IsFaceMapOf, IsWireOf};
 ghost use Rattle.solid_model.specs.GridBox.{grid_sizes};
 
 use flood::{Walls, leading_out};
-use solid_model::{Axis, CellTest, FaceMap, Grid, Marks, Memory, PerAxis, Wire};
+use solid_model::{Axis, FaceMap, Grid, Marks, Memory, PerAxis, Wire};
 use std::alloc::Global;
 
 /// The axis across two different ones.
@@ -49,26 +50,24 @@ impl Walls for FacesAcross<'_> {
     }
 }
 
-/// The faces from which no chain leads out, where those from which one does are marked.
-#[derive(Clone, Copy)]
-struct EnclosedFaces<'a> {
-    leading: &'a Marks,
+/// The contrary of each value.
+fn contraries(alloc: Global, values: &[bool]) -> Result<Vec<bool>, Memory>
+    ensures { IfOk result (λ contraries. contraries.items ≡ map not values.now) }
+{
+    let mut contraries = Vec::with_capacity(alloc, values.len())?;
+    for value in values {
+        contraries.push_reserved(!*value);
+    }
+    Ok(contraries)
 }
 
-impl CellTest for EnclosedFaces<'_> {
-    ghost use Rattle.solid_model.specs.PerAxis.{numbers_of};
-
-    ghost sizes = { λ s. numbers_of s.leading.now.sizes };
-
-    ghost holds = { λ s n. not (is_marked s.leading.now n) };
-
-    fn sizes(&self) -> PerAxis {
-        self.leading.sizes()
-    }
-
-    fn test(&self, cell: PerAxis) -> bool {
-        !self.leading.has(cell)
-    }
+/// Marks on the other cells of the box.
+fn others(alloc: Global, marks: &Marks) -> Result<Marks, Memory>
+    ensures { IfOk result (λ others. AreMarksOf (numbers_of marks.now.sizes)
+        (λ n. IsTrue (not (is_marked marks.now n))) others) }
+{
+    let values = contraries(alloc, marks.values())?;
+    Ok(Marks::new(marks.sizes(), values))
 }
 
 /// The virtual faces across an axis.
@@ -78,7 +77,7 @@ fn faces_across(alloc: Global, grid: &Grid, wire: &Wire, axis: Axis) -> Result<M
         (IsVirtual grid.now axis) marks) }
 {
     let leading = leading_out(alloc, &FacesAcross { grid, wire, axis })?;
-    let marks = Marks::of(alloc, &EnclosedFaces { leading: &leading })?;
+    let marks = others(alloc, &leading)?;
     Ok(marks)
 }
 

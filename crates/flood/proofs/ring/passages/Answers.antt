@@ -1,15 +1,11 @@
 -- The parts are those that the ringed box has.
-use Rattle.std.proofs.Common.{◌≡◌, Bool, ◌*◌, IsTrue, ap, ◌∙◌, refl, arith}
+use Rattle.std.proofs.Common.{◌≡◌, ◌*◌, ap, ◌∙◌, refl, arith}
 use Rattle.std.proofs.lemmas.Nat.{mul-le}
 use Rattle.solid_model.specs.declared.cell.Axis.{Axis}
 use Rattle.solid_model.specs.declared.cell.Axis.TheVariants.{X, Y, Z}
-use Rattle.solid_model.specs.declared.cell.Cell.{Cell}
-use Rattle.solid_model.specs.Marks.{AreMarksOf}
 use Rattle.solid_model.specs.PerAxis.{numbers_of}
 use Rattle.solid_model.specs.Rooms.{Sizes, box_count}
-use Rattle.solid_model.proofs.MarkedCells.{marks_by_axis}
-use Rattle.flood.specs.Ring.{ringed, inner, ring_stride, has_bar_before}
-use Rattle.flood.proofs.RingPassages.{bars_marked}
+use Rattle.flood.specs.Ring.{ringed, ring_stride}
 use Rattle.flood.proofs.ring.passages.Goals as goal
 
 pub overflow_mul-result : goal.overflow_mul-result
@@ -20,15 +16,11 @@ pub returns : goal.returns
 returns g c = record {
   count = c.count.ensures ∙ ap box_count ring;
   strides = λ t a. by a t;
-  bars = bars_marked sizes stands _ (marks_by_axis (λ a marks. AreMarksOf (ringed sizes) (λ n. IsTrue (has_bar_before sizes stands a (inner n))) marks) _ _ _ _ refl
-      c.in_ok-bars_along.ensures c.in_ok-bars_along-2.ensures c.in_ok-bars_along-3.ensures);
+  bars = c.in_ok-all_bars.ensures;
 }
   where
     sizes : Sizes
     sizes = g.W.Walls.sizes c.args.walls.now
-
-    stands : Axis → Cell → Bool
-    stands = g.W.Walls.stands c.args.walls.now
 
     ring : numbers_of c.ringed-sizes.result ≡ ringed sizes
     ring = c.ringed-sizes.ensures.sizes ∙ ap ringed c.sizes.ensures.sizes

@@ -12,16 +12,20 @@ use Rattle.flood.proofs.rooms.room_numbers.Goals as goal
 pub loop-place-preserved : goal.loop-place-preserved
 loop-place-preserved c =
     let sizes = numbers_of c.args.sizes in let of = component c.args.components.now in
-    holds_more (IsRoomAt sizes of) c.loop-place.rooms.items _ _ c.room_of.result c.loop-place.invariant
-    (room_at sizes of (cell_of c.cell.result) _ _ c.cell.ensures.within c.cell.ensures.place
-    (c.room_of.ensures ∙ ap (λ node. room_of (of node)) c.node_of-node.ensures))
-    c.in_ok-push.ensures.items
+    record {
+      told = holds_more (IsRoomAt sizes of) c.loop-place.rooms.items _ _ c.room_of.result c.loop-place.invariant.told
+          (room_at sizes of (cell_of c.next_cell-cell.result) _ _ c.next_cell-cell.ensures.within c.next_cell-cell.ensures.place
+          (c.room_of.ensures ∙ ap (λ node. room_of (of node)) c.node_of.ensures))
+          c.push_reserved.ensures.items;
+      before = λ _. (c.next_cell-cell.ensures.within, omega (arith, c.next_cell-cell.ensures.place));
+      room = omega (arith, c.loop-place.invariant.room, c.push_reserved.ensures.capacity);
+    }
 
 pub returns : goal.returns
 returns c =
     let sizes = numbers_of c.args.sizes in
     let all : c.loop-place.place ≡ box_count sizes = omega arith ∙ c.count-count.ensures in
     record {
-      listed = c.loop-place.invariant.count ∙ all;
-      each = λ n within. c.loop-place.invariant.each (box_place sizes n) None (subst (λ m. box_place sizes n < m) (sym all) (cell_there sizes n within)) n within refl;
+      listed = c.loop-place.invariant.told.count ∙ all;
+      each = λ n within. c.loop-place.invariant.told.each (box_place sizes n) None (subst (λ m. box_place sizes n < m) (sym all) (cell_there sizes n within)) n within refl;
     }
