@@ -103,7 +103,8 @@ impl Desk {
         ensures begun { IfOk result (λ desk. desk.history ≡ []) }
         ensures kept { IfOk result IsDesk }
     {
-        let ledger = Ledger::new(alloc, live)?;
+        let mut ledger = Ledger::new(alloc, live)?;
+        ledger.make_room(limits, problem.blocks().count());
         let end = if live { None } else { Some(EndKind::Whole) };
         Ok(Desk {
             problem,
