@@ -14,7 +14,7 @@ ghost use Rattle.solid_model.specs.PerAxis.{numbers_of};
 use crate::plane_text::{PlaneText, text_of_plane};
 use cell_rows::CellRows;
 use faces::plane_squares;
-use solid_model::{Axis, Grid, Memory, Out};
+use solid_model::{Axis, Grid, Memory, Out, same_coordinates};
 use std::alloc::Global;
 use std::marker::Model;
 
@@ -113,13 +113,6 @@ fn push_lines(text: &mut Vec<u8>, planes: &[PlaneText]) -> Result<(), Memory>
     Ok(())
 }
 
-/// The coordinates are the same.
-fn same(coordinates: &[i64], others: &[i64]) -> bool
-    ensures { IsTrue result → coordinates.now ≡ others.now }
-{
-    coordinates == others
-}
-
 /// The lines of the faces of a solid of a grid, kept by their planes: those of planes that have the
 /// same squares serve for the next solid too.
 #[derive(Debug, Drop)]
@@ -184,7 +177,9 @@ impl PlaneTexts {
     fn is_on(&self, grid: &Grid) -> bool
         ensures { IsTrue result → listed self.now ≡ coordinates_of grid.now }
     {
-        same(&self.xs, grid.xs()) && same(&self.ys, grid.ys()) && same(&self.zs, grid.zs())
+        same_coordinates(&self.xs, grid.xs())
+            && same_coordinates(&self.ys, grid.ys())
+            && same_coordinates(&self.zs, grid.zs())
     }
 
     /// Forgets the lines if they are those of another grid, or their coordinates have more or fewer

@@ -1,28 +1,12 @@
 //! The volumes of solids, as sums over their blocks.
 
-ghost use Rattle.std.specs.Prelude.{◌≡◌, ◌≤◌, ◌<◌, ◌+◌, ℕ, Bool, List, false, length, replicate, slice_index_or, IsTrue, IfOk, IfSome, if◌then◌else◌};
+ghost use Rattle.std.specs.Prelude.{◌≡◌, ◌≤◌, ◌<◌, ◌+◌, ℕ, Bool, List, false, length, replicate, slice_index_or, IfOk, IfSome, if◌then◌else◌};
 ghost use Rattle.report.specs.Volumes.{AreVolumes, chosen_sum, most_block_volume};
 ghost use Rattle.solid_model.specs.Choices.{is_chosen};
 ghost use Rattle.solid_model.specs.Panels.{coordinates_of};
-ghost use Rattle.solid_model.specs.PerAxis.{numbers_of, cell_of};
-ghost use Rattle.solid_model.specs.Rooms.{is_within};
-ghost use Rattle.solid_model.specs.Volumes.{grid_cell_volume};
-ghost use Rattle.solid_model.specs.GridBox.{grid_sizes};
 
-use solid_model::{Axis, Choice, Grid, Memory, PerAxis, Problem};
+use solid_model::{Choice, Memory, Problem, cell_volume};
 use std::alloc::Global;
-
-/// The volume of a grid cell, by its numbers along the axes.
-fn cell_volume(grid: &Grid, cell: PerAxis) -> u128
-    requires { IsTrue (is_within (grid_sizes grid.now) (cell_of cell)) }
-    ensures volume { result ≡ grid_cell_volume (coordinates_of grid.now) (numbers_of cell) }
-    ensures small { result ≤ 8000000000000000000000000000 }
-{
-    let width = u128::from(grid.gap_width(Axis::X, cell.x));
-    let depth = u128::from(grid.gap_width(Axis::Y, cell.y));
-    let height = u128::from(grid.gap_width(Axis::Z, cell.z));
-    width * depth * height
-}
 
 /// Adds the volume of a cell to that of its block, if it has one.
 fn add_volume(volumes: &mut Vec<u128>, block: Option<u16>, volume: u128)

@@ -42,7 +42,7 @@ impl Model for Grid {
 }
 
 /// The coordinates are the same.
-fn same_coordinates(coordinates: &[i64], others: &[i64]) -> bool
+pub fn same_coordinates(coordinates: &[i64], others: &[i64]) -> bool
     ensures { IsTrue result ↔ (coordinates.now ≡ others.now) }
 {
     coordinates == others

@@ -43,7 +43,7 @@ pub use face::{Face, Loop, Out};
 pub use face_map::FaceMap;
 pub use fault::{Fault, Refused};
 pub use frame::{Direction, Frame, View};
-pub use grid::Grid;
+pub use grid::{Grid, same_coordinates};
 pub use laws::{
     all_matching_choices_are_all_matching_solids, all_matching_solids_are_one_list, column_rule,
     each_axis_has_a_coordinate, each_segment_has_one_style, fillings_round_an_edge,
@@ -67,5 +67,5 @@ pub use prefix::Prefix;
 pub use problem::Problem;
 pub use runs::{Run, Runs};
 pub use segment::{Segment, Style};
-pub use volume::chosen_volume;
+pub use volume::{cell_volume, chosen_volume};
 pub use wire::Wire;

@@ -14,7 +14,7 @@ use crate::grid::Grid;
 use crate::per_axis::PerAxis;
 
 /// The volume of a grid cell, by its numbers along the axes.
-fn cell_volume(grid: &Grid, cell: PerAxis) -> u128
+pub fn cell_volume(grid: &Grid, cell: PerAxis) -> u128
     requires { IsTrue (is_within (grid_sizes grid.now) (cell_of cell)) }
     ensures volume { result ≡ grid_cell_volume (coordinates_of grid.now) (numbers_of cell) }
     ensures small { result ≤ 8000000000000000000000000000 }
