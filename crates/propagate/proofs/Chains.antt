@@ -5,7 +5,7 @@ use Rattle.std.proofs.lemmas.Option.{none-some}
 use Rattle.columns.proofs.AllLines.{lines_are_there}
 use Rattle.columns.proofs.Deciding.{decided_more}
 use Rattle.propagate.specs.declared.closing.Closed.TheVariants.{Stable, Conflict}
-use Rattle.propagate.specs.Closing.{Grows, IsClosed}
+use Rattle.propagate.specs.Closing.{Grows, TellsClosed}
 use Rattle.propagate.specs.Forced.{IsCalm}
 use Rattle.propagate.proofs.Steps.{place_parts}
 use Rattle.solid_model.specs.declared.decision.Decision.{Decision}
@@ -78,14 +78,14 @@ module _ (p : ProblemParts) where
   -- ---- the end
 
   -- where each line can be met and excludes nothing
-  pub closed_stable : (old now : List Decision) → Grows p old now → AllMet p (decided_by now) → ((l : LineId) → IsTrue (has_line p.grid l) → IsCalm p (decided_by now) l) → IsClosed p old now Stable
+  pub closed_stable : (old now : List Decision) → Grows p old now → AllMet p (decided_by now) → ((l : LineId) → IsTrue (has_line p.grid l) → IsCalm p (decided_by now) l) → TellsClosed p old now Stable
   closed_stable old now grows met calm =
       let less : IsLess (decided_by old) (decided_by now) = subst (IsLess (decided_by old)) (sym grows.known) (less_chain p (decided_by old) grows.chain grows.forced) in
       let stable : IsStable p (decided_by now) = record { met = met; none = λ block value (undecided, l, has, out). calm l has block value (undecided, out) } in
       (lives_less p (decided_by old) (decided_by now) less (stable_lives p (decided_by now) stable), stable)
 
   -- where a line can't be met
-  pub closed_conflict : (old now : List Decision) (l : LineId) → Grows p old now → IsFirstBroken p (decided_by now) l → IsClosed p old now (Conflict l)
+  pub closed_conflict : (old now : List Decision) (l : LineId) → Grows p old now → IsFirstBroken p (decided_by now) l → TellsClosed p old now (Conflict l)
   closed_conflict old now l grows first =
       let has : IsTrue (has_line p.grid l) = lines_are_there p.grid l (subst (λ ls. Member ls l) (sym first.place) (member-append_right first.earlier (l ∷ first.later) l (inl refl))) in
       ((λ lives. first.broken (subst (λ k. CanBeMet p k l) (sym grows.known) (lives grows.chain grows.forced l has))), first)

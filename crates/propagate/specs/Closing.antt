@@ -20,9 +20,9 @@ pub record Grows (p : ProblemParts) (old now : List Decision) : Type 0 where
 
 -- What closing tells. Stable: under every forcing chain from the old decisions every line can be met; under the new ones so it is,
 -- and nothing is excluded. Conflict: under some chain one can't be, and under the new decisions this line is the first.
-abbrev pub IsClosed : ProblemParts → List Decision → List Decision → Closed → Type 0
-IsClosed p old now Stable = Lives p (decided_by old) × IsStable p (decided_by now)
-IsClosed p old now (Conflict l) = (Lives p (decided_by old) → ⊥) × IsFirstBroken p (decided_by now) l
+abbrev pub TellsClosed : ProblemParts → List Decision → List Decision → Closed → Type 0
+TellsClosed p old now Stable = Lives p (decided_by old) × IsStable p (decided_by now)
+TellsClosed p old now (Conflict l) = (Lives p (decided_by old) → ⊥) × IsFirstBroken p (decided_by now) l
 
 -- ---- the lines that are looked at
 

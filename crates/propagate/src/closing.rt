@@ -1,7 +1,7 @@
 //! All that is forced.
 
 ghost use Rattle.std.specs.Prelude.{◌≡◌, ◌<◌, ◌≤◌, ◌+◌, ℕ, Some, None, length, slice_get, slice_index_or, IfSome, IsTrue, take};
-ghost use Rattle.propagate.specs.Closing.{Grows, IsClosed, IsHandled};
+ghost use Rattle.propagate.specs.Closing.{Grows, TellsClosed, IsHandled};
 ghost use Rattle.propagate.specs.Forced.{IsCalm};
 ghost use Rattle.solid_model.specs.declared.decision.Decision.{Decision};
 ghost use Rattle.solid_model.specs.declared.line_id.LineId.{LineId};
@@ -126,7 +126,7 @@ fn settle_from(partial: &mut Partial<'_>, from: u16) -> Option<LineId>
 pub fn close(partial: &mut Partial<'_>) -> Closed
     ensures problem { partial.new.problem ≡ partial.old.problem }
     ensures grows { Grows partial.old.problem partial.old.decisions partial.new.decisions }
-    ensures closed { IsClosed partial.old.problem partial.old.decisions partial.new.decisions result }
+    ensures closed { TellsClosed partial.old.problem partial.old.decisions partial.new.decisions result }
 {
     let from = partial.decided();
     if let Some(line) = partial.broken_line() {
@@ -149,7 +149,7 @@ pub fn close_after(partial: &mut Partial<'_>, closed: u16) -> Closed
         → IsCalm partial.old.problem (decided_by (take closed partial.old.decisions)) l }
     ensures problem { partial.new.problem ≡ partial.old.problem }
     ensures grows { Grows partial.old.problem partial.old.decisions partial.new.decisions }
-    ensures closed { IsClosed partial.old.problem partial.old.decisions partial.new.decisions result }
+    ensures closed { TellsClosed partial.old.problem partial.old.decisions partial.new.decisions result }
 {
     // A look at the problem tells that its blocks are those of its grid.
     let _grid = partial.problem().grid();

@@ -20,8 +20,8 @@ abbrev pub IsGridPoint : Coordinates → Cell → Type 0
 IsGridPoint coordinates n = (a : Axis) → IsGridNumber (coordinates a) (coordinate a n)
 
 -- the coordinates are as few as a grid may have
-abbrev pub AreFew : Coordinates → Type 0
-AreFew coordinates = (a : Axis) → length (coordinates a) ≤ most_grid_coordinates
+abbrev pub AreShort : Coordinates → Type 0
+AreShort coordinates = (a : Axis) → length (coordinates a) ≤ most_grid_coordinates
 
 -- a rectangle's plane and its sides stand at coordinates of the grid
 pub record IsOfGrid (coordinates : Coordinates) (r : Rectangle) : Type 0 where

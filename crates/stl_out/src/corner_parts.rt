@@ -115,12 +115,12 @@ fn ends(alloc: Global, zs: &[i64]) -> Result<Vec<LinePart>, AllocError>
 impl<'a> CornerParts<'a> {
     ghost use Rattle.std.specs.Prelude.{◌≡◌, IfOk};
     ghost use Rattle.solid_model.specs.Panels.{coordinates_of};
-    ghost use Rattle.stl_out.specs.Numbered.{AreFew};
+    ghost use Rattle.stl_out.specs.Numbered.{AreShort};
 
     /// The parts for all points of a grid.
     pub fn of(alloc: Global, grid: &'a Grid) -> Result<CornerParts<'a>, AllocError>
         ensures grid { IfOk result (λ parts. parts ≡ grid.now) }
-        ensures few { IfOk result (λ parts. AreFew (coordinates_of parts)) }
+        ensures few { IfOk result (λ parts. AreShort (coordinates_of parts)) }
     {
         let heads = heads(alloc, grid.coordinates(Axis::X), grid.coordinates(Axis::Y))?;
         let ends = ends(alloc, grid.coordinates(Axis::Z))?;

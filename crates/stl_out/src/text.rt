@@ -4,7 +4,7 @@ ghost use Rattle.std.specs.Prelude.{◌≡◌, ◌++◌, ◌+◌, ◌≤◌, len
 ghost use Rattle.std.specs.Fmt.{signed_decimal};
 ghost use Rattle.face_laws.specs.GridFaces.{grid_planes, point_of_numbers};
 ghost use Rattle.solid_model.specs.Panels.{coordinates_of};
-ghost use Rattle.stl_out.specs.Numbered.{AreFew, IsGridPoint, IsOfGrid};
+ghost use Rattle.stl_out.specs.Numbered.{AreShort, IsGridPoint, IsOfGrid};
 ghost use Rattle.stl_out.specs.Pieces.{rectangle_text};
 ghost use Rattle.stl_out.specs.StlText.{outward_step, numbers_text, facet_text};
 
@@ -89,7 +89,7 @@ pub fn push_rectangle(
     parts: &CornerParts<'_>,
     rectangle: &Rectangle,
 ) -> Result<(), AllocError>
-    requires few { AreFew (coordinates_of parts.now) }
+    requires few { AreShort (coordinates_of parts.now) }
     requires numbered { IsOfGrid (coordinates_of parts.now) rectangle.now }
     ensures text { OnOk result (text.new.items ≡ text.old.items
         ++ rectangle_text (grid_planes (coordinates_of parts.now)) rectangle.now) }

@@ -7,7 +7,7 @@ ghost use Rattle.face_laws.specs.GridFaces.{grid_planes};
 ghost use Rattle.solid_model.specs.Choices.{cells_of_choice};
 ghost use Rattle.solid_model.specs.Lists.{Each};
 ghost use Rattle.solid_model.specs.Panels.{coordinates_of};
-ghost use Rattle.stl_out.specs.Numbered.{AreFew, IsOfGrid};
+ghost use Rattle.stl_out.specs.Numbered.{AreShort, IsOfGrid};
 ghost use Rattle.stl_out.specs.Pieces.{WritesOn, rectangle_text};
 ghost use Rattle.stl_out.specs.Rectangles.{all_triangles};
 ghost use Rattle.stl_out.specs.StlText.{stl_text, IsStlOf};
@@ -67,7 +67,7 @@ fn write_rectangle<K: Sink>(
     piece: &mut Vec<u8>,
     sink: &mut K,
 ) -> Result<(), SinkError>
-    requires few { AreFew (coordinates_of parts.now) }
+    requires few { AreShort (coordinates_of parts.now) }
     requires numbered { IsOfGrid (coordinates_of parts.now) rectangle.now }
     requires fits { length piece.old.items ≤ 65536 }
     ensures later { K.faults sink.old ≤ K.faults sink.new }
@@ -92,7 +92,7 @@ fn write_rectangles<K: Sink>(
     piece: &mut Vec<u8>,
     sink: &mut K,
 ) -> Result<(), SinkError>
-    requires few { AreFew (coordinates_of parts.now) }
+    requires few { AreShort (coordinates_of parts.now) }
     requires numbered { Each (IsOfGrid (coordinates_of parts.now)) rectangles.now }
     requires fits { length piece.old.items ≤ 65200 }
     ensures later { K.faults sink.old ≤ K.faults sink.new }
