@@ -103,8 +103,7 @@ impl Desk {
         ensures begun { IfOk result (λ desk. desk.history ≡ []) }
         ensures kept { IfOk result IsDesk }
     {
-        let mut ledger = Ledger::new(alloc, live)?;
-        ledger.make_room(limits, problem.blocks().count());
+        let ledger = Ledger::new(alloc, live)?;
         let end = if live { None } else { Some(EndKind::Whole) };
         Ok(Desk {
             problem,

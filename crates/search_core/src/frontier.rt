@@ -73,15 +73,6 @@ impl Frontier {
         }
     }
 
-    /// Asks for room for so many more places, and for putting as many.
-    pub fn make_room(&mut self, more: usize)
-        ensures put { self.new.put ≡ self.old.put }
-        ensures counts { self.new.counts ≡ self.old.counts }
-    {
-        let _had = self.counts.reserve(more);
-        let _had = self.put.reserve(more);
-    }
-
     /// Makes room for so many places, and for putting so many more. An `Err` is out of memory.
     pub fn reserve(&mut self, places: usize, more: usize) -> Result<(), Memory>
         ensures put { self.new.put ≡ self.old.put }

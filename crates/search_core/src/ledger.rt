@@ -12,7 +12,7 @@ use crate::copies::Copies;
 use crate::frontier::Frontier;
 use crate::note::Note;
 use crate::prefixes::Prefixes;
-use solid_model::{Choice, Limits, Memory, Prefix};
+use solid_model::{Choice, Memory, Prefix};
 use std::alloc::Global;
 
 /// The ledger of a desk. Each prefix is stored once and named by its place, also in the frontier and
@@ -82,17 +82,6 @@ fn put_all(frontier: &mut Frontier, rest: &[u32])
     }
 }
 
-/// More prefixes aren't opened within limits: a tree over so many blocks has less than 2 to the power
-/// of one more.
-fn most_opened(limits: Limits, blocks: u16) -> usize {
-    let nodes = limits.nodes as usize;
-    if blocks < 31 {
-        nodes.min(2 << blocks)
-    } else {
-        nodes
-    }
-}
-
 impl Ledger {
     /// A ledger in which nothing is noted; the empty prefix is in the frontier if it is live. An `Err` is out of
     /// memory.
@@ -113,22 +102,6 @@ impl Ledger {
             notes: Vec::new(alloc),
             found: Vec::new(alloc),
         })
-    }
-
-    /// Asks for room for a search within limits over so many blocks, so that no list moves while a
-    /// desk is locked. Where it can't be had, lists grow as they have to; what isn't written to yet
-    /// takes no memory. A report that leaves a rest has opened 64 prefixes, of which each has one
-    /// beside it at most, and the last one two below it; and it finds 64 choices at most.
-    pub fn make_room(&mut self, limits: Limits, blocks: u16)
-        ensures { ledger_of self.new ≡ ledger_of self.old }
-    {
-        let nodes = most_opened(limits, blocks);
-        let pieces = nodes.saturating_add(nodes / 64).saturating_add(128);
-        self.prefixes.make_room(pieces);
-        self.frontier.make_room(pieces);
-        let _had = self.notes.reserve(nodes);
-        let found = (limits.solids as usize).saturating_add(64).min(nodes);
-        let _had = self.found.reserve(found);
     }
 
     /// The place of a piece of the frontier.

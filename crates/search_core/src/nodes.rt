@@ -94,13 +94,6 @@ impl Nodes {
         Ok(Nodes { list })
     }
 
-    /// Asks for room for so many more.
-    pub fn make_room(&mut self, more: usize)
-        ensures { self.new ≡ self.old }
-    {
-        let _had = self.list.reserve(more);
-    }
-
     /// Where a node leads for a value.
     pub fn child(&self, at: u32, full: bool) -> Option<u32>
         requires { at < length self.now }

@@ -38,14 +38,6 @@ impl Prefixes {
         })
     }
 
-    /// Asks for room for so many more, of which each takes at most two nodes of the tree.
-    pub fn make_room(&mut self, more: usize)
-        ensures { self.new ≡ self.old }
-    {
-        let _had = self.stored.reserve(more);
-        self.trie.make_room(more.saturating_mul(2));
-    }
-
     /// How many there are.
     pub fn len(&self) -> usize
         ensures count { result ≡ length self.now }

@@ -42,13 +42,6 @@ impl Trie {
         })
     }
 
-    /// Asks for room for so many more nodes.
-    pub fn make_room(&mut self, more: usize)
-        ensures { self.new ≡ self.old }
-    {
-        self.nodes.make_room(more);
-    }
-
     /// The place of a prefix, if it has one.
     pub fn place(&self, prefix: &Prefix) -> Option<u32>
         ensures { result ≡ trie_place self.now prefix.now }
