@@ -1,5 +1,5 @@
 -- What is seen of the cells of the two columns beside a line.
-use Rattle.std.proofs.Common.{◌≡◌, Bool, true, false, not, ℕ, ℤ, pos, Option, None, ap, sym, subst, ◌∙◌}
+use Rattle.std.proofs.Common.{◌≡◌, Bool, true, false, not, ℕ, ℤ, pos, Option, sym, subst, ◌∙◌}
 use Rattle.columns.specs.declared.seen.SeenLine.{SeenLine}
 use Rattle.columns.specs.Doubted.{CanDrawWith, IsFree}
 use Rattle.columns.specs.Free.{LeavesFree}

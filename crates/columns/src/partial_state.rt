@@ -141,8 +141,8 @@ impl<'p> PartialState<'p> {
         self.touched[usize::from(block)].as_slice()[at as usize] as usize
     }
 
-    /// Decides a block that isn't decided. True: a line that touches it may force something. False: with
-    /// either value in each undecided cell beside such a line, if it can be met, it still can.
+    /// Decides a block that isn't decided. True: a line that touches it may force something. False:
+    /// each such line that can be met can be so with either value in each undecided cell beside it.
     pub fn decide_counted<L: Ledger>(
         &mut self,
         block: u16,
@@ -207,8 +207,8 @@ impl<'p> PartialState<'p> {
         }
     }
 
-    /// Decides a block that isn't decided. True: a line that touches it may force something. False: with
-    /// either value in each undecided cell beside such a line, if it can be met, it still can.
+    /// Decides a block that isn't decided. True: a line that touches it may force something. False:
+    /// each such line that can be met can be so with either value in each undecided cell beside it.
     pub fn decide(&mut self, block: u16, full: bool) -> bool
         requires there { block < self.old.problem.blocks.count }
         requires open { decided_by self.old.decisions block ≡ None }

@@ -66,8 +66,8 @@ impl<'p> Partial<'p> {
         })
     }
 
-    /// Decides a block that isn't decided. True: a line that touches it may force something. False: with
-    /// either value in each undecided cell beside such a line, if it can be met, it still can.
+    /// Decides a block that isn't decided. True: a line that touches it may force something. False:
+    /// each such line that can be met can be so with either value in each undecided cell beside it.
     pub fn decide(&mut self, block: u16, full: bool) -> bool
         requires there { block < self.old.problem.blocks.count }
         requires open { decided_by self.old.decisions block ≡ None }

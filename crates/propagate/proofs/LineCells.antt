@@ -1,5 +1,5 @@
 -- What a line that is seen excludes is what the cells of its two columns exclude.
-use Rattle.std.proofs.Common.{◌≡◌, ◌⊎◌, inl, inr, Bool, true, false, not, ◌<◌, ◌≤◌, ℕ, ℤ, pos, negsuc, Option, Some, None, ap, sym, subst, ◌∙◌, arith}
+use Rattle.std.proofs.Common.{◌≡◌, ◌⊎◌, inl, inr, Bool, true, false, not, ◌<◌, ◌≤◌, ℕ, pos, negsuc, Option, Some, None, ap, sym, ◌∙◌, arith}
 use Rattle.std.proofs.lemmas.Bool.{cases_Bool, cases_lt}
 use Rattle.std.proofs.lemmas.Int.{ints}
 use Rattle.std.proofs.lemmas.Option.{none-some}
@@ -14,12 +14,9 @@ use Rattle.propagate.specs.Looking.{TellsLeast, lesser_decision}
 use Rattle.propagate.proofs.Least.{told_alike, told_lesser}
 use Rattle.solid_model.specs.declared.decision.Decision.{Decision}
 use Rattle.solid_model.specs.declared.line_id.LineId.{LineId}
-use Rattle.solid_model.specs.declared.segment.Style.{Style}
-use Rattle.solid_model.specs.declared.segment.Style.TheVariants.{Blank, Dashed, Solid}
 use Rattle.solid_model.specs.Bits.{is_set}
 use Rattle.solid_model.specs.Blocks.{ProblemParts, IsBlocksOf, block_at}
-use Rattle.solid_model.specs.Columns.{ColumnsDraw}
-use Rattle.solid_model.specs.Demands.{line_style, known_in, known_cell, known_after, known_before, AgreesWith, CanDraw, CanBeMet}
+use Rattle.solid_model.specs.Demands.{known_in}
 use Rattle.solid_model.specs.Forcing.{place_beside, cell_beside, CanBeMetWith}
 use Rattle.solid_model.specs.Frames.{frame_of}
 use Rattle.solid_model.specs.GridBox.{grid_sizes}

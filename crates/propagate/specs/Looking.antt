@@ -1,5 +1,5 @@
 -- What the cells of two columns exclude of each other.
-use Rattle.std.specs.Prelude.{◌≡◌, ◌==◌, ◌||◌, ◌≤◌, Bool, true, false, not, ℕ, nat_lt, ℤ, pos, Option, Some, None, if◌then◌else◌}
+use Rattle.std.specs.Prelude.{◌≡◌, ◌==◌, ◌||◌, ◌≤◌, Bool, false, not, ℕ, nat_lt, ℤ, pos, Option, Some, None, if◌then◌else◌}
 use Rattle.solid_model.specs.declared.decision.Decision.{Decision}
 use Rattle.solid_model.specs.declared.segment.Style.{Style}
 use Rattle.columns.specs.Doubted.{CanDrawWith}

@@ -141,8 +141,9 @@ pub fn close(partial: &mut Partial<'_>) -> Closed
     }
 }
 
-/// Decides a block that isn't decided, and closes, where the lines exclude nothing before: only lines
-/// that touch a block decided since are looked at, and none where deciding tells that they force nothing.
+/// Decides a block that isn't decided, and closes, where the lines exclude nothing before: only
+/// lines that touch a block decided since are looked at, and none where deciding tells that those
+/// which touch this one force nothing.
 pub fn decide_closed(partial: &mut Partial<'_>, block: u16, full: bool) -> Closed
     requires there { block < partial.old.problem.blocks.count }
     requires open { decided_by partial.old.decisions block ≡ None }
@@ -150,10 +151,11 @@ pub fn decide_closed(partial: &mut Partial<'_>, block: u16, full: bool) -> Close
         → IsCalm partial.old.problem (decided_by partial.old.decisions) l }
     ensures problem { partial.new.problem ≡ partial.old.problem }
     ensures grows { Grows partial.old.problem
-        (partial.old.decisions ++ record { block = block; full = full } ∷ []) partial.new.decisions }
+        (partial.old.decisions ++ record { block = block; full = full } ∷ [])
+        partial.new.decisions }
     ensures closed { TellsClosed partial.old.problem
-        (partial.old.decisions ++ record { block = block; full = full } ∷ []) partial.new.decisions
-        result }
+        (partial.old.decisions ++ record { block = block; full = full } ∷ [])
+        partial.new.decisions result }
 {
     // A look at the problem tells that its blocks are those of its grid.
     let _grid = partial.problem().grid();

@@ -1,5 +1,5 @@
 -- No cell of either column is doubted.
-use Rattle.std.proofs.Common.{◌==◌, sym, bit_or}
+use Rattle.std.proofs.Common.{◌==◌, bit_or}
 use Rattle.std.proofs.lemmas.Bool.{eqb-true, not-false}
 use Rattle.columns.specs.Spans.{column_there}
 use Rattle.columns.proofs.LowestLeft.{none_of_either}

@@ -1,5 +1,5 @@
 -- The lines that touch the block force nothing, or they are looked at.
-use Rattle.std.proofs.Common.{◌≡◌, ◌∷◌, ◌++◌, [], inl, length, List, IsTrue, refl, ap, sym, subst, arith}
+use Rattle.std.proofs.Common.{◌≡◌, inl, List, IsTrue, refl, sym, subst, arith}
 use Rattle.columns.specs.Free.{LeaveFree}
 use Rattle.propagate.specs.declared.closing.Closed.{Closed}
 use Rattle.propagate.specs.declared.closing.Closed.TheVariants.{Stable, Conflict}

@@ -1,14 +1,12 @@
 -- The next value follows already, or its opposite does, or it is decided and closed.
-use Rattle.std.proofs.Common.{◌≡◌, List, Bool, true, false, not, ℕ, ◌∷◌, ◌++◌, [], length, take, Some, None, IsTrue, refl, ap, sym, subst, ◌∙◌, append_assoc, length-append, arith}
+use Rattle.std.proofs.Common.{◌≡◌, List, Bool, true, false, not, ℕ, ◌∷◌, ◌++◌, [], length, take, Some, refl, ap, sym, subst, ◌∙◌, append_assoc, length-append, arith}
 use Rattle.std.proofs.lemmas.Bool.{false≢true}
 use Rattle.std.proofs.lemmas.List.{take_all, length_push}
 use Rattle.propagate.specs.Closing.{Grows}
-use Rattle.propagate.specs.Forced.{IsCalm}
 use Rattle.solid_model.specs.declared.decision.Decision.{Decision}
 use Rattle.solid_model.specs.Blocks.{ProblemParts}
 use Rattle.solid_model.specs.Decisions.{decided_by, PartialParts}
-use Rattle.solid_model.specs.Demands.{has_line}
-use Rattle.solid_model.specs.Forcing.{IsStable, Lives}
+use Rattle.solid_model.specs.Forcing.{Lives}
 use Rattle.search_tree.proofs.Implied.{closed_before, dead_before, closed_next, dead_next}
 use Rattle.search_tree.proofs.descent.close_next.Goals as goal
 use mathlib.Core.Bool.{beq}
