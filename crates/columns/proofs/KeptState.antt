@@ -12,7 +12,8 @@ use Rattle.solid_model.specs.declared.decision.Decision.{Decision}
 use Rattle.columns.specs.declared.spans.Span.{Span}
 use Rattle.solid_model.specs.Decisions.{decided_by}
 use Rattle.columns.specs.Broken.{TellsBroken}
-use Rattle.columns.specs.Lines.{one_if, times_listed, AreMarked, AreBeside, AreTried, IsMetBy, IsLeast}
+use Rattle.columns.specs.Free.{LeaveFree, LeavesFree}
+use Rattle.columns.specs.Lines.{one_if, times_listed, AreMarked, AreBeside, AreTried, AreFreeAmong, IsMetBy, IsLeast}
 use Rattle.columns.specs.Spans.{is_on, column_there, known_there, AreWithin}
 use Rattle.columns.specs.KeptColumns.{column_count, IsColumnOf, IsBeside, IsKeptBy}
 use Rattle.columns.specs.declared.seen.SeenLine.{SeenLine}
@@ -20,16 +21,19 @@ use Rattle.columns.specs.Gathered.{no_side}
 use Rattle.columns.specs.Seen.{IsSeen}
 use Rattle.columns.specs.Touching.{touches, lines_touching, touching}
 use Rattle.columns.proofs.Deciding.{one_taken, one_untaken, last_untaken}
+use Rattle.columns.proofs.Gathering.{times_at}
 use Rattle.columns.proofs.AllLines.{lines_are_there}
 use Rattle.columns.proofs.KeptColumns.{known_more, known_less, columns_set, column_known, broken_more, side_met}
 use Rattle.columns.proofs.LeastBroken.{none_broken, some_broken}
+use Rattle.columns.proofs.SeenCells.{line_free}
 use Rattle.columns.proofs.Trails.{all_broken, trail_more, trail_less}
 use Rattle.solid_model.specs.declared.line_id.LineId.{LineId}
 use Rattle.solid_model.specs.Blocks.{ProblemParts, IsBlocksOf}
 use Rattle.solid_model.specs.Demands.{lines_of, line_style, CanBeMet}
 use Rattle.solid_model.specs.Lists.{Member}
 use Rattle.solid_model.specs.Panels.{GridParts}
-use Rattle.solid_model.proofs.ListPlaces.{member-at}
+use Rattle.solid_model.proofs.ListPlaces.{member-at, member-place}
+use Rattle.solid_model.proofs.Lists.{member-from_map}
 use Rattle.solid_model.specs.PerAxis.{numbers_of}
 use Rattle.solid_model.specs.GridBox.{grid_sizes, axis_along}
 
@@ -179,6 +183,19 @@ module _ (p : ProblemParts) (blocks : IsBlocksOf p.grid p.blocks) (spans : List 
         after = column_known p (sizes_same p blocks spans touched sides) (decided_by decisions) columns kept.state.known b.line (pos b.line.at) b.after at.cell at.after;
         before = column_known p (sizes_same p blocks spans touched sides) (decided_by decisions) columns kept.state.known b.line (pos b.line.at -ℤ pos 1) b.before at.cell at.before;
       }
+
+  -- where the lines that are listed with a block leave the cells beside them free, those that touch it do
+  pub free_told : (b : ℕ) (ls : List ℕ) → b < p.blocks.count → AreFreeAmong columns sides (get_or touched b ls) broken → LeaveFree p (decided_by decisions) b
+  free_told b ls l among line touch met =
+      let lines = get_or touched b ls in
+      let (i, listed, is) = member-from_map (λ n. (get_or sides n no_side).line) lines line (subst (λ xs. Member xs line) (sym (kept.plan.beside.exact b ls no_side (let f = kept.plan.cells.count in omega arith))) touch) in
+      let (k, within, at) = member-place lines i listed in
+      let there : i < length sides = subst (λ n. n < length sides) (at 0) (kept.plan.beside.there b ls (let f = kept.plan.cells.count in let g = kept.plan.beside.count in omega arith) k 0 within) in
+      let side = get_or sides i no_side in
+      let seen : SeenLine = record { line = side.line; style = side.style; after = column_there columns side.after; before = column_there columns side.before } in
+      let unbroken = (all_broken p sides decisions heights broken kept.state.trail i no_side there).1 (subst (CanBeMet p (decided_by decisions)) (sym is) met) in
+      let free = among i no_side there (times_at lines k 0 i within (at 0)) unbroken in
+      subst (LeavesFree p (decided_by decisions)) is (line_free p (decided_by decisions) seen (seen_told i side no_side there refl seen refl) free.0 free.1)
 
   -- few lines touch a block
   pub few_touched : (b : ℕ) (ls : List ℕ) → b < p.blocks.count → length (get_or touched b ls) ≤ 24192

@@ -7,6 +7,12 @@ pub mod SettledColumns
 pub mod SightLines
 pub mod MetLines
 pub mod WithValue
+pub mod ValueBits
+pub mod LowestLeft
+pub mod Replaced
+pub mod FreeApart
+pub mod FreeBehind
+pub mod SeenCells
 pub mod ForcedDecisions
 pub mod Prefixes
 pub mod LiveComputed

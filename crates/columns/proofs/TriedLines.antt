@@ -6,7 +6,7 @@ use Rattle.std.proofs.lemmas.List.Sums.{sum_by_push}
 use Rattle.std.proofs.lemmas.Grind.{take_at_read}
 use Rattle.columns.specs.declared.known.KnownColumn.{KnownColumn}
 use Rattle.columns.specs.declared.lines.Beside.{Beside}
-use Rattle.columns.specs.Lines.{one_if, times_listed, AreMarked, IsMetBy, BeginsWith, AreTried}
+use Rattle.columns.specs.Lines.{one_if, times_listed, AreMarked, IsMetBy, AreFreeBeside, BeginsWith, AreTried, AreFreeAmong}
 
 -- a number that is one of a list, or isn't
 pub is_not_there : (met : List Bool) (broken : List ℕ) (i : ℕ) → AreMarked met broken → i < length met → get_or met i false ≡ true → times_listed i broken ≡ 0
@@ -33,6 +33,11 @@ begins_push xs x = record {
   longer = (let e = length_push xs x in omega arith);
 }
 
+-- a number that is read is listed once more
+times_more : (lines : List ℕ) (n line e : ℕ) → n < length lines → get_or lines n e ≡ line → (i : ℕ) → times_listed i (take (n + 1) lines) ≡ times_listed i (take n lines) + one_if (line == i)
+times_more lines n line e l at i = ap (times_listed i) (take_at_read lines n e l).1 ∙ sum_by_push (λ x. one_if (x == i)) (take n lines) (get_or lines n e)
+    ∙ ap (λ x. times_listed i (take n lines) + one_if (x == i)) at
+
 module _ (columns : List KnownColumn) (sides : List Beside) (lines old : List ℕ) where
   pub none_tried : AreTried columns sides (take 0 lines) old old
   none_tried = record {
@@ -53,20 +58,26 @@ module _ (columns : List KnownColumn) (sides : List Beside) (lines old : List �
       Goal : ℕ → Beside → Type 0
       Goal i d = (times_listed i after ≡ 0) ↔ ((times_listed i old ≡ 0) × (0 < times_listed i (take (n + 1) lines) → IsMetBy columns (get_or sides i d)))
 
-      more : (i : ℕ) → times_listed i (take (n + 1) lines) ≡ times_listed i (take n lines) + one_if (line == i)
-      more i = ap (times_listed i) (take_at_read lines n e l).1 ∙ sum_by_push (λ x. one_if (x == i)) (take n lines) (get_or lines n e)
-          ∙ ap (λ x. times_listed i (take n lines) + one_if (x == i)) at
-
       here : (d : Beside) → line < length sides → one_if (line == line) ≡ 1 → Goal line d
       here d m one = let old_each = so_far.each line d m in (
         (λ none. let both = (tried d).0 none in ((old_each.0 both.0).0, λ some. both.1)),
-        (λ both. let met = both.1 (let f = more line in omega arith) in (tried d).1 (old_each.1 (both.0, λ some. met), met)),
+        (λ both. let met = both.1 (let f = times_more lines n line e l at line in omega arith) in (tried d).1 (old_each.1 (both.0, λ some. met), met)),
       )
 
       each : (i : ℕ) (d : Beside) → i < length sides → ((line == i) ≡ true) ⊎ ((line == i) ≡ false) → Goal i d
       each i d m (inl is) = (let f : line ≡ i = eqb-true line i is in
           subst (λ j. Goal j d) f (here d (subst (λ j. j < length sides) (sym f) m) (ap (λ j. one_if (line == j)) f ∙ ap one_if is)))
-      each i d m (inr other) = (let g = others i other in let f = more i in let h = ap one_if other in let old_each = so_far.each i d m in (
+      each i d m (inr other) = (let g = others i other in let f = times_more lines n line e l at i in let h = ap one_if other in let old_each = so_far.each i d m in (
         (λ none. let both = old_each.0 (omega arith) in (both.0, λ some. both.1 (omega arith))),
         (λ both. let none = old_each.1 (both.0, λ some. both.1 (omega arith)) in omega arith),
       ))
+
+-- one line more leaves the cells beside it free, or is broken
+pub one_free : (columns : List KnownColumn) (sides : List Beside) (lines : List ℕ) (n line e : ℕ) (before after : List ℕ) → n < length lines → get_or lines n e ≡ line
+    → ((i : ℕ) → (line == i) ≡ false → times_listed i after ≡ times_listed i before)
+    → AreFreeAmong columns sides (take n lines) before → ((d : Beside) → times_listed line after ≡ 0 → AreFreeBeside columns (get_or sides line d))
+    → AreFreeAmong columns sides (take (n + 1) lines) after
+one_free columns sides lines n line e before after l at others so_far here i d m some unbroken = elim (cases_Bool (line == i)) as (λ _. AreFreeBeside columns (get_or sides i d)) [
+  | inl is ↦ subst (λ j. times_listed j after ≡ 0 → AreFreeBeside columns (get_or sides j d)) (eqb-true line i is) (here d) unbroken
+  | inr other ↦ so_far i d m (let f = times_more lines n line e l at i in let h = ap one_if other in omega arith) (sym (others i other) ∙ unbroken)
+]

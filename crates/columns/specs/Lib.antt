@@ -5,6 +5,7 @@ pub mod DrawnDemands
 pub mod SmallForcing
 pub mod Touching
 pub mod Spans
+pub mod Doubted
 pub mod Lines
 pub mod Plans
 pub mod KeptColumns
@@ -13,3 +14,4 @@ pub mod Packed
 pub mod Sight
 pub mod SightCells
 pub mod Seen
+pub mod Free

@@ -4,6 +4,7 @@ use Rattle.std.specs.List.{sum_by}
 use Rattle.solid_model.specs.Known.{known_bits}
 use Rattle.columns.specs.declared.known.KnownColumn.{KnownColumn}
 use Rattle.columns.specs.declared.lines.Beside.{Beside}
+use Rattle.columns.specs.Doubted.{IsFree}
 use Rattle.columns.specs.Spans.{column_there}
 use Rattle.solid_model.specs.Demands.{CanDraw}
 
@@ -26,6 +27,13 @@ abbrev pub IsMetBy : List KnownColumn → Beside → Type 0
 IsMetBy columns b = CanDraw (known_bits (column_there columns b.after).full (column_there columns b.after).may)
     (known_bits (column_there columns b.before).full (column_there columns b.before).may) b.style
 
+-- each undecided cell of the columns beside a line can have either value
+abbrev pub AreFreeBeside : List KnownColumn → Beside → Type 0
+AreFreeBeside columns b = IsFree (known_bits (column_there columns b.after).full (column_there columns b.after).may)
+    (known_bits (column_there columns b.before).full (column_there columns b.before).may) b.style
+    × IsFree (known_bits (column_there columns b.before).full (column_there columns b.before).may)
+    (known_bits (column_there columns b.after).full (column_there columns b.after).may) b.style
+
 -- the columns beside each line are some of so many
 abbrev pub AreBeside : ℕ → List Beside → Type 0
 AreBeside count sides = All (λ b. (b.after < count) × (b.before < count)) sides
@@ -40,6 +48,11 @@ pub record AreTried (columns : List KnownColumn) (sides : List Beside) (lines ol
   pub begins : BeginsWith old new
   pub each : (i : ℕ) (d : Beside) → i < length sides
       → (times_listed i new ≡ 0) ↔ ((times_listed i old ≡ 0) × (0 < times_listed i lines → IsMetBy columns (slice_index_or sides i d)))
+
+-- of these lines each that isn't broken leaves the cells beside it free
+abbrev pub AreFreeAmong : List KnownColumn → List Beside → List ℕ → List ℕ → Type 0
+AreFreeAmong columns sides lines broken = (i : ℕ) (d : Beside) → i < length sides → 0 < times_listed i lines → times_listed i broken ≡ 0
+    → AreFreeBeside columns (slice_index_or sides i d)
 
 -- it is one of them, and each that is less isn't
 pub record IsLeastNumber (numbers : List ℕ) (x : ℕ) : Type 0 where

@@ -4,6 +4,7 @@
 
 mod beside;
 mod column;
+mod doubts;
 mod draw;
 mod gather;
 mod grid_columns;
@@ -20,9 +21,10 @@ mod spans;
 mod steps;
 
 pub use column::{Column, style_of};
+pub use doubts::{doubted, without_lowest};
 pub use draw::{ColumnSet, columns_in, columns_of, draw_cells, draw_in};
 pub use grid_columns::cell_in;
-pub use known::{KnownColumn, can_differ, can_draw, meets, without};
+pub use known::{KnownColumn, can_draw, meets};
 pub use laws::{
     demands_are_computed, lines_are_met_by_drawings, lines_in_order,
     live_prefixes_end_in_matching_solids, live_prefixes_leave_all_lines_met,

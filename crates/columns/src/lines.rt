@@ -1,9 +1,10 @@
 //! The lines that can't be met, in the order in which they were found.
 
 ghost use Rattle.std.specs.Prelude.{◌≡◌, ◌↔◌, ◌<◌, ◌≤◌, ◌+◌, ◌++◌, ◌∷◌, [], ◌==◌, ℕ, true, false, length, take, All, slice_index_or, slice_set, vec_capacity, IsTrue};
-ghost use Rattle.columns.specs.Lines.{times_listed, AreMarked, IsMetBy, AreBeside, BeginsWith, AreTried, IsLeast, lesser_of};
+ghost use Rattle.columns.specs.Lines.{times_listed, AreMarked, IsMetBy, AreFreeBeside, AreBeside, BeginsWith, AreTried, AreFreeAmong, IsLeast, lesser_of};
 ghost use Rattle.columns.specs.Spans.{AreWithin};
 
+use crate::doubts::doubted;
 use crate::known::{KnownColumn, can_draw, meets};
 use crate::steps::Steps;
 use solid_model::{LineId, Style};
@@ -38,6 +39,20 @@ pub fn is_met<L: Ledger>(columns: &[KnownColumn], beside: Beside, steps: &mut St
     )
 }
 
+/// A line that can be met may force something: not each undecided cell of the columns beside it is
+/// known to be free.
+fn may_force(columns: &[KnownColumn], beside: Beside) -> bool
+    requires within { AreWithin columns.now }
+    requires after { beside.after < length columns.now }
+    requires before { beside.before < length columns.now }
+    requires met { IsMetBy columns.now beside }
+    ensures { result ≡ false → AreFreeBeside columns.now beside }
+{
+    let after = columns[beside.after as usize];
+    let before = columns[beside.before as usize];
+    doubted(beside.style, after, before) | doubted(beside.style, before, after) != 0
+}
+
 /// Marks a line as one that can't be met.
 pub fn break_line(met: &mut [bool], broken: &mut Vec<u32>, line: u32)
     requires marked { AreMarked met.old broken.old.items }
@@ -66,7 +81,8 @@ pub fn mend_lines(met: &mut [bool], broken: &mut Vec<u32>, height: usize)
     }
 }
 
-/// Tries a line, unless it is known that it can't be met, and marks it if it can't.
+/// Tries a line, unless it is known that it can't be met, and marks it if it can't. False: the line
+/// forces nothing, or can't be met.
 fn try_line<L: Ledger>(
     columns: &[KnownColumn],
     sides: &[Beside],
@@ -74,7 +90,7 @@ fn try_line<L: Ledger>(
     met: &mut [bool],
     broken: &mut Vec<u32>,
     steps: &mut Steps<L>,
-)
+) -> bool
     requires within { AreWithin columns.now }
     requires sides { AreBeside (length columns.now) sides.now }
     requires there { line < length sides.now }
@@ -87,19 +103,22 @@ fn try_line<L: Ledger>(
     ensures others { (i : ℕ) → (line == i) ≡ false → times_listed i broken.new.items ≡ times_listed i broken.old.items }
     ensures tried { (d : Beside) → (times_listed line broken.new.items ≡ 0)
         ↔ ((times_listed line broken.old.items ≡ 0) × IsMetBy columns.now (slice_index_or sides.now line d)) }
+    ensures free { result ≡ false → (d : Beside) → times_listed line broken.new.items ≡ 0
+        → AreFreeBeside columns.now (slice_index_or sides.now line d) }
     ensures steps { steps.new ≤ steps.old + 1 }
 {
     if !met[line as usize] {
-        return;
+        return false;
     }
     if is_met(columns, sides[line as usize], steps) {
-        return;
+        return may_force(columns, sides[line as usize]);
     }
     break_line(met, broken, line);
+    false
 }
 
 /// Tries lines, those left out of which it is known that they can't be met, and marks those that
-/// can't.
+/// can't. False: each of them that can be met forces nothing.
 pub fn try_lines<L: Ledger>(
     columns: &[KnownColumn],
     sides: &[Beside],
@@ -107,7 +126,7 @@ pub fn try_lines<L: Ledger>(
     met: &mut [bool],
     broken: &mut Vec<u32>,
     steps: &mut Steps<L>,
-)
+) -> bool
     requires within { AreWithin columns.now }
     requires sides { AreBeside (length columns.now) sides.now }
     requires there { All (λ i. i < length sides.now) lines.now }
@@ -117,11 +136,15 @@ pub fn try_lines<L: Ledger>(
     ensures marked { AreMarked met.new broken.new.items }
     ensures room { vec_capacity broken.new ≡ vec_capacity broken.old }
     ensures tried { AreTried columns.now sides.now lines.now broken.old.items broken.new.items }
+    ensures free { result ≡ false
+        → AreFreeAmong columns.now sides.now lines.now broken.new.items }
     ensures steps { steps.new ≤ steps.old + length lines.now }
 {
+    let mut may_force = false;
     for line in lines {
-        try_line(columns, sides, *line, met, broken, steps);
+        may_force |= try_line(columns, sides, *line, met, broken, steps);
     }
+    may_force
 }
 
 /// Some columns that agree with what is known of them draw the line's style.

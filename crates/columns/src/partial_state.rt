@@ -1,7 +1,8 @@
 //! A problem, some of whose blocks are decided.
 
-ghost use Rattle.std.specs.Prelude.{◌≡◌, ◌<◌, ◌++◌, ◌∷◌, [], None};
+ghost use Rattle.std.specs.Prelude.{◌≡◌, ◌<◌, ◌++◌, ◌∷◌, [], None, false};
 ghost use Rattle.columns.specs.Broken.{TellsBroken};
+ghost use Rattle.columns.specs.Free.{LeaveFree};
 ghost use Rattle.solid_model.specs.Decisions.{decided_by};
 
 use crate::beside::{beside_of, number_of_column};
@@ -66,6 +67,7 @@ impl<'p> Model for PartialState<'p> {
 impl<'p> PartialState<'p> {
     ghost use Rattle.std.specs.Prelude.{◌≡◌, ◌↔◌, ◌<◌, ◌≤◌, ◌+◌, ◌++◌, ◌∷◌, [], ℕ, pos, Some, None, false, length, slice_get, slice_index_or, IsTrue, IfSome, IfOk};
     ghost use Rattle.solid_model.specs.Decisions.{decided_by, AreDecisions, AreOnAll};
+    ghost use Rattle.columns.specs.Free.{LeaveFree};
     ghost use Rattle.columns.specs.Packed.{ArePacked};
     ghost use Rattle.columns.specs.Touching.{lines_touching, touching, view_width, view_height, shown_cell};
     ghost use Rattle.columns.specs.Seen.{IsSeen};
@@ -139,14 +141,22 @@ impl<'p> PartialState<'p> {
         self.touched[usize::from(block)].as_slice()[at as usize] as usize
     }
 
-    /// Decides a block that isn't decided.
-    pub fn decide_counted<L: Ledger>(&mut self, block: u16, full: bool, steps: &mut Steps<L>)
+    /// Decides a block that isn't decided. True: a line that touches it may force something. False:
+    /// each such line that can be met can be so with either value in each undecided cell beside it.
+    pub fn decide_counted<L: Ledger>(
+        &mut self,
+        block: u16,
+        full: bool,
+        steps: &mut Steps<L>,
+    ) -> bool
         requires there { block < self.old.problem.blocks.count }
         requires open { decided_by self.old.decisions block ≡ None }
         ensures decided { self.new ≡ record {
           problem = self.old.problem;
           decisions = self.old.decisions ++ record { block = block; full = full } ∷ [];
         } }
+        ensures free { result ≡ false
+            → LeaveFree self.old.problem (decided_by self.new.decisions) block }
         ensures steps { steps.new ≤ steps.old + touching self.old.problem block }
     {
         // A look at the problem tells that its blocks are those of its grid.
@@ -159,7 +169,7 @@ impl<'p> PartialState<'p> {
         );
         self.values[number] = Some(full);
         self.heights.push_reserved(self.broken.len());
-        try_lines(
+        let may_force = try_lines(
             self.columns.as_slice(),
             self.sides.as_slice(),
             self.touched[number].as_slice(),
@@ -168,6 +178,7 @@ impl<'p> PartialState<'p> {
             steps,
         );
         self.decisions.push_reserved(Decision { block, full });
+        may_force
     }
 
     /// Takes back the last decision. False: there is none.
@@ -196,16 +207,19 @@ impl<'p> PartialState<'p> {
         }
     }
 
-    /// Decides a block that isn't decided.
-    pub fn decide(&mut self, block: u16, full: bool)
+    /// Decides a block that isn't decided. True: a line that touches it may force something. False:
+    /// each such line that can be met can be so with either value in each undecided cell beside it.
+    pub fn decide(&mut self, block: u16, full: bool) -> bool
         requires there { block < self.old.problem.blocks.count }
         requires open { decided_by self.old.decisions block ≡ None }
-        ensures { self.new ≡ record {
+        ensures decided { self.new ≡ record {
           problem = self.old.problem;
           decisions = self.old.decisions ++ record { block = block; full = full } ∷ [];
         } }
+        ensures free { result ≡ false
+            → LeaveFree self.old.problem (decided_by self.new.decisions) block }
     {
-        decide_with::<Brand>(self, block, full, Blank::new(1));
+        decide_with::<Brand>(self, block, full, Blank::new(1))
     }
 
     /// The problem.
@@ -335,19 +349,21 @@ impl<'p> PartialState<'p> {
 }
 
 /// Decides a block, and counts the steps in a ledger of its own.
-fn decide_with<L: Ledger>(state: &mut PartialState, block: u16, full: bool, blank: Blank)
+fn decide_with<L: Ledger>(state: &mut PartialState, block: u16, full: bool, blank: Blank) -> bool
     requires name { L.name ≡ blank.name }
     requires parts { L.parts ≡ blank.parts }
     requires some { 0 < blank.parts }
     requires there { block < state.old.problem.blocks.count }
     requires open { decided_by state.old.decisions block ≡ None }
-    ensures { state.new ≡ record {
+    ensures decided { state.new ≡ record {
       problem = state.old.problem;
       decisions = state.old.decisions ++ record { block = block; full = full } ∷ [];
     } }
+    ensures free { result ≡ false
+        → LeaveFree state.old.problem (decided_by state.new.decisions) block }
 {
     let mut steps = Steps::<L>::new(blank);
-    state.decide_counted(block, full, &mut steps);
+    state.decide_counted(block, full, &mut steps)
 }
 
 /// The first line that can't be met.

@@ -37,6 +37,7 @@ impl<'p> Partial<'p> {
     ghost use Rattle.solid_model.specs.declared.decision.Decision.{Decision};
     ghost use Rattle.solid_model.specs.Decisions.{decided_by, AreDecisions, AreOnAll};
     ghost use Rattle.line_demands.specs.WholeChoices.{TellsMatching};
+    ghost use Rattle.columns.specs.Free.{LeaveFree};
     ghost use Rattle.columns.specs.Touching.{lines_touching, touching, view_width, view_height, shown_cell};
     ghost use Rattle.solid_model.specs.Known.{known_bits, LiesWithin};
     ghost use Rattle.columns.specs.Seen.{IsSeen};
@@ -65,29 +66,39 @@ impl<'p> Partial<'p> {
         })
     }
 
-    /// Decides a block that isn't decided.
-    pub fn decide(&mut self, block: u16, full: bool)
-        requires there { block < self.old.problem.blocks.count }
-        requires open { decided_by self.old.decisions block ≡ None }
-        ensures { self.new ≡ record {
-          problem = self.old.problem;
-          decisions = self.old.decisions ++ record { block = block; full = full } ∷ [];
-        } }
-    {
-        self.state.decide(block, full);
-    }
-
-    /// The same, counting its steps: tries of a line.
-    pub fn decide_counted<L: Ledger>(&mut self, block: u16, full: bool, steps: &mut Steps<L>)
+    /// Decides a block that isn't decided. True: a line that touches it may force something. False:
+    /// each such line that can be met can be so with either value in each undecided cell beside it.
+    pub fn decide(&mut self, block: u16, full: bool) -> bool
         requires there { block < self.old.problem.blocks.count }
         requires open { decided_by self.old.decisions block ≡ None }
         ensures decided { self.new ≡ record {
           problem = self.old.problem;
           decisions = self.old.decisions ++ record { block = block; full = full } ∷ [];
         } }
+        ensures free { result ≡ false
+            → LeaveFree self.old.problem (decided_by self.new.decisions) block }
+    {
+        self.state.decide(block, full)
+    }
+
+    /// The same, counting its steps: tries of a line.
+    pub fn decide_counted<L: Ledger>(
+        &mut self,
+        block: u16,
+        full: bool,
+        steps: &mut Steps<L>,
+    ) -> bool
+        requires there { block < self.old.problem.blocks.count }
+        requires open { decided_by self.old.decisions block ≡ None }
+        ensures decided { self.new ≡ record {
+          problem = self.old.problem;
+          decisions = self.old.decisions ++ record { block = block; full = full } ∷ [];
+        } }
+        ensures free { result ≡ false
+            → LeaveFree self.old.problem (decided_by self.new.decisions) block }
         ensures steps { steps.new ≤ steps.old + touching self.old.problem block }
     {
-        self.state.decide_counted(block, full, steps);
+        self.state.decide_counted(block, full, steps)
     }
 
     /// Takes back the last decision. False: there is none.

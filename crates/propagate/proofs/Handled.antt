@@ -1,12 +1,12 @@
 -- Lines that exclude nothing, or are still to be looked at.
-use Rattle.std.proofs.Common.{◌⊎◌, ◌≡◌, ◌==◌, Bool, true, false, ℕ, zero, suc, ◌<◌, ◌≤◌, ◌+◌, List, [], ◌∷◌, ◌++◌, length, take, drop, slice_get, ℤ, pos, negsuc, ◌-ℤ◌, Option, Some, None, IsTrue, if◌then◌else◌, ◌||◌, inl, inr, refl, ap, sym, subst, ◌∙◌, arith, append_assoc}
+use Rattle.std.proofs.Common.{◌⊎◌, ◌≡◌, ◌==◌, Bool, true, false, ℕ, zero, suc, ◌<◌, ◌≤◌, ◌+◌, List, [], ◌∷◌, ◌++◌, length, drop, slice_get, ℤ, pos, negsuc, ◌-ℤ◌, Option, Some, None, IsTrue, if◌then◌else◌, ◌||◌, inl, inr, refl, ap, sym, subst, ◌∙◌, arith}
 use Rattle.std.specs.Prelude.{IfSome}
 use Rattle.std.specs.List.{range_with_len}
 use Rattle.std.proofs.lemmas.Bool.{eqb-true, eq-eqb, both_ways, cases_lt, or_left, or_right}
-use Rattle.std.proofs.lemmas.List.{append-nil, length-append, length-take-le, take-append-drop}
 use Rattle.std.proofs.lemmas.List.Folds.{list_any_at}
 use Rattle.std.proofs.lemmas.List.FromFn.{length-range_with_len, get_or-range_with_len}
 use Rattle.std.proofs.lemmas.Option.{none-some, same_Some}
+use Rattle.columns.specs.Free.{LeavesFree, LeaveFree}
 use Rattle.columns.specs.Touching.{is_of, block_beside, touches, lines_touching}
 use Rattle.columns.proofs.AllLines.{lines_are_listed}
 use Rattle.columns.proofs.Gathering.{block_below}
@@ -18,8 +18,8 @@ use Rattle.solid_model.specs.declared.decision.Decision.{Decision}
 use Rattle.solid_model.specs.declared.line_id.LineId.{LineId}
 use Rattle.solid_model.specs.Blocks.{ProblemParts, IsBlocksOf, block_at}
 use Rattle.solid_model.specs.Columns.{ColumnsDraw}
-use Rattle.solid_model.specs.Decisions.{decided_by, AreDecisions}
-use Rattle.solid_model.specs.Demands.{has_line, line_style, lines_of, known_in, known_cell, known_after, known_before, AgreesWith}
+use Rattle.solid_model.specs.Decisions.{decided_by}
+use Rattle.solid_model.specs.Demands.{has_line, line_style, lines_of, known_in, known_cell, known_after, known_before, AgreesWith, AllMet}
 use Rattle.solid_model.specs.Forcing.{known_with, cell_beside}
 use Rattle.solid_model.specs.Frames.{frame_of}
 use Rattle.solid_model.specs.GridBox.{grid_sizes}
@@ -99,6 +99,11 @@ pub excluded_there : (p : ProblemParts) → IsBlocksOf p.grid p.blocks → (know
 excluded_there p blocks known l block value (none, (of_after, k, at, out)) =
     (subst (λ r. IfSome r (λ b. b < p.blocks.count)) at (block_below p blocks (cell_beside p.grid l of_after k)), touches_by p blocks l block of_after k at)
 
+-- none where it leaves the cells beside it free
+free_calm : (p : ProblemParts) → IsBlocksOf p.grid p.blocks → (known : ℕ → Option Bool) (l : LineId) → LeavesFree p known l → IsCalm p known l
+free_calm p blocks known l free block value (none, (of_after, negsuc k, at, out)) = absurd (none-some block (sym (none_before p blocks l of_after k) ∙ at))
+free_calm p blocks known l free block value (none, (of_after, pos k, at, out)) = out (free of_after k value (ap (known_in known) at ∙ none))
+
 -- ---- a decision more
 
 at_push : {A : Type 0} (xs : List A) (x : A) → slice_get (xs ++ x ∷ []) (length xs) ≡ Some x
@@ -110,28 +115,27 @@ module _ (p : ProblemParts) (blocks : IsBlocksOf p.grid p.blocks) (ds : List Dec
   pub awaits_new : (from : ℕ) → from ≤ length ds → (l : LineId) → touches p d.block l ≡ true → Awaits p (ds ++ d ∷ []) from l
   awaits_new from few l e = (length ds, few, d, at_push ds d, e)
 
-  -- each other one stays as it is
+  -- each other one excludes nothing more,
+  calm_apart : (l : LineId) → touches p d.block l ≡ false → IsCalm p (decided_by ds) l → IsCalm p (decided_by (ds ++ d ∷ [])) l
+  calm_apart l apart calm = subst (λ known. IsCalm p known l) (sym (decided_push ds d undecided)) (calm_same p blocks l (decided_by ds) d apart calm)
+
+  -- so all stay handled
   pub handled_on : (from : ℕ) → from ≤ length ds → (l : LineId) → IsHandled p ds from l → IsHandled p (ds ++ d ∷ []) from l
   handled_on from few l (inr (j, above, e, at, touch)) = inr (j, above, e, at_before ds (d ∷ []) j e at, touch)
   handled_on from few l (inl calm) = by (touches p d.block l) refl
     where
       by : (b : Bool) → touches p d.block l ≡ b → IsHandled p (ds ++ d ∷ []) from l
       by true e = inr (awaits_new from few l e)
-      by false e = inl (subst (λ known. IsCalm p known l) (sym (decided_push ds d undecided)) (calm_same p blocks l (decided_by ds) d e calm))
+      by false e = inl (calm_apart l e calm)
 
--- ---- decisions after some that are closed
-
-module _ (p : ProblemParts) (blocks : IsBlocksOf p.grid p.blocks) (l : LineId) (from : ℕ) where
-  handled_more : (front rest : List Decision) → AreDecisions p.blocks.count (front ++ rest) → from ≤ length front → IsHandled p front from l → IsHandled p (front ++ rest) from l
-  handled_more front [] each few h = subst (λ ds. IsHandled p ds from l) (sym (append-nil front)) h
-  handled_more front (d ∷ rest) each few h =
-      let moved : (front ++ d ∷ []) ++ rest ≡ front ++ d ∷ rest = append_assoc front (d ∷ []) rest in
-      subst (λ ds. IsHandled p ds from l) moved (handled_more (front ++ d ∷ []) rest (subst (AreDecisions p.blocks.count) (sym moved) each)
-      (omega (arith, length-append front (d ∷ []))) (handled_on p blocks front d (each front rest d refl).1 from few l h))
-
-  pub handled_since : (ds : List Decision) → AreDecisions p.blocks.count ds → from ≤ length ds → IsCalm p (decided_by (take from ds)) l → IsHandled p ds from l
-  handled_since ds each few calm = subst (λ all. IsHandled p all from l) (take-append-drop from ds)
-      (handled_more (take from ds) (drop from ds) (subst (AreDecisions p.blocks.count) (sym (take-append-drop from ds)) each) (omega (arith, length-take-le from ds few)) (inl calm))
+  -- where the lines that touch the new decision's block leave the cells beside them free, no line excludes anything more
+  pub calm_on : LeaveFree p (decided_by (ds ++ d ∷ [])) d.block → AllMet p (decided_by (ds ++ d ∷ [])) → ((l : LineId) → IsTrue (has_line p.grid l) → IsCalm p (decided_by ds) l)
+      → (l : LineId) → IsTrue (has_line p.grid l) → IsCalm p (decided_by (ds ++ d ∷ [])) l
+  calm_on free met calm l has = by (touches p d.block l) refl
+    where
+      by : (b : Bool) → touches p d.block l ≡ b → IsCalm p (decided_by (ds ++ d ∷ [])) l
+      by true e = free_calm p blocks (decided_by (ds ++ d ∷ [])) l (free l (member-filter (touches p d.block) (lines_of p.grid) l (lines_are_listed p.grid l has) e) (met l has))
+      by false e = calm_apart l e (calm l has)
 
 -- ---- looking at lines one after another
 

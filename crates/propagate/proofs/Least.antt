@@ -5,7 +5,7 @@ use Rattle.solid_model.specs.declared.decision.Decision.{Decision}
 use Rattle.solid_model.specs.Bits.{is_set}
 use Rattle.solid_model.proofs.WordBits.{zeros}
 use Rattle.propagate.specs.Looking.{IsLeastIn, TellsLeast, lesser_decision}
-use Rattle.propagate.proofs.LowestLeft.{rest_off, rest_lowest, rest_other}
+use Rattle.columns.proofs.LowestLeft.{rest_off, rest_lowest, rest_other}
 
 -- the same for what is excluded alike
 pub told_alike : (P Q : ℕ → Bool → Type 0) (best : Option Decision) → ((b : ℕ) (v : Bool) → P b v → Q b v) → ((b : ℕ) (v : Bool) → Q b v → P b v) → TellsLeast P best → TellsLeast Q best

@@ -1,10 +1,5 @@
-pub mod ValueBits
 pub mod Least
 pub mod LineCells
 pub mod Steps
 pub mod Chains
 pub mod Handled
-pub mod Replaced
-pub mod FreeApart
-pub mod FreeBehind
-pub mod LowestLeft

@@ -1,40 +1,25 @@
 -- What a line that is seen excludes is what the cells of its two columns exclude.
-use Rattle.std.proofs.Common.{◌≡◌, ◌⊎◌, inl, inr, Bool, true, false, not, ◌<◌, ◌≤◌, ℕ, ℤ, pos, negsuc, Option, Some, None, ap, sym, subst, ◌∙◌, arith}
+use Rattle.std.proofs.Common.{◌≡◌, ◌⊎◌, inl, inr, Bool, true, false, not, ◌<◌, ◌≤◌, ℕ, pos, negsuc, Option, Some, None, ap, sym, ◌∙◌, arith}
 use Rattle.std.proofs.lemmas.Bool.{cases_Bool, cases_lt}
 use Rattle.std.proofs.lemmas.Int.{ints}
 use Rattle.std.proofs.lemmas.Option.{none-some}
 use Rattle.columns.specs.declared.seen.SeenLine.{SeenLine}
-use Rattle.columns.specs.Seen.{IsSeen}
 use Rattle.columns.proofs.MetLines.{none_beyond}
-use Rattle.columns.proofs.KeptColumns.{draw_from}
-use Rattle.solid_model.proofs.KnownColumns.{same_first_back}
-use Rattle.propagate.specs.Beside.{known_beside, ExcludesAmong, ExcludesBeside}
+use Rattle.columns.proofs.SeenCells.{cell_known, met_with, with_met}
+use Rattle.columns.specs.Doubted.{IsDoubted}
+use Rattle.columns.specs.Seen.{IsSeen, known_beside}
+use Rattle.propagate.specs.Beside.{ExcludesAmong, ExcludesBeside}
 use Rattle.propagate.specs.Forced.{ExcludesOpen}
-use Rattle.propagate.specs.Looking.{CanDrawWith, IsDoubted, TellsLeast, lesser_decision}
+use Rattle.propagate.specs.Looking.{TellsLeast, lesser_decision}
 use Rattle.propagate.proofs.Least.{told_alike, told_lesser}
 use Rattle.solid_model.specs.declared.decision.Decision.{Decision}
 use Rattle.solid_model.specs.declared.line_id.LineId.{LineId}
-use Rattle.solid_model.specs.declared.segment.Style.{Style}
-use Rattle.solid_model.specs.declared.segment.Style.TheVariants.{Blank, Dashed, Solid}
 use Rattle.solid_model.specs.Bits.{is_set}
 use Rattle.solid_model.specs.Blocks.{ProblemParts, IsBlocksOf, block_at}
-use Rattle.solid_model.specs.Columns.{ColumnsDraw}
-use Rattle.solid_model.specs.Demands.{line_style, known_in, known_cell, known_after, known_before, AgreesWith, CanDraw, CanBeMet}
+use Rattle.solid_model.specs.Demands.{known_in}
 use Rattle.solid_model.specs.Forcing.{place_beside, cell_beside, CanBeMetWith}
 use Rattle.solid_model.specs.Frames.{frame_of}
 use Rattle.solid_model.specs.GridBox.{grid_sizes}
-
--- two columns draw the same, whichever of them comes first
-draw_back : (a b : ℤ → Bool) (style : Style) → ColumnsDraw a b style → ColumnsDraw b a style
-draw_back a b Blank same = λ k. sym (same k)
-draw_back a b Dashed (differ, same) = ((differ.0, λ e. differ.1 (sym e)), same_first_back a b same)
-draw_back a b Solid apart = λ same. apart (same_first_back b a same)
-
-pub draws_back : (known other : ℤ → Option Bool) (style : Style) → CanDraw known other style → CanDraw other known style
-draws_back known other style (a, b, fits, too, draws) = (b, a, too, fits, draw_back a b style draws)
-
-pub agrees_as : (f g : ℤ → Option Bool) (column : ℤ → Bool) → ((k : ℤ) → f k ≡ g k) → AgreesWith f column → AgreesWith g column
-agrees_as f g column same agrees k value e = agrees k value (same k ∙ e)
 
 -- beyond the box no cell beside a line has a block
 module _ (p : ProblemParts) (blocks : IsBlocksOf p.grid p.blocks) (l : LineId) (of_after : Bool) where
@@ -45,32 +30,10 @@ module _ (p : ProblemParts) (blocks : IsBlocksOf p.grid p.blocks) (l : LineId) (
   none_behind k far = none_beyond p blocks.sized l (place_beside l of_after) (pos k) (λ r. let high = r.1 in omega (arith, ints))
 
 module _ (p : ProblemParts) (blocks : IsBlocksOf p.grid p.blocks) (known : ℕ → Option Bool) (s : SeenLine) (seen : IsSeen p known s) where
-  -- what is seen of a cell is what is known of its block
-  cell_known : (of_after : Bool) (k : ℤ) → known_beside s of_after k ≡ known_in known (block_at p.blocks (cell_beside p.grid s.line of_after k))
-  cell_known true k = seen.after k
-  cell_known false k = seen.before k
-
-  -- the columns can draw the line's style with a value in a cell where the line can be met with it
-  met_with : (of_after : Bool) (depth : ℕ) (value : Bool) → CanDrawWith (known_beside s of_after) (known_beside s (not of_after)) s.style depth value → CanBeMetWith p known s.line of_after (pos depth) value
-  met_with true depth value (a, b, fits, too, is, draws) = (a, b, agrees_as _ _ a seen.after fits, agrees_as _ _ b seen.before too, is, subst (λ (x : Style). ColumnsDraw a b x) seen.style draws)
-  met_with false depth value (b, a, too, fits, is, draws) =
-      (a, b, agrees_as _ _ a seen.after fits, agrees_as _ _ b seen.before too, is, subst (λ (x : Style). ColumnsDraw a b x) seen.style (draw_back b a s.style draws))
-
-  with_met : (of_after : Bool) (depth : ℕ) (value : Bool) → CanBeMetWith p known s.line of_after (pos depth) value → CanDrawWith (known_beside s of_after) (known_beside s (not of_after)) s.style depth value
-  with_met true depth value (a, b, fits, too, is, draws) =
-      (a, b, agrees_as _ _ a (λ k. sym (seen.after k)) fits, agrees_as _ _ b (λ k. sym (seen.before k)) too, is, subst (λ (x : Style). ColumnsDraw a b x) (sym seen.style) draws)
-  with_met false depth value (a, b, fits, too, is, draws) =
-      (b, a, agrees_as _ _ b (λ k. sym (seen.before k)) too, agrees_as _ _ a (λ k. sym (seen.after k)) fits, is, draw_back a b s.style (subst (λ (x : Style). ColumnsDraw a b x) (sym seen.style) draws))
-
-  -- so they can draw it where the line can be met
-  pub seen_draws : CanBeMet p known s.line → CanDraw (known_beside s true) (known_beside s false) s.style
-  seen_draws met = draw_from (known_after p.grid (known_cell p.blocks known) s.line) (known_beside s true) (known_before p.grid (known_cell p.blocks known) s.line) (known_beside s false) (line_style p.grid s.line) s.style
-      (λ k. sym (seen.after k)) (λ k. sym (seen.before k)) (sym seen.style) met
-
   -- what a cell excludes the line excludes,
   cells_to : (of_after : Bool) (block : ℕ) (value : Bool) → ExcludesBeside p s of_after block value → ExcludesOpen p known s.line block value
   cells_to of_after block value (k, m, (at, none, out)) =
-      (sym (cell_known of_after (pos k) ∙ ap (known_in known) at) ∙ none, (of_after, pos k, at, λ met. out (with_met of_after k value met)))
+      (sym (cell_known p known s seen of_after (pos k) ∙ ap (known_in known) at) ∙ none, (of_after, pos k, at, λ met. out (with_met p known s seen of_after k value met)))
 
   -- and the other way round
   cells_from : (block : ℕ) (value : Bool) → ExcludesOpen p known s.line block value → ExcludesBeside p s true block value ⊎ ExcludesBeside p s false block value
@@ -82,7 +45,7 @@ module _ (p : ProblemParts) (blocks : IsBlocksOf p.grid p.blocks) (known : ℕ �
     where
       one : (of_after : Bool) → k < grid_sizes p.grid (frame_of s.line.view).away.axis → block_at p.blocks (cell_beside p.grid s.line of_after (pos k)) ≡ Some block
           → (CanBeMetWith p known s.line of_after (pos k) value → ⊥) → ExcludesBeside p s of_after block value
-      one of_after m at out = (k, m, (at, cell_known of_after (pos k) ∙ ap (known_in known) at ∙ none, λ with. out (met_with of_after k value with)))
+      one of_after m at out = (k, m, (at, cell_known p known s seen of_after (pos k) ∙ ap (known_in known) at ∙ none, λ with. out (met_with p known s seen of_after k value with)))
 
       by : (of_after : Bool) → k < grid_sizes p.grid (frame_of s.line.view).away.axis → block_at p.blocks (cell_beside p.grid s.line of_after (pos k)) ≡ Some block
           → (CanBeMetWith p known s.line of_after (pos k) value → ⊥) → ExcludesBeside p s true block value ⊎ ExcludesBeside p s false block value
@@ -99,7 +62,7 @@ module _ (p : ProblemParts) (blocks : IsBlocksOf p.grid p.blocks) (known : ℕ �
   pub open_inside : (of_after : Bool) (k : ℕ) → known_beside s of_after (pos k) ≡ None → k < grid_sizes p.grid (frame_of s.line.view).away.axis
   open_inside of_after k none = elim (cases_lt k (grid_sizes p.grid (frame_of s.line.view).away.axis)) as (λ _. k < grid_sizes p.grid (frame_of s.line.view).away.axis) [
     | inl l ↦ l
-    | inr far ↦ absurd (none-some false (sym none ∙ cell_known of_after (pos k) ∙ ap (known_in known) (none_behind p blocks s.line of_after k far)))
+    | inr far ↦ absurd (none-some false (sym none ∙ cell_known p known s seen of_after (pos k) ∙ ap (known_in known) (none_behind p blocks s.line of_after k far)))
   ]
 
   -- the cells of which one may exclude a value tell all that one does

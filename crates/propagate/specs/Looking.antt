@@ -1,22 +1,8 @@
 -- What the cells of two columns exclude of each other.
-use Rattle.std.specs.Prelude.{◌≡◌, ◌==◌, ◌||◌, ◌≤◌, Bool, true, false, not, ℕ, nat_lt, ℤ, pos, Option, Some, None, if◌then◌else◌}
+use Rattle.std.specs.Prelude.{◌≡◌, ◌==◌, ◌||◌, ◌≤◌, Bool, false, not, ℕ, nat_lt, ℤ, pos, Option, Some, None, if◌then◌else◌}
 use Rattle.solid_model.specs.declared.decision.Decision.{Decision}
 use Rattle.solid_model.specs.declared.segment.Style.{Style}
-use Rattle.solid_model.specs.Bits.{is_set}
-use Rattle.solid_model.specs.Columns.{ColumnsDraw}
-use Rattle.solid_model.specs.Demands.{AgreesWith}
-
--- Some pair of columns that agree with what is known of them, of which the first one has the value at the depth, draws the style.
-abbrev pub CanDrawWith : (ℤ → Option Bool) → (ℤ → Option Bool) → Style → ℕ → Bool → Type 0
-CanDrawWith known other style depth value = (column beside : ℤ → Bool) × AgreesWith known column × AgreesWith other beside
-    × (column (pos depth) ≡ value) × ColumnsDraw column beside style
-
--- These cells of a column are undecided, and each other undecided one can have either value beside another column.
-pub record IsDoubted (known other : ℤ → Option Bool) (style : Style) (cells : ℕ) : Type 0 where
-  pub undecided : (depth : ℕ) → is_set cells depth ≡ true → known (pos depth) ≡ None
-  pub free : (depth : ℕ) (value : Bool) → known (pos depth) ≡ None → is_set cells depth ≡ false → CanDrawWith known other style depth value
-
--- ---- blocks
+use Rattle.columns.specs.Doubted.{CanDrawWith}
 
 -- a cell excludes a value of its block, if it has one
 abbrev pub CellExcludes : (ℤ → Option Bool) → (ℤ → Option Bool) → Style → ℕ → Option ℕ → ℕ → Bool → Type 0

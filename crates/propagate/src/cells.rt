@@ -2,7 +2,8 @@
 
 ghost use Rattle.std.specs.Prelude.{◌≡◌, ◌↔◌, ◌<◌, ℕ, ℤ, pos, Some, None, IsTrue};
 ghost use Rattle.solid_model.specs.Known.{known_bits, LiesWithin};
-ghost use Rattle.propagate.specs.Looking.{CanDrawWith, CellExcludes, TellsLeast, decision_on, lesser_decision};
+ghost use Rattle.columns.specs.Doubted.{CanDrawWith};
+ghost use Rattle.propagate.specs.Looking.{CellExcludes, TellsLeast, decision_on, lesser_decision};
 ghost use Rattle.solid_model.specs.Forcing.{with_value};
 
 use columns::{KnownColumn, can_draw};

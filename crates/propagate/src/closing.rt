@@ -1,6 +1,6 @@
 //! All that is forced.
 
-ghost use Rattle.std.specs.Prelude.{◌≡◌, ◌<◌, ◌≤◌, ◌+◌, ℕ, Some, None, length, slice_get, slice_index_or, IfSome, IsTrue, take};
+ghost use Rattle.std.specs.Prelude.{◌≡◌, ◌<◌, ◌≤◌, ◌+◌, ◌++◌, ◌∷◌, [], ℕ, Some, None, length, slice_get, slice_index_or, IfSome, IsTrue};
 ghost use Rattle.propagate.specs.Closing.{Grows, TellsClosed, IsHandled};
 ghost use Rattle.propagate.specs.Forced.{IsCalm};
 ghost use Rattle.solid_model.specs.declared.decision.Decision.{Decision};
@@ -141,23 +141,33 @@ pub fn close(partial: &mut Partial<'_>) -> Closed
     }
 }
 
-/// The same, where the lines exclude nothing under the first decisions, so many: only lines that touch
-/// a block decided since are looked at.
-pub fn close_after(partial: &mut Partial<'_>, closed: u16) -> Closed
-    requires few { closed ≤ length partial.old.decisions }
+/// Decides a block that isn't decided, and closes, where the lines exclude nothing before: only
+/// lines that touch a block decided since are looked at, and none where deciding tells that those
+/// which touch this one force nothing.
+pub fn decide_closed(partial: &mut Partial<'_>, block: u16, full: bool) -> Closed
+    requires there { block < partial.old.problem.blocks.count }
+    requires open { decided_by partial.old.decisions block ≡ None }
     requires calm { (l : LineId) → IsTrue (has_line partial.old.problem.grid l)
-        → IsCalm partial.old.problem (decided_by (take closed partial.old.decisions)) l }
+        → IsCalm partial.old.problem (decided_by partial.old.decisions) l }
     ensures problem { partial.new.problem ≡ partial.old.problem }
-    ensures grows { Grows partial.old.problem partial.old.decisions partial.new.decisions }
-    ensures closed { TellsClosed partial.old.problem partial.old.decisions partial.new.decisions result }
+    ensures grows { Grows partial.old.problem
+        (partial.old.decisions ++ record { block = block; full = full } ∷ [])
+        partial.new.decisions }
+    ensures closed { TellsClosed partial.old.problem
+        (partial.old.decisions ++ record { block = block; full = full } ∷ [])
+        partial.new.decisions result }
 {
     // A look at the problem tells that its blocks are those of its grid.
     let _grid = partial.problem().grid();
-    let _count = partial.decided();
+    let from = partial.decided();
+    let may_force = partial.decide(block, full);
     if let Some(line) = partial.broken_line() {
         return Closed::Conflict { line };
     }
-    match settle_from(partial, closed) {
+    if !may_force {
+        return Closed::Stable;
+    }
+    match settle_from(partial, from) {
         Some(line) => Closed::Conflict { line },
         None => Closed::Stable,
     }

@@ -4,9 +4,8 @@
 
 mod cells;
 mod closing;
-mod doubted;
 mod line;
 mod stepping;
 
-pub use closing::{Closed, close, close_after};
+pub use closing::{Closed, close, decide_closed};
 pub use stepping::{Forcing, step};

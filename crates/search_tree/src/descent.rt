@@ -8,7 +8,7 @@ ghost use Rattle.solid_model.specs.Demands.{said_by};
 ghost use Rattle.solid_model.specs.Forcing.{IsStable, Lives};
 
 use line_demands::Partial;
-use propagate::{Closed, close, close_after};
+use propagate::{Closed, close, decide_closed};
 use solid_model::Prefix;
 
 /// Takes back all decisions but the first, so many.
@@ -59,16 +59,13 @@ fn close_next(partial: &mut Partial<'_>, block: u16, full: bool) -> bool
     let mark = partial.decided();
     match partial.value(block) {
         Some(value) => value == full,
-        None => {
-            partial.decide(block, full);
-            match close_after(partial, mark) {
-                Closed::Stable => true,
-                Closed::Conflict { .. } => {
-                    undo_to(partial, mark);
-                    false
-                }
+        None => match decide_closed(partial, block, full) {
+            Closed::Stable => true,
+            Closed::Conflict { .. } => {
+                undo_to(partial, mark);
+                false
             }
-        }
+        },
     }
 }
 

@@ -2,7 +2,7 @@
 use Rattle.std.proofs.Common.{ap, subst, ◌∙◌, arith}
 use Rattle.std.proofs.lemmas.Bool.{both_ways}
 use Rattle.std.proofs.lemmas.List.{get_or_default}
-use Rattle.columns.specs.Lines.{times_listed, IsMetBy}
+use Rattle.columns.specs.Lines.{times_listed, AreFreeBeside, IsMetBy}
 use Rattle.columns.proofs.MarkedLines.{last_there}
 use Rattle.columns.proofs.lines.try_line.Goals as goal
 
@@ -11,6 +11,9 @@ returns-then-is_met-clause-tried g c = λ d. (
   λ none. (none, subst (IsMetBy c.args.columns.now) (get_or_default c.args.sides.now c.args.line _ d c.requires.there) (c.is_met.ensures.met.0 c.if-is_met.true)),
   λ both. both.0,
 )
+
+pub returns-then-is_met-clause-free : goal.returns-then-is_met-clause-free
+returns-then-is_met-clause-free g c = λ none d _. subst (AreFreeBeside c.args.columns.now) (get_or_default c.args.sides.now c.args.line _ d c.requires.there) (c.may_force.ensures none)
 
 pub returns-clause-tried : goal.returns-clause-tried
 returns-clause-tried g c = λ d. (

@@ -39,14 +39,14 @@ returns-clause-grows c =
     let ds = c.args.partial.now.decisions in
     let d = c.in_ok-decision.decision in
     let is = c.in_ok-decision.ensures.is in
-    subst (Grows p ds) (sym (ap (λ (v : PartialParts). v.decisions) c.decide.ensures))
+    subst (Grows p ds) (sym (ap (λ (v : PartialParts). v.decisions) c.decide.ensures.decided))
     (grows_on p ds ds d (grows_self p ds) is.0 (is.0, c.seen-seen.result.line, c.seen-seen.ensures.seen.has, is.1))
 
 pub returns-clause-lost : goal.returns-clause-lost
-returns-clause-lost c = subst (λ (q : ProblemParts). IfSome c.broken_line.result (IsFirstBroken q (decided_by c.decide.new.self.decisions))) (ap (λ (v : PartialParts). v.problem) c.decide.ensures) c.broken_line.ensures.some
+returns-clause-lost c = subst (λ (q : ProblemParts). IfSome c.broken_line.result (IsFirstBroken q (decided_by c.decide.new.self.decisions))) (ap (λ (v : PartialParts). v.problem) c.decide.ensures.decided) c.broken_line.ensures.some
 
 pub returns-clause-met : goal.returns-clause-met
-returns-clause-met c = λ none. subst (λ (q : ProblemParts). AllMet q (decided_by c.decide.new.self.decisions)) (ap (λ (v : PartialParts). v.problem) c.decide.ensures) (c.broken_line.ensures.none.0 none)
+returns-clause-met c = λ none. subst (λ (q : ProblemParts). AllMet q (decided_by c.decide.new.self.decisions)) (ap (λ (v : PartialParts). v.problem) c.decide.ensures.decided) (c.broken_line.ensures.none.0 none)
 
 pub returns-clause-done : goal.returns-clause-done
 returns-clause-done c = λ from e few.
@@ -56,7 +56,7 @@ returns-clause-done c = λ from e few.
     let is = c.in_ok-decision.ensures.is in
     let blocks = subst (λ (q : ProblemParts). IsBlocksOf q.grid q.blocks) c.problem.ensures c.grid-grid.ensures.kept in
     let there = excluded_there p blocks (decided_by ds) c.seen-seen.result.line d.block (not d.full) is in
-    subst (λ now. IsHandled p now from (get_or (lines_of p.grid) c.args.number e)) (sym (ap (λ (v : PartialParts). v.decisions) c.decide.ensures))
+    subst (λ now. IsHandled p now from (get_or (lines_of p.grid) c.args.number e)) (sym (ap (λ (v : PartialParts). v.decisions) c.decide.ensures.decided))
     (subst (λ (l : LineId). IsHandled p (ds ++ d ∷ []) from l) (c.seen-seen.ensures.line e) (inr (awaits_new p blocks ds d is.0 from few c.seen-seen.result.line there.1)))
 
 pub returns-clause-kept : goal.returns-clause-kept
@@ -65,4 +65,4 @@ returns-clause-kept c = λ from few l h.
     let ds = c.args.partial.now.decisions in
     let d = c.in_ok-decision.decision in
     let blocks = subst (λ (q : ProblemParts). IsBlocksOf q.grid q.blocks) c.problem.ensures c.grid-grid.ensures.kept in
-    subst (λ now. IsHandled p now from l) (sym (ap (λ (v : PartialParts). v.decisions) c.decide.ensures)) (handled_on p blocks ds d c.in_ok-decision.ensures.is.0 from few l h)
+    subst (λ now. IsHandled p now from l) (sym (ap (λ (v : PartialParts). v.decisions) c.decide.ensures.decided)) (handled_on p blocks ds d c.in_ok-decision.ensures.is.0 from few l h)

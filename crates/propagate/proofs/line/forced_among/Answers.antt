@@ -4,7 +4,7 @@ use Rattle.std.proofs.lemmas.Nat.Bits.{bit_at-zero}
 use Rattle.propagate.specs.Beside.{ExcludesAt, ExcludesAmong}
 use Rattle.propagate.specs.Looking.{TellsLeast}
 use Rattle.propagate.proofs.Least.{Taken, told_alike, told_more}
-use Rattle.propagate.proofs.LowestLeft.{rest_higher}
+use Rattle.columns.proofs.LowestLeft.{rest_higher}
 use Rattle.propagate.proofs.line.forced_among.Goals as goal
 use Rattle.solid_model.specs.Bits.{is_set}
 use Rattle.solid_model.proofs.WordBits.{zeros, lowest_set}

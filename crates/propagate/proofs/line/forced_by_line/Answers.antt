@@ -1,11 +1,13 @@
 -- The lesser of what the two columns force.
 use Rattle.std.proofs.Common.{None, true, false, ◌<◌, IsTrue, sym, subst}
 use Rattle.std.proofs.lemmas.Bool.{both_ways}
-use Rattle.propagate.specs.Beside.{known_beside, ExcludesAmong}
+use Rattle.columns.specs.Seen.{known_beside}
+use Rattle.propagate.specs.Beside.{ExcludesAmong}
 use Rattle.propagate.specs.Forced.{ExcludesOpen}
 use Rattle.propagate.specs.Looking.{TellsLeast}
-use Rattle.propagate.proofs.LineCells.{line_told, among_told, open_inside, seen_draws, draws_back}
-use Rattle.propagate.proofs.LowestLeft.{none_of_either}
+use Rattle.columns.proofs.SeenCells.{seen_draws, draws_back}
+use Rattle.propagate.proofs.LineCells.{line_told, among_told, open_inside}
+use Rattle.columns.proofs.LowestLeft.{none_of_either}
 use Rattle.propagate.proofs.line.forced_by_line.Goals as goal
 use Rattle.solid_model.specs.Blocks.{ProblemParts, IsBlocksOf}
 use Rattle.solid_model.specs.Bits.{is_set}
@@ -17,14 +19,14 @@ use Rattle.solid_model.specs.GridBox.{grid_sizes}
 pub doubted-after-requires-clause-met : goal.doubted-after-requires-clause-met
 doubted-after-requires-clause-met c =
     let p = c.args.partial.now.problem in
-    seen_draws p (subst (λ (q : ProblemParts). IsBlocksOf q.grid q.blocks) c.problem-problem.ensures c.grid-grid.ensures.kept) (decided_by c.args.partial.now.decisions) c.args.seen c.requires.seen c.requires.met
+    seen_draws p (decided_by c.args.partial.now.decisions) c.args.seen c.requires.seen c.requires.met
 
 pub doubted-before-requires-clause-met : goal.doubted-before-requires-clause-met
 doubted-before-requires-clause-met c =
     let p = c.args.partial.now.problem in
     let s = c.args.seen in
     draws_back (known_beside s true) (known_beside s false) s.style
-    (seen_draws p (subst (λ (q : ProblemParts). IsBlocksOf q.grid q.blocks) c.problem-problem.ensures c.grid-grid.ensures.kept) (decided_by c.args.partial.now.decisions) s c.requires.seen c.requires.met)
+    (seen_draws p (decided_by c.args.partial.now.decisions) s c.requires.seen c.requires.met)
 
 pub returns-then-after-before-eq0 : goal.returns-then-after-before-eq0
 returns-then-after-before-eq0 c =

@@ -57,7 +57,7 @@ returns-in-Some-forced_by_line-clause-step c =
     slice_get-get_or lines c.loop-number.number no_line (omega (arith, inv.end, c.loop-number-test.true))
     ∙ ap Some (sym (c.seen-seen.ensures.line no_line ∙ ap (λ (v : PartialParts). get_or (lines_of v.problem.grid) c.loop-number.number no_line) inv.same)) in (
       inv.met,
-      ap (λ (v : PartialParts). v.decisions) c.decide.ensures ∙ ap (λ (v : PartialParts). v.decisions ++ d ∷ []) inv.same,
+      ap (λ (v : PartialParts). v.decisions) c.decide.ensures.decided ∙ ap (λ (v : PartialParts). v.decisions ++ d ∷ []) inv.same,
       record {
         earlier = take c.loop-number.number lines;
         later = drop (suc c.loop-number.number) lines;

@@ -1,8 +1,8 @@
 -- Style by style.
 use Rattle.std.proofs.Common.{sym, subst}
 use Rattle.solid_model.specs.Known.{known_bits}
-use Rattle.propagate.specs.Looking.{IsDoubted}
-use Rattle.propagate.proofs.doubted.doubted.Goals as goal
+use Rattle.columns.specs.Doubted.{IsDoubted}
+use Rattle.columns.proofs.doubts.doubted.Goals as goal
 use Rattle.solid_model.specs.declared.segment.Style.{Style}
 use Rattle.solid_model.specs.Demands.{CanDraw}
 

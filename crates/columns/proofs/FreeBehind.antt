@@ -6,10 +6,10 @@ use Rattle.std.proofs.lemmas.Option.{none-some, same_Some}
 use Rattle.solid_model.specs.Known.{known_of, known_bits, LiesWithin}
 use Rattle.solid_model.proofs.KnownBits.{some_bit, first_before}
 use Rattle.solid_model.proofs.KnownColumns.{Fits, fits_from}
-use Rattle.propagate.specs.Looking.{CanDrawWith}
-use Rattle.propagate.proofs.LowestLeft.{set_within}
-use Rattle.propagate.proofs.ValueBits.{undecided_within}
-use Rattle.propagate.proofs.Replaced.{Allows, allows_open, Begin, begin_nearer, dashed_with}
+use Rattle.columns.specs.Doubted.{CanDrawWith}
+use Rattle.columns.proofs.LowestLeft.{set_within}
+use Rattle.columns.proofs.ValueBits.{undecided_within}
+use Rattle.columns.proofs.Replaced.{Allows, allows_open, Begin, begin_nearer, dashed_with}
 use Rattle.solid_model.specs.declared.segment.Style.TheVariants.{Dashed}
 use Rattle.solid_model.specs.Bits.{is_set, near}
 use Rattle.solid_model.specs.Columns.{IsFirstFull, HaveSameFirstFull}

@@ -4,7 +4,7 @@ use Rattle.std.proofs.lemmas.Bool.{cases_Bool, cases_lt, eqb-true, eqb-false, eq
 use Rattle.std.proofs.lemmas.Int.{ints}
 use Rattle.std.proofs.lemmas.Option.{none-some}
 use Rattle.solid_model.proofs.KnownColumns.{same_first_down_to}
-use Rattle.propagate.specs.Looking.{CanDrawWith}
+use Rattle.columns.specs.Doubted.{CanDrawWith}
 use Rattle.solid_model.specs.declared.segment.Style.TheVariants.{Blank, Dashed}
 use Rattle.solid_model.specs.Columns.{IsFirstFull}
 use Rattle.solid_model.specs.Demands.{AgreesWith, CanDraw}

@@ -1,13 +1,13 @@
 //! The cells beside a line that may have one value alone, told at a few looks.
 
 ghost use Rattle.std.specs.Prelude.{◌≡◌, ◌↔◌, ◌<◌, ℕ, true, not, ◌&&◌};
-ghost use Rattle.propagate.specs.Looking.{IsDoubted};
+ghost use Rattle.columns.specs.Doubted.{IsDoubted};
 ghost use Rattle.solid_model.specs.Bits.{is_set, near};
 ghost use Rattle.solid_model.specs.Demands.{CanDraw};
 ghost use Rattle.solid_model.specs.Known.{known_bits, LiesWithin};
 ghost use Rattle.solid_model.specs.declared.segment.Style.TheVariants.{Blank, Dashed, Solid};
 
-use columns::{KnownColumn, can_differ, without};
+use crate::known::{KnownColumn, can_differ, without};
 use solid_model::Style;
 
 /// The cells of which nothing is known.

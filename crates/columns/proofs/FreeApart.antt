@@ -6,8 +6,8 @@ use Rattle.std.proofs.lemmas.Bool.{cases_Bool, cases_lt, eqb-true, eqb-false, bo
 use Rattle.std.proofs.lemmas.Int.{ints}
 use Rattle.solid_model.specs.Known.{known_bits, LiesWithin}
 use Rattle.solid_model.proofs.KnownColumns.{Fits, fits_to, fits_from, same_first_down_to}
-use Rattle.propagate.specs.Looking.{CanDrawWith}
-use Rattle.propagate.proofs.ValueBits.{bit, undecided_bits, undecided_within, open_bits, clear_there, clear_kept}
+use Rattle.columns.specs.Doubted.{CanDrawWith}
+use Rattle.columns.proofs.ValueBits.{bit, undecided_bits, undecided_within, open_bits, clear_there, clear_kept}
 use Rattle.solid_model.specs.declared.segment.Style.TheVariants.{Solid}
 use Rattle.solid_model.specs.Bits.{is_set, bits}
 use Rattle.solid_model.specs.Demands.{AgreesWith, CanDraw}

@@ -11,7 +11,7 @@ use Rattle.solid_model.specs.Bits.{is_set}
 use Rattle.solid_model.specs.Demands.{CanDraw}
 use Rattle.solid_model.specs.Forcing.{with_value}
 use Rattle.columns.proofs.WithValue.{agrees_from, agrees_to}
-use Rattle.propagate.specs.Looking.{CanDrawWith}
+use Rattle.columns.specs.Doubted.{CanDrawWith}
 
 -- a cell of which nothing is known isn't full for certain, and may be full
 pub undecided_bits : (full may k : ℕ) → known_bits full may (pos k) ≡ None → (is_set full k ≡ false) × (is_set may k ≡ true)

@@ -3,9 +3,9 @@ use Rattle.std.proofs.Common.{not, ◌==◌, rules, ap, sym, ◌∙◌}
 use Rattle.std.proofs.lemmas.Bool.{and_parts, both_ways}
 use Rattle.std.proofs.lemmas.Nat.Bits.{bit_at-zero}
 use Rattle.solid_model.specs.Bits.{is_set}
-use Rattle.propagate.proofs.FreeApart.{free_beside, free_later}
-use Rattle.propagate.proofs.ValueBits.{open_from, open_to, shared_bit}
-use Rattle.propagate.proofs.doubted.doubted_apart.Goals as goal
+use Rattle.columns.proofs.FreeApart.{free_beside, free_later}
+use Rattle.columns.proofs.ValueBits.{open_from, open_to, shared_bit}
+use Rattle.columns.proofs.doubts.doubted_apart.Goals as goal
 
 pub returns-then-beside : goal.returns-then-beside
 returns-then-beside c =

@@ -1,8 +1,8 @@
 -- The bits that aren't down to the lowest one.
 use Rattle.std.proofs.Common.{◌<◌, ◌^◌, not, ◌&&◌, rules, ap, ◌∙◌}
 use Rattle.solid_model.specs.Bits.{is_set}
-use Rattle.propagate.proofs.LowestLeft.{left_lowest}
-use Rattle.propagate.proofs.doubted.without_lowest.Goals as goal
+use Rattle.columns.proofs.LowestLeft.{left_lowest}
+use Rattle.columns.proofs.doubts.without_lowest.Goals as goal
 
 pub returns : goal.returns
 returns c =

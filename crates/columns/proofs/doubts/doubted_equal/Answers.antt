@@ -3,9 +3,9 @@ use Rattle.std.proofs.Common.{not, sym, ◌∙◌}
 use Rattle.std.proofs.lemmas.Bool.{and_parts}
 use Rattle.solid_model.specs.Bits.{is_set}
 use Rattle.solid_model.specs.Known.{known_bits}
-use Rattle.propagate.proofs.Replaced.{equal_with}
-use Rattle.propagate.proofs.ValueBits.{open_from, open_to, shared_bit}
-use Rattle.propagate.proofs.doubted.doubted_equal.Goals as goal
+use Rattle.columns.proofs.Replaced.{equal_with}
+use Rattle.columns.proofs.ValueBits.{open_from, open_to, shared_bit}
+use Rattle.columns.proofs.doubts.doubted_equal.Goals as goal
 
 pub returns : goal.returns
 returns c =

@@ -4,9 +4,9 @@ use Rattle.std.specs.Int.Bits.{and_lt}
 use Rattle.std.proofs.lemmas.Bool.{and_parts}
 use Rattle.solid_model.specs.Bits.{is_set}
 use Rattle.solid_model.proofs.WordBits.{set_both, set_either}
-use Rattle.propagate.proofs.FreeBehind.{free_of_two, free_of_one}
-use Rattle.propagate.proofs.ValueBits.{open_from, open_to, clear_beside, clear_first, clear_second, shared_bit}
-use Rattle.propagate.proofs.doubted.doubted_behind.Goals as goal
+use Rattle.columns.proofs.FreeBehind.{free_of_two, free_of_one}
+use Rattle.columns.proofs.ValueBits.{open_from, open_to, clear_beside, clear_first, clear_second, shared_bit}
+use Rattle.columns.proofs.doubts.doubted_behind.Goals as goal
 
 pub returns-then-without_lowest-ne0 : goal.returns-then-without_lowest-ne0
 returns-then-without_lowest-ne0 c =
