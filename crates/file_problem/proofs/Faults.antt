@@ -1,9 +1,9 @@
 -- When an input has a fault, and when it has none.
-use Rattle.std.proofs.Common.{◌≡◌, refl, inl, inr, ℕ, ◌≤◌, List, length, Result, Ok, Err, sym, subst, ap, ◌∙◌, arith}
+use Rattle.std.proofs.Common.{◌≡◌, refl, inl, inr, ◌≤◌, List, length, Result, Ok, Err, sym, subst, ap, ◌∙◌, arith}
 use Rattle.dxf_entities.specs.Reading.{read_of}
-use Rattle.recon_run.specs.Answers.{HasFineAxis, Input, IsFaultAfter, IsFileFault, HasNoFault, HasProblem}
-use Rattle.recon_run.proofs.Grids.{one_too_fine, none_too_fine, one_grid, coordinates_from_grid}
-use Rattle.recon_run.proofs.Problems.{one_block_count}
+use Rattle.file_problem.specs.Inputs.{HasFineAxis, Input, IsFaultAfter, IsFileFault, HasNoFault, HasProblem}
+use Rattle.file_problem.proofs.Grids.{one_too_fine, none_too_fine, one_grid, coordinates_from_grid}
+use Rattle.file_problem.proofs.Problems.{one_block_count}
 use Rattle.solid_model.specs.declared.fault.Fault.{Fault}
 use Rattle.solid_model.specs.declared.fault.Fault.TheVariants.{EmptyView, TooFine, TooManyBlocks}
 use Rattle.solid_model.specs.declared.frame.View.{View}

@@ -2,8 +2,8 @@
 use Rattle.std.proofs.Common.{◌≡◌, ℕ, List, Option, sym, subst, ◌∙◌}
 use Rattle.dxf_entities.proofs.KeptLines.{read_lines_are_kept}
 use Rattle.dxf_entities.proofs.NearPoints.{ok_value}
-use Rattle.recon_run.specs.Answers.{HasProblem, Input}
-use Rattle.recon_run.proofs.Grids.{one_grid}
+use Rattle.file_problem.specs.Inputs.{HasProblem, Input}
+use Rattle.file_problem.proofs.Grids.{one_grid}
 use Rattle.solid_model.specs.declared.cell.Axis.{Axis}
 use Rattle.solid_model.specs.declared.cell.Axis.TheVariants.{X, Y, Z}
 use Rattle.solid_model.specs.Blocks.{AreBlocksOf, BlockNumbers, IsBlocksOf, ProblemParts}
