@@ -1,7 +1,7 @@
 //! What lines demand of blocks, for drawings that were worked out by hand.
 
+use file_problem::problem_of;
 use line_demands::Partial;
-use recon_run::problem_of;
 use solid_model::Problem;
 use std::alloc::Global;
 use std::fmt::Write;

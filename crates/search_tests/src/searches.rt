@@ -1,6 +1,6 @@
 //! Searches of problems, within limits and piece by piece.
 
-use recon_run::problem_of;
+use file_problem::problem_of;
 use search_core::{Desk, Reported};
 use search_run::{begin, search_by_desk};
 use search_tree::{expand, solve_alone};
@@ -61,14 +61,36 @@ fn wanted_kind(wanted: &str) -> &str {
     }
 }
 
-/// Whether the searches of a row's drawing, alone and by a desk, end as the row has it.
+/// How a search alone ends.
+fn told_alone(alloc: Global, problem: &Arc<Problem>, limits: Limits) -> Result<String, Fail> {
+    let ended = solve_alone(alloc, problem, limits)?;
+    told_end(alloc, &ended)
+}
+
+/// How a search by a desk ends.
+fn told_by_desk(alloc: Global, problem: &Arc<Problem>, limits: Limits) -> Result<String, Fail> {
+    let ended = search_by_desk(alloc, problem, limits)?;
+    told_end(alloc, &ended)
+}
+
+/// Whether the searches of a problem, alone and by a desk, end as a row has it.
+fn both_end_so(
+    alloc: Global,
+    problem: &Arc<Problem>,
+    limits: Limits,
+    wanted: &str,
+) -> Result<bool, Fail> {
+    let alone = told_alone(alloc, problem, limits)?;
+    let by_desk = told_by_desk(alloc, problem, limits)?;
+    Ok(alone.as_str() == wanted && by_desk.starts_with(wanted_kind(wanted)))
+}
+
+/// Whether the searches of a row's drawing end as the row has it.
 fn end_so(alloc: Global, row: Row<'_>) -> Result<bool, Fail> {
     let [_, _, _, nodes, solids] = row.parts;
     let limits = limits(nodes, solids).ok_or("limits")?;
     let problem = problem(alloc, row.views())?;
-    let alone = told_end(alloc, &solve_alone(alloc, &problem, limits)?)?;
-    let by_desk = told_end(alloc, &search_by_desk(alloc, &problem, limits)?)?;
-    Ok(alone.as_str() == row.wanted && by_desk.starts_with(wanted_kind(row.wanted)))
+    both_end_so(alloc, &problem, limits, row.wanted)
 }
 
 #[test]
@@ -258,6 +280,19 @@ fn sent<T: Send>(value: T) -> T {
     value
 }
 
+/// Adds what a desk says to the report that is told so, and how it stands then.
+fn push_report(
+    text: &mut String,
+    desk: &mut Desk,
+    own: &Arc<Problem>,
+    name: &str,
+    told: &str,
+) -> Result<(), Fail> {
+    let report = reported(*text.allocator(), own, name, report_of(told))?;
+    push_said(text, desk, report)?;
+    push_standing(text, desk)
+}
+
 /// What a desk says to a row's reports, as the row has it.
 fn told_desk(alloc: Global, row: Row<'_>) -> Result<String, Fail> {
     let name = report_of(row.told).name;
@@ -268,9 +303,7 @@ fn told_desk(alloc: Global, row: Row<'_>) -> Result<String, Fail> {
         if !text.is_empty() {
             text.push_str("; ")?;
         }
-        let report = reported(alloc, &own, name, report_of(told))?;
-        push_said(&mut text, &mut desk, report)?;
-        push_standing(&mut text, &desk)?;
+        push_report(&mut text, &mut desk, &own, name, told)?;
     }
     Ok(text)
 }

@@ -2,9 +2,9 @@
 use Rattle.std.proofs.Common.{◌≡◌, false, ◌==◌, slice_index_or, ap}
 use Rattle.std.proofs.lemmas.Bool.{ne_eqb}
 use Rattle.std.proofs.lemmas.List.{get_or_past}
-use Rattle.search_tree.proofs.ToldTrees.{none_let}
-use Rattle.search_tree.proofs.tests.+lets_on.Goals as goal
-use Rattle.search_tree.proofs.tests.+lets_on.Goals.{then-place-text-via-then-place-text, then-place-text-via-else-place-text+then-text-place-ne35}
+use Rattle.search_tests.proofs.ToldTrees.{none_let}
+use Rattle.search_tests.proofs.trees.+lets_on.Goals as goal
+use Rattle.search_tests.proofs.trees.+lets_on.Goals.{then-place-text-via-then-place-text, then-place-text-via-else-place-text+then-text-place-ne35}
 
 pub returns-then-place-text : goal.returns-then-place-text
 returns-then-place-text t c =

@@ -2,7 +2,7 @@
 use Rattle.std.proofs.Common.{◌≡◌, Bool, true, false, ℕ, ◌+◌, ◌*◌, ◌==◌, List, [], ◌∷◌, ◌++◌, length, slice_index_or, nat_le, IsTrue, sym, length-append, arith}
 use Rattle.std.proofs.lemmas.Bool.{and_parts, and_from, and_left, leb-true, le-leb}
 use Rattle.solid_model.specs.Tree.{IsTree}
-use Rattle.search_tree.specs.Words.{lets, is_let}
+use Rattle.search_tests.specs.Words.{lets, is_let}
 
 lets_beginning : (text : List ℕ) (place : ℕ) (values rest : List Bool) → IsTrue (lets text place (values ++ rest)) → IsTrue (lets text place values)
 lets_beginning text place [] [] h = h

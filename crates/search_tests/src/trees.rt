@@ -1,12 +1,9 @@
 //! Small trees that are written out, walked and searched by hand.
 
 ghost use Rattle.std.specs.Prelude.{◌≡◌, ◌≤◌, ◌∷◌, [], ◌<◌, Bool, List, length, vec_capacity, IfOk, IsTrue};
-ghost use Rattle.search_tree.specs.Words.{lets, is_let};
+ghost use Rattle.search_tests.specs.Words.{lets, is_let};
 
-use crate::alone::search_path;
-use crate::expansion::expand_path;
-use crate::path::Path;
-use crate::walk::go_on;
+use search_tree::{Path, expand_path, go_on, search_path};
 use solid_model::{Choice, Limits, Memory, Prefix};
 use std::alloc::Global;
 use std::fmt::Write;
