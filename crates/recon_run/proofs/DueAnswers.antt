@@ -3,11 +3,12 @@ use Rattle.std.proofs.Common.{◌≡◌, refl, inl, inr, ℕ, List, length, Opti
 use Rattle.recon_run.specs.declared.status.Answer.{Answer}
 use Rattle.recon_run.specs.declared.status.Answer.TheVariants as answers
 use Rattle.recon_run.specs.declared.status.Failure.{Failure}
-use Rattle.recon_run.specs.Answers.{CanEnd, HasNoFault, Input, IsFileFault}
+use Rattle.file_problem.specs.Inputs.{HasNoFault, Input, IsFileFault}
+use Rattle.recon_run.specs.Answers.{CanEnd}
 use Rattle.recon_run.specs.Endings.{AnswersOrFails, Ends, EndsOrFails, OfAlone, OfSearch}
 use Rattle.recon_run.specs.Owed.{AnswersInput, Owed, Search, answer_at, alone, input_of, searched}
 use Rattle.recon_run.specs.Status.{Status, answer_code, status_code, failure_code}
-use Rattle.recon_run.proofs.Faults.{no_fault}
+use Rattle.file_problem.proofs.Faults.{no_fault}
 use Rattle.recon_run.proofs.OneEnd.{kept_or_passed, one_count}
 use Rattle.solid_model.specs.declared.ended.EndKind.TheVariants.{Whole}
 use Rattle.solid_model.specs.declared.fault.Fault.{Fault}

@@ -1,8 +1,5 @@
-pub mod Grids
-pub mod Problems
 pub mod Redrawn
 pub mod Trials
-pub mod Faults
 pub mod Solved
 pub mod Told
 pub mod Sources

@@ -6,14 +6,15 @@ use Rattle.std.proofs.lemmas.Option.{slice_get_within}
 use Rattle.std.specs.List.{slice_get}
 use Rattle.drawing_maker.specs.Made.{made_solid}
 use Rattle.recon_run.specs.declared.status.Answer.{Answer}
-use Rattle.recon_run.specs.Answers.{node_count, CanEnd, Input, TellsNumbered, TellsSolids, IsTried, first_volume, head_of, made_drawing}
+use Rattle.file_problem.specs.Inputs.{Input}
+use Rattle.recon_run.specs.Answers.{node_count, CanEnd, TellsNumbered, TellsSolids, IsTried, first_volume, head_of, made_drawing}
 use Rattle.recon_run.specs.Endings.{Answers, IsCut, SameButPages}
 use Rattle.recon_run.specs.Owed.{alone, AnswersInput, AnswersOwed, Owed, Search, answer_at, asks_pages, input_of, search_for_all, search_for_one, owed, searched}
 use Rattle.recon_run.specs.Pages.{Page, ArePagesOf, choices_on, pages_text}
-use Rattle.recon_run.proofs.Faults.{one_fault, no_fault}
-use Rattle.recon_run.proofs.Grids.{one_grid}
+use Rattle.file_problem.proofs.Faults.{one_fault, no_fault}
+use Rattle.file_problem.proofs.Grids.{one_grid}
 use Rattle.recon_run.proofs.OneEnd.{kept_or_passed, one_count, one_head, one_solids}
-use Rattle.recon_run.proofs.Problems.{one_blocks, one_problem}
+use Rattle.file_problem.proofs.Problems.{one_blocks, one_problem}
 use Rattle.report.specs.FaultText.{fault_text}
 use Rattle.report.specs.Texts.{no_solid_text, solid_text, trial_text}
 use Rattle.redraw.specs.Files.{IsFileOf}

@@ -1,7 +1,8 @@
 -- An input has one list of solids, and one end but for cuts.
 use Rattle.std.proofs.Common.{◌≡◌, refl, ℕ, List, length, subst, ap, arith}
-use Rattle.recon_run.specs.Answers.{CanEnd, Input, head_of, node_count}
-use Rattle.recon_run.proofs.Problems.{one_problem}
+use Rattle.file_problem.specs.Inputs.{Input}
+use Rattle.recon_run.specs.Answers.{CanEnd, head_of, node_count}
+use Rattle.file_problem.proofs.Problems.{one_problem}
 use Rattle.report.specs.Texts.{head_text}
 use Rattle.solid_model.specs.declared.cell.Cell.{Cell}
 use Rattle.solid_model.specs.declared.ended.EndKind.{EndKind}

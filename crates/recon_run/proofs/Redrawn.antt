@@ -2,7 +2,8 @@
 use Rattle.std.proofs.Common.{◌≡◌, ℕ, zero, suc, ◌-◌, ◌<◌, ◌≤◌, List, [], ◌∷◌, Bool, Option, Some, inl, inr, refl, sym, ap, subst, ◌∙◌, cond, lt-ltb, le-ltb}
 use Rattle.std.specs.List.{slice_get}
 use Rattle.recon_run.specs.declared.status.Answer.TheVariants as answers
-use Rattle.recon_run.specs.Answers.{CanEnd, HasProblem, Input, first_volume, numbered_answer}
+use Rattle.file_problem.specs.Inputs.{HasProblem, Input}
+use Rattle.recon_run.specs.Answers.{CanEnd, first_volume, numbered_answer}
 use Rattle.recon_run.specs.Findings.{IsOnGrid, TellsOne, TellsOneAt, first_choice_volume}
 use Rattle.recon_run.specs.Owed.{search_for_one}
 use Rattle.recon_run.proofs.Solved.{Fill, IsStated, listing, whole_listing}

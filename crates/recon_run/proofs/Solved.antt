@@ -1,11 +1,12 @@
 -- From the end of a search, and what `solve` tells of it, to the solids that are listed.
 use Rattle.std.proofs.Common.{◌≡◌, ℕ, zero, suc, ◌+◌, ◌<◌, ◌≤◌, List, [], ◌∷◌, ◌++◌, Bool, length, take, inl, inr, refl, sym, ap, subst, ◌∙◌, arith}
 use Rattle.columns.proofs.LivePrefixes.{live_keeps_matching}
-use Rattle.recon_run.specs.Answers.{node_count, HasProblem, Input, CanEnd, AreListed, BeginsToList, ListedSolids, ListsSolids, TellsSolids, head_of}
+use Rattle.file_problem.specs.Inputs.{HasProblem, Input}
+use Rattle.recon_run.specs.Answers.{node_count, CanEnd, AreListed, BeginsToList, ListedSolids, ListsSolids, TellsSolids, head_of}
 use Rattle.recon_run.specs.Findings.{TellsChoices, told_of}
 use Rattle.recon_run.specs.Pages.{Page, ArePagesOf, pages_text}
 use Rattle.recon_run.proofs.Paged.{some_pages}
-use Rattle.recon_run.proofs.Problems.{problem_drawing}
+use Rattle.file_problem.proofs.Problems.{problem_drawing}
 use Rattle.report.specs.Texts.{head_text, solid_text}
 use Rattle.solid_model.specs.declared.cell.Cell.{Cell}
 use Rattle.solid_model.specs.declared.ended.EndKind.{EndKind}

@@ -3,7 +3,8 @@ use Rattle.std.proofs.Common.{◌≡◌, inl, inr, refl, Bool, ℕ, List, ◌++�
 use Rattle.recon_run.specs.declared.found.Found.{Found}
 use Rattle.recon_run.specs.declared.found.Found.TheVariants.{Problem, Fault}
 use Rattle.recon_run.specs.declared.status.Answer.{Answer}
-use Rattle.recon_run.specs.Answers.{BeginsToList, CanEnd, HasProblem, Input, ListsSolids}
+use Rattle.file_problem.specs.Inputs.{HasProblem, Input}
+use Rattle.recon_run.specs.Answers.{BeginsToList, CanEnd, ListsSolids}
 use Rattle.recon_run.specs.Findings.{AnswersFound, BeginsPaged, IsFoundIn, IsSearchOf, TellsPaged}
 use Rattle.recon_run.specs.Owed.{AnswersInput, AnswersOwed, IsAnswerOf, ReadsAllOrPast, Search, answer_at, beginning, input_of, search_for_all, searched}
 use Rattle.recon_run.specs.Searched.{SearchedParts}

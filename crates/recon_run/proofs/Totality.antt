@@ -5,13 +5,14 @@ use Rattle.dxf_entities.specs.Reading.{read_of}
 use Rattle.dxf_entities.proofs.KeptLines.{read_lines_are_kept}
 use Rattle.recon_run.specs.declared.status.Answer.{Answer}
 use Rattle.recon_run.specs.declared.status.Answer.TheVariants as answers
-use Rattle.recon_run.specs.Answers.{usage_text, CanEnd, Input, IsFaultAfter, IsFileFault, HasProblem, IsTried, TellsNumbered, head_of, numbered_answer}
+use Rattle.file_problem.specs.Inputs.{Input, IsFaultAfter, IsFileFault, HasProblem}
+use Rattle.recon_run.specs.Answers.{usage_text, CanEnd, IsTried, TellsNumbered, head_of, numbered_answer}
 use Rattle.solid_model.specs.Search.{default_limits, SearchLimits}
 use Rattle.recon_run.specs.Endings.{Answers}
 use Rattle.recon_run.specs.Findings.{IsOnGrid}
 use Rattle.recon_run.specs.Owed.{alone, AnswersOwed, Owed, ReadsAllOrPast, Search, answer_at, in_one_piece, input_of, search_for_one, owed, owed_for, searched}
 use Rattle.recon_run.proofs.Redrawn.{each_get, fills_at, on_grid}
-use Rattle.recon_run.proofs.Faults.{file_fault}
+use Rattle.file_problem.proofs.Faults.{file_fault}
 use Rattle.recon_run.proofs.PossibleEnds.{can_list}
 use Rattle.recon_run.proofs.Solved.{IsStated, IsWholeListing, listing, matching, some_listing, whole_listing}
 use Rattle.report.specs.FaultText.{fault_text}

@@ -7,9 +7,10 @@ use Rattle.made_laws.proofs.MadeFiles.{made_file_reads_back}
 use Rattle.made_laws.proofs.MadeLimits.{few_made_blocks, few_made_choices, few_made_nodes, made_blocks_are, made_problem}
 use Rattle.made_laws.proofs.SomeMadeGrid.{made_grid_is}
 use Rattle.redraw.specs.Files.{IsFileOf}
-use Rattle.recon_run.specs.Answers.{HasNoFault, HasProblem, Input, IsTried, made_drawing, node_count}
+use Rattle.file_problem.specs.Inputs.{HasNoFault, HasProblem, Input}
+use Rattle.recon_run.specs.Answers.{IsTried, made_drawing, node_count}
 use Rattle.recon_run.specs.Findings.{figures_text}
-use Rattle.recon_run.proofs.Faults.{no_fault}
+use Rattle.file_problem.proofs.Faults.{no_fault}
 use Rattle.recon_run.proofs.Redrawn.{first_counts}
 use Rattle.recon_run.proofs.Solved.{whole_listing}
 use Rattle.solid_model.proofs.SolidsOfChoices.{as_many}

@@ -5,7 +5,8 @@ use Rattle.recon_run.specs.declared.status.Answer.{Answer}
 use Rattle.recon_run.specs.declared.status.Answer.TheVariants as answers
 use Rattle.recon_run.specs.declared.status.Failure.{Failure}
 use Rattle.recon_run.specs.declared.status.Failure.TheVariants.{ReadFault, WriteFault, Memory}
-use Rattle.recon_run.specs.Answers.{CanEnd, Input}
+use Rattle.file_problem.specs.Inputs.{Input}
+use Rattle.recon_run.specs.Answers.{CanEnd}
 use Rattle.recon_run.specs.Owed.{AnswersOwed, Owed, Search, answer_at, begun, input_of, owed, reads_source, alone, searched}
 use Rattle.recon_run.specs.Pages.{Page, choices_on, pages_text}
 use Rattle.recon_run.specs.Status.{Status, answer_code, failure_code}

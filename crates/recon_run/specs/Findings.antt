@@ -7,7 +7,8 @@ use Rattle.recon_run.specs.declared.status.Answer.{Answer}
 use Rattle.recon_run.specs.declared.status.Answer.TheVariants as answers
 use Rattle.recon_run.specs.declared.status.Failure.{Failure}
 use Rattle.recon_run.specs.declared.status.Failure.TheVariants.{ReadFault, WriteFault, Memory}
-use Rattle.recon_run.specs.Answers.{Input, IsFileFault, HasProblem, numbered_answer}
+use Rattle.file_problem.specs.Inputs.{Input, IsFileFault, HasProblem}
+use Rattle.recon_run.specs.Answers.{numbered_answer}
 use Rattle.recon_run.specs.Owed.{answer_at}
 use Rattle.recon_run.specs.Searched.{SearchedParts}
 use Rattle.recon_run.specs.Pages.{Page, ArePagesOf, pages_text}

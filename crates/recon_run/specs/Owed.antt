@@ -3,7 +3,8 @@ use Rattle.std.specs.Prelude.{◌≡◌, ◌⊎◌, Bool, true, false, ℕ, ◌�
 use Rattle.drawing_maker.specs.Made.{made_solid}
 use Rattle.recon_run.specs.declared.status.Answer.{Answer}
 use Rattle.recon_run.specs.declared.status.Answer.TheVariants as answers
-use Rattle.recon_run.specs.Answers.{BeginsToList, CanEnd, Input, IsFileFault, IsTried, ListsSolids, TellsNumbered, head_of, numbered_answer, usage_text}
+use Rattle.file_problem.specs.Inputs.{Input, IsFileFault}
+use Rattle.recon_run.specs.Answers.{BeginsToList, CanEnd, IsTried, ListsSolids, TellsNumbered, head_of, numbered_answer, usage_text}
 use Rattle.redraw.specs.Files.{IsFileOf}
 use Rattle.report.specs.FaultText.{fault_text}
 use Rattle.solid_model.specs.declared.cell.Cell.{Cell}

@@ -3,7 +3,8 @@
 ghost use Rattle.std.specs.Prelude.{◌≡◌, ◌≤◌, ◌+◌, false, length, map, string_bytes, Err, Some};
 ghost use Rattle.recon_run.specs.declared.status.Answer.TheVariants as answers;
 ghost use Rattle.recon_run.specs.declared.status.Failure.TheVariants.{ReadFault, WriteFault};
-ghost use Rattle.recon_run.specs.Answers.{CanEnd, HasNoFault, IsFileFault};
+ghost use Rattle.file_problem.specs.Inputs.{HasNoFault, IsFileFault};
+ghost use Rattle.recon_run.specs.Answers.{CanEnd};
 ghost use Rattle.recon_run.specs.Endings.{AnswersOrFails, Ends, EndsOrFails, OfAlone, OfSearch, owed_to};
 ghost use Rattle.recon_run.specs.Owed.{owed_for, reads_source, search_for_all, search_for_one, searched};
 ghost use Rattle.recon_run.specs.Status.{Status, status_code, failure_code};

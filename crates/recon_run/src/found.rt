@@ -8,8 +8,8 @@ ghost use Rattle.solid_model.specs.Limits.{most_decimals, most_file_bytes};
 ghost use Rattle.tv_base.specs.Faults.{Rose};
 ghost use Rattle.tv_base.specs.Pieces.{ReadsWithin};
 
-use crate::problem::problem_of;
 use crate::status::Failure;
+use file_problem::problem_of;
 use solid_model::{Fault, Memory, Problem, Refused};
 use std::alloc::Global;
 use tv_base::{ReadEnd, Source, read_all};

@@ -4,7 +4,7 @@ ghost use Rattle.std.specs.Prelude.{◌≡◌, ◌⊎◌, ℕ, List, Option, Som
 ghost use Rattle.recon_run.specs.declared.status.Answer.{Answer};
 ghost use Rattle.recon_run.specs.declared.status.Answer.TheVariants as answers;
 ghost use Rattle.recon_run.specs.declared.status.Failure.TheVariants as failures;
-ghost use Rattle.recon_run.specs.Answers.{HasNoFault, Input, IsFileFault};
+ghost use Rattle.file_problem.specs.Inputs.{HasNoFault, Input, IsFileFault};
 ghost use Rattle.recon_run.specs.Endings.{Answers, IsCut, SameButPages};
 ghost use Rattle.recon_run.specs.Owed.{AnswersOwed, asks_pages, owed_for};
 ghost use Rattle.recon_run.specs.Status.{status_code};

@@ -7,7 +7,6 @@ mod export;
 mod found;
 mod laws;
 mod one_solid;
-mod problem;
 mod searched;
 mod status;
 mod telling;
@@ -15,9 +14,9 @@ mod trial;
 mod writing;
 
 pub use command::run;
+pub use file_problem::problem_of;
 pub use laws::{
     made_files_have_no_fault, one_answer, one_first_fault, some_answer, status_numbers,
 };
-pub use problem::problem_of;
 pub use status::{Answer, Failure, Status};
 pub use words::{Job, WordFault, job_of};

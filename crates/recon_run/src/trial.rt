@@ -7,9 +7,9 @@ ghost use Rattle.recon_run.specs.Findings.{figures_text, first_choice_volume};
 ghost use Rattle.redraw.specs.Files.{IsFileOf};
 
 use crate::crew::Crew;
-use crate::problem::problem_of;
 use crate::searched::{Searched, search};
 use drawing_maker::make;
+use file_problem::problem_of;
 use redraw::dxf_of;
 use report::trial_text;
 use solid_model::{Limits, Memory, Refused};

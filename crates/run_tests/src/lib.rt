@@ -1,19 +1,13 @@
-//! Tests of whole runs, and of searches: the very bytes that come out, that memory is found, and that
-//! the definitions mean what they say.
+//! Tests of whole runs: the very bytes that come out, that memory is found, and that the definitions
+//! mean what they say.
 #![tactic(auto)]
 
 #[cfg(test)]
-mod columns_anew;
-#[cfg(test)]
 mod decimals;
-#[cfg(test)]
-mod demands;
 #[cfg(test)]
 mod drawings;
 #[cfg(test)]
 mod entities;
-#[cfg(test)]
-mod forced;
 #[cfg(test)]
 mod hostile;
 #[cfg(test)]
@@ -28,8 +22,6 @@ mod redraws;
 mod rows;
 #[cfg(test)]
 mod runs;
-#[cfg(test)]
-mod searches;
 #[cfg(test)]
 mod sets;
 #[cfg(test)]

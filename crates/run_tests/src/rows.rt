@@ -66,6 +66,17 @@ fn is_wanted(wrote: &str, wanted: &str) -> bool {
     wrote.starts_with(first) && wrote.ends_with(last)
 }
 
+/// What a run with these words writes for the file that a row tells in a frame.
+fn wrote_for<R: Runtime>(
+    rt: &R,
+    words: &str,
+    frame: &str,
+    row: Row<'_>,
+) -> Result<String, AllocError> {
+    let file = told_file(rt.alloc(), frame, row)?;
+    run_words(rt, words, file)
+}
+
 /// Whether a row is right for a run with these words.
 fn is_right<R: Runtime>(
     rt: &R,
@@ -73,7 +84,7 @@ fn is_right<R: Runtime>(
     frame: &str,
     row: Row<'_>,
 ) -> Result<bool, AllocError> {
-    let wrote = run_words(rt, words, told_file(rt.alloc(), frame, row)?)?;
+    let wrote = wrote_for(rt, words, frame, row)?;
     let wanted = wanted_text(rt.alloc(), row.wanted)?;
     Ok(match wrote.as_str().strip_suffix('\n') {
         Some(wrote) => is_wanted(wrote, wanted.as_str()),
@@ -81,7 +92,22 @@ fn is_right<R: Runtime>(
     })
 }
 
-/// The first row of a table that isn't right for runs with these words; nothing where all are.
+/// The first of a frame's rows that isn't right for runs with these words; nothing where all are.
+fn wrong_line<'a, R: Runtime>(
+    rt: &R,
+    words: &str,
+    frame: &str,
+    rows: &'a str,
+) -> Result<&'a str, AllocError> {
+    for line in rows.lines() {
+        if !line.starts_with("-- ") && !is_right(rt, words, frame, row_of(line))? {
+            return Ok(line);
+        }
+    }
+    Ok("")
+}
+
+/// The same of a table's rows.
 pub fn wrong_row<'a, R: Runtime>(
     rt: &R,
     words: &str,
@@ -89,10 +115,9 @@ pub fn wrong_row<'a, R: Runtime>(
 ) -> Result<&'a str, AllocError> {
     for framed in table.split("\n= ").skip(1) {
         let (frame, rows) = framed.split_once('\n').unwrap_or((framed, ""));
-        for line in rows.lines() {
-            if !line.starts_with("-- ") && !is_right(rt, words, frame, row_of(line))? {
-                return Ok(line);
-            }
+        let line = wrong_line(rt, words, frame, rows)?;
+        if !line.is_empty() {
+            return Ok(line);
         }
     }
     Ok("")

@@ -23,6 +23,15 @@ fn run_over<R: Runtime>(
     run_gated(rt, words, source, MemSink::new(faults), &OpenGate)
 }
 
+/// The words of a command.
+fn command_of(alloc: Global, words: &str) -> Result<Vec<String>, AllocError> {
+    let mut command = Vec::new(alloc);
+    for word in words.split_terminator('|') {
+        command.push(String::from_str(alloc, word)?)?;
+    }
+    Ok(command)
+}
+
 /// The status and the text of a run over a source and a sink, whose workers pass a gate.
 pub fn run_gated<R: Runtime, G: Gate>(
     rt: &R,
@@ -31,10 +40,7 @@ pub fn run_gated<R: Runtime, G: Gate>(
     mut sink: MemSink,
     gate: &G,
 ) -> Result<String, AllocError> {
-    let mut command = Vec::new(rt.alloc());
-    for word in words.split_terminator('|') {
-        command.push(String::from_str(rt.alloc(), word)?)?;
-    }
+    let command = command_of(rt.alloc(), words)?;
     let status = run(rt, rt.alloc(), command.as_slice(), source, &mut sink, gate);
     let text = std::str::from_utf8(sink.bytes()).unwrap_or("no text");
     format!(in rt.alloc(); "{status} {text}")
@@ -72,25 +78,34 @@ pub fn cube_file(alloc: Global) -> Result<String, AllocError> {
     file_of(alloc, "0 SECTION, 2 ENTITIES, cube, 0 ENDSEC, 0 EOF")
 }
 
+/// The unit cube's file as a source whose call of this number fails; they count from 1.
+fn cube_source(alloc: Global, read: u32) -> Result<MemSource, AllocError> {
+    let file = cube_file(alloc)?.into_bytes();
+    Ok(MemSource::new(file, vec![in alloc; read]?))
+}
+
+/// What a run over a source writes whose sink fails in its call of this number, after ten bytes; they
+/// count from 1.
+fn wrote<R: Runtime>(
+    rt: &R,
+    words: &str,
+    source: &mut MemSource,
+    write: u32,
+) -> Result<String, AllocError> {
+    let faults = vec![in rt.alloc(); (write, 10usize)]?;
+    run_over(rt, words, source, faults)
+}
+
 /// Whether this is what a run over the unit cube's file writes, and then `solve` for what is left of
-/// the source. The source's call of the number `read` fails, and the sink's call of the number
-/// `write`, after ten bytes; the calls count from 1.
+/// the source. The source's call of the number `read` fails, and the sink's of the number `write`.
 fn writes<R: Runtime>(
     rt: &R,
     words: &str,
     [read, write]: [u32; 2],
     [first, second]: [&str; 2],
 ) -> Result<bool, AllocError> {
-    let mut source = MemSource::new(
-        cube_file(rt.alloc())?.into_bytes(),
-        vec![in rt.alloc(); read]?,
-    );
-    let wrote = run_over(
-        rt,
-        words,
-        &mut source,
-        vec![in rt.alloc(); (write, 10usize)]?,
-    )?;
+    let mut source = cube_source(rt.alloc(), read)?;
+    let wrote = wrote(rt, words, &mut source, write)?;
     let rest = run_over(rt, "solve|", &mut source, Vec::new(rt.alloc()))?;
     Ok(wrote.as_str() == first && rest.as_str() == second)
 }

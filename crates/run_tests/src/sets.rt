@@ -103,21 +103,32 @@ fn cells_in(grid: &Grid, cell: PerAxis) -> u8 {
     cells
 }
 
-/// The set of cells that a choice of a problem's blocks fills.
-fn filled_set(alloc: Global, problem: &Problem, choice: &str) -> Result<u8, Fail> {
+/// The choice in which the blocks are full that a 1 stands for.
+fn choice_of(alloc: Global, told: &str) -> Result<Choice, Fail> {
     let mut full = Vec::new(alloc);
-    for block in choice.bytes() {
+    for block in told.bytes() {
         full.push(block == b'1')?;
     }
-    let choice = Choice::from_bools(alloc, full.as_slice())?;
-    let sizes = problem.grid().sizes();
+    Ok(Choice::from_bools(alloc, full.as_slice())?)
+}
+
+/// The set of cells that stand in the full ones of a grid's cells.
+fn set_of(grid: &Grid, cells: &[bool]) -> u8 {
+    let sizes = grid.sizes();
     let mut set = 0;
-    for (place, is_full) in problem.cells(alloc, &choice)?.iter().enumerate() {
+    for (place, is_full) in cells.iter().enumerate() {
         if *is_full && place < sizes.count() {
-            set |= cells_in(problem.grid(), sizes.cell(place));
+            set |= cells_in(grid, sizes.cell(place));
         }
     }
-    Ok(set)
+    set
+}
+
+/// The set of cells that a choice of a problem's blocks fills.
+fn filled_set(alloc: Global, problem: &Problem, choice: &str) -> Result<u8, Fail> {
+    let choice = choice_of(alloc, choice)?;
+    let cells = problem.cells(alloc, &choice)?;
+    Ok(set_of(problem.grid(), cells.as_slice()))
 }
 
 /// Whether a line tells a solid of a set's cells, with its volume.
@@ -131,16 +142,33 @@ fn tells(alloc: Global, problem: &Problem, line: &str, set: u8) -> Result<bool, 
     Ok(filled == set && words.nth(1) == Some(volume.as_str()))
 }
 
-/// Whether a set is listed for its own drawing, with its volume.
-fn is_found<R: Runtime>(rt: &R, set: u8) -> Result<bool, Fail> {
-    let problem = problem_of(rt.alloc(), file_bytes(drawn_file(rt.alloc(), set)?)?, 0)?;
-    let wrote = solve(rt, drawn_file(rt.alloc(), set)?)?;
-    for line in wrote.as_str().lines().skip(1) {
-        if tells(rt.alloc(), &problem, line, moved(set))? {
+/// The problem of a set's drawing.
+fn problem_in(alloc: Global, set: u8) -> Result<Problem, Fail> {
+    let file = file_bytes(drawn_file(alloc, set)?)?;
+    Ok(problem_of(alloc, file, 0)?)
+}
+
+/// What `solve` writes for a set's drawing.
+fn solved<R: Runtime>(rt: &R, set: u8) -> Result<String, Fail> {
+    let file = drawn_file(rt.alloc(), set)?;
+    Ok(solve(rt, file)?)
+}
+
+/// Whether a line of a text tells a solid of a set's cells, with its volume.
+fn lists(alloc: Global, problem: &Problem, text: &str, set: u8) -> Result<bool, Fail> {
+    for line in text.lines().skip(1) {
+        if tells(alloc, problem, line, set)? {
             return Ok(true);
         }
     }
     Ok(false)
+}
+
+/// Whether a set is listed for its own drawing, with its volume.
+fn is_found<R: Runtime>(rt: &R, set: u8) -> Result<bool, Fail> {
+    let problem = problem_in(rt.alloc(), set)?;
+    let wrote = solved(rt, set)?;
+    lists(rt.alloc(), &problem, wrote.as_str(), moved(set))
 }
 
 #[test]

@@ -6,7 +6,7 @@ mod answers;
 mod gates;
 mod pages;
 
-use recon_run::problem_of;
+use file_problem::problem_of;
 use search_run::{PageOut, RunFault, run_search};
 use solid_model::{Ended, Limits, Problem};
 use std::alloc::Global;

@@ -3,7 +3,6 @@ pub mod OpenedPrefixes
 pub mod StatedOrder
 pub mod SearchEnds
 pub mod NextPrefixes
-pub mod ToldTrees
 pub mod Implied
 pub mod Marked
 pub mod ProblemTrees

@@ -1,5 +1,4 @@
 pub mod Walk
 pub mod Opened
 pub mod Rest
-pub mod Words
 pub mod BlockPaths

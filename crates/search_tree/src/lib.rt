@@ -12,9 +12,8 @@ mod path;
 mod rest;
 mod walk;
 
-pub use alone::solve_alone;
+pub use alone::{search_path, solve_alone};
 pub use block_path::BlockPath;
-pub use expansion::{expand, expand_from};
-
-#[cfg(test)]
-mod tests;
+pub use expansion::{Expanded, expand, expand_from, expand_path};
+pub use path::Path;
+pub use walk::go_on;

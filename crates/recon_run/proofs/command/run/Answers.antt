@@ -1,7 +1,8 @@
 use Rattle.std.proofs.Common.{sym, subst, map, length}
 use Rattle.std.specs.Prelude.{string_bytes}
 use Rattle.recon_run.specs.declared.status.Answer.TheVariants as answers
-use Rattle.recon_run.specs.Answers.{CanEnd, HasNoFault, IsFileFault}
+use Rattle.file_problem.specs.Inputs.{HasNoFault, IsFileFault}
+use Rattle.recon_run.specs.Answers.{CanEnd}
 use Rattle.recon_run.specs.Endings.{AnswersOrFails, EndsOrFails, OfAlone, OfSearch, owed_to}
 use Rattle.recon_run.proofs.DueAnswers.{faultless_ends, faulty_ends, reply_is_due, whole_ends}
 use Rattle.solid_model.specs.declared.ended.EndKind.TheVariants.{Whole}

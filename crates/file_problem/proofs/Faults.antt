@@ -1,0 +1,87 @@
+-- When an input has a fault, and when it has none.
+use Rattle.std.proofs.Common.{◌≡◌, refl, inl, inr, ◌≤◌, List, length, Result, Ok, Err, sym, subst, ap, ◌∙◌, arith}
+use Rattle.dxf_entities.specs.Reading.{read_of}
+use Rattle.file_problem.specs.Inputs.{HasFineAxis, Input, IsFaultAfter, IsFileFault, HasNoFault, HasProblem}
+use Rattle.file_problem.proofs.Grids.{one_too_fine, none_too_fine, one_grid, coordinates_from_grid}
+use Rattle.file_problem.proofs.Problems.{one_block_count}
+use Rattle.solid_model.specs.declared.fault.Fault.{Fault}
+use Rattle.solid_model.specs.declared.fault.Fault.TheVariants.{EmptyView, TooFine, TooManyBlocks}
+use Rattle.solid_model.specs.declared.frame.View.{View}
+use Rattle.solid_model.specs.declared.frame.View.TheVariants.{Front, Top, Side}
+use Rattle.solid_model.specs.Blocks.{ProblemParts}
+use Rattle.solid_model.specs.Drawings.{drawing_of, IsShown, IsFirstEmptyView}
+use Rattle.solid_model.specs.Limits.{most_file_bytes}
+use Rattle.solid_model.specs.Line.{Line}
+use Rattle.solid_model.specs.Panels.{GridParts, coordinates_of, IsGridOf}
+
+-- where every view shows something, none is the first empty one
+shown_not_empty : (ls : List Line) (v : View) → IsShown ls → IsFirstEmptyView ls v → ⊥
+shown_not_empty ls Front shown empty = shown Front empty
+shown_not_empty ls Top shown empty = shown Top empty.1
+shown_not_empty ls Side shown empty = shown Side empty.2
+
+-- lines have at most one first empty view
+one_empty_view : (ls : List Line) (v w : View) → IsFirstEmptyView ls v → IsFirstEmptyView ls w → v ≡ w
+one_empty_view ls Front Front a b = refl
+one_empty_view ls Front Top a b = absurd (b.0 a)
+one_empty_view ls Front Side a b = absurd (b.0 a)
+one_empty_view ls Top Front a b = absurd (a.0 b)
+one_empty_view ls Top Top a b = refl
+one_empty_view ls Top Side a b = absurd (b.1 a.1)
+one_empty_view ls Side Front a b = absurd (a.0 b)
+one_empty_view ls Side Top a b = absurd (a.1 b.1)
+one_empty_view ls Side Side a b = refl
+
+-- what lines refuse
+abbrev LinesFault : List Line → Fault → Type 0
+LinesFault ls f = IsFaultAfter (Ok ls) f
+
+-- a drawing with a grid has no axis that is too fine
+not_fine : (ls : List Line) (g : GridParts) → IsGridOf (drawing_of ls) g → (f : Fault) → HasFineAxis ls f → ⊥
+not_fine ls g grid f (_, a, count, fine, _) =
+    none_too_fine (drawing_of ls) (coordinates_of g) (coordinates_from_grid (drawing_of ls) g grid) a count fine
+
+-- the fault of lines is one
+one_lines_fault : (ls : List Line) (f g : Fault) → LinesFault ls f → LinesFault ls g → f ≡ g
+one_lines_fault ls f g (inl p) (inl q) = p.2 ∙ ap EmptyView (one_empty_view ls p.0 q.0 p.1 q.1) ∙ sym q.2
+one_lines_fault ls f g (inl p) (inr (inl q)) = absurd (shown_not_empty ls p.0 q.0 p.1)
+one_lines_fault ls f g (inl p) (inr (inr q)) = absurd (shown_not_empty ls p.0 q.0 p.1)
+one_lines_fault ls f g (inr (inl p)) (inl q) = absurd (shown_not_empty ls q.0 p.0 q.1)
+one_lines_fault ls f g (inr (inr p)) (inl q) = absurd (shown_not_empty ls q.0 p.0 q.1)
+one_lines_fault ls f g (inr (inl (shown, a, count, fine, is))) (inr (inl (shown_too, b, other, fine_too, is_too))) =
+    let one = one_too_fine (drawing_of ls) a b count other fine fine_too in
+    is ∙ (λ t. TooFine (one.0 t) (one.1 t)) ∙ sym is_too
+one_lines_fault ls f g (inr (inl p)) (inr (inr (shown, grid, is_grid, count, many, is))) = absurd (not_fine ls grid is_grid f p)
+one_lines_fault ls f g (inr (inr (shown, grid, is_grid, count, many, is))) (inr (inl q)) = absurd (not_fine ls grid is_grid g q)
+one_lines_fault ls f g (inr (inr (shown, grid, is_grid, count, (numbers, are, many), is))) (inr (inr (shown_too, other, is_other, count_too, (others, are_too, many_too), is_too))) =
+    let same = one_grid (drawing_of ls) grid other is_grid is_other in
+    is ∙ ap TooManyBlocks (one_block_count grid other same numbers others count count_too are are_too).1 ∙ sym is_too
+
+-- the fault of what a file reads as is one
+one_fault_after : (r : Result (List Line) Fault) (f g : Fault) → IsFaultAfter r f → IsFaultAfter r g → f ≡ g
+one_fault_after (Err found) f g p q = p ∙ sym q
+one_fault_after (Ok ls) f g p q = one_lines_fault ls f g p q
+
+-- an input has at most one first fault
+pub one_fault : (t : Input) (f g : Fault) → IsFileFault t f → IsFileFault t g → f ≡ g
+one_fault t f g (inl p) (inl q) = p.1 ∙ sym q.1
+one_fault t f g (inl p) (inr q) = absurd (omega (arith, p.0, q.0))
+one_fault t f g (inr p) (inl q) = absurd (omega (arith, p.0, q.0))
+one_fault t f g (inr p) (inr q) = one_fault_after (read_of t.decimals t.bytes) f g p.1 q.1
+
+-- a file that isn't too long has the fault of what it reads as
+pub file_fault : (t : Input) (r : Result (List Line) Fault) (f : Fault) → length t.bytes ≤ most_file_bytes → read_of t.decimals t.bytes ≡ r → IsFaultAfter r f → IsFileFault t f
+file_fault t r f short reads after = inr (short, subst (λ r. IsFaultAfter r f) (sym reads) after)
+
+-- an input with a problem has no fault
+pub no_fault : {t : Input} {p : ProblemParts} → HasProblem t p → HasNoFault t
+no_fault has f (inl long) = let short = has.short in absurd (omega (arith, long.0))
+no_fault {t} {p} has f (inr read) = by (subst (λ r. IsFaultAfter r f) has.reads read.1)
+  where
+    by : LinesFault has.lines f → ⊥
+    by (inl empty) = shown_not_empty has.lines empty.0 has.shown empty.1
+    by (inr (inl fine)) = not_fine has.lines p.grid has.grid f fine
+    by (inr (inr (shown, other, is_other, many, (others, are, above), is))) =
+        let same = one_grid (drawing_of has.lines) other p.grid is_other has.grid in
+        let counted = (one_block_count other p.grid same others p.blocks.numbers many p.blocks.count are has.blocks.blocks).1 in
+        let few = has.few in omega (arith, above)

@@ -1,0 +1,6 @@
+//! The way from a file's bytes to its problem.
+#![tactic(auto)]
+
+mod problem;
+
+pub use problem::problem_of;

@@ -1,0 +1,71 @@
+//! What lines demand of blocks, for drawings that were worked out by hand.
+
+use file_problem::problem_of;
+use line_demands::Partial;
+use solid_model::Problem;
+use std::alloc::Global;
+use std::fmt::Write;
+use std::test::Fail;
+use test_files::{Row, drawing_file, file_bytes, layer_of, row_of};
+
+/// A row a drawing, by its strokes in front, from the top and from the side; how many lines touch each
+/// of its blocks; and the first line that can't be met where the first block is empty: its view,
+/// whether it is upright, its position and its cell. The drawings show one cell; two on one line of
+/// sight, with a gap between them; three of four, side by side in front; and a cube with eight voids.
+const DEMANDS: &str = "\
+rect S 0 0 1 1; rect S 0 0 1 1; rect S 0 0 1 1 -> 12, FRONT false 0 0
+rect S 0 0 1 1; rect S 0 0 1 1, rect S 0 2 1 3; rect S 0 0 1 1, rect S 2 0 3 1 -> \
+    12 12, TOP false 0 0
+line S 1 0 2 0, line S 0 1 1 1, line S 0 2 2 2, line S 0 1 0 2, line S 1 0 1 1, line S 2 0 2 2; \
+    rect S 0 0 2 1, line D 1 0 1 1; rect S 0 0 1 2, line D 0 1 1 1 -> 24, FRONT false 0 1
+lattice 2 2; lattice 2 2; lattice 2 2 -> 180 12 12 12 12 12 12 12 12, FRONT false 0 0";
+
+/// The problem of a row's drawing.
+pub fn problem_in(alloc: Global, row: Row<'_>) -> Result<Problem, Fail> {
+    let file = file_bytes(drawing_file(alloc, row.views())?)?;
+    Ok(problem_of(alloc, file, 0)?)
+}
+
+/// How many lines touch each block.
+fn push_touching(text: &mut String, partial: &Partial<'_>) -> Result<(), Fail> {
+    for block in 0..partial.problem().blocks().count() {
+        let gap = if block == 0 { "" } else { " " };
+        write!(text, "{gap}{}", partial.touching(block))?;
+    }
+    Ok(())
+}
+
+/// What a row's drawing demands, as the row has it.
+fn told_demands(alloc: Global, row: Row<'_>) -> Result<String, Fail> {
+    let problem = problem_in(alloc, row)?;
+    let mut partial = Partial::new(alloc, &problem)?;
+    let mut text = String::new(alloc);
+    push_touching(&mut text, &partial)?;
+    if problem.blocks().count() == 0 {
+        return Err(Fail::new("no block"));
+    }
+    partial.decide(0, false);
+    let line = partial.broken_line().ok_or("no line")?;
+    write!(
+        text,
+        ", {} {} {} {}",
+        layer_of(line.view),
+        line.upright,
+        line.at,
+        line.cell
+    )?;
+    Ok(text)
+}
+
+#[test]
+fn lines_demand_so(rt: HostRuntime) -> Result<(), Fail> {
+    for line in DEMANDS.lines() {
+        let row = row_of(line);
+        assert_eq!(rt;
+            told_demands(rt.alloc(), row)?.as_str(),
+            row.wanted,
+            "{line}"
+        );
+    }
+    Ok(())
+}

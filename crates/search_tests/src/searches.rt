@@ -1,0 +1,318 @@
+//! Searches of problems, within limits and piece by piece.
+
+use file_problem::problem_of;
+use search_core::{Desk, Reported};
+use search_run::{begin, search_by_desk};
+use search_tree::{expand, solve_alone};
+use solid_model::{Choice, EndKind, Ended, Expansion, Limits, Prefix, Problem};
+use std::alloc::{AllocError, Global};
+use std::sync::Arc;
+use std::test::Fail;
+use test_files::{Row, drawing_file, file_bytes, row_of};
+
+/// The hollow cube.
+const HOLLOW_CUBE: [&str; 3] = ["rect S 0 0 3 3, rect D 1 1 2 2"; 3];
+
+/// The problem of a drawing by its strokes in front, from the top and from the side.
+fn problem(alloc: Global, views: [&str; 3]) -> Result<Arc<Problem>, Fail> {
+    let file = file_bytes(drawing_file(alloc, views)?)?;
+    Ok(Arc::new(alloc, problem_of(alloc, file, 0)?)?)
+}
+
+/// Limits that may be asked for.
+fn limits(nodes: &str, solids: &str) -> Option<Limits> {
+    let nodes: u64 = nodes.parse().ok()?;
+    let solids: u32 = solids.parse().ok()?;
+    if nodes < 1 || nodes > 4_000_000 || solids < 1 || solids > 65_536 {
+        return None;
+    }
+    Some(Limits { nodes, solids })
+}
+
+/// A row a drawing, by its strokes in front, from the top and from the side; limits of nodes and of
+/// solids; and how the search ends: its kind, how many live prefixes it opened, and how many solids
+/// it found.
+const ENDS: &str = "\
+rect S 0 0 3 3, rect D 1 1 2 2; rect S 0 0 3 3, rect D 1 1 2 2; rect S 0 0 3 3, rect D 1 1 2 2; \
+    3; 1 -> whole 3 1
+rect S 0 0 3 3, rect D 1 1 2 2; rect S 0 0 3 3, rect D 1 1 2 2; rect S 0 0 3 3, rect D 1 1 2 2; \
+    2; 1 -> nodes 3 0
+lattice 2 2; lattice 2 2; lattice 2 2; 109; 35 -> whole 109 35
+lattice 2 2; lattice 2 2; lattice 2 2; 108; 35 -> nodes 109 34
+lattice 2 2; lattice 2 2; lattice 2 2; 109; 34 -> solids 109 34
+lattice 15 21; lattice 15 13; lattice 13 21; 1; 4096 -> nodes 2 0";
+
+/// How a search ended, as a row has it.
+fn told_end(alloc: Global, ended: &Ended) -> Result<String, Fail> {
+    let kind = match ended.kind {
+        EndKind::Whole => "whole",
+        EndKind::CutNodes => "nodes",
+        EndKind::CutSolids => "solids",
+    };
+    Ok(format!(in alloc; "{kind} {} {}", ended.opened, ended.solids.len())?)
+}
+
+/// The kind of an end, and of a whole search all that is told: how many prefixes a cut search opens,
+/// and which solids it finds, depends on how it goes.
+fn wanted_kind(wanted: &str) -> &str {
+    match wanted.split_once(' ') {
+        Some((kind, _)) if kind != "whole" => kind,
+        _ => wanted,
+    }
+}
+
+/// How a search alone ends.
+fn told_alone(alloc: Global, problem: &Arc<Problem>, limits: Limits) -> Result<String, Fail> {
+    let ended = solve_alone(alloc, problem, limits)?;
+    told_end(alloc, &ended)
+}
+
+/// How a search by a desk ends.
+fn told_by_desk(alloc: Global, problem: &Arc<Problem>, limits: Limits) -> Result<String, Fail> {
+    let ended = search_by_desk(alloc, problem, limits)?;
+    told_end(alloc, &ended)
+}
+
+/// Whether the searches of a problem, alone and by a desk, end as a row has it.
+fn both_end_so(
+    alloc: Global,
+    problem: &Arc<Problem>,
+    limits: Limits,
+    wanted: &str,
+) -> Result<bool, Fail> {
+    let alone = told_alone(alloc, problem, limits)?;
+    let by_desk = told_by_desk(alloc, problem, limits)?;
+    Ok(alone.as_str() == wanted && by_desk.starts_with(wanted_kind(wanted)))
+}
+
+/// Whether the searches of a row's drawing end as the row has it.
+fn end_so(alloc: Global, row: Row<'_>) -> Result<bool, Fail> {
+    let [_, _, _, nodes, solids] = row.parts;
+    let limits = limits(nodes, solids).ok_or("limits")?;
+    let problem = problem(alloc, row.views())?;
+    both_end_so(alloc, &problem, limits, row.wanted)
+}
+
+#[test]
+fn searches_end_so(rt: HostRuntime) -> Result<(), Fail> {
+    for line in ENDS.lines() {
+        assert!(rt; end_so(rt.alloc(), row_of(line))?, "{line}");
+    }
+    Ok(())
+}
+
+/// A prefix, by its values as 1 and 0.
+fn prefix_of(alloc: Global, values: &str) -> Result<Prefix, Fail> {
+    let mut full = Vec::new(alloc);
+    for value in values.bytes() {
+        full.push(value == b'1')?;
+    }
+    Ok(Prefix::from_bools(alloc, full.as_slice())?)
+}
+
+/// Adds a blank and the values of a choice.
+fn push_choice(text: &mut String, choice: &Choice) -> Result<(), AllocError> {
+    text.push_str(" ")?;
+    for at in 0..choice.len() {
+        text.push_str(if choice.get(at) { "1" } else { "0" })?;
+    }
+    Ok(())
+}
+
+/// Adds a blank and the values of a prefix.
+fn push_prefix(text: &mut String, prefix: &Prefix) -> Result<(), AllocError> {
+    text.push_str(" ")?;
+    for at in 0..prefix.len() {
+        text.push_str(if prefix.get(at) { "1" } else { "0" })?;
+    }
+    Ok(())
+}
+
+/// The expansion of a piece with a quantum; nothing of a piece that isn't live.
+fn expansion(
+    alloc: Global,
+    problem: &Arc<Problem>,
+    piece: &str,
+    quantum: &str,
+) -> Result<Option<Expansion>, Fail> {
+    let quantum = quantum.parse().unwrap_or(0);
+    if quantum < 1 {
+        return Err(Fail::from("a quantum"));
+    }
+    Ok(expand(alloc, problem, &prefix_of(alloc, piece)?, quantum)?)
+}
+
+/// A row an expansion of a piece of the hollow cube: the piece and the quantum; and how many live
+/// prefixes it opens, what it finds and leaves, or that the piece isn't live.
+const EXPANSIONS: &str = "\
+; 64 -> 3 found 10 rest
+; 1 -> 1 found rest 1
+1; 1 -> 1 found rest 10
+0; 64 -> none
+100; 64 -> none";
+
+/// What an expansion opens, finds and leaves.
+fn told_parts(alloc: Global, expansion: &Expansion) -> Result<String, Fail> {
+    let mut text = format!(in alloc; "{} found", expansion.opened())?;
+    for choice in expansion.found() {
+        push_choice(&mut text, choice)?;
+    }
+    text.push_str(" rest")?;
+    for prefix in expansion.rest() {
+        push_prefix(&mut text, prefix)?;
+    }
+    Ok(text)
+}
+
+/// The expansion of a row's piece, as the row has it.
+fn told_expansion(alloc: Global, row: Row<'_>) -> Result<String, Fail> {
+    let [piece, quantum, ..] = row.parts;
+    match expansion(alloc, &problem(alloc, HOLLOW_CUBE)?, piece, quantum)? {
+        Some(expansion) => told_parts(alloc, &expansion),
+        None => Ok(String::from_str(alloc, "none")?),
+    }
+}
+
+#[test]
+fn pieces_expand_so(rt: HostRuntime) -> Result<(), Fail> {
+    for line in EXPANSIONS.lines() {
+        let row = row_of(line);
+        assert_eq!(rt;
+            told_expansion(rt.alloc(), row)?.as_str(),
+            row.wanted,
+            "{line}"
+        );
+    }
+    Ok(())
+}
+
+/// A row a desk of the hollow cube, or of the cube with eight voids: for each report to it the problem,
+/// the piece (`-` for the empty one) and the quantum with which it was expanded; and what the desk says
+/// to it, and how it stands then: how many prefixes are opened, how many choices are found, the piece
+/// that is next, and the end. In the last row the pieces that were told first come first.
+const REPORTS: &str = "\
+hollow - 64; hollow - 64 -> taken, 3 opened, 1 found, nothing, Some(Whole); \
+    stop, 3 opened, 1 found, nothing, Some(Whole)
+hollow - 1; hollow - 1; unit - 64 -> taken 1, 1 opened, 0 found, 1, None; \
+    gone, 1 opened, 0 found, 1, None; stranger, 1 opened, 0 found, 1, None
+voids - 1; voids 1 1; voids 10 1; voids 11 1; voids 11 1 -> taken 1, 1 opened, 0 found, 1, None; \
+    taken 11 10, 2 opened, 0 found, 11, None; taken 101 100, 3 opened, 0 found, 11, None; \
+    taken 110, 4 opened, 0 found, 101, None; gone, 4 opened, 0 found, 101, None";
+
+/// Adds what a desk says to a report.
+fn push_said(text: &mut String, desk: &mut Desk, report: Expansion) -> Result<(), Fail> {
+    match desk.report(report) {
+        Ok(Reported::Taken { rest }) => {
+            text.push_str("taken")?;
+            for prefix in &rest {
+                push_prefix(text, prefix)?;
+            }
+            Ok(())
+        }
+        Ok(Reported::Stranger) => Ok(text.push_str("stranger")?),
+        Ok(Reported::Stop) => Ok(text.push_str("stop")?),
+        Ok(Reported::Gone) => Ok(text.push_str("gone")?),
+        Err(_) => Err(Fail::from("out of memory")),
+    }
+}
+
+/// Adds how a desk stands.
+fn push_standing(text: &mut String, desk: &Desk) -> Result<(), Fail> {
+    write!(
+        text,
+        ", {} opened, {} found,",
+        desk.opened(),
+        desk.found().len()
+    )?;
+    match desk.first_piece() {
+        Some(piece) => push_prefix(text, piece)?,
+        None => text.push_str(" nothing")?,
+    }
+    Ok(write!(text, ", {:?}", desk.end())?)
+}
+
+/// The drawing of that name.
+fn views_named(name: &str) -> [&'static str; 3] {
+    match name {
+        "hollow" => HOLLOW_CUBE,
+        "voids" => ["lattice 2 2"; 3],
+        _ => ["rect S 0 0 1 1"; 3],
+    }
+}
+
+/// A report as it is told: by the name of its problem, its piece and its quantum.
+#[derive(Clone, Copy)]
+struct ToldReport<'a> {
+    name: &'a str,
+    piece: &'a str,
+    quantum: &'a str,
+}
+
+/// The report that is told so.
+fn report_of(told: &str) -> ToldReport<'_> {
+    let mut words = told.split(' ');
+    ToldReport {
+        name: words.next().unwrap_or(""),
+        piece: words.next().unwrap_or(""),
+        quantum: words.next().unwrap_or(""),
+    }
+}
+
+/// What is reported: of the desk's own problem where it has the name of that.
+fn reported(
+    alloc: Global,
+    own: &Arc<Problem>,
+    name: &str,
+    told: ToldReport<'_>,
+) -> Result<Expansion, Fail> {
+    let piece = if told.piece == "-" { "" } else { told.piece };
+    let found = if told.name == name {
+        expansion(alloc, own, piece, told.quantum)?
+    } else {
+        let other = problem(alloc, views_named(told.name))?;
+        expansion(alloc, &other, piece, told.quantum)?
+    };
+    Ok(found.ok_or("a report")?)
+}
+
+/// What may be handed to another thread.
+fn sent<T: Send>(value: T) -> T {
+    value
+}
+
+/// Adds what a desk says to the report that is told so, and how it stands then.
+fn push_report(
+    text: &mut String,
+    desk: &mut Desk,
+    own: &Arc<Problem>,
+    name: &str,
+    told: &str,
+) -> Result<(), Fail> {
+    let report = reported(*text.allocator(), own, name, report_of(told))?;
+    push_said(text, desk, report)?;
+    push_standing(text, desk)
+}
+
+/// What a desk says to a row's reports, as the row has it.
+fn told_desk(alloc: Global, row: Row<'_>) -> Result<String, Fail> {
+    let name = report_of(row.told).name;
+    let own = problem(alloc, views_named(name))?;
+    let mut desk = sent(begin(alloc, &own, limits("10", "10").ok_or("limits")?)?);
+    let mut text = String::new(alloc);
+    for told in row.told.split("; ") {
+        if !text.is_empty() {
+            text.push_str("; ")?;
+        }
+        push_report(&mut text, &mut desk, &own, name, told)?;
+    }
+    Ok(text)
+}
+
+#[test]
+fn a_desk_takes_reports_so(rt: HostRuntime) -> Result<(), Fail> {
+    for line in REPORTS.lines() {
+        let row = row_of(line);
+        assert_eq!(rt; told_desk(rt.alloc(), row)?.as_str(), row.wanted, "{line}");
+    }
+    Ok(())
+}
