@@ -119,6 +119,16 @@ fn go_round<B: Wait + Drop, R: Wait, G: Gate>(
     }
 }
 
+/// Lets the pieces of the worker's own deque go. Each worker does so where it leaves, so that none has
+/// to do it for all.
+fn let_go<R: Wait>(rt: &R, seat: &mut WorkerSeat) {
+    for _ in rt.forever() {
+        if seat.owner.take().is_none() {
+            return;
+        }
+    }
+}
+
 /// The work of one worker, from its start until it leaves.
 pub fn work<B: Wait + Drop, R: Wait, G: Gate>(
     rt: &R,
@@ -133,6 +143,7 @@ pub fn work<B: Wait + Drop, R: Wait, G: Gate>(
     match BlockPath::new(alloc, problem) {
         Ok(mut path) => {
             go_round(rt, alloc, &mut path, problem, room, gate, worker, &mut seat);
+            let_go(rt, &mut seat);
         }
         Err(_) => {
             room.halt(rt);
