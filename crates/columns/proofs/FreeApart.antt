@@ -54,6 +54,11 @@ module _ (fa ma fb mb : ℕ) (a_within : LiesWithin fa ma) (b_within : LiesWithi
   abbrev least : AgreesWith other (bits fb)
   least = bits_agree fb mb fb (λ j e. e) b_within
 
+  -- where that depth is neither the nearest nor the farthest at which the column can begin
+  pub free_off : zeros ma ≢ zeros fb → zeros fa ≢ zeros fb → (k : ℕ) (v : Bool) → known (pos k) ≡ None → CanDrawWith known other Solid k v
+  free_off nearest farthest k true none = with_bits ma fb ma_fits fb_fits may_agrees least k true (undecided_bits fa ma k none).1 nearest
+  free_off nearest farthest k false none = with_bits fa fb fa_fits fb_fits full_agrees least k false (undecided_bits fa ma k none).0 farthest
+
   -- the cells that may be full but for an undecided one
   module _ (d : ℕ) (none : known (pos d) ≡ None) where
     abbrev without : ℕ

@@ -6,7 +6,7 @@ use Rattle.std.proofs.lemmas.Option.{none-some, same_Some}
 use Rattle.solid_model.specs.Known.{known_of, known_bits, LiesWithin}
 use Rattle.solid_model.proofs.KnownBits.{some_bit, first_before}
 use Rattle.solid_model.proofs.KnownColumns.{Fits, fits_from}
-use Rattle.columns.specs.Doubted.{CanDrawWith}
+use Rattle.columns.specs.Doubted.{CanDrawWith, CanDrawEmpty}
 use Rattle.columns.proofs.LowestLeft.{set_within}
 use Rattle.columns.proofs.ValueBits.{undecided_within}
 use Rattle.columns.proofs.Replaced.{Allows, allows_open, Begin, begin_nearer, dashed_with}
@@ -137,6 +137,23 @@ module _ (fa ma fb mb : ℕ) (a_within : LiesWithin fa ma) (b_within : LiesWithi
 -- or at it, where neither is decided
 pub part_open : (known other : ℤ → Option Bool) (d k : ℕ) (v : Bool) → d < k → known (pos k) ≡ None → other (pos k) ≡ None → PartsAt known other d k v
 part_open known other d k v far none none_too = (k, v, far, allows_open known k v none, allows_open other k (not v) none_too, λ same. refl)
+
+-- A cell at the first depth at which both may be full can be full; it can be empty, if the columns can begin farther away.
+module _ (fa ma fb mb : ℕ) (a_within : LiesWithin fa ma) (b_within : LiesWithin fb mb) (fits : bit_and ma mb < 2 ^ 64) (met : CanDraw (known_bits fa ma) (known_bits fb mb) Dashed) where
+  pub free_first : ma < 2 ^ 64 → (k : ℕ) (v : Bool) → known_bits fa ma (pos k) ≡ None → is_set (near (bit_and ma mb)) k ≡ true → is_set (bit_and ma mb) k ≡ true
+      → CanDrawEmpty (known_bits fa ma) (known_bits fb mb) Dashed (near (bit_and ma mb)) → CanDrawWith (known_bits fa ma) (known_bits fb mb) Dashed k v
+  free_first ma_fits k v none set there (a, b, agrees, too, empty, draws) = by v
+    where
+      at : k ≡ zeros (bit_and ma mb)
+      at = let low = near_from (bit_and ma mb) k fits (undecided_within fa ma k ma_fits none) set in let least = lowest_at_most (bit_and ma mb) fits k there in omega (arith, low, least)
+
+      by : (v : Bool) → CanDrawWith (known_bits fa ma) (known_bits fb mb) Dashed k v
+      by false = (a, b, agrees, too, (empty k set).0, draws)
+      by true =
+          let (e, behind, may) = differ_behind fa ma fb mb a_within b_within fits met in
+          let (f, x, far, allows, allows_too, _) = part_other fa ma fb mb a_within b_within (zeros (bit_and ma mb)) e behind may k true (λ same. (omega (arith, same, behind, at))) in
+          dashed_with (known_bits fa ma) (known_bits fb mb) (zeros (bit_and ma mb)) (begin_first fa ma fb mb a_within b_within fits met) f x far allows allows_too k true
+          (omega (arith, at)) (λ _. refl) (λ same. absurd (omega (arith, same, far, at))) none
 
 -- ---- told by bits
 

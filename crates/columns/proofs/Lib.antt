@@ -12,6 +12,7 @@ pub mod LowestLeft
 pub mod Replaced
 pub mod FreeApart
 pub mod FreeBehind
+pub mod FreeBoth
 pub mod SeenCells
 pub mod ForcedDecisions
 pub mod Prefixes

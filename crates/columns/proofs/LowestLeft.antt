@@ -64,10 +64,14 @@ module _ (n rest : ℕ) (fits : n < 2 ^ 64) (fits_too : rest < 2 ^ 64) (some : n
 
 -- ---- of two numbers
 
--- where no bit of either is set, none of each is
-pub none_of_either : (a b : ℕ) → bit_or a b ≡ 0 → (k : ℕ) → (is_set a k ≡ false) × (is_set b k ≡ false)
-none_of_either a b none k = by (is_set a k) (is_set b k) (sym (set_either a b k) ∙ ap (λ n. is_set n k) none ∙ ap (λ n. n == 1) (bit_at-zero k))
+-- a bit that isn't set in either is set in neither
+pub clear_of_either : (a b k : ℕ) → is_set (bit_or a b) k ≡ false → (is_set a k ≡ false) × (is_set b k ≡ false)
+clear_of_either a b k clear = by (is_set a k) (is_set b k) (sym (set_either a b k) ∙ clear)
   where
     by : (x y : Bool) → (x || y) ≡ false → (x ≡ false) × (y ≡ false)
     by true y off = absurd (both_ways true off refl)
     by false y off = (refl, off)
+
+-- where no bit of either is set, none of each is
+pub none_of_either : (a b : ℕ) → bit_or a b ≡ 0 → (k : ℕ) → (is_set a k ≡ false) × (is_set b k ≡ false)
+none_of_either a b none k = clear_of_either a b k (ap (λ n. is_set n k) none ∙ ap (λ n. n == 1) (bit_at-zero k))

@@ -14,7 +14,7 @@ use Rattle.solid_model.specs.Demands.{line_style, known_in, known_cell, known_af
 use Rattle.solid_model.specs.Forcing.{cell_beside, CanBeMetWith}
 
 -- two columns draw the same, whichever of them comes first
-draw_back : (a b : ℤ → Bool) (style : Style) → ColumnsDraw a b style → ColumnsDraw b a style
+pub draw_back : (a b : ℤ → Bool) (style : Style) → ColumnsDraw a b style → ColumnsDraw b a style
 draw_back a b Blank same = λ k. sym (same k)
 draw_back a b Dashed (differ, same) = ((differ.0, λ e. differ.1 (sym e)), same_first_back a b same)
 draw_back a b Solid apart = λ same. apart (same_first_back b a same)

@@ -1,9 +1,9 @@
 -- A bit more of what is full, or one less of what may be.
-use Rattle.std.proofs.Common.{◌≡◌, ◌≢◌, ◌↔◌, ◌==◌, ◌&&◌, ◌||◌, inl, inr, Bool, true, false, not, if◌then◌else◌, ℕ, ◌*◌, ◌%◌, ◌^◌, ◌<◌, Option, Some, None, bit_and, bit_or, w64, ℤ, pos, negsuc, refl, ap, ap₂, sym, subst, ◌∙◌, arith}
-use Rattle.std.specs.Int.{bit_not}
+use Rattle.std.proofs.Common.{◌≡◌, ◌≢◌, ◌↔◌, ◌==◌, ◌&&◌, ◌||◌, inl, inr, Bool, true, false, not, if◌then◌else◌, ℕ, zero, suc, ◌+◌, ◌*◌, ◌%◌, ◌^◌, ◌<◌, Option, Some, None, bit_and, bit_or, bit_xor, w64, ℤ, pos, negsuc, refl, ap, ap₂, sym, subst, ◌∙◌, arith}
+use Rattle.std.specs.Int.{bit_at, bit_not}
 use Rattle.std.specs.Int.Bits.{and_lt}
 use Rattle.std.proofs.lemmas.Bool.{both_ways, cases_Bool, cases_lt, eqb-true, eqb-false, and_parts, and_from, not-true, not_from_false}
-use Rattle.std.proofs.lemmas.Nat.Bits.{bit_at_set_same, bit_at_set_other, bit_at_clear_same, bit_at_clear_other, bit_at_above}
+use Rattle.std.proofs.lemmas.Nat.Bits.{bit_at_xor, bit_at-lt, bit_at_set_same, bit_at_set_other, bit_at_clear_same, bit_at_clear_other, bit_at_above}
 use Rattle.std.proofs.lemmas.Option.{none-some}
 use Rattle.solid_model.specs.Known.{known_of, known_bits, LiesWithin}
 use Rattle.solid_model.specs.declared.segment.Style.{Style}
@@ -25,6 +25,19 @@ undecided_bits full may k = by (is_set full k) (is_set may k)
 -- such a cell is undecided
 pub open_bits : (full may k : ℕ) → is_set may k ≡ true → is_set full k ≡ false → known_bits full may (pos k) ≡ None
 open_bits full may k set clear = ap₂ known_of clear set
+
+-- the bits in which two numbers differ, of which one lies within the other
+pub set_apart : (full may : ℕ) → LiesWithin full may → (k : ℕ) → is_set (bit_xor may full) k ≡ (is_set may k && not (is_set full k))
+set_apart full may within k = ap (λ x. x == 1) (bit_at_xor may full k) ∙ by (bit_at may k) (bit_at full k) (bit_at-lt may k) (bit_at-lt full k) (within k)
+  where
+    by : (x y : ℕ) → x < 2 → y < 2 → ((y == 1) ≡ true → (x == 1) ≡ true) → ((x + y) % 2 == 1) ≡ ((x == 1) && not (y == 1))
+    by zero zero l m inside = refl
+    by zero (suc zero) l m inside = absurd (both_ways false refl (inside refl))
+    by (suc zero) zero l m inside = refl
+    by (suc zero) (suc zero) l m inside = refl
+    by zero (suc (suc y)) l m inside = absurd (omega arith)
+    by (suc zero) (suc (suc y)) l m inside = absurd (omega arith)
+    by (suc (suc x)) y l m inside = absurd (omega arith)
 
 -- its bit is one of those that may be full but aren't for certain
 module _ (full may u : ℕ) (is : (k : ℕ) → is_set u k ≡ (is_set may k && not (is_set full k))) (k : ℕ) where

@@ -4,7 +4,7 @@ use Rattle.std.specs.List.{sum_by}
 use Rattle.solid_model.specs.Known.{known_bits}
 use Rattle.columns.specs.declared.known.KnownColumn.{KnownColumn}
 use Rattle.columns.specs.declared.lines.Beside.{Beside}
-use Rattle.columns.specs.Doubted.{IsFree}
+use Rattle.columns.specs.Doubted.{AreFree}
 use Rattle.columns.specs.Spans.{column_there}
 use Rattle.solid_model.specs.Demands.{CanDraw}
 
@@ -29,10 +29,8 @@ IsMetBy columns b = CanDraw (known_bits (column_there columns b.after).full (col
 
 -- each undecided cell of the columns beside a line can have either value
 abbrev pub AreFreeBeside : List KnownColumn → Beside → Type 0
-AreFreeBeside columns b = IsFree (known_bits (column_there columns b.after).full (column_there columns b.after).may)
+AreFreeBeside columns b = AreFree (known_bits (column_there columns b.after).full (column_there columns b.after).may)
     (known_bits (column_there columns b.before).full (column_there columns b.before).may) b.style
-    × IsFree (known_bits (column_there columns b.before).full (column_there columns b.before).may)
-    (known_bits (column_there columns b.after).full (column_there columns b.after).may) b.style
 
 -- the columns beside each line are some of so many
 abbrev pub AreBeside : ℕ → List Beside → Type 0

@@ -11,14 +11,15 @@ use crate::known::{KnownColumn, can_differ, without};
 use solid_model::Style;
 
 /// The cells of which nothing is known.
-fn undecided(column: KnownColumn) -> u64
+pub fn undecided(column: KnownColumn) -> u64
+    requires { LiesWithin column.full column.may }
     ensures { (k : ℕ) → is_set result k ≡ (is_set column.may k && not (is_set column.full k)) }
 {
-    without(column.may, column.full)
+    column.may ^ column.full
 }
 
 /// The bits of a number down to its lowest one, that one too: all of them where it is 0.
-fn near(number: u64) -> u64
+pub fn near(number: u64) -> u64
     ensures { result ≡ near number }
 {
     number ^ number.wrapping_sub(1)

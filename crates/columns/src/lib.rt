@@ -6,6 +6,7 @@ mod beside;
 mod column;
 mod doubts;
 mod draw;
+mod free;
 mod gather;
 mod grid_columns;
 mod known;

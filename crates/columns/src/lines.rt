@@ -4,7 +4,7 @@ ghost use Rattle.std.specs.Prelude.{◌≡◌, ◌↔◌, ◌<◌, ◌≤◌, �
 ghost use Rattle.columns.specs.Lines.{times_listed, AreMarked, IsMetBy, AreFreeBeside, AreBeside, BeginsWith, AreTried, AreFreeAmong, IsLeast, lesser_of};
 ghost use Rattle.columns.specs.Spans.{AreWithin};
 
-use crate::doubts::doubted;
+use crate::free::are_free;
 use crate::known::{KnownColumn, can_draw, meets};
 use crate::steps::Steps;
 use solid_model::{LineId, Style};
@@ -50,7 +50,7 @@ fn may_force(columns: &[KnownColumn], beside: Beside) -> bool
 {
     let after = columns[beside.after as usize];
     let before = columns[beside.before as usize];
-    doubted(beside.style, after, before) | doubted(beside.style, before, after) != 0
+    !are_free(beside.style, after, before)
 }
 
 /// Marks a line as one that can't be met.
@@ -81,8 +81,7 @@ pub fn mend_lines(met: &mut [bool], broken: &mut Vec<u32>, height: usize)
     }
 }
 
-/// Tries a line, unless it is known that it can't be met, and marks it if it can't. False: the line
-/// forces nothing, or can't be met.
+/// Tries a line, and marks it if it can't be met. False: the line forces nothing, or can't be met.
 fn try_line<L: Ledger>(
     columns: &[KnownColumn],
     sides: &[Beside],
@@ -107,13 +106,12 @@ fn try_line<L: Ledger>(
         → AreFreeBeside columns.now (slice_index_or sides.now line d) }
     ensures steps { steps.new ≤ steps.old + 1 }
 {
-    if !met[line as usize] {
-        return false;
-    }
     if is_met(columns, sides[line as usize], steps) {
         return may_force(columns, sides[line as usize]);
     }
-    break_line(met, broken, line);
+    if met[line as usize] {
+        break_line(met, broken, line);
+    }
     false
 }
 

@@ -15,8 +15,8 @@ returns-then-is_met-clause-tried g c = λ d. (
 pub returns-then-is_met-clause-free : goal.returns-then-is_met-clause-free
 returns-then-is_met-clause-free g c = λ none d _. subst (AreFreeBeside c.args.columns.now) (get_or_default c.args.sides.now c.args.line _ d c.requires.there) (c.may_force.ensures none)
 
-pub returns-clause-tried : goal.returns-clause-tried
-returns-clause-tried g c = λ d. (
+pub returns-then-met-line-clause-tried : goal.returns-then-met-line-clause-tried
+returns-then-met-line-clause-tried g c = λ d. (
   λ none. absurd (let e = ap (times_listed c.args.line) c.break_line.ensures.broken ∙ last_there c.args.broken.now.items c.args.line in omega arith),
   λ both. absurd (both_ways c.is_met.result c.if-is_met.false (c.is_met.ensures.met.1 (subst (IsMetBy c.args.columns.now) (get_or_default c.args.sides.now c.args.line d _ c.requires.there) both.1))),
 )
