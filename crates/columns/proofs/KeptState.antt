@@ -3,7 +3,7 @@ use Rattle.std.proofs.Common.{◌≡◌, inl, inr, ◌↔◌, Bool, true, false,
 use Rattle.std.specs.Prelude.{All}
 use Rattle.std.specs.List.{filter}
 use Rattle.std.proofs.lemmas.List.{length-map, get_or-map}
-use Rattle.std.proofs.lemmas.Option.{slice_get-get_or}
+use Rattle.std.proofs.lemmas.Option.{slice_get-get_or, slice_get_within, get_or_from_slice_get}
 use Rattle.std.proofs.lemmas.Bool.{cases_Bool, eqb-true}
 use Rattle.std.proofs.lemmas.List.Sums.{sum_by-append}
 use Rattle.columns.specs.declared.known.KnownColumn.{KnownColumn}
@@ -12,8 +12,8 @@ use Rattle.solid_model.specs.declared.decision.Decision.{Decision}
 use Rattle.columns.specs.declared.spans.Span.{Span}
 use Rattle.solid_model.specs.Decisions.{decided_by}
 use Rattle.columns.specs.Broken.{TellsBroken}
-use Rattle.columns.specs.Free.{LeaveFree, LeavesFree}
-use Rattle.columns.specs.Lines.{one_if, times_listed, AreMarked, AreBeside, AreTried, AreFreeAmong, IsMetBy, IsLeast}
+use Rattle.columns.specs.Free.{LeaveFreeBut, LeavesFree}
+use Rattle.columns.specs.Lines.{one_if, times_listed, AreMarked, AreBeside, AreTried, AreFreeBut, IsMetBy, IsLeast}
 use Rattle.columns.specs.Spans.{is_on, column_there, known_there, AreWithin}
 use Rattle.columns.specs.KeptColumns.{column_count, IsColumnOf, IsBeside, IsKeptBy}
 use Rattle.columns.specs.declared.seen.SeenLine.{SeenLine}
@@ -184,18 +184,21 @@ module _ (p : ProblemParts) (blocks : IsBlocksOf p.grid p.blocks) (spans : List 
         before = column_known p (sizes_same p blocks spans touched sides) (decided_by decisions) columns kept.state.known b.line (pos b.line.at -ℤ pos 1) b.before at.cell at.before;
       }
 
-  -- where the lines that are listed with a block leave the cells beside them free, those that touch it do
-  pub free_told : (b : ℕ) (ls : List ℕ) → b < p.blocks.count → AreFreeAmong columns sides (get_or touched b ls) broken → LeaveFree p (decided_by decisions) b
-  free_told b ls l among line touch met =
+  -- where lines that are listed with a block leave the cells beside them free, those that touch it do
+  pub free_told : (b : ℕ) (ls : List ℕ) (doubts : ℕ) → b < p.blocks.count → AreFreeBut columns sides (get_or touched b ls) (length (get_or touched b ls)) broken doubts
+      → LeaveFreeBut p (decided_by decisions) b doubts
+  free_told b ls doubts l free place line at off met =
       let lines = get_or touched b ls in
-      let (i, listed, is) = member-from_map (λ n. (get_or sides n no_side).line) lines line (subst (λ xs. Member xs line) (sym (kept.plan.beside.exact b ls no_side (let f = kept.plan.cells.count in omega arith))) touch) in
-      let (k, within, at) = member-place lines i listed in
-      let there : i < length sides = subst (λ n. n < length sides) (at 0) (kept.plan.beside.there b ls (let f = kept.plan.cells.count in let g = kept.plan.beside.count in omega arith) k 0 within) in
+      let within : place < length lines = (let m = slice_get_within (lines_touching p b) place line at in let e = touched_count b ls l in omega (arith, m, e)) in
+      let i = get_or lines place 0 in
+      let there : i < length sides = kept.plan.beside.there b ls (let f = kept.plan.cells.count in let g = kept.plan.beside.count in omega arith) place 0 within in
       let side = get_or sides i no_side in
+      let is : side.line ≡ line = sym (get_or-map (λ n. (get_or sides n no_side).line) lines place 0 line within)
+      ∙ ap (λ xs. get_or xs place line) (kept.plan.beside.exact b ls no_side (let f = kept.plan.cells.count in omega arith)) ∙ get_or_from_slice_get (lines_touching p b) place line line at in
       let seen : SeenLine = record { line = side.line; style = side.style; after = column_there columns side.after; before = column_there columns side.before } in
       let unbroken = (all_broken p sides decisions heights broken kept.state.trail i no_side there).1 (subst (CanBeMet p (decided_by decisions)) (sym is) met) in
-      let free = among i no_side there (times_at lines k 0 i within (at 0)) unbroken in
-      subst (LeavesFree p (decided_by decisions)) is (line_free p (decided_by decisions) seen (seen_told i side no_side there refl seen refl) free.0 free.1)
+      let both = free place 0 no_side within off unbroken in
+      subst (LeavesFree p (decided_by decisions)) is (line_free p (decided_by decisions) seen (seen_told i side no_side there refl seen refl) both.0 both.1)
 
   -- few lines touch a block
   pub few_touched : (b : ℕ) (ls : List ℕ) → b < p.blocks.count → length (get_or touched b ls) ≤ 24192

@@ -46,3 +46,4 @@ pub mod PackedColumns
 pub mod WholeChoices
 pub mod CellPlaces
 pub mod CellsBeside
+pub mod ToldDoubts

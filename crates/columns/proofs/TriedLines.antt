@@ -1,12 +1,13 @@
 -- Lines are tried one after another.
-use Rattle.std.proofs.Common.{◌≡◌, ◌⊎◌, ◌↔◌, inl, inr, Bool, true, false, ◌==◌, ℕ, ◌+◌, ◌<◌, List, [], ◌∷◌, ◌++◌, length, take, get_or, ap, sym, subst, ◌∙◌, arith}
-use Rattle.std.proofs.lemmas.Bool.{cases_Bool, eqb-true}
-use Rattle.std.proofs.lemmas.List.{length_push, take-append-le, take_all, take-take}
+use Rattle.std.proofs.Common.{◌≡◌, ◌⊎◌, ◌↔◌, inl, inr, Bool, true, false, ◌==◌, ℕ, ◌+◌, ◌%◌, ◌<◌, List, [], ◌∷◌, ◌++◌, length, take, get_or, ap, sym, subst, ◌∙◌, arith}
+use Rattle.std.proofs.lemmas.Bool.{cases_Bool, cases_lt, eqb-true}
+use Rattle.std.proofs.lemmas.List.{length_push, take-append-le, take_all, take-take, get_or_default}
 use Rattle.std.proofs.lemmas.List.Sums.{sum_by_push}
 use Rattle.std.proofs.lemmas.Grind.{take_at_read}
+use Rattle.solid_model.specs.Bits.{is_set}
 use Rattle.columns.specs.declared.known.KnownColumn.{KnownColumn}
 use Rattle.columns.specs.declared.lines.Beside.{Beside}
-use Rattle.columns.specs.Lines.{one_if, times_listed, AreMarked, IsMetBy, AreFreeBeside, BeginsWith, AreTried, AreFreeAmong}
+use Rattle.columns.specs.Lines.{one_if, times_listed, AreMarked, IsMetBy, AreFreeBeside, BeginsWith, AreTried, AreFreeBut}
 
 -- a number that is one of a list, or isn't
 pub is_not_there : (met : List Bool) (broken : List ℕ) (i : ℕ) → AreMarked met broken → i < length met → get_or met i false ≡ true → times_listed i broken ≡ 0
@@ -72,12 +73,22 @@ module _ (columns : List KnownColumn) (sides : List Beside) (lines old : List �
         (λ both. let none = old_each.1 (both.0, λ some. both.1 (omega arith)) in omega arith),
       ))
 
--- one line more leaves the cells beside it free, or is broken
-pub one_free : (columns : List KnownColumn) (sides : List Beside) (lines : List ℕ) (n line e : ℕ) (before after : List ℕ) → n < length lines → get_or lines n e ≡ line
-    → ((i : ℕ) → (line == i) ≡ false → times_listed i after ≡ times_listed i before)
-    → AreFreeAmong columns sides (take n lines) before → ((d : Beside) → times_listed line after ≡ 0 → AreFreeBeside columns (get_or sides line d))
-    → AreFreeAmong columns sides (take (n + 1) lines) after
-one_free columns sides lines n line e before after l at others so_far here i d m some unbroken = elim (cases_Bool (line == i)) as (λ _. AreFreeBeside columns (get_or sides i d)) [
-  | inl is ↦ subst (λ j. times_listed j after ≡ 0 → AreFreeBeside columns (get_or sides j d)) (eqb-true line i is) (here d) unbroken
-  | inr other ↦ so_far i d m (let f = times_more lines n line e l at i in let h = ap one_if other in omega arith) (sym (others i other) ∙ unbroken)
+-- one line more leaves the cells beside it free, or is broken, or its place's bit is set
+pub one_free : (columns : List KnownColumn) (sides : List Beside) (lines : List ℕ) (n line e : ℕ) (before after : List ℕ) (doubts now : ℕ) → get_or lines n e ≡ line → n < length lines
+    → ((i : ℕ) → times_listed i after ≡ 0 → times_listed i before ≡ 0) → ((k : ℕ) → is_set now k ≡ false → is_set doubts k ≡ false)
+    → (is_set now (n % 64) ≡ false → (d : Beside) → times_listed line after ≡ 0 → AreFreeBeside columns (get_or sides line d))
+    → AreFreeBut columns sides lines n before doubts → AreFreeBut columns sides lines (n + 1) after now
+one_free columns sides lines n line e before after doubts now at within less fewer here so_far place f d l off unbroken = elim (cases_lt place n) as (λ _. AreFreeBeside columns (get_or sides (get_or lines place f) d)) [
+  | inl earlier ↦ so_far place f d earlier (fewer (place % 64) off) (less (get_or lines place f) unbroken)
+  | inr later ↦ (let same : place ≡ n = omega arith in
+      let is : line ≡ get_or lines place f = sym (ap (λ k. get_or lines k f) same ∙ get_or_default lines n f e within ∙ at) in
+      subst (λ j. AreFreeBeside columns (get_or sides j d)) is (here (subst (λ k. is_set now (k % 64) ≡ false) same off) d (subst (λ j. times_listed j after ≡ 0) (sym is) unbroken)))
+]
+
+-- what isn't listed after a line is tried wasn't before
+pub not_before : (columns : List KnownColumn) (sides : List Beside) (line : ℕ) (before after : List ℕ) → ((i : ℕ) → (line == i) ≡ false → times_listed i after ≡ times_listed i before)
+    → ((d : Beside) → (times_listed line after ≡ 0) ↔ ((times_listed line before ≡ 0) × IsMetBy columns (get_or sides line d))) → (d : Beside) (i : ℕ) → times_listed i after ≡ 0 → times_listed i before ≡ 0
+not_before columns sides line before after others tried d i none = elim (cases_Bool (line == i)) as (λ _. times_listed i before ≡ 0) [
+  | inl is ↦ (let same = eqb-true line i is in subst (λ j. times_listed j before ≡ 0) same ((tried d).0 (subst (λ j. times_listed j after ≡ 0) (sym same) none)).0)
+  | inr off ↦ sym (others i off) ∙ none
 ]

@@ -1,11 +1,12 @@
 -- Lines that can't be met, by number.
-use Rattle.std.specs.Prelude.{◌≡◌, ◌↔◌, ◌==◌, ◌<◌, ◌≤◌, ◌+◌, Bool, false, ℕ, Option, Some, None, nat_lt, List, length, take, All, slice_index_or, if◌then◌else◌}
+use Rattle.std.specs.Prelude.{◌≡◌, ◌↔◌, ◌==◌, ◌<◌, ◌≤◌, ◌+◌, ◌%◌, Bool, false, ℕ, Option, Some, None, nat_lt, List, length, take, All, slice_index_or, if◌then◌else◌}
 use Rattle.std.specs.List.{sum_by}
 use Rattle.solid_model.specs.Known.{known_bits}
 use Rattle.columns.specs.declared.known.KnownColumn.{KnownColumn}
 use Rattle.columns.specs.declared.lines.Beside.{Beside}
 use Rattle.columns.specs.Doubted.{AreFree}
 use Rattle.columns.specs.Spans.{column_there}
+use Rattle.solid_model.specs.Bits.{is_set}
 use Rattle.solid_model.specs.Demands.{CanDraw}
 
 -- 1 where the test holds
@@ -47,10 +48,11 @@ pub record AreTried (columns : List KnownColumn) (sides : List Beside) (lines ol
   pub each : (i : ℕ) (d : Beside) → i < length sides
       → (times_listed i new ≡ 0) ↔ ((times_listed i old ≡ 0) × (0 < times_listed i lines → IsMetBy columns (slice_index_or sides i d)))
 
--- of these lines each that isn't broken leaves the cells beside it free
-abbrev pub AreFreeAmong : List KnownColumn → List Beside → List ℕ → List ℕ → Type 0
-AreFreeAmong columns sides lines broken = (i : ℕ) (d : Beside) → i < length sides → 0 < times_listed i lines → times_listed i broken ≡ 0
-    → AreFreeBeside columns (slice_index_or sides i d)
+-- of the lines at the first places each that isn't broken leaves the cells beside it free, but for those whose bit is set: places that
+-- are 64 apart share one
+abbrev pub AreFreeBut : List KnownColumn → List Beside → List ℕ → ℕ → List ℕ → ℕ → Type 0
+AreFreeBut columns sides lines count broken doubts = (place e : ℕ) (d : Beside) → place < count → is_set doubts (place % 64) ≡ false
+    → times_listed (slice_index_or lines place e) broken ≡ 0 → AreFreeBeside columns (slice_index_or sides (slice_index_or lines place e) d)
 
 -- it is one of them, and each that is less isn't
 pub record IsLeastNumber (numbers : List ℕ) (x : ℕ) : Type 0 where

@@ -14,6 +14,7 @@ mod laws;
 mod lines;
 mod packed;
 mod partial_state;
+mod places;
 mod plan;
 mod seen;
 mod segment_styles;
@@ -32,5 +33,6 @@ pub use laws::{
     quartered_cube_half_hidden,
 };
 pub use partial_state::PartialState;
+pub use places::has_place;
 pub use seen::{SeenLine, block_beside};
 pub use steps::Steps;

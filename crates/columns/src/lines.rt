@@ -1,11 +1,12 @@
 //! The lines that can't be met, in the order in which they were found.
 
 ghost use Rattle.std.specs.Prelude.{◌≡◌, ◌↔◌, ◌<◌, ◌≤◌, ◌+◌, ◌++◌, ◌∷◌, [], ◌==◌, ℕ, true, false, length, take, All, slice_index_or, slice_set, vec_capacity, IsTrue};
-ghost use Rattle.columns.specs.Lines.{times_listed, AreMarked, IsMetBy, AreFreeBeside, AreBeside, BeginsWith, AreTried, AreFreeAmong, IsLeast, lesser_of};
+ghost use Rattle.columns.specs.Lines.{times_listed, AreMarked, IsMetBy, AreFreeBeside, AreBeside, BeginsWith, AreTried, AreFreeBut, IsLeast, lesser_of};
 ghost use Rattle.columns.specs.Spans.{AreWithin};
 
 use crate::free::are_free;
 use crate::known::{KnownColumn, can_draw, meets};
+use crate::places::with_place;
 use crate::steps::Steps;
 use solid_model::{LineId, Style};
 use std::sync::ledger::Ledger;
@@ -115,8 +116,8 @@ fn try_line<L: Ledger>(
     false
 }
 
-/// Tries lines, those left out of which it is known that they can't be met, and marks those that
-/// can't. False: each of them that can be met forces nothing.
+/// Tries lines, and marks those that can't be met. The answer has a bit for each place of a line that
+/// may force something: the others that can be met force nothing.
 pub fn try_lines<L: Ledger>(
     columns: &[KnownColumn],
     sides: &[Beside],
@@ -124,7 +125,7 @@ pub fn try_lines<L: Ledger>(
     met: &mut [bool],
     broken: &mut Vec<u32>,
     steps: &mut Steps<L>,
-) -> bool
+) -> u64
     requires within { AreWithin columns.now }
     requires sides { AreBeside (length columns.now) sides.now }
     requires there { All (λ i. i < length sides.now) lines.now }
@@ -134,15 +135,15 @@ pub fn try_lines<L: Ledger>(
     ensures marked { AreMarked met.new broken.new.items }
     ensures room { vec_capacity broken.new ≡ vec_capacity broken.old }
     ensures tried { AreTried columns.now sides.now lines.now broken.old.items broken.new.items }
-    ensures free { result ≡ false
-        → AreFreeAmong columns.now sides.now lines.now broken.new.items }
+    ensures free { AreFreeBut columns.now sides.now lines.now (length lines.now) broken.new.items result }
     ensures steps { steps.new ≤ steps.old + length lines.now }
 {
-    let mut may_force = false;
-    for line in lines {
-        may_force |= try_line(columns, sides, *line, met, broken, steps);
+    let mut doubts = 0;
+    for place in 0..lines.len() {
+        let doubted = try_line(columns, sides, lines[place], met, broken, steps);
+        doubts = with_place(doubts, place, doubted);
     }
-    may_force
+    doubts
 }
 
 /// Some columns that agree with what is known of them draw the line's style.

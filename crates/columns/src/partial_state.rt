@@ -2,7 +2,6 @@
 
 ghost use Rattle.std.specs.Prelude.{◌≡◌, ◌<◌, ◌++◌, ◌∷◌, [], None, false};
 ghost use Rattle.columns.specs.Broken.{TellsBroken};
-ghost use Rattle.columns.specs.Free.{LeaveFree};
 ghost use Rattle.solid_model.specs.Decisions.{decided_by};
 
 use crate::beside::{beside_of, number_of_column};
@@ -46,6 +45,9 @@ pub struct PartialState<'p> {
     broken: Vec<u32>,
     /// For each decision how many lines couldn't be met before it.
     heights: Vec<usize>,
+    /// For each decision the places, among the lines that touch its block, of those that may force
+    /// something.
+    doubts: Vec<u64>,
 }
 
 impl<'p> Model for PartialState<'p> {
@@ -54,6 +56,7 @@ impl<'p> Model for PartialState<'p> {
 
     ghost Value = { PartialParts };
 
+    ghost use Rattle.columns.specs.Free.{AreDoubts};
     ghost use Rattle.columns.specs.KeptColumns.{IsKeptBy, AreValues};
 
     ghost view = { λ s. record { problem = s.problem.now; decisions = s.decisions.items } };
@@ -61,13 +64,15 @@ impl<'p> Model for PartialState<'p> {
     ghost invariant = { λ s. IsKeptBy s.problem.now s.decisions.items s.spans.items s.touched.items
         s.sides.items s.columns.items s.met.items s.heights.items s.broken.items
         (vec_capacity s.decisions) (vec_capacity s.heights) (vec_capacity s.broken)
-        × AreValues s.problem.now.blocks.count s.decisions.items s.values.items };
+        × AreValues s.problem.now.blocks.count s.decisions.items s.values.items
+        × AreDoubts s.problem.now s.decisions.items s.doubts.items (vec_capacity s.doubts) };
 }
 
 impl<'p> PartialState<'p> {
-    ghost use Rattle.std.specs.Prelude.{◌≡◌, ◌↔◌, ◌<◌, ◌≤◌, ◌+◌, ◌++◌, ◌∷◌, [], ℕ, pos, Some, None, false, length, slice_get, slice_index_or, IsTrue, IfSome, IfOk};
+    ghost use Rattle.std.specs.Prelude.{◌≡◌, ◌↔◌, ◌<◌, ◌≤◌, ◌+◌, ◌++◌, ◌∷◌, [], ℕ, pos, Some, None, false, length, take, slice_get, slice_index_or, IsTrue, IfSome, IfOk};
+    ghost use Rattle.solid_model.specs.declared.decision.Decision.{Decision};
     ghost use Rattle.solid_model.specs.Decisions.{decided_by, AreDecisions, AreOnAll};
-    ghost use Rattle.columns.specs.Free.{LeaveFree};
+    ghost use Rattle.columns.specs.Free.{LeaveFreeBut};
     ghost use Rattle.columns.specs.Packed.{ArePacked};
     ghost use Rattle.columns.specs.Touching.{lines_touching, touching, view_width, view_height, shown_cell};
     ghost use Rattle.columns.specs.Seen.{IsSeen};
@@ -87,6 +92,7 @@ impl<'p> PartialState<'p> {
         let count = usize::from(problem.blocks().count());
         let decisions = Vec::with_capacity(alloc, count)?;
         let heights = Vec::with_capacity(alloc, count)?;
+        let doubts = Vec::with_capacity(alloc, count)?;
         let values = no_values(alloc, count)?;
         let mut spans = empty_spans(alloc, count)?;
         let mut on = Vec::new(alloc);
@@ -115,6 +121,7 @@ impl<'p> PartialState<'p> {
             met,
             broken,
             heights,
+            doubts,
         })
     }
 
@@ -141,22 +148,19 @@ impl<'p> PartialState<'p> {
         self.touched[usize::from(block)].as_slice()[at as usize] as usize
     }
 
-    /// Decides a block that isn't decided. True: a line that touches it may force something. False:
-    /// each such line that can be met can be so with either value in each undecided cell beside it.
+    /// Decides a block that isn't decided.
     pub fn decide_counted<L: Ledger>(
         &mut self,
         block: u16,
         full: bool,
         steps: &mut Steps<L>,
-    ) -> bool
+    )
         requires there { block < self.old.problem.blocks.count }
         requires open { decided_by self.old.decisions block ≡ None }
         ensures decided { self.new ≡ record {
           problem = self.old.problem;
           decisions = self.old.decisions ++ record { block = block; full = full } ∷ [];
         } }
-        ensures free { result ≡ false
-            → LeaveFree self.old.problem (decided_by self.new.decisions) block }
         ensures steps { steps.new ≤ steps.old + touching self.old.problem block }
     {
         // A look at the problem tells that its blocks are those of its grid.
@@ -169,7 +173,7 @@ impl<'p> PartialState<'p> {
         );
         self.values[number] = Some(full);
         self.heights.push_reserved(self.broken.len());
-        let may_force = try_lines(
+        let doubts = try_lines(
             self.columns.as_slice(),
             self.sides.as_slice(),
             self.touched[number].as_slice(),
@@ -178,7 +182,7 @@ impl<'p> PartialState<'p> {
             steps,
         );
         self.decisions.push_reserved(Decision { block, full });
-        may_force
+        self.doubts.push_reserved(doubts);
     }
 
     /// Takes back the last decision. False: there is none.
@@ -198,6 +202,7 @@ impl<'p> PartialState<'p> {
                     None,
                 );
                 self.values[usize::from(last.block)] = None;
+                self.doubts.pop();
                 if let Some(height) = self.heights.pop() {
                     mend_lines(self.met.as_mut_slice(), &mut self.broken, height);
                 }
@@ -207,19 +212,16 @@ impl<'p> PartialState<'p> {
         }
     }
 
-    /// Decides a block that isn't decided. True: a line that touches it may force something. False:
-    /// each such line that can be met can be so with either value in each undecided cell beside it.
-    pub fn decide(&mut self, block: u16, full: bool) -> bool
+    /// Decides a block that isn't decided.
+    pub fn decide(&mut self, block: u16, full: bool)
         requires there { block < self.old.problem.blocks.count }
         requires open { decided_by self.old.decisions block ≡ None }
         ensures decided { self.new ≡ record {
           problem = self.old.problem;
           decisions = self.old.decisions ++ record { block = block; full = full } ∷ [];
         } }
-        ensures free { result ≡ false
-            → LeaveFree self.old.problem (decided_by self.new.decisions) block }
     {
-        decide_with::<Brand>(self, block, full, Blank::new(1))
+        decide_with::<Brand>(self, block, full, Blank::new(1));
     }
 
     /// The problem.
@@ -246,6 +248,17 @@ impl<'p> PartialState<'p> {
         let _grid = self.problem.grid();
         let _count = self.problem.blocks().count();
         self.decisions.len() as u16
+    }
+
+    /// The places, among the lines that touch the block of a decision, of those that may force something,
+    /// as it was when it was taken: each other one that could be met then could be so with either value
+    /// in each cell beside it that was undecided. `has_place` reads them.
+    pub fn doubts(&self, at: u16) -> u64
+        requires { at < length self.now.decisions }
+        ensures { (d : Decision) → slice_get self.now.decisions at ≡ Some d → LeaveFreeBut
+            self.now.problem (decided_by (take (at + 1) self.now.decisions)) d.block result }
+    {
+        self.doubts[usize::from(at)]
     }
 
     /// What is decided of a block.
@@ -349,7 +362,7 @@ impl<'p> PartialState<'p> {
 }
 
 /// Decides a block, and counts the steps in a ledger of its own.
-fn decide_with<L: Ledger>(state: &mut PartialState, block: u16, full: bool, blank: Blank) -> bool
+fn decide_with<L: Ledger>(state: &mut PartialState, block: u16, full: bool, blank: Blank)
     requires name { L.name ≡ blank.name }
     requires parts { L.parts ≡ blank.parts }
     requires some { 0 < blank.parts }
@@ -359,11 +372,9 @@ fn decide_with<L: Ledger>(state: &mut PartialState, block: u16, full: bool, blan
       problem = state.old.problem;
       decisions = state.old.decisions ++ record { block = block; full = full } ∷ [];
     } }
-    ensures free { result ≡ false
-        → LeaveFree state.old.problem (decided_by state.new.decisions) block }
 {
     let mut steps = Steps::<L>::new(blank);
-    state.decide_counted(block, full, &mut steps)
+    state.decide_counted(block, full, &mut steps);
 }
 
 /// The first line that can't be met.

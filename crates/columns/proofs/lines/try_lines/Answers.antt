@@ -1,33 +1,51 @@
 -- One line more.
-use Rattle.std.proofs.Common.{refl, subst, ◌∙◌, arith, rules}
-use Rattle.std.proofs.lemmas.List.{take_all}
-use Rattle.columns.specs.Lines.{AreFreeAmong}
+use Rattle.std.proofs.Common.{◌≡◌, ◌&&◌, ◌==◌, ◌%◌, Bool, true, false, refl, sym, subst, ◌∙◌, arith, rules}
+use Rattle.std.proofs.lemmas.Bool.{both_ways, eq-eqb}
+use Rattle.solid_model.specs.Bits.{is_set}
 use Rattle.columns.proofs.ValueBits.{clear_first, clear_second}
-use Rattle.columns.proofs.TriedLines.{none_tried, one_tried, one_free}
+use Rattle.columns.specs.Gathered.{no_side}
+use Rattle.columns.proofs.TriedLines.{none_tried, one_tried, one_free, not_before}
 use Rattle.columns.proofs.lines.try_lines.Goals as goal
 
-pub loop-line-init : goal.loop-line-init
-loop-line-init g c = record {
+-- what isn't told of a place is false
+untold : (told : Bool) {at : Bool} → at ≡ true → (told && at) ≡ false → told ≡ false
+untold true at off = absurd (both_ways _ off at)
+untold false at off = refl
+
+pub loop-place-init : goal.loop-place-init
+loop-place-init g c = record {
+  end = search rules;
   marked = search rules;
   count = search rules;
   room = search rules;
   tried = none_tried c.args.columns.now c.args.sides.now c.args.lines.now c.args.broken.now.items;
-  free = λ _ i d l some. absurd (omega arith);
+  free = λ place e d l. absurd (omega arith);
   steps = search rules;
 }
 
-pub loop-line-preserved : goal.loop-line-preserved
-loop-line-preserved g c = record {
-  marked = c.try_line-may_force.ensures.marked;
-  count = search rules;
-  room = c.try_line-may_force.ensures.room ∙ c.loop-line.invariant.room;
-  tried = one_tried c.args.columns.now c.args.sides.now c.args.lines.now c.args.broken.now.items c.loop-line.line-index _ 0 c.loop-line.broken.items c.try_line-may_force.new.broken.items
-      c.loop-line.invariant.tried (search rules) refl c.try_line-may_force.ensures.begins c.try_line-may_force.ensures.others c.try_line-may_force.ensures.tried;
-  free = λ none. one_free c.args.columns.now c.args.sides.now c.args.lines.now c.loop-line.line-index _ 0 c.loop-line.broken.items c.try_line-may_force.new.broken.items (search rules) refl c.try_line-may_force.ensures.others
-      (c.loop-line.invariant.free (clear_first c.loop-line.may_force c.try_line-may_force.result none)) (c.try_line-may_force.ensures.free (clear_second c.loop-line.may_force c.try_line-may_force.result none));
-  steps = (let a = c.loop-line.invariant.steps in let b = c.try_line-may_force.ensures.steps in omega arith);
-}
+pub loop-place-preserved : goal.loop-place-preserved
+loop-place-preserved g c =
+    let columns = c.args.columns.now in
+    let sides = c.args.sides.now in
+    let lines = c.args.lines.now in
+    let place = c.loop-place.place in
+    let now = c.try_line-doubted.new.broken.items in
+    let inv = c.loop-place.invariant in
+    let told = c.try_line-doubted.result in record {
+      end = inv.end;
+      marked = c.try_line-doubted.ensures.marked;
+      count = search rules;
+      room = c.try_line-doubted.ensures.room ∙ inv.room;
+      tried = one_tried columns sides lines c.args.broken.now.items place _ 0 c.loop-place.broken.items now
+          inv.tried (search rules) refl c.try_line-doubted.ensures.begins c.try_line-doubted.ensures.others c.try_line-doubted.ensures.tried;
+      free = one_free columns sides lines place _ 0 c.loop-place.broken.items now c.loop-place.doubts c.with_place-doubts.result refl (search rules)
+          (not_before columns sides _ c.loop-place.broken.items now c.try_line-doubted.ensures.others c.try_line-doubted.ensures.tried no_side)
+          (λ k off. clear_first (is_set c.loop-place.doubts k) (told && (place % 64 == k)) (sym (c.with_place-doubts.ensures k) ∙ off))
+          (λ off. c.try_line-doubted.ensures.free (untold told (eq-eqb (place % 64) (place % 64) refl)
+          (clear_second (is_set c.loop-place.doubts (place % 64)) (told && (place % 64 == place % 64)) (sym (c.with_place-doubts.ensures (place % 64)) ∙ off))))
+          inv.free;
+      steps = (let a = inv.steps in let b = c.try_line-doubted.ensures.steps in omega arith);
+    }
 
 pub returns-clause-free : goal.returns-clause-free
-returns-clause-free g c = λ none. subst (λ lines. AreFreeAmong c.args.columns.now c.args.sides.now lines c.loop-line.broken.items)
-    (take_all c.loop-line.line-index c.args.lines.now (search rules)) (c.loop-line.invariant.free none)
+returns-clause-free g c = λ place e d l. c.loop-place.invariant.free place e d (omega (arith, l, c.loop-place.invariant.end, c.loop-place-test.false))

@@ -1,14 +1,15 @@
 -- The lines so far are tried.
-use Rattle.std.proofs.Common.{◌≡◌, ◌≤◌, ◌+◌, false, length, take, vec_capacity}
-use Rattle.columns.specs.Lines.{AreMarked, AreTried, AreFreeAmong}
+use Rattle.std.proofs.Common.{◌≡◌, ◌≤◌, ◌+◌, length, take, vec_capacity}
+use Rattle.columns.specs.Lines.{AreMarked, AreTried, AreFreeBut}
 use Rattle.columns.proofs.lines.try_lines.Given as goal
 
-abbrev pub invariant-loop-line : goal.invariant-loop-line
-invariant-loop-line g l = record {
+abbrev pub invariant-loop-place : goal.invariant-loop-place
+invariant-loop-place g l = record {
+  end : l.place-end ≡ length l.lines;
   marked : AreMarked l.met l.broken.items;
   count : length l.met ≡ length l.fn.met;
   room : vec_capacity l.broken ≡ vec_capacity l.fn.broken;
-  tried : AreTried l.columns l.sides (take l.line-index l.lines) l.fn.broken.items l.broken.items;
-  free : l.may_force ≡ false → AreFreeAmong l.columns l.sides (take l.line-index l.lines) l.broken.items;
-  steps : l.steps ≤ l.fn.steps + l.line-index;
+  tried : AreTried l.columns l.sides (take l.place l.lines) l.fn.broken.items l.broken.items;
+  free : AreFreeBut l.columns l.sides l.lines l.place l.broken.items l.doubts;
+  steps : l.steps ≤ l.fn.steps + l.place;
 }

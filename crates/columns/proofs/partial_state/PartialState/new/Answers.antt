@@ -4,12 +4,14 @@ use Rattle.std.specs.Prelude.{All}
 use Rattle.std.proofs.lemmas.List.{take_at}
 use Rattle.columns.specs.declared.lines.Beside.{Beside}
 use Rattle.columns.specs.Gathered.{AreTouchedTo}
+use Rattle.columns.specs.Free.{AreDoubts}
 use Rattle.columns.specs.KeptColumns.{AreValues}
 use Rattle.solid_model.specs.declared.decision.Decision.{Decision}
 use Rattle.columns.specs.Touching.{lines_touching}
 use Rattle.columns.specs.Lines.{AreBrokenTo}
 use Rattle.columns.specs.Spans.{no_column, AreWithin}
 use Rattle.columns.proofs.Touching.{touched_exact}
+use Rattle.columns.proofs.ToldDoubts.{no_doubts}
 use Rattle.columns.proofs.Planned.{planned, planned_as, planned_columns, on_all}
 use Rattle.columns.proofs.partial_state.PartialState.new.Goals as goal
 
@@ -63,4 +65,7 @@ invariant_of-result c =
           c.in_ok-decisions.ensures.items all_spans all_touched c.in_ok-push.ensures.items all_met c.in_ok-heights.ensures.items
           (planned p c.grid-grid.ensures.kept spans columns on touched sides met broken _ _ _ c.in_ok-columns.ensures c.in_ok-sides.ensures.sides c.in_ok-sides.ensures.few listed exact met_count c.break_all.ensures.marked lost roomy tall wide),
       subst (λ (ds : List Decision). AreValues p.blocks.count ds c.in_ok-values.values.items) (sym c.in_ok-decisions.ensures.items) table,
+      subst (λ (ds : List Decision). AreDoubts p ds c.in_ok-doubts.doubts.items (vec_capacity c.in_ok-doubts.doubts)) (sym c.in_ok-decisions.ensures.items)
+          (subst (λ ms. AreDoubts p [] ms (vec_capacity c.in_ok-doubts.doubts)) (sym c.in_ok-doubts.ensures.items)
+          (no_doubts p (vec_capacity c.in_ok-doubts.doubts) (let a = c.in_ok-doubts.ensures.exact in omega (arith, a, size)))),
     )

@@ -1,12 +1,14 @@
 -- The block is free again, and the lines that it broke are mended.
-use Rattle.std.proofs.Common.{◌≡◌, ◌++◌, ◌∷◌, [], None, List, if◌then◌else◌, length, take, drop, get_or, set, vec_capacity, refl, ap, sym, subst, ◌∙◌}
-use Rattle.std.proofs.lemmas.List.{take_at}
+use Rattle.std.proofs.Common.{◌≡◌, ◌++◌, ◌∷◌, [], None, List, if◌then◌else◌, length, take, drop, get_or, set, vec_capacity, refl, ap, sym, subst, ◌∙◌, arith}
+use Rattle.std.proofs.lemmas.List.{take_at, length_push}
 use Rattle.solid_model.specs.declared.decision.Decision.{Decision}
 use Rattle.solid_model.specs.Decisions.{AreDecisions}
+use Rattle.columns.specs.Free.{AreDoubts}
 use Rattle.columns.specs.KeptColumns.{IsKeptBy, AreValues}
 use Rattle.columns.specs.Lines.{AreMarked}
 use Rattle.columns.specs.Spans.{is_on, known_there}
 use Rattle.columns.proofs.Deciding.{last_untaken, values_less}
+use Rattle.columns.proofs.ToldDoubts.{doubts_popped}
 use Rattle.columns.proofs.KeptState.{kept_less, seen_as}
 use Rattle.columns.proofs.partial_state.PartialState.undo.Goals as goal
 
@@ -26,8 +28,8 @@ invariant_of-self c =
     let all_columns : take self.columns.len (columns ++ drop (length columns) self.columns.items) ≡ columns = take_at columns _ self.columns.len (long ∙ sym (ap length was) ∙ c.as_mut_slice.ensures.len) in
     let all_met : take self.met.len (met ++ drop (length met) self.met.items) ≡ met = take_at met _ self.met.len (met_long ∙ sym (ap length met_was) ∙ c.as_mut_slice-in-Some-pop.ensures.len) in
     let kept = kept_less p c.grid-grid.ensures.kept self.spans.items self.touched.items self.sides.items c.pop.new.self.items last self.columns.items columns self.met.items met
-    c.pop-in-Some.new.self.items height self.broken.items (vec_capacity self.decisions) (vec_capacity self.heights) (vec_capacity self.broken) c.index.result.now
-    (subst (λ (ds : List Decision). IsKeptBy p ds self.spans.items self.touched.items self.sides.items self.columns.items self.met.items (c.pop-in-Some.new.self.items ++ height ∷ []) self.broken.items (vec_capacity self.decisions) (vec_capacity self.heights) (vec_capacity self.broken)) c.in-Some.ensures.items
+    c.pop-in-Some-2.new.self.items height self.broken.items (vec_capacity self.decisions) (vec_capacity self.heights) (vec_capacity self.broken) c.index.result.now
+    (subst (λ (ds : List Decision). IsKeptBy p ds self.spans.items self.touched.items self.sides.items self.columns.items self.met.items (c.pop-in-Some-2.new.self.items ++ height ∷ []) self.broken.items (vec_capacity self.decisions) (vec_capacity self.heights) (vec_capacity self.broken)) c.in-Some.ensures.items
     (subst (λ hs. IsKeptBy p self.decisions.items self.spans.items self.touched.items self.sides.items self.columns.items self.met.items hs self.broken.items (vec_capacity self.decisions) (vec_capacity self.heights) (vec_capacity self.broken)) c.in-Some-pop.ensures.items
     c.self.invariant.0))
     long c.set_spans.ensures.within
@@ -37,8 +39,12 @@ invariant_of-self c =
     let table : AreValues p.blocks.count c.pop.new.self.items (set self.values.items last.block None) =
     values_less p.blocks.count c.pop.new.self.items last self.values.items (taken c.pop.new.self.items [] last refl).0 (last_untaken p.blocks.count c.pop.new.self.items last taken)
     (subst (λ (ds : List Decision). AreValues p.blocks.count ds self.values.items) c.in-Some.ensures.items c.self.invariant.1) in (
-      seen_as p c.grid-grid.ensures.kept self.spans.items self.touched.items self.sides.items c.pop.new.self.items columns _ met _ c.pop-in-Some.new.self.items (take height self.broken.items) _
+      seen_as p c.grid-grid.ensures.kept self.spans.items self.touched.items self.sides.items c.pop.new.self.items columns _ met _ c.pop-in-Some-2.new.self.items (take height self.broken.items) _
           (vec_capacity self.decisions) _ (vec_capacity self.heights) _ (vec_capacity self.broken) _
           all_columns all_met c.mend_lines.ensures.broken c.in-Some.ensures.capacity c.in-Some-pop.ensures.capacity c.mend_lines.ensures.room kept,
       subst (λ n. AreValues p.blocks.count c.pop.new.self.items (set self.values.items n None)) (sym c.from-in-Some.ensures) table,
+      subst (λ n. AreDoubts p c.pop.new.self.items c.pop-in-Some.new.self.items n) (sym c.pop-in-Some.ensures.capacity)
+          (doubts_popped p c.pop.new.self.items last self.doubts.items c.pop-in-Some.new.self.items c.pop-in-Some.result (vec_capacity self.doubts) c.pop-in-Some.ensures.items
+          (c.pop-in-Some.ensures.variant.1 (let e = length_push c.pop.new.self.items last in let f = ap length c.in-Some.ensures.items in omega (arith, e, f, c.self.invariant.2.count, self.doubts.ok.0)))
+          (subst (λ (ds : List Decision). AreDoubts p ds self.doubts.items (vec_capacity self.doubts)) c.in-Some.ensures.items c.self.invariant.2)),
     )
