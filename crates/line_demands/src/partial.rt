@@ -33,11 +33,11 @@ impl<'p> Model for Partial<'p> {
 }
 
 impl<'p> Partial<'p> {
-    ghost use Rattle.std.specs.Prelude.{◌≡◌, ◌↔◌, ◌<◌, ◌≤◌, ◌+◌, ◌++◌, ◌∷◌, [], ℕ, pos, Some, None, false, length, slice_get, slice_index_or, IsTrue, IfSome, IfOk};
+    ghost use Rattle.std.specs.Prelude.{◌≡◌, ◌↔◌, ◌<◌, ◌≤◌, ◌+◌, ◌++◌, ◌∷◌, [], ℕ, pos, Some, None, false, length, take, slice_get, slice_index_or, IsTrue, IfSome, IfOk};
     ghost use Rattle.solid_model.specs.declared.decision.Decision.{Decision};
     ghost use Rattle.solid_model.specs.Decisions.{decided_by, AreDecisions, AreOnAll};
     ghost use Rattle.line_demands.specs.WholeChoices.{TellsMatching};
-    ghost use Rattle.columns.specs.Free.{LeaveFree};
+    ghost use Rattle.columns.specs.Free.{LeaveFreeBut};
     ghost use Rattle.columns.specs.Touching.{lines_touching, touching, view_width, view_height, shown_cell};
     ghost use Rattle.solid_model.specs.Known.{known_bits, LiesWithin};
     ghost use Rattle.columns.specs.Seen.{IsSeen};
@@ -66,39 +66,29 @@ impl<'p> Partial<'p> {
         })
     }
 
-    /// Decides a block that isn't decided. True: a line that touches it may force something. False:
-    /// each such line that can be met can be so with either value in each undecided cell beside it.
-    pub fn decide(&mut self, block: u16, full: bool) -> bool
+    /// Decides a block that isn't decided.
+    pub fn decide(&mut self, block: u16, full: bool)
         requires there { block < self.old.problem.blocks.count }
         requires open { decided_by self.old.decisions block ≡ None }
         ensures decided { self.new ≡ record {
           problem = self.old.problem;
           decisions = self.old.decisions ++ record { block = block; full = full } ∷ [];
         } }
-        ensures free { result ≡ false
-            → LeaveFree self.old.problem (decided_by self.new.decisions) block }
     {
-        self.state.decide(block, full)
+        self.state.decide(block, full);
     }
 
     /// The same, counting its steps: tries of a line.
-    pub fn decide_counted<L: Ledger>(
-        &mut self,
-        block: u16,
-        full: bool,
-        steps: &mut Steps<L>,
-    ) -> bool
+    pub fn decide_counted<L: Ledger>(&mut self, block: u16, full: bool, steps: &mut Steps<L>)
         requires there { block < self.old.problem.blocks.count }
         requires open { decided_by self.old.decisions block ≡ None }
         ensures decided { self.new ≡ record {
           problem = self.old.problem;
           decisions = self.old.decisions ++ record { block = block; full = full } ∷ [];
         } }
-        ensures free { result ≡ false
-            → LeaveFree self.old.problem (decided_by self.new.decisions) block }
         ensures steps { steps.new ≤ steps.old + touching self.old.problem block }
     {
-        self.state.decide_counted(block, full, steps)
+        self.state.decide_counted(block, full, steps);
     }
 
     /// Takes back the last decision. False: there is none.
@@ -132,6 +122,17 @@ impl<'p> Partial<'p> {
         ensures each { AreDecisions self.now.problem.blocks.count self.now.decisions }
     {
         self.state.decided()
+    }
+
+    /// The places, among the lines that touch the block of a decision, of those that may force something,
+    /// as it was when it was taken: each other one that could be met then could be so with either value
+    /// in each cell beside it that was undecided. `has_place` of `columns` reads them.
+    pub fn doubts(&self, at: u16) -> u64
+        requires { at < length self.now.decisions }
+        ensures { (d : Decision) → slice_get self.now.decisions at ≡ Some d → LeaveFreeBut
+            self.now.problem (decided_by (take (at + 1) self.now.decisions)) d.block result }
+    {
+        self.state.doubts(at)
     }
 
     /// What is decided of a block.

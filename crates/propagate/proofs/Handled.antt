@@ -1,14 +1,15 @@
 -- Lines that exclude nothing, or are still to be looked at.
-use Rattle.std.proofs.Common.{◌⊎◌, ◌≡◌, ◌==◌, Bool, true, false, ℕ, zero, suc, ◌<◌, ◌≤◌, ◌+◌, List, [], ◌∷◌, ◌++◌, length, drop, slice_get, ℤ, pos, negsuc, ◌-ℤ◌, Option, Some, None, IsTrue, if◌then◌else◌, ◌||◌, inl, inr, refl, ap, sym, subst, ◌∙◌, arith}
+use Rattle.std.proofs.Common.{◌⊎◌, ◌≡◌, ◌==◌, Bool, true, false, ℕ, zero, suc, ◌<◌, ◌≤◌, ◌+◌, List, [], ◌∷◌, ◌++◌, ◌%◌, length, take, drop, slice_get, ℤ, pos, negsuc, ◌-ℤ◌, Option, Some, None, IsTrue, if◌then◌else◌, ◌||◌, inl, inr, refl, ap, sym, subst, ◌∙◌, append_assoc, arith}
 use Rattle.std.specs.Prelude.{IfSome}
 use Rattle.std.specs.List.{range_with_len}
 use Rattle.std.proofs.lemmas.Bool.{eqb-true, eq-eqb, both_ways, cases_lt, or_left, or_right}
+use Rattle.std.proofs.lemmas.List.{append-nil, length-append, length-take-le, take-append-drop}
 use Rattle.std.proofs.lemmas.List.Folds.{list_any_at}
 use Rattle.std.proofs.lemmas.List.FromFn.{length-range_with_len, get_or-range_with_len}
-use Rattle.std.proofs.lemmas.Option.{none-some, same_Some}
-use Rattle.columns.specs.Free.{LeavesFree, LeaveFree}
+use Rattle.std.proofs.lemmas.Option.{none-some, same_Some, slice_get_within, get_or_from_slice_get}
+use Rattle.columns.specs.Free.{LeavesFree, LeaveFreeBut}
 use Rattle.columns.specs.Touching.{is_of, block_beside, touches, lines_touching}
-use Rattle.columns.proofs.AllLines.{lines_are_listed}
+use Rattle.columns.proofs.AllLines.{lines_are_listed, lines_are_there}
 use Rattle.columns.proofs.Gathering.{block_below}
 use Rattle.propagate.specs.Closing.{Awaits, IsHandled}
 use Rattle.propagate.specs.Forced.{ExcludesOpen, IsCalm}
@@ -18,13 +19,16 @@ use Rattle.solid_model.specs.declared.decision.Decision.{Decision}
 use Rattle.solid_model.specs.declared.line_id.LineId.{LineId}
 use Rattle.solid_model.specs.Blocks.{ProblemParts, IsBlocksOf, block_at}
 use Rattle.solid_model.specs.Columns.{ColumnsDraw}
-use Rattle.solid_model.specs.Decisions.{decided_by}
-use Rattle.solid_model.specs.Demands.{has_line, line_style, lines_of, known_in, known_cell, known_after, known_before, AgreesWith, AllMet}
-use Rattle.solid_model.specs.Forcing.{known_with, cell_beside}
+use Rattle.solid_model.specs.Bits.{is_set}
+use Rattle.solid_model.specs.Decisions.{decided_by, AreDecisions}
+use Rattle.solid_model.specs.Demands.{has_line, line_style, lines_of, known_in, known_cell, known_after, known_before, AgreesWith, AllMet, CanBeMet}
+use Rattle.solid_model.specs.Forcing.{known_with, cell_beside, IsLess}
 use Rattle.solid_model.specs.Frames.{frame_of}
 use Rattle.solid_model.specs.GridBox.{grid_sizes}
 use Rattle.solid_model.specs.Lists.{Member}
-use Rattle.solid_model.proofs.Lists.{member-filter}
+use Rattle.solid_model.proofs.Lists.{member-filter, member-from_filter}
+use Rattle.solid_model.proofs.ListPlaces.{member-at}
+use Rattle.solid_model.proofs.Lives.{less_with, met_less}
 
 -- ---- lines and decisions
 
@@ -128,14 +132,40 @@ module _ (p : ProblemParts) (blocks : IsBlocksOf p.grid p.blocks) (ds : List Dec
       by true e = inr (awaits_new from few l e)
       by false e = inl (calm_apart l e calm)
 
-  -- where the lines that touch the new decision's block leave the cells beside them free, no line excludes anything more
-  pub calm_on : LeaveFree p (decided_by (ds ++ d ∷ [])) d.block → AllMet p (decided_by (ds ++ d ∷ [])) → ((l : LineId) → IsTrue (has_line p.grid l) → IsCalm p (decided_by ds) l)
-      → (l : LineId) → IsTrue (has_line p.grid l) → IsCalm p (decided_by (ds ++ d ∷ [])) l
-  calm_on free met calm l has = by (touches p d.block l) refl
-    where
-      by : (b : Bool) → touches p d.block l ≡ b → IsCalm p (decided_by (ds ++ d ∷ [])) l
-      by true e = free_calm p blocks (decided_by (ds ++ d ∷ [])) l (free l (member-filter (touches p d.block) (lines_of p.grid) l (lines_are_listed p.grid l has) e) (met l has))
-      by false e = calm_apart l e (calm l has)
+-- ---- decisions since
+
+module _ (p : ProblemParts) (blocks : IsBlocksOf p.grid p.blocks) (l : LineId) where
+  -- a line stays handled,
+  handled_since : (from : ℕ) (ds more : List Decision) → AreDecisions p.blocks.count (ds ++ more) → from ≤ length ds → IsHandled p ds from l → IsHandled p (ds ++ more) from l
+  handled_since from ds [] each few handled = subst (λ (xs : List Decision). IsHandled p xs from l) (sym (append-nil ds)) handled
+  handled_since from ds (d ∷ more) each few handled =
+      let longer : (ds ++ d ∷ []) ++ more ≡ ds ++ d ∷ more = append_assoc ds (d ∷ []) more in
+      subst (λ (xs : List Decision). IsHandled p xs from l) longer
+      (handled_since from (ds ++ d ∷ []) more (subst (AreDecisions p.blocks.count) (sym longer) each) (omega (arith, length-append ds (d ∷ []), few))
+      (handled_on p blocks ds d (each ds more d refl).1 from few l handled))
+
+  -- and one that can be met could be before
+  met_since : (ds more : List Decision) → AreDecisions p.blocks.count (ds ++ more) → CanBeMet p (decided_by (ds ++ more)) l → CanBeMet p (decided_by ds) l
+  met_since ds [] each met = subst (λ (xs : List Decision). CanBeMet p (decided_by xs) l) (append-nil ds) met
+  met_since ds (d ∷ more) each met =
+      let longer : (ds ++ d ∷ []) ++ more ≡ ds ++ d ∷ more = append_assoc ds (d ∷ []) more in
+      let undecided = (each ds more d refl).1 in
+      met_less p (decided_by ds) (decided_by (ds ++ d ∷ [])) (subst (IsLess (decided_by ds)) (sym (decided_push ds d undecided)) (less_with (decided_by ds) d undecided)) l
+      (met_since (ds ++ d ∷ []) more (subst (AreDecisions p.blocks.count) (sym longer) each) (subst (λ (xs : List Decision). CanBeMet p (decided_by xs) l) (sym longer) met))
+
+  -- so a line of which it was told that it leaves the cells beside it free is handled beyond the decision
+  pub free_handled : (ds : List Decision) → AreDecisions p.blocks.count ds → AllMet p (decided_by ds) → (at : ℕ) (d : Decision) (doubts place : ℕ) → at < length ds
+      → LeaveFreeBut p (decided_by (take (at + 1) ds)) d.block doubts → slice_get (lines_touching p d.block) place ≡ Some l → is_set doubts (place % 64) ≡ false → IsHandled p ds (at + 1) l
+  free_handled ds each met at d doubts place within told there off =
+      let split : take (at + 1) ds ++ drop (at + 1) ds ≡ ds = take-append-drop (at + 1) ds in
+      let parts = subst (AreDecisions p.blocks.count) (sym split) each in
+      let listed : Member (lines_touching p d.block) l = subst (Member (lines_touching p d.block)) (get_or_from_slice_get (lines_touching p d.block) place l l there)
+      (member-at (lines_touching p d.block) place l (slice_get_within (lines_touching p d.block) place l there)) in
+      let can = met l (lines_are_there p.grid l (member-from_filter (touches p d.block) (lines_of p.grid) l listed).0) in
+      let could = met_since (take (at + 1) ds) (drop (at + 1) ds) parts (subst (λ (xs : List Decision). CanBeMet p (decided_by xs) l) (sym split) can) in
+      let calm = free_calm p blocks (decided_by (take (at + 1) ds)) l (told place l there off could) in
+      subst (λ (xs : List Decision). IsHandled p xs (at + 1) l) split
+      (handled_since (at + 1) (take (at + 1) ds) (drop (at + 1) ds) parts (omega (arith, length-take-le (at + 1) ds (omega (arith, within)))) (inl calm))
 
 -- ---- looking at lines one after another
 

@@ -9,6 +9,7 @@ ghost use Rattle.solid_model.specs.Decisions.{decided_by};
 ghost use Rattle.solid_model.specs.Demands.{has_line, lines_of, AllMet, IsFirstBroken};
 
 use crate::line::forced_by_line;
+use columns::has_place;
 use line_demands::Partial;
 use solid_model::LineId;
 
@@ -56,7 +57,8 @@ fn decided_block(partial: &Partial<'_>, at: u16) -> u16
     partial.decisions()[usize::from(at)].block
 }
 
-/// Looks at each line that touches the block of a decision, until one can't be met.
+/// Looks at each line that touches the block of a decision and may force something by what was told
+/// when it was taken, until a line can't be met.
 fn settle_touching(partial: &mut Partial<'_>, at: u16) -> Option<LineId>
     requires at { at < length partial.old.decisions }
     requires met { AllMet partial.old.problem (decided_by partial.old.decisions) }
@@ -68,8 +70,19 @@ fn settle_touching(partial: &mut Partial<'_>, at: u16) -> Option<LineId>
         → IsHandled partial.old.problem partial.old.decisions at l
         → IsHandled partial.old.problem partial.new.decisions (at + 1) l }
 {
+    // A look at the problem tells that its blocks are those of its grid.
+    let _grid = partial.problem().grid();
+    // A look at the decisions tells that no block is decided twice.
+    let _count = partial.decided();
     let block = decided_block(partial, at);
+    let doubts = partial.doubts(at);
+    if doubts == 0 {
+        return None;
+    }
     for place in 0..partial.touching(block) {
+        if !has_place(doubts, place as usize) {
+            continue;
+        }
         let number = partial.touched(block, place);
         if let Some(line) = settle_line(partial, number) {
             return Some(line);
@@ -142,8 +155,8 @@ pub fn close(partial: &mut Partial<'_>) -> Closed
 }
 
 /// Decides a block that isn't decided, and closes, where the lines exclude nothing before: only
-/// lines that touch a block decided since are looked at, and none where deciding tells that those
-/// which touch this one force nothing.
+/// lines that touch a block decided since are looked at, and of these only those which may force
+/// something.
 pub fn decide_closed(partial: &mut Partial<'_>, block: u16, full: bool) -> Closed
     requires there { block < partial.old.problem.blocks.count }
     requires open { decided_by partial.old.decisions block ≡ None }
@@ -160,12 +173,9 @@ pub fn decide_closed(partial: &mut Partial<'_>, block: u16, full: bool) -> Close
     // A look at the problem tells that its blocks are those of its grid.
     let _grid = partial.problem().grid();
     let from = partial.decided();
-    let may_force = partial.decide(block, full);
+    partial.decide(block, full);
     if let Some(line) = partial.broken_line() {
         return Closed::Conflict { line };
-    }
-    if !may_force {
-        return Closed::Stable;
     }
     match settle_from(partial, from) {
         Some(line) => Closed::Conflict { line },

@@ -1,9 +1,10 @@
 -- The lines that are still to be looked at are the later ones.
-use Rattle.std.proofs.Common.{◌≡◌, ◌⊎◌, ◌+◌, drop, IsTrue}
+use Rattle.std.proofs.Common.{◌≡◌, ◌⊎◌, ◌+◌, ◌%◌, false, ℕ, drop, slice_get, Some, IsTrue}
 use Rattle.columns.specs.Touching.{lines_touching, touching}
 use Rattle.propagate.specs.Closing.{IsHandled, Grows}
 use Rattle.propagate.proofs.closing.settle_touching.Given as goal
 use Rattle.solid_model.specs.declared.line_id.LineId.{LineId}
+use Rattle.solid_model.specs.Bits.{is_set}
 use Rattle.solid_model.specs.Decisions.{decided_by}
 use Rattle.solid_model.specs.Demands.{has_line, AllMet}
 use Rattle.solid_model.specs.Lists.{Member}
@@ -15,6 +16,7 @@ invariant-loop-place l =
       grows : Grows p l.fn.partial.decisions l.partial.decisions;
       met : AllMet p (decided_by l.partial.decisions);
       end : l.place-end ≡ touching p l.block;
+      free : (k : ℕ) (m : LineId) → slice_get (lines_touching p l.block) k ≡ Some m → is_set l.doubts (k % 64) ≡ false → IsHandled p l.partial.decisions (l.at + 1) m;
       left : (m : LineId) → IsTrue (has_line p.grid m) → IsHandled p l.fn.partial.decisions l.at m
           → IsHandled p l.partial.decisions (l.at + 1) m ⊎ Member (drop l.place (lines_touching p l.block)) m;
     }
