@@ -154,16 +154,17 @@ module _ (p : ProblemParts) (blocks : IsBlocksOf p.grid p.blocks) (l : LineId) w
       (met_since (ds ++ d ∷ []) more (subst (AreDecisions p.blocks.count) (sym longer) each) (subst (λ (xs : List Decision). CanBeMet p (decided_by xs) l) (sym longer) met))
 
   -- so a line of which it was told that it leaves the cells beside it free is handled beyond the decision
-  pub free_handled : (ds : List Decision) → AreDecisions p.blocks.count ds → AllMet p (decided_by ds) → (at : ℕ) (d : Decision) (doubts place : ℕ) → at < length ds
-      → LeaveFreeBut p (decided_by (take (at + 1) ds)) d.block doubts → slice_get (lines_touching p d.block) place ≡ Some l → is_set doubts (place % 64) ≡ false → IsHandled p ds (at + 1) l
-  free_handled ds each met at d doubts place within told there off =
+  pub free_handled : (ds : List Decision) → AreDecisions p.blocks.count ds → AllMet p (decided_by ds) → (at block doubts place : ℕ) → at < length ds
+      → (d : Decision) × (slice_get ds at ≡ Some d) × (d.block ≡ block) → ((d : Decision) → slice_get ds at ≡ Some d → LeaveFreeBut p (decided_by (take (at + 1) ds)) d.block doubts)
+      → slice_get (lines_touching p block) place ≡ Some l → is_set doubts (place % 64) ≡ false → IsHandled p ds (at + 1) l
+  free_handled ds each met at block doubts place within (d, taken, is) told there off =
       let split : take (at + 1) ds ++ drop (at + 1) ds ≡ ds = take-append-drop (at + 1) ds in
       let parts = subst (AreDecisions p.blocks.count) (sym split) each in
-      let listed : Member (lines_touching p d.block) l = subst (Member (lines_touching p d.block)) (get_or_from_slice_get (lines_touching p d.block) place l l there)
-      (member-at (lines_touching p d.block) place l (slice_get_within (lines_touching p d.block) place l there)) in
-      let can = met l (lines_are_there p.grid l (member-from_filter (touches p d.block) (lines_of p.grid) l listed).0) in
+      let listed : Member (lines_touching p block) l = subst (Member (lines_touching p block)) (get_or_from_slice_get (lines_touching p block) place l l there)
+      (member-at (lines_touching p block) place l (slice_get_within (lines_touching p block) place l there)) in
+      let can = met l (lines_are_there p.grid l (member-from_filter (touches p block) (lines_of p.grid) l listed).0) in
       let could = met_since (take (at + 1) ds) (drop (at + 1) ds) parts (subst (λ (xs : List Decision). CanBeMet p (decided_by xs) l) (sym split) can) in
-      let calm = free_calm p blocks (decided_by (take (at + 1) ds)) l (told place l there off could) in
+      let calm = free_calm p blocks (decided_by (take (at + 1) ds)) l (told d taken place l (subst (λ b. slice_get (lines_touching p b) place ≡ Some l) (sym is) there) off could) in
       subst (λ (xs : List Decision). IsHandled p xs (at + 1) l) split
       (handled_since (at + 1) (take (at + 1) ds) (drop (at + 1) ds) parts (omega (arith, length-take-le (at + 1) ds (omega (arith, within)))) (inl calm))
 

@@ -1,25 +1,44 @@
 -- One line more is looked at.
-use Rattle.std.proofs.Common.{◌≡◌, ◌⊎◌, ◌<◌, ◌≤◌, ◌+◌, inl, inr, length, get_or, slice_get, Some, refl, sym, subst, ◌∙◌, arith}
+use Rattle.std.proofs.Common.{◌%◌, ap, ◌≡◌, ◌⊎◌, ◌<◌, ◌≤◌, ◌+◌, inl, inr, length, get_or, slice_get, Some, refl, sym, subst, ◌∙◌, arith}
 use Rattle.columns.specs.Touching.{lines_touching, touching}
+use Rattle.columns.proofs.FreeBoth.{none_set}
+use Rattle.std.proofs.lemmas.Option.{slice_get-get_or}
 use Rattle.propagate.proofs.Steps.{no_line}
 use Rattle.propagate.specs.Closing.{IsHandled, Grows}
 use Rattle.propagate.proofs.Chains.{grows_self, grows_both, grows_length}
-use Rattle.propagate.proofs.Handled.{handled_past, left_after, none_left}
+use Rattle.propagate.proofs.Handled.{handled_past, left_after, none_left, free_handled}
 use Rattle.propagate.proofs.closing.settle_touching.Goals as goal
-use Rattle.solid_model.specs.Blocks.{ProblemParts}
+use Rattle.solid_model.specs.Blocks.{ProblemParts, IsBlocksOf}
 use Rattle.solid_model.specs.Decisions.{decided_by}
 use Rattle.solid_model.specs.Demands.{lines_of, AllMet, IsFirstBroken}
 use Rattle.solid_model.specs.Lists.{Member}
+use Rattle.solid_model.proofs.ListPlaces.{member-place}
+
+pub returns-then-doubts-eq0-clause-done : goal.returns-then-doubts-eq0-clause-done
+returns-then-doubts-eq0-clause-done c = λ _ m has h.
+    let p = c.args.partial.now.problem in
+    let old = c.args.partial.now.decisions in
+    let blocks = subst (λ (q : ProblemParts). IsBlocksOf q.grid q.blocks) c.problem.ensures c.grid-grid.ensures.kept in
+    let (d, there, is) = c.decided_block-block.ensures.decision in
+    elim (handled_past p old c.args.at d there m has h) as (λ _. IsHandled p old (c.args.at + 1) m) [
+      | inl handled ↦ handled
+      | inr touched ↦ (let (k, within, at) = member-place (lines_touching p d.block) m touched in
+          free_handled p blocks m old c.decided-count.ensures.each c.requires.met c.args.at d.block c.doubts-doubts.result k c.requires.at (d, there, refl) c.doubts-doubts.ensures
+          (slice_get-get_or (lines_touching p d.block) k m within ∙ ap Some (at m)) (none_set c.doubts-doubts.result c.if-doubts-eq0.true (k % 64)))
+    ]
 
 pub loop-place-init : goal.loop-place-init
 loop-place-init c =
     let p = c.args.partial.now.problem in
     let old = c.args.partial.now.decisions in
+    let blocks = subst (λ (q : ProblemParts). IsBlocksOf q.grid q.blocks) c.problem.ensures c.grid-grid.ensures.kept in
     let (d, there, is) = c.decided_block-block.ensures.decision in record {
       problem = refl;
       grows = grows_self p old;
       met = c.requires.met;
       end = c.touching-place-end.ensures;
+      free = λ k m at off. free_handled p blocks m old c.decided-count.ensures.each c.requires.met c.args.at c.decided_block-block.result c.doubts-doubts.result k c.requires.at
+          c.decided_block-block.ensures.decision c.doubts-doubts.ensures at off;
       left = λ m has h. subst (λ b. IsHandled p old (c.args.at + 1) m ⊎ Member (lines_touching p b) m) is (handled_past p old c.args.at d there m has h);
     }
 
@@ -45,6 +64,24 @@ returns-in-Some-clause-lost c =
     let new = c.settle_line.new.partial.decisions in
     subst (λ (q : ProblemParts). IsFirstBroken q (decided_by new) c.in-Some.line) c.loop-place.invariant.problem c.in-Some.ensures.lost
 
+pub loop-place-preserved-then-not-has_place : goal.loop-place-preserved-then-not-has_place
+loop-place-preserved-then-not-has_place c =
+    let p = c.args.partial.now.problem in
+    let now = c.loop-place.partial.decisions in
+    let inv = c.loop-place.invariant in
+    let lines = lines_touching p c.decided_block-block.result in
+    let place = c.loop-place.place in
+    let line = get_or lines place no_line in
+    let there = slice_get-get_or lines place no_line (omega (arith, inv.end, c.loop-place-test.true)) in record {
+      problem = inv.problem;
+      grows = inv.grows;
+      met = inv.met;
+      end = inv.end;
+      free = inv.free;
+      left = left_after p (λ m. IsHandled p c.args.partial.now.decisions c.args.at m) now now (c.args.at + 1) place lines line there inv.left (λ m h. h)
+          (inv.free place line there (sym c.has_place.ensures ∙ c.if-not-has_place.true));
+    }
+
 pub loop-place-preserved : goal.loop-place-preserved
 loop-place-preserved c =
     let p = c.args.partial.now.problem in
@@ -60,6 +97,8 @@ loop-place-preserved c =
       grows = grows_both p old now new inv.grows (subst (λ (q : ProblemParts). Grows q now new) inv.problem c.settle_line.ensures.grows);
       met = subst (λ (q : ProblemParts). AllMet q (decided_by new)) inv.problem (c.settle_line.ensures.met c.in_default.is);
       end = inv.end;
+      free = λ k m at off. subst (λ (q : ProblemParts). IsHandled q new (c.args.at + 1) m) inv.problem
+          (c.settle_line.ensures.kept (c.args.at + 1) few m (subst (λ (q : ProblemParts). IsHandled q now (c.args.at + 1) m) (sym inv.problem) (inv.free k m at off)));
       left = left_after p (λ m. IsHandled p old c.args.at m) now new (c.args.at + 1) c.loop-place.place (lines_touching p block) line
           (subst (λ (q : ProblemParts). slice_get (lines_touching q block) c.loop-place.place ≡ Some line) inv.problem (c.touched-number.ensures.line no_line)) inv.left
           (λ m h. subst (λ (q : ProblemParts). IsHandled q new (c.args.at + 1) m) inv.problem
