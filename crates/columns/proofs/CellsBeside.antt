@@ -1,5 +1,5 @@
 -- The blocks of the cells beside a line.
-use Rattle.std.proofs.Common.{◌≡◌, Bool, false, suc, if◌then◌else◌, ◌&&◌, ℕ, ◌<◌, ◌≤◌, ℤ, pos, Option, None, IsTrue, ap, sym, subst, ◌∙◌, arith}
+use Rattle.std.proofs.Common.{◌≡◌, Bool, false, suc, if◌then◌else◌, ◌&&◌, ℕ, ◌<◌, ◌≤◌, ℤ, pos, None, IsTrue, ap, sym, subst, ◌∙◌, arith}
 use Rattle.std.proofs.lemmas.Bool.{and_parts, and_right, ltb-true}
 use Rattle.columns.specs.declared.gather.ColumnPlace.{ColumnPlace}
 use Rattle.columns.specs.Gathered.{block_of_place}

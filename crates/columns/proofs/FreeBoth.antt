@@ -1,8 +1,7 @@
 -- Two columns that leave each other free: what one leaves the other, and the other way round.
-use Rattle.std.proofs.Common.{◌≡◌, ◌≢◌, ◌↔◌, inl, inr, ◌==◌, ◌&&◌, ◌||◌, Bool, true, false, not, ℕ, ◌<◌, ◌^◌, ℤ, pos, Option, None, bit_and, refl, ap, sym, subst, ◌∙◌}
+use Rattle.std.proofs.Common.{◌≡◌, ◌≢◌, ◌↔◌, inl, inr, ◌&&◌, ◌||◌, Bool, true, false, not, ℕ, ◌<◌, ◌^◌, ℤ, pos, Option, None, bit_and, ap, sym, subst, ◌∙◌}
 use Rattle.std.proofs.lemmas.Bool.{cases_Bool, both_ways, and_parts, and_from, not-true, not_from_false}
 use Rattle.std.proofs.lemmas.Nat.{and_comm}
-use Rattle.std.proofs.lemmas.Nat.Bits.{bit_at-zero}
 use Rattle.std.proofs.Math.Bool.{or_comm}
 use Rattle.columns.specs.Doubted.{AreFreeBut, CanDrawEmpty}
 use Rattle.columns.proofs.FreeBehind.{free_of_two, free_of_one}
@@ -12,21 +11,6 @@ use Rattle.solid_model.specs.Bits.{is_set, near}
 use Rattle.solid_model.specs.Demands.{AgreesWith, CanDraw}
 use Rattle.solid_model.specs.Known.{known_bits, LiesWithin}
 use Rattle.solid_model.proofs.KnownColumns.{Fits, fits_to, fits_from}
-use Rattle.solid_model.proofs.WordBits.{set_both}
-
--- ---- bits of none
-
--- no bit is set in 0,
-pub none_set : (n : ℕ) → n ≡ 0 → (k : ℕ) → is_set n k ≡ false
-none_set n none k = ap (λ m. is_set m k) none ∙ ap (λ bit. bit == 1) (bit_at-zero k)
-
--- so one that is set in one of two numbers that share none isn't in the other
-pub other_clear : (n cells : ℕ) → bit_and n cells ≡ 0 → (k : ℕ) → is_set cells k ≡ true → is_set n k ≡ false
-other_clear n cells none k set = by (is_set n k) (is_set cells k) set (sym (set_both n cells k) ∙ none_set (bit_and n cells) none k)
-  where
-    by : (x y : Bool) → y ≡ true → (x && y) ≡ false → x ≡ false
-    by true y e off = absurd (both_ways y off e)
-    by false y e off = refl
 
 -- ---- columns some of whose cells are empty
 

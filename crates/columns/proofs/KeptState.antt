@@ -21,7 +21,6 @@ use Rattle.columns.specs.Gathered.{no_side}
 use Rattle.columns.specs.Seen.{IsSeen}
 use Rattle.columns.specs.Touching.{touches, lines_touching, touching}
 use Rattle.columns.proofs.Deciding.{one_taken, one_untaken, last_untaken}
-use Rattle.columns.proofs.Gathering.{times_at}
 use Rattle.columns.proofs.AllLines.{lines_are_there}
 use Rattle.columns.proofs.KeptColumns.{known_more, known_less, columns_set, column_known, broken_more, side_met}
 use Rattle.columns.proofs.LeastBroken.{none_broken, some_broken}
@@ -32,8 +31,7 @@ use Rattle.solid_model.specs.Blocks.{ProblemParts, IsBlocksOf}
 use Rattle.solid_model.specs.Demands.{lines_of, line_style, CanBeMet}
 use Rattle.solid_model.specs.Lists.{Member}
 use Rattle.solid_model.specs.Panels.{GridParts}
-use Rattle.solid_model.proofs.ListPlaces.{member-at, member-place}
-use Rattle.solid_model.proofs.Lists.{member-from_map}
+use Rattle.solid_model.proofs.ListPlaces.{member-at}
 use Rattle.solid_model.specs.PerAxis.{numbers_of}
 use Rattle.solid_model.specs.GridBox.{grid_sizes, axis_along}
 

@@ -1,11 +1,11 @@
 -- A number without its lowest bit.
-use Rattle.std.proofs.Common.{◌≡◌, ◌≢◌, ◌↔◌, inl, inr, Bool, true, false, not, ◌&&◌, ◌||◌, ℕ, ◌<◌, ◌^◌, ◌==◌, bit_or, refl, ap, sym, ◌∙◌, arith}
+use Rattle.std.proofs.Common.{◌≡◌, ◌≢◌, ◌↔◌, inl, inr, Bool, true, false, not, ◌&&◌, ◌||◌, ℕ, ◌<◌, ◌^◌, ◌==◌, bit_and, bit_or, refl, ap, sym, ◌∙◌, arith}
 use Rattle.std.proofs.lemmas.Bool.{cases_Bool, cases_lt, both_ways, and_parts, and_from, not-true, not_from_false}
 use Rattle.std.proofs.lemmas.Nat.Bits.{bit_at_above, bit_at-zero}
 use Rattle.solid_model.specs.Bits.{is_set, near}
 use Rattle.solid_model.proofs.NearBits.{near_to, near_from}
 use Rattle.solid_model.proofs.FirstBits.{zero_or_more}
-use Rattle.solid_model.proofs.WordBits.{zeros, set_either, zeros_of_none, not_zero, lowest_set, below_lowest, lowest_at_most}
+use Rattle.solid_model.proofs.WordBits.{zeros, set_both, set_either, zeros_of_none, not_zero, lowest_set, below_lowest, lowest_at_most}
 
 module _ (n : ℕ) (fits : n < 2 ^ 64) where
   pub set_within : (k : ℕ) → is_set n k ≡ true → k < 64
@@ -62,9 +62,21 @@ module _ (n rest : ℕ) (fits : n < 2 ^ 64) (fits_too : rest < 2 ^ 64) (some : n
     | inr near ↦ (let low = lowest_at_most n fits k set in omega arith)
   ]
 
--- ---- of two numbers
+-- ---- bits of none
 
--- a bit that isn't set in either is set in neither
+-- no bit is set in 0,
+pub none_set : (n : ℕ) → n ≡ 0 → (k : ℕ) → is_set n k ≡ false
+none_set n none k = ap (λ m. is_set m k) none ∙ ap (λ bit. bit == 1) (bit_at-zero k)
+
+-- so one that is set in one of two numbers that share none isn't in the other
+pub other_clear : (n cells : ℕ) → bit_and n cells ≡ 0 → (k : ℕ) → is_set cells k ≡ true → is_set n k ≡ false
+other_clear n cells none k set = by (is_set n k) (is_set cells k) set (sym (set_both n cells k) ∙ none_set (bit_and n cells) none k)
+  where
+    by : (x y : Bool) → y ≡ true → (x && y) ≡ false → x ≡ false
+    by true y e off = absurd (both_ways y off e)
+    by false y e off = refl
+
+-- a bit that isn't set in either of two numbers is set in neither,
 pub clear_of_either : (a b k : ℕ) → is_set (bit_or a b) k ≡ false → (is_set a k ≡ false) × (is_set b k ≡ false)
 clear_of_either a b k clear = by (is_set a k) (is_set b k) (sym (set_either a b k) ∙ clear)
   where
@@ -72,6 +84,6 @@ clear_of_either a b k clear = by (is_set a k) (is_set b k) (sym (set_either a b 
     by true y off = absurd (both_ways true off refl)
     by false y off = (refl, off)
 
--- where no bit of either is set, none of each is
+-- and none is where together they have none
 pub none_of_either : (a b : ℕ) → bit_or a b ≡ 0 → (k : ℕ) → (is_set a k ≡ false) × (is_set b k ≡ false)
-none_of_either a b none k = clear_of_either a b k (ap (λ n. is_set n k) none ∙ ap (λ n. n == 1) (bit_at-zero k))
+none_of_either a b none k = clear_of_either a b k (none_set (bit_or a b) none k)

@@ -1,5 +1,5 @@
 -- The lines that are listed with a block are those that touch it.
-use Rattle.std.proofs.Common.{◌≡◌, inl, inr, Bool, true, false, if◌then◌else◌, ◌&&◌, ◌||◌, ◌==◌, ℕ, suc, ◌+◌, ◌<◌, ℤ, pos, ◌-ℤ◌, List, [], ◌∷◌, ◌++◌, length, map, get_or, None, refl, ap, ap₂, sym, subst, ◌∙◌, arith}
+use Rattle.std.proofs.Common.{◌≡◌, inl, inr, Bool, true, false, if◌then◌else◌, ◌||◌, ◌==◌, ℕ, suc, ◌+◌, ◌<◌, ℤ, pos, ◌-ℤ◌, List, [], ◌∷◌, ◌++◌, length, map, get_or, refl, ap, ap₂, sym, subst, ◌∙◌, arith}
 use Rattle.std.specs.List.{list_any, filter, range_with_len}
 use Rattle.std.proofs.lemmas.Bool.{cases_Bool, cases_lt, and_right, and_left, le-ltb, false≢true, both_ways}
 use Rattle.std.proofs.lemmas.List.{get_or_append_left, get_or_default}
@@ -24,8 +24,7 @@ use Rattle.solid_model.specs.declared.line_id.LineId.{LineId}
 use Rattle.solid_model.specs.Blocks.{ProblemParts, IsBlocksOf, block_at}
 use Rattle.solid_model.specs.Demands.{box_cell_in}
 use Rattle.solid_model.specs.Frames.{frame_of}
-use Rattle.solid_model.specs.PerAxis.{numbers_of}
-use Rattle.solid_model.specs.Rooms.{is_within, is_below, number_at}
+use Rattle.solid_model.specs.Rooms.{is_below}
 use Rattle.solid_model.specs.GridBox.{grid_sizes, axis_along, axis_across}
 
 -- ---- lists

@@ -149,12 +149,7 @@ impl<'p> PartialState<'p> {
     }
 
     /// Decides a block that isn't decided.
-    pub fn decide_counted<L: Ledger>(
-        &mut self,
-        block: u16,
-        full: bool,
-        steps: &mut Steps<L>,
-    )
+    pub fn decide_counted<L: Ledger>(&mut self, block: u16, full: bool, steps: &mut Steps<L>)
         requires there { block < self.old.problem.blocks.count }
         requires open { decided_by self.old.decisions block ≡ None }
         ensures decided { self.new ≡ record {

@@ -1,9 +1,8 @@
 -- Style by style; of columns that draw Dashed first the cells down to the first depth at which both may be full, then the others.
-use Rattle.std.proofs.Common.{◌≡◌, inl, inr, bit_and, sym, subst}
+use Rattle.std.proofs.Common.{inl, inr, bit_and, sym, subst}
 use Rattle.std.proofs.lemmas.Bool.{cases_Bool}
-use Rattle.columns.specs.Doubted.{CanDrawWith, AreFree, IsFree, IsFreeAt, IsFreeBut}
+use Rattle.columns.specs.Doubted.{CanDrawWith, AreFree}
 use Rattle.columns.proofs.free.are_free.Goals as goal
-use Rattle.solid_model.specs.declared.segment.Style.{Style}
 use Rattle.solid_model.specs.declared.segment.Style.TheVariants.{Dashed}
 use Rattle.solid_model.specs.Bits.{is_set, near}
 use Rattle.solid_model.specs.Known.{known_bits}

@@ -1,5 +1,5 @@
 -- Beside a column that can begin at two depths, or at a certain one at which the other doesn't have to.
-use Rattle.std.proofs.Common.{◌≡◌, ◌≢◌, ◌==◌, inl, inr, ℕ, ◌<◌, ◌^◌, rules, sym, ◌∙◌}
+use Rattle.std.proofs.Common.{◌≢◌, ◌==◌, inl, inr, ℕ, ◌<◌, ◌^◌, rules, sym, ◌∙◌}
 use Rattle.std.proofs.lemmas.Bool.{cases_Bool, eqb-true, eqb-false, not-true}
 use Rattle.columns.specs.Doubted.{CanDrawWith, IsFree}
 use Rattle.columns.proofs.FreeApart.{free_beside, free_off}

@@ -1,10 +1,11 @@
 -- They can differ at two depths farther away, or no cell at such a depth is undecided in one of them alone.
-use Rattle.std.proofs.Common.{◌≡◌, ◌<◌, ◌^◌, ◌==◌, ◌&&◌, ◌||◌, true, not, ℕ, bit_and, bit_or, rules, ap, sym, ◌∙◌}
+use Rattle.std.proofs.Common.{◌≡◌, ◌&&◌, ◌||◌, true, not, ℕ, bit_and, bit_or, rules, ap, sym, ◌∙◌}
 use Rattle.std.specs.Int.Bits.{and_lt}
 use Rattle.std.proofs.lemmas.Bool.{eqb-true, and_parts, and_from, or_left, or_right}
 use Rattle.solid_model.specs.Bits.{is_set}
 use Rattle.solid_model.proofs.WordBits.{set_both, set_either}
-use Rattle.columns.proofs.FreeBoth.{none_set, both_of_two, both_of_one}
+use Rattle.columns.proofs.FreeBoth.{both_of_two, both_of_one}
+use Rattle.columns.proofs.LowestLeft.{none_set}
 use Rattle.columns.proofs.ValueBits.{open_from, open_to, shared_bit}
 use Rattle.columns.proofs.free.are_free_beyond.Goals as goal
 

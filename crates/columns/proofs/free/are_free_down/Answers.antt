@@ -1,5 +1,5 @@
 -- No cell down to the first depth at which both may be full is undecided, or those at that depth alone are.
-use Rattle.std.proofs.Common.{◌≡◌, ◌&&◌, ◌||◌, ◌<◌, ◌^◌, true, false, not, ℕ, pos, None, bit_and, bit_or, rules, ap, sym, subst, ◌∙◌}
+use Rattle.std.proofs.Common.{◌≡◌, ◌||◌, ◌<◌, ◌^◌, true, false, ℕ, bit_and, bit_or, rules, ap, sym, subst, ◌∙◌}
 use Rattle.std.specs.Int.Bits.{and_lt}
 use Rattle.std.proofs.lemmas.Bool.{both_ways, and_from, or_left, or_right}
 use Rattle.std.proofs.lemmas.Nat.{and_comm}
@@ -9,8 +9,8 @@ use Rattle.solid_model.specs.Known.{known_bits}
 use Rattle.solid_model.proofs.WordBits.{set_both, set_either}
 use Rattle.columns.specs.Doubted.{CanDrawEmpty}
 use Rattle.columns.proofs.FreeBehind.{free_first}
-use Rattle.columns.proofs.FreeBoth.{none_set, other_clear, empty_back}
-use Rattle.columns.proofs.LowestLeft.{clear_of_either}
+use Rattle.columns.proofs.FreeBoth.{empty_back}
+use Rattle.columns.proofs.LowestLeft.{clear_of_either, none_set, other_clear}
 use Rattle.columns.proofs.SeenCells.{draws_back}
 use Rattle.columns.proofs.ValueBits.{open_to, shared_bit}
 use Rattle.columns.proofs.free.are_free_down.Goals as goal

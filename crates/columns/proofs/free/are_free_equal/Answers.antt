@@ -1,5 +1,5 @@
 -- A cell that is undecided in one is undecided in the other.
-use Rattle.std.proofs.Common.{◌==◌, ap, sym, ◌∙◌}
+use Rattle.std.proofs.Common.{ap, sym, ◌∙◌}
 use Rattle.std.proofs.lemmas.Bool.{eqb-true}
 use Rattle.solid_model.specs.declared.segment.Style.TheVariants.{Blank}
 use Rattle.solid_model.specs.Bits.{is_set}

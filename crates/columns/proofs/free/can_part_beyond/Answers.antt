@@ -1,7 +1,7 @@
 -- No cell at these depths is full for certain, and the columns can draw Dashed without them.
 use Rattle.std.proofs.Common.{bit_or}
-use Rattle.columns.proofs.FreeBoth.{emptied_agrees, other_clear}
-use Rattle.columns.proofs.LowestLeft.{clear_of_either}
+use Rattle.columns.proofs.FreeBoth.{emptied_agrees}
+use Rattle.columns.proofs.LowestLeft.{clear_of_either, other_clear}
 use Rattle.columns.proofs.free.can_part_beyond.Goals as goal
 
 pub returns-then-after-before-eq0 : goal.returns-then-after-before-eq0

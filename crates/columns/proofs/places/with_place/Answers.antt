@@ -4,7 +4,7 @@ use Rattle.std.proofs.lemmas.Bool.{cases_Bool, eqb-true, eqb-false, or_right}
 use Rattle.std.proofs.lemmas.Nat.Bits.{bit_at_set_same, bit_at_set_other}
 use Rattle.solid_model.specs.Bits.{is_set}
 use Rattle.solid_model.proofs.WordBits.{set_either}
-use Rattle.columns.proofs.FreeBoth.{none_set}
+use Rattle.columns.proofs.LowestLeft.{none_set}
 use Rattle.columns.proofs.ValueBits.{bit}
 use Rattle.columns.proofs.places.with_place.Goals as goal
 

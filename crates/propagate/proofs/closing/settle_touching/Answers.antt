@@ -1,7 +1,7 @@
 -- One line more is looked at.
 use Rattle.std.proofs.Common.{◌%◌, ap, ◌≡◌, ◌⊎◌, ◌<◌, ◌≤◌, ◌+◌, inl, inr, length, get_or, slice_get, Some, refl, sym, subst, ◌∙◌, arith}
 use Rattle.columns.specs.Touching.{lines_touching, touching}
-use Rattle.columns.proofs.FreeBoth.{none_set}
+use Rattle.columns.proofs.LowestLeft.{none_set}
 use Rattle.std.proofs.lemmas.Option.{slice_get-get_or}
 use Rattle.propagate.proofs.Steps.{no_line}
 use Rattle.propagate.specs.Closing.{IsHandled, Grows}

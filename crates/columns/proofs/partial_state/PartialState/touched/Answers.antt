@@ -3,7 +3,7 @@ use Rattle.std.proofs.Common.{◌≡◌, ◌<◌, List, ℕ, Some, length, get_o
 use Rattle.solid_model.specs.Decisions.{PartialParts}
 use Rattle.solid_model.specs.Demands.{lines_of}
 use Rattle.columns.specs.Touching.{lines_touching, touching}
-use Rattle.columns.proofs.KeptState.{touched_count, touched_there, touched_line}
+use Rattle.columns.proofs.KeptState.{touched_count, touched_line}
 use Rattle.columns.proofs.partial_state.PartialState.touched.Goals as goal
 
 pub bounds-as_slice-at : goal.bounds-as_slice-at
