@@ -14,5 +14,9 @@ pub fn has_place(places: u64, place: usize) -> bool
 pub fn with_place(places: u64, place: usize, told: bool) -> u64
     ensures { (k : ℕ) → is_set result k ≡ (is_set places k || (told && (place % 64 == k))) }
 {
-    places | u64::from(told) << (place % 64)
+    if told {
+        places | 1 << (place % 64)
+    } else {
+        places
+    }
 }

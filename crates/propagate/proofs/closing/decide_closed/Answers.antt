@@ -9,8 +9,8 @@ use Rattle.propagate.proofs.closing.decide_closed.Goals as goal
 use Rattle.solid_model.specs.declared.decision.Decision.{Decision}
 use Rattle.solid_model.specs.declared.line_id.LineId.{LineId}
 use Rattle.solid_model.specs.Blocks.{ProblemParts, IsBlocksOf}
-use Rattle.solid_model.specs.Decisions.{decided_by, PartialParts}
-use Rattle.solid_model.specs.Demands.{has_line, AllMet}
+use Rattle.solid_model.specs.Decisions.{PartialParts}
+use Rattle.solid_model.specs.Demands.{has_line}
 
 -- what closing tells where the decision is taken
 as_taken : (taken was : PartialParts) → taken ≡ was → (new : List Decision) (closed : Closed) → TellsClosed taken.problem taken.decisions new closed → TellsClosed was.problem was.decisions new closed

@@ -1,5 +1,5 @@
 -- The state is seen as the partial is.
-use Rattle.std.proofs.Common.{◌≡◌, ◌+◌, take, slice_get, Some, sym, subst}
+use Rattle.std.proofs.Common.{◌≡◌, ◌+◌, take, slice_get, Some, subst}
 use Rattle.columns.specs.Free.{LeaveFreeBut}
 use Rattle.line_demands.proofs.partial.Partial.doubts.Goals as goal
 use Rattle.solid_model.specs.declared.decision.Decision.{Decision}
