@@ -1,7 +1,7 @@
 -- The way stays at the prefix that was asked.
 use Rattle.std.proofs.Common.{sym, ◌∙◌, ap}
 use Rattle.search_tests.specs.Words.{is_let}
-use Rattle.search_tests.proofs.trees.told_walk.Goals as goal
+use Rattle.search_tests.proofs.trees.push_walk.Goals as goal
 
 pub go_on-requires-clause-live : goal.go_on-requires-clause-live
 go_on-requires-clause-live c =

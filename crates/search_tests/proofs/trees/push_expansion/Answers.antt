@@ -1,7 +1,7 @@
 -- The way stays at the prefix that was asked.
 use Rattle.std.proofs.Common.{sym, ◌∙◌, ap}
 use Rattle.search_tests.specs.Words.{is_let}
-use Rattle.search_tests.proofs.trees.told_expansion.Goals as goal
+use Rattle.search_tests.proofs.trees.push_expansion.Goals as goal
 
 pub expand_path-requires-clause-live : goal.expand_path-requires-clause-live
 expand_path-requires-clause-live c =
