@@ -20,29 +20,35 @@ rect S 0 0 3 3, rect D 1 1 2 2; rect S 0 0 3 3, rect D 1 1 2 2; rect S 0 0 3 3, 
 rect S 0 0 2 1, line S 1 0 1 1; rect S 0 0 1 1, rect S 1 1 2 2; rect S 0 0 2 1, line S 1 0 1 1; \
     11 -> 170 solid recon|";
 
-/// How the text of a row's solid is written to a sink whose calls fail so.
-fn written(
-    alloc: Global,
-    row: Row<'_>,
-    fail: Vec<(u32, usize)>,
-) -> Result<(MemSink, Result<(), SinkError>), Fail> {
+/// How the text of a row's solid is written to a sink.
+fn written(alloc: Global, row: Row<'_>, sink: &mut MemSink) -> Result<&'static str, Fail> {
     let [_, _, _, full, _] = row.parts;
     let problem = problem_at(alloc, row.views())?;
-    let mut sink = MemSink::new(fail);
-    let end = write_stl(alloc, &problem, &choice_of(alloc, full)?, &mut sink);
-    Ok((sink, end))
+    let choice = choice_of(alloc, full)?;
+    Ok(match write_stl(alloc, &problem, &choice, sink) {
+        Ok(()) => "written",
+        Err(SinkError::Failed) => "failed",
+        Err(SinkError::Memory) => "memory",
+    })
 }
 
-/// How many lines a text has, whether it ends as it should, and its beginning, as a row has them.
-fn told_text(alloc: Global, row: Row<'_>) -> Result<String, Fail> {
-    let (sink, _) = written(alloc, row, Vec::new(alloc))?;
-    let text = String::from_utf8_lossy(alloc, sink.bytes())?;
-    let lines = text.as_str().lines().count();
-    let (_, first) = row.wanted.split_once(' ').unwrap_or(("", ""));
-    let begun = text.as_str().replace(alloc, "\n", "|")?;
+/// How many lines a text has; and what it begins with, if that is this beginning and it ends as it
+/// should, else the text.
+fn told_lines(alloc: Global, text: &str, first: &str) -> Result<String, Fail> {
+    let lines = text.lines().count();
+    let begun = text.replace(alloc, "\n", "|")?;
     let is_right = begun.as_str().starts_with(first)
         && begun.as_str().ends_with("|endsolid recon|");
     Ok(format!(in alloc; "{lines} {}", if is_right { first } else { begun.as_str() })?)
+}
+
+/// How many lines the text of a row's solid has, and its beginning, as the row has them.
+fn told_text(alloc: Global, row: Row<'_>) -> Result<String, Fail> {
+    let mut sink = MemSink::new(Vec::new(alloc));
+    written(alloc, row, &mut sink)?;
+    let text = std::str::from_utf8(sink.bytes()).unwrap_or("no text");
+    let (_, first) = row.wanted.split_once(' ').unwrap_or(("", ""));
+    told_lines(alloc, text, first)
 }
 
 #[test]
@@ -66,14 +72,9 @@ lattice 4 4; lattice 4 4; lattice 4 4; \
 /// How a row's text is written where a call fails after 5 bytes, as the row has it.
 fn told_failure(alloc: Global, row: Row<'_>) -> Result<String, Fail> {
     let [_, _, _, _, call] = row.parts;
-    let mut fail = Vec::new(alloc);
-    fail.push((if call == "1" { 1 } else { 2 }, 5))?;
-    let (sink, end) = written(alloc, row, fail)?;
-    let end = match end {
-        Ok(()) => "written",
-        Err(SinkError::Failed) => "failed",
-        Err(SinkError::Memory) => "memory",
-    };
+    let call: u32 = call.parse().unwrap_or(0);
+    let mut sink = MemSink::new(vec![in alloc; (call, 5usize)]?);
+    let end = written(alloc, row, &mut sink)?;
     Ok(format!(in alloc; "{end} {}", sink.bytes().len())?)
 }
 

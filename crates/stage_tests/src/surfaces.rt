@@ -1,7 +1,8 @@
 //! Solids whose triangles were found by hand.
 
-use recon_run::problem_of;
-use solid_model::{Cell, Choice, Memory, Out, Problem};
+use crate::face_lists::side_name;
+use file_problem::problem_of;
+use solid_model::{Cell, Choice, Problem};
 use std::alloc::Global;
 use std::fmt::Write;
 use std::test::Fail;
@@ -35,7 +36,7 @@ const TOUCHING: [&str; 3] = [
 /// The problem of a drawing.
 pub fn problem_at(alloc: Global, views: [&str; 3]) -> Result<Problem, Fail> {
     let file = file_bytes(drawing_file(alloc, views)?)?;
-    problem_of(alloc, file, 0).map_err(|_| Fail::new("refused"))
+    Ok(problem_of(alloc, file, 0)?)
 }
 
 /// The choice in which the blocks are full that a 1 stands for.
@@ -44,54 +45,56 @@ pub fn choice_of(alloc: Global, told: &str) -> Result<Choice, Fail> {
     for byte in told.bytes() {
         full.push(byte == b'1')?;
     }
-    Choice::from_bools(alloc, &full).map_err(|_| Fail::new("memory"))
+    Ok(Choice::from_bools(alloc, full.as_slice())?)
 }
 
-/// The name of an outward side.
-fn side_name(out: Out) -> &'static str {
-    match out {
-        Out::MinusX => "-x",
-        Out::PlusX => "+x",
-        Out::MinusY => "-y",
-        Out::PlusY => "+y",
-        Out::MinusZ => "-z",
-        Out::PlusZ => "+z",
-    }
+/// Adds a corner, a digit a coordinate.
+fn push_corner(told: &mut String, corner: Cell) -> Result<(), Fail> {
+    let Cell { x, y, z } = corner;
+    Ok(write!(told, " {x}{y}{z}")?)
 }
 
-/// Two triangles, as a row has their rectangle.
-fn tell_rectangle(told: &mut String, first: &Triangle, second: &Triangle) -> Result<(), Fail> {
-    let is_rectangle = first.a == second.a && first.c == second.b && first.out == second.out;
-    if !is_rectangle {
+/// Adds the corners of two triangles that are a rectangle.
+fn push_corners(told: &mut String, first: &Triangle, second: &Triangle) -> Result<(), Fail> {
+    push_corner(told, first.a)?;
+    push_corner(told, first.b)?;
+    push_corner(told, first.c)?;
+    push_corner(told, second.c)
+}
+
+/// Adds two triangles, as a row has their rectangle.
+fn push_rectangle(told: &mut String, first: &Triangle, second: &Triangle) -> Result<(), Fail> {
+    if first.a != second.a || first.c != second.b || first.out != second.out {
         return Err(Fail::new("no rectangle"));
     }
-    write!(told, "{}", side_name(first.out))?;
-    for corner in [first.a, first.b, first.c, second.c] {
-        write!(told, " {}{}{}", corner.x, corner.y, corner.z)?;
+    told.push_str(if told.is_empty() { "" } else { ", " })?;
+    told.push_str(side_name(first.out))?;
+    push_corners(told, first, second)
+}
+
+/// Triangles, two by two, as a row has them.
+fn told_rectangles(alloc: Global, triangles: &[Triangle]) -> Result<String, Fail> {
+    let mut told = String::new(alloc);
+    for pair in triangles.chunks(2) {
+        if let [first, second] = pair {
+            push_rectangle(&mut told, first, second)?;
+        }
     }
-    Ok(())
+    Ok(told)
+}
+
+/// The triangles of a drawing's solid, by its full blocks.
+fn surface(alloc: Global, views: [&str; 3], full: &str) -> Result<Vec<Triangle>, Fail> {
+    let problem = problem_at(alloc, views)?;
+    let choice = choice_of(alloc, full)?;
+    Ok(triangles(alloc, &problem, &choice)?)
 }
 
 /// The triangles of a row's solid, as the row has them.
 fn told_surface(alloc: Global, row: Row<'_>) -> Result<String, Fail> {
     let [_, _, _, full, _] = row.parts;
-    let problem = problem_at(alloc, row.views())?;
-    let found = triangles(alloc, &problem, &choice_of(alloc, full)?);
-    tell(alloc, found.map_err(|_| Fail::new("memory"))?)
-}
-
-/// Triangles, two by two, as a row has them.
-fn tell(alloc: Global, triangles: Vec<Triangle>) -> Result<String, Fail> {
-    let mut told = String::new(alloc);
-    for pair in triangles.chunks(2) {
-        if !told.is_empty() {
-            told.push_str(", ")?;
-        }
-        if let [first, second] = pair {
-            tell_rectangle(&mut told, first, second)?;
-        }
-    }
-    Ok(told)
+    let found = surface(alloc, row.views(), full)?;
+    told_rectangles(alloc, found.as_slice())
 }
 
 #[test]
@@ -121,16 +124,12 @@ fn count(triangles: &[Triangle], from: Cell, to: Cell) -> usize {
 
 /// How many triangles the touching cubes have, and how often they go up and down their common edge.
 fn touching_counts(alloc: Global) -> Result<[usize; 3], Fail> {
-    let problem = problem_at(alloc, TOUCHING)?;
-    let found = triangles(alloc, &problem, &choice_of(alloc, "11")?);
-    let found = found.map_err(|_| Fail::new("memory"))?;
+    let found = surface(alloc, TOUCHING, "11")?;
     let low = Cell { x: 1, y: 1, z: 0 };
     let high = Cell { x: 1, y: 1, z: 1 };
-    Ok([
-        found.len(),
-        count(&found, low, high),
-        count(&found, high, low),
-    ])
+    let up = count(found.as_slice(), low, high);
+    let down = count(found.as_slice(), high, low);
+    Ok([found.len(), up, down])
 }
 
 #[test]
