@@ -15,7 +15,7 @@ use test_files::{Row, drawing_file, file_bytes, row_of};
 const HOLLOW_CUBE: [&str; 3] = ["rect S 0 0 3 3, rect D 1 1 2 2"; 3];
 
 /// The problem of a drawing by its strokes in front, from the top and from the side.
-fn problem(alloc: Global, views: [&str; 3]) -> Result<Arc<Problem>, Fail> {
+pub fn problem(alloc: Global, views: [&str; 3]) -> Result<Arc<Problem>, Fail> {
     let file = file_bytes(drawing_file(alloc, views)?)?;
     Ok(Arc::new(alloc, problem_of(alloc, file, 0)?)?)
 }

@@ -1,6 +1,7 @@
 //! Pages that are refused.
 
-use super::{TWICE_EIGHT_VOIDS, problem, searched, workers_of};
+use super::{TWICE_EIGHT_VOIDS, searched, workers_of};
+use crate::searches::problem;
 use search_run::{PageOut, RunFault};
 use solid_model::{Choice, Limits};
 use std::alloc::Global;

@@ -2,7 +2,8 @@
 
 ghost use Rattle.std.specs.Prelude.{◌<◌, ◌≤◌};
 
-use super::{problem, solved};
+use super::solved;
+use crate::searches::problem;
 use solid_model::{Choice, Memory};
 use solution_book::{Book, BookReader, BookWriter, Receipt};
 use std::alloc::Global;
@@ -18,7 +19,7 @@ pub struct Author<R: Wait + Drop> {
 }
 
 impl<R: Wait + Drop> Model for Author<R> {
-    ghost use Rattle.solution_book_tests.specs.Authors.{AuthorParts, IsAuthor};
+    ghost use Rattle.search_tests.specs.Authors.{AuthorParts, IsAuthor};
 
     ghost Value = { AuthorParts };
 

@@ -1,6 +1,7 @@
 //! Gates that hold workers up until others have come as far, or give up.
 
-use super::{TWICE_EIGHT_VOIDS, problem, searched};
+use super::{TWICE_EIGHT_VOIDS, searched};
+use crate::searches::problem;
 use search_run::NoPages;
 use solid_model::Limits;
 use std::alloc::Global;

@@ -1,4 +1,5 @@
-//! What the tests share: problems, their solids, and whether solids are those of a list.
+//! The book of a search: its pages while it grows, and readers in threads. They show too how a caller
+//! proves that it publishes solutions alone, each once.
 
 mod author;
 mod pages;
@@ -9,26 +10,17 @@ ghost use Rattle.std.specs.Prelude.{IfOk};
 ghost use Rattle.std.specs.Arc.{arc_value};
 ghost use Rattle.solid_model.specs.Solutions.{AreSolutions};
 
-use file_problem::problem_of;
 use search_tree::solve_alone;
 use solid_model::{Choice, Limits, Memory, Problem, compare};
 use std::alloc::Global;
 use std::cmp::Ordering;
 use std::sync::Arc;
-use std::test::Fail;
-use test_files::{drawing_file, file_bytes};
 
 /// Sixteen voids: two along x and y, and four upwards. More than 600 solids have this drawing.
 const SIXTEEN_VOIDS: [&str; 3] = ["lattice 2 4", "lattice 2 2", "lattice 2 4"];
 
 /// How many solids are searched for at most: two full batches of 256, and 88.
 const THREE_BATCHES: u32 = 600;
-
-/// The problem of a drawing by its strokes in front, from the top and from the side.
-fn problem(alloc: Global, views: [&str; 3]) -> Result<Arc<Problem>, Fail> {
-    let file = file_bytes(drawing_file(alloc, views)?)?;
-    Ok(Arc::new(alloc, problem_of(alloc, file, 0)?)?)
-}
 
 /// The first solids of a problem, at most three batches.
 fn solved(alloc: Global, problem: &Arc<Problem>) -> Result<Vec<Choice>, Memory>

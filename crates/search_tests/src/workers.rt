@@ -1,4 +1,5 @@
-//! What the tests share: problems of drawings that are told by their strokes, and their searches.
+//! Searches by workers: that they work at one time, that pages come meanwhile, and that there is one
+//! answer for every number of workers.
 
 ghost use Rattle.std.specs.Prelude.{◌≤◌};
 
@@ -6,25 +7,16 @@ mod answers;
 mod gates;
 mod pages;
 
-use file_problem::problem_of;
 use search_run::{PageOut, RunFault, run_search};
 use solid_model::{Ended, Limits, Problem};
 use std::alloc::Global;
 use std::sync::{Arc, Wait};
-use std::test::Fail;
 use std::thread::Threads;
-use test_files::{drawing_file, file_bytes};
 use tv_base::Gate;
 
 /// Two cubes of 5 on the diagonal, each with eight voids: 18 blocks, 1,225 solids, 3,889 nodes.
 const TWICE_EIGHT_VOIDS: &str = "\
 lattice 2 2, rect S 6 6 11 11, rect D 7 7 8 8, rect D 9 7 10 8, rect D 7 9 8 10, rect D 9 9 10 10";
-
-/// The problem of a drawing by its strokes in front, from the top and from the side.
-fn problem(alloc: Global, views: [&str; 3]) -> Result<Arc<Problem>, Fail> {
-    let file = file_bytes(drawing_file(alloc, views)?)?;
-    Ok(Arc::new(alloc, problem_of(alloc, file, 0)?)?)
-}
 
 /// A number of workers, from 1 to 64.
 fn workers_of(told: &str) -> u32

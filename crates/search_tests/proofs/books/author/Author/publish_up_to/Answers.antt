@@ -1,8 +1,8 @@
 use Rattle.std.proofs.Common.{◌-◌, sym, subst}
 use Rattle.solution_book.specs.Editions.{BookParts}
-use Rattle.solution_book_tests.specs.Authors.{IsAuthor}
-use Rattle.solution_book_tests.proofs.Authors.{next_starts, next_once}
-use Rattle.solution_book_tests.proofs.tests.author.Author.publish_up_to.Goals as goal
+use Rattle.search_tests.specs.Authors.{IsAuthor}
+use Rattle.search_tests.proofs.Authors.{next_starts, next_once}
+use Rattle.search_tests.proofs.books.author.Author.publish_up_to.Goals as goal
 
 pub publish-requires-clause-once : goal.publish-requires-clause-once
 publish-requires-clause-once g c =

@@ -3,8 +3,8 @@ use Rattle.std.specs.Arc.{arc_value}
 use Rattle.solid_model.specs.Blocks.{ProblemParts, IsBlocksOf}
 use Rattle.solid_model.specs.SearchEnds.{SearchEnd}
 use Rattle.solid_model.specs.Solutions.{AreSolutions}
-use Rattle.solution_book_tests.proofs.Solved.{ends_solve}
-use Rattle.solution_book_tests.proofs.tests.solved.Goals as goal
+use Rattle.search_tests.proofs.Solved.{ends_solve}
+use Rattle.search_tests.proofs.books.solved.Goals as goal
 
 pub returns : goal.returns
 returns c =

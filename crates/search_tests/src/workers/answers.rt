@@ -1,8 +1,9 @@
 //! One answer, whatever the number of workers.
 
-use super::{problem, searched, workers_of};
+use super::{searched, workers_of};
+use crate::searches::{limits, problem};
 use search_run::NoPages;
-use solid_model::{EndKind, Ended, Limits};
+use solid_model::{EndKind, Ended};
 use std::alloc::{AllocError, Global};
 use std::sync::Wait;
 use std::test::*;
@@ -23,16 +24,6 @@ lattice 2 2; 8; 109; 35 -> whole 109 35
 lattice 2 2; 3; 108; 35 -> nodes
 lattice 2 2; 3; 109; 34 -> solids 34";
 
-/// Limits that a row tells.
-fn limits_of(nodes: &str, solids: &str) -> Limits {
-    let nodes: u64 = nodes.parse().unwrap_or(1);
-    let solids: u32 = solids.parse().unwrap_or(1);
-    Limits {
-        nodes: nodes.clamp(1, 4_000_000),
-        solids: solids.clamp(1, 65_536),
-    }
-}
-
 /// How a search ended, as a row has it.
 fn told_end(alloc: Global, ended: &Ended) -> Result<String, AllocError> {
     let found = ended.solids.len();
@@ -47,7 +38,7 @@ fn told_end(alloc: Global, ended: &Ended) -> Result<String, AllocError> {
 fn ends_so<R: Threads + Wait + Sync>(rt: &R, alloc: Global, row: Row<'_>) -> Result<bool, Fail> {
     let [view, workers, nodes, solids, _] = row.parts;
     let problem = problem(alloc, [view; 3])?;
-    let limits = limits_of(nodes, solids);
+    let limits = limits(nodes, solids)?;
     let workers = workers_of(workers);
     match searched(rt, alloc, problem, limits, workers, &OpenGate, &mut NoPages) {
         Ok(ended) => Ok(told_end(alloc, &ended)?.as_str() == row.wanted),

@@ -1,6 +1,6 @@
 //! What a book says of problems: whether it is of them.
 
-use super::problem;
+use crate::searches::problem;
 use solution_book::{Book, BookReader, BookWriter};
 use std::alloc::Global;
 use std::sync::Wait;

@@ -5,7 +5,7 @@ use Rattle.std.proofs.lemmas.List.{take-append-drop}
 use Rattle.solid_model.specs.Lists.{Ascends}
 use Rattle.solid_model.proofs.Lists.{ascends-append_left}
 use Rattle.solution_book.specs.Editions.{StartsWith}
-use Rattle.solution_book_tests.specs.Authors.{AuthorParts, IsAuthor}
+use Rattle.search_tests.specs.Authors.{AuthorParts, IsAuthor}
 
 -- the published ones and so many of those after them
 module _ (a : AuthorParts) (is : IsAuthor a) (from k : ℕ) (list : List (List Bool)) (past : from ≡ length a.book.edition.solids) (all : list ≡ a.solids) where
