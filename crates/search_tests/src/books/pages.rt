@@ -2,8 +2,9 @@
 
 use super::author::{Author, begin};
 use super::{SIXTEEN_VOIDS, are_at};
-use solution_book::BookReader;
-use std::alloc::Global;
+use solid_model::{Choice, Memory};
+use solution_book::{BookReader, Page};
+use std::alloc::{AllocError, Global};
 use std::sync::Wait;
 use std::test::Fail;
 use test_files::{Row, row_of};
@@ -43,41 +44,82 @@ const AT_ENDS_OF_BATCHES: &str = "\
 600; 599; 9 -> 1 end
 600; 600; 9 -> 0 end";
 
-/// The page of a row, told as the row tells it.
-fn told_page<R: Wait + Drop>(
+/// Publishes the next solids, until so many are published or all are, and has the reader learn it.
+fn grow<R: Wait + Drop>(
+    alloc: Global,
+    author: &mut Author<R>,
+    reader: &mut BookReader<R>,
+    count: usize,
+) -> Result<(), Memory> {
+    let receipt = author.publish_up_to(alloc, count)?;
+    reader.learn(receipt);
+    Ok(())
+}
+
+/// A page from a place on, as a row tells it.
+fn told_page(
+    alloc: Global,
+    page: &Page,
+    from: usize,
+    solids: &[Choice],
+) -> Result<String, AllocError> {
+    let right = page.from == from && are_at(solids, from, &page.solids);
+    let start = if right { "" } else { "wrong " };
+    let end = if page.ends_here { " end" } else { "" };
+    format!(in alloc; "{start}{}{end}", page.solids.len())
+}
+
+/// Whether the page of a row is as the row has it.
+fn is_so<R: Wait + Drop>(
     alloc: Global,
     author: &mut Author<R>,
     reader: &mut BookReader<R>,
     row: Row<'_>,
-) -> Result<String, Fail> {
+) -> Result<bool, Fail> {
     let [count, from, most, ..] = row.parts;
-    reader.learn(author.publish_up_to(alloc, count.parse().unwrap_or(0))?);
+    grow(alloc, author, reader, count.parse().unwrap_or(0))?;
     let from = from.parse().unwrap_or(0);
     let page = reader.page(alloc, from, most.parse().unwrap_or(0))?;
-    let right = page.from == from && are_at(author.solids(), from, &page.solids);
-    let start = if right { "" } else { "wrong " };
-    let end = if page.ends_here { " end" } else { "" };
-    Ok(format!(in alloc; "{start}{}{end}", page.solids.len())?)
+    Ok(told_page(alloc, &page, from, author.solids())?.as_str() == row.wanted)
+}
+
+/// The first row of a table whose page isn't as the row has it; nothing where all are.
+fn wrong_row<'a, R: Wait + Drop>(
+    alloc: Global,
+    author: &mut Author<R>,
+    reader: &mut BookReader<R>,
+    table: &'a str,
+) -> Result<&'a str, Fail> {
+    for line in table.lines() {
+        if !is_so(alloc, author, reader, row_of(line))? {
+            return Ok(line);
+        }
+    }
+    Ok("")
+}
+
+/// The same of the pages of a drawing's book.
+fn wrong_page<'a, R: Wait>(
+    rt: &R,
+    alloc: Global,
+    views: [&str; 3],
+    table: &'a str,
+) -> Result<&'a str, Fail> {
+    let (mut author, mut readers) = begin(rt, alloc, views, 1)?;
+    let mut reader = readers.pop().ok_or("a reader")?;
+    wrong_row(alloc, &mut author, &mut reader, table)
 }
 
 #[test]
 fn book_of_the_eight_voids(rt: HostRuntime) -> Result<(), Fail> {
-    let (mut author, mut readers) = begin(&rt, rt.alloc(), EIGHT_VOIDS, 1)?;
-    let mut reader = readers.pop().ok_or("a reader")?;
-    for line in GROWING.lines() {
-        let told = told_page(rt.alloc(), &mut author, &mut reader, row_of(line))?;
-        assert!(rt; told.as_str() == row_of(line).wanted, "{line}");
-    }
+    let row = wrong_page(&rt, rt.alloc(), EIGHT_VOIDS, GROWING)?;
+    assert!(rt; row.is_empty(), "{row}");
     Ok(())
 }
 
 #[test]
 fn pages_of_three_batches(rt: HostRuntime) -> Result<(), Fail> {
-    let (mut author, mut readers) = begin(&rt, rt.alloc(), SIXTEEN_VOIDS, 1)?;
-    let mut reader = readers.pop().ok_or("a reader")?;
-    for line in AT_ENDS_OF_BATCHES.lines() {
-        let told = told_page(rt.alloc(), &mut author, &mut reader, row_of(line))?;
-        assert!(rt; told.as_str() == row_of(line).wanted, "{line}");
-    }
+    let row = wrong_page(&rt, rt.alloc(), SIXTEEN_VOIDS, AT_ENDS_OF_BATCHES)?;
+    assert!(rt; row.is_empty(), "{row}");
     Ok(())
 }
