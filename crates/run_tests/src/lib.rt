@@ -27,6 +27,8 @@ mod sets;
 #[cfg(test)]
 mod texts;
 #[cfg(test)]
+mod triangles;
+#[cfg(test)]
 mod values;
 #[cfg(test)]
 mod workers;

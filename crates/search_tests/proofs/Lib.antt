@@ -1,1 +1,3 @@
 pub mod ToldTrees
+mod Authors
+mod Solved

@@ -2,7 +2,7 @@
 
 use file_problem::problem_of;
 use line_demands::Partial;
-use solid_model::Problem;
+use solid_model::{LineId, Problem};
 use std::alloc::Global;
 use std::fmt::Write;
 use std::test::Fail;
@@ -35,37 +35,53 @@ fn push_touching(text: &mut String, partial: &Partial<'_>) -> Result<(), Fail> {
     Ok(())
 }
 
-/// What a row's drawing demands, as the row has it.
-fn told_demands(alloc: Global, row: Row<'_>) -> Result<String, Fail> {
-    let problem = problem_in(alloc, row)?;
-    let mut partial = Partial::new(alloc, &problem)?;
-    let mut text = String::new(alloc);
-    push_touching(&mut text, &partial)?;
-    if problem.blocks().count() == 0 {
-        return Err(Fail::new("no block"));
+/// Adds a line, and what stands behind it.
+pub fn push_line(text: &mut String, line: LineId, end: &str) -> Result<(), Fail> {
+    let LineId {
+        view,
+        upright,
+        at,
+        cell,
+    } = line;
+    Ok(write!(text, "{} {upright} {at} {cell}{end}", layer_of(view))?)
+}
+
+/// Adds the first line that can't be met where the first block is empty.
+fn push_broken(text: &mut String, partial: &mut Partial<'_>) -> Result<(), Fail> {
+    if partial.problem().blocks().count() == 0 || partial.value(0).is_some() {
+        return Err(Fail::new("no free block"));
     }
     partial.decide(0, false);
     let line = partial.broken_line().ok_or("no line")?;
-    write!(
-        text,
-        ", {} {} {} {}",
-        layer_of(line.view),
-        line.upright,
-        line.at,
-        line.cell
-    )?;
+    push_line(text, line, "")
+}
+
+/// Adds what lines demand of blocks of which nothing is known yet, as a row has it.
+fn push_demands(text: &mut String, partial: &mut Partial<'_>) -> Result<(), Fail> {
+    push_touching(text, partial)?;
+    text.push_str(", ")?;
+    push_broken(text, partial)
+}
+
+/// What a problem demands, as a row has it.
+fn told_demands(alloc: Global, problem: &Problem) -> Result<String, Fail> {
+    let mut partial = Partial::new(alloc, problem)?;
+    let mut text = String::new(alloc);
+    push_demands(&mut text, &mut partial)?;
     Ok(text)
+}
+
+/// What a row's drawing demands, as the row has it.
+fn demands_in(alloc: Global, row: Row<'_>) -> Result<String, Fail> {
+    let problem = problem_in(alloc, row)?;
+    told_demands(alloc, &problem)
 }
 
 #[test]
 fn lines_demand_so(rt: HostRuntime) -> Result<(), Fail> {
     for line in DEMANDS.lines() {
         let row = row_of(line);
-        assert_eq!(rt;
-            told_demands(rt.alloc(), row)?.as_str(),
-            row.wanted,
-            "{line}"
-        );
+        assert_eq!(rt; demands_in(rt.alloc(), row)?.as_str(), row.wanted, "{line}");
     }
     Ok(())
 }

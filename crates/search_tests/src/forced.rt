@@ -1,13 +1,13 @@
 //! What the lines of small drawings force.
 
-use crate::demands::problem_in;
+use crate::demands::{problem_in, push_line};
 use line_demands::Partial;
 use propagate::{Closed, Forcing, close, step};
-use solid_model::LineId;
+use solid_model::{LineId, Problem};
 use std::alloc::Global;
 use std::fmt::Write;
 use std::test::Fail;
-use test_files::{Row, layer_of, row_of};
+use test_files::{Row, row_of};
 
 /// A row a drawing, by its strokes in front, from the top and from the side, and which of its first
 /// blocks are decided: a `1` for a full one, a `0` for an empty one. Wanted are the steps that its
@@ -35,19 +35,6 @@ rect S 0 0 2 2, line S 0 1 2 1, line S 1 0 1 2; \
 rect S 0 0 2 1, line S 1 0 1 1; rect S 0 0 1 1, rect S 1 1 2 2; rect S 0 0 2 1, line S 1 0 1 1 -> \
     0+ FRONT false 0 0, 1+ FRONT false 0 1, stable; stable 11";
 
-/// A line.
-fn push_line(text: &mut String, line: LineId) -> Result<(), Fail> {
-    write!(
-        text,
-        "{} {} {} {}",
-        layer_of(line.view),
-        line.upright,
-        line.at,
-        line.cell
-    )?;
-    Ok(())
-}
-
 /// Decides the first blocks.
 fn decide_first(partial: &mut Partial<'_>, values: &str) -> Result<(), Fail> {
     for value in values.bytes() {
@@ -60,24 +47,32 @@ fn decide_first(partial: &mut Partial<'_>, values: &str) -> Result<(), Fail> {
     Ok(())
 }
 
-/// One step. False: it was the last one.
-fn push_step(text: &mut String, partial: &mut Partial<'_>) -> Result<bool, Fail> {
-    match step(partial) {
-        Forcing::Forced { block, full, line } => {
-            write!(text, "{block}{} ", if full { '+' } else { '-' })?;
-            push_line(text, line)?;
-            text.push_str(", ")?;
-            Ok(true)
-        }
-        Forcing::Stable => {
-            text.push_str("stable")?;
-            Ok(false)
-        }
-        Forcing::Conflict { line } => {
-            text.push_str("conflict ")?;
-            push_line(text, line)?;
-            Ok(false)
-        }
+/// Adds a block with its value and the line that forces it.
+fn push_forced(text: &mut String, block: u16, full: bool, line: LineId) -> Result<(), Fail> {
+    write!(text, "{block}{} ", if full { '+' } else { '-' })?;
+    push_line(text, line, ", ")
+}
+
+/// Adds a line that can't be met.
+fn push_conflict(text: &mut String, line: LineId) -> Result<(), Fail> {
+    text.push_str("conflict ")?;
+    push_line(text, line, "")
+}
+
+/// Adds one step.
+fn push_step(text: &mut String, forcing: Forcing) -> Result<(), Fail> {
+    match forcing {
+        Forcing::Forced { block, full, line } => push_forced(text, block, full, line),
+        Forcing::Stable => Ok(text.push_str("stable")?),
+        Forcing::Conflict { line } => push_conflict(text, line),
+    }
+}
+
+/// Whether a step is the last one.
+fn is_last(forcing: Forcing) -> bool {
+    match forcing {
+        Forcing::Forced { .. } => false,
+        _ => true,
     }
 }
 
@@ -96,7 +91,9 @@ fn push_known(text: &mut String, partial: &Partial<'_>) -> Result<(), Fail> {
 /// All steps.
 fn push_steps(text: &mut String, partial: &mut Partial<'_>) -> Result<(), Fail> {
     for _step in 0..10000 {
-        if !push_step(text, partial)? {
+        let forcing = step(partial);
+        push_step(text, forcing)?;
+        if is_last(forcing) {
             return Ok(());
         }
     }
@@ -110,36 +107,50 @@ fn push_closed(text: &mut String, partial: &mut Partial<'_>) -> Result<(), Fail>
             text.push_str("; stable ")?;
             push_known(text, partial)
         }
-        Closed::Conflict { line: _ } => {
-            text.push_str("; conflict")?;
-            Ok(())
-        }
+        Closed::Conflict { line: _ } => Ok(text.push_str("; conflict")?),
     }
 }
 
-/// What the lines of a row's drawing force.
-fn told_forced(alloc: Global, row: Row<'_>) -> Result<String, Fail> {
-    let problem = problem_in(alloc, row)?;
-    let [_, _, _, values, _] = row.parts;
-    let mut text = String::new(alloc);
-    let mut partial = Partial::new(alloc, &problem)?;
+/// What is known of a problem where the first blocks are decided.
+fn begun<'a>(alloc: Global, problem: &'a Problem, values: &str) -> Result<Partial<'a>, Fail> {
+    let mut partial = Partial::new(alloc, problem)?;
     decide_first(&mut partial, values)?;
+    Ok(partial)
+}
+
+/// The steps that lines force.
+fn told_steps(alloc: Global, problem: &Problem, values: &str) -> Result<String, Fail> {
+    let mut partial = begun(alloc, problem, values)?;
+    let mut text = String::new(alloc);
     push_steps(&mut text, &mut partial)?;
-    let mut closed = Partial::new(alloc, &problem)?;
-    decide_first(&mut closed, values)?;
-    push_closed(&mut text, &mut closed)?;
     Ok(text)
+}
+
+/// Adds how closing ends.
+fn push_closing(text: &mut String, problem: &Problem, values: &str) -> Result<(), Fail> {
+    let mut partial = begun(*text.allocator(), problem, values)?;
+    push_closed(text, &mut partial)
+}
+
+/// What the lines of a problem force, as a row has it.
+fn told_forced(alloc: Global, problem: &Problem, values: &str) -> Result<String, Fail> {
+    let mut text = told_steps(alloc, problem, values)?;
+    push_closing(&mut text, problem, values)?;
+    Ok(text)
+}
+
+/// What the lines of a row's drawing force, as the row has it.
+fn forced_in(alloc: Global, row: Row<'_>) -> Result<String, Fail> {
+    let [_, _, _, values, _] = row.parts;
+    let problem = problem_in(alloc, row)?;
+    told_forced(alloc, &problem, values)
 }
 
 #[test]
 fn lines_force_so(rt: HostRuntime) -> Result<(), Fail> {
     for line in FORCED.lines() {
         let row = row_of(line);
-        assert_eq!(rt;
-            told_forced(rt.alloc(), row)?.as_str(),
-            row.wanted,
-            "{line}"
-        );
+        assert_eq!(rt; forced_in(rt.alloc(), row)?.as_str(), row.wanted, "{line}");
     }
     Ok(())
 }

@@ -1,6 +1,8 @@
-//! Tests of searches, of what they stand on, and of the lines of a drawing in them.
+//! Tests of searches, by one and by many, of what they stand on, and of the book that they publish.
 #![tactic(auto)]
 
+#[cfg(test)]
+mod books;
 #[cfg(test)]
 mod columns_anew;
 #[cfg(test)]
@@ -11,3 +13,5 @@ mod forced;
 mod searches;
 #[cfg(test)]
 mod trees;
+#[cfg(test)]
+mod workers;

@@ -1,11 +1,12 @@
 //! Searches of problems, within limits and piece by piece.
 
+use crate::trees::{push_choices, push_prefix, push_prefixes};
 use file_problem::problem_of;
 use search_core::{Desk, Reported};
 use search_run::{begin, search_by_desk};
 use search_tree::{expand, solve_alone};
-use solid_model::{Choice, EndKind, Ended, Expansion, Limits, Prefix, Problem};
-use std::alloc::{AllocError, Global};
+use solid_model::{EndKind, Ended, Expansion, Limits, Prefix, Problem};
+use std::alloc::Global;
 use std::sync::Arc;
 use std::test::Fail;
 use test_files::{Row, drawing_file, file_bytes, row_of};
@@ -14,19 +15,19 @@ use test_files::{Row, drawing_file, file_bytes, row_of};
 const HOLLOW_CUBE: [&str; 3] = ["rect S 0 0 3 3, rect D 1 1 2 2"; 3];
 
 /// The problem of a drawing by its strokes in front, from the top and from the side.
-fn problem(alloc: Global, views: [&str; 3]) -> Result<Arc<Problem>, Fail> {
+pub fn problem(alloc: Global, views: [&str; 3]) -> Result<Arc<Problem>, Fail> {
     let file = file_bytes(drawing_file(alloc, views)?)?;
     Ok(Arc::new(alloc, problem_of(alloc, file, 0)?)?)
 }
 
 /// Limits that may be asked for.
-fn limits(nodes: &str, solids: &str) -> Option<Limits> {
-    let nodes: u64 = nodes.parse().ok()?;
-    let solids: u32 = solids.parse().ok()?;
+pub fn limits(nodes: &str, solids: &str) -> Result<Limits, Fail> {
+    let nodes: u64 = nodes.parse().unwrap_or(0);
+    let solids: u32 = solids.parse().unwrap_or(0);
     if nodes < 1 || nodes > 4_000_000 || solids < 1 || solids > 65_536 {
-        return None;
+        return Err(Fail::new("limits"));
     }
-    Some(Limits { nodes, solids })
+    Ok(Limits { nodes, solids })
 }
 
 /// A row a drawing, by its strokes in front, from the top and from the side; limits of nodes and of
@@ -88,7 +89,7 @@ fn both_end_so(
 /// Whether the searches of a row's drawing end as the row has it.
 fn end_so(alloc: Global, row: Row<'_>) -> Result<bool, Fail> {
     let [_, _, _, nodes, solids] = row.parts;
-    let limits = limits(nodes, solids).ok_or("limits")?;
+    let limits = limits(nodes, solids)?;
     let problem = problem(alloc, row.views())?;
     both_end_so(alloc, &problem, limits, row.wanted)
 }
@@ -108,24 +109,6 @@ fn prefix_of(alloc: Global, values: &str) -> Result<Prefix, Fail> {
         full.push(value == b'1')?;
     }
     Ok(Prefix::from_bools(alloc, full.as_slice())?)
-}
-
-/// Adds a blank and the values of a choice.
-fn push_choice(text: &mut String, choice: &Choice) -> Result<(), AllocError> {
-    text.push_str(" ")?;
-    for at in 0..choice.len() {
-        text.push_str(if choice.get(at) { "1" } else { "0" })?;
-    }
-    Ok(())
-}
-
-/// Adds a blank and the values of a prefix.
-fn push_prefix(text: &mut String, prefix: &Prefix) -> Result<(), AllocError> {
-    text.push_str(" ")?;
-    for at in 0..prefix.len() {
-        text.push_str(if prefix.get(at) { "1" } else { "0" })?;
-    }
-    Ok(())
 }
 
 /// The expansion of a piece with a quantum; nothing of a piece that isn't live.
@@ -154,20 +137,22 @@ const EXPANSIONS: &str = "\
 /// What an expansion opens, finds and leaves.
 fn told_parts(alloc: Global, expansion: &Expansion) -> Result<String, Fail> {
     let mut text = format!(in alloc; "{} found", expansion.opened())?;
-    for choice in expansion.found() {
-        push_choice(&mut text, choice)?;
-    }
+    push_choices(&mut text, expansion.found())?;
     text.push_str(" rest")?;
-    for prefix in expansion.rest() {
-        push_prefix(&mut text, prefix)?;
-    }
+    push_prefixes(&mut text, expansion.rest())?;
     Ok(text)
+}
+
+/// The expansion of a piece of the hollow cube.
+fn hollow_expansion(alloc: Global, piece: &str, quantum: &str) -> Result<Option<Expansion>, Fail> {
+    let problem = problem(alloc, HOLLOW_CUBE)?;
+    expansion(alloc, &problem, piece, quantum)
 }
 
 /// The expansion of a row's piece, as the row has it.
 fn told_expansion(alloc: Global, row: Row<'_>) -> Result<String, Fail> {
     let [piece, quantum, ..] = row.parts;
-    match expansion(alloc, &problem(alloc, HOLLOW_CUBE)?, piece, quantum)? {
+    match hollow_expansion(alloc, piece, quantum)? {
         Some(expansion) => told_parts(alloc, &expansion),
         None => Ok(String::from_str(alloc, "none")?),
     }
@@ -199,16 +184,16 @@ voids - 1; voids 1 1; voids 10 1; voids 11 1; voids 11 1 -> taken 1, 1 opened, 0
     taken 11 10, 2 opened, 0 found, 11, None; taken 101 100, 3 opened, 0 found, 11, None; \
     taken 110, 4 opened, 0 found, 101, None; gone, 4 opened, 0 found, 101, None";
 
+/// Adds that a report is taken, and its rest.
+fn push_taken(text: &mut String, rest: &[Prefix]) -> Result<(), Fail> {
+    text.push_str("taken")?;
+    push_prefixes(text, rest)
+}
+
 /// Adds what a desk says to a report.
 fn push_said(text: &mut String, desk: &mut Desk, report: Expansion) -> Result<(), Fail> {
     match desk.report(report) {
-        Ok(Reported::Taken { rest }) => {
-            text.push_str("taken")?;
-            for prefix in &rest {
-                push_prefix(text, prefix)?;
-            }
-            Ok(())
-        }
+        Ok(Reported::Taken { rest }) => push_taken(text, rest.as_slice()),
         Ok(Reported::Stranger) => Ok(text.push_str("stranger")?),
         Ok(Reported::Stop) => Ok(text.push_str("stop")?),
         Ok(Reported::Gone) => Ok(text.push_str("gone")?),
@@ -216,18 +201,19 @@ fn push_said(text: &mut String, desk: &mut Desk, report: Expansion) -> Result<()
     }
 }
 
+/// Adds the piece that is next.
+fn push_next(text: &mut String, desk: &Desk) -> Result<(), Fail> {
+    match desk.first_piece() {
+        Some(piece) => push_prefix(text, piece),
+        None => Ok(text.push_str(" nothing")?),
+    }
+}
+
 /// Adds how a desk stands.
 fn push_standing(text: &mut String, desk: &Desk) -> Result<(), Fail> {
-    write!(
-        text,
-        ", {} opened, {} found,",
-        desk.opened(),
-        desk.found().len()
-    )?;
-    match desk.first_piece() {
-        Some(piece) => push_prefix(text, piece)?,
-        None => text.push_str(" nothing")?,
-    }
+    let (opened, found) = (desk.opened(), desk.found().len());
+    write!(text, ", {opened} opened, {found} found,")?;
+    push_next(text, desk)?;
     Ok(write!(text, ", {:?}", desk.end())?)
 }
 
@@ -258,6 +244,17 @@ fn report_of(told: &str) -> ToldReport<'_> {
     }
 }
 
+/// The expansion of a piece of another problem, by its name.
+fn strange_expansion(
+    alloc: Global,
+    name: &str,
+    piece: &str,
+    quantum: &str,
+) -> Result<Option<Expansion>, Fail> {
+    let problem = problem(alloc, views_named(name))?;
+    expansion(alloc, &problem, piece, quantum)
+}
+
 /// What is reported: of the desk's own problem where it has the name of that.
 fn reported(
     alloc: Global,
@@ -267,17 +264,21 @@ fn reported(
 ) -> Result<Expansion, Fail> {
     let piece = if told.piece == "-" { "" } else { told.piece };
     let found = if told.name == name {
-        expansion(alloc, own, piece, told.quantum)?
+        expansion(alloc, own, piece, told.quantum)
     } else {
-        let other = problem(alloc, views_named(told.name))?;
-        expansion(alloc, &other, piece, told.quantum)?
+        strange_expansion(alloc, told.name, piece, told.quantum)
     };
-    Ok(found.ok_or("a report")?)
+    Ok(found?.ok_or("a report")?)
 }
 
 /// What may be handed to another thread.
 fn sent<T: Send>(value: T) -> T {
     value
+}
+
+/// A desk of a search of a problem, which begins.
+fn desk_of(alloc: Global, own: &Arc<Problem>) -> Result<Desk, Fail> {
+    Ok(sent(begin(alloc, own, limits("10", "10")?)?))
 }
 
 /// Adds what a desk says to the report that is told so, and how it stands then.
@@ -289,23 +290,38 @@ fn push_report(
     told: &str,
 ) -> Result<(), Fail> {
     let report = reported(*text.allocator(), own, name, report_of(told))?;
+    text.push_str(if text.is_empty() { "" } else { "; " })?;
     push_said(text, desk, report)?;
     push_standing(text, desk)
+}
+
+/// Adds what a desk says to the reports that are told so.
+fn push_reports(
+    text: &mut String,
+    desk: &mut Desk,
+    own: &Arc<Problem>,
+    name: &str,
+    told: &str,
+) -> Result<(), Fail> {
+    for told in told.split("; ") {
+        push_report(text, desk, own, name, told)?;
+    }
+    Ok(())
+}
+
+/// What a desk of this problem says to the reports that are told so.
+fn told_reports(alloc: Global, own: &Arc<Problem>, name: &str, told: &str) -> Result<String, Fail> {
+    let mut desk = desk_of(alloc, own)?;
+    let mut text = String::new(alloc);
+    push_reports(&mut text, &mut desk, own, name, told)?;
+    Ok(text)
 }
 
 /// What a desk says to a row's reports, as the row has it.
 fn told_desk(alloc: Global, row: Row<'_>) -> Result<String, Fail> {
     let name = report_of(row.told).name;
     let own = problem(alloc, views_named(name))?;
-    let mut desk = sent(begin(alloc, &own, limits("10", "10").ok_or("limits")?)?);
-    let mut text = String::new(alloc);
-    for told in row.told.split("; ") {
-        if !text.is_empty() {
-            text.push_str("; ")?;
-        }
-        push_report(&mut text, &mut desk, &own, name, told)?;
-    }
-    Ok(text)
+    told_reports(alloc, &own, name, row.told)
 }
 
 #[test]

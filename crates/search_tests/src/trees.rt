@@ -3,36 +3,41 @@
 ghost use Rattle.std.specs.Prelude.{◌≡◌, ◌≤◌, ◌∷◌, [], ◌<◌, Bool, List, length, vec_capacity, IfOk, IsTrue};
 ghost use Rattle.search_tests.specs.Words.{lets, is_let};
 
-use search_tree::{Path, expand_path, go_on, search_path};
-use solid_model::{Choice, Limits, Memory, Prefix};
+use crate::searches::limits;
+use search_tree::{Expanded, Path, expand_path, go_on, search_path};
+use solid_model::{Choice, Ended, Limits, Memory, Prefix};
 use std::alloc::Global;
 use std::fmt::Write;
 use std::test::Fail;
+use test_files::{Row, row_of};
 
-/// A row a tree: the number of blocks; a `#` for each live prefix, level by level, in each level in
-/// the stated order; the live prefixes in the stated order, a `1` for full and a `0` for empty; and the
-/// expansions of the empty prefix with each quantum: how many were opened, the choices among them, and
-/// the rest.
+/// A row a tree: the number of blocks, and a `#` for each live prefix, level by level, in each level in
+/// the stated order; and then the live prefixes in the stated order, a `1` for full and a `0` for
+/// empty; and the expansions of the empty prefix with each quantum: how many were opened, the choices
+/// among them, and the rest.
 const TREES: &str = "\
-3|###.###.##..##.| - 1 10 101 0 01 010 00 001|1:; 1 0|2:; 10 0|4: 101; 0|6: 101; 010 00|9: 101 010 001;
-1|###| - 1 0|1:; 1 0|2: 1; 0|3: 1 0;|3: 1 0;|3: 1 0;
-1|#.#| - 0|1:; 0|2: 0;|2: 0;|2: 0;|2: 0;
-0|#| -|1: -;|1: -;|1: -;|1: -;|1: -;
-2|.######|";
+3; ###.###.##..##. -> - 1 10 101 0 01 010 00 001|1:; 1 0|2:; 10 0|4: 101; 0|6: 101; 010 00|9: 101 010 001;
+1; ### -> - 1 0|1:; 1 0|2: 1; 0|3: 1 0;|3: 1 0;|3: 1 0;
+1; #.# -> - 0|1:; 0|2: 0;|2: 0;|2: 0;|2: 0;
+0; # -> -|1: -;|1: -;|1: -;|1: -;|1: -;
+2; .###### -> |||||";
+
+/// The first of these trees.
+const FIRST_TREE: &str = "###.###.##..##.";
 
 /// The quanta.
 const QUANTA: [u32; 5] = [1, 2, 4, 6, 20];
 
-/// A row a search of the first of these trees: the limits of nodes and of solids, a digit each; how it
-/// ends, how many prefixes were opened, and the choices that were found.
+/// A row a search of the first of these trees: the limits of nodes and of solids, a digit each; and
+/// then how it ends, how many prefixes were opened, and the choices that were found.
 const SEARCHES: &str = "\
-93|Whole 9: 101 010 001
-83|CutNodes 9: 101 010
-92|CutSolids 9: 101 010
-91|CutSolids 7: 101
-41|CutNodes 5: 101
-31|CutNodes 4:
-11|CutNodes 2:";
+9; 3 -> Whole 9: 101 010 001
+8; 3 -> CutNodes 9: 101 010
+9; 2 -> CutSolids 9: 101 010
+9; 1 -> CutSolids 7: 101
+4; 1 -> CutNodes 5: 101
+3; 1 -> CutNodes 4:
+1; 1 -> CutNodes 2:";
 
 /// A way down a tree whose live prefixes a text tells.
 #[derive(Drop)]
@@ -91,19 +96,14 @@ impl<'a> Path for ToldPath<'a> {
     }
 }
 
-/// The number that a digit stands for.
-fn number(digit: Option<u8>) -> u8
-    ensures { result ≤ 9 }
-{
-    digit.unwrap_or(b'0').saturating_sub(b'0') % 10
-}
-
-/// A tree that a text tells, at the empty prefix.
-fn told_path(alloc: Global, blocks: u8, text: &[u8]) -> Result<ToldPath<'_>, Fail>
-    requires { length text.now ≤ 1000 }
+/// The way down a tree of so many blocks that a text tells, at the empty prefix.
+fn path_of(alloc: Global, blocks: usize, tree: &str) -> Result<ToldPath<'_>, Fail>
     ensures { IfOk result (λ path. path.values.items ≡ []) }
 {
-    let blocks = usize::from(blocks);
+    let text = tree.as_bytes();
+    if text.len() > 1000 {
+        return Err(Fail::new("a shorter text"));
+    }
     let values = Vec::with_capacity(alloc, blocks)?;
     Ok(ToldPath {
         blocks,
@@ -112,109 +112,163 @@ fn told_path(alloc: Global, blocks: u8, text: &[u8]) -> Result<ToldPath<'_>, Fai
     })
 }
 
-/// Adds values as a row has them.
-fn push_values(told: &mut String, values: &[bool]) -> Result<(), Fail> {
-    told.push_str(if values.is_empty() { " -" } else { " " })?;
-    for full in values {
-        told.push_str(if *full { "1" } else { "0" })?;
+/// The same of a row's tree.
+fn path_in<'a>(alloc: Global, row: Row<'a>) -> Result<ToldPath<'a>, Fail> {
+    let [blocks, tree, ..] = row.parts;
+    path_of(alloc, blocks.parse().unwrap_or(0), tree)
+}
+
+/// Adds a value.
+fn push_value(told: &mut String, full: bool) -> Result<(), Fail> {
+    Ok(told.push_str(if full { "1" } else { "0" })?)
+}
+
+/// Adds a blank and the values of a choice, or a `-`.
+pub fn push_choice(told: &mut String, choice: &Choice) -> Result<(), Fail> {
+    told.push_str(if choice.len() == 0 { " -" } else { " " })?;
+    for at in 0..choice.len() {
+        push_value(told, choice.get(at))?;
     }
     Ok(())
 }
 
-/// Adds choices as a row has them.
-fn push_choices(alloc: Global, told: &mut String, choices: &[Choice]) -> Result<(), Fail> {
+/// Adds a blank and the values of a prefix, or a `-`.
+pub fn push_prefix(told: &mut String, prefix: &Prefix) -> Result<(), Fail> {
+    told.push_str(if prefix.len() == 0 { " -" } else { " " })?;
+    for at in 0..prefix.len() {
+        push_value(told, prefix.get(at))?;
+    }
+    Ok(())
+}
+
+/// Adds choices.
+pub fn push_choices(told: &mut String, choices: &[Choice]) -> Result<(), Fail> {
     for choice in choices {
-        let mut values = Vec::new(alloc);
-        for at in 0..choice.len() {
-            values.push(choice.get(at))?;
-        }
-        push_values(told, values.as_slice())?;
+        push_choice(told, choice)?;
     }
     Ok(())
 }
 
-/// Adds prefixes as a row has them.
-fn push_prefixes(alloc: Global, told: &mut String, prefixes: &[Prefix]) -> Result<(), Fail> {
+/// Adds prefixes.
+pub fn push_prefixes(told: &mut String, prefixes: &[Prefix]) -> Result<(), Fail> {
     for prefix in prefixes {
-        let mut values = Vec::new(alloc);
-        for at in 0..prefix.len() {
-            values.push(prefix.get(at))?;
-        }
-        push_values(told, values.as_slice())?;
+        push_prefix(told, prefix)?;
     }
     Ok(())
 }
 
-/// The live prefixes in the order of the walk, as a row has them.
-fn told_walk(alloc: Global, path: &mut ToldPath) -> Result<String, Fail> {
-    let mut told = String::new(alloc);
+/// Adds the present prefix.
+fn push_present(told: &mut String, path: &ToldPath<'_>) -> Result<(), Fail> {
+    let prefix = path.to_prefix()?;
+    push_prefix(told, &prefix)
+}
+
+/// Adds the live prefixes in the order of the walk.
+fn push_walk(told: &mut String, path: &mut ToldPath<'_>) -> Result<(), Fail> {
     for _ in 0..20 {
         if !path.is_live() {
             break;
         }
-        push_values(&mut told, path.values.as_slice())?;
+        push_present(told, path)?;
         if !go_on(path, 0) {
             break;
         }
     }
+    Ok(())
+}
+
+/// Adds what an expansion opened, found and left.
+fn push_parts(told: &mut String, parts: &Expanded) -> Result<(), Fail> {
+    write!(told, "{}:", parts.opened)?;
+    push_choices(told, parts.found.as_slice())?;
+    told.push_str(";")?;
+    push_prefixes(told, parts.rest.as_slice())
+}
+
+/// Adds the expansion of the present prefix, if it is live.
+fn push_expansion(
+    alloc: Global,
+    told: &mut String,
+    path: &mut ToldPath<'_>,
+    quantum: u32,
+) -> Result<(), Fail>
+    requires { 1 ≤ quantum }
+{
+    if path.is_live() {
+        let parts = expand_path(alloc, path, quantum)?;
+        push_parts(told, &parts)?;
+    }
+    Ok(())
+}
+
+/// Adds the expansion of the empty prefix of a row's tree.
+fn push_expanded(alloc: Global, told: &mut String, row: Row<'_>, quantum: u32) -> Result<(), Fail>
+    requires { 1 ≤ quantum }
+{
+    told.push_str("|")?;
+    let mut path = path_in(alloc, row)?;
+    push_expansion(alloc, told, &mut path, quantum)
+}
+
+/// The walk down a row's tree, as the row has it, behind a blank.
+fn told_walk(alloc: Global, row: Row<'_>) -> Result<String, Fail> {
+    let mut path = path_in(alloc, row)?;
+    let mut told = String::new(alloc);
+    push_walk(&mut told, &mut path)?;
     Ok(told)
 }
 
-/// The expansion of the present prefix, as a row has it.
-fn told_expansion(alloc: Global, path: &mut ToldPath, quantum: u32) -> Result<String, Fail>
-    requires { 1 ≤ quantum }
-{
-    let mut told = String::new(alloc);
-    if path.is_live() {
-        let parts = expand_path(alloc, path, quantum)?;
-        write!(told, "{}:", parts.opened)?;
-        push_choices(alloc, &mut told, parts.found.as_slice())?;
-        told.push_str(";")?;
-        push_prefixes(alloc, &mut told, parts.rest.as_slice())?;
+/// What is told of a row's tree, as the row has it, behind a blank.
+fn told_tree(alloc: Global, row: Row<'_>) -> Result<String, Fail> {
+    let mut told = told_walk(alloc, row)?;
+    for quantum in QUANTA {
+        push_expanded(alloc, &mut told, row, quantum)?;
     }
     Ok(told)
 }
 
 #[test]
 fn trees_are_walked_and_expanded_as_by_hand(rt: HostRuntime) -> Result<(), Fail> {
-    let alloc = rt.alloc();
-    for row in TREES.lines() {
-        let mut parts = row.split('|');
-        let blocks = number(parts.next().ok_or("blocks")?.bytes().next());
-        let text = parts.next().ok_or("text")?.as_bytes();
-        assert!(rt; text.len() <= 1000);
-        let told = told_walk(alloc, &mut told_path(alloc, blocks, text)?)?;
-        assert_eq!(rt; Some(told.as_str()), parts.next(), "{row}");
-        for quantum in QUANTA {
-            let told = told_expansion(alloc, &mut told_path(alloc, blocks, text)?, quantum)?;
-            assert_eq!(rt; told.as_str(), parts.next().unwrap_or(""), "{row}");
-        }
+    for line in TREES.lines() {
+        let row = row_of(line);
+        assert_eq!(rt;
+            told_tree(rt.alloc(), row)?.as_str().trim_start(),
+            row.wanted,
+            "{line}"
+        );
     }
     Ok(())
 }
 
-/// The search of the first of the trees within limits, as a row has it.
-fn told_search(alloc: Global, limits: Limits) -> Result<String, Fail> {
-    let tree = b"###.###.##..##.";
-    let ended = search_path(alloc, &mut told_path(alloc, 3, tree)?, limits)?;
-    let mut told = String::new(alloc);
-    write!(told, "{:?} {}:", ended.kind, ended.opened)?;
-    push_choices(alloc, &mut told, ended.solids.as_slice())?;
+/// The search of the first of the trees within limits.
+fn searched(alloc: Global, limits: Limits) -> Result<Ended, Fail> {
+    let mut path = path_of(alloc, 3, FIRST_TREE)?;
+    Ok(search_path(alloc, &mut path, limits)?)
+}
+
+/// How a search ended, as a row has it.
+fn told_end(alloc: Global, ended: &Ended) -> Result<String, Fail> {
+    let mut told = format!(in alloc; "{:?} {}:", ended.kind, ended.opened)?;
+    push_choices(&mut told, ended.solids.as_slice())?;
     Ok(told)
+}
+
+/// The search within a row's limits, as the row has it.
+fn told_search(alloc: Global, row: Row<'_>) -> Result<String, Fail> {
+    let [nodes, solids, ..] = row.parts;
+    let ended = searched(alloc, limits(nodes, solids)?)?;
+    told_end(alloc, &ended)
 }
 
 #[test]
 fn searches_end_at_their_limits(rt: HostRuntime) -> Result<(), Fail> {
-    let alloc = rt.alloc();
-    for row in SEARCHES.lines() {
-        let mut parts = row.split('|');
-        let mut digits = parts.next().ok_or("limits")?.bytes();
-        let limits = Limits {
-            nodes: u64::from(number(digits.next()).max(1)),
-            solids: u32::from(number(digits.next()).max(1)),
-        };
-        let told = told_search(alloc, limits)?;
-        assert_eq!(rt; Some(told.as_str()), parts.next(), "{row}");
+    for line in SEARCHES.lines() {
+        let row = row_of(line);
+        assert_eq!(rt;
+            told_search(rt.alloc(), row)?.as_str(),
+            row.wanted,
+            "{line}"
+        );
     }
     Ok(())
 }

@@ -1,5 +1,6 @@
 //! Words, and what they ask for.
 
+use solid_model::Limits;
 use std::alloc::Global;
 use std::test::Fail;
 use test_files::row_of;
@@ -119,6 +120,7 @@ redraw, 1, --workers, 0 -> usage
 redraw, 1, --pages -> usage
 redraw, --decimals=2, 1 -> redraw 1 1 1000000 4096 decimals 2
 redraw, 1, --decimals, 7 -> usage
+stl, 1 -> stl 1 1 1000000 4096
 stl, 1, --decimals, 2 -> usage
 redraw, -- , 1 -> usage
 redraw, 1, --nodes -> usage
@@ -161,56 +163,85 @@ fn words_of(alloc: Global, told: &str) -> Result<Vec<String>, Fail> {
     Ok(words)
 }
 
-/// How many decimals there are, as in the table.
-fn decimals_text(alloc: Global, decimals: u8) -> Result<String, Fail> {
-    if decimals == 0 {
-        return Ok(String::new(alloc));
-    }
-    Ok(format!(in alloc; " decimals {decimals}")?)
+/// Adds how many work at a search, and its limits.
+fn push_search(text: &mut String, workers: u32, limits: Limits) -> Result<(), Fail> {
+    let Limits { nodes, solids } = limits;
+    Ok(write!(text, " {workers} {nodes} {solids}")?)
 }
 
-/// What a job is, as in the table.
-fn job_text(alloc: Global, job: Job) -> Result<String, Fail> {
-    Ok(match job {
+/// Adds how many decimals there are, if there are some.
+fn push_decimals(text: &mut String, decimals: u8) -> Result<(), Fail> {
+    if decimals == 0 {
+        return Ok(());
+    }
+    Ok(write!(text, " decimals {decimals}")?)
+}
+
+/// Adds a search for all solids, with pages or without.
+fn push_solve(
+    text: &mut String,
+    workers: u32,
+    limits: Limits,
+    pages: bool,
+    decimals: u8,
+) -> Result<(), Fail> {
+    text.push_str("solve")?;
+    push_search(text, workers, limits)?;
+    text.push_str(if pages { " pages" } else { "" })?;
+    push_decimals(text, decimals)
+}
+
+/// Adds what is asked of one solid, by its number.
+fn push_one(
+    text: &mut String,
+    name: &str,
+    which: u32,
+    workers: u32,
+    limits: Limits,
+    decimals: u8,
+) -> Result<(), Fail> {
+    write!(text, "{name} {which}")?;
+    push_search(text, workers, limits)?;
+    push_decimals(text, decimals)
+}
+
+/// Adds what a job is.
+fn push_job(text: &mut String, job: Job) -> Result<(), Fail> {
+    match job {
         Job::Solve {
             workers,
             limits,
             pages,
             decimals,
-        } => {
-            let paged = if pages { " pages" } else { "" };
-            let end = decimals_text(alloc, decimals)?;
-            format!(in alloc;
-                "solve {workers} {} {}{paged}{end}",
-                limits.nodes, limits.solids
-            )?
-        }
+        } => push_solve(text, workers, limits, pages, decimals),
         Job::Redraw {
             which,
             workers,
             limits,
             decimals,
-        } => {
-            let end = decimals_text(alloc, decimals)?;
-            format!(in alloc;
-                "redraw {which} {workers} {} {}{end}",
-                limits.nodes, limits.solids
-            )?
-        }
+        } => push_one(text, "redraw", which, workers, limits, decimals),
         Job::Stl {
             which,
             workers,
             limits,
-        } => format!(in alloc; "stl {which} {workers} {} {}", limits.nodes, limits.solids)?,
-        Job::Make { n } => format!(in alloc; "make {n}")?,
-        Job::Trial { n, workers } => format!(in alloc; "trial {n} {workers}")?,
-    })
+        } => push_one(text, "stl", which, workers, limits, 0),
+        Job::Make { n } => Ok(write!(text, "make {n}")?),
+        Job::Trial { n, workers } => Ok(write!(text, "trial {n} {workers}")?),
+    }
+}
+
+/// What a job is, as in the table.
+fn told_job(alloc: Global, job: Job) -> Result<String, Fail> {
+    let mut text = String::new(alloc);
+    push_job(&mut text, job)?;
+    Ok(text)
 }
 
 /// What words ask for, as in the table.
 fn asked(alloc: Global, told: &str) -> Result<String, Fail> {
-    match job_of(alloc, words_of(alloc, told)?.as_slice()) {
-        Ok(job) => job_text(alloc, job),
+    let words = words_of(alloc, told)?;
+    match job_of(alloc, words.as_slice()) {
+        Ok(job) => told_job(alloc, job),
         Err(WordFault::Usage) => Ok(String::from_str(alloc, "usage")?),
         Err(WordFault::Memory) => Err(Fail::new("out of memory")),
     }

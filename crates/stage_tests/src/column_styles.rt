@@ -14,19 +14,28 @@ const STYLES: &str = "\
 9223372036854775808 0 9223372036854775809; 0 9223372036854775808 1 -> 221
 1 1 0 3 5 8 0 6 12 7; 1 3 4 2 13 8 0 6 4 8 -> 0122100012";
 
-/// Columns, told by numbers.
-pub fn columns(alloc: Global, text: &str) -> Result<Vec<u64>, Fail> {
-    let mut columns = Vec::new(alloc);
-    for word in text.split(' ') {
-        if !word.is_empty() {
-            columns.push(word.parse().unwrap_or(0))?;
-        }
+/// Numbers, a blank or `; ` between two of them.
+pub fn numbers(alloc: Global, told: &str) -> Result<Vec<u64>, Fail> {
+    let mut numbers = Vec::new(alloc);
+    for word in told.split(' ') {
+        numbers.push(word.trim_end_matches(';').parse().unwrap_or(0))?;
     }
-    Ok(columns)
+    Ok(numbers)
 }
 
-/// The bytes of the styles of pairs, each 9 where none is told.
-fn bytes(alloc: Global, after: &[u64], before: &[u64]) -> Result<Vec<u8>, Fail> {
+/// Bytes below 10, as a row has them.
+pub fn told_digits(alloc: Global, bytes: &[u8]) -> Result<String, Fail> {
+    let mut told = String::new(alloc);
+    for byte in bytes {
+        write!(told, "{byte}")?;
+    }
+    Ok(told)
+}
+
+/// The bytes of the styles of pairs, told by the columns after the segments, and behind them as many
+/// before these; each 9 where none is told.
+fn bytes(alloc: Global, columns: &[u64]) -> Result<Vec<u8>, Fail> {
+    let (after, before) = columns.split_at(columns.len() / 2);
     let mut bytes = vec![in alloc; 9; after.len()]?;
     if after.len() == before.len() {
         styles(after, before, bytes.as_mut_slice());
@@ -36,12 +45,9 @@ fn bytes(alloc: Global, after: &[u64], before: &[u64]) -> Result<Vec<u8>, Fail> 
 
 /// The styles of a row's pairs, as the row has them.
 fn told_styles(alloc: Global, row: Row<'_>) -> Result<String, Fail> {
-    let (after, before) = (columns(alloc, row.parts[0])?, columns(alloc, row.parts[1])?);
-    let mut told = String::new(alloc);
-    for byte in bytes(alloc, after.as_slice(), before.as_slice())?.as_slice() {
-        write!(told, "{byte}")?;
-    }
-    Ok(told)
+    let columns = numbers(alloc, row.told)?;
+    let bytes = bytes(alloc, columns.as_slice())?;
+    told_digits(alloc, bytes.as_slice())
 }
 
 #[test]
@@ -59,7 +65,7 @@ fn pairs_of_columns_have_their_styles(rt: HostRuntime) -> Result<(), Fail> {
 
 /// A pair of columns, of which each kind comes: equal ones, one with a farther cell more, and such
 /// as begin at different depths, or one of them nowhere.
-pub fn pair(number: u32) -> (u64, u64) {
+pub fn pair(number: usize) -> (u64, u64) {
     let near = 1_u64 << (number % 64);
     match number % 5 {
         0 => (near, near),
@@ -70,23 +76,43 @@ pub fn pair(number: u32) -> (u64, u64) {
     }
 }
 
-/// Whether so many pairs have, together, the styles that they have one by one.
-fn have_their_styles(alloc: Global, count: u32) -> Result<bool, Fail> {
-    let (mut after, mut before) = (Vec::new(alloc), Vec::new(alloc));
-    let mut wanted: Vec<u8> = Vec::new(alloc);
+/// Adds one column of each of so many pairs: the one after the segment, or the one before it.
+fn push_columns(columns: &mut Vec<u64>, count: usize, is_after: bool) -> Result<(), Fail> {
     for number in 0..count {
-        let (one, other) = pair(number);
-        after.push(one)?;
-        before.push(other)?;
-        wanted.push(style_byte(style_of(Column(one), Column(other))))?;
+        let (after, before) = pair(number);
+        columns.push(if is_after { after } else { before })?;
     }
-    let bytes = bytes(alloc, after.as_slice(), before.as_slice())?;
-    Ok(bytes.as_slice() == wanted.as_slice())
+    Ok(())
+}
+
+/// The bytes of the styles of so many pairs, told together.
+fn bytes_of_pairs(alloc: Global, count: usize) -> Result<Vec<u8>, Fail> {
+    let mut columns = Vec::new(alloc);
+    push_columns(&mut columns, count, true)?;
+    push_columns(&mut columns, count, false)?;
+    bytes(alloc, columns.as_slice())
+}
+
+/// Whether so many bytes are those of the styles that the pairs have one by one.
+fn are_their_styles(bytes: &[u8], count: usize) -> bool {
+    for (number, byte) in bytes.iter().enumerate() {
+        let (after, before) = pair(number);
+        if *byte != style_byte(style_of(Column(after), Column(before))) {
+            return false;
+        }
+    }
+    bytes.len() == count
+}
+
+/// Whether so many pairs have, together, the styles that they have one by one.
+fn have_their_styles(alloc: Global, count: usize) -> Result<bool, Fail> {
+    let bytes = bytes_of_pairs(alloc, count)?;
+    Ok(are_their_styles(bytes.as_slice(), count))
 }
 
 #[test]
 fn pairs_have_the_same_styles_one_by_one(rt: HostRuntime) -> Result<(), Fail> {
-    for count in 0..68_u32 {
+    for count in 0..68_usize {
         assert!(rt; have_their_styles(rt.alloc(), count)?, "{count} pairs");
     }
     Ok(())

@@ -3,7 +3,7 @@
 ghost use Rattle.std.specs.Prelude.{◌≡◌, ◌<◌, ℕ, true, length, slice_index_or};
 ghost use Rattle.solid_model.specs.Known.{LiesWithin};
 
-use crate::column_styles::{columns, pair};
+use crate::column_styles::{numbers, pair, told_digits};
 use column_lanes::{still_meets, style_byte};
 use columns::{KnownColumn, can_draw};
 use solid_model::Style;
@@ -22,16 +22,6 @@ const MET: &str = "\
 0 0 0; 3 3 3; 2 2 2; 2 2 2; 0 1 2 -> 101
 0 0; 9223372036854775809 9223372036854775809; 9223372036854775809 1; 9223372036854775809 1; 1 1 -> 11
 4 4 4 4 0 0 0 8 8 8; 4 5 5 12 7 0 0 8 9 9; 0 1 1 4 0 0 0 0 1 1; 3 1 1 4 7 0 4 6 1 7; 0 2 1 1 1 2 2 0 2 0 -> 0111101010";
-
-/// What is known of the columns of some pairs, as masks, and the styles that are wanted.
-#[derive(Debug, Drop)]
-struct Masks {
-    full_l: Vec<u64>,
-    may_l: Vec<u64>,
-    full_r: Vec<u64>,
-    may_r: Vec<u64>,
-    want: Vec<u8>,
-}
 
 /// Whether what is full for certain may be full.
 fn is_within(full: u64, may: u64) -> bool
@@ -66,45 +56,63 @@ fn are_styles(want: &[u8]) -> bool
     true
 }
 
-/// The bytes of some pairs, each 9 where none is told.
-fn bytes(alloc: Global, masks: &Masks) -> Result<Vec<u8>, Fail> {
-    let count = masks.full_l.len();
-    let mut bytes = vec![in alloc; 9; count]?;
-    let (full_l, may_l) = (masks.full_l.as_slice(), masks.may_l.as_slice());
-    let (full_r, may_r) = (masks.full_r.as_slice(), masks.may_r.as_slice());
-    let want = masks.want.as_slice();
-    if may_l.len() == count
+/// Tells which pairs can draw their styles, if there are as many masks of each kind, and they and the
+/// styles are some.
+fn tell_met(
+    full_l: &[u64],
+    may_l: &[u64],
+    full_r: &[u64],
+    may_r: &[u64],
+    want: &[u8],
+    bytes: &mut [u8],
+)
+    requires { length bytes.old ≡ length want.now }
+{
+    let count = want.len();
+    if full_l.len() == count
+        && may_l.len() == count
         && full_r.len() == count
         && may_r.len() == count
-        && want.len() == count
         && lie_within(full_l, may_l)
         && lie_within(full_r, may_r)
         && are_styles(want)
     {
-        still_meets(full_l, may_l, full_r, may_r, want, bytes.as_mut_slice());
+        still_meets(full_l, may_l, full_r, may_r, want, bytes);
     }
+}
+
+/// The bytes of pairs, told by their masks, list by list, and their wanted styles; each 9 where none
+/// is told.
+fn bytes(alloc: Global, masks: &[u64], want: &[u8]) -> Result<Vec<u8>, Fail> {
+    let (left, right) = masks.split_at(masks.len() / 2);
+    let (full_l, may_l) = left.split_at(left.len() / 2);
+    let (full_r, may_r) = right.split_at(right.len() / 2);
+    let mut bytes = vec![in alloc; 9; want.len()]?;
+    tell_met(full_l, may_l, full_r, may_r, want, bytes.as_mut_slice());
     Ok(bytes)
+}
+
+/// Styles, told by their bytes.
+fn styles_of(alloc: Global, told: &str) -> Result<Vec<u8>, Fail> {
+    let mut styles = Vec::new(alloc);
+    for word in told.split(' ') {
+        styles.push(word.parse().unwrap_or(9))?;
+    }
+    Ok(styles)
+}
+
+/// The bytes of pairs, told by their masks and their wanted styles.
+fn met(alloc: Global, masks: &str, want: &str) -> Result<Vec<u8>, Fail> {
+    let masks = numbers(alloc, masks)?;
+    let want = styles_of(alloc, want)?;
+    bytes(alloc, masks.as_slice(), want.as_slice())
 }
 
 /// The bytes of a row's pairs, as the row has them.
 fn told_bytes(alloc: Global, row: Row<'_>) -> Result<String, Fail> {
-    let [full_l, may_l, full_r, may_r, wanted] = row.parts;
-    let mut want = Vec::new(alloc);
-    for word in wanted.split(' ') {
-        want.push(word.parse().unwrap_or(9))?;
-    }
-    let masks = Masks {
-        full_l: columns(alloc, full_l)?,
-        may_l: columns(alloc, may_l)?,
-        full_r: columns(alloc, full_r)?,
-        may_r: columns(alloc, may_r)?,
-        want,
-    };
-    let mut told = String::new(alloc);
-    for byte in bytes(alloc, &masks)?.as_slice() {
-        write!(told, "{byte}")?;
-    }
-    Ok(told)
+    let (masks, want) = row.told.rsplit_once("; ").unwrap_or(("", ""));
+    let bytes = met(alloc, masks, want)?;
+    told_digits(alloc, bytes.as_slice())
 }
 
 #[test]
@@ -127,7 +135,7 @@ fn between(one: u64, other: u64) -> KnownColumn
 }
 
 /// The style that is wanted of a pair. Each comes with each kind of pair.
-fn wanted(number: u32) -> Style {
+fn wanted(number: usize) -> Style {
     match number / 5 % 3 {
         0 => Style::Blank,
         1 => Style::Dashed,
@@ -135,36 +143,79 @@ fn wanted(number: u32) -> Style {
     }
 }
 
-/// Whether so many pairs can draw, together, what they can one by one.
-fn meet_the_same(alloc: Global, count: u32) -> Result<bool, Fail> {
-    let (mut full_l, mut may_l) = (Vec::new(alloc), Vec::new(alloc));
-    let (mut full_r, mut may_r) = (Vec::new(alloc), Vec::new(alloc));
-    let (mut want, mut one_by_one) = (Vec::new(alloc), Vec::new(alloc));
-    for number in 0..count {
-        let (one, other) = pair(number);
-        let left = between(one, other);
-        let (one, other) = pair(number ^ 1);
-        let right = between(one, other);
-        full_l.push(left.full)?;
-        may_l.push(left.may)?;
-        full_r.push(right.full)?;
-        may_r.push(right.may)?;
-        want.push(style_byte(wanted(number)))?;
-        one_by_one.push(u8::from(can_draw(wanted(number), left, right)))?;
+/// What is known of the columns of a pair.
+fn known(number: usize) -> (KnownColumn, KnownColumn)
+    ensures left { LiesWithin result.0.full result.0.may }
+    ensures right { LiesWithin result.1.full result.1.may }
+{
+    let (left, right) = (pair(number), pair(number ^ 1));
+    (between(left.0, left.1), between(right.0, right.1))
+}
+
+/// A mask of a pair, by the number of its kind.
+fn mask(number: usize, kind: u8) -> u64 {
+    let (left, right) = known(number);
+    match kind {
+        0 => left.full,
+        1 => left.may,
+        2 => right.full,
+        _ => right.may,
     }
-    let masks = Masks {
-        full_l,
-        may_l,
-        full_r,
-        may_r,
-        want,
-    };
-    Ok(bytes(alloc, &masks)?.as_slice() == one_by_one.as_slice())
+}
+
+/// Adds the masks of one kind of so many pairs.
+fn push_masks(masks: &mut Vec<u64>, count: usize, kind: u8) -> Result<(), Fail> {
+    for number in 0..count {
+        masks.push(mask(number, kind))?;
+    }
+    Ok(())
+}
+
+/// The masks of so many pairs, list by list.
+fn masks_of(alloc: Global, count: usize) -> Result<Vec<u64>, Fail> {
+    let mut masks = Vec::new(alloc);
+    for kind in 0..4_u8 {
+        push_masks(&mut masks, count, kind)?;
+    }
+    Ok(masks)
+}
+
+/// The styles that are wanted of so many pairs.
+fn wanted_styles(alloc: Global, count: usize) -> Result<Vec<u8>, Fail> {
+    let mut styles = Vec::new(alloc);
+    for number in 0..count {
+        styles.push(style_byte(wanted(number)))?;
+    }
+    Ok(styles)
+}
+
+/// The bytes of so many pairs, told together.
+fn bytes_of_pairs(alloc: Global, count: usize) -> Result<Vec<u8>, Fail> {
+    let masks = masks_of(alloc, count)?;
+    let want = wanted_styles(alloc, count)?;
+    bytes(alloc, masks.as_slice(), want.as_slice())
+}
+
+/// Whether so many bytes tell what the pairs can draw one by one.
+fn tell_one_by_one(bytes: &[u8], count: usize) -> bool {
+    for (number, byte) in bytes.iter().enumerate() {
+        let (left, right) = known(number);
+        if *byte != u8::from(can_draw(wanted(number), left, right)) {
+            return false;
+        }
+    }
+    bytes.len() == count
+}
+
+/// Whether so many pairs can draw, together, what they can one by one.
+fn meet_the_same(alloc: Global, count: usize) -> Result<bool, Fail> {
+    let bytes = bytes_of_pairs(alloc, count)?;
+    Ok(tell_one_by_one(bytes.as_slice(), count))
 }
 
 #[test]
 fn pairs_meet_the_same_one_by_one(rt: HostRuntime) -> Result<(), Fail> {
-    for count in 0..68_u32 {
+    for count in 0..68_usize {
         assert!(rt; meet_the_same(rt.alloc(), count)?, "{count} pairs");
     }
     Ok(())

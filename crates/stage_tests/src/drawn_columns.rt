@@ -6,11 +6,12 @@ ghost use Rattle.solid_model.specs.Limits.{most_grid_coordinates};
 ghost use Rattle.solid_model.specs.PerAxis.{numbers_of};
 ghost use Rattle.solid_model.specs.Known.{LiesWithin};
 
+use crate::cells::{cells, numbers};
 use crate::grids::grid_in;
 use columns::{
     Column, ColumnSet, KnownColumn, can_draw, columns_in, columns_of, draw_cells, draw_in, style_of,
 };
-use solid_model::{PerAxis, Style, View};
+use solid_model::{Grid, Panel, Panels, PerAxis, Style, View};
 use std::alloc::Global;
 use std::fmt::Write;
 use std::test::Fail;
@@ -45,36 +46,6 @@ const KNOWN: &str = "\
 ?#.; #.. -> -DS
 ..; .. -> B--";
 
-/// The number of coordinates that a digit stands for.
-fn count(digit: Option<u8>) -> usize
-    ensures { result ≤ most_grid_coordinates }
-{
-    usize::from(digit.unwrap_or(b'0').saturating_sub(b'0') % 10)
-}
-
-/// The numbers of coordinates.
-fn counts(text: &str) -> PerAxis
-    ensures { (a : Axis) → numbers_of result a ≤ most_grid_coordinates }
-{
-    let mut digits = text.bytes();
-    PerAxis {
-        x: count(digits.next()),
-        y: count(digits.next()),
-        z: count(digits.next()),
-    }
-}
-
-/// The cells that are chosen.
-fn cells(alloc: Global, text: &str) -> Result<Vec<bool>, Fail> {
-    let mut cells = Vec::new(alloc);
-    for byte in text.bytes() {
-        if byte != b' ' {
-            cells.push(byte == b'#')?;
-        }
-    }
-    Ok(cells)
-}
-
 /// Adds the columns, as a row has them.
 fn push_columns(told: &mut String, columns: &[Column]) -> Result<(), Fail> {
     for column in columns {
@@ -83,44 +54,72 @@ fn push_columns(told: &mut String, columns: &[Column]) -> Result<(), Fail> {
     Ok(told.push_str(";")?)
 }
 
+/// The mark of a style.
+fn mark(style: Style) -> &'static str {
+    match style {
+        Style::Blank => ".",
+        Style::Dashed => "-",
+        Style::Solid => "#",
+    }
+}
+
 /// Adds the styles, as a row has them, in lines of so many.
 fn push_styles(told: &mut String, styles: &[Style], width: usize) -> Result<(), Fail> {
     for (place, style) in styles.iter().enumerate() {
-        if width > 0 && place % width == 0 {
-            told.push_str(" ")?;
-        }
-        told.push_str(match style {
-            Style::Blank => ".",
-            Style::Dashed => "-",
-            Style::Solid => "#",
-        })?;
+        let gap = if width > 0 && place % width == 0 {
+            " "
+        } else {
+            ""
+        };
+        write!(told, "{gap}{}", mark(*style))?;
     }
     Ok(told.push_str(";")?)
 }
 
-/// What the three views show of a row's cells, as the row has it, behind a blank.
-fn told_views(alloc: Global, row: Row<'_>) -> Result<String, Fail> {
-    let [numbers, chosen, ..] = row.parts;
-    let counts = counts(numbers);
-    let cells = cells(alloc, chosen)?;
-    let columns = columns_in(alloc, counts, cells.as_slice())?;
-    let panels = draw_in(alloc, counts, cells.as_slice())?;
+/// Adds the styles of the level and of the upright segments of a view, as a row has them.
+fn push_panel(told: &mut String, counts: PerAxis, view: View, panel: &Panel) -> Result<(), Fail>
+    requires { (a : Axis) → numbers_of counts a ≤ most_grid_coordinates }
+{
+    let (frame, gaps) = (view.frame(), counts.gaps());
+    push_styles(
+        told,
+        panel.along(false),
+        gaps.along(frame.along(false).axis),
+    )?;
+    push_styles(told, panel.along(true), gaps.along(frame.along(true).axis))
+}
+
+/// What the three views show, as a row has it, behind a blank.
+fn told_views(
+    alloc: Global,
+    counts: PerAxis,
+    columns: &ColumnSet,
+    panels: &Panels,
+) -> Result<String, Fail>
+    requires { (a : Axis) → numbers_of counts a ≤ most_grid_coordinates }
+{
     let mut told = String::new(alloc);
     for view in [View::Front, View::Top, View::Side] {
-        let (frame, panel) = (view.frame(), panels.view(view));
         push_columns(&mut told, columns.view(view))?;
-        push_styles(
-            &mut told,
-            panel.along(false),
-            counts.gaps().along(frame.along(false).axis),
-        )?;
-        push_styles(
-            &mut told,
-            panel.along(true),
-            counts.gaps().along(frame.along(true).axis),
-        )?;
+        push_panel(&mut told, counts, view, panels.view(view))?;
     }
     Ok(told)
+}
+
+/// What the three views show of cells, as a row has it, behind a blank.
+fn shown(alloc: Global, counts: PerAxis, cells: &[bool]) -> Result<String, Fail>
+    requires { (a : Axis) → numbers_of counts a ≤ most_grid_coordinates }
+{
+    let columns = columns_in(alloc, counts, cells)?;
+    let panels = draw_in(alloc, counts, cells)?;
+    told_views(alloc, counts, &columns, &panels)
+}
+
+/// What the three views show of a row's cells, as the row has it, behind a blank.
+fn shown_in(alloc: Global, row: Row<'_>) -> Result<String, Fail> {
+    let [counts, chosen, ..] = row.parts;
+    let cells = cells(alloc, chosen)?;
+    shown(alloc, numbers(counts), cells.as_slice())
 }
 
 #[test]
@@ -128,7 +127,7 @@ fn chosen_cells_draw_what_was_found_by_hand(rt: HostRuntime) -> Result<(), Fail>
     for line in DRAWINGS.lines() {
         let row = row_of(line);
         assert_eq!(rt;
-            told_views(rt.alloc(), row)?.as_str().trim_start(),
+            shown_in(rt.alloc(), row)?.as_str().trim_start(),
             row.wanted,
             "{line}"
         );
@@ -157,13 +156,29 @@ fn told_columns(alloc: Global, columns: &ColumnSet) -> Result<String, Fail> {
     Ok(told)
 }
 
+/// The columns of a solid's cells, as a row has them, behind a blank.
+fn columns_told(alloc: Global, grid: &Grid, cells: &[bool]) -> Result<String, Fail> {
+    let columns = columns_of(alloc, grid, cells)?;
+    told_columns(alloc, &columns)
+}
+
+/// Whether a solid's cells draw the drawing of the grid.
+fn draw_it(alloc: Global, grid: &Grid, cells: &[bool]) -> Result<bool, Fail> {
+    let panels = draw_cells(alloc, grid, cells)?;
+    Ok(panels.same(grid.panels()))
+}
+
+/// Whether a solid's cells have these columns, and draw the drawing of the grid.
+fn stand_so(alloc: Global, grid: &Grid, cells: &[bool], wanted: &str) -> Result<bool, Fail> {
+    let columns = columns_told(alloc, grid, cells)?;
+    Ok(columns.as_str().trim_start() == wanted && draw_it(alloc, grid, cells)?)
+}
+
 /// Whether a row's solid has its columns, and draws its drawing.
 fn is_drawn(alloc: Global, row: Row<'_>) -> Result<bool, Fail> {
     let grid = grid_in(alloc, row)?;
     let cells = cells(alloc, row.parts[3])?;
-    let columns = told_columns(alloc, &columns_of(alloc, &grid, cells.as_slice())?)?;
-    let panels = draw_cells(alloc, &grid, cells.as_slice())?;
-    Ok(columns.as_str().trim_start() == row.wanted && panels.same(grid.panels()))
+    stand_so(alloc, &grid, cells.as_slice(), row.wanted)
 }
 
 #[test]
@@ -198,23 +213,29 @@ fn known(text: &str) -> KnownColumn
     }
 }
 
+/// The letter of a style, if two columns can draw it, else a `-`.
+fn letter(style: Style, after: KnownColumn, before: KnownColumn) -> &'static str
+    requires after { LiesWithin after.full after.may }
+    requires before { LiesWithin before.full before.may }
+{
+    if !can_draw(style, after, before) {
+        return "-";
+    }
+    match style {
+        Style::Blank => "B",
+        Style::Dashed => "D",
+        Style::Solid => "S",
+    }
+}
+
 /// The styles that a row's two columns can draw, as the row has them.
 fn drawable(alloc: Global, row: Row<'_>) -> Result<String, Fail> {
     let [after, before, ..] = row.parts;
     let (after, before) = (known(after), known(before));
-    let mut told = String::new(alloc);
-    for (style, letter) in [
-        (Style::Blank, "B"),
-        (Style::Dashed, "D"),
-        (Style::Solid, "S"),
-    ] {
-        told.push_str(if can_draw(style, after, before) {
-            letter
-        } else {
-            "-"
-        })?;
-    }
-    Ok(told)
+    let blank = letter(Style::Blank, after, before);
+    let dashed = letter(Style::Dashed, after, before);
+    let solid = letter(Style::Solid, after, before);
+    Ok(format!(in alloc; "{blank}{dashed}{solid}")?)
 }
 
 #[test]

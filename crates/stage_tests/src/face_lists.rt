@@ -1,8 +1,8 @@
 //! Solids whose faces were found by hand.
 
-use cell_rows::CellRows;
+use crate::cells::{numbers, rows_of};
 use faces::counted_faces;
-use solid_model::{Face, Loop, Marks, Out, PerAxis};
+use solid_model::{Face, Loop, Out};
 use std::alloc::Global;
 use std::fmt::Write;
 use std::test::Fail;
@@ -26,31 +26,8 @@ const SOLIDS: &str = "\
 -y0 000 300 301 001, -y2 120 220 221 121, +y1 110 111 211 210, +y3 030 031 331 330, \
 -z0 000 030 330 300 / 110 210 220 120, +z1 001 301 331 031 / 111 121 221 211";
 
-/// The number that a digit stands for.
-fn digit(byte: Option<u8>) -> Result<usize, Fail> {
-    Ok(usize::from(byte.ok_or("digit")?.saturating_sub(b'0')))
-}
-
-/// The cells that a row begins with.
-fn read_cells(alloc: Global, sizes: &str, cells: &str) -> Result<CellRows, Fail> {
-    let mut digits = sizes.bytes();
-    let sizes = PerAxis {
-        x: digit(digits.next())?,
-        y: digit(digits.next())?,
-        z: digit(digits.next())?,
-    };
-    let mut values = Vec::new(alloc);
-    for byte in cells.bytes() {
-        values.push(byte == b'#')?;
-    }
-    if sizes.x > 9 || sizes.y > 9 || sizes.z > 9 || values.len() != sizes.count() {
-        return Err(Fail::new("no cells"));
-    }
-    Ok(CellRows::of(alloc, &Marks::new(sizes, values))?)
-}
-
 /// The name of an outward side.
-fn side_name(out: Out) -> &'static str {
+pub fn side_name(out: Out) -> &'static str {
     match out {
         Out::MinusX => "-x",
         Out::PlusX => "+x",
@@ -84,7 +61,7 @@ fn tell_face(face: &Face, told: &mut String) -> Result<(), Fail> {
 /// All faces of a row's cells, as the row has them.
 fn told_faces(alloc: Global, row: Row<'_>) -> Result<String, Fail> {
     let [sizes, cells, ..] = row.parts;
-    let cells = read_cells(alloc, sizes, cells)?;
+    let cells = rows_of(alloc, numbers(sizes), cells)?;
     let mut told = String::new(alloc);
     for face in &counted_faces(alloc, &cells)? {
         if !told.is_empty() {

@@ -4,7 +4,7 @@ use dxf_entities::entities;
 use dxf_groups::Groups;
 use grid::grid_of;
 use pseudo_wire::wire_of;
-use solid_model::{Axis, FaceMap, Grid, Panel, PerAxis, Style, View, Wire};
+use solid_model::{Axis, FaceMap, Grid, Panel, Panels, PerAxis, SheetLine, Style, View, Wire};
 use std::alloc::Global;
 use std::test::Fail;
 use test_files::{Row, drawing_file, file_bytes, row_of};
@@ -27,40 +27,55 @@ line S 0 0 5 0, line D 0 3 2 3, line S 2 3 5 3, line S 0 4 2 4, line S 0 0 0 4, 
 line D 0 0 1 0, line S 1 0 3 0; line S 0 0 2 0; line S 0 0 1 0 \
     -> [0, 1, 2, 3] [0, 1] [0] front -==/ top ==..../.... side =/";
 
-/// The grid of a row's drawing.
-pub fn grid_in(alloc: Global, row: Row<'_>) -> Result<Grid, Fail> {
+/// The lines of a row's drawing.
+fn lines_in(alloc: Global, row: Row<'_>) -> Result<Vec<SheetLine>, Fail> {
     let file = file_bytes(drawing_file(alloc, row.views())?)?;
-    let lines = entities(alloc, &mut Groups::new(file), 0)?;
-    Ok(grid_of(alloc, &drawing(alloc, lines.as_slice())?)?)
+    Ok(entities(alloc, &mut Groups::new(file), 0)?)
 }
 
-/// The marks of styles.
-fn push_marks(text: &mut String, styles: &[Style]) -> Result<(), Fail> {
+/// The grid of a row's drawing.
+pub fn grid_in(alloc: Global, row: Row<'_>) -> Result<Grid, Fail> {
+    let lines = lines_in(alloc, row)?;
+    let drawing = drawing(alloc, lines.as_slice())?;
+    Ok(grid_of(alloc, &drawing)?)
+}
+
+/// The mark of a style.
+fn mark(style: Style) -> &'static str {
+    match style {
+        Style::Blank => ".",
+        Style::Dashed => "-",
+        Style::Solid => "=",
+    }
+}
+
+/// Adds the marks of styles, behind a text.
+fn push_marks(text: &mut String, before: &str, styles: &[Style]) -> Result<(), Fail> {
+    text.push_str(before)?;
     for style in styles {
-        text.push_str(match *style {
-            Style::Blank => ".",
-            Style::Dashed => "-",
-            Style::Solid => "=",
-        })?;
+        text.push_str(mark(*style))?;
     }
     Ok(())
 }
 
-/// A view of a grid as in the table.
+/// Adds a view of a grid, as in the table.
 fn push_view(text: &mut String, name: &str, panel: &Panel) -> Result<(), Fail> {
-    text.push_str(name)?;
-    push_marks(text, panel.along(false))?;
-    text.push('/')?;
-    push_marks(text, panel.along(true))
+    push_marks(text, name, panel.along(false))?;
+    push_marks(text, "/", panel.along(true))
+}
+
+/// Adds the three views of a grid, as in the table.
+fn push_views(text: &mut String, panels: &Panels) -> Result<(), Fail> {
+    push_view(text, " front ", panels.view(View::Front))?;
+    push_view(text, " top ", panels.view(View::Top))?;
+    push_view(text, " side ", panels.view(View::Side))
 }
 
 /// The grid of a row's drawing, as the row has it.
 fn told_grid(alloc: Global, row: Row<'_>) -> Result<String, Fail> {
     let grid = grid_in(alloc, row)?;
     let mut text = format!(in alloc; "{:?} {:?} {:?}", grid.xs(), grid.ys(), grid.zs())?;
-    push_view(&mut text, " front ", grid.panels().view(View::Front))?;
-    push_view(&mut text, " top ", grid.panels().view(View::Top))?;
-    push_view(&mut text, " side ", grid.panels().view(View::Side))?;
+    push_views(&mut text, grid.panels())?;
     Ok(text)
 }
 
@@ -112,26 +127,32 @@ fn counted(wire: &Wire, faces: &FaceMap, axis: Axis) -> (u32, u32) {
     (edges, virtual_faces)
 }
 
-/// The counts of a row's drawing, as the row has them.
-fn told_counts(alloc: Global, row: Row<'_>) -> Result<String, Fail> {
-    let grid = grid_in(alloc, row)?;
-    let wire = wire_of(alloc, &grid)?;
-    let faces = faces_of(alloc, &grid, &wire)?;
-    let (x_edges, x_faces) = counted(&wire, &faces, Axis::X);
-    let (y_edges, y_faces) = counted(&wire, &faces, Axis::Y);
-    let (z_edges, z_faces) = counted(&wire, &faces, Axis::Z);
+/// The counts along x, y and z, as a row has them.
+fn told_counts(alloc: Global, wire: &Wire, faces: &FaceMap) -> Result<String, Fail> {
+    let (x_edges, x_faces) = counted(wire, faces, Axis::X);
+    let (y_edges, y_faces) = counted(wire, faces, Axis::Y);
+    let (z_edges, z_faces) = counted(wire, faces, Axis::Z);
     Ok(format!(in alloc; "{x_edges} {y_edges} {z_edges} {x_faces} {y_faces} {z_faces}")?)
+}
+
+/// The counts of a grid, as a row has them.
+fn counts_of(alloc: Global, grid: &Grid) -> Result<String, Fail> {
+    let wire = wire_of(alloc, grid)?;
+    let faces = faces_of(alloc, grid, &wire)?;
+    told_counts(alloc, &wire, &faces)
+}
+
+/// The counts of a row's drawing, as the row has them.
+fn counts_in(alloc: Global, row: Row<'_>) -> Result<String, Fail> {
+    let grid = grid_in(alloc, row)?;
+    counts_of(alloc, &grid)
 }
 
 #[test]
 fn edges_and_faces_are_as_many_as_by_hand(rt: HostRuntime) -> Result<(), Fail> {
     for line in COUNTS.lines() {
         let row = row_of(line);
-        assert_eq!(rt;
-            told_counts(rt.alloc(), row)?.as_str(),
-            row.wanted,
-            "{line}"
-        );
+        assert_eq!(rt; counts_in(rt.alloc(), row)?.as_str(), row.wanted, "{line}");
     }
     Ok(())
 }

@@ -4,6 +4,8 @@
 #[cfg(test)]
 mod arguments;
 #[cfg(test)]
+mod cells;
+#[cfg(test)]
 mod column_styles;
 #[cfg(test)]
 mod columns_met;
@@ -21,6 +23,10 @@ mod planes;
 mod sources;
 #[cfg(test)]
 mod successions;
+#[cfg(test)]
+mod surface_texts;
+#[cfg(test)]
+mod surfaces;
 #[cfg(test)]
 mod texts;
 #[cfg(test)]

@@ -40,20 +40,31 @@ a solid line that ends inside a longer dashed one, and a cross; \
     line D 1 0 1 7, line S 1 0 1 3, line S 0 2 5 2 -> \
     solid level 2 0 5, solid upright 1 0 3, dashed upright 1 3 7";
 
-/// The text of runs, one after another.
+/// The name of a style.
+fn style_name(style: Style) -> &'static str {
+    match style {
+        Style::Solid => "solid",
+        Style::Dashed => "dashed",
+        Style::Blank => "blank",
+    }
+}
+
+/// Adds a run, behind those before it.
+fn push_run(text: &mut String, kind: &str, run: &Run) -> Result<(), Fail> {
+    let comma = if text.is_empty() { "" } else { ", " };
+    let Run {
+        at,
+        style,
+        from,
+        to,
+    } = *run;
+    Ok(write!(text, "{comma}{} {kind} {at} {from} {to}", style_name(style))?)
+}
+
+/// Adds runs, one after another.
 fn push_runs(text: &mut String, kind: &str, runs: &[Run]) -> Result<(), Fail> {
     for run in runs {
-        let style = match run.style {
-            Style::Solid => "solid",
-            Style::Dashed => "dashed",
-            Style::Blank => "blank",
-        };
-        let comma = if text.is_empty() { "" } else { ", " };
-        let told = format!(in *text.allocator();
-            "{comma}{style} {kind} {} {} {}",
-            run.at, run.from, run.to
-        )?;
-        text.push_str(told.as_str())?;
+        push_run(text, kind, run)?;
     }
     Ok(())
 }

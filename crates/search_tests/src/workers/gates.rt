@@ -1,0 +1,138 @@
+//! Gates that hold workers up until others have come as far, or give up.
+
+use super::{TWICE_EIGHT_VOIDS, searched};
+use crate::searches::problem;
+use search_run::NoPages;
+use solid_model::Limits;
+use std::alloc::Global;
+use std::sync::Wait;
+use std::sync::atomic::{AtomicU64, Ordering};
+use std::test::*;
+use std::thread;
+use std::thread::Threads;
+use tv_base::{Gate, Point};
+
+/// After so many turns a gate gives up. A turn is one yield.
+const TURNS: u32 = 20_000_000;
+
+/// Waits until a count has reached a number. False: it gave up.
+fn wait_for(count: &AtomicU64, number: u64) -> bool {
+    for _ in 0..TURNS {
+        if count.load(Ordering::SeqCst) >= number {
+            return true;
+        }
+        thread::yield_now();
+    }
+    false
+}
+
+/// Holds each of two workers inside its second expansion's beginning until the other one has come
+/// there too, so that both are inside at once.
+#[derive(Drop)]
+struct Meeting {
+    first: AtomicU64,
+    second: AtomicU64,
+    given_up: AtomicU64,
+}
+
+impl Gate for Meeting {
+    fn pass(&self, worker: u32, point: Point) {
+        if point != Point::BeforeExpand {
+            return;
+        }
+        let (own, other) = if worker == 0 {
+            (&self.first, &self.second)
+        } else {
+            (&self.second, &self.first)
+        };
+        let before = own.fetch_add(1, Ordering::SeqCst);
+        if before == 1 && !wait_for(other, 2) {
+            self.given_up.fetch_add(1, Ordering::SeqCst);
+        }
+    }
+}
+
+/// Holds each of two workers at its third expansion's beginning until a page was written.
+#[derive(Drop)]
+struct PageFirst {
+    first: AtomicU64,
+    second: AtomicU64,
+    pages: AtomicU64,
+    given_up: AtomicU64,
+}
+
+impl Gate for PageFirst {
+    fn pass(&self, worker: u32, point: Point) {
+        match point {
+            Point::BeforeExpand => {
+                let own = if worker == 0 {
+                    &self.first
+                } else {
+                    &self.second
+                };
+                let before = own.fetch_add(1, Ordering::SeqCst);
+                if before == 2 && !wait_for(&self.pages, 1) {
+                    self.given_up.fetch_add(1, Ordering::SeqCst);
+                }
+            }
+            Point::AfterReport => {}
+            Point::PageWritten => {
+                self.pages.fetch_add(1, Ordering::SeqCst);
+            }
+        }
+    }
+}
+
+/// How many solids a search of the cubes with eight voids finds by two workers, who pass a gate.
+fn found_by_two<R: Threads + Wait + Sync, G: Gate>(
+    rt: &R,
+    alloc: Global,
+    gate: &G,
+) -> Result<usize, Fail> {
+    let problem = problem(alloc, [TWICE_EIGHT_VOIDS; 3])?;
+    match searched(rt, alloc, problem, Limits::DEFAULT, 2, gate, &mut NoPages) {
+        Ok(ended) => Ok(ended.solids.len()),
+        Err(_) => Err(Fail::from("no answer")),
+    }
+}
+
+/// How many solids a search with a meeting finds, if no worker gave up.
+fn found_at_meeting<R: Threads + Wait + Sync>(rt: &R, alloc: Global) -> Result<usize, Fail> {
+    let gate = Meeting {
+        first: AtomicU64::new(0),
+        second: AtomicU64::new(0),
+        given_up: AtomicU64::new(0),
+    };
+    let found = found_by_two(rt, alloc, &gate)?;
+    if gate.given_up.load(Ordering::SeqCst) > 0 {
+        return Err(Fail::from("given up"));
+    }
+    Ok(found)
+}
+
+/// How many solids a search finds whose workers wait for a page, if none gave up.
+fn found_with_page<R: Threads + Wait + Sync>(rt: &R, alloc: Global) -> Result<usize, Fail> {
+    let gate = PageFirst {
+        first: AtomicU64::new(0),
+        second: AtomicU64::new(0),
+        pages: AtomicU64::new(0),
+        given_up: AtomicU64::new(0),
+    };
+    let found = found_by_two(rt, alloc, &gate)?;
+    if gate.given_up.load(Ordering::SeqCst) > 0 {
+        return Err(Fail::from("given up"));
+    }
+    Ok(found)
+}
+
+#[test]
+fn two_at_once(rt: HostRuntime) -> Result<(), Fail> {
+    assert_eq!(rt; found_at_meeting(&rt, rt.alloc())?, 1225);
+    Ok(())
+}
+
+#[test]
+fn page_before_end(rt: HostRuntime) -> Result<(), Fail> {
+    assert_eq!(rt; found_with_page(&rt, rt.alloc())?, 1225);
+    Ok(())
+}

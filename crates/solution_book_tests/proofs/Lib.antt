@@ -1,2 +1,0 @@
-mod Solved
-mod Authors
