@@ -13,7 +13,7 @@ use Rattle.columns.specs.declared.spans.Span.{Span}
 use Rattle.solid_model.specs.Decisions.{decided_by}
 use Rattle.columns.specs.Broken.{TellsBroken}
 use Rattle.columns.specs.Free.{LeaveFreeBut, LeavesFree}
-use Rattle.columns.specs.Lines.{one_if, times_listed, AreMarked, AreBeside, AreTried, AreFreeBut, IsMetBy, IsLeast}
+use Rattle.columns.specs.Lines.{one_if, times_listed, AreMarked, AreBeside, AreTried, AreFreeAmong, IsMetBy, IsLeast}
 use Rattle.columns.specs.Spans.{is_on, column_there, known_there, AreWithin}
 use Rattle.columns.specs.KeptColumns.{column_count, IsColumnOf, IsBeside, IsKeptBy}
 use Rattle.columns.specs.declared.seen.SeenLine.{SeenLine}
@@ -183,7 +183,7 @@ module _ (p : ProblemParts) (blocks : IsBlocksOf p.grid p.blocks) (spans : List 
       }
 
   -- where lines that are listed with a block leave the cells beside them free, those that touch it do
-  pub free_told : (b : ℕ) (ls : List ℕ) (doubts : ℕ) → b < p.blocks.count → AreFreeBut columns sides (get_or touched b ls) (length (get_or touched b ls)) broken doubts
+  pub free_told : (b : ℕ) (ls : List ℕ) (doubts : ℕ) → b < p.blocks.count → AreFreeAmong columns sides (get_or touched b ls) (length (get_or touched b ls)) broken doubts
       → LeaveFreeBut p (decided_by decisions) b doubts
   free_told b ls doubts l free place line at off met =
       let lines = get_or touched b ls in

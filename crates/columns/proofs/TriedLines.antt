@@ -7,7 +7,7 @@ use Rattle.std.proofs.lemmas.Grind.{take_at_read}
 use Rattle.solid_model.specs.Bits.{is_set}
 use Rattle.columns.specs.declared.known.KnownColumn.{KnownColumn}
 use Rattle.columns.specs.declared.lines.Beside.{Beside}
-use Rattle.columns.specs.Lines.{one_if, times_listed, AreMarked, IsMetBy, AreFreeBeside, BeginsWith, AreTried, AreFreeBut}
+use Rattle.columns.specs.Lines.{one_if, times_listed, AreMarked, IsMetBy, AreFreeBeside, BeginsWith, AreTried, AreFreeAmong}
 
 -- a number that is one of a list, or isn't
 pub is_not_there : (met : List Bool) (broken : List ℕ) (i : ℕ) → AreMarked met broken → i < length met → get_or met i false ≡ true → times_listed i broken ≡ 0
@@ -77,7 +77,7 @@ module _ (columns : List KnownColumn) (sides : List Beside) (lines old : List �
 pub one_free : (columns : List KnownColumn) (sides : List Beside) (lines : List ℕ) (n line e : ℕ) (before after : List ℕ) (doubts now : ℕ) → get_or lines n e ≡ line → n < length lines
     → ((i : ℕ) → times_listed i after ≡ 0 → times_listed i before ≡ 0) → ((k : ℕ) → is_set now k ≡ false → is_set doubts k ≡ false)
     → (is_set now (n % 64) ≡ false → (d : Beside) → times_listed line after ≡ 0 → AreFreeBeside columns (get_or sides line d))
-    → AreFreeBut columns sides lines n before doubts → AreFreeBut columns sides lines (n + 1) after now
+    → AreFreeAmong columns sides lines n before doubts → AreFreeAmong columns sides lines (n + 1) after now
 one_free columns sides lines n line e before after doubts now at within less fewer here so_far place f d l off unbroken = elim (cases_lt place n) as (λ _. AreFreeBeside columns (get_or sides (get_or lines place f) d)) [
   | inl earlier ↦ so_far place f d earlier (fewer (place % 64) off) (less (get_or lines place f) unbroken)
   | inr later ↦ (let same : place ≡ n = omega arith in

@@ -50,8 +50,8 @@ pub record AreTried (columns : List KnownColumn) (sides : List Beside) (lines ol
 
 -- of the lines at the first places each that isn't broken leaves the cells beside it free, but for those whose bit is set: places that
 -- are 64 apart share one
-abbrev pub AreFreeBut : List KnownColumn → List Beside → List ℕ → ℕ → List ℕ → ℕ → Type 0
-AreFreeBut columns sides lines count broken doubts = (place e : ℕ) (d : Beside) → place < count → is_set doubts (place % 64) ≡ false
+abbrev pub AreFreeAmong : List KnownColumn → List Beside → List ℕ → ℕ → List ℕ → ℕ → Type 0
+AreFreeAmong columns sides lines count broken doubts = (place e : ℕ) (d : Beside) → place < count → is_set doubts (place % 64) ≡ false
     → times_listed (slice_index_or lines place e) broken ≡ 0 → AreFreeBeside columns (slice_index_or sides (slice_index_or lines place e) d)
 
 -- it is one of them, and each that is less isn't

@@ -1,7 +1,7 @@
 //! The lines that can't be met, in the order in which they were found.
 
 ghost use Rattle.std.specs.Prelude.{◌≡◌, ◌↔◌, ◌<◌, ◌≤◌, ◌+◌, ◌++◌, ◌∷◌, [], ◌==◌, ℕ, true, false, length, take, All, slice_index_or, slice_set, vec_capacity, IsTrue};
-ghost use Rattle.columns.specs.Lines.{times_listed, AreMarked, IsMetBy, AreFreeBeside, AreBeside, BeginsWith, AreTried, AreFreeBut, IsLeast, lesser_of};
+ghost use Rattle.columns.specs.Lines.{times_listed, AreMarked, IsMetBy, AreFreeBeside, AreBeside, BeginsWith, AreTried, AreFreeAmong, IsLeast, lesser_of};
 ghost use Rattle.columns.specs.Spans.{AreWithin};
 
 use crate::free::are_free;
@@ -135,7 +135,7 @@ pub fn try_lines<L: Ledger>(
     ensures marked { AreMarked met.new broken.new.items }
     ensures room { vec_capacity broken.new ≡ vec_capacity broken.old }
     ensures tried { AreTried columns.now sides.now lines.now broken.old.items broken.new.items }
-    ensures free { AreFreeBut columns.now sides.now lines.now (length lines.now) broken.new.items result }
+    ensures free { AreFreeAmong columns.now sides.now lines.now (length lines.now) broken.new.items result }
     ensures steps { steps.new ≤ steps.old + length lines.now }
 {
     let mut doubts = 0;

@@ -1,6 +1,6 @@
 -- The lines so far are tried.
 use Rattle.std.proofs.Common.{◌≡◌, ◌≤◌, ◌+◌, length, take, vec_capacity}
-use Rattle.columns.specs.Lines.{AreMarked, AreTried, AreFreeBut}
+use Rattle.columns.specs.Lines.{AreMarked, AreTried, AreFreeAmong}
 use Rattle.columns.proofs.lines.try_lines.Given as goal
 
 abbrev pub invariant-loop-place : goal.invariant-loop-place
@@ -10,6 +10,6 @@ invariant-loop-place g l = record {
   count : length l.met ≡ length l.fn.met;
   room : vec_capacity l.broken ≡ vec_capacity l.fn.broken;
   tried : AreTried l.columns l.sides (take l.place l.lines) l.fn.broken.items l.broken.items;
-  free : AreFreeBut l.columns l.sides l.lines l.place l.broken.items l.doubts;
+  free : AreFreeAmong l.columns l.sides l.lines l.place l.broken.items l.doubts;
   steps : l.steps ≤ l.fn.steps + l.place;
 }

@@ -5,7 +5,7 @@ use Rattle.solid_model.specs.declared.decision.Decision.{Decision}
 use Rattle.solid_model.specs.Decisions.{decided_by, PartialParts}
 use Rattle.columns.specs.KeptColumns.{IsKeptBy, AreValues}
 use Rattle.columns.specs.Free.{LeaveFreeBut, AreDoubts}
-use Rattle.columns.specs.Lines.{AreTried, AreFreeBut, AreBeside}
+use Rattle.columns.specs.Lines.{AreTried, AreFreeAmong, AreBeside}
 use Rattle.columns.specs.Spans.{is_on, known_there, AreWithin}
 use Rattle.columns.proofs.ToldDoubts.{doubts_more}
 use Rattle.columns.proofs.Deciding.{room_for_one, values_more}
@@ -104,10 +104,10 @@ told_now g c =
     let there : c.args.block < p.blocks.count = subst (λ (v : PartialParts). c.args.block < v.problem.blocks.count) (sym c.self.view_is) c.requires.there in
     let seen : c.as_slice-2.result.now ≡ columns = c.as_slice-2.ensures.value ∙ take_at columns _ self.columns.len (c.set_spans.auto.columns ∙ c.as_mut_slice.ensures.len) in
     let of_lines : c.as_slice-4.result.now ≡ lines = c.as_slice-4.ensures ∙ c.index-2.ensures ∙ ap (λ b. get_or self.touched.items b c.index-2.result.now) c.from-number.ensures in
-    let free : AreFreeBut columns self.sides.items lines (length lines) broken doubts =
-    subst (λ cs. AreFreeBut cs self.sides.items lines (length lines) broken doubts) seen
-    (subst (λ bs. AreFreeBut c.as_slice-2.result.now bs lines (length lines) broken doubts) c.as_slice-3.ensures.value
-    (subst (λ ls. AreFreeBut c.as_slice-2.result.now c.as_slice-3.result.now ls (length ls) broken doubts) of_lines c.try_lines-doubts.ensures.free)) in
+    let free : AreFreeAmong columns self.sides.items lines (length lines) broken doubts =
+    subst (λ cs. AreFreeAmong cs self.sides.items lines (length lines) broken doubts) seen
+    (subst (λ bs. AreFreeAmong c.as_slice-2.result.now bs lines (length lines) broken doubts) c.as_slice-3.ensures.value
+    (subst (λ ls. AreFreeAmong c.as_slice-2.result.now c.as_slice-3.result.now ls (length ls) broken doubts) of_lines c.try_lines-doubts.ensures.free)) in
     free_told p c.grid-grid.ensures.kept self.spans.items self.touched.items self.sides.items c.push_reserved-2.new.self.items columns c.try_lines-doubts.new.met c.push_reserved.new.self.items broken _ _ _ (kept_now g c)
     c.args.block c.index-2.result.now doubts there free
 
