@@ -9,7 +9,7 @@ use Rattle.solid_model.specs.declared.cell.Axis.TheVariants.{X, Y, Z}
 use Rattle.solid_model.specs.declared.frame.Frame.{Frame}
 use Rattle.solid_model.specs.Grid.{GridCell}
 use Rattle.solid_model.specs.PerAxis.{by_axis, numbered}
-use Rattle.columns.specs.declared.column.Column.{Column}
+use Rattle.column_lanes.specs.declared.column.Column.{Column}
 use Rattle.solid_model.specs.Bits.{bits}
 use Rattle.columns.specs.GridColumns.{place_in, grid_cell_in, column_to, grid_column, AreColumns}
 use Rattle.solid_model.proofs.Pushed.{HoldsSoFar}

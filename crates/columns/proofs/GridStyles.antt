@@ -15,7 +15,7 @@ use Rattle.solid_model.specs.Grid.{gaps_along}
 use Rattle.solid_model.specs.Panels.{starts_of}
 use Rattle.solid_model.specs.Segments.{segment_at}
 use Rattle.solid_model.specs.PerAxis.{gaps_of}
-use Rattle.columns.specs.declared.column.Column.{Column}
+use Rattle.column_lanes.specs.declared.column.Column.{Column}
 use Rattle.columns.specs.GridColumns.{AreColumns}
 use Rattle.columns.specs.GridPanels.{place_right, place_up, IsColumnBeside, IsStyleBetween, AreStylesAlong}
 use Rattle.columns.proofs.GridSegments.{segment_drawn}

@@ -8,7 +8,7 @@ use Rattle.solid_model.specs.declared.frame.View.{View}
 use Rattle.solid_model.specs.declared.frame.View.TheVariants.{Front, Top, Side}
 use Rattle.solid_model.specs.Grid.{GridCell}
 use Rattle.solid_model.specs.PerAxis.{by_axis, numbered}
-use Rattle.columns.specs.declared.column.Column.{Column}
+use Rattle.column_lanes.specs.declared.column.Column.{Column}
 use Rattle.solid_model.specs.Bits.{bits}
 
 -- the place of a grid cell in a list of all of them, where there are so many along each axis

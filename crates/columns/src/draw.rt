@@ -14,9 +14,9 @@ ghost use Rattle.solid_model.specs.PerAxis.{numbers_of, gaps_of};
 ghost use Rattle.columns.specs.GridColumns.{AreColumns, columns_in};
 ghost use Rattle.columns.specs.GridPanels.{HasCounts, ArePanels, AreStylesAlong};
 
-use crate::column::Column;
 use crate::grid_columns::view_columns;
 use crate::segment_styles::styles_along;
+use column_lanes::Column;
 use solid_model::{Axis, Grid, Memory, Panel, Panels, PerAxis, View};
 use std::alloc::Global;
 use std::marker::Model;

@@ -8,7 +8,7 @@ ghost use Rattle.solid_model.specs.PerAxis.{numbers_of};
 ghost use Rattle.solid_model.specs.Bits.{bits};
 ghost use Rattle.columns.specs.GridColumns.{place_in, number_on, grid_cell_in, grid_column, AreColumns};
 
-use crate::column::Column;
+use column_lanes::Column;
 use solid_model::{Direction, Frame, Memory, PerAxis};
 use std::alloc::Global;
 

@@ -3,7 +3,6 @@
 #![tactic(auto)]
 
 mod beside;
-mod column;
 mod doubts;
 mod draw;
 mod free;
@@ -22,7 +21,7 @@ mod sight;
 mod spans;
 mod steps;
 
-pub use column::{Column, style_of};
+pub use column_lanes::{Column, style_of};
 pub use doubts::{doubted, without_lowest};
 pub use draw::{ColumnSet, columns_in, columns_of, draw_cells, draw_in};
 pub use grid_columns::cell_in;

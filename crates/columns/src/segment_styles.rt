@@ -8,7 +8,7 @@ ghost use Rattle.solid_model.specs.PerAxis.{numbers_of, gaps_of};
 ghost use Rattle.columns.specs.GridColumns.{AreColumns};
 ghost use Rattle.columns.specs.GridPanels.{place_right, place_up, IsColumnBeside, IsStyleBetween, AreStylesAlong};
 
-use crate::column::{Column, style_of};
+use column_lanes::{Column, style_of};
 use solid_model::{Frame, Memory, PerAxis, Style, View};
 use std::alloc::Global;
 

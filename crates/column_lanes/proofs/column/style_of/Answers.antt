@@ -2,7 +2,7 @@
 use Rattle.std.proofs.Common.{◌<◌, ◌^◌, rules}
 use Rattle.std.proofs.lemmas.Nat.{xor_lt}
 use Rattle.solid_model.proofs.FirstBits.{dashed_from_zeros, solid_from_zeros}
-use Rattle.columns.proofs.column.style_of.Goals as goal
+use Rattle.column_lanes.proofs.column.style_of.Goals as goal
 
 pub returns-then-after-before-2 : goal.returns-then-after-before-2
 returns-then-after-before-2 c =
