@@ -75,7 +75,7 @@ fn same_bits(left: u64, right: u64) -> usize
 }
 
 impl Bits {
-    ghost use Rattle.std.specs.Prelude.{◌≡◌, ◌≤◌, ◌<◌, false, length, take, slice_index_or, slice_set, IfOk, MatchResult};
+    ghost use Rattle.std.specs.Prelude.{◌≡◌, ◌≤◌, ◌<◌, ℕ, false, length, take, slice_index_or, slice_set, IfOk, MatchResult};
     ghost use Rattle.std.specs.List.{common_prefix_len};
     ghost use Rattle.solid_model.specs.Edges.{agree};
 
@@ -110,6 +110,18 @@ impl Bits {
         self.words.resize(other.words.len(), 0)?;
         self.words.copy_from_slice(other.words.as_slice());
         self.count = other.count;
+        Ok(())
+    }
+
+    /// Has so many values. Those that it had are the same, as far as they are left; nothing is said of
+    /// more. An `Err` is out of memory, and leaves it as it is.
+    pub fn resize(&mut self, count: usize) -> Result<(), Memory>
+        ensures length { MatchResult result (λ _. length self.new ≡ count) (λ _. self.new ≡ self.old) }
+        ensures kept { (k : ℕ) → k ≤ length self.old → k ≤ length self.new
+            → take k self.new ≡ take k self.old }
+    {
+        self.words.resize(count.div_ceil(64), 0)?;
+        self.count = count;
         Ok(())
     }
 

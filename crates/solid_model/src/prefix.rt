@@ -22,7 +22,7 @@ impl Model for Prefix {
 }
 
 impl Prefix {
-    ghost use Rattle.std.specs.Prelude.{◌≡◌, ◌≤◌, ◌<◌, false, length, take, slice_index_or, slice_set, IfOk, MatchResult};
+    ghost use Rattle.std.specs.Prelude.{◌≡◌, ◌≤◌, ◌<◌, ℕ, false, length, take, slice_index_or, slice_set, IfOk, MatchResult};
     ghost use Rattle.std.specs.List.{common_prefix_len};
     ghost use Rattle.solid_model.specs.Edges.{agree};
 
@@ -47,6 +47,16 @@ impl Prefix {
         ensures { MatchResult result (λ _. self.new ≡ other.now) (λ _. self.new ≡ self.old) }
     {
         self.full.try_clone_from(&other.full)
+    }
+
+    /// Says something of so many of the first blocks: the same as it said, as far as it is left, and
+    /// nothing is known of more. An `Err` is out of memory, and leaves it as it is.
+    pub fn resize(&mut self, count: usize) -> Result<(), Memory>
+        ensures length { MatchResult result (λ _. length self.new ≡ count) (λ _. self.new ≡ self.old) }
+        ensures kept { (k : ℕ) → k ≤ length self.old → k ≤ length self.new
+            → take k self.new ≡ take k self.old }
+    {
+        self.full.resize(count)
     }
 
     /// What it says of the first blocks, so many. An `Err` is out of memory.
