@@ -1,9 +1,9 @@
 -- The places of a frontier.
-use Rattle.std.proofs.Common.{◌≡◌, inl, inr, ℕ, zero, suc, ◌+◌, ◌-◌, ◌<◌, ◌≤◌, ◌==◌, Bool, cond, List, [], ◌∷◌, ◌++◌, length, get_or, set, drop, sym, ◌∙◌, ap, subst, arith}
+use Rattle.std.proofs.Common.{◌≡◌, inl, inr, ℕ, suc, ◌+◌, ◌-◌, ◌<◌, ◌≤◌, ◌==◌, Bool, cond, List, [], ◌∷◌, ◌++◌, length, get_or, set, drop, refl, sym, ◌∙◌, ap, subst, arith}
 use Rattle.std.proofs.lemmas.Bool.{cases_eq, cases_lt, eq-eqb, ne_eqb, cond_both, eqb-true, eqb-false}
 use Rattle.std.proofs.lemmas.List.{get_or-set_same, get_or-set_other, drop_more, drop-append-le, length-drop, length-append, get_or_append_left, get_or_push, get_or_past}
 use Rattle.std.specs.Prelude.{if◌then◌else◌}
-use Rattle.search_core.specs.Frontier.{times_in, count_of, IsFrontier}
+use Rattle.search_core.specs.Frontier.{times_in, count_of, count_without, passed, IsFrontier}
 
 -- ---- how often a number stands in a list
 
@@ -67,40 +67,44 @@ module _ (put counts : List ℕ) (first : ℕ) (q : IsFrontier put counts first)
       more : (k : ℕ) → 0 < count_of counts k → 0 < count_of (set counts place n) k
       more k h = rw (count-set counts place n k l) (cond_both (k == place) n (count_of counts k) (λ m. 0 < m) (λ same. omega arith) (λ other. h))
 
--- passing over a place that isn't in it leaves the others behind
-pass-one : (put counts : List ℕ) (k at : ℕ) → at < length put → count_of counts (get_or put at 0) ≡ 0 → count_of counts k ≤ times_in k (drop at put) → count_of counts k ≤ times_in k (drop (at + 1) put)
-pass-one put counts k at l none h = elim (cases_eq (get_or put at 0) k) as (λ _. count_of counts k ≤ times_in k (drop (at + 1) put)) [
-  | inl same ↦ (let zero_there : count_of counts k ≡ 0 = ap (count_of counts) (sym same) ∙ none in omega arith)
-  | inr other ↦ (
-      let tail : times_in k (drop at put) ≡ 0 + times_in k (drop (at + 1) put) =
-      ap (times_in k) (drop_more put at 0 l) ∙ ap (λ (b : Bool). cond b 1 0 + times_in k (drop (at + 1) put)) (ne_eqb (get_or put at 0) k other) in
-      omega (arith, tail))
+-- passing over places that aren't counted leaves what is counted behind them
+passed_behind : (count : ℕ → ℕ) (k : ℕ) (ks : List ℕ) → count k ≤ times_in k ks → count k ≤ times_in k (passed count ks)
+passed_behind count k [] h = h
+passed_behind count k (j ∷ ks) h = elim (cases_eq (count j) 0) as (λ _. count k ≤ times_in k (if count j == 0 then passed count ks else j ∷ ks)) [
+  | inl none ↦ rw (eq-eqb (count j) 0 none) (passed_behind count k ks (elim (cases_eq j k) as (λ _. count k ≤ times_in k ks) [
+    | inl same ↦ (let here : count k ≡ 0 = ap count (sym same) ∙ none in omega arith)
+    | inr other ↦ (let tail : times_in k (j ∷ ks) ≡ 0 + times_in k ks = ap (λ (b : Bool). cond b 1 0 + times_in k ks) (ne_eqb j k other) in omega (arith, tail))
+  ]))
+  | inr some ↦ rw (ne_eqb (count j) 0 some) h
 ]
 
--- and so does passing over some
-pub pass-over : (put counts : List ℕ) (k from n : ℕ) → from + n ≤ length put → ((j : ℕ) → from ≤ j → j < from + n → count_of counts (get_or put j 0) ≡ 0)
-    → count_of counts k ≤ times_in k (drop from put) → count_of counts k ≤ times_in k (drop (from + n) put)
-pass-over put counts k from zero l none h = subst (λ m. count_of counts k ≤ times_in k (drop m put)) (let e : from ≡ from + 0 = omega arith in e) h
-pass-over put counts k from (suc n) l none h =
-    let before = pass-over put counts k from n (omega arith) (λ j a b. none j a (omega arith)) h in
-    let more = pass-one put counts k (from + n) (omega arith) (none (from + n) (omega arith) (omega arith)) before in
-    subst (λ m. count_of counts k ≤ times_in k (drop m put)) (let e : from + n + 1 ≡ from + suc n = omega arith in e) more
+-- a place that isn't counted is passed over,
+pub passed_none : (count : ℕ → ℕ) (ks : List ℕ) (at : ℕ) → at < length ks → count (get_or ks at 0) ≡ 0 → passed count (drop at ks) ≡ passed count (drop (at + 1) ks)
+passed_none count ks at l none = ap (passed count) (drop_more ks at 0 l)
+    ∙ ap (λ (b : Bool). if b then passed count (drop (at + 1) ks) else get_or ks at 0 ∷ drop (at + 1) ks) (eq-eqb (count (get_or ks at 0)) 0 none)
+
+-- and one that is counted isn't
+pub passed_some : (count : ℕ → ℕ) (ks : List ℕ) (at : ℕ) → at < length ks → 0 < count (get_or ks at 0) → passed count (drop at ks) ≡ drop at ks
+passed_some count ks at l some = ap (passed count) (drop_more ks at 0 l)
+    ∙ ap (λ (b : Bool). if b then passed count (drop (at + 1) ks) else get_or ks at 0 ∷ drop (at + 1) ks) (ne_eqb (count (get_or ks at 0)) 0 (λ e. omega arith))
+    ∙ sym (drop_more ks at 0 l)
 
 -- one stands in it once less, and the first is looked for
-pub frontier-take : (put counts after : List ℕ) (first next place n : ℕ) → IsFrontier put counts first → place < length counts → n ≤ count_of counts place
-    → after ≡ set counts place n → first ≤ next → next ≤ length put
-    → ((j : ℕ) → first ≤ j → j < next → count_of after (get_or put j 0) ≡ 0) → (next < length put → 0 < count_of after (get_or put next 0)) → IsFrontier put after next
-frontier-take put counts after first next place n q l less is low high none there = record {
+pub frontier-take : (put counts : List ℕ) (first next place n : ℕ) → IsFrontier put counts first → place < length counts → n ≡ count_of counts place - 1
+    → next ≤ length put → passed (count_without counts place) (drop first put) ≡ drop next put
+    → (next < length put → 0 < count_without counts place (get_or put next 0)) → IsFrontier put (set counts place n) next
+frontier-take put counts first next place n q l less high is there = record {
   within = high;
-  there = there;
-  behind = λ k.
-      let fewer : count_of after k ≤ count_of counts k = subst (λ cs. count_of cs k ≤ count_of counts k) (sym is)
-      (rw (count-set counts place n k l) (cond_both (k == place) n (count_of counts k) (λ m. m ≤ count_of counts k)
-      (λ e. subst (λ j. n ≤ count_of counts j) (sym (eqb-true k place e)) less) (λ e. omega arith))) in
-      let to : first + (next - first) ≡ next = omega arith in
-      subst (λ m. count_of after k ≤ times_in k (drop m put)) to
-      (pass-over put after k first (next - first) (omega arith) (λ j a b. none j a (omega arith)) (let h = q.behind k in omega arith));
+  there = λ h. rw (after (get_or put next 0)) (there h);
+  behind = λ k. rw (after k) (subst (λ (ks : List ℕ). count_without counts place k ≤ times_in k ks) is (passed_behind (count_without counts place) k (drop first put) (fewer k)));
 }
+  where
+    after : (k : ℕ) → count_of (set counts place n) k ≡ count_without counts place k
+    after k = count-set counts place n k l ∙ cond_both (k == place) n (count_of counts k) (λ m. m ≡ count_without counts place k)
+        (λ e. rw e (less ∙ ap (λ (j : ℕ). count_of counts j - 1) (sym (eqb-true k place e)))) (λ e. rw e refl)
+
+    fewer : (k : ℕ) → count_without counts place k ≤ times_in k (drop first put)
+    fewer k = cond_both (k == place) (count_of counts k - 1) (count_of counts k) (λ m. m ≤ times_in k (drop first put)) (λ e. (let h = q.behind k in omega arith)) (λ e. q.behind k)
 
 -- a count that rises where a place is put
 pub counted_once_more : (k place n : ℕ) → (if k == place then n + 1 else n) ≡ n + times_in k (place ∷ [])

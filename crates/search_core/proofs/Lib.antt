@@ -2,10 +2,11 @@ pub mod Lists
 pub mod TakenOut
 pub mod OnceBelow
 pub mod CoreEvents
-pub mod Tries
-pub mod Ways
 pub mod Stored
+pub mod Trees
+pub mod Ways
 pub mod FrontierPlaces
+pub mod FirstPieces
 pub mod Told
 pub mod KeptFrontiers
 pub mod DeskLedger

@@ -2,8 +2,7 @@
 use Rattle.std.specs.Prelude.{◌≡◌, Bool, List, []}
 use Rattle.search_core.specs.declared.copies.Copies.{Copies}
 
--- they are copies of these choices and of these prefixes, and no place is listed yet
-pub record AreCopies (choices prefixes : List (List Bool)) (c : Copies) : Type 0 where
+-- they are copies of these choices, and no place is listed yet
+pub record AreCopies (choices : List (List Bool)) (c : Copies) : Type 0 where
   pub found : c.found.items ≡ choices
-  pub rest : c.rest.items ≡ prefixes
   pub places : c.places.items ≡ []

@@ -1,5 +1,5 @@
 -- The ledger of a desk.
-use Rattle.std.specs.Prelude.{◌≡◌, ◌==◌, ◌<◌, ◌≤◌, ◌+◌, ◌-◌, Bool, ℕ, List, [], ◌∷◌, ◌++◌, length, take, drop, slice_index_or, Option, None, if◌then◌else◌}
+use Rattle.std.specs.Prelude.{◌≡◌, ◌<◌, ◌≤◌, ◌+◌, Bool, ℕ, List, [], ◌∷◌, ◌++◌, length, take, drop, slice_index_or, Option, None, if◌then◌else◌}
 use Rattle.solid_model.specs.declared.ended.EndKind.{EndKind}
 use Rattle.solid_model.specs.Blocks.{ProblemParts}
 use Rattle.solid_model.specs.Forcing.{is_live}
@@ -10,7 +10,7 @@ use Rattle.search_core.specs.declared.note.Note.{Note}
 use Rattle.search_core.specs.Core.{Event, IsCoreRun, core_start, times_among}
 use Rattle.search_core.specs.Desk.{DeskParts, desk_state}
 use Rattle.search_core.specs.Notes.{prefix_at, told, StandsAt, AreDistinct, AreShared}
-use Rattle.search_core.specs.Frontier.{count_of, times_in}
+use Rattle.search_core.specs.Frontier.{count_of, count_without, first_or, passed, times_in}
 
 -- stored prefixes; the places that were put into the frontier, and how often each stands there; notes; and the choices found
 pub record LedgerParts : Type 0 where
@@ -29,6 +29,16 @@ ledger_of b = record {
   notes = b.notes.items;
   found = b.found.items;
 }
+
+-- the place of the first piece of a ledger after a report of a piece, with a rest at these places
+abbrev pub next_first : Ledger → ℕ → List ℕ → ℕ
+next_first b piece rest = first_or (first_or b.first.place rest) (passed (count_without b.frontier.counts piece) b.frontier.ahead)
+
+-- the prefix that is kept whole is at its place, and is the first of those ahead, if there are any; and these are stored
+pub record KnowsFirst (b : Ledger) : Type 0 where
+  pub stands : StandsAt b.prefixes b.first.prefix b.first.place
+  pub is : first_or b.first.place b.frontier.ahead ≡ b.first.place
+  pub ahead : Each (λ k. k < length b.prefixes) b.frontier.ahead
 
 -- the history that a ledger tells; the place that was put first is that of the empty prefix
 abbrev pub history_of : LedgerParts → List Event
@@ -67,7 +77,7 @@ pub record HasGrown (b after : LedgerParts) : Type 0 where
 pub record HasPosted (b after : LedgerParts) (piece opened : ℕ) (choices : List (List Bool)) (places : List ℕ) : Type 0 where
   pub stored : after.stored ≡ b.stored
   pub put : after.put ≡ b.put ++ places
-  pub counts : (k : ℕ) → count_of after.counts k ≡ (if k == piece then count_of b.counts k - 1 else count_of b.counts k) + times_in k places
+  pub counts : (k : ℕ) → count_of after.counts k ≡ count_without b.counts piece k + times_in k places
   pub notes : after.notes ≡ b.notes ++ record { piece = piece; opened = opened; found = length choices; rest = length places } ∷ []
   pub found : after.found ≡ b.found ++ choices
 

@@ -2,7 +2,7 @@ pub mod Copies
 pub mod Core
 pub mod Conserves
 pub mod SmallCore
-pub mod Trie
+pub mod Nodes
 pub mod Notes
 pub mod Frontier
 pub mod Desk

@@ -73,12 +73,12 @@ impl Model for Desk {
     ghost Value = { DeskParts };
 
     ghost use Rattle.std.specs.Arc.{arc_value};
-    ghost use Rattle.search_core.specs.Ledger.{ledger_of, history_of, desk_of, IsLedgerOf};
+    ghost use Rattle.search_core.specs.Ledger.{ledger_of, history_of, desk_of, IsLedgerOf, KnowsFirst};
 
     ghost view = { λ s. desk_of (arc_value s.problem) s.limits (history_of (ledger_of s.ledger)) };
 
-    ghost invariant = { λ s. IsLedgerOf (arc_value s.problem) s.limits (ledger_of s.ledger) s.opened
-        s.end };
+    ghost invariant = { λ s. KnowsFirst s.ledger
+        × IsLedgerOf (arc_value s.problem) s.limits (ledger_of s.ledger) s.opened s.end };
 }
 
 impl Desk {
@@ -116,7 +116,7 @@ impl Desk {
 
     /// Answers a report, of which copies may be ready, as [`Desk::report`] does.
     fn answer(&mut self, expansion: Expansion, ready: Option<Copies>) -> Result<Reported, Expansion>
-        requires { IfSome ready (AreCopies expansion.found expansion.rest) }
+        requires { IfSome ready (AreCopies expansion.found) }
         ensures answer { MatchResult result (IsReported self.old expansion self.new)
             (λ back. Takes self.old expansion × (back ≡ expansion) × (self.new ≡ self.old)) }
         ensures kept { IsDesk self.new }
@@ -132,7 +132,7 @@ impl Desk {
         };
         let Ok(posting) = self
             .ledger
-            .prepare(expansion.found(), expansion.rest(), ready)
+            .prepare(piece, expansion.found(), expansion.rest(), ready)
         else {
             return Err(expansion);
         };
@@ -180,7 +180,7 @@ impl Desk {
         ensures kept { IsDesk self.now }
     {
         match self.ledger.frontier.first() {
-            Some(place) => Some(self.ledger.prefixes.get(place)),
+            Some(_) => Some(&self.ledger.first.prefix),
             None => None,
         }
     }

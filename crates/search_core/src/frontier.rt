@@ -1,7 +1,7 @@
 //! The frontier of a search, by places.
 
-ghost use Rattle.std.specs.Prelude.{◌≡◌, ◌<◌, ◌≤◌, ℕ, length, slice_index};
-ghost use Rattle.search_core.specs.Frontier.{count_of};
+ghost use Rattle.std.specs.Prelude.{◌≡◌, ◌<◌, ◌≤◌, length, drop, slice_index_or};
+ghost use Rattle.search_core.specs.Frontier.{count_of, count_without, first_or, passed};
 
 use solid_model::Memory;
 use std::alloc::Global;
@@ -14,18 +14,38 @@ fn count_at(counts: &[usize], place: u32) -> usize
     counts.get(place as usize).copied().unwrap_or(0)
 }
 
-/// The first place from here on that is counted, of those that were put.
-fn first_counted(put: &[u32], counts: &[usize], from: usize) -> usize
+/// The first one of a list, or else this one.
+pub fn first_of(list: &[u32], other: u32) -> u32
+    ensures { result ≡ first_or other list.now }
+{
+    list.first().copied().unwrap_or(other)
+}
+
+/// How often a place is counted once this piece is taken.
+fn count_without(counts: &[usize], piece: u32, place: u32) -> usize
+    ensures { result ≡ count_without counts.now piece place }
+{
+    let count = count_at(counts, place);
+    if place == piece {
+        count.saturating_sub(1)
+    } else {
+        count
+    }
+}
+
+/// Where the first place from here on stands that is counted once this piece is taken, of those that
+/// were put.
+fn first_without(put: &[u32], counts: &[usize], piece: u32, from: usize) -> usize
     requires { from ≤ length put.now }
     ensures from { from ≤ result }
     ensures within { result ≤ length put.now }
-    ensures passed { (k : ℕ) → from ≤ k → k < result
-        → count_of counts.now (slice_index put.now k) ≡ 0 }
+    ensures passed { passed (count_without counts.now piece) (drop from put.now)
+        ≡ drop result put.now }
     ensures counted { result < length put.now
-        → 0 < count_of counts.now (slice_index put.now result) }
+        → 0 < count_without counts.now piece (slice_index_or put.now result 0) }
 {
     for at in from..put.len() {
-        if count_at(counts, put[at]) > 0 {
+        if count_without(counts, piece, put[at]) > 0 {
             return at;
         }
     }
@@ -43,7 +63,7 @@ pub struct Frontier {
 }
 
 impl Model for Frontier {
-    ghost use Rattle.std.specs.Prelude.{vec_capacity};
+    ghost use Rattle.std.specs.Prelude.{vec_capacity, drop};
     ghost use Rattle.search_core.specs.Frontier.{FrontierParts, IsFrontier};
 
     ghost Value = { FrontierParts };
@@ -51,6 +71,7 @@ impl Model for Frontier {
     ghost view = { λ s. record {
       put = s.put.items;
       counts = s.counts.items;
+      ahead = drop s.first s.put.items;
       room = vec_capacity s.put;
     } };
 
@@ -58,13 +79,14 @@ impl Model for Frontier {
 }
 
 impl Frontier {
-    ghost use Rattle.std.specs.Prelude.{◌≡◌, ◌==◌, ◌<◌, ◌≤◌, ◌+◌, ◌-◌, ◌++◌, ◌∷◌, ◌↔◌, [], ℕ, length, IsTrue, IfOk, OnOk, MatchOption, if◌then◌else◌};
-    ghost use Rattle.search_core.specs.Frontier.{count_of, IsFirstPut};
+    ghost use Rattle.std.specs.Prelude.{◌≡◌, ◌==◌, ◌<◌, ◌≤◌, ◌+◌, ◌++◌, ◌∷◌, ◌↔◌, [], ℕ, length, IsTrue, OnOk, MatchOption, if◌then◌else◌};
+    ghost use Rattle.search_core.specs.Frontier.{count_of, count_without, first_or, passed, IsFirstPut};
 
     /// None.
     pub fn new(alloc: Global) -> Frontier
         ensures put { result.put ≡ [] }
         ensures counts { result.counts ≡ [] }
+        ensures ahead { result.ahead ≡ [] }
     {
         Frontier {
             put: Vec::new(alloc),
@@ -77,6 +99,7 @@ impl Frontier {
     pub fn reserve(&mut self, places: usize, more: usize) -> Result<(), Memory>
         ensures put { self.new.put ≡ self.old.put }
         ensures counts { (k : ℕ) → count_of self.new.counts k ≡ count_of self.old.counts k }
+        ensures ahead { self.new.ahead ≡ self.old.ahead }
         ensures places { OnOk result (places ≤ length self.new.counts) }
         ensures room { OnOk result (length self.new.put + more ≤ self.new.room) }
     {
@@ -99,8 +122,10 @@ impl Frontier {
 
     /// The place that was put first of those in it, if there is one.
     pub fn first(&self) -> Option<u32>
-        ensures { MatchOption result ((k : ℕ) → count_of self.now.counts k ≡ 0)
+        ensures first { MatchOption result ((k : ℕ) → count_of self.now.counts k ≡ 0)
             (IsFirstPut self.now.put self.now.counts) }
+        ensures ahead { MatchOption result (self.now.ahead ≡ [])
+            (λ place. (d : ℕ) → first_or d self.now.ahead ≡ place) }
     {
         if self.first < self.put.len() {
             Some(self.put[self.first])
@@ -109,11 +134,26 @@ impl Frontier {
         }
     }
 
+    /// The place that will be the first once this piece is taken, or else this one.
+    pub fn next(&self, piece: u32, other: u32) -> u32
+        ensures { result
+            ≡ first_or other (passed (count_without self.now.counts piece) self.now.ahead) }
+    {
+        let next = first_without(
+            self.put.as_slice(),
+            self.counts.as_slice(),
+            piece,
+            self.first,
+        );
+        first_of(&self.put[next..], other)
+    }
+
     /// A place stands in it once more.
     pub fn put(&mut self, place: u32)
         requires place { place < length self.old.counts }
         requires room { length self.old.put < self.old.room }
         ensures put { self.new.put ≡ self.old.put ++ place ∷ [] }
+        ensures ahead { self.new.ahead ≡ self.old.ahead ++ place ∷ [] }
         ensures counts { (k : ℕ) → count_of self.new.counts k
             ≡ (if k == place then count_of self.old.counts k + 1 else count_of self.old.counts k) }
         ensures places { length self.new.counts ≡ length self.old.counts }
@@ -127,12 +167,17 @@ impl Frontier {
     pub fn take(&mut self, place: u32)
         requires { 0 < count_of self.old.counts place }
         ensures put { self.new.put ≡ self.old.put }
-        ensures counts { (k : ℕ) → count_of self.new.counts k
-            ≡ (if k == place then count_of self.old.counts k - 1 else count_of self.old.counts k) }
+        ensures ahead { self.new.ahead ≡ passed (count_without self.old.counts place) self.old.ahead }
+        ensures counts { (k : ℕ) → count_of self.new.counts k ≡ count_without self.old.counts place k }
         ensures places { length self.new.counts ≡ length self.old.counts }
         ensures room { self.new.room ≡ self.old.room }
     {
+        self.first = first_without(
+            self.put.as_slice(),
+            self.counts.as_slice(),
+            place,
+            self.first,
+        );
         self.counts[place as usize] -= 1;
-        self.first = first_counted(self.put.as_slice(), self.counts.as_slice(), self.first);
     }
 }

@@ -1,50 +1,55 @@
 //! The ledger of a desk.
 
-ghost use Rattle.std.specs.Prelude.{◌≡◌, ◌==◌, ◌<◌, ◌≤◌, ◌+◌, ◌-◌, ◌++◌, ◌∷◌, [], ℕ, Bool, List, length, map, vec_len, vec_capacity, IfOk, IfSome, MatchOption, if◌then◌else◌};
-ghost use Rattle.solid_model.specs.Lists.{Member, Each};
-ghost use Rattle.search_core.specs.Ledger.{ledger_of, IsBegun, HasGrown, HasPosted};
+ghost use Rattle.std.specs.Prelude.{◌≡◌, ◌<◌, ◌≤◌, ◌+◌, ◌++◌, [], ℕ, Bool, List, length, map, IfOk, IfSome, MatchOption};
+ghost use Rattle.solid_model.specs.Lists.{Each};
+ghost use Rattle.search_core.specs.Ledger.{ledger_of, next_first, IsBegun, HasGrown, HasPosted, KnowsFirst};
 ghost use Rattle.search_core.specs.Copies.{AreCopies};
 ghost use Rattle.search_core.specs.Postings.{HasRoom, IsPosting};
-ghost use Rattle.search_core.specs.Notes.{prefix_at, AreDistinct, StandsAt};
+ghost use Rattle.search_core.specs.Notes.{prefix_at, StandsAt};
 ghost use Rattle.search_core.specs.Frontier.{count_of, times_in};
 
 use crate::copies::Copies;
-use crate::frontier::Frontier;
+use crate::frontier::{Frontier, first_of};
 use crate::note::Note;
 use crate::prefixes::Prefixes;
 use solid_model::{Choice, Memory, Prefix};
 use std::alloc::Global;
 
-/// The ledger of a desk. Each prefix is stored once and named by its place, also in the frontier and
-/// in the history. The places that were put into the frontier are the empty prefix's and then those
-/// of the rests, report by report, as the choices found stand report by report: with the notes they
-/// are the history.
+/// A prefix and its place.
+#[derive(Drop)]
+pub struct Placed {
+    pub prefix: Prefix,
+    pub place: u32,
+}
+
+/// The ledger of a desk. Each prefix is named by its place, in the frontier and in the history too.
+/// The places that were put into the frontier are the empty prefix's and then those of the rests,
+/// report by report, as the choices found stand report by report: with the notes they are the
+/// history. The first piece of the frontier is kept whole, or, where there is none, some prefix.
 #[derive(Drop)]
 pub struct Ledger {
     pub prefixes: Prefixes,
     pub frontier: Frontier,
+    pub first: Placed,
     pub notes: Vec<Note>,
     pub found: Vec<Choice>,
 }
 
-/// What a report puts into the ledger: its choices, and the places of its rest.
+/// What a report puts into the ledger: its choices, the places of its rest, and what will be the first
+/// piece.
 #[derive(Drop)]
 pub struct Posting {
     pub found: Vec<Choice>,
     pub rest: Vec<u32>,
+    pub first: Placed,
 }
 
-/// The places of prefixes, each of which is stored if it isn't yet, in a list that is empty yet. An
-/// `Err` is out of memory.
-fn keep_all(
-    prefixes: &mut Prefixes,
-    rest: Vec<Prefix>,
-    places: Vec<u32>,
-) -> Result<Vec<u32>, Memory>
+/// The places of prefixes, in a list that is empty yet. An `Err` is out of memory.
+fn keep_all(prefixes: &mut Prefixes, rest: &[Prefix], places: Vec<u32>) -> Result<Vec<u32>, Memory>
     requires { places.items ≡ [] }
     ensures grown { (more : List (List Bool)) × (prefixes.new ≡ prefixes.old ++ more) }
     ensures below { IfOk result (λ places. Each (λ k. k < length prefixes.new) places.items) }
-    ensures places { IfOk result (λ places. map (prefix_at prefixes.new) places.items ≡ rest.items) }
+    ensures places { IfOk result (λ places. map (prefix_at prefixes.new) places.items ≡ rest.now) }
 {
     let mut places = places;
     for prefix in rest {
@@ -57,15 +62,15 @@ fn keep_all(
 fn copies_of(
     alloc: Global,
     found: &[Choice],
-    rest: &[Prefix],
+    places: usize,
     ready: Option<Copies>,
 ) -> Result<Copies, Memory>
-    requires { IfSome ready (AreCopies found.now rest.now) }
-    ensures { IfOk result (AreCopies found.now rest.now) }
+    requires { IfSome ready (AreCopies found.now) }
+    ensures { IfOk result (AreCopies found.now) }
 {
     match ready {
         Some(copies) => Ok(copies),
-        None => Copies::new(alloc, found, rest),
+        None => Copies::new(alloc, found, places),
     }
 }
 
@@ -74,6 +79,7 @@ fn put_all(frontier: &mut Frontier, rest: &[u32])
     requires places { Each (λ k. k < length frontier.old.counts) rest.now }
     requires room { length frontier.old.put + length rest.now ≤ frontier.old.room }
     ensures put { frontier.new.put ≡ frontier.old.put ++ rest.now }
+    ensures ahead { frontier.new.ahead ≡ frontier.old.ahead ++ rest.now }
     ensures counts { (k : ℕ) → count_of frontier.new.counts k
         ≡ count_of frontier.old.counts k + times_in k rest.now }
 {
@@ -86,19 +92,24 @@ impl Ledger {
     /// A ledger in which nothing is noted; the empty prefix is in the frontier if it is live. An `Err` is out of
     /// memory.
     pub fn new(alloc: Global, live: bool) -> Result<Ledger, Memory>
-        ensures { IfOk result (λ ledger. IsBegun (ledger_of ledger) live) }
+        ensures begun { IfOk result (λ ledger. IsBegun (ledger_of ledger) live) }
+        ensures first { IfOk result KnowsFirst }
     {
-        let mut prefixes = Prefixes::new(alloc)?;
+        let prefixes = Prefixes::new(alloc)?;
         let mut frontier = Frontier::new(alloc);
-        let root = prefixes.keep(Prefix::from_bools(alloc, &[])?)?;
         frontier.reserve(prefixes.len(), 1)?;
-        frontier.put(root);
+        frontier.put(0);
         if !live {
-            frontier.take(root);
+            frontier.take(0);
         }
+        let root = Prefix::from_bools(alloc, &[])?;
         Ok(Ledger {
             prefixes,
             frontier,
+            first: Placed {
+                prefix: root,
+                place: 0,
+            },
             notes: Vec::new(alloc),
             found: Vec::new(alloc),
         })
@@ -122,47 +133,75 @@ impl Ledger {
         }
     }
 
-    /// Takes all the memory that a report needs, and keeps copies of its choices and of its rest:
-    /// those that are ready, or else new ones. An `Err` is out of memory. What the ledger tells stays
-    /// the same.
+    /// The place that will be the first of the frontier once this piece is taken and this rest put,
+    /// or, where there will be none, that of the first piece now.
+    fn next_first(&self, piece: u32, rest: &[u32]) -> u32
+        ensures { result ≡ next_first self.now piece rest.now }
+    {
+        self.frontier.next(piece, first_of(rest, self.first.place))
+    }
+
+    /// What will be the first piece once this one is taken and this rest put. An `Err` is out of memory.
+    fn placed_first(&self, piece: u32, rest: &[u32]) -> Result<Placed, Memory>
+        requires first { KnowsFirst self.now }
+        requires rest { Each (λ k. k < length self.now.prefixes) rest.now }
+        ensures place { IfOk result (λ r. r.place ≡ next_first self.now piece rest.now) }
+        ensures prefix { IfOk result (λ r. StandsAt self.now.prefixes r.prefix r.place) }
+    {
+        let place = self.next_first(piece, rest);
+        let prefix = self
+            .prefixes
+            .led(&self.first.prefix, self.first.place, place)?;
+        Ok(Placed { prefix, place })
+    }
+
+    /// Takes all the memory that a report of this piece needs, and keeps copies of its choices: those
+    /// that are ready, or else new ones. An `Err` is out of memory. What the ledger tells stays the same.
     pub fn prepare(
         &mut self,
+        piece: u32,
         found: &[Choice],
         rest: &[Prefix],
         ready: Option<Copies>,
     ) -> Result<Posting, Memory>
-        requires { IfSome ready (AreCopies found.now rest.now) }
+        requires copies { IfSome ready (AreCopies found.now) }
+        requires first { KnowsFirst self.old }
         ensures grown { HasGrown (ledger_of self.old) (ledger_of self.new) }
-        ensures posting { IfOk result (IsPosting self.new found.now rest.now) }
+        ensures first { KnowsFirst self.new }
+        ensures posting { IfOk result (IsPosting self.new piece found.now rest.now) }
     {
         // A look at the prefixes tells that each is stored once.
         let _count = self.prefixes.len();
         let alloc = *self.notes.allocator();
-        let Copies {
-            found,
-            rest,
-            places,
-        } = copies_of(alloc, found, rest, ready)?;
+        let Copies { found, places } = copies_of(alloc, found, rest.len(), ready)?;
         let rest = keep_all(&mut self.prefixes, rest, places);
         let places = self.prefixes.len();
         let rest = rest?;
         self.frontier.reserve(places, rest.len())?;
         self.notes.reserve(1)?;
         self.found.reserve(found.len())?;
-        Ok(Posting { found, rest })
+        let first = self.placed_first(piece, rest.as_slice())?;
+        Ok(Posting { found, rest, first })
     }
 
     /// Notes a report of a piece of the frontier.
     pub fn post(&mut self, piece: u32, opened: u32, posting: Posting)
         requires piece { 0 < count_of self.old.frontier.counts piece }
         requires room { HasRoom self.old posting }
-        ensures { HasPosted (ledger_of self.old) (ledger_of self.new) piece opened
+        requires known { KnowsFirst self.old }
+        requires rest { Each (λ k. k < length self.old.prefixes) posting.rest.items }
+        requires first { StandsAt self.old.prefixes posting.first.prefix posting.first.place }
+        requires next { posting.first.place ≡ next_first self.old piece posting.rest.items }
+        ensures posted { HasPosted (ledger_of self.old) (ledger_of self.new) piece opened
             posting.found.items posting.rest.items }
+        ensures first { KnowsFirst self.new }
     {
         let Posting {
             found: mut choices,
             rest,
+            first,
         } = posting;
+        self.first = first;
         self.notes.push_reserved(Note {
             piece,
             opened,

@@ -11,7 +11,6 @@ mod nodes;
 mod note;
 mod prefixes;
 mod ready;
-mod trie;
 mod way;
 
 pub use desk::{Desk, Reported};

@@ -4,26 +4,29 @@ use solid_model::Memory;
 use std::alloc::Global;
 use std::marker::Model;
 
-/// Where a node leads for a full block and for an empty one, and its place, if it has one.
+/// A node that another one, before it, leads to for a value, and where it leads for a full block and
+/// for an empty one: to node 0 it leads nowhere, since that is the root.
 #[derive(Clone, Copy)]
 pub struct Node {
-    pub full: Option<u32>,
-    pub empty: Option<u32>,
-    pub place: Option<u32>,
+    pub before: u32,
+    pub value: bool,
+    pub full: u32,
+    pub empty: u32,
 }
 
 impl Node {
     ghost use Rattle.std.specs.Prelude.{◌≡◌};
-    ghost use Rattle.search_core.specs.Trie.{bare_node, child, with_child, with_place};
+    ghost use Rattle.search_core.specs.Nodes.{new_node, child, with_child};
 
     /// A node that leads nowhere.
-    fn new() -> Node
-        ensures { result ≡ bare_node }
+    fn new(before: u32, value: bool) -> Node
+        ensures { result ≡ new_node before value }
     {
         Node {
-            full: None,
-            empty: None,
-            place: None,
+            before,
+            value,
+            full: 0,
+            empty: 0,
         }
     }
 
@@ -31,7 +34,8 @@ impl Node {
     fn child(&self, full: bool) -> Option<u32>
         ensures { result ≡ child self.now full }
     {
-        if full { self.full } else { self.empty }
+        let next = if full { self.full } else { self.empty };
+        if next == 0 { None } else { Some(next) }
     }
 
     /// The same node, which leads there for this value.
@@ -39,87 +43,84 @@ impl Node {
         ensures { result ≡ with_child self full next }
     {
         if full {
-            Node {
-                full: Some(next),
-                ..self
-            }
+            Node { full: next, ..self }
         } else {
             Node {
-                empty: Some(next),
+                empty: next,
                 ..self
             }
-        }
-    }
-
-    /// The same node at a place.
-    fn with_place(self, place: u32) -> Node
-        ensures { result ≡ with_place self place }
-    {
-        Node {
-            place: Some(place),
-            ..self
         }
     }
 }
 
-/// The nodes of a binary tree, the first of which is the root.
+/// The nodes of a binary tree, the first of which is the root. Contracts see them as the lists that
+/// lead to them.
 #[derive(Drop)]
 pub struct Nodes {
     list: Vec<Node>,
 }
 
 impl Model for Nodes {
-    ghost use Rattle.std.specs.Prelude.{List};
-    ghost use Rattle.search_core.specs.declared.nodes.Node.{Node};
-    ghost use Rattle.search_core.specs.Trie.{IsTrie};
+    ghost use Rattle.std.specs.Prelude.{Bool, List};
+    ghost use Rattle.search_core.specs.Nodes.{ways, IsTrie};
 
-    ghost Value = { List Node };
+    ghost Value = { List (List Bool) };
 
-    ghost view = { λ s. s.list.items };
+    ghost view = { λ s. ways s.list.items };
 
     ghost invariant = { λ s. IsTrie s.list.items };
 }
 
 impl Nodes {
-    ghost use Rattle.std.specs.Prelude.{◌≡◌, ◌<◌, ◌≤◌, ◌++◌, ◌∷◌, [], Bool, List, ℕ, Some, length, if◌then◌else◌, IfOk, IfSome};
-    ghost use Rattle.search_core.specs.Core.{same_prefix};
-    ghost use Rattle.search_core.specs.Trie.{bare_node, node_at, child, walk, trie_place, HasWays};
+    ghost use Rattle.std.specs.Prelude.{◌≡◌, ◌<◌, ◌≤◌, ◌++◌, ◌∷◌, [], Bool, List, ℕ, length, IfOk, MatchOption};
+    ghost use Rattle.search_core.specs.Notes.{prefix_at, AreDistinct, StandsAt};
 
     /// The root alone, which leads nowhere. An `Err` is out of memory.
     pub fn new(alloc: Global) -> Result<Nodes, Memory>
-        ensures { IfOk result (λ nodes. nodes ≡ bare_node ∷ []) }
+        ensures { IfOk result (λ nodes. nodes ≡ [] ∷ []) }
     {
         let mut list = Vec::new(alloc);
-        list.push(Node::new())?;
+        list.push(Node::new(0, false))?;
         Ok(Nodes { list })
+    }
+
+    /// How many there are.
+    pub fn len(&self) -> usize
+        ensures count { result ≡ length self.now }
+        ensures distinct { AreDistinct self.now }
+        ensures short { (k : ℕ) → k < length self.now → length (prefix_at self.now k) ≤ k }
+    {
+        self.list.len()
     }
 
     /// Where a node leads for a value.
     pub fn child(&self, at: u32, full: bool) -> Option<u32>
         requires { at < length self.now }
-        ensures child { result ≡ child (node_at self.now at) full }
-        ensures inside { IfSome result (λ next. next < length self.now) }
+        ensures { MatchOption result
+            ((rest : List Bool) (k : ℕ)
+            → ¬ StandsAt self.now (prefix_at self.now at ++ full ∷ rest) k)
+            (StandsAt self.now (prefix_at self.now at ++ full ∷ [])) }
     {
         self.list[at as usize].child(full)
     }
 
-    /// The place of a node, if it has one.
-    pub fn place(&self, at: u32) -> Option<u32>
-        requires { at < length self.now }
-        ensures { result ≡ (node_at self.now at).place }
+    /// The node that leads to one, and for which value. None leads to the root.
+    pub fn before(&self, at: u32) -> (u32, bool)
+        requires inside { at < length self.now }
+        requires led { 0 < at }
+        ensures before { result.0 < at }
+        ensures led { prefix_at self.now at ≡ prefix_at self.now result.0 ++ result.1 ∷ [] }
     {
-        self.list[at as usize].place
+        let node = self.list[at as usize];
+        (node.before, node.value)
     }
 
-    /// The node to which a node leads for a value; if there is none, it is made. No place changes.
-    /// An `Err` is out of memory, or of 32-bit numbers for nodes.
+    /// The node to which a node leads for a value; if there is none, it comes behind the others. An
+    /// `Err` is out of memory, or of 32-bit numbers for nodes.
     pub fn step(&mut self, at: u32, full: bool) -> Result<u32, Memory>
         requires { at < length self.old }
-        ensures places { (q : List Bool) → trie_place self.new q ≡ trie_place self.old q }
-        ensures ways { HasWays self.old self.new }
-        ensures inside { IfOk result (λ next. next < length self.new) }
-        ensures onward { IfOk result (λ next. (p : List Bool) → walk self.old 0 p ≡ Some at
-            → walk self.new 0 (p ++ full ∷ []) ≡ Some next) }
+        ensures grown { (more : List (List Bool)) × (self.new ≡ self.old ++ more) }
+        ensures there { IfOk result (StandsAt self.new (prefix_at self.old at ++ full ∷ [])) }
     {
         if let Some(next) = self.list[at as usize].child(full) {
             return Ok(next);
@@ -128,19 +129,8 @@ impl Nodes {
         if next > u32::MAX as usize {
             return Err(Memory);
         }
-        self.list.push(Node::new())?;
+        self.list.push(Node::new(at, full))?;
         self.list[at as usize] = self.list[at as usize].with_child(full, next as u32);
         Ok(next as u32)
-    }
-
-    /// Gives a node a place.
-    pub fn put(&mut self, at: u32, place: u32)
-        requires { at < length self.old }
-        ensures ways { HasWays self.old self.new }
-        ensures places { (p : List Bool) → walk self.old 0 p ≡ Some at → (q : List Bool)
-            → trie_place self.new q
-            ≡ (if same_prefix p q then Some place else trie_place self.old q) }
-    {
-        self.list[at as usize] = self.list[at as usize].with_place(place);
     }
 }

@@ -13,7 +13,7 @@ pub struct Way {
 }
 
 impl Model for Way {
-    ghost use Rattle.search_core.specs.Trie.{WayParts, IsBegunWay};
+    ghost use Rattle.search_core.specs.Nodes.{WayParts, IsBegunWay};
 
     ghost Value = { WayParts };
 

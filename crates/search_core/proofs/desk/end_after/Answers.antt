@@ -13,7 +13,7 @@ returns-in-Some c frontier keeps =
     let few : length ledger.found.items ≤ c.args.limits.solids = subst (λ (v : SearchLimits). length ledger.found.items ≤ v.solids) c.limits.view_is (omega arith) in
     let short : c.args.opened ≤ c.args.limits.nodes = subst (λ (v : SearchLimits). c.args.opened ≤ v.nodes) c.limits.view_is c.if-opened-limits.false in
     sym (end-within c.args.limits (length ledger.found.items) c.args.opened frontier few short
-    ∙ end-open frontier (prefix_at ledger.prefixes place) (counted-member ledger.prefixes ledger.frontier.counts frontier keeps place c.in-Some.ensures.counted))
+    ∙ end-open frontier (prefix_at ledger.prefixes place) (counted-member ledger.prefixes ledger.frontier.counts frontier keeps place c.in-Some.ensures.first.counted))
 
 pub returns-in-None : goal.returns-in-None
 returns-in-None c frontier keeps =
@@ -21,4 +21,4 @@ returns-in-None c frontier keeps =
     let few : length ledger.found.items ≤ c.args.limits.solids = subst (λ (v : SearchLimits). length ledger.found.items ≤ v.solids) c.limits.view_is (omega arith) in
     let short : c.args.opened ≤ c.args.limits.nodes = subst (λ (v : SearchLimits). c.args.opened ≤ v.nodes) c.limits.view_is c.if-opened-limits.false in
     sym (end-within c.args.limits (length ledger.found.items) c.args.opened frontier few short
-    ∙ ap end_at (none-left ledger.prefixes ledger.frontier.counts frontier keeps c.in-None.ensures))
+    ∙ ap end_at (none-left ledger.prefixes ledger.frontier.counts frontier keeps c.in-None.ensures.first))

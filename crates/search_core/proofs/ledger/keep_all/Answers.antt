@@ -1,7 +1,6 @@
--- One more is stored, if it wasn't, and its place comes behind the others.
-use Rattle.std.proofs.Common.{◌≡◌, ◌<◌, ◌++◌, ◌∷◌, [], ℕ, List, Bool, append-nil, map, length, sym, ◌∙◌, ap, ap₂, subst, arith}
-use Rattle.std.proofs.lemmas.List.{append_assoc, map_push, nil_from_length}
-use Rattle.std.specs.Vec.Iter.{into_iter_items}
+-- One more has its place, behind those of the others.
+use Rattle.std.proofs.Common.{◌≡◌, ◌<◌, ◌++◌, ◌∷◌, [], ℕ, List, Bool, map, length, sym, ◌∙◌, ap, ap₂, subst, arith}
+use Rattle.std.proofs.lemmas.List.{append_assoc, map_push, take_more, get_or_read}
 use Rattle.solid_model.specs.Lists.{Each}
 use Rattle.solid_model.proofs.Lists.{each-push}
 use Rattle.search_core.specs.Notes.{prefix_at}
@@ -11,17 +10,15 @@ use Rattle.search_core.proofs.ledger.keep_all.Goals as goal
 pub loop-prefix-preserved : goal.loop-prefix-preserved
 loop-prefix-preserved c =
     let i = c.loop-prefix.invariant in
-    let old = c.loop-prefix.prefixes in
-    let prefix = c.in-Some.prefix in
-    let steps : into_iter_items c.loop-prefix.prefix-iterator ≡ prefix ∷ into_iter_items c.next.new.self = c.in-Some.ensures.steps.0 in
+    let old : List (List Bool) = c.loop-prefix.prefixes in
+    let rest : List (List Bool) = c.args.rest.now in
+    let at = c.loop-prefix.prefix-index in
     let more = c.keep.ensures.grown.0 in
     let is : c.keep.new.self ≡ old ++ more = c.keep.ensures.grown.1 in
     let place = c.in_ok-keep.field-0 in
     let stands = c.in_ok-keep.ensures.place in
     let items : c.push.new.self.items ≡ c.loop-prefix.places.items ++ place ∷ [] = c.in_ok-push.ensures.items in
     record {
-      all = append_assoc c.loop-prefix.yielded (prefix ∷ []) _ ∙ rw (← steps) i.all;
-      count = (let was = i.count in let gone = c.in-Some.ensures.steps.1 in let short = ap length steps in omega arith);
       grown = (i.grown.0 ++ more, is ∙ ap (λ (v : List (List Bool)). v ++ more) i.grown.1 ∙ append_assoc c.args.prefixes.now i.grown.0 more);
       below = subst (λ (ks : List ℕ). Each (λ (k : ℕ). k < length c.keep.new.self) ks) (sym items)
           (each-push (λ (k : ℕ). k < length c.keep.new.self) c.loop-prefix.places.items place
@@ -30,11 +27,6 @@ loop-prefix-preserved c =
           ap (map (prefix_at c.keep.new.self)) items ∙ map_push (prefix_at c.keep.new.self) c.loop-prefix.places.items place
           ∙ ap₂ (λ (ps : List (List Bool)) (p : List Bool). ps ++ p ∷ [])
           (ap (λ (v : List (List Bool)). map (prefix_at v) c.loop-prefix.places.items) is ∙ named-grown old more c.loop-prefix.places.items i.below ∙ i.places)
-          stands.there;
+          (stands.there ∙ get_or_read rest at c.prefix-item.result (omega arith) c.prefix-item.is [])
+          ∙ sym (take_more rest at [] (omega arith));
     }
-
-pub returns-clause-places : goal.returns-clause-places
-returns-clause-places c =
-    let at = c.loop-prefix in
-    let empty : into_iter_items at.prefix-iterator ≡ [] = nil_from_length _ (sym at.invariant.count ∙ c.in-None.ensures.steps.0) in
-    at.invariant.places ∙ sym (append-nil at.yielded) ∙ rw empty at at.invariant.all ∙ c.into_iter-prefix-iterator.ensures.into_iter_gives.0

@@ -14,6 +14,7 @@ loop-place-preserved c =
     let more : take (at + 1) rest ≡ take at rest ++ get_or rest at 0 ∷ [] = take_more rest at 0 l in
     record {
       put = c.put.ensures.put ∙ ap (λ (v : List ℕ). v ++ get_or rest at 0 ∷ []) i.put ∙ append_assoc c.args.frontier.now.put (take at rest) (get_or rest at 0 ∷ []) ∙ ap (λ (v : List ℕ). c.args.frontier.now.put ++ v) (sym more);
+      ahead = c.put.ensures.ahead ∙ ap (λ (v : List ℕ). v ++ get_or rest at 0 ∷ []) i.ahead ∙ append_assoc c.args.frontier.now.ahead (take at rest) (get_or rest at 0 ∷ []) ∙ ap (λ (v : List ℕ). c.args.frontier.now.ahead ++ v) (sym more);
       counts = λ k. (
           let tail : times_in k (take (at + 1) rest) ≡ times_in k (take at rest) + times_in k (get_or rest at 0 ∷ []) = ap (times_in k) more ∙ times_in-append k (take at rest) (get_or rest at 0 ∷ []) in
           let once : count_of c.put.new.self.counts k ≡ count_of c.loop-place.frontier.counts k + times_in k (get_or rest at 0 ∷ []) = c.put.ensures.counts k ∙ counted_once_more k (get_or rest at 0) (count_of c.loop-place.frontier.counts k) in

@@ -15,4 +15,4 @@ invariant_of-result c =
       | then-live w ↦ w.end-is ∙ ap (λ (t : Bool). if t then None else Some Whole) (sym w.if-live.true)
       | else-live w ↦ w.end-is ∙ ap (λ (t : Bool). if t then None else Some Whole) (sym w.if-live.false)
     ] in
-    desk-begun (arc_value c.args.problem) c.args.limits (ledger_of c.in_ok-ledger.ledger) c.args.live c.in_ok-ledger.ensures c.requires c.if-live.end end
+    (c.in_ok-ledger.ensures.first, desk-begun (arc_value c.args.problem) c.args.limits (ledger_of c.in_ok-ledger.ledger) c.args.live c.in_ok-ledger.ensures.begun c.requires c.if-live.end end)

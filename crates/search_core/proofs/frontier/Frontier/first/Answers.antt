@@ -1,7 +1,7 @@
 -- The first that isn't passed over is counted, and what is counted was put no earlier.
-use Rattle.std.proofs.Common.{◌≡◌, ◌<◌, ℕ, length, get_or, subst, arith}
-use Rattle.std.proofs.lemmas.List.{get_or_read}
-use Rattle.search_core.specs.Frontier.{FrontierParts, IsFirstPut, count_of}
+use Rattle.std.proofs.Common.{◌≡◌, ◌<◌, ℕ, length, get_or, sym, ◌∙◌, ap, subst, arith}
+use Rattle.std.proofs.lemmas.List.{get_or_read, drop_more}
+use Rattle.search_core.specs.Frontier.{FrontierParts, IsFirstPut, count_of, first_or}
 use Rattle.search_core.proofs.frontier.Frontier.first.Goals as goal
 
 pub returns-then-self-len : goal.returns-then-self-len
@@ -19,4 +19,7 @@ returns-then-self-len c =
       counted = subst (λ (k : ℕ). 0 < count_of counts k) (let e : get_or put first 0 ≡ c.index.result.now = cc in e) counted;
       behind = c.self.invariant.behind;
     } in
-    subst (λ (v : FrontierParts). IsFirstPut v.put v.counts c.index.result.now) c.self.view_is found
+    record {
+      first = subst (λ (v : FrontierParts). IsFirstPut v.put v.counts c.index.result.now) c.self.view_is found;
+      ahead = λ d. ap (λ (v : FrontierParts). first_or d v.ahead) (sym c.self.view_is) ∙ ap (first_or d) (drop_more put first 0 l) ∙ sym is;
+    }

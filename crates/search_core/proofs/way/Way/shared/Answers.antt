@@ -3,7 +3,7 @@ use Rattle.std.proofs.Common.{take, sym, ◌∙◌, ap, arith}
 use Rattle.std.proofs.lemmas.List.Sums.{common_prefix_len-le}
 use Rattle.solid_model.specs.Edges.{agree}
 use Rattle.solid_model.proofs.BitChanges.{shared_taken}
-use Rattle.search_core.specs.Trie.{WayParts}
+use Rattle.search_core.specs.Nodes.{WayParts}
 use Rattle.search_core.proofs.way.Way.shared.Goals as goal
 
 pub returns-clause-within : goal.returns-clause-within
