@@ -4,7 +4,11 @@ use crate::shared::Shared;
 use search_core::{Desk, ReadyReport};
 use solid_model::Prefix;
 use std::alloc::Global;
-use std::sync::{Condvar, Mutex, Wait};
+use std::sync::{Condvar, Mutex, MutexGuard, Wait};
+use std::thread;
+
+/// How often a thread tries the lock, and lets another one run after each try, before it sleeps for it.
+const TRIES: u32 = 40;
 
 /// What the workers share, under its lock; where they wait for a change; and where the caller waits
 /// for solids. Nothing is known of the value but what its type keeps.
@@ -33,14 +37,26 @@ impl<B: Wait + Drop> Room<B> {
         }
     }
 
+    /// Takes the lock. It is held for some microseconds at a time, and who sleeps for it wakes up later
+    /// than that: so it is tried for some time before.
+    fn enter<R: Wait>(&self, rt: &R) -> MutexGuard<'_, Shared<B>> {
+        for _ in 0..TRIES {
+            if let Some(shared) = self.shared.try_lock() {
+                return shared;
+            }
+            thread::yield_now();
+        }
+        self.shared.lock(rt)
+    }
+
     /// How many changes were signalled.
     pub fn changes<R: Wait>(&self, rt: &R) -> u64 {
-        self.shared.lock(rt).changes()
+        self.enter(rt).changes()
     }
 
     /// Signals a change, and tells how many were signalled.
     pub fn signal<R: Wait>(&self, rt: &R) -> u64 {
-        let changes = self.shared.lock(rt).change();
+        let changes = self.enter(rt).change();
         self.changed.notify_all();
         changes
     }
@@ -49,7 +65,7 @@ impl<B: Wait + Drop> Room<B> {
     /// has seen. It is told how many were signalled then. `None`: nothing is left to be done or nobody
     /// is at work, and it leaves.
     pub fn wait<R: Wait>(&self, rt: &R, seen: u64) -> Option<u64> {
-        let mut shared = self.shared.lock(rt);
+        let mut shared = self.enter(rt);
         shared.rest();
         if shared.is_still() {
             shared.change();
@@ -66,7 +82,7 @@ impl<B: Wait + Drop> Room<B> {
 
     /// A worker that is at work stops counting and leaves.
     pub fn leave<R: Wait>(&self, rt: &R) {
-        let mut shared = self.shared.lock(rt);
+        let mut shared = self.enter(rt);
         shared.rest();
         shared.change();
         drop(shared);
@@ -75,7 +91,7 @@ impl<B: Wait + Drop> Room<B> {
 
     /// All are to stop.
     pub fn halt<R: Wait>(&self, rt: &R) {
-        let mut shared = self.shared.lock(rt);
+        let mut shared = self.enter(rt);
         shared.halt();
         shared.change();
         drop(shared);
@@ -89,7 +105,7 @@ impl<B: Wait + Drop> Room<B> {
         alloc: Global,
         report: ReadyReport,
     ) -> Option<Vec<Prefix>> {
-        let mut shared = self.shared.lock(rt);
+        let mut shared = self.enter(rt);
         let before = shared.published();
         let rest = shared.report(alloc, report);
         let now = shared.published();
@@ -102,7 +118,7 @@ impl<B: Wait + Drop> Room<B> {
 
     /// The caller waits while no more solids are published than it has seen, and more may come.
     pub fn wait_for_news<R: Wait>(&self, rt: &R, seen: usize) -> News {
-        let shared = self.shared.lock(rt);
+        let shared = self.enter(rt);
         let shared = self.news.wait_while(rt, shared, |shared| {
             shared.published() == seen && !shared.is_still()
         });
