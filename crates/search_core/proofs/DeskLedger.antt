@@ -18,10 +18,11 @@ use Rattle.search_core.specs.declared.note.Note.{Note}
 use Rattle.search_core.specs.Ledger.{LedgerParts, history_of, desk_of, IsBegun, HasGrown, HasPosted, IsLedger, KeepsFrontier, IsLedgerOf}
 use Rattle.search_core.specs.Core.{Core, Event, IsCoreRun, times_among, without, core_start, end_at, end_after, after_event}
 use Rattle.search_core.specs.Desk.{desk_state, event_of, pieces_put, IsDesk, IsFirstPiece, IsTaken}
-use Rattle.search_core.specs.Notes.{prefix_at, told, StandsAt, AreDistinct, AreShared}
+use Rattle.search_core.specs.Notes.{told, AreShared}
+use Rattle.prefix_tree.specs.Places.{prefix_at, StandsAt, AreDistinct}
 use Rattle.search_core.specs.Frontier.{count_of, times_in, IsFirstPut}
 use Rattle.search_core.proofs.KeptFrontiers.{frontier-posted, frontier-grown, frontier-begun, counted-member, member-counted, left-among}
-use Rattle.search_core.proofs.Stored.{stands-grown}
+use Rattle.prefix_tree.proofs.Stored.{stands-grown}
 use Rattle.search_core.proofs.Told.{after-push, run-push, each-drop, rests-told, told-grown, told-push, shared-push}
 
 -- ---- before a report

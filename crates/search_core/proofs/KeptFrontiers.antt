@@ -9,7 +9,7 @@ use Rattle.solid_model.proofs.ListPlaces.{member-at, member-place}
 use Rattle.solid_model.proofs.Lists.{member-append_left, each-at, each-append, each-append_left, each-append_right, each-weaker}
 use Rattle.search_core.specs.Ledger.{KeepsFrontier}
 use Rattle.search_core.specs.Core.{same_prefix, times_among, without, end_at, end_after}
-use Rattle.search_core.specs.Notes.{prefix_at, StandsAt, AreDistinct}
+use Rattle.prefix_tree.specs.Places.{prefix_at, StandsAt, AreDistinct}
 use Rattle.search_core.specs.Frontier.{count_of, times_in}
 use Rattle.search_core.proofs.TakenOut.{Decides-same_prefix, stands_between}
 

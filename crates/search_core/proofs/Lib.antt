@@ -2,9 +2,6 @@ pub mod Lists
 pub mod TakenOut
 pub mod OnceBelow
 pub mod CoreEvents
-pub mod Stored
-pub mod Trees
-pub mod Ways
 pub mod FrontierPlaces
 pub mod FirstPieces
 pub mod Told

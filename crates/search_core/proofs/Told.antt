@@ -8,8 +8,9 @@ use Rattle.solid_model.specs.Tree.{PrefixTest}
 use Rattle.solid_model.proofs.Lists.{each-append_left, each-append_right}
 use Rattle.search_core.specs.declared.note.Note.{Note}
 use Rattle.search_core.specs.Core.{Core, Event, IsEvent, IsCoreRun, after_event, after_events}
-use Rattle.search_core.specs.Notes.{prefix_at, told, AreShared}
-use Rattle.search_core.proofs.Stored.{named-grown}
+use Rattle.search_core.specs.Notes.{told, AreShared}
+use Rattle.prefix_tree.specs.Places.{prefix_at}
+use Rattle.prefix_tree.proofs.Stored.{named-grown}
 
 -- ---- runs
 

@@ -9,7 +9,8 @@ use Rattle.search_core.specs.declared.ledger.Ledger.{Ledger}
 use Rattle.search_core.specs.declared.note.Note.{Note}
 use Rattle.search_core.specs.Core.{Event, IsCoreRun, core_start, times_among}
 use Rattle.search_core.specs.Desk.{DeskParts, desk_state}
-use Rattle.search_core.specs.Notes.{prefix_at, told, StandsAt, AreDistinct, AreShared}
+use Rattle.search_core.specs.Notes.{told, AreShared}
+use Rattle.prefix_tree.specs.Places.{prefix_at, StandsAt, AreDistinct}
 use Rattle.search_core.specs.Frontier.{count_of, count_without, first_or, passed, times_in}
 
 -- stored prefixes; the places that were put into the frontier, and how often each stands there; notes; and the choices found

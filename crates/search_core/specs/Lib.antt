@@ -2,7 +2,6 @@ pub mod Copies
 pub mod Core
 pub mod Conserves
 pub mod SmallCore
-pub mod Nodes
 pub mod Notes
 pub mod Frontier
 pub mod Desk

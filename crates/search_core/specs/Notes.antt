@@ -1,20 +1,8 @@
--- Stored prefixes, which are named by their places, and notes of what was reported.
-use Rattle.std.specs.Prelude.{◌≡◌, ◌<◌, ◌≤◌, Bool, ℕ, List, [], ◌∷◌, length, take, drop, map, slice_index_or}
+-- Notes of what was reported, in which prefixes are named by their places.
+use Rattle.std.specs.Prelude.{◌≡◌, ◌≤◌, Bool, ℕ, List, [], ◌∷◌, length, take, drop, map}
 use Rattle.search_core.specs.declared.note.Note.{Note}
 use Rattle.search_core.specs.Core.{Event}
-
--- the prefix at a place
-abbrev pub prefix_at : List (List Bool) → ℕ → List Bool
-prefix_at stored k = slice_index_or stored k []
-
--- a prefix stands at a place
-pub record StandsAt (stored : List (List Bool)) (p : List Bool) (k : ℕ) : Type 0 where
-  pub below : k < length stored
-  pub there : prefix_at stored k ≡ p
-
--- no two of them are equal
-abbrev pub AreDistinct : List (List Bool) → Type 0
-AreDistinct stored = (i j : ℕ) → i < length stored → j < length stored → prefix_at stored i ≡ prefix_at stored j → i ≡ j
+use Rattle.prefix_tree.specs.Places.{prefix_at}
 
 -- what notes tell: each has its share of the choices found, and of the places of the rests
 abbrev pub told : List (List Bool) → List Note → List (List Bool) → List ℕ → List Event

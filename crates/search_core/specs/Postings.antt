@@ -4,7 +4,7 @@ use Rattle.solid_model.specs.Lists.{Each}
 use Rattle.search_core.specs.declared.ledger.Ledger.{Ledger}
 use Rattle.search_core.specs.declared.ledger.Posting.{Posting}
 use Rattle.search_core.specs.Ledger.{next_first}
-use Rattle.search_core.specs.Notes.{prefix_at, StandsAt}
+use Rattle.prefix_tree.specs.Places.{prefix_at, StandsAt}
 
 -- the ledger has room for it
 pub record HasRoom (b : Ledger) (e : Posting) : Type 0 where

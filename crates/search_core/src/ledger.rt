@@ -5,13 +5,13 @@ ghost use Rattle.solid_model.specs.Lists.{Each};
 ghost use Rattle.search_core.specs.Ledger.{ledger_of, next_first, IsBegun, HasGrown, HasPosted, KnowsFirst};
 ghost use Rattle.search_core.specs.Copies.{AreCopies};
 ghost use Rattle.search_core.specs.Postings.{HasRoom, IsPosting};
-ghost use Rattle.search_core.specs.Notes.{prefix_at, StandsAt};
+ghost use Rattle.prefix_tree.specs.Places.{prefix_at, StandsAt};
 ghost use Rattle.search_core.specs.Frontier.{count_of, times_in};
 
 use crate::copies::Copies;
 use crate::frontier::{Frontier, first_of};
 use crate::note::Note;
-use crate::prefixes::Prefixes;
+use prefix_tree::Prefixes;
 use solid_model::{Choice, Memory, Prefix};
 use std::alloc::Global;
 

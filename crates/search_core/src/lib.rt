@@ -7,11 +7,8 @@ mod desk;
 mod frontier;
 mod laws;
 mod ledger;
-mod nodes;
 mod note;
-mod prefixes;
 mod ready;
-mod way;
 
 pub use desk::{Desk, Reported};
 pub use laws::{small_core, the_core_conserves};

@@ -2,7 +2,7 @@
 use Rattle.std.proofs.Common.{◌≤◌, length, sym, ◌∙◌, ap, subst, arith}
 use Rattle.solid_model.specs.Search.{SearchLimits}
 use Rattle.search_core.specs.Core.{end_at}
-use Rattle.search_core.specs.Notes.{prefix_at}
+use Rattle.prefix_tree.specs.Places.{prefix_at}
 use Rattle.search_core.proofs.KeptFrontiers.{none-left, counted-member, end-within, end-open}
 use Rattle.search_core.proofs.desk.end_after.Goals as goal
 

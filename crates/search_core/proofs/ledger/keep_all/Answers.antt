@@ -3,8 +3,8 @@ use Rattle.std.proofs.Common.{◌≡◌, ◌<◌, ◌++◌, ◌∷◌, [], ℕ, 
 use Rattle.std.proofs.lemmas.List.{append_assoc, map_push, take_more, get_or_read}
 use Rattle.solid_model.specs.Lists.{Each}
 use Rattle.solid_model.proofs.Lists.{each-push}
-use Rattle.search_core.specs.Notes.{prefix_at}
-use Rattle.search_core.proofs.Stored.{named-grown, below-grown}
+use Rattle.prefix_tree.specs.Places.{prefix_at}
+use Rattle.prefix_tree.proofs.Stored.{named-grown, below-grown}
 use Rattle.search_core.proofs.ledger.keep_all.Goals as goal
 
 pub loop-prefix-preserved : goal.loop-prefix-preserved

@@ -1,7 +1,7 @@
 -- The first ones are stored, and the places are theirs.
 use Rattle.std.proofs.Common.{◌≡◌, ◌<◌, ◌++◌, List, Bool, map, length, take}
 use Rattle.solid_model.specs.Lists.{Each}
-use Rattle.search_core.specs.Notes.{prefix_at}
+use Rattle.prefix_tree.specs.Places.{prefix_at}
 use Rattle.search_core.proofs.ledger.keep_all.Given as goal
 
 abbrev pub invariant-loop-prefix : goal.invariant-loop-prefix

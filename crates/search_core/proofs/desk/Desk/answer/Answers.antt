@@ -4,7 +4,7 @@ use Rattle.std.specs.Arc.{arc_value}
 use Rattle.solid_model.specs.Lists.{Member}
 use Rattle.search_core.specs.Ledger.{ledger_of, history_of, desk_of}
 use Rattle.search_core.specs.Desk.{DeskParts, IsDesk, Takes, IsTaken}
-use Rattle.search_core.specs.Notes.{StandsAt}
+use Rattle.prefix_tree.specs.Places.{StandsAt}
 use Rattle.search_core.proofs.DeskLedger.{history-grown, desk-grown, desk-reported, desk-is, desk-gone, desk-counted, none-from, taken_on}
 use Rattle.search_core.proofs.desk.Desk.answer.Goals as goal
 

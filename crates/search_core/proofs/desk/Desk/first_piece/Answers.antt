@@ -3,7 +3,7 @@ use Rattle.std.proofs.Common.{◌≡◌, [], sym, ◌∙◌, ap, subst}
 use Rattle.std.specs.Arc.{arc_value}
 use Rattle.search_core.specs.Desk.{DeskParts, IsFirstPiece}
 use Rattle.search_core.specs.Ledger.{ledger_of}
-use Rattle.search_core.specs.Notes.{prefix_at}
+use Rattle.prefix_tree.specs.Places.{prefix_at}
 use Rattle.search_core.proofs.DeskLedger.{first-piece}
 use Rattle.search_core.proofs.KeptFrontiers.{none-left}
 use Rattle.search_core.proofs.desk.Desk.first_piece.Goals as goal

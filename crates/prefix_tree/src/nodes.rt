@@ -1,0 +1,136 @@
+//! The nodes of a binary tree that lists of truth values lead down.
+
+use solid_model::Memory;
+use std::alloc::Global;
+use std::marker::Model;
+
+/// A node that another one, before it, leads to for a value, and where it leads for a full block and
+/// for an empty one: to node 0 it leads nowhere, since that is the root.
+#[derive(Clone, Copy)]
+pub struct Node {
+    pub before: u32,
+    pub value: bool,
+    pub full: u32,
+    pub empty: u32,
+}
+
+impl Node {
+    ghost use Rattle.std.specs.Prelude.{◌≡◌};
+    ghost use Rattle.prefix_tree.specs.Nodes.{new_node, child, with_child};
+
+    /// A node that leads nowhere.
+    fn new(before: u32, value: bool) -> Node
+        ensures { result ≡ new_node before value }
+    {
+        Node {
+            before,
+            value,
+            full: 0,
+            empty: 0,
+        }
+    }
+
+    /// Where it leads for a value.
+    fn child(&self, full: bool) -> Option<u32>
+        ensures { result ≡ child self.now full }
+    {
+        let next = if full { self.full } else { self.empty };
+        if next == 0 { None } else { Some(next) }
+    }
+
+    /// The same node, which leads there for this value.
+    fn with_child(self, full: bool, next: u32) -> Node
+        ensures { result ≡ with_child self full next }
+    {
+        if full {
+            Node { full: next, ..self }
+        } else {
+            Node {
+                empty: next,
+                ..self
+            }
+        }
+    }
+}
+
+/// The nodes of a binary tree, the first of which is the root. Contracts see them as the lists that
+/// lead to them.
+#[derive(Drop)]
+pub struct Nodes {
+    list: Vec<Node>,
+}
+
+impl Model for Nodes {
+    ghost use Rattle.std.specs.Prelude.{Bool, List};
+    ghost use Rattle.prefix_tree.specs.Nodes.{ways, IsTrie};
+
+    ghost Value = { List (List Bool) };
+
+    ghost view = { λ s. ways s.list.items };
+
+    ghost invariant = { λ s. IsTrie s.list.items };
+}
+
+impl Nodes {
+    ghost use Rattle.std.specs.Prelude.{◌≡◌, ◌<◌, ◌≤◌, ◌++◌, ◌∷◌, [], Bool, List, ℕ, length, IfOk, MatchOption};
+    ghost use Rattle.prefix_tree.specs.Places.{prefix_at, AreDistinct, StandsAt};
+
+    /// The root alone, which leads nowhere. An `Err` is out of memory.
+    pub fn new(alloc: Global) -> Result<Nodes, Memory>
+        ensures { IfOk result (λ nodes. nodes ≡ [] ∷ []) }
+    {
+        let mut list = Vec::new(alloc);
+        list.push(Node::new(0, false))?;
+        Ok(Nodes { list })
+    }
+
+    /// How many there are.
+    pub fn len(&self) -> usize
+        ensures count { result ≡ length self.now }
+        ensures distinct { AreDistinct self.now }
+        ensures short { (k : ℕ) → k < length self.now → length (prefix_at self.now k) ≤ k }
+    {
+        self.list.len()
+    }
+
+    /// Where a node leads for a value.
+    pub fn child(&self, at: u32, full: bool) -> Option<u32>
+        requires { at < length self.now }
+        ensures { MatchOption result
+            ((rest : List Bool) (k : ℕ)
+            → ¬ StandsAt self.now (prefix_at self.now at ++ full ∷ rest) k)
+            (StandsAt self.now (prefix_at self.now at ++ full ∷ [])) }
+    {
+        self.list[at as usize].child(full)
+    }
+
+    /// The node that leads to one, and for which value. None leads to the root.
+    pub fn before(&self, at: u32) -> (u32, bool)
+        requires inside { at < length self.now }
+        requires led { 0 < at }
+        ensures before { result.0 < at }
+        ensures led { prefix_at self.now at ≡ prefix_at self.now result.0 ++ result.1 ∷ [] }
+    {
+        let node = self.list[at as usize];
+        (node.before, node.value)
+    }
+
+    /// The node to which a node leads for a value; if there is none, it comes behind the others. An
+    /// `Err` is out of memory, or of 32-bit numbers for nodes.
+    pub fn step(&mut self, at: u32, full: bool) -> Result<u32, Memory>
+        requires { at < length self.old }
+        ensures grown { (more : List (List Bool)) × (self.new ≡ self.old ++ more) }
+        ensures there { IfOk result (StandsAt self.new (prefix_at self.old at ++ full ∷ [])) }
+    {
+        if let Some(next) = self.list[at as usize].child(full) {
+            return Ok(next);
+        }
+        let next = self.list.len();
+        if next > u32::MAX as usize {
+            return Err(Memory);
+        }
+        self.list.push(Node::new(at, full))?;
+        self.list[at as usize] = self.list[at as usize].with_child(full, next as u32);
+        Ok(next as u32)
+    }
+}
