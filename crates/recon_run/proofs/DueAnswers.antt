@@ -1,13 +1,13 @@
 -- Which answer is due: that of the end of a text's search, or of its fault; or the one that is owed.
 use Rattle.std.proofs.Common.{◌≡◌, refl, inl, inr, ℕ, List, length, Option, Some, None, Ok, Err, ap, ◌∙◌}
-use Rattle.recon_run.specs.declared.status.Answer.{Answer}
-use Rattle.recon_run.specs.declared.status.Answer.TheVariants as answers
-use Rattle.recon_run.specs.declared.status.Failure.{Failure}
+use Rattle.replies.specs.declared.status.Answer.{Answer}
+use Rattle.replies.specs.declared.status.Answer.TheVariants as answers
+use Rattle.replies.specs.declared.status.Failure.{Failure}
 use Rattle.file_problem.specs.Inputs.{HasNoFault, Input, IsFileFault}
 use Rattle.recon_run.specs.Answers.{CanEnd}
 use Rattle.recon_run.specs.Endings.{AnswersOrFails, Ends, EndsOrFails, OfAlone, OfSearch}
 use Rattle.recon_run.specs.Owed.{AnswersInput, Owed, Search, answer_at, alone, input_of, searched}
-use Rattle.recon_run.specs.Status.{Status, answer_code, status_code, failure_code}
+use Rattle.replies.specs.Status.{Status, answer_code, status_code, failure_code}
 use Rattle.file_problem.proofs.Faults.{no_fault}
 use Rattle.recon_run.proofs.OneEnd.{kept_or_passed, one_count}
 use Rattle.solid_model.specs.declared.ended.EndKind.TheVariants.{Whole}

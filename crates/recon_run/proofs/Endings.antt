@@ -2,14 +2,15 @@
 use Rattle.std.proofs.Common.{◌≡◌, refl, inl, inr, ℕ, List, Option, Some, None, Result, Ok, Err, subst₂, sym}
 use Rattle.std.specs.Io.KnownBytes.{Keeps}
 use Rattle.recon_run.specs.declared.found.Found.{Found}
-use Rattle.recon_run.specs.declared.status.Answer.{Answer}
-use Rattle.recon_run.specs.declared.status.Failure.{Failure}
-use Rattle.recon_run.specs.declared.status.Failure.TheVariants.{ReadFault, WriteFault, Memory}
+use Rattle.replies.specs.declared.status.Answer.{Answer}
+use Rattle.replies.specs.declared.status.Failure.{Failure}
+use Rattle.replies.specs.declared.status.Failure.TheVariants.{ReadFault, WriteFault, Memory}
 use Rattle.recon_run.specs.Endings.{Ends}
-use Rattle.recon_run.specs.Findings.{AnswersFound, EndsWriting, IsReply}
+use Rattle.recon_run.specs.Findings.{AnswersFound}
+use Rattle.replies.specs.Writings.{EndsWriting, IsReply}
 use Rattle.recon_run.specs.Owed.{AnswersOwed, Owed, Search, beginning, begun, searched}
 use Rattle.recon_run.specs.Searched.{SearchedParts}
-use Rattle.recon_run.specs.Status.{Status}
+use Rattle.replies.specs.Status.{Status}
 use Rattle.recon_run.proofs.Told.{IsFound, TellsRightly, found_owed}
 
 -- known bytes stay as they are where nothing is done

@@ -5,7 +5,7 @@ use Rattle.std.proofs.lemmas.List.Sorted.{IsPermutation-refl, IsPermutation-sym,
 use Rattle.std.proofs.lemmas.Option.{slice_get_within}
 use Rattle.std.specs.List.{slice_get}
 use Rattle.drawing_maker.specs.Made.{made_solid}
-use Rattle.recon_run.specs.declared.status.Answer.{Answer}
+use Rattle.replies.specs.declared.status.Answer.{Answer}
 use Rattle.file_problem.specs.Inputs.{Input}
 use Rattle.recon_run.specs.Answers.{node_count, CanEnd, TellsNumbered, TellsSolids, IsTried, first_volume, head_of, made_drawing}
 use Rattle.recon_run.specs.Endings.{Answers, IsCut, SameButPages}

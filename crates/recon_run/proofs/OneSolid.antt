@@ -1,11 +1,13 @@
 -- How the writing of one solid ends, by how that of its text does.
 use Rattle.std.proofs.Common.{◌≡◌, ◌-◌, ◌<◌, ◌≤◌, inl, Bool, ℕ, List, length, Option, Some, Result, Ok, Err, sym, subst, refl, arith}
 use Rattle.std.specs.List.{slice_get}
-use Rattle.recon_run.specs.declared.status.Answer.{Answer}
-use Rattle.recon_run.specs.declared.status.Answer.TheVariants as answers
-use Rattle.recon_run.specs.declared.status.Failure.{Failure}
-use Rattle.recon_run.specs.Answers.{end_answer, numbered_answer}
-use Rattle.recon_run.specs.Findings.{AnswersNumbered, AnswersOne, EndsText, IsWrittenOf, TellsOneAt, search_head}
+use Rattle.replies.specs.declared.status.Answer.{Answer}
+use Rattle.replies.specs.declared.status.Answer.TheVariants as answers
+use Rattle.replies.specs.declared.status.Failure.{Failure}
+use Rattle.recon_run.specs.Answers.{numbered_answer}
+use Rattle.replies.specs.Status.{end_answer}
+use Rattle.recon_run.specs.Findings.{AnswersNumbered, AnswersOne, IsWrittenOf, TellsOneAt, search_head}
+use Rattle.replies.specs.Writings.{EndsText}
 use Rattle.recon_run.specs.Owed.{answer_at}
 use Rattle.recon_run.specs.Searched.{SearchedParts}
 use Rattle.recon_run.proofs.Redrawn.{numbered_done}

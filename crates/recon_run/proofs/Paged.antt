@@ -5,7 +5,8 @@ use Rattle.std.proofs.lemmas.List.{take-append-le}
 use Rattle.std.proofs.lemmas.List.Sorted.{IsPermutation-refl}
 use Rattle.std.specs.Io.KnownBytes.{Appends}
 use Rattle.columns.proofs.LivePrefixes.{live_keeps_matching}
-use Rattle.recon_run.specs.Findings.{BeginsPages, EndsWriting, TellsPages, TellsSearch, run_failure}
+use Rattle.recon_run.specs.Findings.{BeginsPages, TellsPages, TellsSearch, run_failure}
+use Rattle.replies.specs.Writings.{EndsWriting}
 use Rattle.recon_run.specs.Pages.{Page, ArePagesOf, IsPage, choices_on, pages_text}
 use Rattle.recon_run.specs.Searched.{SearchedParts}
 use Rattle.sink_pages.specs.Gained.{HasGained, calls_text}

@@ -1,7 +1,7 @@
 -- What is told of one solid that was found in a file, and what `trial` tells, is an answer to it.
 use Rattle.std.proofs.Common.{◌≡◌, ℕ, zero, suc, ◌-◌, ◌<◌, ◌≤◌, List, [], ◌∷◌, Bool, Option, Some, inl, inr, refl, sym, ap, subst, ◌∙◌, cond, lt-ltb, le-ltb}
 use Rattle.std.specs.List.{slice_get}
-use Rattle.recon_run.specs.declared.status.Answer.TheVariants as answers
+use Rattle.replies.specs.declared.status.Answer.TheVariants as answers
 use Rattle.file_problem.specs.Inputs.{HasProblem, Input}
 use Rattle.recon_run.specs.Answers.{CanEnd, first_volume, numbered_answer}
 use Rattle.recon_run.specs.Findings.{IsOnGrid, TellsOne, TellsOneAt, first_choice_volume}

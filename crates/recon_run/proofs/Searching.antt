@@ -3,9 +3,10 @@ use Rattle.std.proofs.Common.{◌≡◌, inl, inr, refl, Bool, ℕ, List, [], le
 use Rattle.std.proofs.Math.Seq.{take-length}
 use Rattle.std.proofs.lemmas.List.{append-nil}
 use Rattle.std.specs.Io.KnownBytes.{Appends}
-use Rattle.recon_run.specs.declared.status.Answer.{Answer}
-use Rattle.recon_run.specs.declared.status.Failure.{Failure}
-use Rattle.recon_run.specs.Findings.{AnswersSearch, BeginsAll, BeginsPaged, BeginsPages, EndsText, EndsWriting, IsSearchOf, TellsAll, TellsPaged, TellsPages, TellsSearch}
+use Rattle.replies.specs.declared.status.Answer.{Answer}
+use Rattle.replies.specs.declared.status.Failure.{Failure}
+use Rattle.recon_run.specs.Findings.{AnswersSearch, BeginsAll, BeginsPaged, BeginsPages, IsSearchOf, TellsAll, TellsPaged, TellsPages, TellsSearch}
+use Rattle.replies.specs.Writings.{EndsText, EndsWriting}
 use Rattle.recon_run.specs.Owed.{answer_at}
 use Rattle.recon_run.specs.Pages.{pages_text}
 use Rattle.recon_run.specs.Searched.{SearchedParts}

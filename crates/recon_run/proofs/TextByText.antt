@@ -3,9 +3,10 @@ use Rattle.std.proofs.Common.{◌≡◌, inl, inr, refl, Bool, ℕ, zero, suc, �
 use Rattle.std.proofs.Math.Seq.{take-length}
 use Rattle.std.proofs.lemmas.List.{append-nil}
 use Rattle.std.specs.Io.KnownBytes.{Appends, Keeps}
-use Rattle.recon_run.specs.declared.status.Failure.{Failure}
-use Rattle.recon_run.specs.declared.status.Failure.TheVariants.{ReadFault, WriteFault, Memory}
-use Rattle.recon_run.specs.Findings.{TellsChoice, TellsChoices, EndsText, EndsWriting}
+use Rattle.replies.specs.declared.status.Failure.{Failure}
+use Rattle.replies.specs.declared.status.Failure.TheVariants.{ReadFault, WriteFault, Memory}
+use Rattle.recon_run.specs.Findings.{TellsChoice, TellsChoices}
+use Rattle.replies.specs.Writings.{EndsText, EndsWriting}
 use Rattle.sink_pages.proofs.Gained.{prefix_after}
 use Rattle.report.specs.Texts.{TextsParts}
 use Rattle.tv_base.proofs.Told.{appends_both}

@@ -2,7 +2,7 @@
 use Rattle.std.proofs.Common.{◌≡◌, inl, inr, refl, Bool, ℕ, List, ◌++◌, length, Option, Some, None, IfSome, ap, ap₂, subst, sym, ◌∙◌}
 use Rattle.recon_run.specs.declared.found.Found.{Found}
 use Rattle.recon_run.specs.declared.found.Found.TheVariants.{Problem, Fault}
-use Rattle.recon_run.specs.declared.status.Answer.{Answer}
+use Rattle.replies.specs.declared.status.Answer.{Answer}
 use Rattle.file_problem.specs.Inputs.{HasProblem, Input}
 use Rattle.recon_run.specs.Answers.{BeginsToList, CanEnd, ListsSolids}
 use Rattle.recon_run.specs.Findings.{AnswersFound, BeginsPaged, IsFoundIn, IsSearchOf, TellsPaged}

@@ -3,8 +3,8 @@ use Rattle.std.proofs.Common.{◌≡◌, refl, inl, inr, ⊎_elim, Bool, true, f
 use Rattle.std.proofs.lemmas.Bool.{cases_lt}
 use Rattle.dxf_entities.specs.Reading.{read_of}
 use Rattle.dxf_entities.proofs.KeptLines.{read_lines_are_kept}
-use Rattle.recon_run.specs.declared.status.Answer.{Answer}
-use Rattle.recon_run.specs.declared.status.Answer.TheVariants as answers
+use Rattle.replies.specs.declared.status.Answer.{Answer}
+use Rattle.replies.specs.declared.status.Answer.TheVariants as answers
 use Rattle.file_problem.specs.Inputs.{Input, IsFaultAfter, IsFileFault, HasProblem}
 use Rattle.recon_run.specs.Answers.{usage_text, CanEnd, IsTried, TellsNumbered, head_of, numbered_answer}
 use Rattle.solid_model.specs.Search.{default_limits, SearchLimits}

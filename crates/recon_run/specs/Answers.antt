@@ -2,8 +2,8 @@
 use Rattle.std.specs.Prelude.{◌≡◌, ◌⊎◌, ℕ, nat_lt, ◌+◌, ◌-◌, ◌<◌, ◌≤◌, List, [], ◌∷◌, ◌++◌, Bool, length, take, slice_get, Some, codes, if◌then◌else◌}
 use Rattle.drawing_maker.specs.Made.{made_solid}
 use Rattle.file_problem.specs.Inputs.{HasProblem, Input}
-use Rattle.recon_run.specs.declared.status.Answer.{Answer}
-use Rattle.recon_run.specs.declared.status.Answer.TheVariants as answers
+use Rattle.replies.specs.declared.status.Answer.{Answer}
+use Rattle.replies.specs.declared.status.Answer.TheVariants as answers
 use Rattle.recon_run.specs.Pages.{Page, ArePagesOf, pages_text}
 use Rattle.report.specs.Texts.{head_text, no_solid_text, solid_text, trial_text}
 use Rattle.solid_model.specs.declared.cell.Cell.{Cell}
@@ -45,12 +45,6 @@ pub record CanEnd (limits : SearchLimits) (t : Input) (kind : EndKind) : Type 0 
   pub allows : AllowsEnd limits problem solids kind
 
 -- ---- the answers
-
--- the answer to a search that ended so
-abbrev pub end_answer : EndKind → Answer
-end_answer Whole = answers.Done
-end_answer CutNodes = answers.CutNodes
-end_answer CutSolids = answers.CutSolids
 
 -- the usage line
 abbrev pub usage_text : List ℕ

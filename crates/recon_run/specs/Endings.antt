@@ -1,15 +1,15 @@
 -- How a run ends: what it read, answered and wrote.
 use Rattle.std.specs.Prelude.{◌≡◌, ◌⊎◌, Bool, true, false, ℕ, List, ◌++◌, length, Option, IfSome, IsTrue, Ok, Err, IsPermutation}
 use Rattle.std.specs.Io.KnownBytes.{Appends, Keeps}
-use Rattle.recon_run.specs.declared.status.Answer.{Answer}
-use Rattle.recon_run.specs.declared.status.Answer.TheVariants as answers
-use Rattle.recon_run.specs.declared.status.Failure.{Failure}
-use Rattle.recon_run.specs.declared.status.Failure.TheVariants.{ReadFault, WriteFault, Memory}
+use Rattle.replies.specs.declared.status.Answer.{Answer}
+use Rattle.replies.specs.declared.status.Answer.TheVariants as answers
+use Rattle.replies.specs.declared.status.Failure.{Failure}
+use Rattle.replies.specs.declared.status.Failure.TheVariants.{ReadFault, WriteFault, Memory}
 use Rattle.file_problem.specs.Inputs.{Input}
 use Rattle.recon_run.specs.Answers.{CanEnd}
 use Rattle.recon_run.specs.Owed.{AnswersOwed, Owed, Search, answer_at, begun, input_of, owed, reads_source, alone, searched}
 use Rattle.recon_run.specs.Pages.{Page, choices_on, pages_text}
-use Rattle.recon_run.specs.Status.{Status, answer_code, failure_code}
+use Rattle.replies.specs.Status.{Status, answer_code, failure_code}
 use Rattle.solid_model.specs.declared.ended.EndKind.{EndKind}
 use Rattle.tv_base.specs.Pieces.{AppendsPrefix}
 use Rattle.words.specs.Jobs.{job_said}

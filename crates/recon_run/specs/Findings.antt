@@ -1,12 +1,11 @@
 -- What is found in a file, and what is written of it.
-use Rattle.std.specs.Prelude.{◌≡◌, ◌⊎◌, Bool, ℕ, ◌+◌, ◌-◌, ◌<◌, List, [], ◌∷◌, ◌++◌, length, take, slice_get, Option, Some, Result, Ok, Err}
-use Rattle.std.specs.Io.KnownBytes.{Appends, Keeps}
+use Rattle.std.specs.Prelude.{◌≡◌, ◌⊎◌, Bool, ℕ, ◌+◌, ◌-◌, ◌<◌, List, [], ◌∷◌, ◌++◌, length, take, slice_get, Some}
 use Rattle.recon_run.specs.declared.found.Found.{Found}
 use Rattle.recon_run.specs.declared.found.Found.TheVariants.{Problem, Fault}
-use Rattle.recon_run.specs.declared.status.Answer.{Answer}
-use Rattle.recon_run.specs.declared.status.Answer.TheVariants as answers
-use Rattle.recon_run.specs.declared.status.Failure.{Failure}
-use Rattle.recon_run.specs.declared.status.Failure.TheVariants.{ReadFault, WriteFault, Memory}
+use Rattle.replies.specs.declared.status.Answer.{Answer}
+use Rattle.replies.specs.declared.status.Answer.TheVariants as answers
+use Rattle.replies.specs.declared.status.Failure.{Failure}
+use Rattle.replies.specs.declared.status.Failure.TheVariants.{WriteFault, Memory}
 use Rattle.file_problem.specs.Inputs.{Input, IsFileFault, HasProblem}
 use Rattle.recon_run.specs.Answers.{numbered_answer}
 use Rattle.recon_run.specs.Owed.{answer_at}
@@ -32,7 +31,6 @@ use Rattle.solid_model.specs.Panels.{GridParts, coordinates_of, IsGridOf}
 use Rattle.solid_model.specs.Search.{SearchLimits}
 use Rattle.solid_model.specs.SearchEnds.{EndsSearch}
 use Rattle.solid_model.specs.Volumes.{volume_of}
-use Rattle.tv_base.specs.Pieces.{AppendsPrefix}
 
 -- ---- what is found
 
@@ -175,26 +173,7 @@ abbrev pub AnswersFound : SearchLimits → (ℕ → Answer) → (SearchedParts �
 AnswersFound limits whole tells (Problem p) answer text = AnswersSearch limits whole tells p answer text
 AnswersFound limits whole tells (Fault fault) answer text = (answer ≡ answers.Faulty) × (text ≡ fault_text fault)
 
--- these are this answer and this text
-abbrev pub IsReply : Answer → List ℕ → Answer → List ℕ → Type 0
-IsReply answer text told other = (told ≡ answer) × (other ≡ text)
-
--- ---- how writing ends
-
 -- why a run fails whose search failed so
 abbrev pub run_failure : RunFault → Failure
 run_failure run_fault.PageFault = WriteFault
 run_failure run_fault.Memory = Memory
-
--- How the writing of a text ends that goes with what is given back: such a text was written; the sink failed, its count rose,
--- and a prefix of a text that begins so was written; or memory ran out, and such a prefix was written, or nothing.
-abbrev pub EndsWriting : {A : Type 0} → (A → List ℕ → Type 0) → (A → List ℕ → Type 0) → Option (List ℕ) → Option (List ℕ) → Type 0 → Result A Failure → Type 0
-EndsWriting tells begins held now rose (Ok given) = (text : List ℕ) × tells given text × Appends held now text
-EndsWriting tells begins held now rose (Err ReadFault) = ⊥
-EndsWriting {A} tells begins held now rose (Err WriteFault) = rose × (given : A) × (text : List ℕ) × begins given text × AppendsPrefix held now text
-EndsWriting {A} tells begins held now rose (Err Memory) =
-    Keeps held now ⊎ ((given : A) × (text : List ℕ) × begins given text × AppendsPrefix held now text)
-
--- the same where nothing is given back, and these are the texts
-abbrev pub EndsText : (List ℕ → Type 0) → (List ℕ → Type 0) → Option (List ℕ) → Option (List ℕ) → Type 0 → Result (Unit {0}) Failure → Type 0
-EndsText tells begins = EndsWriting (λ _. tells) (λ _. begins)

@@ -1,4 +1,3 @@
-pub mod Status
 pub mod Pages
 pub mod Answers
 pub mod Owed

@@ -1,8 +1,8 @@
 -- What is owed for the words of a run: each command by one line.
 use Rattle.std.specs.Prelude.{◌≡◌, ◌⊎◌, Bool, true, false, ℕ, ◌≤◌, List, [], length, Option, Some, None, IfSome}
 use Rattle.drawing_maker.specs.Made.{made_solid}
-use Rattle.recon_run.specs.declared.status.Answer.{Answer}
-use Rattle.recon_run.specs.declared.status.Answer.TheVariants as answers
+use Rattle.replies.specs.declared.status.Answer.{Answer}
+use Rattle.replies.specs.declared.status.Answer.TheVariants as answers
 use Rattle.file_problem.specs.Inputs.{Input, IsFileFault}
 use Rattle.recon_run.specs.Answers.{BeginsToList, CanEnd, IsTried, ListsSolids, TellsNumbered, head_of, numbered_answer, usage_text}
 use Rattle.redraw.specs.Files.{IsFileOf}

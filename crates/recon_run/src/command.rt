@@ -1,13 +1,13 @@
 //! The run of a command.
 
-ghost use Rattle.std.specs.Prelude.{◌≡◌, ◌≤◌, ◌+◌, false, length, map, string_bytes, Err, Some};
-ghost use Rattle.recon_run.specs.declared.status.Answer.TheVariants as answers;
-ghost use Rattle.recon_run.specs.declared.status.Failure.TheVariants.{ReadFault, WriteFault};
+ghost use Rattle.std.specs.Prelude.{◌≡◌, ◌≤◌, ◌+◌, false, length, map, string_bytes, Err};
+ghost use Rattle.replies.specs.declared.status.Answer.TheVariants as answers;
+ghost use Rattle.replies.specs.declared.status.Failure.TheVariants.{ReadFault, WriteFault};
 ghost use Rattle.file_problem.specs.Inputs.{HasNoFault, IsFileFault};
 ghost use Rattle.recon_run.specs.Answers.{CanEnd};
 ghost use Rattle.recon_run.specs.Endings.{AnswersOrFails, Ends, EndsOrFails, OfAlone, OfSearch, owed_to};
 ghost use Rattle.recon_run.specs.Owed.{owed_for, reads_source, search_for_all, search_for_one, searched};
-ghost use Rattle.recon_run.specs.Status.{Status, status_code, failure_code};
+ghost use Rattle.replies.specs.Status.{Status, status_code, failure_code};
 ghost use Rattle.solid_model.specs.declared.ended.EndKind.TheVariants.{Whole};
 ghost use Rattle.solid_model.specs.declared.fault.Fault.{Fault};
 ghost use Rattle.solid_model.specs.Limits.{most_decimals, most_file_bytes};
@@ -19,9 +19,9 @@ use crate::crew::Crew;
 use crate::export::{Drawing, Export, Triangles};
 use crate::found::find;
 use crate::one_solid::write_found_one;
-use crate::status::{Answer, Failure, Status, code};
 use crate::trial::{made_file, trial};
-use crate::writing::{write_found, write_reply};
+use crate::writing::write_found;
+use replies::{Answer, Failure, Status, code, write_reply};
 use solid_model::Limits;
 use std::alloc::Global;
 use std::sync::Wait;

@@ -1,15 +1,15 @@
 //! The forms in which one solid is written.
 
 ghost use Rattle.std.specs.Prelude.{ℕ, List};
-ghost use Rattle.recon_run.specs.Findings.{EndsText, IsWrittenOf};
+ghost use Rattle.recon_run.specs.Findings.{IsWrittenOf};
+ghost use Rattle.replies.specs.Writings.{EndsText};
 ghost use Rattle.redraw.specs.Files.{IsFileOf};
 ghost use Rattle.solid_model.specs.declared.cell.Cell.{Cell};
 ghost use Rattle.stl_out.specs.SolidStl.{IsSolidStl};
 ghost use Rattle.tv_base.specs.Faults.{Rose};
 
-use crate::status::Failure;
-use crate::writing::write_text;
 use redraw::dxf_of;
+use replies::{Failure, write_text};
 use solid_model::{Choice, Problem};
 use std::alloc::Global;
 use std::marker::Model;

@@ -1,15 +1,15 @@
 //! What is found in a source.
 
 ghost use Rattle.std.specs.Prelude.{◌≤◌, ◌+◌, length, IfOk, IfSome, IsErrOf};
-ghost use Rattle.recon_run.specs.declared.status.Failure.TheVariants as failure;
+ghost use Rattle.replies.specs.declared.status.Failure.TheVariants as failure;
 ghost use Rattle.recon_run.specs.Owed.{ReadsAllOrPast};
 ghost use Rattle.recon_run.specs.Findings.{IsFoundIn};
 ghost use Rattle.solid_model.specs.Limits.{most_decimals, most_file_bytes};
 ghost use Rattle.tv_base.specs.Faults.{Rose};
 ghost use Rattle.tv_base.specs.Pieces.{ReadsWithin};
 
-use crate::status::Failure;
 use file_problem::problem_of;
+use replies::Failure;
 use solid_model::{Fault, Memory, Problem, Refused};
 use std::alloc::Global;
 use tv_base::{ReadEnd, Source, read_all};

@@ -1,29 +1,13 @@
 //! Laws of what is answered.
 
-ghost use Rattle.std.specs.Prelude.{◌≡◌, ◌⊎◌, ℕ, List, Option, Some, Ok, Err};
-ghost use Rattle.recon_run.specs.declared.status.Answer.{Answer};
-ghost use Rattle.recon_run.specs.declared.status.Answer.TheVariants as answers;
-ghost use Rattle.recon_run.specs.declared.status.Failure.TheVariants as failures;
+ghost use Rattle.std.specs.Prelude.{◌≡◌, ◌⊎◌, ℕ, List, Option, Some};
+ghost use Rattle.replies.specs.declared.status.Answer.{Answer};
 ghost use Rattle.file_problem.specs.Inputs.{HasNoFault, Input, IsFileFault};
 ghost use Rattle.recon_run.specs.Endings.{Answers, IsCut, SameButPages};
 ghost use Rattle.recon_run.specs.Owed.{AnswersOwed, asks_pages, owed_for};
-ghost use Rattle.recon_run.specs.Status.{status_code};
 ghost use Rattle.solid_model.specs.declared.fault.Fault.{Fault};
 ghost use Rattle.words.specs.declared.job.Job.TheVariants as job;
 ghost use Rattle.words.specs.Jobs.{job_said};
-
-/// The number of each status, written out.
-pub fn status_numbers()
-    ensures done { status_code (Ok answers.Done) ≡ 0 }
-    ensures faulty { status_code (Ok answers.Faulty) ≡ 1 }
-    ensures usage { status_code (Ok answers.Usage) ≡ 2 }
-    ensures cut_nodes { status_code (Ok answers.CutNodes) ≡ 3 }
-    ensures cut_solids { status_code (Ok answers.CutSolids) ≡ 4 }
-    ensures read_fault { status_code (Err failures.ReadFault) ≡ 5 }
-    ensures write_fault { status_code (Err failures.WriteFault) ≡ 6 }
-    ensures memory { status_code (Err failures.Memory) ≡ 7 }
-    ensures no_solid { status_code (Ok answers.NoSolid) ≡ 8 }
-{}
 
 /// What `make` owes has no fault: whatever is made from a number can be searched.
 pub fn made_files_have_no_fault()

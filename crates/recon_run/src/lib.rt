@@ -8,15 +8,12 @@ mod found;
 mod laws;
 mod one_solid;
 mod searched;
-mod status;
 mod telling;
 mod trial;
 mod writing;
 
 pub use command::run;
 pub use file_problem::problem_of;
-pub use laws::{
-    made_files_have_no_fault, one_answer, one_first_fault, some_answer, status_numbers,
-};
-pub use status::{Answer, Failure, Status};
+pub use laws::{made_files_have_no_fault, one_answer, one_first_fault, some_answer};
+pub use replies::{Answer, Failure, Status, status_numbers};
 pub use words::{Job, WordFault, job_of};

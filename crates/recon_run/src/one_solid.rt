@@ -2,15 +2,16 @@
 
 ghost use Rattle.std.specs.Prelude.{◌≤◌};
 ghost use Rattle.recon_run.specs.Answers.{numbered_answer};
-ghost use Rattle.recon_run.specs.Findings.{AnswersFound, AnswersNumbered, AnswersOne, AnswersSearch, EndsWriting, TellsOne};
+ghost use Rattle.recon_run.specs.Findings.{AnswersFound, AnswersNumbered, AnswersOne, AnswersSearch, TellsOne};
+ghost use Rattle.replies.specs.Writings.{EndsWriting};
 ghost use Rattle.tv_base.specs.Faults.{Rose};
 
 use crate::crew::Crew;
 use crate::export::Export;
 use crate::found::Found;
 use crate::searched::{Searched, search};
-use crate::status::{Answer, Status};
-use crate::writing::{write_fault, write_reply};
+use crate::writing::write_fault;
+use replies::{Answer, Status, write_reply};
 use report::no_solid_text;
 use solid_model::{EndKind, Limits, Problem};
 use std::alloc::Global;

@@ -1,13 +1,14 @@
 //! Searches that tell pages while they go on.
 
 ghost use Rattle.std.specs.Prelude.{◌≡◌, ◌≤◌, true};
-ghost use Rattle.recon_run.specs.Findings.{BeginsPages, EndsWriting, TellsPages, TellsSearch, run_failure};
+ghost use Rattle.recon_run.specs.Findings.{BeginsPages, TellsPages, TellsSearch, run_failure};
+ghost use Rattle.replies.specs.Writings.{EndsWriting};
 ghost use Rattle.tv_base.specs.Faults.{Rose};
 
 use crate::crew::Crew;
 use crate::searched::{Searched, search, search_by};
-use crate::status::Failure;
 use core::mem::replace_with;
+use replies::Failure;
 use search_run::RunFault;
 use sink_pages::{Begun, SinkPages};
 use solid_model::{Axis, Limits, Problem};

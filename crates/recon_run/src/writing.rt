@@ -1,8 +1,9 @@
 //! Writing what is answered: each text in one call of the sink.
 
 ghost use Rattle.std.specs.Prelude.{◌≡◌, ◌≤◌, length};
-ghost use Rattle.recon_run.specs.declared.status.Answer.TheVariants as answers;
-ghost use Rattle.recon_run.specs.Findings.{AnswersFound, AnswersSearch, BeginsAll, BeginsChoices, BeginsPaged, EndsText, EndsWriting, IsReply, TellsAll, TellsChoice, TellsChoices, TellsPaged};
+ghost use Rattle.replies.specs.declared.status.Answer.TheVariants as answers;
+ghost use Rattle.recon_run.specs.Findings.{AnswersFound, AnswersSearch, BeginsAll, BeginsChoices, BeginsPaged, TellsAll, TellsChoice, TellsChoices, TellsPaged};
+ghost use Rattle.replies.specs.Writings.{EndsText, EndsWriting, IsReply};
 ghost use Rattle.report.specs.FaultText.{fault_text};
 ghost use Rattle.solid_model.specs.Limits.{most_decimals, most_solid_limit};
 ghost use Rattle.tv_base.specs.Faults.{Rose};
@@ -10,36 +11,14 @@ ghost use Rattle.tv_base.specs.Faults.{Rose};
 use crate::crew::Crew;
 use crate::found::Found;
 use crate::searched::Searched;
-use crate::status::{Answer, Failure, Status};
 use crate::telling::search_telling;
+use replies::{Answer, Failure, Status, write_reply, write_text};
 use report::{SolidRoom, SolidTexts, fault_text};
 use solid_model::{Choice, Fault, Limits, Problem};
 use std::alloc::Global;
 use std::sync::Wait;
 use std::thread::Threads;
-use tv_base::{Gate, Sink, SinkError};
-
-/// Writes a text in one piece.
-pub fn write_text<K: Sink>(sink: &mut K, text: &[u8]) -> Result<(), Failure>
-    ensures later { K.faults sink.old ≤ K.faults sink.new }
-    ensures ends { EndsText (λ told. told ≡ text.now) (λ told. told ≡ text.now)
-        (K.held sink.old) (K.held sink.new) (Rose (K.faults sink.old) (K.faults sink.new)) result }
-{
-    match sink.write_all(text) {
-        Ok(()) => Ok(()),
-        Err(SinkError::Failed) => Err(Failure::WriteFault),
-        Err(SinkError::Memory) => Err(Failure::Memory),
-    }
-}
-
-/// Writes the text of an answer in one piece.
-pub fn write_reply<K: Sink>(answer: Answer, text: &[u8], sink: &mut K) -> Status
-    ensures { EndsWriting (IsReply answer text.now) (IsReply answer text.now) (K.held sink.old)
-        (K.held sink.new) (Rose (K.faults sink.old) (K.faults sink.new)) result }
-{
-    write_text(sink, text)?;
-    Ok(answer)
-}
+use tv_base::{Gate, Sink};
 
 /// Writes what every command answers to a file that has a fault.
 pub fn write_fault<K: Sink>(alloc: Global, fault: &Fault, sink: &mut K) -> Status

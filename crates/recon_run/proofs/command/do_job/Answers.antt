@@ -2,10 +2,10 @@
 use Rattle.std.proofs.Common.{refl, sym, subst}
 use Rattle.tv_base.specs.Faults.{Rose}
 use Rattle.drawing_maker.specs.Made.{made_solid}
-use Rattle.recon_run.specs.declared.status.Answer.TheVariants as answers
+use Rattle.replies.specs.declared.status.Answer.TheVariants as answers
 use Rattle.recon_run.specs.Answers.{IsTried}
 use Rattle.recon_run.specs.Endings.{Ends}
-use Rattle.recon_run.specs.Findings.{IsReply}
+use Rattle.replies.specs.Writings.{IsReply}
 use Rattle.recon_run.specs.Owed.{owed_for, search_for_one, searched}
 use Rattle.recon_run.proofs.Endings.{never_unread, reply_ends}
 use Rattle.redraw.specs.Files.{IsFileOf}

@@ -1,6 +1,6 @@
 use Rattle.std.proofs.Common.{sym, subst, map, length}
 use Rattle.std.specs.Prelude.{string_bytes}
-use Rattle.recon_run.specs.declared.status.Answer.TheVariants as answers
+use Rattle.replies.specs.declared.status.Answer.TheVariants as answers
 use Rattle.file_problem.specs.Inputs.{HasNoFault, IsFileFault}
 use Rattle.recon_run.specs.Answers.{CanEnd}
 use Rattle.recon_run.specs.Endings.{AnswersOrFails, EndsOrFails, OfAlone, OfSearch, owed_to}

@@ -1,8 +1,9 @@
 -- What the sink gained are the pages that were handed out.
 use Rattle.std.proofs.Common.{ℕ, List, Option, Some, Err, true, ap, subst, subst₂, sym}
 use Rattle.std.specs.Io.KnownBytes.{Appends}
-use Rattle.recon_run.specs.declared.status.Failure.{Failure}
-use Rattle.recon_run.specs.Findings.{BeginsPages, EndsWriting, TellsPages, TellsSearch}
+use Rattle.replies.specs.declared.status.Failure.{Failure}
+use Rattle.recon_run.specs.Findings.{BeginsPages, TellsPages, TellsSearch}
+use Rattle.replies.specs.Writings.{EndsWriting}
 use Rattle.sink_pages.specs.Gained.{PagesState}
 use Rattle.recon_run.proofs.Paged.{all_told, failed_ends}
 use Rattle.search_end.specs.Pages.{HasAllPaged, HasPaged}

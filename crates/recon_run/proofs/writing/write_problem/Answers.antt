@@ -1,8 +1,8 @@
 -- Pages, and then how the search ended with its solids, answer a problem.
 use Rattle.std.proofs.Common.{◌≡◌, ◌∙◌, ℕ, length, refl, ap}
 use Rattle.std.proofs.lemmas.Result.{err_from_is_err_and}
-use Rattle.recon_run.specs.declared.status.Answer.TheVariants as answers
-use Rattle.recon_run.specs.Answers.{end_answer}
+use Rattle.replies.specs.declared.status.Answer.TheVariants as answers
+use Rattle.replies.specs.Status.{end_answer}
 use Rattle.recon_run.specs.Owed.{answer_at}
 use Rattle.recon_run.proofs.Searching.{search_refused, solids_refused, solids_written}
 use Rattle.recon_run.proofs.TextByText.{rose_since}

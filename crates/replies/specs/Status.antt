@@ -1,13 +1,21 @@
--- The numbers of the statuses.
+-- The statuses, and their numbers.
 use Rattle.std.specs.Prelude.{ℕ, Result, Ok, Err}
-use Rattle.recon_run.specs.declared.status.Answer.{Answer}
-use Rattle.recon_run.specs.declared.status.Answer.TheVariants.{Done, Faulty, Usage, CutNodes, CutSolids, NoSolid}
-use Rattle.recon_run.specs.declared.status.Failure.{Failure}
-use Rattle.recon_run.specs.declared.status.Failure.TheVariants.{ReadFault, WriteFault, Memory}
+use Rattle.replies.specs.declared.status.Answer.{Answer}
+use Rattle.replies.specs.declared.status.Answer.TheVariants.{Done, Faulty, Usage, CutNodes, CutSolids, NoSolid}
+use Rattle.replies.specs.declared.status.Failure.{Failure}
+use Rattle.replies.specs.declared.status.Failure.TheVariants.{ReadFault, WriteFault, Memory}
+use Rattle.solid_model.specs.declared.ended.EndKind.{EndKind}
+use Rattle.solid_model.specs.declared.ended.EndKind.TheVariants as ends
 
 -- how a run ends: with an answer, or by a failure
 abbrev pub Status : Type 0
 Status = Result Answer Failure
+
+-- the answer to a search that ended so
+abbrev pub end_answer : EndKind → Answer
+end_answer ends.Whole = Done
+end_answer ends.CutNodes = CutNodes
+end_answer ends.CutSolids = CutSolids
 
 -- the number of an answer
 abbrev pub answer_code : Answer → ℕ

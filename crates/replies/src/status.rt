@@ -1,9 +1,8 @@
 //! How a run ends.
 
 ghost use Rattle.std.specs.Prelude.{◌≡◌};
-ghost use Rattle.recon_run.specs.declared.status.Failure.TheVariants as failure;
-ghost use Rattle.recon_run.specs.Answers.{end_answer};
-ghost use Rattle.recon_run.specs.Status.{answer_code, status_code, failure_code};
+ghost use Rattle.replies.specs.declared.status.Failure.TheVariants as failure;
+ghost use Rattle.replies.specs.Status.{answer_code, end_answer, failure_code, status_code};
 
 use solid_model::{EndKind, Memory};
 
