@@ -119,11 +119,17 @@ fn go_round<B: Wait + Drop, R: Wait, G: Gate>(
     }
 }
 
-/// Lets the pieces of the worker's own deque go. Each worker does so where it leaves, so that none has
-/// to do it for all.
-fn let_go<R: Wait>(rt: &R, seat: &mut WorkerSeat) {
+/// Leaves the pool: the seats at the other deques first, so that each deque ends with its owner, and all
+/// of them side by side. An owner who had such seats empties its deque, since others may still have
+/// theirs.
+fn leave_pool<R: Wait>(rt: &R, seat: WorkerSeat) {
+    let WorkerSeat { mut owner, thieves } = seat;
+    if thieves.is_empty() {
+        return;
+    }
+    drop(thieves);
     for _ in rt.forever() {
-        if seat.owner.take().is_none() {
+        if owner.take().is_none() {
             return;
         }
     }
@@ -143,7 +149,7 @@ pub fn work<B: Wait + Drop, R: Wait, G: Gate>(
     match BlockPath::new(alloc, problem) {
         Ok(mut path) => {
             go_round(rt, alloc, &mut path, problem, room, gate, worker, &mut seat);
-            let_go(rt, &mut seat);
+            leave_pool(rt, seat);
         }
         Err(_) => {
             room.halt(rt);
