@@ -16,17 +16,19 @@ fn what_a_reader_gives_comes_to_a_sink(rt: HostRuntime) -> Result<(), Fail> {
     Ok(())
 }
 
-/// A writer that takes at most two bytes a call, and can be flushed so many times.
+/// A writer that takes at most two bytes a call while it has room, and can be flushed so many times.
 #[derive(Drop)]
 struct Choppy {
     taken: Vec<u8>,
+    room: usize,
     flushes: u8,
 }
 
 impl Write for Choppy {
     fn write(&mut self, piece: &[u8]) -> io::Result<usize> {
-        let count = piece.len().min(2);
+        let count = piece.len().min(2).min(self.room);
         self.taken.extend_from_slice(&piece[..count])?;
+        self.room -= count;
         Ok(count)
     }
 
@@ -43,12 +45,25 @@ impl Write for Choppy {
 fn each_piece_is_written_and_flushed(rt: HostRuntime) -> Result<(), Fail> {
     let mut choppy = Choppy {
         taken: Vec::new(rt.alloc()),
+        room: 5,
         flushes: 1,
     };
     let mut sink = StdSink::new(&mut choppy);
     assert_eq!(rt; sink.write_all(b"abc"), Ok(()));
     assert_eq!(rt; sink.write_all(b"de"), Err(SinkError::Failed));
     assert_eq!(rt; choppy.taken.as_slice(), b"abcde".as_slice());
+    Ok(())
+}
+
+#[test]
+fn a_writer_without_room_fails(rt: HostRuntime) -> Result<(), Fail> {
+    let mut choppy = Choppy {
+        taken: Vec::new(rt.alloc()),
+        room: 3,
+        flushes: 1,
+    };
+    let mut sink = StdSink::new(&mut choppy);
+    assert_eq!(rt; sink.write_all(b"abcd"), Err(SinkError::Failed));
     Ok(())
 }
 
