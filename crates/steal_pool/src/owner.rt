@@ -5,12 +5,15 @@ ghost use Rattle.crossbeam_deque.specs.Handles.{stealer_deque};
 ghost use Rattle.steal_pool.specs.Accounts.{Piece, Held, WasFirst, total};
 ghost use Rattle.steal_pool.specs.Seats.{owner_account, opened_owner, new_thief, absorbed};
 
-use crate::rule::{Account, Balance, Puts, Shares, Takes, Whole};
+use crate::rule::{Account, Balance, Counted, Puts, Shares, Takes, Whole};
 use crate::thief::ThiefSeat;
 use crossbeam_deque::{Stealer, Worker};
 use solid_model::{Memory, Prefix};
 use std::alloc::Global;
 use std::marker::Model;
+
+/// The most pieces that wait in a deque, unless more are sure.
+const MOST_WAITING: usize = 65_536;
 
 /// The seat that owns a deque, first in, first out. It waits for nobody. Contracts see which deque
 /// it is, and what the seat has put and taken, in order.
@@ -61,7 +64,8 @@ impl OwnerSeat {
     }
 
     /// Puts a piece at the end of the deque. The piece comes back only where this seat has already
-    /// put as many as the pool's room; the deque is then unchanged.
+    /// put as many as the pool's room; the deque is then unchanged. There it does so where 65,536 pieces
+    /// wait, or the deque can't grow: no clause says that.
     pub fn put(&mut self, piece: Prefix) -> Result<(), Prefix>
         ensures put { MatchResult result
             (λ _. self.new ≡ record self.old { put = self.old.put ++ piece ∷ [] })
@@ -70,6 +74,10 @@ impl OwnerSeat {
         ensures seat { opened_owner self.new ≡ opened_owner self.old }
     {
         if self.count == usize::MAX {
+            return Err(piece);
+        }
+        let waiting = self.worker.len_as::<Counted>();
+        if self.count >= self.room && waiting >= MOST_WAITING {
             return Err(piece);
         }
         match self.worker.push_as::<Puts>(piece) {

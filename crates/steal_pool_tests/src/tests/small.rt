@@ -1,4 +1,4 @@
-//! A pool of two workers, call by call.
+//! Small pools, call by call.
 
 ghost use Rattle.std.specs.Prelude.{◌≡◌};
 ghost use Rattle.steal_pool.specs.WorkerSeats.{seat_of};
@@ -62,6 +62,27 @@ fn played_and_closed<R: Wait>(rt: &R, alloc: Global) -> Option<Answers> {
         taken: number_of(&taken),
         left: number_of(&last),
     })
+}
+
+/// How many pieces the only deque of a pool with room for two takes in before one comes back, where at
+/// most so many are put. `None` where none comes back, or memory was lacking.
+fn taken_in(alloc: Global, most: u32) -> Option<u32> {
+    let Ok((_, mut seats)) = Pool::open(alloc, 1, 2) else {
+        return None;
+    };
+    let mut only = seats.pop()?;
+    for number in 0..most {
+        if only.owner.put(piece(alloc, number).ok()?).is_err() {
+            return Some(number);
+        }
+    }
+    None
+}
+
+#[test]
+fn a_deque_hands_back_what_is_put_behind_65_536_pieces(rt: HostRuntime) -> Result<(), Fail> {
+    assert_eq!(rt; taken_in(rt.alloc(), 65_600), Some(65_536));
+    Ok(())
 }
 
 #[test]
