@@ -42,3 +42,11 @@ way_pushed prefixes way at is there = λ k l. elim (cases_lt k (length way.nodes
       let last : length way.nodes ≡ k = omega (arith, length_push way.nodes at) in
       subst (StandsAt prefixes (take k way.values)) (sym (get_or_push way.nodes at 0 k last)) (subst (λ n. StandsAt prefixes (take n way.values) at) last there))
 ]
+
+-- left at the root
+pub way_left : (prefixes : List (List Bool)) (way : WayParts) → StandsAt prefixes [] (get_or way.nodes 0 0)
+    → IsWay prefixes (record { values = way.values; nodes = take 1 way.nodes })
+way_left prefixes way root = λ k l.
+    let first : k ≡ 0 = omega (arith, length-take 1 way.nodes) in
+    subst (λ (n : ℕ). StandsAt prefixes (take n way.values) (get_or (take 1 way.nodes) n 0)) (sym first)
+    (subst (StandsAt prefixes []) (sym (get_or-take 1 way.nodes 0 0 (omega arith))) root)

@@ -53,9 +53,9 @@ pub record WayParts : Type 0 where
   pub values : List Bool
   pub nodes : List ℕ
 
--- the root is one of these nodes, and they are at most one more than the values
+-- the root is one of these nodes
 abbrev pub IsBegunWay : WayParts → Type 0
-IsBegunWay way = (0 < length way.nodes) × (length way.nodes ≤ length way.values + 1)
+IsBegunWay way = 0 < length way.nodes
 
 -- a way leads down the tree with these prefixes: the first values, so many, lead to the node of this number
 abbrev pub IsWay : List (List Bool) → WayParts → Type 0

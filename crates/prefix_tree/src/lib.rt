@@ -2,8 +2,10 @@
 //! binary tree.
 #![tactic(auto)]
 
+mod beginnings;
 mod nodes;
 mod prefixes;
 mod way;
 
+pub use beginnings::alike;
 pub use prefixes::Prefixes;

@@ -1,5 +1,12 @@
 //! Prefixes, each of which is named by its place.
 
+ghost use Rattle.std.specs.Prelude.{◌≡◌, ◌<◌, ◌≤◌, ◌+◌, ◌++◌, [], Bool, List, length, map, take, slice_index_or, IfOk};
+ghost use Rattle.solid_model.specs.Lists.{Each};
+ghost use Rattle.prefix_tree.specs.Alike.{BeginAlike};
+ghost use Rattle.prefix_tree.specs.Nodes.{IsWay};
+ghost use Rattle.prefix_tree.specs.Places.{prefix_at, StandsAt};
+
+use crate::beginnings::told;
 use crate::nodes::Nodes;
 use crate::way::Way;
 use solid_model::{Memory, Prefix};
@@ -16,6 +23,64 @@ pub struct Prefixes {
     last: Way,
 }
 
+/// Leads a way on along a prefix, from where its first values lead, so many: there the way is left. An
+/// `Err` is out of memory, or of 32-bit numbers for nodes.
+fn lead(nodes: &mut Nodes, way: &mut Way, prefix: &Prefix, led: usize) -> Result<u32, Memory>
+    requires led { led < length way.old.nodes }
+    requires within { led ≤ length prefix.now }
+    requires way { IsWay nodes.old
+        record { values = prefix.now; nodes = take (led + 1) way.old.nodes } }
+    ensures grown { (more : List (List Bool)) × (nodes.new ≡ nodes.old ++ more) }
+    ensures way { IsWay nodes.new record { values = prefix.now; nodes = way.new.nodes } }
+    ensures some { 0 < length way.new.nodes }
+    ensures count { IfOk result (λ _. length way.new.nodes ≡ length prefix.now + 1) }
+    ensures place { IfOk result (StandsAt nodes.new prefix.now) }
+{
+    way.leave(led);
+    let mut at = way.node(led);
+    for block in led..prefix.len() {
+        at = nodes.step(at, prefix.get(block))?;
+        way.push(at)?;
+    }
+    Ok(at)
+}
+
+/// Leads a way on along prefixes, one after another, the first of them from where its first values
+/// lead, so many, and puts their places into a list that is empty yet. An `Err` is out of memory, or of
+/// 32-bit numbers for nodes.
+fn lead_all(
+    nodes: &mut Nodes,
+    way: &mut Way,
+    prefixes: &[Prefix],
+    alike: &[usize],
+    led: usize,
+    places: Vec<u32>,
+) -> Result<Vec<u32>, Memory>
+    requires some { 0 < length prefixes.now }
+    requires led { led < length way.old.nodes }
+    requires within { led ≤ length (prefix_at prefixes.now 0) }
+    requires way { IsWay nodes.old
+        record { values = prefix_at prefixes.now 0; nodes = take (led + 1) way.old.nodes } }
+    requires alike { BeginAlike prefixes.now alike.now }
+    requires none { places.items ≡ [] }
+    ensures grown { (more : List (List Bool)) × (nodes.new ≡ nodes.old ++ more) }
+    ensures way { IfOk result (λ _. IsWay nodes.new way.new) }
+    ensures some { 0 < length way.new.nodes }
+    ensures root { StandsAt nodes.new [] (slice_index_or way.new.nodes 0 0) }
+    ensures below { IfOk result (λ places. Each (λ k. k < length nodes.new) places.items) }
+    ensures places { IfOk result (λ places.
+        map (prefix_at nodes.new) places.items ≡ prefixes.now) }
+{
+    let mut places = places;
+    let mut led = led;
+    for at in 0..prefixes.len() {
+        places.push(lead(nodes, way, &prefixes[at], led)?)?;
+        led = told(alike, at);
+    }
+    way.say(&prefixes[prefixes.len() - 1])?;
+    Ok(places)
+}
+
 impl Model for Prefixes {
     ghost use Rattle.std.specs.Prelude.{List, Bool};
     ghost use Rattle.prefix_tree.specs.Nodes.{IsWay};
@@ -28,7 +93,9 @@ impl Model for Prefixes {
 }
 
 impl Prefixes {
-    ghost use Rattle.std.specs.Prelude.{◌≡◌, ◌<◌, ◌++◌, ◌∷◌, [], ℕ, Bool, List, length, IfOk, MatchOption};
+    ghost use Rattle.std.specs.Prelude.{◌≡◌, ◌<◌, ◌++◌, ◌∷◌, [], ℕ, Bool, List, length, map, IfOk, MatchOption};
+    ghost use Rattle.solid_model.specs.Lists.{Each};
+    ghost use Rattle.prefix_tree.specs.Alike.{BeginAlike};
     ghost use Rattle.prefix_tree.specs.Places.{prefix_at, AreDistinct, StandsAt};
     ghost use Rattle.prefix_tree.specs.Nodes.{IsMeeting};
 
@@ -66,20 +133,41 @@ impl Prefixes {
         Some(at)
     }
 
-    /// The place of a prefix; if it has none, it comes behind the others, after those that it begins
-    /// with and that have none. An `Err` is out of memory, or of 32-bit numbers for places.
-    pub fn keep(&mut self, prefix: &Prefix) -> Result<u32, Memory>
+    /// The places of prefixes, in a list that is empty yet. A prefix that has none comes behind the
+    /// others, after those that it begins with and that have none. It is told with how many same values
+    /// each prefix and the next one begin, at least. An `Err` is out of memory, or of 32-bit numbers for
+    /// places.
+    pub fn keep_all(
+        &mut self,
+        prefixes: &[Prefix],
+        alike: &[usize],
+        places: Vec<u32>,
+    ) -> Result<Vec<u32>, Memory>
+        requires alike { BeginAlike prefixes.now alike.now }
+        requires none { places.items ≡ [] }
         ensures grown { (more : List (List Bool)) × (self.new ≡ self.old ++ more) }
-        ensures place { IfOk result (StandsAt self.new prefix.now) }
+        ensures below { IfOk result (λ places. Each (λ k. k < length self.new) places.items) }
+        ensures places { IfOk result (λ places.
+            map (prefix_at self.new) places.items ≡ prefixes.now) }
     {
-        let led = self.last.shared(prefix);
-        let mut at = self.last.node(led);
-        self.last.turn(prefix, led)?;
-        for block in led..prefix.len() {
-            at = self.nodes.step(at, prefix.get(block))?;
-            self.last.push(at)?;
+        let Some(first) = prefixes.first() else {
+            return Ok(places);
+        };
+        let led = self.last.shared(first);
+        match lead_all(
+            &mut self.nodes,
+            &mut self.last,
+            prefixes,
+            alike,
+            led,
+            places,
+        ) {
+            Ok(places) => Ok(places),
+            Err(_) => {
+                self.last.leave(0);
+                Err(Memory)
+            }
         }
-        Ok(at)
     }
 
     /// How many values the ways to two places share, and how many more lead to the second one.

@@ -52,24 +52,27 @@ impl Way {
         self.nodes[count]
     }
 
-    /// Leaves it after so many values, to go on along a prefix that begins with them. An `Err` is
-    /// out of memory, and leaves it as it is.
-    pub fn turn(&mut self, prefix: &Prefix, count: usize) -> Result<(), Memory>
-        requires within { count ≤ length prefix.now }
-        requires led { count < length self.old.nodes }
+    /// Its values are those of a prefix from now on. An `Err` is out of memory, and leaves it as it is.
+    pub fn say(&mut self, prefix: &Prefix) -> Result<(), Memory>
         ensures { MatchResult result
-            (λ _. self.new
-            ≡ record { values = prefix.now; nodes = take (count + 1) self.old.nodes })
+            (λ _. self.new ≡ record { values = prefix.now; nodes = self.old.nodes })
             (λ _. self.new ≡ self.old) }
     {
         self.values.try_clone_from(prefix)?;
-        self.nodes.truncate(count + 1);
         Ok(())
+    }
+
+    /// Leaves it after so many values.
+    pub fn leave(&mut self, count: usize)
+        requires { count < length self.old.nodes }
+        ensures { self.new
+            ≡ record { values = self.old.values; nodes = take (count + 1) self.old.nodes } }
+    {
+        self.nodes.truncate(count + 1);
     }
 
     /// The next value leads to this node. An `Err` is out of memory, and leaves it as it is.
     pub fn push(&mut self, node: u32) -> Result<(), Memory>
-        requires { length self.old.nodes ≤ length self.old.values }
         ensures { MatchResult result
             (λ _. self.new
             ≡ record { values = self.old.values; nodes = self.old.nodes ++ node ∷ [] })

@@ -116,7 +116,7 @@ impl Desk {
 
     /// Answers a report, of which copies may be ready, as [`Desk::report`] does.
     fn answer(&mut self, expansion: Expansion, ready: Option<Copies>) -> Result<Reported, Expansion>
-        requires { IfSome ready (AreCopies expansion.found) }
+        requires { IfSome ready (AreCopies expansion.found expansion.rest) }
         ensures answer { MatchResult result (IsReported self.old expansion self.new)
             (λ back. Takes self.old expansion × (back ≡ expansion) × (self.new ≡ self.old)) }
         ensures kept { IsDesk self.new }

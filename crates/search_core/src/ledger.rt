@@ -1,11 +1,11 @@
 //! The ledger of a desk.
 
-ghost use Rattle.std.specs.Prelude.{◌≡◌, ◌<◌, ◌≤◌, ◌+◌, ◌++◌, [], ℕ, Bool, List, length, map, IfOk, IfSome, MatchOption};
+ghost use Rattle.std.specs.Prelude.{◌≡◌, ◌<◌, ◌≤◌, ◌+◌, ◌++◌, ℕ, length, IfOk, IfSome, MatchOption};
 ghost use Rattle.solid_model.specs.Lists.{Each};
 ghost use Rattle.search_core.specs.Ledger.{ledger_of, next_first, IsBegun, HasGrown, HasPosted, KnowsFirst};
 ghost use Rattle.search_core.specs.Copies.{AreCopies};
 ghost use Rattle.search_core.specs.Postings.{HasRoom, IsPosting};
-ghost use Rattle.prefix_tree.specs.Places.{prefix_at, StandsAt};
+ghost use Rattle.prefix_tree.specs.Places.{StandsAt};
 ghost use Rattle.search_core.specs.Frontier.{count_of, times_in};
 
 use crate::copies::Copies;
@@ -44,33 +44,19 @@ pub struct Posting {
     pub first: Placed,
 }
 
-/// The places of prefixes, in a list that is empty yet. An `Err` is out of memory.
-fn keep_all(prefixes: &mut Prefixes, rest: &[Prefix], places: Vec<u32>) -> Result<Vec<u32>, Memory>
-    requires { places.items ≡ [] }
-    ensures grown { (more : List (List Bool)) × (prefixes.new ≡ prefixes.old ++ more) }
-    ensures below { IfOk result (λ places. Each (λ k. k < length prefixes.new) places.items) }
-    ensures places { IfOk result (λ places. map (prefix_at prefixes.new) places.items ≡ rest.now) }
-{
-    let mut places = places;
-    for prefix in rest {
-        places.push(prefixes.keep(prefix)?)?;
-    }
-    Ok(places)
-}
-
 /// The copies that are there, or else new ones. An `Err` is out of memory.
 fn copies_of(
     alloc: Global,
     found: &[Choice],
-    places: usize,
+    rest: &[Prefix],
     ready: Option<Copies>,
 ) -> Result<Copies, Memory>
-    requires { IfSome ready (AreCopies found.now) }
-    ensures { IfOk result (AreCopies found.now) }
+    requires { IfSome ready (AreCopies found.now rest.now) }
+    ensures { IfOk result (AreCopies found.now rest.now) }
 {
     match ready {
         Some(copies) => Ok(copies),
-        None => Copies::new(alloc, found, places),
+        None => Copies::new(alloc, found, rest),
     }
 }
 
@@ -164,7 +150,7 @@ impl Ledger {
         rest: &[Prefix],
         ready: Option<Copies>,
     ) -> Result<Posting, Memory>
-        requires copies { IfSome ready (AreCopies found.now) }
+        requires copies { IfSome ready (AreCopies found.now rest.now) }
         requires first { KnowsFirst self.old }
         ensures grown { HasGrown (ledger_of self.old) (ledger_of self.new) }
         ensures first { KnowsFirst self.new }
@@ -173,8 +159,12 @@ impl Ledger {
         // A look at the prefixes tells that each is stored once.
         let _count = self.prefixes.len();
         let alloc = *self.notes.allocator();
-        let Copies { found, places } = copies_of(alloc, found, rest.len(), ready)?;
-        let rest = keep_all(&mut self.prefixes, rest, places);
+        let Copies {
+            found,
+            places,
+            alike,
+        } = copies_of(alloc, found, rest, ready)?;
+        let rest = self.prefixes.keep_all(rest, alike.as_slice(), places);
         let places = self.prefixes.len();
         let rest = rest?;
         self.frontier.reserve(places, rest.len())?;

@@ -5,8 +5,8 @@ use solid_model::Expansion;
 use std::alloc::Global;
 use std::marker::Model;
 
-/// A report with copies of the choices that a desk keeps of it. Who makes them before the desk is
-/// locked holds the lock for less time. Contracts see it as the report.
+/// A report with what a desk keeps of it, or needs to keep it. Who makes this before the desk is locked
+/// holds the lock for less time. Contracts see it as the report.
 #[derive(Drop)]
 pub struct ReadyReport {
     pub(crate) expansion: Expansion,
@@ -21,7 +21,7 @@ impl Model for ReadyReport {
 
     ghost view = { λ s. s.expansion };
 
-    ghost invariant = { λ s. AreCopies s.expansion.found s.copies };
+    ghost invariant = { λ s. AreCopies s.expansion.found s.expansion.rest s.copies };
 }
 
 impl ReadyReport {
@@ -31,7 +31,7 @@ impl ReadyReport {
     pub fn new(alloc: Global, expansion: Expansion) -> Result<ReadyReport, Expansion>
         ensures { MatchResult result (λ ready. ready ≡ expansion) (λ back. back ≡ expansion) }
     {
-        match Copies::new(alloc, expansion.found(), expansion.rest().len()) {
+        match Copies::new(alloc, expansion.found(), expansion.rest()) {
             Ok(copies) => Ok(ReadyReport { expansion, copies }),
             Err(_) => Err(expansion),
         }
