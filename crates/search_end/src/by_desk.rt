@@ -9,7 +9,7 @@ ghost use Rattle.search_end.specs.Answers.{IsAnswer};
 ghost use Rattle.search_end.specs.Pages.{CountsFaults, HasPaged, HasAllPaged};
 
 use crate::closing::finish;
-use crate::desk_search::begin_from;
+use crate::desk_search::{begin_from, go_on};
 use crate::handed::Handed;
 use crate::page_out::{NoPages, PageOut, RunFault};
 use search_core::Desk;
@@ -33,6 +33,13 @@ pub fn set_up<'a>(
     Ok((path, desk))
 }
 
+/// The desk of a search of a problem within limits that has ended. An `Err` is out of memory.
+fn search_whole(alloc: Global, problem: &Arc<Problem>, limits: Limits) -> Result<Desk, Memory> {
+    let (mut path, desk) = set_up(alloc, problem, limits)?;
+    let (desk, _) = go_on(alloc, &mut path, problem, desk)?;
+    Ok(desk)
+}
+
 /// The search of all prefixes of a problem within limits, and how it ended, by a desk on the calling
 /// thread. Hands the choices out in pages.
 fn search_alone<P: PageOut>(
@@ -51,10 +58,10 @@ fn search_alone<P: PageOut>(
     ensures faults { CountsFaults (P.faults pages.old) (P.faults pages.new) result
         RunFault.PageFault }
 {
-    match set_up(alloc, problem, limits) {
-        Ok((mut path, desk)) => {
+    match search_whole(alloc, problem, limits) {
+        Ok(desk) => {
             let handed = Handed::new(alloc);
-            finish(alloc, &mut path, problem, limits, desk, handed, pages)
+            finish(alloc, problem, limits, desk, handed, pages)
         }
         Err(_) => Err(RunFault::Memory),
     }

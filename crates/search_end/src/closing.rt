@@ -1,6 +1,6 @@
 //! The end of a search, at which several may have worked.
 
-ghost use Rattle.std.specs.Prelude.{◌≡◌, ◌≤◌, ◌++◌, ℕ, List, Option, Some, length, IsTrue, IfOk, OnOk, IsPermutation, MatchResult};
+ghost use Rattle.std.specs.Prelude.{◌≡◌, ◌≤◌, ◌++◌, ℕ, List, Option, Some, length, IsTrue, IfOk, IfSome, OnOk, IsPermutation, MatchResult};
 ghost use Rattle.std.specs.Arc.{arc_value};
 ghost use Rattle.solid_model.specs.Blocks.{ProblemParts};
 ghost use Rattle.solid_model.specs.Forcing.{is_live};
@@ -31,6 +31,18 @@ fn is_of(desk: &Desk, problem: &Problem, limits: Limits) -> bool
     desk.problem().same(problem) && own.nodes == limits.nodes && own.solids == limits.solids
 }
 
+/// How this desk has ended, if it is of this problem and within these limits, and has.
+fn end_of(desk: &Desk, problem: &Problem, limits: Limits) -> Option<EndKind>
+    ensures { IfSome result (λ kind. (desk.now.problem ≡ problem.now) × (desk.now.limits ≡ limits)
+        × (desk.now.end ≡ Some kind) × IsDesk desk.now) }
+{
+    if is_of(desk, problem, limits) {
+        desk.end()
+    } else {
+        None
+    }
+}
+
 /// This desk, if it is of this problem and within these limits; else a new one that is. An `Err` is
 /// out of memory.
 fn own_desk(
@@ -52,17 +64,36 @@ fn own_desk(
     }
 }
 
+/// A desk of this search that has ended, and how: this one, or a new one where it is of another search.
+/// The events that are missing are made, by a way down the tree of their own. An `Err` is out of memory.
+fn ended_desk(
+    alloc: Global,
+    problem: &Arc<Problem>,
+    limits: Limits,
+    desk: Desk,
+) -> Result<(Desk, EndKind), Memory>
+    ensures problem { IfOk result (λ r. r.0.problem ≡ arc_value problem.now) }
+    ensures limits { IfOk result (λ r. r.0.limits ≡ limits) }
+    ensures end { IfOk result (λ r. r.0.end ≡ Some r.1) }
+    ensures kept { IfOk result (λ r. IsDesk r.0) }
+{
+    if let Some(kind) = end_of(&desk, problem, limits) {
+        return Ok((desk, kind));
+    }
+    let mut path = BlockPath::new(alloc, problem)?;
+    let desk = own_desk(alloc, &mut path, problem, limits, desk)?;
+    go_on(alloc, &mut path, problem, desk)
+}
+
 /// A desk of this search that has ended, how it has, and what it has found besides what was handed
 /// out, as far as the limit of solids has room. An `Err` is out of memory.
 fn settled(
     alloc: Global,
-    path: &mut BlockPath,
     problem: &Arc<Problem>,
     limits: Limits,
     desk: Desk,
     handed: &Handed,
 ) -> Result<(Desk, EndKind, Vec<Choice>), Memory>
-    requires way { IsWayOf (arc_value problem.now) path.old }
     requires handed { AreFewSolutions (arc_value problem.now) limits.solids handed.now.choices }
     ensures problem { IfOk result (λ r. r.0.problem ≡ arc_value problem.now) }
     ensures limits { IfOk result (λ r. r.0.limits ≡ limits) }
@@ -75,8 +106,7 @@ fn settled(
 {
     // Looks at the problem tell that its blocks are those of its grid, and its grid a drawing's.
     let _coordinates = problem.grid().coordinates(Axis::X);
-    let desk = own_desk(alloc, path, problem, limits, desk)?;
-    let (desk, kind) = go_on(alloc, path, problem, desk)?;
+    let (desk, kind) = ended_desk(alloc, problem, limits, desk)?;
     let room = limits.solids as usize - handed.choices().len();
     let left = left_over(alloc, handed.choices(), desk.found(), room)?;
     Ok((desk, kind, left))
@@ -143,19 +173,17 @@ fn answer(
 }
 
 /// Ends a search by its desk, or by a new one where that is of another problem or within other
-/// limits: makes the events that are missing, and hands out what was found and not yet handed out,
+/// limits: makes the events that are missing, by a way of its own, and hands out what was found and not yet handed out,
 /// as far as the limit of solids has room. The answer lists what was handed out. An `Err` is that of
 /// a page, or out of memory.
 pub fn finish<P: PageOut>(
     alloc: Global,
-    path: &mut BlockPath,
     problem: &Arc<Problem>,
     limits: Limits,
     desk: Desk,
     handed: Handed,
     pages: &mut P,
 ) -> Result<(Ended, Desk), RunFault>
-    requires way { IsWayOf (arc_value problem.now) path.old }
     requires handed { AreFewSolutions (arc_value problem.now) limits.solids handed.choices }
     ensures answer { IfOk result (λ r. EndsSearch (is_live (arc_value problem.now))
         (arc_value problem.now).blocks.count limits r.0) }
@@ -169,7 +197,7 @@ pub fn finish<P: PageOut>(
         RunFault.PageFault }
 {
     let mut handed = handed;
-    let (desk, kind, left) = match settled(alloc, path, problem, limits, desk, &handed) {
+    let (desk, kind, left) = match settled(alloc, problem, limits, desk, &handed) {
         Ok(settled) => settled,
         Err(_) => return Err(RunFault::Memory),
     };

@@ -1,7 +1,8 @@
 //! Pages are handed out while workers search.
 
-ghost use Rattle.std.specs.Prelude.{◌≡◌, ◌≤◌, [], length, IsTrue, OnOk, MatchResult};
+ghost use Rattle.std.specs.Prelude.{◌≡◌, ◌≤◌, [], length, IsTrue, IfSome, OnOk, MatchResult};
 ghost use Rattle.std.specs.Arc.{arc_value};
+ghost use Rattle.search_tree.specs.BlockPaths.{IsWayOf};
 ghost use Rattle.search_end.specs.Handed.{BreaksOff, HandsOn, PagesOn};
 ghost use Rattle.search_end.specs.Pages.{CountsFaults};
 ghost use Rattle.search_run.specs.Reading.{IsReadUpTo};
@@ -9,6 +10,7 @@ ghost use Rattle.search_run.specs.Reading.{IsReadUpTo};
 use crate::room::Room;
 use crate::working::work;
 use search_end::{Handed, PAGE, PageOut, RunFault};
+use search_tree::BlockPath;
 use solid_model::{Limits, Problem};
 use solution_book::BookReader;
 use std::alloc::Global;
@@ -130,21 +132,23 @@ fn page_all<B: Wait + Drop, R: Wait, G: Gate, P: PageOut>(
     )
 }
 
-/// Starts a worker at each seat, and hands out pages until all have returned. A worker whose start is
-/// refused stops counting; its work is done by others. Where a page is refused, or memory runs out,
-/// all are to stop.
+/// Starts a worker at each seat, of which the first goes by this way down the tree of the problem's
+/// prefixes, and hands out pages until all have returned. A worker whose start is refused stops
+/// counting; its work is done by others. Where a page is refused, or memory runs out, all are to stop.
 pub fn search_together<'a, R: Threads + Wait + Sync, G: Gate, P: PageOut>(
     rt: &'a R,
     alloc: Global,
-    problem: &Arc<Problem>,
+    problem: &'a Arc<Problem>,
     limits: Limits,
     room: &Room<&'a R>,
     gate: &G,
     workers: u32,
+    path: BlockPath<'a>,
     seats: Vec<WorkerSeat>,
     reader: BookReader<&'a R>,
     pages: &mut P,
 ) -> Result<Handed, RunFault>
+    requires way { IsWayOf (arc_value problem.now) path }
     ensures paged { PagesOn (arc_value problem.now) limits.solids (P.calls pages.old)
         record { choices = []; pages = 0 } (P.calls pages.new) result }
     ensures faults { CountsFaults (P.faults pages.old) (P.faults pages.new) result
@@ -156,6 +160,7 @@ pub fn search_together<'a, R: Threads + Wait + Sync, G: Gate, P: PageOut>(
         thread::scope_env(),
         rt,
         move |scope| -> (&mut P, Result<Handed, RunFault>)
+            requires way { IsWayOf (arc_value problem.now) path }
             ensures same { result.0.ghost_name ≡ lent.entry.ghost_name }
             ensures paged { PagesOn (arc_value problem.entry.now) limits.solids
                 (P.calls lent.entry.now) record { choices = []; pages = 0 }
@@ -164,10 +169,14 @@ pub fn search_together<'a, R: Threads + Wait + Sync, G: Gate, P: PageOut>(
                 RunFault.PageFault }
         {
             let mut worker: u32 = 0;
+            let mut path = Some(path);
             for seat in seats {
-                let started = scope.spawn(move || work(
-                    rt, alloc, problem, room, gate, worker, seat,
-                ));
+                let own = path.take();
+                let started = scope.spawn(
+                    move ||
+                        requires way { IfSome own (IsWayOf (arc_value problem.now)) }
+                    { work(rt, alloc, problem, own, room, gate, worker, seat) },
+                );
                 if started.is_err() {
                     room.leave(rt);
                 }

@@ -81,7 +81,7 @@ pub fn run_search<R: Threads + Wait + Sync, G: Gate, P: PageOut>(
     ensures faults { CountsFaults (P.faults pages.old) (P.faults pages.new) result
         RunFault.PageFault }
 {
-    let Ok((mut path, desk)) = set_up(alloc, &problem, limits) else {
+    let Ok((path, desk)) = set_up(alloc, &problem, limits) else {
         return Err(RunFault::Memory);
     };
     let Ok(seats) = seats_for(alloc, workers, &desk) else {
@@ -91,10 +91,10 @@ pub fn run_search<R: Threads + Wait + Sync, G: Gate, P: PageOut>(
         return Err(RunFault::Memory);
     };
     match search_together(
-        rt, alloc, &problem, limits, &room, gate, workers, seats, reader, pages,
+        rt, alloc, &problem, limits, &room, gate, workers, path, seats, reader, pages,
     ) {
         Ok(handed) => match room.into_desk() {
-            Some(desk) => finish(alloc, &mut path, &problem, limits, desk, handed, pages),
+            Some(desk) => finish(alloc, &problem, limits, desk, handed, pages),
             None => Err(RunFault::Memory),
         },
         Err(fault) => Err(fault),

@@ -1,5 +1,6 @@
 //! Workers: each takes pieces from the pool, expands and reports them, and puts their rests.
 
+ghost use Rattle.std.specs.Prelude.{IfOk, IfSome};
 ghost use Rattle.std.specs.Arc.{arc_value};
 ghost use Rattle.search_tree.specs.BlockPaths.{IsWayOf};
 
@@ -135,18 +136,37 @@ fn leave_pool<R: Wait>(rt: &R, seat: WorkerSeat) {
     }
 }
 
-/// The work of one worker, from its start until it leaves.
-pub fn work<B: Wait + Drop, R: Wait, G: Gate>(
+/// This way down the tree of a problem's prefixes, or else a new one. An `Err` is out of memory.
+fn own_path<'a>(
+    alloc: Global,
+    problem: &'a Arc<Problem>,
+    path: Option<BlockPath<'a>>,
+) -> Result<BlockPath<'a>, Memory>
+    requires { IfSome path (IsWayOf (arc_value problem.now)) }
+    ensures { IfOk result (IsWayOf (arc_value problem.now)) }
+{
+    match path {
+        Some(path) => Ok(path),
+        None => BlockPath::new(alloc, problem),
+    }
+}
+
+/// The work of one worker, from its start until it leaves, by this way down the tree of the problem's
+/// prefixes, or else by one that it makes.
+pub fn work<'a, B: Wait + Drop, R: Wait, G: Gate>(
     rt: &R,
     alloc: Global,
-    problem: &Arc<Problem>,
+    problem: &'a Arc<Problem>,
+    path: Option<BlockPath<'a>>,
     room: &Room<B>,
     gate: &G,
     worker: u32,
     seat: WorkerSeat,
-) {
+)
+    requires way { IfSome path (IsWayOf (arc_value problem.now)) }
+{
     let mut seat = seat;
-    match BlockPath::new(alloc, problem) {
+    match own_path(alloc, problem, path) {
         Ok(mut path) => {
             go_round(rt, alloc, &mut path, problem, room, gate, worker, &mut seat);
             leave_pool(rt, seat);
