@@ -4,6 +4,7 @@ use crate::shared::Shared;
 use search_core::{Desk, ReadyReport};
 use solid_model::Prefix;
 use std::alloc::Global;
+use std::sync::atomic::{AtomicU32, Ordering};
 use std::sync::{Condvar, Mutex, MutexGuard, Wait};
 use std::thread;
 
@@ -17,6 +18,8 @@ pub struct Room<B: Wait + Drop> {
     shared: Mutex<Shared<B>>,
     changed: Condvar,
     news: Condvar,
+    /// How many workers have found no piece: they look once more, or wait.
+    idle: AtomicU32,
 }
 
 /// What the caller is told of a search: how many solids are published, and whether there will be no
@@ -34,6 +37,7 @@ impl<B: Wait + Drop> Room<B> {
             shared: Mutex::new(shared),
             changed: Condvar::new(),
             news: Condvar::new(),
+            idle: AtomicU32::new(0),
         }
     }
 
@@ -54,16 +58,31 @@ impl<B: Wait + Drop> Room<B> {
         self.enter(rt).changes()
     }
 
-    /// Signals a change, and tells how many were signalled.
-    pub fn signal<R: Wait>(&self, rt: &R) -> u64 {
-        let changes = self.enter(rt).change();
-        self.changed.notify_all();
-        changes
+    /// A worker has found no piece, and is to look once more before it waits.
+    pub fn begin_idle(&self) {
+        self.idle.fetch_add(1, Ordering::SeqCst);
     }
 
-    /// A worker without a piece stops counting, and waits while no more changes are signalled than it
-    /// has seen. It is told how many were signalled then. `None`: nothing is left to be done or nobody
-    /// is at work, and it leaves.
+    /// It has found one after all, or its wait is over.
+    pub fn end_idle(&self) {
+        self.idle.fetch_sub(1, Ordering::SeqCst);
+    }
+
+    /// A worker has put pieces: signals a change if others have found none, and tells how many were
+    /// signalled then. Nobody misses the pieces: who becomes idle behind this look at the count looks for
+    /// a piece behind the puts. So it adds nothing in place of a load, which could come before them.
+    pub fn signal_idle<R: Wait>(&self, rt: &R) -> Option<u64> {
+        if self.idle.fetch_add(0, Ordering::SeqCst) == 0 {
+            return None;
+        }
+        let changes = self.enter(rt).change();
+        self.changed.notify_all();
+        Some(changes)
+    }
+
+    /// An idle worker stops counting, and waits while no more changes are signalled than it has seen.
+    /// It is told how many were signalled then. `None`: nothing is left to be done or nobody is at work,
+    /// and it leaves.
     pub fn wait<R: Wait>(&self, rt: &R, seen: u64) -> Option<u64> {
         let mut shared = self.enter(rt);
         shared.rest();
@@ -77,6 +96,7 @@ impl<B: Wait + Drop> Room<B> {
             .changed
             .wait_while(rt, shared, |shared| shared.changes() == seen);
         shared.resume();
+        self.end_idle();
         Some(shared.changes())
     }
 

@@ -27,6 +27,21 @@ fn find<R: Wait>(rt: &R, seat: &mut WorkerSeat) -> Option<Prefix> {
     None
 }
 
+/// A piece, if there is one; where there is none, the worker is idle, and has looked once more since.
+fn find_or_idle<B: Wait + Drop, R: Wait>(
+    rt: &R,
+    room: &Room<B>,
+    seat: &mut WorkerSeat,
+) -> Option<Prefix> {
+    if let Some(piece) = find(rt, seat) {
+        return Some(piece);
+    }
+    room.begin_idle();
+    let piece = find(rt, seat)?;
+    room.end_idle();
+    Some(piece)
+}
+
 /// Puts a rest. A piece that comes back stays in the frontier alone, for the caller.
 fn put_all(seat: &mut WorkerSeat, rest: Vec<Prefix>) {
     for piece in rest {
@@ -85,7 +100,7 @@ fn work_at<B: Wait + Drop, R: Wait, G: Gate>(
 }
 
 /// The rounds of a worker, from a way down the tree of the problem's prefixes on, until it leaves. How
-/// many changes were signalled it is told each time before it looks for a piece.
+/// many changes were signalled it is told before it looks for a piece.
 fn go_round<B: Wait + Drop, R: Wait, G: Gate>(
     rt: &R,
     alloc: Global,
@@ -100,7 +115,7 @@ fn go_round<B: Wait + Drop, R: Wait, G: Gate>(
 {
     let mut seen = room.changes(rt);
     for _ in rt.forever() {
-        match find(rt, seat) {
+        match find_or_idle(rt, room, seat) {
             Some(piece) => {
                 let Some(rest) = work_at(rt, alloc, path, problem, room, gate, worker, &piece)
                 else {
@@ -109,7 +124,7 @@ fn go_round<B: Wait + Drop, R: Wait, G: Gate>(
                 };
                 if !rest.is_empty() {
                     put_all(seat, rest);
-                    seen = room.signal(rt);
+                    seen = room.signal_idle(rt).unwrap_or(seen);
                 }
             }
             None => match room.wait(rt, seen) {
