@@ -42,10 +42,13 @@ fn find_or_idle<B: Wait + Drop, R: Wait>(
     Some(piece)
 }
 
-/// Puts a rest. A piece that comes back stays in the frontier alone, for the caller.
+/// Puts a rest, until a piece comes back. That one and those behind it stay in the frontier alone, for
+/// the caller.
 fn put_all(seat: &mut WorkerSeat, rest: Vec<Prefix>) {
     for piece in rest {
-        let _back = seat.owner.put(piece);
+        if seat.owner.put(piece).is_err() {
+            return;
+        }
     }
 }
 
