@@ -38,17 +38,14 @@ impl Node {
         if next == 0 { None } else { Some(next) }
     }
 
-    /// The same node, which leads there for this value.
-    fn with_child(self, full: bool, next: u32) -> Node
-        ensures { result ≡ with_child self full next }
+    /// It leads there for this value from now on.
+    fn set_child(&mut self, full: bool, next: u32)
+        ensures { self.new ≡ with_child self.old full next }
     {
         if full {
-            Node { full: next, ..self }
+            self.full = next;
         } else {
-            Node {
-                empty: next,
-                ..self
-            }
+            self.empty = next;
         }
     }
 }
@@ -130,7 +127,7 @@ impl Nodes {
             return Err(Memory);
         }
         self.list.push(Node::new(at, full))?;
-        self.list[at as usize] = self.list[at as usize].with_child(full, next as u32);
+        self.list[at as usize].set_child(full, next as u32);
         Ok(next as u32)
     }
 }

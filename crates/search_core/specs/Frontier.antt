@@ -38,6 +38,10 @@ pub record IsFirstPut (put counts : List ℕ) (place : ℕ) : Type 0 where
   pub counted : 0 < count_of counts place
   pub behind : (k : ℕ) → count_of counts k ≤ times_in k (drop at put)
 
+-- so many can be put at most, since how often a place stands in it is a number of 32 bits
+abbrev pub most_puts : ℕ
+most_puts = 4294967295
+
 -- a frontier: the places that were ever put into it, how often each stands in it, which of those that were put aren't passed
 -- over, and how many it has room for
 pub record FrontierParts : Type 0 where

@@ -1,6 +1,6 @@
 //! The frontier of a search, by places.
 
-ghost use Rattle.std.specs.Prelude.{◌≡◌, ◌<◌, ◌≤◌, length, drop, slice_index_or};
+ghost use Rattle.std.specs.Prelude.{◌≡◌, ◌<◌, ◌≤◌, ℕ, length, drop, slice_index_or, OnOk};
 ghost use Rattle.search_core.specs.Frontier.{count_of, count_without, first_or, passed};
 
 use solid_model::Memory;
@@ -8,7 +8,7 @@ use std::alloc::Global;
 use std::marker::Model;
 
 /// How often a place is counted.
-fn count_at(counts: &[usize], place: u32) -> usize
+fn count_at(counts: &[u32], place: u32) -> u32
     ensures { result ≡ count_of counts.now place }
 {
     counts.get(place as usize).copied().unwrap_or(0)
@@ -22,7 +22,7 @@ pub fn first_of(list: &[u32], other: u32) -> u32
 }
 
 /// How often a place is counted once this piece is taken.
-fn count_without(counts: &[usize], piece: u32, place: u32) -> usize
+fn count_without(counts: &[u32], piece: u32, place: u32) -> u32
     ensures { result ≡ count_without counts.now piece place }
 {
     let count = count_at(counts, place);
@@ -35,7 +35,7 @@ fn count_without(counts: &[usize], piece: u32, place: u32) -> usize
 
 /// Where the first place from here on stands that is counted once this piece is taken, of those that
 /// were put.
-fn first_without(put: &[u32], counts: &[usize], piece: u32, from: usize) -> usize
+fn first_without(put: &[u32], counts: &[u32], piece: u32, from: usize) -> usize
     requires { from ≤ length put.now }
     ensures from { from ≤ result }
     ensures within { result ≤ length put.now }
@@ -52,19 +52,30 @@ fn first_without(put: &[u32], counts: &[usize], piece: u32, from: usize) -> usiz
     put.len()
 }
 
+/// So many places are counted, or more. An `Err` is out of memory.
+fn count_more(counts: &mut Vec<u32>, places: usize) -> Result<(), Memory>
+    ensures counts { (k : ℕ) → count_of counts.new.items k ≡ count_of counts.old.items k }
+    ensures places { OnOk result (places ≤ length counts.new.items) }
+{
+    if counts.len() < places {
+        counts.resize(places, 0)?;
+    }
+    Ok(())
+}
+
 /// The frontier of a search, by the places of its prefixes: which stand in it, and how often each.
 /// Whether one does is looked up by its place. The first one is the one that was put first; what no
 /// longer stands in it is passed over once.
 #[derive(Drop)]
 pub struct Frontier {
     put: Vec<u32>,
-    counts: Vec<usize>,
+    counts: Vec<u32>,
     first: usize,
 }
 
 impl Model for Frontier {
-    ghost use Rattle.std.specs.Prelude.{vec_capacity, drop};
-    ghost use Rattle.search_core.specs.Frontier.{FrontierParts, IsFrontier};
+    ghost use Rattle.std.specs.Prelude.{vec_capacity, drop, min};
+    ghost use Rattle.search_core.specs.Frontier.{FrontierParts, IsFrontier, most_puts};
 
     ghost Value = { FrontierParts };
 
@@ -72,7 +83,7 @@ impl Model for Frontier {
       put = s.put.items;
       counts = s.counts.items;
       ahead = drop s.first s.put.items;
-      room = vec_capacity s.put;
+      room = min (vec_capacity s.put) most_puts;
     } };
 
     ghost invariant = { λ s. IsFrontier s.put.items s.counts.items s.first };
@@ -80,7 +91,7 @@ impl Model for Frontier {
 
 impl Frontier {
     ghost use Rattle.std.specs.Prelude.{◌≡◌, ◌==◌, ◌<◌, ◌≤◌, ◌+◌, ◌++◌, ◌∷◌, ◌↔◌, [], ℕ, length, IsTrue, OnOk, MatchOption, if◌then◌else◌};
-    ghost use Rattle.search_core.specs.Frontier.{count_of, count_without, first_or, passed, IsFirstPut};
+    ghost use Rattle.search_core.specs.Frontier.{count_of, count_without, first_or, passed, most_puts, IsFirstPut};
 
     /// None.
     pub fn new(alloc: Global) -> Frontier
@@ -95,7 +106,8 @@ impl Frontier {
         }
     }
 
-    /// Makes room for so many places, and for putting so many more. An `Err` is out of memory.
+    /// Makes room for so many places, and for putting so many more. An `Err` is out of memory, or of
+    /// 32-bit numbers for how often a place stands in it.
     pub fn reserve(&mut self, places: usize, more: usize) -> Result<(), Memory>
         ensures put { self.new.put ≡ self.old.put }
         ensures counts { (k : ℕ) → count_of self.new.counts k ≡ count_of self.old.counts k }
@@ -103,9 +115,10 @@ impl Frontier {
         ensures places { OnOk result (places ≤ length self.new.counts) }
         ensures room { OnOk result (length self.new.put + more ≤ self.new.room) }
     {
-        if self.counts.len() < places {
-            self.counts.resize(places, 0)?;
+        if self.put.len().saturating_add(more) > u32::MAX as usize {
+            return Err(Memory);
         }
+        count_more(&mut self.counts, places)?;
         self.put.reserve(more)?;
         Ok(())
     }

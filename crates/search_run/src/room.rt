@@ -126,11 +126,10 @@ impl<B: Wait + Drop> Room<B> {
         report: ReadyReport,
     ) -> Option<Vec<Prefix>> {
         let mut shared = self.enter(rt);
-        let before = shared.published();
         let rest = shared.report(alloc, report);
-        let now = shared.published();
+        let news = shared.tell();
         drop(shared);
-        if now != before {
+        if news {
             self.news.notify_all();
         }
         rest

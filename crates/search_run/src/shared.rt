@@ -7,6 +7,10 @@ use std::alloc::Global;
 use std::marker::Model;
 use std::sync::Wait;
 
+/// The caller, who hands out solids, is told of new ones after so many reports in which it wasn't: to
+/// wake it takes as long as some of them.
+const QUIET: u32 = 16;
+
 /// The value under the lock: the desk, the writer of its book, how many workers are at work, whether
 /// all are to stop, and how many changes were signalled, which goes on from 0 after the greatest
 /// `u64`. One hold of the lock makes one report at most. Contracts see it as the desk and the edition
@@ -18,6 +22,10 @@ pub struct Shared<B: Wait + Drop> {
     at_work: u32,
     stop: bool,
     changes: u64,
+    /// How many solids were published when the caller was last told.
+    told: usize,
+    /// How many reports came since.
+    quiet: u32,
 }
 
 impl<B: Wait + Drop> Model for Shared<B> {
@@ -45,6 +53,8 @@ impl<B: Wait + Drop> Shared<B> {
             at_work: workers,
             stop: false,
             changes: 0,
+            told: 0,
+            quiet: QUIET,
         }
     }
 
@@ -57,6 +67,19 @@ impl<B: Wait + Drop> Shared<B> {
     pub fn change(&mut self) -> u64 {
         self.changes = self.changes.wrapping_add(1);
         self.changes
+    }
+
+    /// Whether the caller is to be told of solids now, once a report is made: some are published of
+    /// which it wasn't told, and it wasn't told of any for some reports.
+    pub fn tell(&mut self) -> bool {
+        let published = self.published();
+        self.quiet = self.quiet.saturating_add(1);
+        if self.quiet < QUIET || self.told == published {
+            return false;
+        }
+        self.told = published;
+        self.quiet = 0;
+        true
     }
 
     /// How many solids are published.

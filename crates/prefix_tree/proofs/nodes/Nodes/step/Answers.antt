@@ -33,10 +33,6 @@ returns-in-Some-clause-there c =
     subst (λ (v : List (List Bool)). StandsAt v (prefix_at v c.args.at ++ c.args.full ∷ []) c.in-Some.next) c.self.view_is
     (c.self.invariant.leads c.args.at c.args.full c.in-Some.next l (is ∙ c.in-Some.is))
 
-pub index-requires-2 : goal.index-requires-2
-index-requires-2 c =
-    omega (arith, length-ways c.self.inside.list.items, ap length c.self.view_is, c.requires, ap length c.in_ok-push.ensures.items, length_push c.self.inside.list.items c.new.result)
-
 pub index_mut-requires : goal.index_mut-requires
 index_mut-requires c =
     omega (arith, length-ways c.self.inside.list.items, ap length c.self.view_is, c.requires, ap length c.in_ok-push.ensures.items, length_push c.self.inside.list.items c.new.result)
@@ -46,7 +42,7 @@ invariant_of-self-2 c =
     let nodes = c.self.inside.list.items in
     let l : c.args.at < length nodes = omega (arith, length-ways nodes, ap length c.self.view_is, c.requires) in
     let none = has nodes c.args.at c.args.full l c.index.result.now c.child.result c.index.ensures c.child.ensures ∙ c.in_default.is in
-    subst IsTrie (sym (written nodes c.push.new.self.items c.args.at c.len-next.result c.args.full c.with_child.result c.index-2.result.now c.new.result l c.new.ensures c.in_ok-push.ensures.items (omega arith) c.index-2.ensures c.with_child.ensures))
+    subst IsTrie (sym (written nodes c.push.new.self.items c.args.at c.len-next.result c.args.full c.set_child.new.self c.index_mut.result.now c.new.result l c.new.ensures c.in_ok-push.ensures.items (omega arith) c.index_mut.ensures.value c.set_child.ensures))
     (tree_with nodes c.self.invariant c.args.at c.args.full l none)
 
 pub returns-clause-grown : goal.returns-clause-grown
@@ -54,7 +50,7 @@ returns-clause-grown c =
     let nodes = c.self.inside.list.items in
     let l : c.args.at < length nodes = omega (arith, length-ways nodes, ap length c.self.view_is, c.requires) in
     let none = has nodes c.args.at c.args.full l c.index.result.now c.child.result c.index.ensures c.child.ensures ∙ c.in_default.is in
-    let is = written nodes c.push.new.self.items c.args.at c.len-next.result c.args.full c.with_child.result c.index-2.result.now c.new.result l c.new.ensures c.in_ok-push.ensures.items (omega arith) c.index-2.ensures c.with_child.ensures in (
+    let is = written nodes c.push.new.self.items c.args.at c.len-next.result c.args.full c.set_child.new.self c.index_mut.result.now c.new.result l c.new.ensures c.in_ok-push.ensures.items (omega arith) c.index_mut.ensures.value c.set_child.ensures in (
       (prefix_at c.args.self.now c.args.at ++ c.args.full ∷ []) ∷ [],
       ap ways is ∙ ways_with nodes c.self.invariant c.args.at c.args.full l none ∙ ap (λ (v : List (List Bool)). v ++ (prefix_at v c.args.at ++ c.args.full ∷ []) ∷ []) c.self.view_is,
     )
@@ -64,9 +60,9 @@ returns-clause-there c =
     let nodes = c.self.inside.list.items in
     let l : c.args.at < length nodes = omega (arith, length-ways nodes, ap length c.self.view_is, c.requires) in
     let none = has nodes c.args.at c.args.full l c.index.result.now c.child.result c.index.ensures c.child.ensures ∙ c.in_default.is in
-    let is = written nodes c.push.new.self.items c.args.at c.len-next.result c.args.full c.with_child.result c.index-2.result.now c.new.result l c.new.ensures c.in_ok-push.ensures.items (omega arith) c.index-2.ensures c.with_child.ensures in
+    let is = written nodes c.push.new.self.items c.args.at c.len-next.result c.args.full c.set_child.new.self c.index_mut.result.now c.new.result l c.new.ensures c.in_ok-push.ensures.items (omega arith) c.index_mut.ensures.value c.set_child.ensures in
     let long : length c.args.self.now ≡ c.len-next.result = omega (arith, length-ways nodes, ap length c.self.view_is) in
     let made : List Bool = prefix_at c.args.self.now c.args.at ++ c.args.full ∷ [] in
-    let grown : ways (set c.push.new.self.items c.args.at c.with_child.result) ≡ c.args.self.now ++ made ∷ [] =
+    let grown : ways (set c.push.new.self.items c.args.at c.set_child.new.self) ≡ c.args.self.now ++ made ∷ [] =
     ap ways is ∙ ways_with nodes c.self.invariant c.args.at c.args.full l none ∙ ap (λ (v : List (List Bool)). v ++ (prefix_at v c.args.at ++ c.args.full ∷ []) ∷ []) c.self.view_is in
     subst (λ (v : List (List Bool)). StandsAt v made c.len-next.result) (sym grown) (subst (StandsAt (c.args.self.now ++ made ∷ []) made) long (stands-last c.args.self.now made))
