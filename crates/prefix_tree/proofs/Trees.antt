@@ -5,8 +5,7 @@ use Rattle.std.proofs.lemmas.Bool.{cases_eq, cases_lt, ne_eqb}
 use Rattle.std.proofs.lemmas.List.{take_all, take-append-le, get_or_append_left, get_or_push, get_or-set_same, get_or-set_other, length-append, length-set, length_push}
 use Rattle.std.proofs.lemmas.Option.{none-some, same_Some}
 use Rattle.std.specs.Prelude.{if◌then◌else◌}
-use Rattle.prefix_tree.specs.declared.nodes.Node.{Node}
-use Rattle.prefix_tree.specs.Nodes.{new_node, node_at, unless_root, child, with_child, way_of, ways_on, ways, IsTrie}
+use Rattle.prefix_tree.specs.Nodes.{NodeParts, new_node, node_at, unless_root, child, with_child, way_of, ways_on, ways, IsTrie}
 use Rattle.prefix_tree.specs.Places.{prefix_at, StandsAt, AreDistinct}
 use Rattle.prefix_tree.proofs.Stored.{stands-grown, stands-last}
 
@@ -21,18 +20,18 @@ same_push xs ys a b e =
 -- ---- lists that lead to nodes
 
 -- those of more nodes come behind those before them
-ways_grown : (before : List (List Bool)) (nodes : List Node) → (more : List (List Bool)) × (ways_on before nodes ≡ before ++ more) × (length more ≡ length nodes)
+ways_grown : (before : List (List Bool)) (nodes : List NodeParts) → (more : List (List Bool)) × (ways_on before nodes ≡ before ++ more) × (length more ≡ length nodes)
 ways_grown before [] = ([], sym (append-nil before), refl)
 ways_grown before (n ∷ nodes) =
     let r = ways_grown (before ++ way_of before n ∷ []) nodes in
     (way_of before n ∷ r.0, r.1 ∙ append_assoc before (way_of before n ∷ []) r.0, ap suc r.2)
 
-ways_kept : (before : List (List Bool)) (nodes : List Node) (k : ℕ) → k < length before → prefix_at (ways_on before nodes) k ≡ prefix_at before k
+ways_kept : (before : List (List Bool)) (nodes : List NodeParts) (k : ℕ) → k < length before → prefix_at (ways_on before nodes) k ≡ prefix_at before k
 ways_kept before nodes k l =
     let r = ways_grown before nodes in
     ap (λ (v : List (List Bool)). prefix_at v k) r.1 ∙ get_or_append_left before r.0 [] k l
 
-way_on : (before : List (List Bool)) (nodes : List Node) (j : ℕ) → j < length nodes → (node_at nodes j).before < length before + j
+way_on : (before : List (List Bool)) (nodes : List NodeParts) (j : ℕ) → j < length nodes → (node_at nodes j).before < length before + j
     → prefix_at (ways_on before nodes) (length before + j) ≡ way_of (ways_on before nodes) (node_at nodes j)
 way_on before [] j l e = absurd (omega arith)
 way_on before (n ∷ nodes) zero l e =
@@ -49,31 +48,31 @@ way_on before (n ∷ nodes) (suc j) l e =
     let there : length next + j ≡ length before + suc j = omega (arith, length_push before (way_of before n)) in
     ap (prefix_at (ways_on next nodes)) (sym there) ∙ way_on next nodes j (omega arith) (subst (λ m. (node_at nodes j).before < m) (sym there) e)
 
-on_push : (before : List (List Bool)) (nodes : List Node) (n : Node) → ways_on before (nodes ++ n ∷ []) ≡ ways_on before nodes ++ way_of (ways_on before nodes) n ∷ []
+on_push : (before : List (List Bool)) (nodes : List NodeParts) (n : NodeParts) → ways_on before (nodes ++ n ∷ []) ≡ ways_on before nodes ++ way_of (ways_on before nodes) n ∷ []
 on_push before [] n = refl
 on_push before (m ∷ nodes) n = on_push (before ++ way_of before m ∷ []) nodes n
 
-way_with : (before : List (List Bool)) (n : Node) (b : Bool) (k : ℕ) → way_of before (with_child n b k) ≡ way_of before n
+way_with : (before : List (List Bool)) (n : NodeParts) (b : Bool) (k : ℕ) → way_of before (with_child n b k) ≡ way_of before n
 way_with before n true k = refl
 way_with before n false k = refl
 
-on_set : (before : List (List Bool)) (nodes : List Node) (at : ℕ) (b : Bool) (k : ℕ) → ways_on before (set nodes at (with_child (node_at nodes at) b k)) ≡ ways_on before nodes
+on_set : (before : List (List Bool)) (nodes : List NodeParts) (at : ℕ) (b : Bool) (k : ℕ) → ways_on before (set nodes at (with_child (node_at nodes at) b k)) ≡ ways_on before nodes
 on_set before [] at b k = refl
 on_set before (n ∷ nodes) zero b k = ap (λ (w : List Bool). ways_on (before ++ w ∷ []) nodes) (way_with before n b k)
 on_set before (n ∷ nodes) (suc at) b k = on_set (before ++ way_of before n ∷ []) nodes at b k
 
 -- one leads to each node
-pub length-ways : (nodes : List Node) → length (ways nodes) ≡ length nodes
+pub length-ways : (nodes : List NodeParts) → length (ways nodes) ≡ length nodes
 length-ways [] = refl
 length-ways (root ∷ nodes) = (let r = ways_grown ([] ∷ []) nodes in omega (arith, ap length r.1, length-append ([] ∷ []) r.0, r.2))
 
 -- the empty one leads to the root
-pub way-root : (nodes : List Node) → 0 < length nodes → prefix_at (ways nodes) 0 ≡ []
+pub way-root : (nodes : List NodeParts) → 0 < length nodes → prefix_at (ways nodes) 0 ≡ []
 way-root [] l = absurd (omega arith)
 way-root (root ∷ nodes) l = ways_kept ([] ∷ []) nodes 0 (omega arith)
 
 -- to another node leads that of the node before it, and one value more
-way-on : (nodes : List Node) (k : ℕ) → 0 < k → k < length nodes → (node_at nodes k).before < k → prefix_at (ways nodes) k ≡ way_of (ways nodes) (node_at nodes k)
+way-on : (nodes : List NodeParts) (k : ℕ) → 0 < k → k < length nodes → (node_at nodes k).before < k → prefix_at (ways nodes) k ≡ way_of (ways nodes) (node_at nodes k)
 way-on [] k some l e = absurd (omega arith)
 way-on (root ∷ nodes) zero some l e = absurd (omega arith)
 way-on (root ∷ nodes) (suc j) some l e =
@@ -81,19 +80,19 @@ way-on (root ∷ nodes) (suc j) some l e =
     ap (prefix_at (ways_on ([] ∷ []) nodes)) (sym there) ∙ way_on ([] ∷ []) nodes j (omega arith) (subst (λ m. (node_at nodes j).before < m) (sym there) e)
 
 -- that of a node behind the others comes behind theirs
-ways-push : (nodes : List Node) (n : Node) → 0 < length nodes → ways (nodes ++ n ∷ []) ≡ ways nodes ++ way_of (ways nodes) n ∷ []
+ways-push : (nodes : List NodeParts) (n : NodeParts) → 0 < length nodes → ways (nodes ++ n ∷ []) ≡ ways nodes ++ way_of (ways nodes) n ∷ []
 ways-push [] n l = absurd (omega arith)
 ways-push (root ∷ nodes) n l = on_push ([] ∷ []) nodes n
 
 -- where a node leads on doesn't matter
-ways-set : (nodes : List Node) (at : ℕ) (b : Bool) (k : ℕ) → ways (set nodes at (with_child (node_at nodes at) b k)) ≡ ways nodes
+ways-set : (nodes : List NodeParts) (at : ℕ) (b : Bool) (k : ℕ) → ways (set nodes at (with_child (node_at nodes at) b k)) ≡ ways nodes
 ways-set [] at b k = refl
 ways-set (root ∷ nodes) zero b k = refl
 ways-set (root ∷ nodes) (suc at) b k = on_set ([] ∷ []) nodes at b k
 
 -- ---- a tree
 
-module _ (nodes : List Node) (t : IsTrie nodes) where
+module _ (nodes : List NodeParts) (t : IsTrie nodes) where
   abbrev way : ℕ → List Bool
   way k = prefix_at (ways nodes) k
 
@@ -195,40 +194,40 @@ root_or : (k : ℕ) → 0 < k → unless_root k ≡ Some k
 root_or k l = ap (λ (t : Bool). if t then None else Some k) (ne_eqb k 0 (λ e. omega arith))
 
 -- a node leads to the new child, or to where it led
-child-with : (n : Node) (b c : Bool) (k next : ℕ) → 0 < k → child (with_child n b k) c ≡ Some next → (child n c ≡ Some next) ⊎ ((c ≡ b) × (next ≡ k))
+child-with : (n : NodeParts) (b c : Bool) (k next : ℕ) → 0 < k → child (with_child n b k) c ≡ Some next → (child n c ≡ Some next) ⊎ ((c ≡ b) × (next ≡ k))
 child-with n true true k next some e = inr (refl, sym (same_Some k next (sym (root_or k some) ∙ e)))
 child-with n true false k next some e = inl e
 child-with n false true k next some e = inl e
 child-with n false false k next some e = inr (refl, sym (same_Some k next (sym (root_or k some) ∙ e)))
 
 -- where it led, it leads on
-child-kept : (n : Node) (b c : Bool) (k next : ℕ) → child n b ≡ None → child n c ≡ Some next → child (with_child n b k) c ≡ Some next
+child-kept : (n : NodeParts) (b c : Bool) (k next : ℕ) → child n b ≡ None → child n c ≡ Some next → child (with_child n b k) c ≡ Some next
 child-kept n true true k next none e = absurd (none-some next (sym none ∙ e))
 child-kept n true false k next none e = e
 child-kept n false true k next none e = e
 child-kept n false false k next none e = absurd (none-some next (sym none ∙ e))
 
-child-made : (n : Node) (b : Bool) (k : ℕ) → 0 < k → child (with_child n b k) b ≡ Some k
+child-made : (n : NodeParts) (b : Bool) (k : ℕ) → 0 < k → child (with_child n b k) b ≡ Some k
 child-made n true k some = root_or k some
 child-made n false k some = root_or k some
 
-before-with : (n : Node) (b : Bool) (k : ℕ) → (with_child n b k).before ≡ n.before
+before-with : (n : NodeParts) (b : Bool) (k : ℕ) → (with_child n b k).before ≡ n.before
 before-with n true k = refl
 before-with n false k = refl
 
-value-with : (n : Node) (b : Bool) (k : ℕ) → (with_child n b k).value ≡ n.value
+value-with : (n : NodeParts) (b : Bool) (k : ℕ) → (with_child n b k).value ≡ n.value
 value-with n true k = refl
 value-with n false k = refl
 
 -- the nodes with a new one, to which a node leads for a value
-abbrev pub with_node : List Node → ℕ → Bool → List Node
+abbrev pub with_node : List NodeParts → ℕ → Bool → List NodeParts
 with_node nodes at b = set (nodes ++ new_node at b ∷ []) at (with_child (node_at nodes at) b (length nodes))
 
-module _ (nodes : List Node) (t : IsTrie nodes) (at : ℕ) (b : Bool) (l : at < length nodes) (none : child (node_at nodes at) b ≡ None) where
+module _ (nodes : List NodeParts) (t : IsTrie nodes) (at : ℕ) (b : Bool) (l : at < length nodes) (none : child (node_at nodes at) b ≡ None) where
   -- its list comes behind the others
   pub ways_with : ways (with_node nodes at b) ≡ ways nodes ++ (prefix_at (ways nodes) at ++ b ∷ []) ∷ []
   ways_with =
-      ap (λ (n : Node). ways (set (nodes ++ new_node at b ∷ []) at (with_child n b (length nodes)))) (sym (get_or_append_left nodes (new_node at b ∷ []) (new_node 0 false) at l))
+      ap (λ (n : NodeParts). ways (set (nodes ++ new_node at b ∷ []) at (with_child n b (length nodes)))) (sym (get_or_append_left nodes (new_node at b ∷ []) (new_node 0 false) at l))
       ∙ ways-set (nodes ++ new_node at b ∷ []) at b (length nodes) ∙ ways-push nodes (new_node at b) t.some
 
   longer : length (with_node nodes at b) ≡ length nodes + 1
@@ -249,14 +248,14 @@ module _ (nodes : List Node) (t : IsTrie nodes) (at : ℕ) (b : Bool) (l : at < 
   -- those before them are the same
   before-kept : (i : ℕ) → i < length nodes → (node_at (with_node nodes at b) i).before ≡ (node_at nodes i).before
   before-kept i li = elim (cases_eq i at) as (λ _. (node_at (with_node nodes at b) i).before ≡ (node_at nodes i).before) [
-    | inl e ↦ ap (λ k. (node_at (with_node nodes at b) k).before) e ∙ ap (λ (n : Node). n.before) node-same ∙ before-with (node_at nodes at) b (length nodes) ∙ ap (λ k. (node_at nodes k).before) (sym e)
-    | inr ne ↦ ap (λ (n : Node). n.before) (node-other i li ne)
+    | inl e ↦ ap (λ k. (node_at (with_node nodes at b) k).before) e ∙ ap (λ (n : NodeParts). n.before) node-same ∙ before-with (node_at nodes at) b (length nodes) ∙ ap (λ k. (node_at nodes k).before) (sym e)
+    | inr ne ↦ ap (λ (n : NodeParts). n.before) (node-other i li ne)
   ]
 
   value-kept : (i : ℕ) → i < length nodes → (node_at (with_node nodes at b) i).value ≡ (node_at nodes i).value
   value-kept i li = elim (cases_eq i at) as (λ _. (node_at (with_node nodes at b) i).value ≡ (node_at nodes i).value) [
-    | inl e ↦ ap (λ k. (node_at (with_node nodes at b) k).value) e ∙ ap (λ (n : Node). n.value) node-same ∙ value-with (node_at nodes at) b (length nodes) ∙ ap (λ k. (node_at nodes k).value) (sym e)
-    | inr ne ↦ ap (λ (n : Node). n.value) (node-other i li ne)
+    | inl e ↦ ap (λ k. (node_at (with_node nodes at b) k).value) e ∙ ap (λ (n : NodeParts). n.value) node-same ∙ value-with (node_at nodes at) b (length nodes) ∙ ap (λ k. (node_at nodes k).value) (sym e)
+    | inr ne ↦ ap (λ (n : NodeParts). n.value) (node-other i li ne)
   ]
 
   -- where a node led it leads on
@@ -292,14 +291,14 @@ module _ (nodes : List Node) (t : IsTrie nodes) (at : ℕ) (b : Bool) (l : at < 
     some = omega (arith, longer);
     earlier = λ k some lk. elim (old_or_new k lk) as (λ _. (node_at (with_node nodes at b) k).before < k) [
       | inl old ↦ subst (λ m. m < k) (sym (before-kept k old)) (t.earlier k some old)
-      | inr new ↦ (let e : (node_at (with_node nodes at b) k).before ≡ at = ap (λ j. (node_at (with_node nodes at b) j).before) new ∙ ap (λ (n : Node). n.before) node-new in omega arith)
+      | inr new ↦ (let e : (node_at (with_node nodes at b) k).before ≡ at = ap (λ j. (node_at (with_node nodes at b) j).before) new ∙ ap (λ (n : NodeParts). n.before) node-new in omega arith)
     ];
     led = λ k some lk. elim (old_or_new k lk) as (λ _. child (node_at (with_node nodes at b) (node_at (with_node nodes at b) k).before) (node_at (with_node nodes at b) k).value ≡ Some k) [
       | inl old ↦ (let low = t.earlier k some old in
           ap₂ (λ (j : ℕ) (c : Bool). child (node_at (with_node nodes at b) j) c) (before-kept k old) (value-kept k old)
           ∙ led_on (node_at nodes k).before k (node_at nodes k).value (omega arith) (t.led k some old))
       | inr new ↦ ap (λ j. child (node_at (with_node nodes at b) (node_at (with_node nodes at b) j).before) (node_at (with_node nodes at b) j).value) new
-          ∙ ap (λ (n : Node). child (node_at (with_node nodes at b) n.before) n.value) node-new
+          ∙ ap (λ (n : NodeParts). child (node_at (with_node nodes at b) n.before) n.value) node-new
           ∙ ap (λ n. child n b) node-same ∙ child-made (node_at nodes at) b (length nodes) t.some ∙ ap Some (sym new)
     ];
     leads = λ i c next li e. subst (λ (v : List (List Bool)). StandsAt v (prefix_at v i ++ c ∷ []) next) (sym ways_with)

@@ -1,14 +1,24 @@
 -- A tree of nodes that lists of truth values lead down: each node but the root is led to by one before it, for one more value.
 use Rattle.std.specs.Prelude.{◌≡◌, ◌==◌, ◌<◌, ◌≤◌, ◌+◌, Bool, true, false, ℕ, List, [], ◌∷◌, ◌++◌, length, take, slice_index_or, Option, Some, None, if◌then◌else◌}
-use Rattle.prefix_tree.specs.declared.nodes.Node.{Node}
 use Rattle.prefix_tree.specs.Places.{prefix_at, StandsAt}
 
+-- a node: the one before it, which leads to it, for which value, and where it leads for a full block and for an empty one
+pub record NodeParts : Type 0 where
+  pub before : ℕ
+  pub value : Bool
+  pub full : ℕ
+  pub empty : ℕ
+
+-- the greatest number of a node, which has 31 bits
+abbrev pub most_nodes : ℕ
+most_nodes = 2147483647
+
 -- a node that leads nowhere, to which one before it leads for a value
-abbrev pub new_node : ℕ → Bool → Node
+abbrev pub new_node : ℕ → Bool → NodeParts
 new_node before value = record { before = before; value = value; full = 0; empty = 0 }
 
 -- the node of a number
-abbrev pub node_at : List Node → ℕ → Node
+abbrev pub node_at : List NodeParts → ℕ → NodeParts
 node_at nodes k = slice_index_or nodes k (new_node 0 false)
 
 -- nothing leads to the root, so that its number stands for nowhere
@@ -16,32 +26,32 @@ abbrev pub unless_root : ℕ → Option ℕ
 unless_root k = if k == 0 then None else Some k
 
 -- where a node leads for a value
-abbrev pub child : Node → Bool → Option ℕ
+abbrev pub child : NodeParts → Bool → Option ℕ
 child node true = unless_root node.full
 child node false = unless_root node.empty
 
 -- the same node, which leads there for this value
-abbrev pub with_child : Node → Bool → ℕ → Node
+abbrev pub with_child : NodeParts → Bool → ℕ → NodeParts
 with_child node true next = record { before = node.before; value = node.value; full = next; empty = node.empty }
 with_child node false next = record { before = node.before; value = node.value; full = node.full; empty = next }
 
 -- the list that leads to a node, where these lead to the nodes before it
-abbrev pub way_of : List (List Bool) → Node → List Bool
+abbrev pub way_of : List (List Bool) → NodeParts → List Bool
 way_of before node = prefix_at before node.before ++ node.value ∷ []
 
 -- the lists that lead to nodes, behind those that lead to the nodes before them
-abbrev pub ways_on : List (List Bool) → List Node → List (List Bool)
+abbrev pub ways_on : List (List Bool) → List NodeParts → List (List Bool)
 ways_on before [] = before
 ways_on before (node ∷ nodes) = ways_on (before ++ way_of before node ∷ []) nodes
 
 -- the lists that lead to all nodes: the empty one to the root
-abbrev pub ways : List Node → List (List Bool)
+abbrev pub ways : List NodeParts → List (List Bool)
 ways [] = []
 ways (root ∷ nodes) = ways_on ([] ∷ []) nodes
 
 -- The nodes are a tree: each but the root stands behind the one before it, which leads to it for its value; and where a node
 -- leads for a value, that list and the value lead.
-pub record IsTrie (nodes : List Node) : Type 0 where
+pub record IsTrie (nodes : List NodeParts) : Type 0 where
   pub some : 0 < length nodes
   pub earlier : (k : ℕ) → 0 < k → k < length nodes → (node_at nodes k).before < k
   pub led : (k : ℕ) → 0 < k → k < length nodes → child (node_at nodes (node_at nodes k).before) (node_at nodes k).value ≡ Some k

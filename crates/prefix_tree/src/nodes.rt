@@ -4,30 +4,55 @@ use solid_model::Memory;
 use std::alloc::Global;
 use std::marker::Model;
 
+/// The greatest number of a node.
+const MOST: usize = 0x7fff_ffff;
+
 /// A node that another one, before it, leads to for a value, and where it leads for a full block and
-/// for an empty one: to node 0 it leads nowhere, since that is the root.
-#[derive(Clone, Copy)]
+/// for an empty one: to node 0 it leads nowhere, since that is the root. That the one before it leads to
+/// it for a full block adds one to twice the number of that one.
+#[derive(Drop)]
 pub struct Node {
-    pub before: u32,
-    pub value: bool,
-    pub full: u32,
-    pub empty: u32,
+    led: u32,
+    full: u32,
+    empty: u32,
+}
+
+impl Model for Node {
+    ghost use Rattle.std.specs.Prelude.{◌==◌, ◌/◌, ◌%◌};
+    ghost use Rattle.prefix_tree.specs.Nodes.{NodeParts};
+
+    ghost Value = { NodeParts };
+
+    ghost view = { λ s. record {
+      before = s.led / 2;
+      value = s.led % 2 == 1;
+      full = s.full;
+      empty = s.empty;
+    } };
 }
 
 impl Node {
-    ghost use Rattle.std.specs.Prelude.{◌≡◌};
-    ghost use Rattle.prefix_tree.specs.Nodes.{new_node, child, with_child};
+    ghost use Rattle.std.specs.Prelude.{◌≡◌, ◌≤◌};
+    ghost use Rattle.prefix_tree.specs.Nodes.{new_node, child, with_child, most_nodes};
 
     /// A node that leads nowhere.
     fn new(before: u32, value: bool) -> Node
+        requires { before ≤ most_nodes }
         ensures { result ≡ new_node before value }
     {
         Node {
-            before,
-            value,
+            led: before * 2 + u32::from(value),
             full: 0,
             empty: 0,
         }
+    }
+
+    /// The number of the node before it, and for which value that one leads to it.
+    fn before(&self) -> (u32, bool)
+        ensures before { result.0 ≡ self.now.before }
+        ensures value { result.1 ≡ self.now.value }
+    {
+        (self.led / 2, self.led % 2 == 1)
     }
 
     /// Where it leads for a value.
@@ -108,12 +133,11 @@ impl Nodes {
         ensures before { result.0 < at }
         ensures led { prefix_at self.now at ≡ prefix_at self.now result.0 ++ result.1 ∷ [] }
     {
-        let node = self.list[at as usize];
-        (node.before, node.value)
+        self.list[at as usize].before()
     }
 
     /// The node to which a node leads for a value; if there is none, it comes behind the others. An
-    /// `Err` is out of memory, or of 32-bit numbers for nodes.
+    /// `Err` is out of memory, or of 31-bit numbers for nodes.
     pub fn step(&mut self, at: u32, full: bool) -> Result<u32, Memory>
         requires { at < length self.old }
         ensures grown { (more : List (List Bool)) × (self.new ≡ self.old ++ more) }
@@ -123,7 +147,7 @@ impl Nodes {
             return Ok(next);
         }
         let next = self.list.len();
-        if next > u32::MAX as usize {
+        if next > MOST {
             return Err(Memory);
         }
         self.list.push(Node::new(at, full))?;

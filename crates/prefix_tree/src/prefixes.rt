@@ -24,7 +24,7 @@ pub struct Prefixes {
 }
 
 /// Leads a way on along a prefix, from where its first values lead, so many: there the way is left. An
-/// `Err` is out of memory, or of 32-bit numbers for nodes.
+/// `Err` is out of memory, or of 31-bit numbers for nodes.
 fn lead(nodes: &mut Nodes, way: &mut Way, prefix: &Prefix, led: usize) -> Result<u32, Memory>
     requires led { led < length way.old.nodes }
     requires within { led ≤ length prefix.now }
@@ -47,7 +47,7 @@ fn lead(nodes: &mut Nodes, way: &mut Way, prefix: &Prefix, led: usize) -> Result
 
 /// Leads a way on along prefixes, one after another, the first of them from where its first values
 /// lead, so many, and puts their places into a list that is empty yet. An `Err` is out of memory, or of
-/// 32-bit numbers for nodes.
+/// 31-bit numbers for nodes.
 fn lead_all(
     nodes: &mut Nodes,
     way: &mut Way,
@@ -135,7 +135,7 @@ impl Prefixes {
 
     /// The places of prefixes, in a list that is empty yet. A prefix that has none comes behind the
     /// others, after those that it begins with and that have none. It is told with how many same values
-    /// each prefix and the next one begin, at least. An `Err` is out of memory, or of 32-bit numbers for
+    /// each prefix and the next one begin, at least. An `Err` is out of memory, or of 31-bit numbers for
     /// places.
     pub fn keep_all(
         &mut self,

@@ -2,8 +2,7 @@
 use Rattle.std.proofs.Common.{◌≡◌, ◌<◌, ◌++◌, ◌∷◌, [], ℕ, List, Bool, false, Some, None, length, sym, ◌∙◌, ap, subst, arith}
 use Rattle.std.specs.Prelude.{Option, MatchOption}
 use Rattle.std.proofs.lemmas.List.{get_or_read}
-use Rattle.prefix_tree.specs.declared.nodes.Node.{Node}
-use Rattle.prefix_tree.specs.Nodes.{new_node, node_at, child, ways, IsTrie}
+use Rattle.prefix_tree.specs.Nodes.{NodeParts, new_node, node_at, child, ways, IsTrie}
 use Rattle.prefix_tree.specs.Places.{prefix_at, StandsAt}
 use Rattle.prefix_tree.proofs.Trees.{length-ways, leads_nowhere}
 use Rattle.prefix_tree.proofs.nodes.Nodes.child.Goals as goal
@@ -11,7 +10,7 @@ use Rattle.prefix_tree.proofs.nodes.Nodes.child.Goals as goal
 abbrev IsChild : List (List Bool) → ℕ → Bool → Option ℕ → Type 0
 IsChild v at b o = MatchOption o ((rest : List Bool) (k : ℕ) → StandsAt v (prefix_at v at ++ b ∷ rest) k → ⊥) (StandsAt v (prefix_at v at ++ b ∷ []))
 
-is_child : (nodes : List Node) → IsTrie nodes → (at : ℕ) (b : Bool) → at < length nodes → (o : Option ℕ) → child (node_at nodes at) b ≡ o → IsChild (ways nodes) at b o
+is_child : (nodes : List NodeParts) → IsTrie nodes → (at : ℕ) (b : Bool) → at < length nodes → (o : Option ℕ) → child (node_at nodes at) b ≡ o → IsChild (ways nodes) at b o
 is_child nodes t at b l None e = λ rest k. leads_nowhere nodes t at b rest k l e
 is_child nodes t at b l (Some next) e = t.leads at b next l e
 
@@ -23,5 +22,5 @@ returns c =
     let nodes = c.self.inside.list.items in
     let l : c.args.at < length nodes = omega (arith, length-ways nodes, ap length c.self.view_is, c.requires) in
     let is : child (node_at nodes c.args.at) c.args.full ≡ c.child.result =
-    ap (λ (n : Node). child n c.args.full) (sym (get_or_read nodes c.args.at c.index.result.now l c.index.ensures (new_node 0 false))) ∙ sym c.child.ensures in
+    ap (λ (n : NodeParts). child n c.args.full) (sym (get_or_read nodes c.args.at c.index.result.now l c.index.ensures (new_node 0 false))) ∙ sym c.child.ensures in
     subst (λ (v : List (List Bool)). IsChild v c.args.at c.args.full c.child.result) c.self.view_is (is_child nodes c.self.invariant c.args.at c.args.full l c.child.result is)

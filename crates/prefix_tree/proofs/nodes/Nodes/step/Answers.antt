@@ -2,25 +2,24 @@
 use Rattle.std.proofs.Common.{◌≡◌, ◌<◌, ◌+◌, ℕ, List, [], ◌++◌, ◌∷◌, Bool, false, length, get_or, set, sym, ◌∙◌, ap, ap₂, subst, arith}
 use Rattle.std.proofs.lemmas.List.{get_or_read, get_or_read_under, get_or_append_left, length_push}
 use Rattle.std.specs.Prelude.{Option}
-use Rattle.prefix_tree.specs.declared.nodes.Node.{Node}
-use Rattle.prefix_tree.specs.Nodes.{new_node, node_at, child, with_child, ways, IsTrie}
+use Rattle.prefix_tree.specs.Nodes.{NodeParts, new_node, node_at, child, with_child, ways, IsTrie}
 use Rattle.prefix_tree.specs.Places.{prefix_at, StandsAt}
 use Rattle.prefix_tree.proofs.Stored.{stands-last}
 use Rattle.prefix_tree.proofs.Trees.{length-ways, with_node, tree_with, ways_with}
 use Rattle.prefix_tree.proofs.nodes.Nodes.step.Goals as goal
 
 -- the child that the node has
-has : (nodes : List Node) (at : ℕ) (b : Bool) (l : at < length nodes) (node : Node) (o : Option ℕ) → node ≡ get_or nodes at node → o ≡ child node b → child (node_at nodes at) b ≡ o
+has : (nodes : List NodeParts) (at : ℕ) (b : Bool) (l : at < length nodes) (node : NodeParts) (o : Option ℕ) → node ≡ get_or nodes at node → o ≡ child node b → child (node_at nodes at) b ≡ o
 has nodes at b l node o e f = ap (λ n. child n b) (sym (get_or_read nodes at node l e (new_node 0 false))) ∙ sym f
 
 -- what is written is the tree with the new node
-written : (nodes pushed : List Node) (at next : ℕ) (b : Bool) (node again new : Node) → at < length nodes → new ≡ new_node at b → pushed ≡ nodes ++ new ∷ [] → next ≡ length nodes
+written : (nodes pushed : List NodeParts) (at next : ℕ) (b : Bool) (node again new : NodeParts) → at < length nodes → new ≡ new_node at b → pushed ≡ nodes ++ new ∷ [] → next ≡ length nodes
     → again ≡ get_or pushed at again → node ≡ with_child again b next → set pushed at node ≡ with_node nodes at b
 written nodes pushed at next b node again new l made items long read led =
-    let is : pushed ≡ nodes ++ new_node at b ∷ [] = items ∙ ap (λ (n : Node). nodes ++ n ∷ []) made in
+    let is : pushed ≡ nodes ++ new_node at b ∷ [] = items ∙ ap (λ (n : NodeParts). nodes ++ n ∷ []) made in
     let old : again ≡ node_at nodes at = get_or_read_under pushed at (length nodes + 1) again (new_node 0 false) read (omega arith) (sym (ap length is ∙ length_push nodes (new_node at b)))
-    ∙ ap (λ (l : List Node). get_or l at (new_node 0 false)) is ∙ get_or_append_left nodes (new_node at b ∷ []) (new_node 0 false) at l in
-    ap₂ (λ (l : List Node) (n : Node). set l at n) is (led ∙ ap₂ (λ (n : Node) (j : ℕ). with_child n b j) old long)
+    ∙ ap (λ (l : List NodeParts). get_or l at (new_node 0 false)) is ∙ get_or_append_left nodes (new_node at b ∷ []) (new_node 0 false) at l in
+    ap₂ (λ (l : List NodeParts) (n : NodeParts). set l at n) is (led ∙ ap₂ (λ (n : NodeParts) (j : ℕ). with_child n b j) old long)
 
 pub index-requires : goal.index-requires
 index-requires c = omega (arith, length-ways c.self.inside.list.items, ap length c.self.view_is, c.requires)
@@ -32,6 +31,9 @@ returns-in-Some-clause-there c =
     let is = has nodes c.args.at c.args.full l c.index.result.now c.child.result c.index.ensures c.child.ensures in
     subst (λ (v : List (List Bool)). StandsAt v (prefix_at v c.args.at ++ c.args.full ∷ []) c.in-Some.next) c.self.view_is
     (c.self.invariant.leads c.args.at c.args.full c.in-Some.next l (is ∙ c.in-Some.is))
+
+pub new-requires : goal.new-requires
+new-requires c = omega (arith, length-ways c.self.inside.list.items, ap length c.self.view_is, c.requires)
 
 pub index_mut-requires : goal.index_mut-requires
 index_mut-requires c =
