@@ -9,7 +9,7 @@ use std::sync::{Condvar, Mutex, MutexGuard, Wait};
 use std::thread;
 
 /// How often a thread tries the lock, and lets another one run after each try, before it sleeps for it.
-const TRIES: u32 = 40;
+const TRIES: u32 = 1000;
 
 /// What the workers share, under its lock; where they wait for a change; and where the caller waits
 /// for solids. Nothing is known of the value but what its type keeps.
@@ -41,8 +41,9 @@ impl<B: Wait + Drop> Room<B> {
         }
     }
 
-    /// Takes the lock. It is held for some microseconds at a time, and who sleeps for it wakes up later
-    /// than that: so it is tried for some time before.
+    /// Takes the lock. It is held for some microseconds at a time, longer where memory is touched for
+    /// the first time, and who sleeps for it is woken by the one who leaves it, and later than that: so
+    /// it is tried for about a millisecond before.
     fn enter<R: Wait>(&self, rt: &R) -> MutexGuard<'_, Shared<B>> {
         for _ in 0..TRIES {
             if let Some(shared) = self.shared.try_lock() {
