@@ -9,7 +9,7 @@ use std::sync::Wait;
 
 /// The caller, who hands out solids, is told of new ones after so many reports in which it wasn't: to
 /// wake it takes as long as some of them.
-const QUIET: u32 = 16;
+const QUIET: u32 = 64;
 
 /// The value under the lock: the desk, the writer of its book, how many workers are at work, whether
 /// all are to stop, and how many changes were signalled, which goes on from 0 after the greatest

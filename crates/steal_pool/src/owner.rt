@@ -13,7 +13,7 @@ use std::alloc::Global;
 use std::marker::Model;
 
 /// The most pieces that wait in a deque, unless more are sure.
-const MOST_WAITING: usize = 65_536;
+const MOST_WAITING: usize = 16_384;
 
 /// The seat that owns a deque, first in, first out. It waits for nobody. Contracts see which deque
 /// it is, and what the seat has put and taken, in order.
@@ -64,7 +64,7 @@ impl OwnerSeat {
     }
 
     /// Puts a piece at the end of the deque. The piece comes back only where this seat has already
-    /// put as many as the pool's room; the deque is then unchanged. There it does so where 65,536 pieces
+    /// put as many as the pool's room; the deque is then unchanged. There it does so where 16,384 pieces
     /// wait, or the deque can't grow: no clause says that.
     pub fn put(&mut self, piece: Prefix) -> Result<(), Prefix>
         ensures put { MatchResult result

@@ -80,8 +80,8 @@ fn taken_in(alloc: Global, most: u32) -> Option<u32> {
 }
 
 #[test]
-fn a_deque_hands_back_what_is_put_behind_65_536_pieces(rt: HostRuntime) -> Result<(), Fail> {
-    assert_eq!(rt; taken_in(rt.alloc(), 65_600), Some(65_536));
+fn a_deque_hands_back_what_is_put_behind_16_384_pieces(rt: HostRuntime) -> Result<(), Fail> {
+    assert_eq!(rt; taken_in(rt.alloc(), 16_400), Some(16_384));
     Ok(())
 }
 
