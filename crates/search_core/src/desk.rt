@@ -1,6 +1,6 @@
 //! The desk of a search.
 
-ghost use Rattle.std.specs.Prelude.{◌≡◌, ℕ, Bool, List, length, take};
+ghost use Rattle.std.specs.Prelude.{◌≡◌, Bool, List, length, take};
 ghost use Rattle.search_core.specs.Core.{end_after};
 ghost use Rattle.search_core.specs.Ledger.{ledger_of, KeepsFrontier};
 
@@ -82,7 +82,7 @@ impl Model for Desk {
 }
 
 impl Desk {
-    ghost use Rattle.std.specs.Prelude.{◌≡◌, ◌↔◌, [], None, MatchOption, MatchResult, IfOk, IfSome};
+    ghost use Rattle.std.specs.Prelude.{◌≡◌, [], None, MatchOption, MatchResult, IfOk, IfSome};
     ghost use Rattle.std.specs.Arc.{arc_value};
     ghost use Rattle.solid_model.specs.Forcing.{is_live};
     ghost use Rattle.search_core.specs.Copies.{AreCopies};

@@ -173,9 +173,9 @@ fn answer(
 }
 
 /// Ends a search by its desk, or by a new one where that is of another problem or within other
-/// limits: makes the events that are missing, by a way of its own, and hands out what was found and not yet handed out,
-/// as far as the limit of solids has room. The answer lists what was handed out. An `Err` is that of
-/// a page, or out of memory.
+/// limits: makes the events that are missing, by a way of its own, and hands out what was found and
+/// not yet handed out, as far as the limit of solids has room. The answer lists what was handed out.
+/// An `Err` is that of a page, or out of memory.
 pub fn finish<P: PageOut>(
     alloc: Global,
     problem: &Arc<Problem>,
