@@ -59,7 +59,8 @@ fn room_for<'a, R: Wait>(
 
 /// The search of all prefixes of a problem within limits by so many workers, which pass the gate at
 /// their points. Hands the choices out in pages as it goes on, each choice once, and answers how the
-/// search ended, with all choices in the stated order, and the desk at which it did. `PageFault` comes only where the count of faults of `pages` rose in this call.
+/// search ended, with all choices in the stated order, and the desk at which it did. `PageFault` comes
+/// only where the count of faults of `pages` rose in this call.
 pub fn run_search<R: Threads + Wait + Sync, G: Gate, P: PageOut>(
     rt: &R,
     alloc: Global,
