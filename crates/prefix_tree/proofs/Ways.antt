@@ -1,8 +1,10 @@
 -- A way down a tree, which is kept while the tree grows, is left at a value, and goes on.
-use Rattle.std.proofs.Common.{◌≡◌, inl, inr, ℕ, zero, suc, ◌+◌, ◌<◌, ◌≤◌, Bool, List, [], ◌∷◌, ◌++◌, length, get_or, take, refl, sym, ◌∙◌, ap, subst, arith}
-use Rattle.std.proofs.lemmas.Bool.{cases_lt}
-use Rattle.std.proofs.lemmas.List.{get_or-take, take-take, get_or_append_left, get_or_push, length-take, length_push}
-use Rattle.prefix_tree.specs.Nodes.{WayParts, IsWay}
+use Rattle.std.proofs.Common.{◌≡◌, inl, inr, set, ℕ, zero, suc, ◌+◌, ◌%◌, ◌<◌, ◌≤◌, Bool, List, [], ◌∷◌, ◌++◌, length, get_or, take, refl, sym, ◌∙◌, ap, subst, arith}
+use Rattle.std.proofs.Math.Nat.{mod-lt}
+use Rattle.std.proofs.lemmas.Bool.{cases_lt, cases_eq}
+use Rattle.std.proofs.lemmas.Grind.{get_or-set_at}
+use Rattle.std.proofs.lemmas.List.{get_or-take, take-take, get_or_append_left, get_or_push, get_or_read, get_or-set_other, length-set, length-take, length_push}
+use Rattle.prefix_tree.specs.Nodes.{WayParts, IsWay, AreWays, root_way, way_at}
 use Rattle.prefix_tree.specs.Places.{StandsAt}
 use Rattle.prefix_tree.proofs.Stored.{stands-grown}
 
@@ -11,7 +13,7 @@ pub way_kept : (prefixes more : List (List Bool)) (way : WayParts) → IsWay pre
 way_kept prefixes more way is = λ k l. stands-grown prefixes more (take k way.values) (get_or way.nodes k 0) (is k l)
 
 -- at the root
-pub way_begun : IsWay ([] ∷ []) (record { values = []; nodes = 0 ∷ [] })
+pub way_begun : IsWay ([] ∷ []) root_way
 way_begun zero l = record { below = omega arith; there = refl }
 way_begun (suc k) l = absurd (omega arith)
 
@@ -50,3 +52,30 @@ way_left prefixes way root = λ k l.
     let first : k ≡ 0 = omega (arith, length-take 1 way.nodes) in
     subst (λ (n : ℕ). StandsAt prefixes (take n way.values) (get_or (take 1 way.nodes) n 0)) (sym first)
     (subst (StandsAt prefixes []) (sym (get_or-take 1 way.nodes 0 0 (omega arith))) root)
+
+-- ---- several ways
+
+-- all at the root
+pub ways_begun : (ways : List WayParts) → 0 < length ways → ((k : ℕ) → k < length ways → way_at ways k ≡ root_way) → AreWays ([] ∷ []) ways
+ways_begun ways some root = record { some = some; each = λ k l. subst (IsWay ([] ∷ [])) (sym (root k l)) way_begun }
+
+-- the number of one of them, of which there are so many
+pub way_number : (prefixes : List (List Bool)) (ways : List WayParts) (by count : ℕ) → AreWays prefixes ways → count ≡ length ways → by % count < length ways
+way_number prefixes ways by count are is = subst (λ n. by % count < n) is (mod-lt by (omega (arith, are.some)))
+
+-- a way that is read at a place
+pub way_read : (prefixes : List (List Bool)) (ways : List WayParts) (at : ℕ) (way : WayParts) → AreWays prefixes ways → at < length ways → way ≡ get_or ways at way
+    → IsWay prefixes way
+way_read prefixes ways at way are l read = subst (IsWay prefixes) (sym (get_or_read ways at way l read root_way)) (are.each at l)
+
+-- the way of a place, led on while the tree grew, among the others
+pub ways_set : (prefixes grown : List (List Bool)) → ((more : List (List Bool)) × (grown ≡ prefixes ++ more)) → (ways : List WayParts) (at : ℕ) (way : WayParts)
+    → AreWays prefixes ways → at < length ways → IsWay grown way → AreWays grown (set ways at way)
+ways_set prefixes grown (more, is) ways at way are l goes = record {
+  some = omega (arith, are.some, length-set ways at way);
+  each = λ k within. elim (cases_eq k at) as (λ _. IsWay grown (way_at (set ways at way) k)) [
+    | inl here ↦ subst (IsWay grown) (sym (get_or-set_at ways at k way root_way here l)) goes
+    | inr elsewhere ↦ subst (IsWay grown) (sym (get_or-set_other ways at k way root_way elsewhere))
+        (subst (λ v. IsWay v (way_at ways k)) (sym is) (way_kept prefixes more (way_at ways k) (are.each k (omega (arith, within, length-set ways at way)))))
+  ];
+}

@@ -71,6 +71,19 @@ IsBegunWay way = 0 < length way.nodes
 abbrev pub IsWay : List (List Bool) → WayParts → Type 0
 IsWay prefixes way = (k : ℕ) → k < length way.nodes → StandsAt prefixes (take k way.values) (slice_index_or way.nodes k 0)
 
+-- the way that stands at the root
+abbrev pub root_way : WayParts
+root_way = record { values = []; nodes = 0 ∷ [] }
+
+-- the way at a place of a list
+abbrev pub way_at : List WayParts → ℕ → WayParts
+way_at ways k = slice_index_or ways k root_way
+
+-- ways, at least one, each of which leads down the tree with these prefixes
+pub record AreWays (prefixes : List (List Bool)) (ways : List WayParts) : Type 0 where
+  pub some : 0 < length ways
+  pub each : (k : ℕ) → k < length ways → IsWay prefixes (way_at ways k)
+
 -- two lists begin with the same values, so many, and the second one has so many more
 pub record IsMeeting (p q : List Bool) (shared more : ℕ) : Type 0 where
   pub within : shared ≤ length p

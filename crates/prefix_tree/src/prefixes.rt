@@ -1,9 +1,9 @@
 //! Prefixes, each of which is named by its place.
 
-ghost use Rattle.std.specs.Prelude.{◌≡◌, ◌<◌, ◌≤◌, ◌+◌, ◌++◌, [], Bool, List, length, map, take, slice_index_or, IfOk};
+ghost use Rattle.std.specs.Prelude.{◌≡◌, ◌<◌, ◌≤◌, ◌+◌, ◌++◌, ◌∷◌, [], Bool, List, length, map, take, slice_index_or, IfOk};
 ghost use Rattle.solid_model.specs.Lists.{Each};
 ghost use Rattle.prefix_tree.specs.Alike.{BeginAlike};
-ghost use Rattle.prefix_tree.specs.Nodes.{IsWay};
+ghost use Rattle.prefix_tree.specs.Nodes.{IsWay, AreWays};
 ghost use Rattle.prefix_tree.specs.Places.{prefix_at, StandsAt};
 
 use crate::beginnings::told;
@@ -15,12 +15,30 @@ use std::marker::Model;
 
 /// Prefixes, no two of them equal: those that lead to the nodes of a binary tree, value by value, with
 /// the empty one first. The place of one is the number of its node, which is found in as many steps as
-/// the prefix is long, however many there are. The way that was led last is kept: a prefix that begins
-/// as it does is led from there, where it leaves it, and its values until then are compared by words.
+/// the prefix is long, however many there are. Ways are kept as they were led last: a prefix that begins
+/// as such a way does is led from there, where it leaves it, and its values until then are compared by
+/// words. Who asks names a way by a number, so that those who ask by turns, of different parts of the
+/// tree, don't lose each other's.
 #[derive(Drop)]
 pub struct Prefixes {
     nodes: Nodes,
-    last: Way,
+    ways: Vec<Way>,
+}
+
+/// How many ways are kept: one for each worker that there may be. Greater numbers begin anew with the
+/// first.
+const WAYS: usize = 64;
+
+/// So many ways that stand at the root. An `Err` is out of memory.
+fn ways_at_root(alloc: Global, count: usize) -> Result<Vec<Way>, Memory>
+    requires { 0 < count }
+    ensures { IfOk result (λ ways. AreWays ([] ∷ []) ways.items) }
+{
+    let mut ways = Vec::with_capacity(alloc, count)?;
+    for _ in 0..count {
+        ways.push(Way::new(alloc)?)?;
+    }
+    Ok(ways)
 }
 
 /// Leads a way on along a prefix, from where its first values lead, so many: there the way is left. An
@@ -81,15 +99,44 @@ fn lead_all(
     Ok(places)
 }
 
+/// Leads a way along prefixes, one after another, and puts their places into a list that is empty yet.
+/// An `Err` is out of memory, or of 31-bit numbers for nodes, and leaves the way at the root.
+fn lead_along(
+    nodes: &mut Nodes,
+    way: &mut Way,
+    prefixes: &[Prefix],
+    alike: &[usize],
+    places: Vec<u32>,
+) -> Result<Vec<u32>, Memory>
+    requires some { 0 < length prefixes.now }
+    requires way { IsWay nodes.old way.old }
+    requires alike { BeginAlike prefixes.now alike.now }
+    requires none { places.items ≡ [] }
+    ensures grown { (more : List (List Bool)) × (nodes.new ≡ nodes.old ++ more) }
+    ensures way { IsWay nodes.new way.new }
+    ensures below { IfOk result (λ places. Each (λ k. k < length nodes.new) places.items) }
+    ensures places { IfOk result (λ places.
+        map (prefix_at nodes.new) places.items ≡ prefixes.now) }
+{
+    let led = way.shared(&prefixes[0]);
+    match lead_all(nodes, way, prefixes, alike, led, places) {
+        Ok(places) => Ok(places),
+        Err(_) => {
+            way.leave(0);
+            Err(Memory)
+        }
+    }
+}
+
 impl Model for Prefixes {
     ghost use Rattle.std.specs.Prelude.{List, Bool};
-    ghost use Rattle.prefix_tree.specs.Nodes.{IsWay};
+    ghost use Rattle.prefix_tree.specs.Nodes.{AreWays};
 
     ghost Value = { List (List Bool) };
 
     ghost view = { λ s. s.nodes };
 
-    ghost invariant = { λ s. IsWay s.nodes s.last };
+    ghost invariant = { λ s. AreWays s.nodes s.ways.items };
 }
 
 impl Prefixes {
@@ -105,7 +152,7 @@ impl Prefixes {
     {
         Ok(Prefixes {
             nodes: Nodes::new(alloc)?,
-            last: Way::new(alloc)?,
+            ways: ways_at_root(alloc, WAYS)?,
         })
     }
 
@@ -117,13 +164,14 @@ impl Prefixes {
         self.nodes.len()
     }
 
-    /// The place of a prefix, if it has one.
-    pub fn place(&self, prefix: &Prefix) -> Option<u32>
+    /// The place of a prefix, if it has one. It is led to by the way of this number.
+    pub fn place(&self, prefix: &Prefix, by: usize) -> Option<u32>
         ensures { MatchOption result ((k : ℕ) → ¬ StandsAt self.now prefix.now k)
             (StandsAt self.now prefix.now) }
     {
-        let led = self.last.shared(prefix);
-        let mut at = self.last.node(led);
+        let way = &self.ways[by % self.ways.len()];
+        let led = way.shared(prefix);
+        let mut at = way.node(led);
         for block in led..prefix.len() {
             match self.nodes.child(at, prefix.get(block)) {
                 Some(next) => at = next,
@@ -135,13 +183,14 @@ impl Prefixes {
 
     /// The places of prefixes, in a list that is empty yet. A prefix that has none comes behind the
     /// others, after those that it begins with and that have none. It is told with how many same values
-    /// each prefix and the next one begin, at least. An `Err` is out of memory, or of 31-bit numbers for
-    /// places.
+    /// each prefix and the next one begin, at least. They are led to by the way of this number. An `Err` is
+    /// out of memory, or of 31-bit numbers for places.
     pub fn keep_all(
         &mut self,
         prefixes: &[Prefix],
         alike: &[usize],
         places: Vec<u32>,
+        by: usize,
     ) -> Result<Vec<u32>, Memory>
         requires alike { BeginAlike prefixes.now alike.now }
         requires none { places.items ≡ [] }
@@ -150,24 +199,17 @@ impl Prefixes {
         ensures places { IfOk result (λ places.
             map (prefix_at self.new) places.items ≡ prefixes.now) }
     {
-        let Some(first) = prefixes.first() else {
+        if prefixes.is_empty() {
             return Ok(places);
-        };
-        let led = self.last.shared(first);
-        match lead_all(
+        }
+        let which = by % self.ways.len();
+        lead_along(
             &mut self.nodes,
-            &mut self.last,
+            &mut self.ways[which],
             prefixes,
             alike,
-            led,
             places,
-        ) {
-            Ok(places) => Ok(places),
-            Err(_) => {
-                self.last.leave(0);
-                Err(Memory)
-            }
-        }
+        )
     }
 
     /// How many values the ways to two places share, and how many more lead to the second one.

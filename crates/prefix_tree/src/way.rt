@@ -24,10 +24,11 @@ impl Model for Way {
 
 impl Way {
     ghost use Rattle.std.specs.Prelude.{◌≡◌, ◌<◌, ◌≤◌, ◌+◌, ◌++◌, ◌∷◌, [], length, take, slice_index_or, IfOk, MatchResult};
+    ghost use Rattle.prefix_tree.specs.Nodes.{root_way};
 
     /// The way that stands at the root. An `Err` is out of memory.
     pub fn new(alloc: Global) -> Result<Way, Memory>
-        ensures { IfOk result (λ way. way ≡ record { values = []; nodes = 0 ∷ [] }) }
+        ensures { IfOk result (λ way. way ≡ root_way) }
     {
         let values = Prefix::from_bools(alloc, &[])?;
         let mut nodes = Vec::new(alloc);

@@ -114,8 +114,14 @@ impl Desk {
         })
     }
 
-    /// Answers a report, of which copies may be ready, as [`Desk::report`] does.
-    fn answer(&mut self, expansion: Expansion, ready: Option<Copies>) -> Result<Reported, Expansion>
+    /// Answers a report, of which copies may be ready, as [`Desk::report`] does. Its prefixes are led to
+    /// by the way of this number.
+    fn answer(
+        &mut self,
+        expansion: Expansion,
+        ready: Option<Copies>,
+        by: usize,
+    ) -> Result<Reported, Expansion>
         requires { IfSome ready (AreCopies expansion.found expansion.rest) }
         ensures answer { MatchResult result (IsReported self.old expansion self.new)
             (λ back. Takes self.old expansion × (back ≡ expansion) × (self.new ≡ self.old)) }
@@ -127,12 +133,12 @@ impl Desk {
         if self.end.is_some() {
             return Ok(Reported::Stop);
         }
-        let Some(piece) = self.ledger.frontier_place(expansion.piece()) else {
+        let Some(piece) = self.ledger.frontier_place(expansion.piece(), by) else {
             return Ok(Reported::Gone);
         };
         let Ok(posting) = self
             .ledger
-            .prepare(piece, expansion.found(), expansion.rest(), ready)
+            .prepare(piece, expansion.found(), expansion.rest(), ready, by)
         else {
             return Err(expansion);
         };
@@ -152,7 +158,7 @@ impl Desk {
             (λ back. Takes self.old expansion × (back ≡ expansion) × (self.new ≡ self.old)) }
         ensures kept { IsDesk self.new }
     {
-        self.answer(expansion, None)
+        self.answer(expansion, None, 0)
     }
 
     /// Takes a report that is ready, as [`Desk::report`] takes one.
@@ -161,8 +167,12 @@ impl Desk {
             (λ back. Takes self.old report × (back ≡ report) × (self.new ≡ self.old)) }
         ensures kept { IsDesk self.new }
     {
-        let ReadyReport { expansion, copies } = report;
-        self.answer(expansion, Some(copies))
+        let ReadyReport {
+            expansion,
+            copies,
+            by,
+        } = report;
+        self.answer(expansion, Some(copies), by)
     }
 
     /// How the search has ended, if it has.

@@ -4,7 +4,7 @@ ghost use Rattle.std.specs.Prelude.{◌≡◌, ◌<◌, ◌≤◌, ◌+◌, ◌+
 ghost use Rattle.solid_model.specs.Lists.{Each};
 ghost use Rattle.search_core.specs.Ledger.{ledger_of, next_first, IsBegun, HasGrown, HasPosted, KnowsFirst};
 ghost use Rattle.search_core.specs.Copies.{AreCopies};
-ghost use Rattle.search_core.specs.Postings.{HasRoom, IsPosting};
+ghost use Rattle.search_core.specs.Postings.{HasRoom, IsPosting, placed_or};
 ghost use Rattle.prefix_tree.specs.Places.{StandsAt};
 ghost use Rattle.search_core.specs.Frontier.{count_of, times_in};
 
@@ -36,12 +36,12 @@ pub struct Ledger {
 }
 
 /// What a report puts into the ledger: its choices, the places of its rest, and what will be the first
-/// piece.
+/// piece, if that is another one.
 #[derive(Drop)]
 pub struct Posting {
     pub found: Vec<Choice>,
     pub rest: Vec<u32>,
-    pub first: Placed,
+    pub first: Option<Placed>,
 }
 
 /// The copies that are there, or else new ones. An `Err` is out of memory.
@@ -57,6 +57,15 @@ fn copies_of(
     match ready {
         Some(copies) => Ok(copies),
         None => Copies::new(alloc, found, rest),
+    }
+}
+
+/// Becomes the other one, if there is one.
+fn renew(placed: &mut Placed, other: Option<Placed>)
+    ensures { placed.new ≡ placed_or placed.old other }
+{
+    if let Some(other) = other {
+        *placed = other;
     }
 }
 
@@ -101,8 +110,8 @@ impl Ledger {
         })
     }
 
-    /// The place of a piece of the frontier.
-    pub fn frontier_place(&self, piece: &Prefix) -> Option<u32>
+    /// The place of a piece of the frontier. It is led to by the way of this number.
+    pub fn frontier_place(&self, piece: &Prefix, by: usize) -> Option<u32>
         ensures { MatchOption result
             ((k : ℕ) → StandsAt self.now.prefixes piece.now k
             → count_of self.now.frontier.counts k ≡ 0)
@@ -111,7 +120,7 @@ impl Ledger {
     {
         // A look at the prefixes tells that each is stored once.
         let _count = self.prefixes.len();
-        let place = self.prefixes.place(piece)?;
+        let place = self.prefixes.place(piece, by)?;
         if self.frontier.holds(place) {
             Some(place)
         } else {
@@ -127,28 +136,36 @@ impl Ledger {
         self.frontier.next(piece, first_of(rest, self.first.place))
     }
 
-    /// What will be the first piece once this one is taken and this rest put. An `Err` is out of memory.
-    fn placed_first(&self, piece: u32, rest: &[u32]) -> Result<Placed, Memory>
+    /// What will be the first piece once this one is taken and this rest put, if that is another one than
+    /// now. An `Err` is out of memory.
+    fn placed_first(&self, piece: u32, rest: &[u32]) -> Result<Option<Placed>, Memory>
         requires first { KnowsFirst self.now }
         requires rest { Each (λ k. k < length self.now.prefixes) rest.now }
-        ensures place { IfOk result (λ r. r.place ≡ next_first self.now piece rest.now) }
-        ensures prefix { IfOk result (λ r. StandsAt self.now.prefixes r.prefix r.place) }
+        ensures place { IfOk result (λ r.
+            (placed_or self.now.first r).place ≡ next_first self.now piece rest.now) }
+        ensures prefix { IfOk result (λ r. StandsAt self.now.prefixes
+            (placed_or self.now.first r).prefix (placed_or self.now.first r).place) }
     {
         let place = self.next_first(piece, rest);
+        if place == self.first.place {
+            return Ok(None);
+        }
         let prefix = self
             .prefixes
             .led(&self.first.prefix, self.first.place, place)?;
-        Ok(Placed { prefix, place })
+        Ok(Some(Placed { prefix, place }))
     }
 
     /// Takes all the memory that a report of this piece needs, and keeps copies of its choices: those
-    /// that are ready, or else new ones. An `Err` is out of memory. What the ledger tells stays the same.
+    /// that are ready, or else new ones. Its rest is led to by the way of this number. An `Err` is out of
+    /// memory. What the ledger tells stays the same.
     pub fn prepare(
         &mut self,
         piece: u32,
         found: &[Choice],
         rest: &[Prefix],
         ready: Option<Copies>,
+        by: usize,
     ) -> Result<Posting, Memory>
         requires copies { IfSome ready (AreCopies found.now rest.now) }
         requires first { KnowsFirst self.old }
@@ -164,7 +181,7 @@ impl Ledger {
             places,
             alike,
         } = copies_of(alloc, found, rest, ready)?;
-        let rest = self.prefixes.keep_all(rest, alike.as_slice(), places);
+        let rest = self.prefixes.keep_all(rest, alike.as_slice(), places, by);
         let places = self.prefixes.len();
         let rest = rest?;
         self.frontier.reserve(places, rest.len())?;
@@ -180,8 +197,11 @@ impl Ledger {
         requires room { HasRoom self.old posting }
         requires known { KnowsFirst self.old }
         requires rest { Each (λ k. k < length self.old.prefixes) posting.rest.items }
-        requires first { StandsAt self.old.prefixes posting.first.prefix posting.first.place }
-        requires next { posting.first.place ≡ next_first self.old piece posting.rest.items }
+        requires first { StandsAt self.old.prefixes
+            (placed_or self.old.first posting.first).prefix
+            (placed_or self.old.first posting.first).place }
+        requires next { (placed_or self.old.first posting.first).place
+            ≡ next_first self.old piece posting.rest.items }
         ensures posted { HasPosted (ledger_of self.old) (ledger_of self.new) piece opened
             posting.found.items posting.rest.items }
         ensures first { KnowsFirst self.new }
@@ -191,7 +211,7 @@ impl Ledger {
             rest,
             first,
         } = posting;
-        self.first = first;
+        renew(&mut self.first, first);
         self.notes.push_reserved(Note {
             piece,
             opened,

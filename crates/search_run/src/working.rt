@@ -58,13 +58,14 @@ fn report_of(
     alloc: Global,
     path: &mut BlockPath,
     problem: &Arc<Problem>,
+    worker: u32,
     piece: &Prefix,
 ) -> Result<Option<ReadyReport>, Memory>
     requires way { IsWayOf (arc_value problem.now) path.old }
     ensures way { IsWayOf (arc_value problem.now) path.new }
 {
     match expand_from(alloc, path, problem, piece, QUANTUM)? {
-        Some(expansion) => match ReadyReport::new(alloc, expansion) {
+        Some(expansion) => match ReadyReport::new(alloc, expansion, worker as usize) {
             Ok(report) => Ok(Some(report)),
             Err(_) => Err(Memory),
         },
@@ -88,7 +89,7 @@ fn work_at<B: Wait + Drop, R: Wait, G: Gate>(
     ensures way { IsWayOf (arc_value problem.now) path.new }
 {
     gate.pass(worker, Point::BeforeExpand);
-    match report_of(alloc, path, problem, piece) {
+    match report_of(alloc, path, problem, worker, piece) {
         Ok(Some(report)) => {
             let rest = room.report(rt, alloc, report);
             gate.pass(worker, Point::AfterReport);

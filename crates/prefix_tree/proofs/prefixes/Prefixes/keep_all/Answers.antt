@@ -1,11 +1,18 @@
--- The way that is kept is left where the first one says something else.
-use Rattle.std.proofs.Common.{◌≡◌, ◌∙◌, take, ap, rules}
-use Rattle.prefix_tree.specs.Places.{prefix_at}
-use Rattle.prefix_tree.proofs.Ways.{way_turned}
+-- The way that is led on is one of the ways.
+use Rattle.std.proofs.Common.{◌%◌, arith}
+use Rattle.prefix_tree.proofs.Ways.{way_number, way_read, ways_set}
 use Rattle.prefix_tree.proofs.prefixes.Prefixes.keep_all.Goals as goal
 
-pub lead_all-requires-clause-way : goal.lead_all-requires-clause-way
-lead_all-requires-clause-way c =
-    let led = c.shared-led.result in
-    let first : c.in-Some.first.now ≡ prefix_at c.args.prefixes.now 0 = search rules in
-    way_turned c.self.inside.nodes c.self.inside.last (prefix_at c.args.prefixes.now 0) led (c.shared-led.ensures.same ∙ ap (take led) first) c.self.invariant
+pub lead_along-requires-clause-way : goal.lead_along-requires-clause-way
+lead_along-requires-clause-way c =
+    let nodes = c.self.inside.nodes in
+    let ways = c.self.inside.ways.items in
+    let l = way_number nodes ways c.args.by c.len.result c.self.invariant (omega arith) in
+    way_read nodes ways (c.args.by % c.len.result) c.index_mut.result.now c.self.invariant l c.index_mut.ensures.value
+
+pub invariant_of-self : goal.invariant_of-self
+invariant_of-self c =
+    let nodes = c.self.inside.nodes in
+    let ways = c.self.inside.ways.items in
+    let l = way_number nodes ways c.args.by c.len.result c.self.invariant (omega arith) in
+    ways_set nodes c.lead_along.new.nodes c.lead_along.ensures.grown ways (c.args.by % c.len.result) c.lead_along.new.way c.self.invariant l c.lead_along.ensures.way

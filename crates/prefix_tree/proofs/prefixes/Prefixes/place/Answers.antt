@@ -1,8 +1,19 @@
--- A step goes on with the next value, or the way stops there.
-use Rattle.std.proofs.Common.{◌≡◌, ◌<◌, ◌+◌, ◌++◌, ◌∷◌, List, Bool, false, drop, length, sym, ◌∙◌, ap, ap₂, subst, arith}
+-- The first values lead where the way leads; a step goes on with the next value, or the way stops there.
+use Rattle.std.proofs.Common.{◌≡◌, ◌<◌, ◌+◌, ◌%◌, ◌++◌, ◌∷◌, List, Bool, false, drop, take, length, sym, ◌∙◌, ap, ap₂, subst, arith}
 use Rattle.std.proofs.lemmas.List.{take-append-drop, drop_more}
 use Rattle.prefix_tree.specs.Places.{prefix_at, StandsAt}
+use Rattle.prefix_tree.proofs.Ways.{way_number, way_read}
 use Rattle.prefix_tree.proofs.prefixes.Prefixes.place.Goals as goal
+
+pub loop-block-init : goal.loop-block-init
+loop-block-init c =
+    let nodes : List (List Bool) = c.self.inside.nodes in
+    let ways = c.self.inside.ways.items in
+    let way = c.index-way.result.now in
+    let l = way_number nodes ways c.args.by c.len.result c.self.invariant (omega arith) in
+    let goes = way_read nodes ways (c.args.by % c.len.result) way c.self.invariant l c.index-way.ensures in
+    subst (λ (p : List Bool). StandsAt nodes p c.node-at.result) c.shared-led.ensures.same
+    (subst (StandsAt nodes (take c.shared-led.result way.values)) (sym c.node-at.ensures) (goes c.shared-led.result c.shared-led.ensures.led))
 
 pub returns-in-None : goal.returns-in-None
 returns-in-None c = λ k s.
