@@ -46,6 +46,8 @@ pub fn expand_path<P: Path>(alloc: Global, path: &mut P, quantum: u32) -> Result
     let mut rest = Vec::new(alloc);
     let opened = open_first(path, quantum, &mut found)?;
     if opened == quantum {
+        // The last prefix that was opened has two sides at most, and each one above it another one.
+        rest.reserve(path.depth().saturating_sub(floor).saturating_add(2))?;
         keep_rest(path, floor, &mut rest)?;
     }
     Ok(Expanded {

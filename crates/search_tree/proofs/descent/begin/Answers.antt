@@ -1,8 +1,8 @@
 -- The decisions that the closing took close the empty prefix.
-use Rattle.std.proofs.Common.{◌≡◌, ◌++◌, ◌∷◌, [], ℕ, List, take, ap, sym, subst, ◌∙◌}
+use Rattle.std.proofs.Common.{◌≡◌, ◌++◌, ◌∷◌, [], ℕ, List, ap, sym, subst, ◌∙◌}
 use Rattle.propagate.specs.Closing.{Grows}
 use Rattle.solid_model.specs.declared.decision.Decision.{Decision}
-use Rattle.solid_model.specs.Decisions.{decided_by, PartialParts}
+use Rattle.solid_model.specs.Decisions.{decided_by}
 use Rattle.solid_model.specs.Forcing.{Lives}
 use Rattle.search_tree.specs.BlockPaths.{AreMarks}
 use Rattle.search_tree.proofs.Implied.{closed_first}

@@ -1,5 +1,5 @@
 -- Below a live prefix there is a mark more, or the next one isn't live; below others none is.
-use Rattle.std.proofs.Common.{◌≡◌, ◌++◌, ◌∷◌, [], ◌<◌, ◌≤◌, ◌+◌, ℕ, List, Bool, length, take, ap, sym, subst, ◌∙◌, arith}
+use Rattle.std.proofs.Common.{◌≡◌, ◌++◌, ◌∷◌, [], ◌<◌, ℕ, List, Bool, length, take, ap, sym, subst, ◌∙◌, arith}
 use Rattle.std.proofs.lemmas.List.{length-take-le}
 use Rattle.solid_model.specs.Decisions.{PartialParts}
 use Rattle.search_tree.specs.BlockPaths.{AreMarks}

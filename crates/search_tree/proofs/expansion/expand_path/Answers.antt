@@ -6,7 +6,7 @@ use Rattle.search_tree.specs.Rest.{live_sides, besides}
 use Rattle.search_tree.proofs.NextPrefixes.{rest_roots}
 use Rattle.search_tree.proofs.OpenedPrefixes.{none_behind}
 use Rattle.search_tree.proofs.expansion.expand_path.Goals as goal
-use Rattle.search_tree.proofs.expansion.expand_path.Goals.{then-opened-quantum+in_ok-keep_rest, else-opened-quantum}
+use Rattle.search_tree.proofs.expansion.expand_path.Goals.{then-opened-quantum+in_ok-reserve+in_ok-keep_rest, else-opened-quantum}
 
 pub returns-clause-rest : goal.returns-clause-rest
 returns-clause-rest g c =
@@ -16,13 +16,13 @@ returns-clause-rest g c =
     let quantum = c.args.quantum in
     let last = g.P.Path.prefix c.open_first.new.path in
     elim c.if-opened-quantum.branch as (λ _. c.if-opened-quantum.rest.items ≡ rest_of word n piece quantum) [
-      | then-opened-quantum+in_ok-keep_rest w ↦ (
+      | then-opened-quantum+in_ok-reserve+in_ok-keep_rest w ↦ (
           let stands = c.in_ok-opened.ensures.last w.if-opened-quantum.true in
           let left = λ (floor : ℕ). live_sides word last ++ besides word floor last in
           let kept : w.keep_rest.new.rest.items ≡ left (length piece) =
           w.in_ok-keep_rest.ensures.rest
           ∙ ap (λ xs. xs ++ (live_sides (g.P.Path.live c.open_first.new.path) last ++ besides (g.P.Path.live c.open_first.new.path) (c.depth-floor.result) last))
-          c.new-rest.ensures.items
+          (w.reserve.ensures.items ∙ c.new-rest.ensures.items)
           ∙ ap (λ live. live_sides live last ++ besides live (c.depth-floor.result) last) c.in_ok-opened.ensures.live
           ∙ ap left c.depth-floor.ensures in
           ap (λ rest. rest.items) w.rest-is ∙ kept ∙ sym (rest_roots word n c.requires.tree.closed c.requires.tree.short piece quantum last stands))

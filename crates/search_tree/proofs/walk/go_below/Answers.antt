@@ -1,5 +1,5 @@
 -- To the full side, or else to the empty one.
-use Rattle.std.proofs.Common.{◌≡◌, true, false, [], ◌∷◌, ◌++◌, ◌<◌, length, subst, sym, ◌∙◌, ap, arith}
+use Rattle.std.proofs.Common.{◌≡◌, true, false, [], ◌∷◌, ◌++◌, ◌<◌, length, subst, sym, ◌∙◌, arith}
 use Rattle.search_tree.specs.Walk.{coming, StandsAtFirst}
 use Rattle.search_tree.proofs.Walks.{down_to_full, down_to_empty}
 use Rattle.search_tree.proofs.walk.go_below.Goals as goal

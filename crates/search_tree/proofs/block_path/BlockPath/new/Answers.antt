@@ -1,5 +1,5 @@
 -- The empty prefix is marked where it is live, and there is room for all.
-use Rattle.std.proofs.Common.{[], length, vec_capacity, ap, sym, subst, ◌∙◌, ◌≡◌, arith}
+use Rattle.std.proofs.Common.{[], length, ap, sym, subst, ◌∙◌, ◌≡◌, arith}
 use Rattle.solid_model.specs.Blocks.{ProblemParts, IsBlocksOf}
 use Rattle.solid_model.specs.Decisions.{PartialParts}
 use Rattle.search_tree.specs.BlockPaths.{AreMarks}

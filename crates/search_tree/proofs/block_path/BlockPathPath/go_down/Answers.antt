@@ -2,7 +2,6 @@
 use Rattle.std.proofs.Common.{◌≡◌, ◌<◌, ◌≤◌, ◌+◌, ◌++◌, ◌∷◌, [], List, Bool, ℕ, length, take, set, ap, sym, ◌∙◌, subst, arith}
 use Rattle.std.proofs.lemmas.List.{length-take, length-set, take_more_set}
 use Rattle.solid_model.specs.Blocks.{ProblemParts}
-use Rattle.solid_model.specs.Decisions.{PartialParts}
 use Rattle.solid_model.specs.Forcing.{is_live}
 use Rattle.search_tree.specs.BlockPaths.{PathParts, AreMarks}
 use Rattle.search_tree.proofs.ProblemTrees.{path_on}

@@ -1,5 +1,5 @@
 -- A prefix with a mark is closed, so every line can be met; one without a mark isn't live.
-use Rattle.std.proofs.Common.{◌<◌, ◌≤◌, List, Bool, length, take, ap, sym, ◌∙◌, subst, arith}
+use Rattle.std.proofs.Common.{◌<◌, List, Bool, length, take, ap, sym, ◌∙◌, subst, arith}
 use Rattle.std.proofs.lemmas.Bool.{eqb-true}
 use Rattle.std.proofs.lemmas.List.{length-take-le}
 use Rattle.columns.proofs.LiveTree.{problem_tree}
