@@ -1,6 +1,6 @@
 //! Where the workers of a search meet: the lock, and where they wait for a change.
 
-use crate::shared::Shared;
+use crate::shared::{Answered, Shared};
 use search_core::{Desk, ReadyReport};
 use solid_model::Prefix;
 use std::alloc::Global;
@@ -86,9 +86,7 @@ impl<B: Wait + Drop> Room<B> {
     /// and it leaves.
     pub fn wait<R: Wait>(&self, rt: &R, seen: u64) -> Option<u64> {
         let mut shared = self.enter(rt);
-        shared.rest();
-        if shared.is_still() {
-            shared.change();
+        if shared.rest() {
             drop(shared);
             self.wake_all();
             return None;
@@ -96,26 +94,20 @@ impl<B: Wait + Drop> Room<B> {
         let mut shared = self
             .changed
             .wait_while(rt, shared, |shared| shared.changes() == seen);
-        shared.resume();
+        let changes = shared.resume();
         self.end_idle();
-        Some(shared.changes())
+        Some(changes)
     }
 
     /// A worker that is at work stops counting and leaves.
     pub fn leave<R: Wait>(&self, rt: &R) {
-        let mut shared = self.enter(rt);
-        shared.rest();
-        shared.change();
-        drop(shared);
+        self.enter(rt).leave();
         self.wake_all();
     }
 
     /// All are to stop.
     pub fn halt<R: Wait>(&self, rt: &R) {
-        let mut shared = self.enter(rt);
-        shared.halt();
-        shared.change();
-        drop(shared);
+        self.enter(rt).halt();
         self.wake_all();
     }
 
@@ -126,10 +118,7 @@ impl<B: Wait + Drop> Room<B> {
         alloc: Global,
         report: ReadyReport,
     ) -> Option<Vec<Prefix>> {
-        let mut shared = self.enter(rt);
-        let rest = shared.report(alloc, report);
-        let news = shared.tell();
-        drop(shared);
+        let Answered { rest, news } = self.enter(rt).report(alloc, report);
         if news {
             self.news.notify_all();
         }

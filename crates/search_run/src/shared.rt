@@ -11,6 +11,16 @@ use std::sync::Wait;
 /// wake it takes as long as some of them.
 const QUIET: u32 = 64;
 
+/// What a report comes to.
+#[derive(Drop)]
+pub struct Answered {
+    /// The rest, of a report that is taken. `None`: the worker is to leave, since the desk has ended or
+    /// all are to stop, as they are where memory runs out; it signals that change when it leaves.
+    pub rest: Option<Vec<Prefix>>,
+    /// Whether the caller is to be told of solids now.
+    pub news: bool,
+}
+
 /// The value under the lock: the desk, the writer of its book, how many workers are at work, whether
 /// all are to stop, and how many changes were signalled, which goes on from 0 after the greatest
 /// `u64`. One hold of the lock makes one report at most. Contracts see it as the desk and the edition
@@ -69,19 +79,6 @@ impl<B: Wait + Drop> Shared<B> {
         self.changes
     }
 
-    /// Whether the caller is to be told of solids now, once a report is made: some are published of
-    /// which it wasn't told, and it wasn't told of any for some reports.
-    pub fn tell(&mut self) -> bool {
-        let published = self.published();
-        self.quiet = self.quiet.saturating_add(1);
-        if self.quiet < QUIET || self.told == published {
-            return false;
-        }
-        self.told = published;
-        self.quiet = 0;
-        true
-    }
-
     /// How many solids are published.
     pub fn published(&self) -> usize {
         self.book.published()
@@ -97,19 +94,33 @@ impl<B: Wait + Drop> Shared<B> {
         self.at_work == 0 || self.is_over()
     }
 
-    /// A worker stops counting.
-    pub fn rest(&mut self) {
+    /// A worker that has found no piece stops counting. Says whether it is to leave, since nothing more
+    /// will come: that is a change then.
+    pub fn rest(&mut self) -> bool {
         self.at_work = self.at_work.saturating_sub(1);
+        let still = self.is_still();
+        if still {
+            self.change();
+        }
+        still
     }
 
-    /// A worker counts again.
-    pub fn resume(&mut self) {
+    /// It counts again. Tells how many changes were signalled.
+    pub fn resume(&mut self) -> u64 {
         self.at_work = self.at_work.saturating_add(1);
+        self.changes
+    }
+
+    /// A worker that is at work leaves.
+    pub fn leave(&mut self) {
+        self.at_work = self.at_work.saturating_sub(1);
+        self.change();
     }
 
     /// All are to stop.
     pub fn halt(&mut self) {
         self.stop = true;
+        self.change();
     }
 
     /// Takes a report. An `Err` is out of memory.
@@ -146,10 +157,21 @@ impl<B: Wait + Drop> Shared<B> {
         }
     }
 
-    /// Takes a report and publishes what is new. The rest is handed over, of a report that is taken.
-    /// `None`: the worker is to leave, since the desk has ended or all are to stop, as they are where
-    /// memory runs out; it signals that change when it leaves.
-    pub fn report(&mut self, alloc: Global, report: ReadyReport) -> Option<Vec<Prefix>> {
+    /// Whether the caller is to be told of solids now, once a report is made: some are published of
+    /// which it wasn't told, and it wasn't told of any for some reports.
+    fn tell(&mut self) -> bool {
+        let published = self.published();
+        self.quiet = self.quiet.saturating_add(1);
+        if self.quiet < QUIET || self.told == published {
+            return false;
+        }
+        self.told = published;
+        self.quiet = 0;
+        true
+    }
+
+    /// Takes a report and publishes what is new. The rest is handed over, unless the worker is to leave.
+    fn rest_of(&mut self, alloc: Global, report: ReadyReport) -> Option<Vec<Prefix>> {
         match self.take_in(alloc, report) {
             Ok(_) if self.is_over() => None,
             Ok(rest) => Some(rest),
@@ -158,6 +180,13 @@ impl<B: Wait + Drop> Shared<B> {
                 None
             }
         }
+    }
+
+    /// Takes a report and publishes what is new.
+    pub fn report(&mut self, alloc: Global, report: ReadyReport) -> Answered {
+        let rest = self.rest_of(alloc, report);
+        let news = self.tell();
+        Answered { rest, news }
     }
 
     /// The desk and its book, and whether all were to stop.
