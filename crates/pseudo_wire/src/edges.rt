@@ -2,9 +2,10 @@
 
 ghost use Rattle.std.specs.Prelude.{◌≡◌, ◌≤◌};
 ghost use Rattle.solid_model.specs.PerAxis.{numbers_of, cell_of};
-ghost use Rattle.solid_model.specs.Wire.{is_drawn_from, is_end_of_drawn, is_on_drawn, is_pseudo_vertex, is_drawn_or_point, is_pseudo_edge};
+ghost use Rattle.solid_model.specs.Wire.{is_drawn_from, is_end_of_drawn, is_on_drawn, is_pseudo_vertex, is_drawn_or_point};
+ghost use Rattle.pseudo_wire.specs.Vertices.{is_marked_edge};
 
-use solid_model::{Axis, Grid, PerAxis, Style, View};
+use solid_model::{Axis, Grid, Marks, PerAxis, Style, View};
 
 /// The view shows something on the level, or the upright, segment that begins where the point
 /// projects.
@@ -37,7 +38,7 @@ fn is_on_drawn(grid: &Grid, point: PerAxis, view: View) -> bool
 }
 
 /// The point is a pseudo vertex.
-fn is_pseudo_vertex(grid: &Grid, point: PerAxis) -> bool
+pub fn is_pseudo_vertex(grid: &Grid, point: PerAxis) -> bool
     ensures { result ≡ is_pseudo_vertex grid.now (cell_of point) }
 {
     is_on_drawn(grid, point, View::Front)
@@ -55,15 +56,15 @@ fn is_drawn_or_point(grid: &Grid, axis: Axis, point: PerAxis, view: View) -> boo
         && (frame.along(true).axis != axis || is_drawn_from(grid, view, true, point))
 }
 
-/// The edge along an axis from a point is a pseudo edge.
-pub fn is_pseudo_edge(grid: &Grid, axis: Axis, point: PerAxis) -> bool
+/// The edge along an axis from a point is drawn in each of the two views that show it as a segment, and
+/// its ends have marks.
+pub fn is_marked_edge(grid: &Grid, vertices: &Marks, axis: Axis, point: PerAxis) -> bool
     requires { numbers_of point axis ≤ 1024 }
-    ensures { result ≡ is_pseudo_edge grid.now axis (cell_of point) }
+    ensures { result ≡ is_marked_edge grid.now vertices.now axis (cell_of point) }
 {
-    let end = point.after(axis);
     is_drawn_or_point(grid, axis, point, View::Front)
         && is_drawn_or_point(grid, axis, point, View::Top)
         && is_drawn_or_point(grid, axis, point, View::Side)
-        && is_pseudo_vertex(grid, point)
-        && is_pseudo_vertex(grid, end)
+        && vertices.has(point)
+        && vertices.has(point.after(axis))
 }

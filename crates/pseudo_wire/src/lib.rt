@@ -2,6 +2,7 @@
 #![tactic(auto)]
 
 mod edges;
+mod vertices;
 mod wire;
 
 pub use wire::wire_of;

@@ -2,5 +2,5 @@
 use Rattle.solid_model.proofs.BoxPlaces.{few_numbers}
 use Rattle.pseudo_wire.proofs.wire.EdgesAlongCellTest.test.Goals as goal
 
-pub is_pseudo_edge-requires : goal.is_pseudo_edge-requires
-is_pseudo_edge-requires c = few_numbers _ c.requires.few c.args.cell c.requires.within c.args.self.now.axis
+pub is_marked_edge-requires : goal.is_marked_edge-requires
+is_marked_edge-requires c = few_numbers _ c.requires.few c.args.cell c.requires.within c.args.self.now.axis
