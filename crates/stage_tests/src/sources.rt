@@ -41,13 +41,20 @@ impl Write for Choppy {
     }
 }
 
+impl Choppy {
+    /// A writer with room for so many bytes, which can be flushed once.
+    fn with_room(alloc: Global, room: usize) -> Choppy {
+        Choppy {
+            taken: Vec::new(alloc),
+            room,
+            flushes: 1,
+        }
+    }
+}
+
 #[test]
 fn each_piece_is_written_and_flushed(rt: HostRuntime) -> Result<(), Fail> {
-    let mut choppy = Choppy {
-        taken: Vec::new(rt.alloc()),
-        room: 5,
-        flushes: 1,
-    };
+    let mut choppy = Choppy::with_room(rt.alloc(), 5);
     let mut sink = StdSink::new(&mut choppy);
     assert_eq!(rt; sink.write_all(b"abc"), Ok(()));
     assert_eq!(rt; sink.write_all(b"de"), Err(SinkError::Failed));
@@ -57,11 +64,7 @@ fn each_piece_is_written_and_flushed(rt: HostRuntime) -> Result<(), Fail> {
 
 #[test]
 fn a_writer_without_room_fails(rt: HostRuntime) -> Result<(), Fail> {
-    let mut choppy = Choppy {
-        taken: Vec::new(rt.alloc()),
-        room: 3,
-        flushes: 1,
-    };
+    let mut choppy = Choppy::with_room(rt.alloc(), 3);
     let mut sink = StdSink::new(&mut choppy);
     assert_eq!(rt; sink.write_all(b"abcd"), Err(SinkError::Failed));
     Ok(())
