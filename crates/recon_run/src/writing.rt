@@ -1,6 +1,6 @@
 //! Writing what is answered: each text in one call of the sink.
 
-ghost use Rattle.std.specs.Prelude.{◌≡◌, ◌≤◌, length};
+ghost use Rattle.std.specs.Prelude.{◌≡◌, ◌≤◌, ℕ, [], length};
 ghost use Rattle.replies.specs.declared.status.Answer.TheVariants as answers;
 ghost use Rattle.recon_run.specs.Findings.{AnswersFound, AnswersSearch, BeginsAll, BeginsChoices, BeginsPaged, TellsAll, TellsChoice, TellsChoices, TellsPaged};
 ghost use Rattle.replies.specs.Writings.{EndsText, EndsWriting, IsReply};
@@ -71,7 +71,45 @@ fn write_solids<K: Sink>(
     Ok(())
 }
 
+/// Writes how a search within limits ended that has no solids.
+fn write_none<K: Sink>(
+    alloc: Global,
+    searched: &Searched,
+    limits: Limits,
+    sink: &mut K,
+) -> Result<(), Failure>
+    requires { searched.now.ended.solids ≡ [] }
+    ensures later { K.faults sink.old ≤ K.faults sink.new }
+    ensures ends { (decimals : ℕ) → EndsText (TellsAll limits decimals searched.now)
+        (BeginsAll limits decimals searched.now) (K.held sink.old) (K.held sink.new)
+        (Rose (K.faults sink.old) (K.faults sink.new)) result }
+{
+    let head = searched.head(alloc, limits)?;
+    write_text(sink, head.as_slice())
+}
+
 /// Writes how a search within limits ended, and its solids, whose coordinates have so many decimals.
+fn write_all<K: Sink>(
+    alloc: Global,
+    searched: &Searched,
+    limits: Limits,
+    decimals: u8,
+    sink: &mut K,
+) -> Result<(), Failure>
+    requires { decimals ≤ most_decimals }
+    ensures later { K.faults sink.old ≤ K.faults sink.new }
+    ensures ends { EndsText (TellsAll limits decimals searched.now)
+        (BeginsAll limits decimals searched.now) (K.held sink.old) (K.held sink.new)
+        (Rose (K.faults sink.old) (K.faults sink.new)) result }
+{
+    let texts = SolidTexts::of(alloc, searched.problem(), decimals)?;
+    let mut room = texts.room(alloc)?;
+    write_text(sink, searched.head(alloc, limits)?.as_slice())?;
+    let solids = searched.ended().solids.as_slice();
+    write_solids(alloc, &texts, solids, &mut room, sink)
+}
+
+/// The same; where there are no solids, nothing is made ready for them.
 fn write_searched<K: Sink>(
     alloc: Global,
     searched: &Searched,
@@ -82,13 +120,14 @@ fn write_searched<K: Sink>(
     requires { decimals ≤ most_decimals }
     ensures later { K.faults sink.old ≤ K.faults sink.new }
     ensures ends { EndsText (TellsAll limits decimals searched.now)
-        (BeginsAll limits decimals searched.now) (K.held sink.old) (K.held sink.new) (Rose (K.faults sink.old) (K.faults sink.new)) result }
+        (BeginsAll limits decimals searched.now) (K.held sink.old) (K.held sink.new)
+        (Rose (K.faults sink.old) (K.faults sink.new)) result }
 {
-    let texts = SolidTexts::of(alloc, searched.problem(), decimals)?;
-    let mut room = texts.room(alloc)?;
-    write_text(sink, searched.head(alloc, limits)?.as_slice())?;
-    let solids = searched.ended().solids.as_slice();
-    write_solids(alloc, &texts, solids, &mut room, sink)
+    if searched.ended().solids.is_empty() {
+        write_none(alloc, searched, limits, sink)
+    } else {
+        write_all(alloc, searched, limits, decimals, sink)
+    }
 }
 
 /// Writes what `solve` answers to a problem, which is searched within limits: the one answer that is
