@@ -1,1 +1,1 @@
-mod VertexMarks
+mod MarkedPoints

@@ -1,1 +1,1 @@
-pub mod Vertices
+pub mod DrawnPoints

@@ -2,10 +2,11 @@
 
 ghost use Rattle.std.specs.Prelude.{◌≡◌, ◌≤◌};
 ghost use Rattle.solid_model.specs.PerAxis.{numbers_of, cell_of};
-ghost use Rattle.solid_model.specs.Wire.{is_drawn_from, is_end_of_drawn, is_on_drawn, is_pseudo_vertex, is_drawn_or_point};
-ghost use Rattle.pseudo_wire.specs.Vertices.{is_marked_edge};
+ghost use Rattle.solid_model.specs.Wire.{is_drawn_from, is_end_of_drawn, is_on_drawn, is_drawn_or_point};
+ghost use Rattle.pseudo_wire.specs.DrawnPoints.{is_marked_edge};
 
-use solid_model::{Axis, Grid, Marks, PerAxis, Style, View};
+use crate::drawn_points::DrawnPoints;
+use solid_model::{Axis, Grid, PerAxis, Style, View};
 
 /// The view shows something on the level, or the upright, segment that begins where the point
 /// projects.
@@ -31,19 +32,10 @@ fn is_end_of_drawn(grid: &Grid, view: View, upright: bool, point: PerAxis) -> bo
 }
 
 /// The point's projection lies on something that the view shows.
-fn is_on_drawn(grid: &Grid, point: PerAxis, view: View) -> bool
+pub fn is_on_drawn(grid: &Grid, point: PerAxis, view: View) -> bool
     ensures { result ≡ is_on_drawn grid.now (cell_of point) view }
 {
     is_end_of_drawn(grid, view, false, point) || is_end_of_drawn(grid, view, true, point)
-}
-
-/// The point is a pseudo vertex.
-pub fn is_pseudo_vertex(grid: &Grid, point: PerAxis) -> bool
-    ensures { result ≡ is_pseudo_vertex grid.now (cell_of point) }
-{
-    is_on_drawn(grid, point, View::Front)
-        && is_on_drawn(grid, point, View::Top)
-        && is_on_drawn(grid, point, View::Side)
 }
 
 /// The view shows something where the edge along an axis from a point projects, or sees the edge as
@@ -57,14 +49,14 @@ fn is_drawn_or_point(grid: &Grid, axis: Axis, point: PerAxis, view: View) -> boo
 }
 
 /// The edge along an axis from a point is drawn in each of the two views that show it as a segment, and
-/// its ends have marks.
-pub fn is_marked_edge(grid: &Grid, vertices: &Marks, axis: Axis, point: PerAxis) -> bool
+/// its ends have marks wherever they project.
+pub fn is_marked_edge(grid: &Grid, points: &DrawnPoints, axis: Axis, point: PerAxis) -> bool
     requires { numbers_of point axis ≤ 1024 }
-    ensures { result ≡ is_marked_edge grid.now vertices.now axis (cell_of point) }
+    ensures { result ≡ is_marked_edge grid.now points.now axis (cell_of point) }
 {
     is_drawn_or_point(grid, axis, point, View::Front)
         && is_drawn_or_point(grid, axis, point, View::Top)
         && is_drawn_or_point(grid, axis, point, View::Side)
-        && vertices.has(point)
-        && vertices.has(point.after(axis))
+        && points.has(point)
+        && points.has(point.after(axis))
 }

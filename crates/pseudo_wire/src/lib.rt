@@ -1,8 +1,8 @@
 //! The pseudo wire frame of a grid.
 #![tactic(auto)]
 
+mod drawn_points;
 mod edges;
-mod vertices;
 mod wire;
 
 pub use wire::wire_of;

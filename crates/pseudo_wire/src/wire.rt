@@ -5,53 +5,52 @@ ghost use Rattle.solid_model.specs.Marks.{AreMarksOf};
 ghost use Rattle.solid_model.specs.Kept.{edge_sizes, IsWireOf};
 ghost use Rattle.solid_model.specs.Wire.{is_pseudo_edge};
 ghost use Rattle.solid_model.specs.GridBox.{grid_sizes};
-ghost use Rattle.pseudo_wire.specs.Vertices.{AreVerticesOf};
+ghost use Rattle.pseudo_wire.specs.DrawnPoints.{AreDrawnPoints};
 
+use crate::drawn_points::DrawnPoints;
 use crate::edges::is_marked_edge;
-use crate::vertices::vertices_of;
 use solid_model::{Axis, CellTest, Grid, Marks, Memory, PerAxis, Wire};
 use std::alloc::Global;
 
-/// The edges of a grid along an axis, asked whether they are drawn and have marks at both ends.
+/// The edges of a grid along an axis, asked whether they are drawn and their ends have marks.
 #[derive(Clone, Copy)]
 struct EdgesAlong<'a> {
     grid: &'a Grid,
-    vertices: &'a Marks,
+    points: &'a DrawnPoints,
     axis: Axis,
 }
 
 impl CellTest for EdgesAlong<'_> {
     ghost use Rattle.solid_model.specs.Kept.{edge_sizes};
     ghost use Rattle.solid_model.specs.GridBox.{grid_sizes};
-    ghost use Rattle.pseudo_wire.specs.Vertices.{is_marked_edge};
+    ghost use Rattle.pseudo_wire.specs.DrawnPoints.{is_marked_edge};
 
     ghost sizes = { λ s. edge_sizes (grid_sizes s.grid.now) s.axis };
 
-    ghost holds = { λ s n. is_marked_edge s.grid.now s.vertices.now s.axis n };
+    ghost holds = { λ s n. is_marked_edge s.grid.now s.points.now s.axis n };
 
     fn sizes(&self) -> PerAxis {
         self.grid.sizes().edges(self.axis)
     }
 
     fn test(&self, cell: PerAxis) -> bool {
-        is_marked_edge(self.grid, self.vertices, self.axis, cell)
+        is_marked_edge(self.grid, self.points, self.axis, cell)
     }
 }
 
-/// The pseudo edges along an axis of a grid with these pseudo vertices. An `Err` is out of memory.
-fn edges_along(alloc: Global, grid: &Grid, vertices: &Marks, axis: Axis) -> Result<Marks, Memory>
-    requires { AreVerticesOf grid.now vertices.now }
+/// The pseudo edges along an axis of a grid in whose views something is shown at these points. An `Err`
+/// is out of memory.
+fn edges_along(
+    alloc: Global,
+    grid: &Grid,
+    points: &DrawnPoints,
+    axis: Axis,
+) -> Result<Marks, Memory>
+    requires { AreDrawnPoints grid.now points.now }
     ensures { IfOk result (λ marks. AreMarksOf (edge_sizes (grid_sizes grid.now) axis)
         (λ n. IsTrue (is_pseudo_edge grid.now axis n)) marks) }
 {
-    let marks = Marks::of(
-        alloc,
-        &EdgesAlong {
-            grid,
-            vertices,
-            axis,
-        },
-    )?;
+    let marks = Marks::of(alloc, &EdgesAlong { grid, points, axis })?;
     Ok(marks)
 }
 
@@ -61,10 +60,10 @@ fn edges_along(alloc: Global, grid: &Grid, vertices: &Marks, axis: Axis) -> Resu
 pub fn wire_of(alloc: Global, grid: &Grid) -> Result<Wire, Memory>
     ensures { IfOk result (λ wire. IsWireOf grid.now wire) }
 {
-    let vertices = vertices_of(alloc, grid)?;
+    let points = DrawnPoints::of(alloc, grid)?;
     Ok(Wire::new(
-        edges_along(alloc, grid, &vertices, Axis::X)?,
-        edges_along(alloc, grid, &vertices, Axis::Y)?,
-        edges_along(alloc, grid, &vertices, Axis::Z)?,
+        edges_along(alloc, grid, &points, Axis::X)?,
+        edges_along(alloc, grid, &points, Axis::Y)?,
+        edges_along(alloc, grid, &points, Axis::Z)?,
     ))
 }

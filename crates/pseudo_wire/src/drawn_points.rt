@@ -1,0 +1,86 @@
+//! The points at which a view shows something.
+
+ghost use Rattle.std.specs.Prelude.{◌≡◌, IfOk};
+ghost use Rattle.solid_model.specs.Marks.{is_marked};
+ghost use Rattle.solid_model.specs.PerAxis.{cell_of};
+ghost use Rattle.pseudo_wire.specs.DrawnPoints.{projected, is_marked_point, AreDrawnIn, AreDrawnPoints};
+
+use crate::edges::is_on_drawn;
+use solid_model::{CellTest, Grid, Marks, Memory, PerAxis, View};
+use std::alloc::Global;
+
+/// The points of a view of a grid, asked whether the view shows something there.
+#[derive(Clone, Copy)]
+struct ViewPoints<'a> {
+    grid: &'a Grid,
+    view: View,
+}
+
+impl CellTest for ViewPoints<'_> {
+    ghost use Rattle.solid_model.specs.GridBox.{grid_sizes};
+    ghost use Rattle.solid_model.specs.Wire.{is_on_drawn};
+    ghost use Rattle.pseudo_wire.specs.DrawnPoints.{view_sizes};
+
+    ghost sizes = { λ s. view_sizes (grid_sizes s.grid.now) s.view };
+
+    ghost holds = { λ s n. is_on_drawn s.grid.now n s.view };
+
+    fn sizes(&self) -> PerAxis {
+        let cells = self.grid.sizes();
+        let points = PerAxis {
+            x: cells.x + 1,
+            y: cells.y + 1,
+            z: cells.z + 1,
+        };
+        points.numbered(self.view.frame().away.axis, 1)
+    }
+
+    fn test(&self, cell: PerAxis) -> bool {
+        is_on_drawn(self.grid, cell, self.view)
+    }
+}
+
+/// Marks on the points of a view at which it shows something. An `Err` is out of memory.
+fn drawn_in(alloc: Global, grid: &Grid, view: View) -> Result<Marks, Memory>
+    ensures { IfOk result (AreDrawnIn grid.now view) }
+{
+    Marks::of(alloc, &ViewPoints { grid, view })
+}
+
+/// The point of a view on which a point projects has a mark.
+fn is_marked_in(marks: &Marks, view: View, point: PerAxis) -> bool
+    ensures { result ≡ is_marked marks.now (projected view (cell_of point)) }
+{
+    marks.has(point.numbered(view.frame().away.axis, 0))
+}
+
+/// For each view marks on its points at which it shows something. The points of a view are a box that
+/// is one point deep, along the axis away from the viewer.
+#[derive(Drop)]
+pub struct DrawnPoints {
+    front: Marks,
+    top: Marks,
+    side: Marks,
+}
+
+impl DrawnPoints {
+    /// Those of a grid. An `Err` is out of memory.
+    pub fn of(alloc: Global, grid: &Grid) -> Result<DrawnPoints, Memory>
+        ensures { IfOk result (AreDrawnPoints grid.now) }
+    {
+        Ok(DrawnPoints {
+            front: drawn_in(alloc, grid, View::Front)?,
+            top: drawn_in(alloc, grid, View::Top)?,
+            side: drawn_in(alloc, grid, View::Side)?,
+        })
+    }
+
+    /// Each of the points on which a point projects has a mark.
+    pub fn has(&self, point: PerAxis) -> bool
+        ensures { result ≡ is_marked_point self.now (cell_of point) }
+    {
+        is_marked_in(&self.front, View::Front, point)
+            && is_marked_in(&self.top, View::Top, point)
+            && is_marked_in(&self.side, View::Side, point)
+    }
+}
