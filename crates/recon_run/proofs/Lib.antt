@@ -1,7 +1,7 @@
-pub mod Redrawn
+pub mod GoingOn
+pub mod Filled
 pub mod Trials
 pub mod Solved
-pub mod Told
 pub mod Sources
 pub mod OneEnd
 pub mod OneAnswer

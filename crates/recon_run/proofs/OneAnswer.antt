@@ -1,4 +1,4 @@
--- Words and an input have at most one right answer, up to the cuts.
+-- Words and an input have at most one right answer, up to what is left open.
 use Rattle.std.proofs.Common.{◌≡◌, ◌⊎◌, inl, inr, refl, Bool, true, false, IsPermutation, ℕ, ◌+◌, ◌-◌, List, [], ◌∷◌, ◌++◌, length, Option, Some, None, sym, subst, ap, ◌∙◌, arith}
 use Rattle.std.proofs.Math.Path.{transport}
 use Rattle.std.proofs.lemmas.List.Sorted.{IsPermutation-refl, IsPermutation-sym, IsPermutation-trans}
@@ -7,11 +7,11 @@ use Rattle.std.specs.List.{slice_get}
 use Rattle.drawing_maker.specs.Made.{made_solid}
 use Rattle.replies.specs.declared.status.Answer.{Answer}
 use Rattle.file_problem.specs.Inputs.{Input}
-use Rattle.recon_run.specs.Answers.{node_count, CanEnd, TellsNumbered, TellsSolids, IsTried, first_volume, head_of, made_drawing}
-use Rattle.recon_run.specs.Endings.{Answers, IsCut, SameButPages}
-use Rattle.recon_run.specs.Owed.{alone, AnswersInput, AnswersOwed, Owed, Search, answer_at, asks_pages, input_of, search_for_all, search_for_one, owed, searched}
-use Rattle.recon_run.specs.Pages.{Page, ArePagesOf, choices_on, pages_text}
-use Rattle.file_problem.proofs.Faults.{one_fault, no_fault}
+use Rattle.recon_run.specs.Answers.{node_count, CanEnd, TellsNumbered, TellsSolids, IsTried, first_volume, made_drawing}
+use Rattle.recon_run.specs.Endings.{Answers, AreAlike, LeavesOpen, owed_to}
+use Rattle.recon_run.specs.Owed.{AnswersInput, AnswersOwed, IsCut, Judgement, Owed, Search, alone, answer_at, input_of, judgement_of, owed, read, search_for_all, search_for_one, searched}
+use Rattle.recon_run.specs.Pages.{ArePagesOf, Page, SameButPages, choices_on, pages_text}
+use Rattle.file_problem.proofs.Faults.{one_fault}
 use Rattle.file_problem.proofs.Grids.{one_grid}
 use Rattle.recon_run.proofs.OneEnd.{kept_or_passed, one_count, one_head, one_solids}
 use Rattle.file_problem.proofs.Problems.{one_blocks, one_problem}
@@ -39,9 +39,9 @@ use Rattle.words.specs.Jobs.{job_said}
 
 -- ---- one text of each command
 
--- a whole search of an input is told by one text, up to its pages, if they are asked for
-abbrev TellsOne : Bool → Search → Type 0
-TellsOne paged s = (t : Input) (c d : CanEnd s.limits t Whole) (text other : List ℕ) → s.tells t Whole c text → s.tells t Whole d other → SameButPages paged text other
+-- a whole search of an input is told by one text, up to what counts as one
+abbrev TellsOne : Search → Type 0
+TellsOne s = (t : Input) (c d : CanEnd s.limits t Whole) (text other : List ℕ) → s.tells t Whole c text → s.tells t Whole d other → s.alike t text other
 
 -- texts are so where what follows their pages is one
 same_behind : (paged : Bool) (choices others : List (List Bool)) (pages more : List Page) → choices ≡ others → ArePagesOf paged choices pages → ArePagesOf paged others more
@@ -64,14 +64,16 @@ one_telling : (decimals number : ℕ) (choices : List (List Bool)) (solids : Lis
 one_telling decimals number [] [] text other first second = first ∙ sym second
 one_telling decimals number [] (s ∷ solids) text other first second = absurd first
 one_telling decimals number (choice ∷ choices) [] text other first second = absurd first
-one_telling decimals number (choice ∷ choices) (s ∷ solids) text other (faces, are, rest, tells, is) (others, are_too, more, tells_too, is_too) =
+one_telling decimals number (choice ∷ choices) (s ∷ solids) text other (one, (faces, are, told), rest, tells, is) (one_too, (others, are_too, told_too), more, tells_too, is_too) =
     let same = one_list_of_faces (is_full s) faces others are are_too in
     let ends = one_telling decimals (number + 1) choices solids rest more tells tells_too in
-    is ∙ (λ i. solid_text decimals number choice (length s) (same i) ++ ends i) ∙ sym is_too
+    is ∙ ap (λ bytes. bytes ++ rest) told ∙ (λ i. solid_text decimals number choice (length s) (same i) ++ ends i)
+    ∙ ap (λ bytes. bytes ++ more) (sym told_too) ∙ sym is_too
 
 -- an input has at most one text that lists all its solids
-one_listing : (paged : Bool) (limits : SearchLimits) (decimals : ℕ) → TellsOne paged (search_for_all paged limits decimals)
-one_listing paged limits decimals t c d text other (first, pages, are, texts, tells, told) (second, more, are_too, others, tells_too, told_too) =
+one_listing : (paged : Bool) (limits : SearchLimits) → TellsOne (search_for_all paged limits)
+one_listing paged limits t c d text other (first, before, (pages, are, shown), rest, (texts, tells, is), told)
+    (second, before_too, (more, are_too, shown_too), rest_too, (others, tells_too, is_too), told_too) =
     let one = one_problem first.has second.has in
     let p = first.problem in let q = second.problem in
     let drawing = drawing_of second.has.lines in
@@ -84,21 +86,23 @@ one_listing paged limits decimals t c d text other (first, pages, are, texts, te
     let tells_same : TellsSolids t.decimals 1 first.choices first.solids texts ≡ TellsSolids t.decimals 1 second.choices second.solids texts =
     λ i. TellsSolids t.decimals 1 (choices i) (solids i) texts in
     let same = one_telling t.decimals 1 second.choices second.solids texts others (transport tells_same tells) tells_too in
-    same_behind paged first.choices second.choices pages more choices are are_too (head_of c ++ texts) (head_of d ++ others)
-    (λ i. one_head limits t c d i ++ same i) text other told told_too
+    same_behind paged first.choices second.choices pages more choices are are_too rest rest_too
+    (is ∙ (λ i. one_head limits t c d i ++ same i) ∙ sym is_too) text other
+    (told ∙ ap (λ bytes. bytes ++ rest) shown) (told_too ∙ ap (λ bytes. bytes ++ rest_too) shown_too)
 
 same_place : {A : Type 0} (xs ys : List A) (k : ℕ) (x y : A) → xs ≡ ys → slice_get xs k ≡ Some x → slice_get ys k ≡ Some y → x ≡ y
 same_place xs ys k x y same at at_too = let e : Some x ≡ Some y = sym at ∙ ap (λ zs. slice_get zs k) same ∙ at_too in cc
 
 -- or one that tells the solid of a number, where one is written of each
-one_numbered : (writes : List Cell → List ℕ → Type 0) → ((s : List Cell) (text other : List ℕ) → writes s text → writes s other → text ≡ other)
-    → (which : ℕ) (limits : SearchLimits) (decimals : ℕ) → TellsOne false (search_for_one writes which limits decimals)
-one_numbered writes one which limits decimals t c d text other = by
+one_numbered : (writes : ℕ → List Cell → List ℕ → Type 0)
+    → ((decimals : ℕ) (s : List Cell) (text other : List ℕ) → writes decimals s text → writes decimals s other → text ≡ other)
+    → (which : ℕ) (limits : SearchLimits) → TellsOne (search_for_one writes which limits)
+one_numbered writes one which limits t c d text other = by
   where
-    by : TellsNumbered writes which c.solids text → TellsNumbered writes which d.solids other → text ≡ other
+    by : TellsNumbered (writes t.decimals) which c.solids text → TellsNumbered (writes t.decimals) which d.solids other → text ≡ other
     by (inl (s, (some, at), written)) (inl (u, (some_too, at_too), written_too)) =
         let same = same_place c.solids d.solids (which - 1) s u (one_solids limits t Whole Whole c d) at at_too in
-        one u text other (subst (λ x. writes x text) same written) written_too
+        one t.decimals u text other (subst (λ x. writes t.decimals x text) same written) written_too
     by (inl (s, (some, at), written)) (inr (fewer, told)) =
         let within = slice_get_within c.solids (which - 1) s at in let many = one_count limits t Whole Whole c d in absurd (omega arith)
     by (inr (fewer, told)) (inl (s, (some, at), written)) =
@@ -118,71 +122,95 @@ one_figures n text other a b =
     a.told ∙ (λ i. trial_text n (blocks i).count (length (solids i)) (node_count (record { grid = grid i; blocks = blocks i })) (first_volume (solids i)))
     ∙ sym b.told
 
--- what is owed for a job is told by one text, up to pages
-abbrev OwesOne : Bool → Owed → Type 0
-OwesOne paged (searched s) = TellsOne paged s
-OwesOne paged (alone right tells) = (text other : List ℕ) → tells text → tells other → SameButPages paged text other
+-- ---- one answer to an input
 
-one_owed : (said : Option Job) → OwesOne (asks_pages said) (owed said)
-one_owed (Some (job.Solve workers limits pages decimals)) = one_listing pages limits decimals
-one_owed (Some (job.Redraw which workers limits decimals)) = one_numbered (IsFileOf decimals) (λ s. one_file s s (λ g. refl) decimals) which limits decimals
-one_owed (Some (job.Stl which workers limits)) = one_numbered IsSolidStl one_text which limits 0
+-- an answer and another one, with their texts: one answer or two that are left open, and texts that count as one unless the first is
+abbrev pub AreOne : (Answer → Type 0) → (List ℕ → List ℕ → Type 0) → Answer → Answer → List ℕ → List ℕ → Type 0
+AreOne leaves_open alike a b text other = ((a ≡ b) ⊎ (leaves_open a × leaves_open b)) × ((leaves_open a → ⊥) → alike text other)
+
+-- one text counts as one
+abbrev CountsOne : Judgement → Type 0
+CountsOne j = (t : Input) (text other : List ℕ) → text ≡ other → j.alike t text other
+
+-- an input has one answer
+abbrev JudgesOne : Judgement → Type 0
+JudgesOne j = CountsOne j × ((t : Input) (a b : Answer) (text other : List ℕ) → j.tells t a text → j.tells t b other
+    → AreOne (j.leaves_open t) (j.alike t) a b text other)
+
+module _ (s : Search) (t : Input) (a b : Answer) (text other : List ℕ) where
+  -- two cuts
+  cuts : IsCut a → IsCut b → AreOne IsCut (s.alike t) a b text other
+  cuts cut cut_too = (inr (cut, cut_too), λ none. absurd (none cut))
+
+  passed : (kind : EndKind) (c : CanEnd s.limits t Whole) (d : CanEnd s.limits t kind) → (kind ≡ Whole → ⊥) → ⊥
+  passed kind c d cut = cut (kept_or_passed s.limits t kind c d)
+
+  -- two ends
+  one_end : TellsOne s → (kind other_kind : EndKind) (c : CanEnd s.limits t kind) (d : CanEnd s.limits t other_kind)
+      → a ≡ answer_at s t kind c → b ≡ answer_at s t other_kind d → s.tells t kind c text → s.tells t other_kind d other
+      → AreOne IsCut (s.alike t) a b text other
+  one_end one Whole Whole c d is is_too tells tells_too =
+      (inl (is ∙ ap (s.whole t) (one_count s.limits t Whole Whole c d) ∙ sym is_too), λ none. one t c d text other tells tells_too)
+  one_end one Whole CutNodes c d is is_too tells tells_too = absurd (passed CutNodes c d (λ e. cc))
+  one_end one Whole CutSolids c d is is_too tells tells_too = absurd (passed CutSolids c d (λ e. cc))
+  one_end one CutNodes Whole c d is is_too tells tells_too = absurd (passed CutNodes d c (λ e. cc))
+  one_end one CutSolids Whole c d is is_too tells tells_too = absurd (passed CutSolids d c (λ e. cc))
+  one_end one CutNodes CutNodes c d is is_too tells tells_too = cuts (subst IsCut (sym is) tt) (subst IsCut (sym is_too) tt)
+  one_end one CutNodes CutSolids c d is is_too tells tells_too = cuts (subst IsCut (sym is) tt) (subst IsCut (sym is_too) tt)
+  one_end one CutSolids CutNodes c d is is_too tells tells_too = cuts (subst IsCut (sym is) tt) (subst IsCut (sym is_too) tt)
+  one_end one CutSolids CutSolids c d is is_too tells tells_too = cuts (subst IsCut (sym is) tt) (subst IsCut (sym is_too) tt)
+
+-- the ends of a search are one answer
+one_search : (s : Search) → CountsOne (judgement_of (searched s)) → TellsOne s → JudgesOne (judgement_of (searched s))
+one_search s counts one = (
+  counts,
+  λ t a b text other first second.
+      let (kind, c, is, tells) = first in let (other_kind, d, is_too, tells_too) = second in
+      one_end s t a b text other one kind other_kind c d is is_too tells tells_too,
+)
+
+-- one text is one up to its pages
+text_alike : (paged : Bool) (text other : List ℕ) → text ≡ other → SameButPages paged text other
+text_alike false text other is = is
+text_alike true text other is = ([], [], IsPermutation-refl [], text, refl, sym is)
+
+-- what is owed for a job is one answer
+abbrev OwesOne : Owed → Type 0
+OwesOne (read profile asked) = JudgesOne (judgement_of asked)
+OwesOne (alone right tells) = (text other : List ℕ) → tells text → tells other → text ≡ other
+
+one_owed : (said : Option Job) → OwesOne (owed said)
+one_owed (Some (job.Solve workers limits pages decimals)) =
+    one_search (search_for_all pages limits) (λ t. text_alike pages) (one_listing pages limits)
+one_owed (Some (job.Redraw which workers limits decimals)) =
+    one_search (search_for_one IsFileOf which limits) (λ t text other is. is) (one_numbered IsFileOf (λ d s. one_file s s (λ g. refl) d) which limits)
+one_owed (Some (job.Stl which workers limits)) =
+    one_search (search_for_one (λ _. IsSolidStl) which limits) (λ t text other is. is) (one_numbered (λ _. IsSolidStl) (λ d. one_text) which limits)
 one_owed (Some (job.Make n)) = one_made_file n
 one_owed (Some (job.Trial n workers)) = one_figures n
 one_owed None = λ text other is is_too. is ∙ sym is_too
 
--- ---- one answer
+-- ---- one answer to words
 
--- An answer and another one, with their texts: one answer or both cuts, and one text up to pages unless the first is a cut.
-abbrev pub SameOrCuts : Bool → Answer → Answer → List ℕ → List ℕ → Type 0
-SameOrCuts paged a b text other = ((a ≡ b) ⊎ (IsCut a × IsCut b)) × ((IsCut a → ⊥) → SameButPages paged text other)
+module _ (a b : Answer) (text other : List ℕ) where
+  one_input : (j : Judgement) → JudgesOne j → (t : Input) → AnswersInput j.tells t a text → AnswersInput j.tells t b other
+      → AreOne (j.leaves_open t) (j.alike t) a b text other
+  one_input j one t (inl (is, (fault, at, told))) (inl (is_too, (fault_too, at_too, told_too))) =
+      (inl (is ∙ sym is_too), λ none. one.0 t text other (told ∙ ap fault_text (one_fault t fault fault_too at at_too) ∙ sym told_too))
+  one_input j one t (inl (is, (fault, at, told))) (inr (none, told_too)) = absurd (none fault at)
+  one_input j one t (inr (none, told)) (inl (is, (fault, at, told_too))) = absurd (none fault at)
+  one_input j one t (inr (none, told)) (inr (none_too, told_too)) = one.1 t a b text other told told_too
 
--- one text is so
-pub text_alike : (paged : Bool) (text other : List ℕ) → text ≡ other → SameButPages paged text other
-text_alike false text other is = is
-text_alike true text other is = ([], [], IsPermutation-refl [], text, refl, sym is)
-
-module _ (paged : Bool) (a b : Answer) (text other : List ℕ) where
-  -- one answer, and one text
-  same : a ≡ b → SameButPages paged text other → SameOrCuts paged a b text other
-  same one told = (inl one, λ none. told)
-
-  -- two cuts
-  cuts : IsCut a → IsCut b → SameOrCuts paged a b text other
-  cuts cut cut_too = (inr (cut, cut_too), λ none. absurd (none cut))
-
-  module _ (s : Search) (one : TellsOne paged s) (t : Input) where
-    passed : (kind : EndKind) (c : CanEnd s.limits t Whole) (d : CanEnd s.limits t kind) → (kind ≡ Whole → ⊥) → ⊥
-    passed kind c d cut = cut (kept_or_passed s.limits t kind c d)
-
-    -- two ends
-    one_end : (kind other_kind : EndKind) (c : CanEnd s.limits t kind) (d : CanEnd s.limits t other_kind)
-        → a ≡ answer_at s.whole kind (length c.solids) → b ≡ answer_at s.whole other_kind (length d.solids)
-        → s.tells t kind c text → s.tells t other_kind d other → SameOrCuts paged a b text other
-    one_end Whole Whole c d is is_too tells tells_too =
-        same (is ∙ ap s.whole (one_count s.limits t Whole Whole c d) ∙ sym is_too) (one t c d text other tells tells_too)
-    one_end Whole CutNodes c d is is_too tells tells_too = absurd (passed CutNodes c d (λ e. cc))
-    one_end Whole CutSolids c d is is_too tells tells_too = absurd (passed CutSolids c d (λ e. cc))
-    one_end CutNodes Whole c d is is_too tells tells_too = absurd (passed CutNodes d c (λ e. cc))
-    one_end CutSolids Whole c d is is_too tells tells_too = absurd (passed CutSolids d c (λ e. cc))
-    one_end CutNodes CutNodes c d is is_too tells tells_too = cuts (subst IsCut (sym is) tt) (subst IsCut (sym is_too) tt)
-    one_end CutNodes CutSolids c d is is_too tells tells_too = cuts (subst IsCut (sym is) tt) (subst IsCut (sym is_too) tt)
-    one_end CutSolids CutNodes c d is is_too tells tells_too = cuts (subst IsCut (sym is) tt) (subst IsCut (sym is_too) tt)
-    one_end CutSolids CutSolids c d is is_too tells tells_too = cuts (subst IsCut (sym is) tt) (subst IsCut (sym is_too) tt)
-
-    one_input : AnswersInput s t a text → AnswersInput s t b other → SameOrCuts paged a b text other
-    one_input (inl (is, (fault, at, told))) (inl (is_too, (fault_too, at_too, told_too))) =
-        same (is ∙ sym is_too) (text_alike paged text other (told ∙ ap fault_text (one_fault t fault fault_too at at_too) ∙ sym told_too))
-    one_input (inl (is, (fault, at, told))) (inr (kind, c, is_end, tells)) = absurd (no_fault c.has fault at)
-    one_input (inr (kind, c, is_end, tells)) (inl (is, (fault, at, told))) = absurd (no_fault c.has fault at)
-    one_input (inr (kind, c, is, tells)) (inr (other_kind, d, is_too, tells_too)) = one_end kind other_kind c d is is_too tells tells_too
-
-  one_answer_owed : (o : Owed) → OwesOne paged o → (t : List ℕ) (rest left : Option (List ℕ)) → AnswersOwed o (Some t) rest a text
-      → AnswersOwed o (Some t) left b other → SameOrCuts paged a b text other
-  one_answer_owed (searched s) one t rest left first second = one_input s one (input_of s t) first.1.1 second.1.1
+  one_answer_owed : (o : Owed) → OwesOne o → (t : List ℕ) (rest left : Option (List ℕ)) → AnswersOwed o (Some t) rest a text
+      → AnswersOwed o (Some t) left b other → AreOne (LeavesOpen o t) (AreAlike o t) a b text other
+  one_answer_owed (read profile asked) one t rest left (bytes, (same, reads), told) (bytes_too, (same_too, reads_too), told_too) =
+      one_input (judgement_of asked) one (input_of profile t)
+      (subst (λ u. AnswersInput (judgement_of asked).tells (input_of profile u) a text) (sym same) told)
+      (subst (λ u. AnswersInput (judgement_of asked).tells (input_of profile u) b other) (sym same_too) told_too)
   one_answer_owed (alone right tells) one t rest left (reads, is, told) (reads_too, is_too, told_too) =
-      same (is ∙ sym is_too) (one text other told told_too)
+      (inl (is ∙ sym is_too), λ none. one text other told told_too)
 
 pub same_answer : (words : List (List ℕ)) (t : List ℕ) (rest left : Option (List ℕ)) (a b : Answer) (text other : List ℕ)
-    → Answers words (Some t) rest a text → Answers words (Some t) left b other → SameOrCuts (asks_pages (job_said words)) a b text other
-same_answer words t rest left a b text other = one_answer_owed (asks_pages (job_said words)) a b text other (owed (job_said words)) (one_owed (job_said words)) t rest left
+    → Answers words (Some t) rest a text → Answers words (Some t) left b other
+    → AreOne (LeavesOpen (owed_to words) t) (AreAlike (owed_to words) t) a b text other
+same_answer words t rest left a b text other = one_answer_owed a b text other (owed_to words) (one_owed (job_said words)) t rest left

@@ -1,68 +1,68 @@
--- How the writing of one solid ends, by how that of its text does.
-use Rattle.std.proofs.Common.{◌≡◌, ◌-◌, ◌<◌, ◌≤◌, inl, Bool, ℕ, List, length, Option, Some, Result, Ok, Err, sym, subst, refl, arith}
+-- How the writing of one of the solids ends.
+use Rattle.std.proofs.Common.{◌≡◌, ◌-◌, ◌<◌, ◌≤◌, inl, Bool, ℕ, List, length, Some, sym, ap, subst, refl, arith, cond, lt-ltb, le-ltb, ◌∙◌}
 use Rattle.std.specs.List.{slice_get}
+use Rattle.file_problem.specs.Inputs.{HasProblem, Input}
 use Rattle.replies.specs.declared.status.Answer.{Answer}
 use Rattle.replies.specs.declared.status.Answer.TheVariants as answers
-use Rattle.replies.specs.declared.status.Failure.{Failure}
-use Rattle.recon_run.specs.Answers.{numbered_answer}
 use Rattle.replies.specs.Status.{end_answer}
-use Rattle.recon_run.specs.Findings.{AnswersNumbered, AnswersOne, IsWrittenOf, TellsOneAt, search_head}
-use Rattle.replies.specs.Writings.{EndsText}
-use Rattle.recon_run.specs.Owed.{answer_at}
-use Rattle.recon_run.specs.Searched.{SearchedParts}
-use Rattle.recon_run.proofs.Redrawn.{numbered_done}
-use Rattle.recon_run.proofs.TextByText.{refused}
+use Rattle.recon_run.specs.Answers.{CanEnd, head_of, numbered_answer}
+use Rattle.recon_run.specs.Owed.{IsAnEnd, search_for_one}
+use Rattle.recon_run.specs.Searched.{AnswersNumbered, AreFilled, IsSearchOf, SearchedParts, search_head}
+use Rattle.recon_run.proofs.Filled.{filled_at, filled_count}
+use Rattle.recon_run.proofs.Searching.{searched_end, searched_listing, searched_problem}
+use Rattle.recon_run.proofs.Solved.{whole_listing}
 use Rattle.solid_model.specs.declared.cell.Cell.{Cell}
 use Rattle.solid_model.specs.declared.ended.EndKind.{EndKind}
 use Rattle.solid_model.specs.declared.ended.EndKind.TheVariants.{Whole, CutNodes, CutSolids}
 use Rattle.solid_model.specs.Blocks.{ProblemParts}
-use Rattle.solid_model.specs.Choices.{cells_of_choice}
-use Rattle.solid_model.specs.Panels.{coordinates_of}
+use Rattle.solid_model.specs.Forcing.{is_live}
 use Rattle.solid_model.specs.Search.{SearchLimits}
-use Rattle.stl_out.specs.SolidStl.{IsSolidStl}
-use Rattle.stl_out.specs.StlText.{IsStlOf}
-use Rattle.stl_out.proofs.SolidTexts.{text_of_union}
+use Rattle.solid_model.specs.SearchEnds.{EndsAs}
 
--- what is told by some texts is told by others too
-pub ends_weaker : (tells begins others starts : List ℕ → Type 0) (held now : Option (List ℕ)) (rose : Type 0)
-    → ((text : List ℕ) → tells text → others text) → ((text : List ℕ) → begins text → starts text)
-    → (r : Result (Unit {0}) Failure) → EndsText tells begins held now rose r → EndsText others starts held now rose r
-ends_weaker tells begins others starts held now rose weaken begun (Ok done) (text, told, appends) = (text, weaken text told, appends)
-ends_weaker tells begins others starts held now rose weaken begun (Err failure) ends =
-    refused (Unit {0}) (Unit {0}) (λ _. tells) (λ _. begins) (λ _. others) (λ _. starts) held now rose (λ done text told. (done, begun text told)) failure ends
+-- where a number isn't above that of the solids, the answer is that all is done,
+numbered_done : (which solids : ℕ) → which ≤ solids → answers.Done ≡ numbered_answer which solids
+numbered_done which solids within = sym (ap (λ b. cond b answers.NoSolid answers.Done) (le-ltb solids which within))
 
--- the STL text of the cells that a choice fills is what is written of the solid
-pub written_stl : (p : ProblemParts) (choice : List Bool) (text : List ℕ)
-    → IsStlOf (coordinates_of p.grid) (cells_of_choice p.blocks.numbers choice) text → IsWrittenOf IsSolidStl p choice text
-written_stl p choice text stl s on =
-    text_of_union on.drawing (coordinates_of p.grid) on.grid.coordinates s on.matches (cells_of_choice p.blocks.numbers choice) on.union text stl
+-- and otherwise that there is none
+pub numbered_lacks : (which solids : ℕ) → solids < which → answers.NoSolid ≡ numbered_answer which solids
+numbered_lacks which solids few = sym (ap (λ b. cond b answers.NoSolid answers.Done) (lt-ltb solids which few))
 
--- an answer to a search, by how it ended
-module _ (writes : List Cell → List ℕ → Type 0) (limits : SearchLimits) (which : ℕ) (s : SearchedParts) (answer : Answer) (text : List ℕ) where
-  abbrev AnswersAt : EndKind → Type 0
-  AnswersAt kind = (answer ≡ answer_at (numbered_answer which) kind (length s.ended.solids)) × TellsOneAt writes limits which kind s text
+-- what is written of the solid that the choice of a number fills is told of the solid of that number
+pub numbered : (writes : List Cell → List ℕ → Type 0) (which : ℕ) (p : ProblemParts) (choices : List (List Bool)) (solids : List (List Cell)) (are : AreFilled p choices solids)
+    (choice : List Bool) → 1 ≤ which → which - 1 < length choices → (at : slice_get choices (which - 1) ≡ Some choice) → (text : List ℕ)
+    → writes (filled_at p choices solids are (which - 1) choice at).0 text → AnswersNumbered writes which solids answers.Done text
+numbered writes which p choices solids are choice some within at text told =
+    let (s, there, filled) = filled_at p choices solids are (which - 1) choice at in (
+      numbered_done which (length solids) (let many = filled_count p choices solids are in omega (arith, within, some, many)),
+      inl (s, (some, there), told),
+    )
 
-  pub at_whole : s.ended.kind ≡ Whole → AnswersNumbered writes which s answer text → AnswersOne writes limits which s answer text
-  at_whole e told = subst AnswersAt (sym e) told
+module _ (writes : ℕ → List Cell → List ℕ → Type 0) (which : ℕ) (limits : SearchLimits) (t : Input) where
+  abbrev Tells : Answer → List ℕ → Type 0
+  Tells = IsAnEnd (search_for_one writes which limits) (search_for_one writes which limits).tells t
 
-  pub at_cut : (kind : EndKind) → s.ended.kind ≡ kind → (kind ≡ Whole → ⊥) → answer ≡ end_answer kind → text ≡ search_head limits s
-      → AnswersOne writes limits which s answer text
-  at_cut kind e cut is told = subst AnswersAt (sym e) (by kind cut is)
-    where
-      by : (k : EndKind) → (k ≡ Whole → ⊥) → answer ≡ end_answer k → AnswersAt k
-      by Whole none f = absurd (none refl)
-      by CutNodes none f = (f, told)
-      by CutSolids none f = (f, told)
+  -- the answer to a whole search is that of the solid of the number,
+  at_whole : (p : ProblemParts) (has : HasProblem t p) (opened : ℕ) (choices : List (List Bool)) → EndsAs (is_live p) p.blocks.count limits Whole opened choices
+      → (solids : List (List Cell)) × AreFilled p choices solids × ((answer : Answer) (text : List ℕ) → AnswersNumbered (writes t.decimals) which solids answer text → Tells answer text)
+  at_whole p has opened choices ends =
+      let is = whole_listing limits t p has opened choices ends in
+      (is.can.solids, is.filled, λ answer text told. (Whole, is.can, told.0, told.1))
 
--- what is written of the solid that the choice of a number fills is told of that solid
-pub numbered : (writes : List Cell → List ℕ → Type 0) (s : SearchedParts) (p : ProblemParts) (choices : List (List Bool)) (which : ℕ) (choice : List Bool)
-    (text : List ℕ) → p ≡ s.problem → choices ≡ s.ended.solids → 1 ≤ which → which - 1 < length choices → slice_get choices (which - 1) ≡ Some choice
-    → IsWrittenOf writes p choice text → AnswersNumbered writes which s answers.Done text
-numbered writes s p choices which choice text same solids some within at told = (
-  numbered_done which (length s.ended.solids) (subst (λ (cs : List (List Bool)). which ≤ length cs) solids (omega (arith, within, some))),
-  inl (
-    choice,
-    subst (λ (cs : List (List Bool)). slice_get cs (which - 1) ≡ Some choice) solids at,
-    subst (λ (q : ProblemParts). IsWrittenOf writes q choice text) same told,
-  ),
-)
+  -- and that to a cut one how it ended
+  at_cut : (kind : EndKind) → (kind ≡ Whole → ⊥) → (c : CanEnd limits t kind) (answer : Answer) (text : List ℕ) → answer ≡ end_answer kind → text ≡ head_of c → Tells answer text
+  at_cut Whole cut c answer text is told = absurd (cut refl)
+  at_cut CutNodes cut c answer text is told = (CutNodes, c, is, told)
+  at_cut CutSolids cut c answer text is told = (CutSolids, c, is, told)
+
+  module _ (p : ProblemParts) (has : HasProblem t p) (s : SearchedParts) (is_of : IsSearchOf limits p s) where
+    pub whole_told : s.ended.kind ≡ Whole
+        → (solids : List (List Cell)) × AreFilled s.problem s.ended.solids solids
+        × ((answer : Answer) (text : List ℕ) → AnswersNumbered (writes t.decimals) which solids answer text → Tells answer text)
+    whole_told whole = at_whole s.problem (searched_problem limits t p has s is_of) s.ended.opened s.ended.solids
+        (subst (λ k. EndsAs (is_live s.problem) s.problem.blocks.count limits k s.ended.opened s.ended.solids) whole (searched_end limits t p has s is_of))
+
+    pub cut_told : (kind : EndKind) → s.ended.kind ≡ kind → (kind ≡ Whole → ⊥) → (answer : Answer) (text : List ℕ) → answer ≡ end_answer kind → text ≡ search_head limits s
+        → Tells answer text
+    cut_told kind same cut answer text is told =
+        let (solids, listed) = searched_listing limits t p has s is_of in
+        at_cut s.ended.kind (λ whole. cut (sym same ∙ whole)) listed.can answer text (is ∙ ap end_answer (sym same)) (told ∙ listed.head)

@@ -5,10 +5,9 @@ use Rattle.std.proofs.lemmas.List.{take-append-le}
 use Rattle.std.proofs.lemmas.List.Sorted.{IsPermutation-refl}
 use Rattle.std.specs.Io.KnownBytes.{Appends}
 use Rattle.columns.proofs.LivePrefixes.{live_keeps_matching}
-use Rattle.recon_run.specs.Findings.{BeginsPages, TellsPages, TellsSearch, run_failure}
 use Rattle.replies.specs.Writings.{EndsWriting}
-use Rattle.recon_run.specs.Pages.{Page, ArePagesOf, IsPage, choices_on, pages_text}
-use Rattle.recon_run.specs.Searched.{SearchedParts}
+use Rattle.recon_run.specs.Pages.{ArePagesOf, BeginsPages, IsPage, Page, TellsPages, choices_on, pages_text}
+use Rattle.recon_run.specs.Searched.{SearchedParts, TellsSearch, run_failure}
 use Rattle.sink_pages.specs.Gained.{HasGained, calls_text}
 use Rattle.recon_run.proofs.PossibleEnds.{can_list}
 use Rattle.report.specs.Texts.{page_text}
@@ -57,7 +56,7 @@ added calls more e = cc
 -- where pages of all solids were accepted, the sink gained their texts
 pub all_told : (p : ProblemParts) (before now : Option (List ℕ)) (refused : Bool) (calls : List Call) (solids : List (List Bool))
     → HasGained refused before now calls → HasAllPaged p (Some []) (Some calls) solids
-    → (text : List ℕ) × ((pages : List Page) × ArePagesOf true solids pages × (text ≡ pages_text 0 0 pages)) × Appends before now text
+    → (text : List ℕ) × TellsPages true solids text × Appends before now text
 all_told p before now true calls solids gained paged =
     absurd (gained.0 (subst (Each (λ c. c.accepted ≡ true)) (added calls paged.calls paged.adds) paged.accepted))
 all_told p before now false calls solids gained paged =

@@ -1,54 +1,109 @@
--- How the writing of what `solve` answers to a problem ends: pages while it is searched, and then how that ended, with the solids.
-use Rattle.std.proofs.Common.{◌≡◌, inl, inr, refl, Bool, ℕ, List, [], length, Option, Some, None, Result, Ok, Err, sym, ap, ◌∙◌}
+-- How the writing of all solids ends: pages while they are searched for, and then how the search ended, with the solids.
+use Rattle.std.proofs.Common.{◌≡◌, refl, Bool, ℕ, List, [], length, Option, Some, None, Result, Ok, Err, sym, ap, subst, ◌∙◌}
 use Rattle.std.proofs.Math.Seq.{take-length}
 use Rattle.std.proofs.lemmas.List.{append-nil}
 use Rattle.std.specs.Io.KnownBytes.{Appends}
+use Rattle.file_problem.specs.Inputs.{HasProblem, Input}
 use Rattle.replies.specs.declared.status.Answer.{Answer}
 use Rattle.replies.specs.declared.status.Failure.{Failure}
-use Rattle.recon_run.specs.Findings.{AnswersSearch, BeginsAll, BeginsPaged, BeginsPages, IsSearchOf, TellsAll, TellsPaged, TellsPages, TellsSearch}
+use Rattle.replies.specs.Status.{end_answer}
 use Rattle.replies.specs.Writings.{EndsText, EndsWriting}
-use Rattle.recon_run.specs.Owed.{answer_at}
-use Rattle.recon_run.specs.Pages.{pages_text}
-use Rattle.recon_run.specs.Searched.{SearchedParts}
+use Rattle.recon_run.specs.Answers.{BeginsAll, BeginsToList, CanEnd, ListsSolids, TellsAll}
+use Rattle.recon_run.specs.Owed.{IsAnEnd, answer_at, search_for_all}
+use Rattle.recon_run.specs.Pages.{BeginsPages, TellsPages, pages_text}
+use Rattle.recon_run.specs.Searched.{AreFilled, IsSearchOf, SearchedParts, TellsSearch, search_head}
+use Rattle.recon_run.proofs.Solved.{IsListing, begins, listing, lists, pages_begin}
 use Rattle.recon_run.proofs.TextByText.{ends_after, refused}
+use Rattle.solid_model.specs.declared.cell.Cell.{Cell}
+use Rattle.solid_model.specs.declared.ended.EndKind.{EndKind}
+use Rattle.solid_model.specs.declared.ended.EndKind.TheVariants.{Whole, CutNodes, CutSolids}
 use Rattle.solid_model.specs.Blocks.{ProblemParts}
+use Rattle.solid_model.specs.Forcing.{is_live}
 use Rattle.solid_model.specs.Search.{SearchLimits}
+use Rattle.solid_model.specs.SearchEnds.{EndsSearch}
 
 -- nothing is appended where nothing is done
 pub appends_none : (held : Option (List ℕ)) → Appends held held []
 appends_none None = tt
 appends_none (Some bytes) = sym (append-nil bytes)
 
-module _ (limits : SearchLimits) (decimals : ℕ) (paged : Bool) (whole : ℕ → Answer) (p : ProblemParts) (held mid now : Option (List ℕ)) (rose rises : Type 0) where
+module _ (limits : SearchLimits) (t : Input) (p : ProblemParts) (has : HasProblem t p) (s : SearchedParts) (is_of : IsSearchOf limits p s) where
+  -- the problem that was searched is the input's,
+  pub searched_problem : HasProblem t s.problem
+  searched_problem = subst (HasProblem t) (sym is_of.0) has
+
+  -- and its search ended so
+  pub searched_end : EndsSearch (is_live s.problem) s.problem.blocks.count limits s.ended
+  searched_end = subst (λ (q : ProblemParts). EndsSearch (is_live q) q.blocks.count limits s.ended) (sym is_of.0) is_of.1
+
+  -- so it lists solids
+  pub searched_listing : (solids : List (List Cell)) × IsListing limits t s.problem searched_problem s.ended.kind s.ended.opened s.ended.solids solids
+  searched_listing = listing limits t s.problem searched_problem s.ended.kind s.ended.opened s.ended.solids searched_end
+
+-- the answer of an end, where every whole search is answered alike
+all_answered : (paged : Bool) (limits : SearchLimits) (t : Input) (kind : EndKind) (c : CanEnd limits t kind) → end_answer kind ≡ answer_at (search_for_all paged limits) t kind c
+all_answered paged limits t Whole c = refl
+all_answered paged limits t CutNodes c = refl
+all_answered paged limits t CutSolids c = refl
+
+module _ (paged : Bool) (limits : SearchLimits) (t : Input) (p : ProblemParts) (has : HasProblem t p) (held mid now : Option (List ℕ)) (rose rises : Type 0) where
   abbrev Tells : Answer → List ℕ → Type 0
-  Tells = AnswersSearch limits whole (TellsPaged paged limits decimals) p
+  Tells = IsAnEnd (search_for_all paged limits) (ListsSolids paged limits) t
 
   abbrev Begins : Answer → List ℕ → Type 0
-  Begins = AnswersSearch limits whole (BeginsPaged paged limits decimals) p
+  Begins = IsAnEnd (search_for_all paged limits) (BeginsToList paged limits) t
 
   -- a search that wasn't written to its end begins an answer by its pages
   pub search_refused : (failure : Failure)
       → EndsWriting (TellsSearch limits p (TellsPages paged)) (TellsSearch limits p (BeginsPages paged)) held now rose (Err failure)
       → EndsWriting Tells Begins held now rose (Err failure)
   search_refused = refused SearchedParts Answer (TellsSearch limits p (TellsPages paged)) (TellsSearch limits p (BeginsPages paged)) Tells Begins held now rose
-      (λ s text begun. (answer_at whole s.ended.kind (length s.ended.solids), (s, begun.0, refl, inl begun.1)))
+      (λ s text begun. let is_of = begun.0 in let (solids, is) = searched_listing limits t p has s is_of in (
+        end_answer s.ended.kind,
+        (
+          s.ended.kind,
+          is.can,
+          all_answered paged limits t s.ended.kind is.can,
+          pages_begin limits t s.problem (searched_problem limits t p has s is_of) paged s.ended.kind s.ended.opened s.ended.solids solids is text begun.1,
+        ),
+      ))
 
-  module _ (s : SearchedParts) (is_of : IsSearchOf limits p s) (before : List ℕ) (pages : TellsPages paged s before) (appends : Appends held mid before)
-      (since : rose → rises) where
-    -- what is written after the pages of a search is written with them
-    after_pages : (r : Result (Unit {0}) Failure) → EndsText (TellsAll limits decimals s) (BeginsAll limits decimals s) mid now rose r
-        → EndsText (TellsPaged paged limits decimals s) (BeginsPaged paged limits decimals s) held now rises r
-    after_pages = ends_after (TellsAll limits decimals s) (TellsPaged paged limits decimals s) (BeginsAll limits decimals s) (BeginsPaged paged limits decimals s) before held mid now rose rises
-        appends since (λ text begun. inr (before, pages, text, begun, refl))
-        (inl (pages.0, pages.1, length pages.0, pages.2 ∙ ap (pages_text 0 0) (sym (take-length pages.0))))
-        (λ text told. (before, pages, text, told, refl))
+  module _ (s : SearchedParts) (is_of : IsSearchOf limits p s) (before : List ℕ) (pages : TellsPages paged s.ended.solids before) (appends : Appends held mid before)
+      (since : rose → rises) (answer : Answer) (right : answer ≡ end_answer s.ended.kind) where
+    -- how the writing of the solids behind the pages ends
+    abbrev EndsAll : Result (Unit {0}) Failure → Type 0
+    EndsAll r = (solids : List (List Cell)) → AreFilled s.problem s.ended.solids solids
+        → EndsText (TellsAll (search_head limits s) t.decimals s.ended.solids solids) (BeginsAll (search_head limits s) t.decimals s.ended.solids solids) mid now rose r
 
-    pub solids_refused : (failure : Failure) → EndsText (TellsAll limits decimals s) (BeginsAll limits decimals s) mid now rose (Err failure)
-        → EndsWriting Tells Begins held now rises (Err failure)
-    solids_refused failure ends = refused (Unit {0}) Answer (λ _. TellsPaged paged limits decimals s) (λ _. BeginsPaged paged limits decimals s) Tells Begins held now rises
-        (λ _ text begun. (answer_at whole s.ended.kind (length s.ended.solids), (s, is_of, refl, begun))) failure (after_pages (Err failure) ends)
+    abbrev of_input : HasProblem t s.problem
+    of_input = searched_problem limits t p has s is_of
 
-    pub solids_written : (answer : Answer) → answer ≡ answer_at whole s.ended.kind (length s.ended.solids) → (given : Unit {0})
-        → EndsText (TellsAll limits decimals s) (BeginsAll limits decimals s) mid now rose (Ok given) → EndsWriting Tells Begins held now rises (Ok answer)
-    solids_written answer is given ends =
-        let (text, told, more) = after_pages (Ok given) ends in (text, (s, is_of, is, told), more)
+    module _ (solids : List (List Cell)) (is : IsListing limits t s.problem of_input s.ended.kind s.ended.opened s.ended.solids solids) where
+      -- what is written after the pages of a search is written with them
+      after_pages : (r : Result (Unit {0}) Failure) → EndsAll r
+          → EndsText (ListsSolids paged limits t s.ended.kind is.can) (BeginsToList paged limits t s.ended.kind is.can) held now rises r
+      after_pages r ends =
+          ends_after (TellsAll (search_head limits s) t.decimals s.ended.solids solids) (ListsSolids paged limits t s.ended.kind is.can)
+          (BeginsAll (search_head limits s) t.decimals s.ended.solids solids) (BeginsToList paged limits t s.ended.kind is.can) before held mid now rose rises
+          appends since (begins limits t s.problem of_input paged s.ended.kind s.ended.opened s.ended.solids solids is before pages)
+          (pages_begin limits t s.problem of_input paged s.ended.kind s.ended.opened s.ended.solids solids is before
+          (pages.0, pages.1, length pages.0, pages.2 ∙ ap (pages_text 0 0) (sym (take-length pages.0))))
+          (lists limits t s.problem of_input paged s.ended.kind s.ended.opened s.ended.solids solids is before pages) r (ends solids is.filled)
+
+      is_right : answer ≡ answer_at (search_for_all paged limits) t s.ended.kind is.can
+      is_right = right ∙ all_answered paged limits t s.ended.kind is.can
+
+      refused_then : (failure : Failure) → EndsAll (Err failure) → EndsWriting Tells Begins held now rises (Err failure)
+      refused_then failure ends =
+          refused (Unit {0}) Answer (λ _. ListsSolids paged limits t s.ended.kind is.can) (λ _. BeginsToList paged limits t s.ended.kind is.can) Tells Begins held now rises
+          (λ _ text begun. (answer, (s.ended.kind, is.can, is_right, begun))) failure (after_pages (Err failure) ends)
+
+      written_then : (given : Unit {0}) → EndsAll (Ok given) → EndsWriting Tells Begins held now rises (Ok answer)
+      written_then given ends =
+          let (text, told, more) = after_pages (Ok given) ends in (text, (s.ended.kind, is.can, is_right, told), more)
+
+    pub solids_refused : (failure : Failure) → EndsAll (Err failure) → EndsWriting Tells Begins held now rises (Err failure)
+    solids_refused = let (solids, is) = searched_listing limits t p has s is_of in refused_then solids is
+
+    pub solids_written : (given : Unit {0}) → EndsAll (Ok given) → EndsWriting Tells Begins held now rises (Ok answer)
+    solids_written = let (solids, is) = searched_listing limits t p has s is_of in written_then solids is

@@ -1,10 +1,14 @@
 -- What is found in a source.
-use Rattle.std.proofs.Common.{◌≤◌, ℕ, List, [], length, Option, Some, None, IfSome, refl, subst, inl, inr, arith}
+use Rattle.std.proofs.Common.{◌≤◌, ◌+◌, ℕ, List, [], length, replicate, Option, Some, None, refl, sym, inl, inr, arith}
+use Rattle.std.proofs.lemmas.List.{length-replicate}
+use Rattle.file_problem.specs.Inputs.{HasProblem, IsFileFault}
 use Rattle.recon_run.specs.declared.found.Found.{Found}
 use Rattle.recon_run.specs.declared.found.Found.TheVariants.{Fault}
-use Rattle.recon_run.specs.Owed.{ReadsAllOrPast}
-use Rattle.recon_run.specs.Findings.{IsFoundIn}
+use Rattle.recon_run.specs.Owed.{HasRead, ProfileParts, drawing_profile, input_of}
+use Rattle.recon_run.specs.Searched.{IsFoundIn}
+use Rattle.solid_model.specs.declared.fault.Fault as faults
 use Rattle.solid_model.specs.declared.fault.Fault.TheVariants.{TooLong}
+use Rattle.solid_model.specs.Blocks.{ProblemParts}
 use Rattle.solid_model.specs.Limits.{most_file_bytes}
 use Rattle.tv_base.specs.Pieces.{ReadsAll, ReadsPast, ReadsWithin}
 
@@ -13,16 +17,33 @@ pub reads_nothing : (left : Option (List ℕ)) (limit : ℕ) → ReadsWithin lef
 reads_nothing None limit = ([], omega arith, tt)
 reads_nothing (Some bytes) limit = ([], omega arith, refl)
 
--- all that was left was read, and what is found in it is found in what was left
-pub found_source : (decimals : ℕ) (left rest : Option (List ℕ)) (file : List ℕ) (found : Found) → length file ≤ most_file_bytes
-    → ReadsAll left rest file → IsFoundIn (record { bytes = file; decimals = decimals }) found
-    → IfSome left (λ t. ReadsAllOrPast t rest × IsFoundIn (record { bytes = t; decimals = decimals }) found)
-found_source decimals None rest file found short read is = tt
-found_source decimals (Some t) rest file found short read is =
-    (inl (subst (λ s. length s ≤ most_file_bytes) read.0 short, read.1), subst (λ s. IsFoundIn (record { bytes = s; decimals = decimals }) found) read.0 is)
+module _ (profile : ProfileParts) (file : List ℕ) (short : length file ≤ profile.most) where
+  -- a drawing that isn't longer than an input may be is that input
+  pub problem_within : (p : ProblemParts) → HasProblem (input_of (drawing_profile profile.decimals) file) p → HasProblem (input_of profile file) p
+  problem_within p has = record {
+    short = short;
+    lines = has.lines;
+    reads = has.reads;
+    shown = has.shown;
+    grid = has.grid;
+    blocks = has.blocks;
+    few = has.few;
+  }
+
+  pub fault_within : profile.most ≤ most_file_bytes → (fault : faults.Fault) → IsFileFault (input_of (drawing_profile profile.decimals) file) fault
+      → IsFileFault (input_of profile file) fault
+  fault_within few fault (inl (long, is)) = absurd (omega (arith, short, few, long))
+  fault_within few fault (inr (kept, after)) = inr (short, after)
+
+  -- all that was left was read, and what is found in it is found in what was left
+  pub found_source : (left rest : Option (List ℕ)) (found : Found) → ReadsAll left rest file → IsFoundIn (input_of profile file) found
+      → (t : List ℕ) × HasRead profile.most left rest t × IsFoundIn (input_of profile t) found
+  found_source None rest found read is = (file, tt, is)
+  found_source (Some told) rest found read is = (file, (sym read.0, inl (short, read.1)), is)
 
 -- more was left than the most, and the fault is that it is too long
-pub too_long_source : (decimals : ℕ) (left rest : Option (List ℕ)) → ReadsPast left rest most_file_bytes
-    → IfSome left (λ t. ReadsAllOrPast t rest × IsFoundIn (record { bytes = t; decimals = decimals }) (Fault TooLong))
-too_long_source decimals None rest past = tt
-too_long_source decimals (Some t) rest past = (inr past, inl (past.0, refl))
+pub too_long_source : (profile : ProfileParts) (left rest : Option (List ℕ)) → ReadsPast left rest profile.most
+    → (t : List ℕ) × HasRead profile.most left rest t × IsFoundIn (input_of profile t) (Fault TooLong)
+too_long_source profile None rest past =
+    (replicate (profile.most + 1) 0, tt, inl ((let long = length-replicate {A = ℕ} (profile.most + 1) 0 in omega (arith, long)), refl))
+too_long_source profile (Some told) rest past = (told, (refl, inr past), inl (past.0, refl))

@@ -1,14 +1,11 @@
 -- How writings end, one after another.
-use Rattle.std.proofs.Common.{◌≡◌, inl, inr, refl, Bool, ℕ, zero, suc, ◌+◌, ◌<◌, ◌≤◌, List, [], ◌∷◌, ◌++◌, length, take, get_or, Option, None, Some, Result, Ok, Err, sym, ap, subst, ◌∙◌, append_assoc, arith}
+use Rattle.std.proofs.Common.{inl, inr, ℕ, ◌≤◌, List, ◌++◌, length, Option, None, Some, Result, Ok, Err, ◌∙◌, arith}
 use Rattle.std.proofs.Math.Seq.{take-length}
-use Rattle.std.proofs.lemmas.List.{append-nil}
 use Rattle.std.specs.Io.KnownBytes.{Appends, Keeps}
 use Rattle.replies.specs.declared.status.Failure.{Failure}
 use Rattle.replies.specs.declared.status.Failure.TheVariants.{ReadFault, WriteFault, Memory}
-use Rattle.recon_run.specs.Findings.{TellsChoice, TellsChoices}
 use Rattle.replies.specs.Writings.{EndsText, EndsWriting}
 use Rattle.sink_pages.proofs.Gained.{prefix_after}
-use Rattle.report.specs.Texts.{TextsParts}
 use Rattle.tv_base.proofs.Told.{appends_both}
 use Rattle.tv_base.specs.Faults.{Rose}
 use Rattle.tv_base.specs.Pieces.{AppendsPrefix}
@@ -46,6 +43,20 @@ refused A B tells begins others starts held now rose weaker Memory (inl keeps) =
 refused A B tells begins others starts held now rose weaker Memory (inr (a, text, begun, prefix)) =
     let (b, starts_it) = weaker a text begun in inr (b, text, starts_it, prefix)
 
+-- what is told by some texts is told by others too
+pub writing_weaker : (A : Type 0) (tells begins others starts : A → List ℕ → Type 0) (held now : Option (List ℕ)) (rose : Type 0)
+    → ((a : A) (text : List ℕ) → tells a text → others a text) → ((a : A) (text : List ℕ) → begins a text → starts a text)
+    → (r : Result A Failure) → EndsWriting tells begins held now rose r → EndsWriting others starts held now rose r
+writing_weaker A tells begins others starts held now rose weaken begun (Ok a) (text, told, appends) = (text, weaken a text told, appends)
+writing_weaker A tells begins others starts held now rose weaken begun (Err failure) ends =
+    refused A A tells begins others starts held now rose (λ a text told. (a, begun a text told)) failure ends
+
+pub ends_weaker : (tells begins others starts : List ℕ → Type 0) (held now : Option (List ℕ)) (rose : Type 0)
+    → ((text : List ℕ) → tells text → others text) → ((text : List ℕ) → begins text → starts text)
+    → (r : Result (Unit {0}) Failure) → EndsText tells begins held now rose r → EndsText others starts held now rose r
+ends_weaker tells begins others starts held now rose weaken begun =
+    writing_weaker (Unit {0}) (λ _. tells) (λ _. begins) (λ _. others) (λ _. starts) held now rose (λ _. weaken) (λ _. begun)
+
 module _ (tells others begins starts : List ℕ → Type 0) (first : List ℕ) (held mid now : Option (List ℕ)) (rose rises : Type 0)
     (appends : Appends held mid first) (since : rose → rises) (both : (text : List ℕ) → begins text → starts (first ++ text)) (alone : starts first) where
   -- after a text that was written whole, a writing is refused as one of both together
@@ -62,26 +73,3 @@ module _ (tells others begins starts : List ℕ → Type 0) (first : List ℕ) (
       → EndsText tells begins mid now rose r → EndsText others starts held now rises r
   ends_after told (Ok given) (text, tells_it, more) = (first ++ text, told text tells_it, appends_both held mid now first text appends more)
   ends_after told (Err failure) ends = refused_after failure ends
-
--- ---- solids
-
--- the texts of the first solids, and then that of the next one, are those of one more
-pub tells_more : (p : TextsParts) (number : ℕ) (choices : List (List Bool)) (place : ℕ) (default choice : List Bool) (text more : List ℕ) → place < length choices
-    → get_or choices place default ≡ choice → TellsChoices p number (take place choices) text → TellsChoice p (number + place) choice more
-    → TellsChoices p number (take (suc place) choices) (text ++ more)
-tells_more p number [] place default choice text more within at tells told = absurd (omega arith)
-tells_more p number (x ∷ choices) zero default choice text more within at tells told = (
-  more,
-  subst (λ c. TellsChoice p number c more) (sym at) (subst (λ n. TellsChoice p n choice more) (let e : number + 0 ≡ number = omega arith in e) told),
-  [],
-  refl,
-  ap (λ bytes. bytes ++ more) tells ∙ sym (append-nil more),
-)
-tells_more p number (x ∷ choices) (suc place) default choice text more within at (first, is, rest, tells, e) told = (
-  first,
-  is,
-  rest ++ more,
-  tells_more p (number + 1) choices place default choice rest more (omega arith) at tells
-      (subst (λ n. TellsChoice p n choice more) (let same : number + suc place ≡ number + 1 + place = omega arith in same) told),
-  ap (λ bytes. bytes ++ more) e ∙ append_assoc first rest more,
-)

@@ -1,20 +1,20 @@
 -- Words and an input never lack a right answer.
-use Rattle.std.proofs.Common.{◌≡◌, refl, inl, inr, ⊎_elim, Bool, true, false, ℕ, ◌+◌, ◌-◌, ◌<◌, ◌≤◌, List, [], length, drop, Option, Some, None, Result, Ok, Err, ℤ, sym, ◌∙◌, arith}
+use Rattle.std.proofs.Common.{◌≡◌, refl, inl, inr, ⊎_elim, Bool, true, false, ℕ, ◌+◌, ◌-◌, ◌<◌, ◌≤◌, List, [], ◌∷◌, length, drop, Option, Some, None, Result, Ok, Err, ℤ, sym, ap, ◌∙◌, arith}
 use Rattle.std.proofs.lemmas.Bool.{cases_lt}
 use Rattle.dxf_entities.specs.Reading.{read_of}
 use Rattle.dxf_entities.proofs.KeptLines.{read_lines_are_kept}
 use Rattle.replies.specs.declared.status.Answer.{Answer}
 use Rattle.replies.specs.declared.status.Answer.TheVariants as answers
-use Rattle.file_problem.specs.Inputs.{Input, IsFaultAfter, IsFileFault, HasProblem}
+use Rattle.file_problem.specs.Inputs.{HasNoFault, HasProblem, Input, IsFaultAfter, IsFileFault}
 use Rattle.recon_run.specs.Answers.{usage_text, CanEnd, IsTried, TellsNumbered, head_of, numbered_answer}
 use Rattle.solid_model.specs.Search.{default_limits, SearchLimits}
 use Rattle.recon_run.specs.Endings.{Answers}
-use Rattle.recon_run.specs.Findings.{IsOnGrid}
-use Rattle.recon_run.specs.Owed.{alone, AnswersOwed, Owed, ReadsAllOrPast, Search, answer_at, in_one_piece, input_of, search_for_one, owed, owed_for, searched}
-use Rattle.recon_run.proofs.Redrawn.{each_get, fills_at, on_grid}
+use Rattle.recon_run.specs.Owed.{AnswersOwed, HasRead, Judgement, Owed, Search, alone, answer_at, drawing_profile, in_one_piece, input_of, judgement_of, owed, owed_for, read, search_for_all, search_for_one, searched}
+use Rattle.recon_run.specs.Searched.{AreFilled}
+use Rattle.recon_run.proofs.Filled.{filled_at, some_first}
 use Rattle.file_problem.proofs.Faults.{file_fault}
 use Rattle.recon_run.proofs.PossibleEnds.{can_list}
-use Rattle.recon_run.proofs.Solved.{IsStated, IsWholeListing, listing, matching, some_listing, whole_listing}
+use Rattle.recon_run.proofs.Solved.{IsWholeListing, listing, matching, some_listing, whole_listing}
 use Rattle.report.specs.FaultText.{fault_text}
 use Rattle.solid_model.specs.declared.cell.Axis.{Axis}
 use Rattle.solid_model.specs.declared.cell.Axis.TheVariants.{X, Y, Z}
@@ -32,7 +32,7 @@ use Rattle.solid_model.specs.Choices.{cells_of_choice}
 use Rattle.solid_model.specs.Forcing.{is_live}
 use Rattle.solid_model.specs.Drawings.{drawing_of, IsShown, IsEmptyView, IsFirstEmptyView}
 use Rattle.solid_model.specs.Grid.{Coordinates, AreGridCoordinates, IsFineEnough, IsFirstTooFine}
-use Rattle.solid_model.specs.Limits.{most_blocks, most_file_bytes, most_grid_coordinates}
+use Rattle.solid_model.specs.Limits.{most_blocks, most_grid_coordinates}
 use Rattle.solid_model.specs.Line.{Line}
 use Rattle.solid_model.specs.Panels.{PanelStyles, GridParts, coordinates_of, grid_styles, AreGridStyles, IsGridOf}
 use Rattle.solid_model.specs.PerAxis.{numbers_of}
@@ -43,7 +43,6 @@ use Rattle.solid_model.specs.GridBox.{grid_sizes}
 use Rattle.solid_model.proofs.KeptDrawings.{lines_are_drawing}
 use Rattle.solid_model.proofs.Sheets.{without_lines-empty}
 use Rattle.solid_model.proofs.SomeGrid.{some_coordinates}
-use Rattle.solid_model.proofs.SolidsOfChoices.{as_many}
 use Rattle.solid_model.proofs.SomeNumbering.{some_numbering}
 use Rattle.words.specs.declared.job.Job.{Job}
 use Rattle.words.specs.declared.job.Job.TheVariants as job
@@ -53,7 +52,7 @@ use Rattle.drawing_maker.specs.Made.{made_solid}
 use Rattle.made_laws.proofs.MadeSolid.{made_is_solid}
 use Rattle.redraw.specs.Files.{IsFileOf}
 use Rattle.redraw.proofs.SomeFile.{some_file}
-use Rattle.report.specs.Texts.{no_solid_text}
+use Rattle.report.specs.Texts.{no_solid_text, trial_text}
 use Rattle.stl_out.specs.SolidStl.{IsSolidStl}
 use Rattle.stl_out.proofs.SolidTexts.{some_text}
 use Rattle.made_laws.proofs.MadeLimits.{made_problem}
@@ -95,7 +94,7 @@ abbrev EndlessSearch : SearchLimits → Input → Type 0
 EndlessSearch limits t = (p : ProblemParts) → HasProblem t p → (kind : EndKind) (opened : ℕ) (choices : List (List Bool))
     → EndsAs (is_live p) p.blocks.count limits kind opened choices → ⊥
 
-module _ (limits : SearchLimits) (t : Input) (short : length t.bytes ≤ most_file_bytes) (faultless : (fault : Fault) → IsFileFault t fault → ⊥)
+module _ (limits : SearchLimits) (t : Input) (short : length t.bytes ≤ t.most) (faultless : (fault : Fault) → IsFileFault t fault → ⊥)
     (endless : EndlessSearch limits t) where
   module _ (ls : List Line) (reads : read_of t.decimals t.bytes ≡ Ok ls) where
     abbrev drawing : Segment → Style
@@ -189,16 +188,15 @@ module _ (limits : SearchLimits) (t : Input) (short : length t.bytes ≤ most_fi
   short_input (Err found) reads = faultless found (file_fault t (Err found) found short reads refl)
   short_input (Ok ls) reads = input_with_lines ls reads
 
--- it can't be that a text of any length has neither a fault nor an end of a search
-searched_somehow : (limits : SearchLimits) (t : Input) → ((fault : Fault) → IsFileFault t fault → ⊥)
-    → EndlessSearch limits t → ⊥
+-- it can't be that an input of any length has neither a fault nor an end of a search
+searched_somehow : (limits : SearchLimits) (t : Input) → HasNoFault t → EndlessSearch limits t → ⊥
 searched_somehow limits t faultless endless = ⊎_elim (λ long. faultless TooLong (inl (long, refl)))
-    (λ short. short_input limits t short faultless endless (read_of t.decimals t.bytes) refl) (cases_lt most_file_bytes (length t.bytes))
+    (λ short. short_input limits t short faultless endless (read_of t.decimals t.bytes) refl) (cases_lt t.most (length t.bytes))
 
 -- a source that had t left can have been read to its end, or past the most
-can_be_read : (t : List ℕ) → ((rest : Option (List ℕ)) → ReadsAllOrPast t rest → ⊥) → ⊥
-can_be_read t never = ⊎_elim (λ long. never (Some (drop (most_file_bytes + 1) t)) (inr (long, refl)))
-    (λ short. never (Some []) (inl (short, refl))) (cases_lt most_file_bytes (length t))
+can_be_read : (most : ℕ) (t : List ℕ) → ((rest : Option (List ℕ)) → HasRead most (Some t) rest t → ⊥) → ⊥
+can_be_read most t never = ⊎_elim (λ long. never (Some (drop (most + 1) t)) (refl, inr (long, refl)))
+    (λ short. never (Some []) (refl, inl (short, refl))) (cases_lt most (length t))
 
 -- ---- some text of each command
 
@@ -208,66 +206,79 @@ TellsSome s = (t : Input) (p : ProblemParts) → HasProblem t p → (kind : EndK
     → EndsAs (is_live p) p.blocks.count s.limits kind opened choices
     → ((c : CanEnd s.limits t kind) (text : List ℕ) → s.tells t kind c text → ⊥) → ⊥
 
--- nor one of a search that answers in one piece, if no whole one lacks its text, whose solids some choices fill
-some_in_one_piece : (limits : SearchLimits) (decimals : ℕ) (whole : ℕ → Answer) (tells : (t : Input) → CanEnd limits t Whole → List ℕ → Type 0)
-    → ((t : Input) (p : ProblemParts) (has : HasProblem t p) (opened : ℕ) (choices : List (List Bool)) (is : IsWholeListing limits t p has opened choices)
-    → ((text : List ℕ) → tells t is.can text → ⊥) → ⊥) → TellsSome (in_one_piece limits decimals whole tells)
-some_in_one_piece limits decimals whole tells some t p has Whole opened choices ends never =
+-- nor one of a search that answers in one piece, if no whole one lacks its text
+some_in_one_piece : (limits : SearchLimits) (whole : Input → ℕ → Answer) (tells : (t : Input) → CanEnd limits t Whole → List ℕ → Type 0)
+    (alike : Input → List ℕ → List ℕ → Type 0) → ((t : Input) (p : ProblemParts) (has : HasProblem t p) (opened : ℕ) (choices : List (List Bool))
+    (is : IsWholeListing limits t p has opened choices) → ((text : List ℕ) → tells t is.can text → ⊥) → ⊥)
+    → TellsSome (in_one_piece limits whole tells alike)
+some_in_one_piece limits whole tells alike some t p has Whole opened choices ends never =
     let is = whole_listing limits t p has opened choices ends in some t p has opened choices is (never is.can)
-some_in_one_piece limits decimals whole tells some t p has CutNodes opened choices ends never =
+some_in_one_piece limits whole tells alike some t p has CutNodes opened choices ends never =
     let (solids, is) = listing limits t p has CutNodes opened choices ends in never is.can (head_of is.can) refl
-some_in_one_piece limits decimals whole tells some t p has CutSolids opened choices ends never =
+some_in_one_piece limits whole tells alike some t p has CutSolids opened choices ends never =
     let (solids, is) = listing limits t p has CutSolids opened choices ends in never is.can (head_of is.can) refl
 
 -- a whole search has a solid of a number, of which something is written; or there are fewer
-module _ (writes : List Cell → List ℕ → Type 0) (written : (g : GridParts) (chosen : List Bool) (s : List Cell) → IsOnGrid g chosen s → (text : List ℕ) × writes s text)
-    (which : ℕ) (some : 1 ≤ which) (limits : SearchLimits) (decimals : ℕ) where
+module _ (writes : ℕ → List Cell → List ℕ → Type 0)
+    (written : (decimals : ℕ) (p : ProblemParts) (choice : List Bool) (s : List Cell) → AreFilled p (choice ∷ []) (s ∷ []) → (text : List ℕ) × writes decimals s text)
+    (which : ℕ) (some : 1 ≤ which) (limits : SearchLimits) where
   module _ (t : Input) (p : ProblemParts) (has : HasProblem t p) (opened : ℕ) (choices : List (List Bool)) (is : IsWholeListing limits t p has opened choices)
-      (never : (text : List ℕ) → TellsNumbered writes which is.can.solids text → ⊥) where
-    many : length choices ≡ length is.can.solids
-    many = as_many (coordinates_of p.grid) p.blocks.numbers p.blocks.count choices is.can.solids is.filled
-
+      (never : (text : List ℕ) → TellsNumbered (writes t.decimals) which is.can.solids text → ⊥) where
     choice_at : (o : Option (List Bool)) → slice_get choices (which - 1) ≡ o → which - 1 < length choices → ⊥
     choice_at None none within = none-some _ (sym none ∙ slice_get-get_or choices (which - 1) [] within)
     choice_at (Some choice) at within =
-        let (s, at_s, union) = fills_at (coordinates_of p.grid) p.blocks.numbers p.blocks.count choices is.can.solids is.filled (which - 1) choice at in
-        let stated = each_get (IsStated limits t p has) is.can.solids (which - 1) s is.each at_s in
-        let (text, writes_it) = written p.grid (cells_of_choice p.blocks.numbers choice) s (on_grid limits t p has choice s stated union) in
+        let (s, at_s, filled) = filled_at p choices is.can.solids is.filled (which - 1) choice at in
+        let (text, writes_it) = written t.decimals p choice s filled in
         never text (inl (s, (some, at_s), writes_it))
 
     never_lacking : ⊥
     never_lacking = ⊎_elim (λ few. never (no_solid_text which (length is.can.solids)) (inr (few, refl)))
-        (λ enough. choice_at (slice_get choices (which - 1)) refl (let e = many in let within : which - 1 < length choices = omega (arith, e, some, enough) in within))
+        (λ enough. choice_at (slice_get choices (which - 1)) refl (let e = is.many in let within : which - 1 < length choices = omega (arith, e, some, enough) in within))
         (cases_lt (length is.can.solids) which)
 
-  some_numbered : TellsSome (search_for_one writes which limits decimals)
-  some_numbered = some_in_one_piece limits decimals (numbered_answer which) (λ t c. TellsNumbered writes which c.solids) never_lacking
+  some_numbered : TellsSome (search_for_one writes which limits)
+  some_numbered = some_in_one_piece limits (λ t. numbered_answer which) (λ t c. TellsNumbered (writes t.decimals) which c.solids)
+      (λ t text other. text ≡ other) never_lacking
 
 -- no solid lacks a file,
 some_written_file : (s : List Cell) → IsSolid s → ((text : List ℕ) → IsFileOf 0 s text → ⊥) → ⊥
 some_written_file s is never = let (text, file) = some_file s is 0 in never text file
 
--- nor an STL text, where it is on a grid
-some_stl : (g : GridParts) (chosen : List Bool) (s : List Cell) → IsOnGrid g chosen s → (text : List ℕ) × IsSolidStl s text
-some_stl g chosen s on = some_text on.drawing (coordinates_of g) on.grid.coordinates s on.matches chosen on.union
+-- nor one that matches an STL text
+some_stl : (decimals : ℕ) (p : ProblemParts) (choice : List Bool) (s : List Cell) → AreFilled p (choice ∷ []) (s ∷ []) → (text : List ℕ) × IsSolidStl s text
+some_stl decimals p choice s are =
+    some_text are.drawing (coordinates_of p.grid) are.grid.coordinates s are.matching.0.0 (cells_of_choice p.blocks.numbers choice) are.filled.1
 
 -- the search of a made file ends, and has figures
 tried_somehow : (n : ℕ) → ((text : List ℕ) → IsTried n text → ⊥) → ⊥
 tried_somehow n never =
     let (t, file) = some_file (made_solid n) (made_is_solid n) 0 in
     let p = made_problem n in let has = made_has_problem n t file in
-    let end = can_list (is_live p) p.blocks.count default_limits (matching default_limits (record { bytes = t; decimals = 0 }) p has).ordered [] tt tt (omega arith) in
-    never _ (figures_are n t file p has end.kind end.opened end.choices end.ends _ refl)
+    let end = can_list (is_live p) p.blocks.count default_limits (matching default_limits (input_of (drawing_profile 0) t) p has).ordered [] tt tt (omega arith) in
+    let (volume, first) = some_first p end.choices in
+    let line : ℕ → List ℕ = λ v. trial_text n p.blocks.count (length end.choices) end.opened v in
+    never (line volume) (figures_are n t file p has end.kind end.opened end.choices end.ends (line volume) (λ solids are. ap line (first solids are)))
 
--- what is owed for a job is told by some text
+-- no input without a fault lacks an answer
+abbrev JudgesSome : Judgement → Type 0
+JudgesSome j = (t : Input) → HasNoFault t → ((answer : Answer) (text : List ℕ) → j.tells t answer text → ⊥) → ⊥
+
+some_search : (s : Search) → TellsSome s → JudgesSome (judgement_of (searched s))
+some_search s some t none never = searched_somehow s.limits t none (λ p has kind opened choices ends.
+    some t p has kind opened choices ends (λ c text tells. never (answer_at s t kind c) text (kind, c, refl, tells)))
+
+-- what is owed for a job is some answer
 abbrev OwesSome : Owed → Type 0
-OwesSome (searched s) = TellsSome s
+OwesSome (read profile asked) = JudgesSome (judgement_of asked)
 OwesSome (alone right tells) = ((text : List ℕ) → tells text → ⊥) → ⊥
 
 some_owed : (j : Job) → IsCounted j → OwesSome (owed_for j)
-some_owed (job.Solve workers limits pages decimals) counted = λ t p has. some_listing limits t p has pages
-some_owed (job.Redraw which workers limits decimals) counted = some_numbered (IsFileOf decimals) (λ g chosen s on. some_file s on.matches.0 decimals) which counted.0 limits decimals
-some_owed (job.Stl which workers limits) counted = some_numbered IsSolidStl some_stl which counted.0 limits 0
+some_owed (job.Solve workers limits pages decimals) counted =
+    some_search (search_for_all pages limits) (λ t p has. some_listing limits t p has pages)
+some_owed (job.Redraw which workers limits decimals) counted = some_search (search_for_one IsFileOf which limits)
+    (some_numbered IsFileOf (λ d p choice s are. some_file s are.matching.0.0.0 d) which counted.0 limits)
+some_owed (job.Stl which workers limits) counted = some_search (search_for_one (λ _. IsSolidStl) which limits)
+    (some_numbered (λ _. IsSolidStl) some_stl which counted.0 limits)
 some_owed (job.Make n) counted = some_written_file (made_solid n) (made_is_solid n)
 some_owed (job.Trial n workers) counted = tried_somehow n
 
@@ -277,10 +288,9 @@ some_owed (job.Trial n workers) counted = tried_somehow n
 answered : (o : Owed) → OwesSome o → (t : List ℕ)
     → ((rest : Option (List ℕ)) (answer : Answer) (text : List ℕ) → AnswersOwed o (Some t) rest answer text → ⊥) → ⊥
 answered (alone right tells) some t never = some (λ text is. never (Some t) right text (refl, refl, is))
-answered (searched s) some t never = can_be_read t (λ rest reads. searched_somehow s.limits (input_of s t)
-    (λ fault is. never rest answers.Faulty (fault_text fault) (inl refl, (reads, inl (refl, (fault, is, refl)))))
-    (λ p has kind opened choices ends. some (input_of s t) p has kind opened choices ends (λ c text tells.
-    never rest (answer_at s.whole kind (length c.solids)) text (inr (kind, length c.solids, refl), (reads, inr (kind, c, refl, tells))))))
+answered (read profile asked) some t never = can_be_read profile.most t (λ rest reads.
+    let none : HasNoFault (input_of profile t) = λ fault is. never rest answers.Faulty (fault_text fault) (t, reads, inl (refl, (fault, is, refl))) in
+    some (input_of profile t) none (λ answer text told. never rest answer text (t, reads, inr (none, told))))
 
 pub answered_somehow : (words : List (List ℕ)) (t : List ℕ)
     → ((rest : Option (List ℕ)) (answer : Answer) (text : List ℕ) → Answers words (Some t) rest answer text → ⊥) → ⊥

@@ -8,13 +8,13 @@ use Rattle.made_laws.proofs.MadeLimits.{few_made_blocks, few_made_choices, few_m
 use Rattle.made_laws.proofs.SomeMadeGrid.{made_grid_is}
 use Rattle.redraw.specs.Files.{IsFileOf}
 use Rattle.file_problem.specs.Inputs.{HasNoFault, HasProblem, Input}
-use Rattle.recon_run.specs.Answers.{IsTried, made_drawing, node_count}
-use Rattle.recon_run.specs.Findings.{figures_text}
+use Rattle.recon_run.specs.Answers.{AllowsEnd, IsTried, first_volume, made_drawing, node_count}
+use Rattle.recon_run.specs.Owed.{drawing_profile, input_of}
+use Rattle.recon_run.specs.Searched.{AreFilled}
 use Rattle.file_problem.proofs.Faults.{no_fault}
-use Rattle.recon_run.proofs.Redrawn.{first_counts}
 use Rattle.recon_run.proofs.Solved.{whole_listing}
-use Rattle.solid_model.proofs.SolidsOfChoices.{as_many}
 use Rattle.report.specs.Texts.{trial_text}
+use Rattle.solid_model.specs.declared.cell.Cell.{Cell}
 use Rattle.solid_model.specs.declared.ended.EndKind.{EndKind}
 use Rattle.solid_model.specs.declared.ended.EndKind.TheVariants.{Whole, CutNodes, CutSolids}
 use Rattle.solid_model.specs.declared.segment.Segment.{Segment}
@@ -25,7 +25,7 @@ use Rattle.solid_model.specs.Drawings.{drawing_of}
 use Rattle.solid_model.specs.Limits.{most_file_bytes}
 use Rattle.solid_model.specs.Line.{Line}
 use Rattle.solid_model.specs.Matching.{AreSolidsOf}
-use Rattle.solid_model.specs.Panels.{coordinates_of, IsGridOf}
+use Rattle.solid_model.specs.Panels.{IsGridOf}
 use Rattle.solid_model.specs.SearchEnds.{EndsAs}
 use Rattle.solid_model.specs.Search.{default_limits}
 
@@ -37,7 +37,7 @@ module _ (n : ℕ) (t : List ℕ) (file : IsFileOf 0 (made_solid n) t) where
       ap drawing_of (ok_value lines back.lines (sym reads ∙ back.reads)) ∙ (λ i segment. same segment i)
 
   abbrev pub input : Input
-  input = record { bytes = t; decimals = 0 }
+  input = input_of (drawing_profile 0) t
 
   -- it isn't too long,
   pub made_is_short : length t ≤ most_file_bytes
@@ -64,22 +64,20 @@ module _ (n : ℕ) (t : List ℕ) (file : IsFileOf 0 (made_solid n) t) where
   -- the figures of its search are those of the made drawing's
   pub figures_are : (p : ProblemParts) → HasProblem input p → (kind : EndKind) (opened : ℕ) (choices : List (List Bool))
       → EndsAs (is_live p) p.blocks.count default_limits kind opened choices → (text : List ℕ)
-      → text ≡ figures_text n (record { problem = p; ended = record { kind = kind; opened = opened; solids = choices } }) → IsTried n text
+      → ((solids : List (List Cell)) → AreFilled p choices solids → text ≡ trial_text n p.blocks.count (length choices) opened (first_volume solids)) → IsTried n text
   figures_are p has Whole opened choices ends text told =
       let is = whole_listing default_limits input p has opened choices ends in
       let c = is.can in
       let same = sym is.problem in
-      let many = as_many (coordinates_of p.grid) p.blocks.numbers p.blocks.count choices c.solids is.filled in
-      let volume = first_counts default_limits input p has choices c.solids is.each is.filled in
-      let nodes = is.counted ∙ ap node_count same in
+      let nodes = is.opened_all ∙ ap node_count same in
       record {
         problem = c.problem;
         grid = subst (λ (d : Segment → Style). IsGridOf d c.problem.grid) (drawn c.has.lines c.has.reads) c.has.grid;
         blocks = c.has.blocks;
         solids = c.solids;
-        all = subst (λ (d : Segment → Style). AreSolidsOf d c.solids) (drawn c.has.lines c.has.reads) c.all;
-        allows = c.allows;
-        told = told ∙ (λ i. trial_text n (same i).blocks.count (many i) (nodes i) (volume i));
+        all = subst (λ (d : Segment → Style). AreSolidsOf d c.solids) (drawn c.has.lines c.has.reads) c.told;
+        allows = subst (λ (ss : List (List Cell)). AllowsEnd default_limits c.problem ss Whole) is.counts c.allows;
+        told = told c.solids is.filled ∙ (λ i. trial_text n (same i).blocks.count (is.many i) (nodes i) (first_volume c.solids));
       }
   figures_are p has CutNodes opened choices (many, counted, are, few) text told =
       let grid = subst (λ (d : Segment → Style). IsGridOf d p.grid) (drawn has.lines has.reads) has.grid in

@@ -4,7 +4,7 @@ use Rattle.drawing_maker.specs.Made.{made_solid}
 use Rattle.file_problem.specs.Inputs.{HasProblem, Input}
 use Rattle.replies.specs.declared.status.Answer.{Answer}
 use Rattle.replies.specs.declared.status.Answer.TheVariants as answers
-use Rattle.recon_run.specs.Pages.{Page, ArePagesOf, pages_text}
+use Rattle.recon_run.specs.Pages.{BeginsPages, TellsPages}
 use Rattle.report.specs.Texts.{head_text, no_solid_text, solid_text, trial_text}
 use Rattle.solid_model.specs.declared.cell.Cell.{Cell}
 use Rattle.solid_model.specs.declared.ended.EndKind.{EndKind}
@@ -36,13 +36,20 @@ AllowsEnd limits p solids Whole = (node_count p ≤ limits.nodes) × (length sol
 AllowsEnd limits p solids CutNodes = limits.nodes < node_count p
 AllowsEnd limits p solids CutSolids = limits.solids < length solids
 
--- the input has no fault, and its live prefixes and the solids that match its drawing keep or pass the limits so
+-- the solids of an input that are told: all that match its drawing
+abbrev pub AreTold : {t : Input} {p : ProblemParts} → HasProblem t p → List (List Cell) → Type 0
+AreTold has solids = AreSolidsOf (drawing_of has.lines) solids
+
+-- The input has no fault, and its live prefixes and the solids that match its drawing keep or pass the limits so. A search counts
+-- all that match; it tells `solids` of them.
 pub record CanEnd (limits : SearchLimits) (t : Input) (kind : EndKind) : Type 0 where
   pub problem : ProblemParts
   pub has : HasProblem t problem
+  pub counted : List (List Cell)
+  pub all : AreSolidsOf (drawing_of has.lines) counted
+  pub allows : AllowsEnd limits problem counted kind
   pub solids : List (List Cell)
-  pub all : AreSolidsOf (drawing_of has.lines) solids
-  pub allows : AllowsEnd limits problem solids kind
+  pub told : AreTold has solids
 
 -- ---- the answers
 
@@ -56,43 +63,55 @@ head_of {limits} {t} {kind} c = head_text limits kind (length c.solids) (node_co
 
 -- ---- `solve`
 
--- what is listed at an end: all matching solids; or, at a cut, some, at a cut at solids as many as the limit
-abbrev pub AreListed : SearchLimits → (Segment → Style) → EndKind → List (List Cell) → Type 0
-AreListed limits drawing Whole solids = AreSolidsOf drawing solids
-AreListed limits drawing CutNodes solids = AreSomeSolidsOf drawing solids × (length solids ≤ limits.solids)
-AreListed limits drawing CutSolids solids = AreSomeSolidsOf drawing solids × (length solids ≡ limits.solids)
+-- what is listed at an end: all solids that are told; or, at a cut, some, at a cut at solids as many as the limit
+abbrev pub AreListed : SearchLimits → {t : Input} {p : ProblemParts} → HasProblem t p → EndKind → List (List Cell) → Type 0
+AreListed limits has Whole solids = AreTold has solids
+AreListed limits has CutNodes solids = AreSomeSolidsOf (drawing_of has.lines) solids × (length solids ≤ limits.solids)
+AreListed limits has CutSolids solids = AreSomeSolidsOf (drawing_of has.lines) solids × (length solids ≡ limits.solids)
 
 -- solids that the input's drawing shows, as an end of this kind lists them, and the choices of blocks that fill them
 pub record ListedSolids (limits : SearchLimits) (t : Input) (kind : EndKind) : Type 0 where
   pub problem : ProblemParts
   pub has : HasProblem t problem
   pub solids : List (List Cell)
-  pub listed : AreListed limits (drawing_of has.lines) kind solids
+  pub listed : AreListed limits has kind solids
   pub choices : List (List Bool)
   pub filled : AreSolidsOfChoices (coordinates_of problem.grid) problem.blocks.numbers problem.blocks.count choices solids
 
--- The texts of solids, numbered from this number on, with so many decimals: each tells the choice that fills the solid, its
--- number of unit cells, and its faces.
+-- the text of a solid of this number, with so many decimals: it tells the choice that fills it, its number of unit cells, and its
+-- faces
+abbrev pub TellsSolid : ℕ → ℕ → List Bool → List Cell → List ℕ → Type 0
+TellsSolid decimals number choice s text =
+    (faces : List FaceParts) × AreFacesOf (is_full s) faces × (text ≡ solid_text decimals number choice (length s) faces)
+
+-- the texts of solids, numbered from this number on
 abbrev pub TellsSolids : ℕ → ℕ → List (List Bool) → List (List Cell) → List ℕ → Type 0
 TellsSolids decimals number [] [] text = text ≡ []
-TellsSolids decimals number (choice ∷ choices) (s ∷ solids) text = (faces : List FaceParts) × AreFacesOf (is_full s) faces
-    × (rest : List ℕ) × TellsSolids decimals (number + 1) choices solids rest
-    × (text ≡ solid_text decimals number choice (length s) faces ++ rest)
+TellsSolids decimals number (choice ∷ choices) (s ∷ solids) text = (first : List ℕ) × TellsSolid decimals number choice s first
+    × (rest : List ℕ) × TellsSolids decimals (number + 1) choices solids rest × (text ≡ first ++ rest)
 TellsSolids decimals number _ _ text = ⊥
+
+-- this first line, and then the texts of solids
+abbrev pub TellsAll : List ℕ → ℕ → List (List Bool) → List (List Cell) → List ℕ → Type 0
+TellsAll head decimals choices solids text =
+    (texts : List ℕ) × TellsSolids decimals 1 choices solids texts × (text ≡ head ++ texts)
+
+-- or of the first of them
+abbrev pub BeginsAll : List ℕ → ℕ → List (List Bool) → List (List Cell) → List ℕ → Type 0
+BeginsAll head decimals choices solids text = (first : ℕ) × TellsAll head decimals (take first choices) (take first solids) text
 
 -- Where a search ends so, the text lists solids, as an end of this kind has it: pages of them, if they are asked for; then how
 -- the search ended, and then all of them.
 abbrev pub ListsSolids : Bool → (limits : SearchLimits) (t : Input) (kind : EndKind) → CanEnd limits t kind → List ℕ → Type 0
-ListsSolids paged limits t kind c text = (l : ListedSolids limits t kind) × (pages : List Page) × ArePagesOf paged l.choices pages
-    × (texts : List ℕ) × TellsSolids t.decimals 1 l.choices l.solids texts × (text ≡ pages_text 0 0 pages ++ (head_of c ++ texts))
+ListsSolids paged limits t kind c text = (l : ListedSolids limits t kind) × (before : List ℕ) × TellsPages paged l.choices before
+    × (rest : List ℕ) × TellsAll (head_of c) t.decimals l.choices l.solids rest × (text ≡ before ++ rest)
 
 -- The text begins to list them: it has the first of the pages; or all pages, how the search ended, and then the first of the
 -- solids.
 abbrev pub BeginsToList : Bool → (limits : SearchLimits) (t : Input) (kind : EndKind) → CanEnd limits t kind → List ℕ → Type 0
-BeginsToList paged limits t kind c text = (l : ListedSolids limits t kind) × (pages : List Page) × ArePagesOf paged l.choices pages
-    × (first : ℕ) × ((text ≡ pages_text 0 0 (take first pages))
-    ⊎ ((texts : List ℕ) × TellsSolids t.decimals 1 (take first l.choices) (take first l.solids) texts
-    × (text ≡ pages_text 0 0 pages ++ (head_of c ++ texts))))
+BeginsToList paged limits t kind c text = (l : ListedSolids limits t kind) × (BeginsPages paged l.choices text
+    ⊎ ((before : List ℕ) × TellsPages paged l.choices before
+    × (rest : List ℕ) × BeginsAll (head_of c) t.decimals l.choices l.solids rest × (text ≡ before ++ rest)))
 
 -- ---- `redraw`
 

@@ -3,4 +3,3 @@ pub mod Answers
 pub mod Owed
 pub mod Endings
 pub mod Searched
-pub mod Findings

@@ -1,10 +1,11 @@
 -- What is owed for the words of a run: each command by one line.
-use Rattle.std.specs.Prelude.{◌≡◌, ◌⊎◌, Bool, true, false, ℕ, ◌≤◌, List, [], length, Option, Some, None, IfSome}
+use Rattle.std.specs.Prelude.{◌≡◌, ◌⊎◌, Bool, true, false, ℕ, ◌+◌, ◌≤◌, List, [], length, Option, Some, None, IfSome}
 use Rattle.drawing_maker.specs.Made.{made_solid}
 use Rattle.replies.specs.declared.status.Answer.{Answer}
 use Rattle.replies.specs.declared.status.Answer.TheVariants as answers
-use Rattle.file_problem.specs.Inputs.{Input, IsFileFault}
+use Rattle.file_problem.specs.Inputs.{HasNoFault, Input, IsFileFault}
 use Rattle.recon_run.specs.Answers.{BeginsToList, CanEnd, IsTried, ListsSolids, TellsNumbered, head_of, numbered_answer, usage_text}
+use Rattle.recon_run.specs.Pages.{SameButPages}
 use Rattle.redraw.specs.Files.{IsFileOf}
 use Rattle.report.specs.FaultText.{fault_text}
 use Rattle.solid_model.specs.declared.cell.Cell.{Cell}
@@ -18,36 +19,47 @@ use Rattle.tv_base.specs.Pieces.{ReadsPast}
 use Rattle.words.specs.declared.job.Job.{Job}
 use Rattle.words.specs.declared.job.Job.TheVariants as job
 
+-- ---- how an input is read
+
+-- how an input is read: how many bytes it may have at most, and how many decimals its coordinates are read with
+pub record ProfileParts : Type 0 where
+  pub most : ℕ
+  pub decimals : ℕ
+
+-- a drawing alone, whose coordinates have so many decimals
+abbrev pub drawing_profile : ℕ → ProfileParts
+drawing_profile decimals = record { most = most_file_bytes; decimals = decimals }
+
+-- the input that is read so of these bytes
+abbrev pub input_of : ProfileParts → List ℕ → Input
+input_of profile t = record { bytes = t; most = profile.most; decimals = profile.decimals }
+
 -- ---- searches
 
--- A search of what the source has left: how many decimals its coordinates are read with; its limits; the answer where it is whole, by how many solids match; the texts that tell
--- that the search of an input ends so; and those that begin to tell it.
+-- A search of an input: its limits; the answer where it is whole, by how many solids are told; the texts that tell that the search
+-- ends so; those that begin to tell it; and which of its texts count as one.
 pub record Search : Type 1 where
-  pub decimals : ℕ
   pub limits : SearchLimits
-  pub whole : ℕ → Answer
+  pub whole : Input → ℕ → Answer
   pub tells : (t : Input) (kind : EndKind) → CanEnd limits t kind → List ℕ → Type 0
   pub begins : (t : Input) (kind : EndKind) → CanEnd limits t kind → List ℕ → Type 0
+  pub alike : Input → List ℕ → List ℕ → Type 0
 
--- the answer where a search ends so and so many solids match, by that to a whole one
-abbrev pub answer_at : (ℕ → Answer) → EndKind → ℕ → Answer
-answer_at whole Whole solids = whole solids
-answer_at whole CutNodes solids = answers.CutNodes
-answer_at whole CutSolids solids = answers.CutSolids
+-- the answer where the search of an input ends so
+abbrev pub answer_at : (s : Search) (t : Input) (kind : EndKind) → CanEnd s.limits t kind → Answer
+answer_at s t Whole c = s.whole t (length c.solids)
+answer_at s t CutNodes c = answers.CutNodes
+answer_at s t CutSolids c = answers.CutSolids
 
 -- a search for all solids, which are listed, after pages of them or without
-abbrev pub search_for_all : Bool → SearchLimits → ℕ → Search
-search_for_all paged limits decimals = record {
-  decimals = decimals;
+abbrev pub search_for_all : Bool → SearchLimits → Search
+search_for_all paged limits = record {
   limits = limits;
-  whole = λ solids. answers.Done;
+  whole = λ t solids. answers.Done;
   tells = ListsSolids paged limits;
   begins = BeginsToList paged limits;
+  alike = λ t. SameButPages paged;
 }
-
--- the same with the texts that begin to tell
-abbrev pub beginning : Search → Search
-beginning s = record { decimals = s.decimals; limits = s.limits; whole = s.whole; tells = s.begins; begins = s.begins }
 
 -- where a search is whole, this text; at a cut how it ended, alone
 abbrev pub WholeOrHead : (limits : SearchLimits) → ((t : Input) → CanEnd limits t Whole → List ℕ → Type 0)
@@ -56,33 +68,74 @@ WholeOrHead limits tells t Whole c text = tells t c text
 WholeOrHead limits tells t CutNodes c text = text ≡ head_of c
 WholeOrHead limits tells t CutSolids c text = text ≡ head_of c
 
--- a search that answers in one piece: so where it is whole
-abbrev pub in_one_piece : (limits : SearchLimits) → ℕ → (ℕ → Answer) → ((t : Input) → CanEnd limits t Whole → List ℕ → Type 0) → Search
-in_one_piece limits decimals whole tells = record {
-  decimals = decimals;
+-- a search that answers in one piece, so where it is whole
+abbrev pub in_one_piece : (limits : SearchLimits) → (Input → ℕ → Answer)
+    → ((t : Input) → CanEnd limits t Whole → List ℕ → Type 0) → (Input → List ℕ → List ℕ → Type 0) → Search
+in_one_piece limits whole tells alike = record {
   limits = limits;
   whole = whole;
   tells = WholeOrHead limits tells;
   begins = WholeOrHead limits tells;
+  alike = alike;
 }
 
--- a search for the solid of a number, of which this is written
-abbrev pub search_for_one : (List Cell → List ℕ → Type 0) → ℕ → SearchLimits → ℕ → Search
-search_for_one writes which limits decimals =
-    in_one_piece limits decimals (numbered_answer which) (λ t c. TellsNumbered writes which c.solids)
+-- a search for the solid of a number, of which this is written, with so many decimals
+abbrev pub search_for_one : (ℕ → List Cell → List ℕ → Type 0) → ℕ → SearchLimits → Search
+search_for_one writes which limits = in_one_piece limits (λ t. numbered_answer which)
+    (λ t c. TellsNumbered (writes t.decimals) which c.solids) (λ t text other. text ≡ other)
+
+-- ---- judgements
+
+-- What is judged of an input without a fault: the right answers, with their texts; those that begin one; the answers that leave
+-- open which of them comes, and with which text; and which texts count as one.
+pub record Judgement : Type 1 where
+  pub tells : Input → Answer → List ℕ → Type 0
+  pub begins : Input → Answer → List ℕ → Type 0
+  pub leaves_open : Input → Answer → Type 0
+  pub alike : Input → List ℕ → List ℕ → Type 0
+
+-- the search of an input can end so, and the text is one of these of that end
+abbrev pub IsAnEnd : (s : Search) → ((t : Input) (kind : EndKind) → CanEnd s.limits t kind → List ℕ → Type 0)
+    → Input → Answer → List ℕ → Type 0
+IsAnEnd s texts t answer text =
+    (kind : EndKind) × (c : CanEnd s.limits t kind) × (answer ≡ answer_at s t kind c) × texts t kind c text
+
+-- an answer is a cut
+abbrev pub IsCut : Answer → Type 0
+IsCut answers.CutNodes = Unit {0}
+IsCut answers.CutSolids = Unit {0}
+IsCut answers.Done = ⊥
+IsCut answers.Faulty = ⊥
+IsCut answers.Usage = ⊥
+IsCut answers.NoSolid = ⊥
+
+-- what an input is asked for: a search, or what is judged of it without a search of its own
+pub data Asked : Type 1 where
+  searched : Search → Asked
+  judged : Judgement → Asked
+
+-- the judgement that is asked for: of a search its ends; a cut leaves open which of the solids are told
+abbrev pub judgement_of : Asked → Judgement
+judgement_of (searched s) = record {
+  tells = IsAnEnd s s.tells;
+  begins = IsAnEnd s s.begins;
+  leaves_open = λ t. IsCut;
+  alike = s.alike;
+}
+judgement_of (judged j) = j
 
 -- ---- what is owed
 
--- a search of what the source has left; or, to words that ask for none, one answer, with these texts
+-- what an input that is read so is asked for; or, to words that ask for none, one answer, with these texts
 pub data Owed : Type 1 where
-  searched : Search → Owed
+  read : ProfileParts → Asked → Owed
   alone : Answer → (List ℕ → Type 0) → Owed
 
 -- for each job, however many work at it: a command is one line
 abbrev pub owed_for : Job → Owed
-owed_for (job.Solve workers limits pages decimals) = searched (search_for_all pages limits decimals)
-owed_for (job.Redraw which workers limits decimals) = searched (search_for_one (IsFileOf decimals) which limits decimals)
-owed_for (job.Stl which workers limits) = searched (search_for_one IsSolidStl which limits 0)
+owed_for (job.Solve workers limits pages decimals) = read (drawing_profile decimals) (searched (search_for_all pages limits))
+owed_for (job.Redraw which workers limits decimals) = read (drawing_profile decimals) (searched (search_for_one IsFileOf which limits))
+owed_for (job.Stl which workers limits) = read (drawing_profile 0) (searched (search_for_one (λ _. IsSolidStl) which limits))
 owed_for (job.Make n) = alone answers.Done (IsFileOf 0 (made_solid n))
 owed_for (job.Trial n workers) = alone answers.Done (IsTried n)
 
@@ -91,24 +144,15 @@ abbrev pub owed : Option Job → Owed
 owed (Some j) = owed_for j
 owed None = alone answers.Usage (λ text. text ≡ usage_text)
 
--- pages are asked for
-abbrev pub asks_pages : Option Job → Bool
-asks_pages (Some (job.Solve workers limits pages decimals)) = pages
-asks_pages (Some (job.Redraw which workers limits decimals)) = false
-asks_pages (Some (job.Stl which workers limits)) = false
-asks_pages (Some (job.Make n)) = false
-asks_pages (Some (job.Trial n workers)) = false
-asks_pages None = false
-
--- the same of texts that begin to tell
-abbrev pub begun : Owed → Owed
-begun (searched s) = searched (beginning s)
-begun (alone answer tells) = alone answer tells
-
 -- the source is read for it
 abbrev pub reads_source : Owed → Bool
-reads_source (searched s) = true
+reads_source (read profile asked) = true
 reads_source (alone answer tells) = false
+
+-- so many bytes of it at most: one more than an input may have
+abbrev pub most_read : Owed → ℕ
+most_read (read profile asked) = profile.most + 1
+most_read (alone answer tells) = 0
 
 -- ---- the right answers
 
@@ -116,31 +160,30 @@ reads_source (alone answer tells) = false
 abbrev pub TellsFault : Input → List ℕ → Type 0
 TellsFault t text = (fault : Fault) × IsFileFault t fault × (text ≡ fault_text fault)
 
--- an input can end a search so, and the text tells that
-abbrev pub TellsEnd : Search → Input → Answer → List ℕ → Type 0
-TellsEnd s t answer text =
-    (kind : EndKind) × (c : CanEnd s.limits t kind) × (answer ≡ answer_at s.whole kind (length c.solids)) × s.tells t kind c text
-
--- the right answer of a search to an input, and its text
-abbrev pub AnswersInput : Search → Input → Answer → List ℕ → Type 0
-AnswersInput s t answer text = ((answer ≡ answers.Faulty) × TellsFault t text) ⊎ TellsEnd s t answer text
-
--- a search has such an answer to some input
-abbrev pub IsAnswerOf : Search → Answer → Type 0
-IsAnswerOf s answer = (answer ≡ answers.Faulty) ⊎ ((kind : EndKind) × (solids : ℕ) × (answer ≡ answer_at s.whole kind solids))
+-- the right answer to an input, and its text: its first fault; or, where it has none, one of these
+abbrev pub AnswersInput : (Input → Answer → List ℕ → Type 0) → Input → Answer → List ℕ → Type 0
+AnswersInput tells t answer text = ((answer ≡ answers.Faulty) × TellsFault t text) ⊎ (HasNoFault t × tells t answer text)
 
 -- The source had t left and was read to its end; or, where t is too long, up to one byte more than
 -- the most.
-abbrev pub ReadsAllOrPast : List ℕ → Option (List ℕ) → Type 0
-ReadsAllOrPast t rest = ((length t ≤ most_file_bytes) × (rest ≡ Some []))
-    ⊎ ReadsPast (Some t) rest most_file_bytes
+abbrev pub ReadsAllOrPast : ℕ → List ℕ → Option (List ℕ) → Type 0
+ReadsAllOrPast most t rest = ((length t ≤ most) × (rest ≡ Some [])) ⊎ ReadsPast (Some t) rest most
 
--- the input of a search whose source has these bytes left
-abbrev pub input_of : Search → List ℕ → Input
-input_of s t = record { bytes = t; decimals = s.decimals }
+-- a source that had `left` and has `rest` had t left, where that is told, and was read so
+abbrev pub HasRead : ℕ → Option (List ℕ) → Option (List ℕ) → List ℕ → Type 0
+HasRead most left rest t = IfSome left (λ told. (told ≡ t) × ReadsAllOrPast most t rest)
+
+-- the right answer to an input that is read of a source, and its text
+abbrev pub AnswersRead : ProfileParts → (Input → Answer → List ℕ → Type 0) → Option (List ℕ) → Option (List ℕ) → Answer → List ℕ → Type 0
+AnswersRead profile tells left rest answer text =
+    (t : List ℕ) × HasRead profile.most left rest t × AnswersInput tells (input_of profile t) answer text
 
 -- the right answer, over a source that had `left` and has `rest`, where told, and its text
 abbrev pub AnswersOwed : Owed → Option (List ℕ) → Option (List ℕ) → Answer → List ℕ → Type 0
-AnswersOwed (searched s) left rest answer text =
-    IsAnswerOf s answer × IfSome left (λ t. ReadsAllOrPast t rest × AnswersInput s (input_of s t) answer text)
+AnswersOwed (read profile asked) left rest answer text = AnswersRead profile (judgement_of asked).tells left rest answer text
 AnswersOwed (alone right tells) left rest answer text = (rest ≡ left) × (answer ≡ right) × tells text
+
+-- the same of a text that begins one
+abbrev pub BeginsOwed : Owed → Option (List ℕ) → Option (List ℕ) → Answer → List ℕ → Type 0
+BeginsOwed (read profile asked) left rest answer text = AnswersRead profile (judgement_of asked).begins left rest answer text
+BeginsOwed (alone right tells) left rest answer text = AnswersOwed (alone right tells) left rest answer text

@@ -1,8 +1,44 @@
--- Problems that are searched.
-use Rattle.std.specs.Prelude.{◌≤◌, length}
+-- Problems that are found in inputs and searched, and what is written of them.
+use Rattle.std.specs.Prelude.{◌≡◌, ◌≤◌, Bool, ℕ, List, length, Option}
+use Rattle.file_problem.specs.Inputs.{HasProblem, Input, IsFileFault}
+use Rattle.recon_run.specs.declared.found.Found.{Found}
+use Rattle.recon_run.specs.declared.found.Found.TheVariants.{Problem, Fault}
+use Rattle.recon_run.specs.declared.export.Export.{Export}
+use Rattle.recon_run.specs.declared.export.Export.TheVariants.{Drawing, Triangles}
+use Rattle.recon_run.specs.declared.form.Form.{Form}
+use Rattle.recon_run.specs.declared.form.Form.TheVariants as form
+use Rattle.recon_run.specs.Answers.{TellsNumbered, numbered_answer}
+use Rattle.recon_run.specs.Owed.{Asked, ProfileParts, input_of, judgement_of, search_for_all, search_for_one, searched}
+use Rattle.redraw.specs.Files.{IsFileOf}
+use Rattle.replies.specs.Status.{Status}
+use Rattle.replies.specs.Writings.{EndsWriting}
+use Rattle.stl_out.specs.SolidStl.{IsSolidStl}
+use Rattle.replies.specs.declared.status.Answer.{Answer}
+use Rattle.replies.specs.declared.status.Failure.{Failure}
+use Rattle.replies.specs.declared.status.Failure.TheVariants.{WriteFault, Memory}
+use Rattle.report.specs.Texts.{head_text}
+use Rattle.search_end.specs.declared.page_out.RunFault.{RunFault}
+use Rattle.search_end.specs.declared.page_out.RunFault.TheVariants as run_fault
+use Rattle.solid_model.specs.declared.cell.Cell.{Cell}
+use Rattle.solid_model.specs.declared.segment.Segment.{Segment}
+use Rattle.solid_model.specs.declared.segment.Style.{Style}
 use Rattle.solid_model.specs.Blocks.{ProblemParts}
+use Rattle.solid_model.specs.Choices.{AreSolidsOfChoices}
+use Rattle.solid_model.specs.Forcing.{is_live}
 use Rattle.solid_model.specs.Limits.{most_solid_limit}
-use Rattle.solid_model.specs.SearchEnds.{SearchEnd}
+use Rattle.solid_model.specs.Lists.{Each}
+use Rattle.solid_model.specs.Matching.{Matches}
+use Rattle.solid_model.specs.Orders.{IsInStatedForm}
+use Rattle.solid_model.specs.Panels.{coordinates_of, IsGridOf}
+use Rattle.solid_model.specs.Search.{SearchLimits}
+use Rattle.solid_model.specs.SearchEnds.{EndsSearch, SearchEnd}
+
+-- what is found in an input: its problem, or its first fault
+abbrev pub IsFoundIn : Input → Found → Type 0
+IsFoundIn t (Problem p) = HasProblem t p
+IsFoundIn t (Fault fault) = IsFileFault t fault
+
+-- ---- searches
 
 -- a problem, and how the search of it ended
 pub record SearchedParts : Type 0 where
@@ -12,3 +48,51 @@ pub record SearchedParts : Type 0 where
 -- no search finds more solids than a limit can be
 abbrev pub HasFewSolids : SearchedParts → Type 0
 HasFewSolids s = length s.ended.solids ≤ most_solid_limit
+
+-- a search of the problem within limits has ended so
+abbrev pub IsSearchOf : SearchLimits → ProblemParts → SearchedParts → Type 0
+IsSearchOf limits p s = (s.problem ≡ p) × EndsSearch (is_live p) p.blocks.count limits s.ended
+
+-- the same, and the text is one of these of its choices
+abbrev pub TellsSearch : SearchLimits → ProblemParts → (List (List Bool) → List ℕ → Type 0) → SearchedParts → List ℕ → Type 0
+TellsSearch limits p texts s text = IsSearchOf limits p s × texts s.ended.solids text
+
+-- the first line that is told of a search
+abbrev pub search_head : SearchLimits → SearchedParts → List ℕ
+search_head limits s = head_text limits s.ended.kind (length s.ended.solids) s.ended.opened s.problem.blocks.count
+
+-- why a run fails whose search failed so
+abbrev pub run_failure : RunFault → Failure
+run_failure run_fault.PageFault = WriteFault
+run_failure run_fault.Memory = Memory
+
+-- ---- its solids
+
+-- choices of a problem's blocks fill these solids, which match a drawing whose grid is the problem's
+pub record AreFilled (p : ProblemParts) (choices : List (List Bool)) (solids : List (List Cell)) : Type 0 where
+  pub drawing : Segment → Style
+  pub grid : IsGridOf drawing p.grid
+  pub filled : AreSolidsOfChoices (coordinates_of p.grid) p.blocks.numbers p.blocks.count choices solids
+  pub matching : Each (λ s. Matches drawing s × IsInStatedForm s) solids
+
+-- the answer where the solid of a number is asked for, among these, and a text that tells it
+abbrev pub AnswersNumbered : (List Cell → List ℕ → Type 0) → ℕ → List (List Cell) → Answer → List ℕ → Type 0
+AnswersNumbered writes which solids answer text =
+    (answer ≡ numbered_answer which (length solids)) × TellsNumbered writes which solids text
+
+-- ---- forms
+
+-- what is written of a solid in a form, with so many decimals
+abbrev pub writes_of : Export → ℕ → List Cell → List ℕ → Type 0
+writes_of Drawing = IsFileOf
+writes_of Triangles = λ decimals. IsSolidStl
+
+-- what a form asks of an input
+abbrev pub asked_of : Form → Asked
+asked_of (form.AllSolids all) = searched (search_for_all all.pages all.limits)
+asked_of (form.OneSolid one) = searched (search_for_one (writes_of one.export) one.which one.limits)
+
+-- so ends the writing of what is answered in a form to an input that is read so and has this problem
+abbrev pub AnswersForm : Form → ProfileParts → ProblemParts → Option (List ℕ) → Option (List ℕ) → Type 0 → Status → Type 0
+AnswersForm f profile p held now rose status = (t : List ℕ) → HasProblem (input_of profile t) p
+    → EndsWriting ((judgement_of (asked_of f)).tells (input_of profile t)) ((judgement_of (asked_of f)).begins (input_of profile t)) held now rose status

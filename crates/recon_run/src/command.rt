@@ -1,28 +1,26 @@
 //! The run of a command.
 
-ghost use Rattle.std.specs.Prelude.{◌≡◌, ◌≤◌, ◌+◌, false, length, map, string_bytes, Err};
+ghost use Rattle.std.specs.Prelude.{◌≡◌, false, length, map, string_bytes, Err};
 ghost use Rattle.replies.specs.declared.status.Answer.TheVariants as answers;
 ghost use Rattle.replies.specs.declared.status.Failure.TheVariants.{ReadFault, WriteFault};
 ghost use Rattle.file_problem.specs.Inputs.{HasNoFault, IsFileFault};
 ghost use Rattle.recon_run.specs.Answers.{CanEnd};
-ghost use Rattle.recon_run.specs.Endings.{AnswersOrFails, Ends, EndsOrFails, OfAlone, OfSearch, owed_to};
-ghost use Rattle.recon_run.specs.Owed.{owed_for, reads_source, search_for_all, search_for_one, searched};
+ghost use Rattle.recon_run.specs.Endings.{AnswersOrFails, Ends, EndsOrFails, OfAlone, OfInput, OfSearch, owed_to};
+ghost use Rattle.recon_run.specs.Owed.{most_read, owed_for, reads_source};
 ghost use Rattle.replies.specs.Status.{Status, status_code, failure_code};
 ghost use Rattle.solid_model.specs.declared.ended.EndKind.TheVariants.{Whole};
 ghost use Rattle.solid_model.specs.declared.fault.Fault.{Fault};
-ghost use Rattle.solid_model.specs.Limits.{most_decimals, most_file_bytes};
 ghost use Rattle.tv_base.specs.Faults.{Rose};
 ghost use Rattle.tv_base.specs.Pieces.{ReadsWithin};
 ghost use Rattle.words.specs.Jobs.{IsCounted};
 
+use crate::answering::answer_source;
 use crate::crew::Crew;
-use crate::export::{Drawing, Export, Triangles};
-use crate::found::find;
-use crate::one_solid::write_found_one;
+use crate::export::Export;
+use crate::form::{AllSolids, Form, OneSolid};
+use crate::profile::Profile;
 use crate::trial::{made_file, trial};
-use crate::writing::write_found;
 use replies::{Answer, Failure, Status, code, write_reply};
-use solid_model::Limits;
 use std::alloc::Global;
 use std::sync::Wait;
 use std::thread::Threads;
@@ -32,54 +30,8 @@ use words::{Job, WordFault, job_of};
 /// The usage line.
 const USAGE: &str = "usage: recon solve|redraw|make|trial\n";
 
-/// Searches within limits for the solids of the drawing that the source has left, whose coordinates
-/// have so many decimals, and writes them, after pages of them or without.
-fn solve<R: Threads + Wait + Sync, S: Source, K: Sink, G: Gate>(
-    alloc: Global,
-    limits: Limits,
-    pages: bool,
-    decimals: u8,
-    source: &mut S,
-    sink: &mut K,
-    crew: &Crew<'_, R, G>,
-) -> Status
-    requires { decimals ≤ most_decimals }
-    ensures ends { Ends (searched (search_for_all pages limits decimals)) (S.left source.old)
-        (S.left source.new) (K.held sink.old) (K.held sink.new) (Rose (S.faults source.old) (S.faults source.new))
-        (Rose (K.faults sink.old) (K.faults sink.new)) result }
-    ensures within { ReadsWithin (S.left source.old) (S.left source.new) (most_file_bytes + 1) }
-    ensures unwritten { result ≡ Err ReadFault → sink.new ≡ sink.old }
-{
-    let found = find(alloc, decimals, source)?;
-    write_found(alloc, found, limits, pages, decimals, sink, crew)
-}
-
-/// Searches within limits for the solids of the drawing that the source has left, and writes the one
-/// of this number, counted from 1, in a form. Coordinates have so many decimals.
-fn write_one_solid<E: Export, R: Threads + Wait + Sync, S: Source, K: Sink, G: Gate>(
-    alloc: Global,
-    form: &E,
-    which: u32,
-    limits: Limits,
-    decimals: u8,
-    source: &mut S,
-    sink: &mut K,
-    crew: &Crew<'_, R, G>,
-) -> Status
-    requires which { 1 ≤ which }
-    requires decimals { decimals ≤ most_decimals }
-    ensures ends { Ends (searched (search_for_one (E.writes form.now) which limits decimals)) (S.left source.old)
-        (S.left source.new) (K.held sink.old) (K.held sink.new)
-        (Rose (S.faults source.old) (S.faults source.new))
-        (Rose (K.faults sink.old) (K.faults sink.new)) result }
-    ensures within { ReadsWithin (S.left source.old) (S.left source.new) (most_file_bytes + 1) }
-    ensures unwritten { result ≡ Err ReadFault → sink.new ≡ sink.old }
-{
-    let found = find(alloc, decimals, source)?;
-    write_found_one(alloc, form, found, which, limits, sink, crew)
-}
-
-/// Does a job over what the source has left.
+/// Does a job over what the source has left: each job that reads it picks how that is read and the
+/// form of the answer.
 fn do_job<R: Threads + Wait + Sync, S: Source, K: Sink, G: Gate>(
     rt: &R,
     alloc: Global,
@@ -93,7 +45,7 @@ fn do_job<R: Threads + Wait + Sync, S: Source, K: Sink, G: Gate>(
         (K.held sink.new) (Rose (S.faults source.old) (S.faults source.new))
         (Rose (K.faults sink.old) (K.faults sink.new)) result }
     ensures unread { reads_source (owed_for job) ≡ false → source.new ≡ source.old }
-    ensures within { ReadsWithin (S.left source.old) (S.left source.new) (most_file_bytes + 1) }
+    ensures within { ReadsWithin (S.left source.old) (S.left source.new) (most_read (owed_for job)) }
     ensures unwritten { result ≡ Err ReadFault → sink.new ≡ sink.old }
 {
     match job {
@@ -104,7 +56,9 @@ fn do_job<R: Threads + Wait + Sync, S: Source, K: Sink, G: Gate>(
             decimals,
         } => {
             let crew = Crew { rt, workers, gate };
-            solve(alloc, limits, pages, decimals, source, sink, &crew)
+            let profile = Profile::drawing(decimals);
+            let form = Form::AllSolids(AllSolids { limits, pages });
+            answer_source(alloc, &crew, &profile, &form, source, sink)
         }
         Job::Redraw {
             which,
@@ -113,8 +67,13 @@ fn do_job<R: Threads + Wait + Sync, S: Source, K: Sink, G: Gate>(
             decimals,
         } => {
             let crew = Crew { rt, workers, gate };
-            let form = Drawing::with(decimals);
-            write_one_solid(alloc, &form, which, limits, decimals, source, sink, &crew)
+            let profile = Profile::drawing(decimals);
+            let form = Form::OneSolid(OneSolid {
+                export: Export::Drawing,
+                which,
+                limits,
+            });
+            answer_source(alloc, &crew, &profile, &form, source, sink)
         }
         Job::Stl {
             which,
@@ -122,7 +81,13 @@ fn do_job<R: Threads + Wait + Sync, S: Source, K: Sink, G: Gate>(
             limits,
         } => {
             let crew = Crew { rt, workers, gate };
-            write_one_solid(alloc, &Triangles, which, limits, 0, source, sink, &crew)
+            let profile = Profile::drawing(0);
+            let form = Form::OneSolid(OneSolid {
+                export: Export::Triangles,
+                which,
+                limits,
+            });
+            answer_source(alloc, &crew, &profile, &form, source, sink)
         }
         Job::Make { n } => write_reply(Answer::Done, made_file(alloc, n)?.as_slice(), sink),
         Job::Trial { n, workers } => {
@@ -147,7 +112,8 @@ fn answer<R: Threads + Wait + Sync, S: Source, K: Sink, G: Gate>(
         (Rose (K.faults sink.old) (K.faults sink.new)) result }
     ensures unread { reads_source (owed_to (map string_bytes words.now)) ≡ false
         → source.new ≡ source.old }
-    ensures within { ReadsWithin (S.left source.old) (S.left source.new) (most_file_bytes + 1) }
+    ensures within { ReadsWithin (S.left source.old) (S.left source.new)
+        (most_read (owed_to (map string_bytes words.now))) }
     ensures read_fault { result ≡ Err ReadFault
         → Rose (S.faults source.old) (S.faults source.new) × (sink.new ≡ sink.old) }
     ensures write_fault { result ≡ Err WriteFault
@@ -190,18 +156,19 @@ pub fn run<R: Threads + Wait + Sync, S: Source, K: Sink, G: Gate>(
 
     ensures whole { OfSearch (owed_to (map string_bytes words.now)) (S.left source.old)
         (λ s input. (c : CanEnd s.limits input Whole)
-        → AnswersOrFails (s.whole (length c.solids)) result) }
+        → AnswersOrFails (s.whole input (length c.solids)) result) }
     ensures ended { OfSearch (owed_to (map string_bytes words.now)) (S.left source.old)
         (λ s input. HasNoFault input → EndsOrFails s input result) }
-    ensures fault { OfSearch (owed_to (map string_bytes words.now)) (S.left source.old)
-        (λ s input. (fault : Fault) → IsFileFault input fault
+    ensures fault { OfInput (owed_to (map string_bytes words.now)) (S.left source.old)
+        (λ input. (fault : Fault) → IsFileFault input fault
         → AnswersOrFails answers.Faulty result) }
     ensures alone { OfAlone (owed_to (map string_bytes words.now))
         (λ answer. AnswersOrFails answer result) }
 
     ensures unread { reads_source (owed_to (map string_bytes words.now)) ≡ false
         → source.new ≡ source.old }
-    ensures within { ReadsWithin (S.left source.old) (S.left source.new) (most_file_bytes + 1) }
+    ensures within { ReadsWithin (S.left source.old) (S.left source.new)
+        (most_read (owed_to (map string_bytes words.now))) }
     ensures read_fault { result ≡ failure_code ReadFault
         → Rose (S.faults source.old) (S.faults source.new) × (sink.new ≡ sink.old) }
     ensures write_fault { result ≡ failure_code WriteFault

@@ -1,23 +1,20 @@
 //! What is found in a source.
 
-ghost use Rattle.std.specs.Prelude.{◌≤◌, ◌+◌, length, IfOk, IfSome, IsErrOf};
+ghost use Rattle.std.specs.Prelude.{ℕ, List, ◌≤◌, ◌+◌, length, IfOk, IsErrOf};
 ghost use Rattle.replies.specs.declared.status.Failure.TheVariants as failure;
-ghost use Rattle.recon_run.specs.Owed.{ReadsAllOrPast};
-ghost use Rattle.recon_run.specs.Findings.{IsFoundIn};
-ghost use Rattle.solid_model.specs.Limits.{most_decimals, most_file_bytes};
+ghost use Rattle.recon_run.specs.Owed.{HasRead, input_of};
+ghost use Rattle.recon_run.specs.Searched.{IsFoundIn};
 ghost use Rattle.tv_base.specs.Faults.{Rose};
 ghost use Rattle.tv_base.specs.Pieces.{ReadsWithin};
 
+use crate::profile::Profile;
 use file_problem::problem_of;
 use replies::Failure;
 use solid_model::{Fault, Memory, Problem, Refused};
 use std::alloc::Global;
 use tv_base::{ReadEnd, Source, read_all};
 
-/// The most bytes of an input.
-const MOST_BYTES: usize = 16_777_216;
-
-/// What is found in a file.
+/// What is found in an input.
 #[derive(Drop)]
 pub enum Found {
     /// Its problem.
@@ -26,33 +23,33 @@ pub enum Found {
     Fault(Fault),
 }
 
-/// What is found in a file whose coordinates have so many decimals.
-fn find_in(alloc: Global, file: Vec<u8>, decimals: u8) -> Result<Found, Memory>
-    requires short { length file.items ≤ most_file_bytes }
-    requires decimals { decimals ≤ most_decimals }
-    ensures { IfOk result (IsFoundIn (record { bytes = file.items; decimals = decimals })) }
+/// What is found in a file that is read so.
+fn find_in(alloc: Global, profile: &Profile, file: Vec<u8>) -> Result<Found, Memory>
+    requires { length file.items ≤ profile.now.most }
+    ensures { IfOk result (IsFoundIn (input_of profile.now file.items)) }
 {
-    match problem_of(alloc, file, decimals) {
+    // A look that tells that no profile takes more bytes than a drawing has.
+    let _most = profile.most();
+    match problem_of(alloc, file, profile.decimals()) {
         Ok(problem) => Ok(Found::Problem(problem)),
         Err(Refused::Fault(fault)) => Ok(Found::Fault(fault)),
         Err(Refused::Memory) => Err(Memory),
     }
 }
 
-/// The same for what a source has left.
-pub fn find<S: Source>(alloc: Global, decimals: u8, source: &mut S) -> Result<Found, Failure>
-    requires { decimals ≤ most_decimals }
+/// What is found in what a source has left, which is read so.
+pub fn find<S: Source>(alloc: Global, profile: &Profile, source: &mut S) -> Result<Found, Failure>
     ensures later { S.faults source.old ≤ S.faults source.new }
-    ensures within { ReadsWithin (S.left source.old) (S.left source.new) (most_file_bytes + 1) }
-    ensures found { IfOk result (λ found. IfSome (S.left source.old) (λ t.
-        ReadsAllOrPast t (S.left source.new)
-        × IsFoundIn (record { bytes = t; decimals = decimals }) found)) }
+    ensures within { ReadsWithin (S.left source.old) (S.left source.new) (profile.now.most + 1) }
+    ensures found { IfOk result (λ found. (t : List ℕ)
+        × HasRead profile.now.most (S.left source.old) (S.left source.new) t
+        × IsFoundIn (input_of profile.now t) found) }
     ensures read_fault { IsErrOf result failure.ReadFault
         → Rose (S.faults source.old) (S.faults source.new) }
     ensures no_write_fault { IsErrOf result failure.WriteFault → ⊥ }
 {
-    match read_all(alloc, source, MOST_BYTES) {
-        Ok(file) => Ok(find_in(alloc, file, decimals)?),
+    match read_all(alloc, source, profile.most()) {
+        Ok(file) => Ok(find_in(alloc, profile, file)?),
         Err(ReadEnd::TooLong) => Ok(Found::Fault(Fault::TooLong)),
         Err(ReadEnd::Failed) => Err(Failure::ReadFault),
         Err(ReadEnd::Memory) => Err(Failure::Memory),

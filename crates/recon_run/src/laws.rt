@@ -1,18 +1,17 @@
 //! Laws of what is answered.
 
-ghost use Rattle.std.specs.Prelude.{◌≡◌, ◌⊎◌, ℕ, List, Option, Some};
+ghost use Rattle.std.specs.Prelude.{◌≡◌, ◌⊎◌, ◌++◌, ℕ, List, Option, Some};
 ghost use Rattle.replies.specs.declared.status.Answer.{Answer};
 ghost use Rattle.file_problem.specs.Inputs.{HasNoFault, Input, IsFileFault};
-ghost use Rattle.recon_run.specs.Endings.{Answers, IsCut, SameButPages};
-ghost use Rattle.recon_run.specs.Owed.{AnswersOwed, asks_pages, owed_for};
+ghost use Rattle.recon_run.specs.Endings.{Answers, AreAlike, LeavesOpen, owed_to};
+ghost use Rattle.recon_run.specs.Owed.{AnswersOwed, BeginsOwed, drawing_profile, input_of, owed_for};
 ghost use Rattle.solid_model.specs.declared.fault.Fault.{Fault};
 ghost use Rattle.words.specs.declared.job.Job.TheVariants as job;
-ghost use Rattle.words.specs.Jobs.{job_said};
 
 /// What `make` owes has no fault: whatever is made from a number can be searched.
 pub fn made_files_have_no_fault()
     ensures { (n : ℕ) (left rest : Option (List ℕ)) (answer : Answer) (text : List ℕ)
-        → AnswersOwed (owed_for (job.Make n)) left rest answer text → HasNoFault (record { bytes = text; decimals = 0 }) }
+        → AnswersOwed (owed_for (job.Make n)) left rest answer text → HasNoFault (input_of (drawing_profile 0) text) }
 {}
 
 /// An input has at most one first fault.
@@ -21,17 +20,18 @@ pub fn one_first_fault()
 {}
 
 /// Arguments and an input have at most one right answer, and one text that goes with it; but where
-/// both limits of the search are passed either cut is right, and a cut leaves open which of the
+/// both limits of a search are passed either cut is right, and a cut leaves open which of the
 /// solids are listed; and where pages are asked for they may tell the same solids in another order,
 /// so many in a page or so many.
 pub fn one_answer()
     ensures answer { (words : List (List ℕ)) (input : List ℕ) (rest left : Option (List ℕ))
         (a b : Answer) (text other : List ℕ) → Answers words (Some input) rest a text
-        → Answers words (Some input) left b other → (a ≡ b) ⊎ (IsCut a × IsCut b) }
+        → Answers words (Some input) left b other → (a ≡ b)
+        ⊎ (LeavesOpen (owed_to words) input a × LeavesOpen (owed_to words) input b) }
     ensures text { (words : List (List ℕ)) (input : List ℕ) (rest left : Option (List ℕ))
         (a b : Answer) (text other : List ℕ) → Answers words (Some input) rest a text
-        → Answers words (Some input) left b other → (IsCut a → ⊥)
-        → SameButPages (asks_pages (job_said words)) text other }
+        → Answers words (Some input) left b other → (LeavesOpen (owed_to words) input a → ⊥)
+        → AreAlike (owed_to words) input text other }
 {}
 
 /// Arguments and an input never lack a right answer: it can't be that no answer goes with a text.
@@ -41,4 +41,13 @@ pub fn some_answer()
         → ((rest : Option (List ℕ)) (answer : Answer) (text : List ℕ)
         → Answers words (Some input) rest answer text → ⊥)
         → ⊥ }
+{}
+
+/// A text that begins a right answer goes on to one: it can't be that nothing that follows makes it
+/// the text of a right answer. So what is written where writing stops is a prefix of such a text.
+pub fn begun_texts_go_on()
+    ensures { (words : List (List ℕ)) (left rest : Option (List ℕ)) (answer : Answer) (text : List ℕ)
+        → BeginsOwed (owed_to words) left rest answer text
+        → ((other : Answer) (more : List ℕ) → AnswersOwed (owed_to words) left rest other (text ++ more)
+        → ⊥) → ⊥ }
 {}

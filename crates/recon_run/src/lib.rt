@@ -1,19 +1,24 @@
 //! The top call: one command, from the bytes in to the bytes out.
 #![tactic(auto)]
 
+mod all_solids;
+mod answering;
 mod command;
 mod crew;
 mod export;
+mod form;
 mod found;
 mod laws;
 mod one_solid;
+mod profile;
 mod searched;
 mod telling;
 mod trial;
-mod writing;
 
 pub use command::run;
 pub use file_problem::problem_of;
-pub use laws::{made_files_have_no_fault, one_answer, one_first_fault, some_answer};
+pub use laws::{
+    begun_texts_go_on, made_files_have_no_fault, one_answer, one_first_fault, some_answer,
+};
 pub use replies::{Answer, Failure, Status, status_numbers};
 pub use words::{Job, WordFault, job_of};

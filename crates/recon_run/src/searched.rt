@@ -1,7 +1,7 @@
 //! Problems that are searched.
 
 ghost use Rattle.std.specs.Prelude.{IfOk, MatchResult};
-ghost use Rattle.recon_run.specs.Findings.{IsSearchOf};
+ghost use Rattle.recon_run.specs.Searched.{IsSearchOf};
 ghost use Rattle.search_end.specs.Pages.{CountsFaults, HasAllPaged, HasPaged};
 
 use crate::crew::Crew;
@@ -37,8 +37,7 @@ impl Model for Searched {
 
 impl Searched {
     ghost use Rattle.std.specs.Prelude.{◌≡◌};
-    ghost use Rattle.recon_run.specs.Findings.{search_head};
-    ghost use Rattle.recon_run.specs.Searched.{HasFewSolids};
+    ghost use Rattle.recon_run.specs.Searched.{HasFewSolids, search_head};
 
     /// The problem.
     pub fn problem(&self) -> &Problem
@@ -85,8 +84,15 @@ pub fn search_by<R: Threads + Wait + Sync, G: Gate, P: PageOut>(
     let Ok(shared) = Arc::try_clone(&problem) else {
         return Err(RunFault::Memory);
     };
-    let (rt, workers, gate) = (crew.rt, crew.workers, crew.gate);
-    match run_search(rt, alloc, shared, limits, workers, gate, pages) {
+    match run_search(
+        crew.rt,
+        alloc,
+        shared,
+        limits,
+        crew.workers,
+        crew.gate,
+        pages,
+    ) {
         Ok((ended, _)) => Ok(Searched { problem, ended }),
         Err(fault) => Err(fault),
     }

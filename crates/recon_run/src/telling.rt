@@ -1,7 +1,8 @@
 //! Searches that tell pages while they go on.
 
 ghost use Rattle.std.specs.Prelude.{◌≡◌, ◌≤◌, true};
-ghost use Rattle.recon_run.specs.Findings.{BeginsPages, TellsPages, TellsSearch, run_failure};
+ghost use Rattle.recon_run.specs.Pages.{BeginsPages, TellsPages};
+ghost use Rattle.recon_run.specs.Searched.{TellsSearch, run_failure};
 ghost use Rattle.replies.specs.Writings.{EndsWriting};
 ghost use Rattle.tv_base.specs.Faults.{Rose};
 

@@ -6,7 +6,8 @@ use Rattle.replies.specs.declared.status.Answer.TheVariants as answers
 use Rattle.recon_run.specs.Answers.{IsTried}
 use Rattle.recon_run.specs.Endings.{Ends}
 use Rattle.replies.specs.Writings.{IsReply}
-use Rattle.recon_run.specs.Owed.{owed_for, search_for_one, searched}
+use Rattle.recon_run.specs.Owed.{ProfileParts, owed_for, read, search_for_one, searched}
+use Rattle.stl_out.specs.SolidStl.{IsSolidStl}
 use Rattle.recon_run.proofs.Endings.{never_unread, reply_ends}
 use Rattle.redraw.specs.Files.{IsFileOf}
 use Rattle.words.specs.declared.job.Job.TheVariants as job
@@ -46,13 +47,13 @@ returns-in_ok-trial-in-Trial-clause-unwritten g c failed =
     absurd (never_unread right right (g.K.Sink.held c.args.sink.now) (g.K.Sink.held c.write_reply-in-Trial.new.sink)
     (Rose (g.K.Sink.faults c.args.sink.now) (g.K.Sink.faults c.write_reply-in-Trial.new.sink)) c.write_reply-in-Trial.result c.write_reply-in-Trial.ensures failed)
 
--- the form is the drawing with the decimals that are asked for
-pub returns-in-Redraw-clause-ends : goal.returns-in-Redraw-clause-ends
-returns-in-Redraw-clause-ends g c =
-    let left = g.S.Source.left c.args.source.now in let rest = g.S.Source.left c.write_one_solid.new.source in
-    let held = g.K.Sink.held c.args.sink.now in let now = g.K.Sink.held c.write_one_solid.new.sink in
-    let source_rose = Rose (g.S.Source.faults c.args.source.now) (g.S.Source.faults c.write_one_solid.new.source) in
-    let sink_rose = Rose (g.K.Sink.faults c.args.sink.now) (g.K.Sink.faults c.write_one_solid.new.sink) in
-    subst (λ j. Ends (owed_for j) left rest held now source_rose sink_rose c.write_one_solid.result) (sym c.in-Redraw.is)
-    (subst (λ d. Ends (searched (search_for_one (IsFileOf d) c.in-Redraw.which c.in-Redraw.limits c.in-Redraw.decimals)) left rest held now source_rose sink_rose
-    c.write_one_solid.result) c.with-form.ensures c.write_one_solid.ensures.ends)
+-- the form is that of triangles
+pub returns-in-Stl-clause-ends : goal.returns-in-Stl-clause-ends
+returns-in-Stl-clause-ends g c =
+    let left = g.S.Source.left c.args.source.now in let rest = g.S.Source.left c.answer_source-in-Stl.new.source in
+    let held = g.K.Sink.held c.args.sink.now in let now = g.K.Sink.held c.answer_source-in-Stl.new.sink in
+    let source_rose = Rose (g.S.Source.faults c.args.source.now) (g.S.Source.faults c.answer_source-in-Stl.new.source) in
+    let sink_rose = Rose (g.K.Sink.faults c.args.sink.now) (g.K.Sink.faults c.answer_source-in-Stl.new.sink) in
+    subst (λ j. Ends (owed_for j) left rest held now source_rose sink_rose c.answer_source-in-Stl.result) (sym c.in-Stl.is)
+    (subst (λ (profile : ProfileParts). Ends (read profile (searched (search_for_one (λ _. IsSolidStl) c.in-Stl.which c.in-Stl.limits))) left rest held now
+    source_rose sink_rose c.answer_source-in-Stl.result) c.drawing-profile-in-Stl.ensures c.answer_source-in-Stl.ensures.ends)

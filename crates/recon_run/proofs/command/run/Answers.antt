@@ -3,7 +3,7 @@ use Rattle.std.specs.Prelude.{string_bytes}
 use Rattle.replies.specs.declared.status.Answer.TheVariants as answers
 use Rattle.file_problem.specs.Inputs.{HasNoFault, IsFileFault}
 use Rattle.recon_run.specs.Answers.{CanEnd}
-use Rattle.recon_run.specs.Endings.{AnswersOrFails, EndsOrFails, OfAlone, OfSearch, owed_to}
+use Rattle.recon_run.specs.Endings.{AnswersOrFails, EndsOrFails, OfAlone, OfInput, OfSearch, owed_to}
 use Rattle.recon_run.proofs.DueAnswers.{faultless_ends, faulty_ends, reply_is_due, whole_ends}
 use Rattle.solid_model.specs.declared.ended.EndKind.TheVariants.{Whole}
 use Rattle.solid_model.specs.declared.fault.Fault.{Fault}
@@ -13,7 +13,7 @@ use Rattle.recon_run.proofs.command.run.Goals as goal
 pub returns-clause-whole : goal.returns-clause-whole
 returns-clause-whole g c =
     let o = owed_to (map string_bytes c.args.words.now) in let left = g.S.Source.left c.args.source.now in
-    subst (λ code. OfSearch o left (λ s input. (c : CanEnd s.limits input Whole) → AnswersOrFails (s.whole (length c.solids)) code)) (sym c.code.ensures)
+    subst (λ code. OfSearch o left (λ s input. (c : CanEnd s.limits input Whole) → AnswersOrFails (s.whole input (length c.solids)) code)) (sym c.code.ensures)
     (whole_ends o left (g.S.Source.left c.answer.new.source) (g.K.Sink.held c.args.sink.now) (g.K.Sink.held c.answer.new.sink)
     (Rose (g.S.Source.faults c.args.source.now) (g.S.Source.faults c.answer.new.source))
     (Rose (g.K.Sink.faults c.args.sink.now) (g.K.Sink.faults c.answer.new.sink)) c.answer.result c.answer.ensures.ends)
@@ -29,7 +29,7 @@ returns-clause-ended g c =
 pub returns-clause-fault : goal.returns-clause-fault
 returns-clause-fault g c =
     let o = owed_to (map string_bytes c.args.words.now) in let left = g.S.Source.left c.args.source.now in
-    subst (λ code. OfSearch o left (λ s input. (fault : Fault) → IsFileFault input fault → AnswersOrFails answers.Faulty code)) (sym c.code.ensures)
+    subst (λ code. OfInput o left (λ input. (fault : Fault) → IsFileFault input fault → AnswersOrFails answers.Faulty code)) (sym c.code.ensures)
     (faulty_ends o left (g.S.Source.left c.answer.new.source) (g.K.Sink.held c.args.sink.now) (g.K.Sink.held c.answer.new.sink)
     (Rose (g.S.Source.faults c.args.source.now) (g.S.Source.faults c.answer.new.source))
     (Rose (g.K.Sink.faults c.args.sink.now) (g.K.Sink.faults c.answer.new.sink)) c.answer.result c.answer.ensures.ends)

@@ -1,6 +1,6 @@
 -- Where no pages are asked for, none are written.
 use Rattle.std.proofs.Common.{Bool, [], refl, sym, subst}
-use Rattle.recon_run.specs.Findings.{TellsPages}
+use Rattle.recon_run.specs.Pages.{TellsPages}
 use Rattle.recon_run.proofs.Searching.{appends_none}
 use Rattle.recon_run.proofs.telling.search_telling.Goals as goal
 
@@ -9,7 +9,7 @@ returns-in_ok-search-clause-ends g c = (
   [],
   (
     c.in_ok-search.ensures,
-    subst (λ (paged : Bool). TellsPages paged c.in_ok-search.field-0 []) (sym c.if-pages.false) ([], refl, refl),
+    subst (λ (paged : Bool). TellsPages paged c.in_ok-search.field-0.ended.solids []) (sym c.if-pages.false) ([], refl, refl),
   ),
   appends_none (g.K.Sink.held c.args.sink.now),
 )

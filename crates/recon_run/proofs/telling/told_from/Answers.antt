@@ -2,7 +2,8 @@
 use Rattle.std.proofs.Common.{ℕ, List, Option, Some, Err, true, ap, subst, subst₂, sym}
 use Rattle.std.specs.Io.KnownBytes.{Appends}
 use Rattle.replies.specs.declared.status.Failure.{Failure}
-use Rattle.recon_run.specs.Findings.{BeginsPages, TellsPages, TellsSearch}
+use Rattle.recon_run.specs.Pages.{BeginsPages, TellsPages}
+use Rattle.recon_run.specs.Searched.{TellsSearch}
 use Rattle.replies.specs.Writings.{EndsWriting}
 use Rattle.sink_pages.specs.Gained.{PagesState}
 use Rattle.recon_run.proofs.Paged.{all_told, failed_ends}

@@ -1,0 +1,17 @@
+-- What was found is answered rightly.
+use Rattle.std.proofs.Common.{subst}
+use Rattle.recon_run.specs.Owed.{input_of}
+use Rattle.recon_run.specs.Searched.{IsFoundIn, asked_of}
+use Rattle.recon_run.proofs.Endings.{judged_ends}
+use Rattle.tv_base.specs.Faults.{Rose}
+use Rattle.recon_run.proofs.answering.answer_source.Goals as goal
+
+pub returns-in-Problem-clause-ends : goal.returns-in-Problem-clause-ends
+returns-in-Problem-clause-ends g c =
+    let profile = c.args.profile.now in let problem = c.in-Problem.problem in
+    let (t, reads, found) = c.in_ok-found.ensures.found in
+    let has = subst (IsFoundIn (input_of profile t)) c.in-Problem.is found in
+    judged_ends profile (asked_of c.args.form.now) (g.S.Source.left c.args.source.now) (g.S.Source.left c.find.new.source)
+    (Rose (g.S.Source.faults c.args.source.now) (g.S.Source.faults c.find.new.source))
+    (Rose (g.K.Sink.faults c.args.sink.now) (g.K.Sink.faults c.answer_problem.new.sink)) t reads (g.K.Sink.held c.args.sink.now) (g.K.Sink.held c.answer_problem.new.sink)
+    c.answer_problem.result problem has (c.answer_problem.ensures t has)

@@ -1,0 +1,151 @@
+//! The form that lists all solids: the one answer that is written text by text.
+
+ghost use Rattle.std.specs.Prelude.{◌≡◌, ◌≤◌, ℕ, List, [], ◌∷◌, length, take};
+ghost use Rattle.recon_run.specs.Answers.{BeginsAll, TellsAll, TellsSolid, TellsSolids};
+ghost use Rattle.recon_run.specs.Searched.{AnswersForm, AreFilled, search_head};
+ghost use Rattle.recon_run.specs.declared.form.Form.TheVariants as form;
+ghost use Rattle.replies.specs.Writings.{EndsText};
+ghost use Rattle.solid_model.specs.declared.cell.Cell.{Cell};
+ghost use Rattle.solid_model.specs.Limits.{most_decimals, most_solid_limit};
+ghost use Rattle.tv_base.specs.Faults.{Rose};
+
+use crate::crew::Crew;
+use crate::form::AllSolids;
+use crate::profile::Profile;
+use crate::searched::Searched;
+use crate::telling::search_telling;
+use replies::{Answer, Failure, Status, write_text};
+use report::{SolidRoom, SolidTexts};
+use solid_model::{Choice, Limits, Problem};
+use std::alloc::Global;
+use std::sync::Wait;
+use std::thread::Threads;
+use tv_base::{Gate, Sink};
+
+/// Writes the text of the solid of this number that a choice of a problem's blocks fills.
+fn write_solid<K: Sink>(
+    alloc: Global,
+    texts: &SolidTexts<'_>,
+    number: u32,
+    choice: &Choice,
+    room: &mut SolidRoom,
+    sink: &mut K,
+) -> Result<(), Failure>
+    requires { room.old.rows.sizes ≡ texts.now.problem.blocks.sizes }
+    ensures sizes { room.new.rows.sizes ≡ texts.now.problem.blocks.sizes }
+    ensures later { K.faults sink.old ≤ K.faults sink.new }
+    ensures ends { (s : List Cell) → AreFilled texts.now.problem (choice.now ∷ []) (s ∷ [])
+        → EndsText (TellsSolid texts.now.decimals number choice.now s)
+        (TellsSolid texts.now.decimals number choice.now s) (K.held sink.old) (K.held sink.new)
+        (Rose (K.faults sink.old) (K.faults sink.new)) result }
+{
+    texts.tell(alloc, number, choice, room)?;
+    write_text(sink, room.text.as_slice())
+}
+
+/// Writes the text of each solid that choices of a problem's blocks fill, numbered from 1, one after
+/// another in the same room.
+fn write_solids<K: Sink>(
+    alloc: Global,
+    texts: &SolidTexts<'_>,
+    choices: &[Choice],
+    room: &mut SolidRoom,
+    sink: &mut K,
+) -> Result<(), Failure>
+    requires few { length choices.now ≤ most_solid_limit }
+    requires sizes { room.old.rows.sizes ≡ texts.now.problem.blocks.sizes }
+    ensures later { K.faults sink.old ≤ K.faults sink.new }
+    ensures ends { (solids : List (List Cell)) → AreFilled texts.now.problem choices.now solids
+        → EndsText (TellsSolids texts.now.decimals 1 choices.now solids)
+        (λ text. (first : ℕ) × TellsSolids texts.now.decimals 1 (take first choices.now)
+        (take first solids) text) (K.held sink.old) (K.held sink.new)
+        (Rose (K.faults sink.old) (K.faults sink.new)) result }
+{
+    for (place, choice) in choices.iter().enumerate() {
+        write_solid(alloc, texts, place as u32 + 1, choice, room, sink)?;
+    }
+    Ok(())
+}
+
+/// Writes how a search within limits ended that has no solids.
+fn write_none<K: Sink>(
+    alloc: Global,
+    searched: &Searched,
+    limits: Limits,
+    sink: &mut K,
+) -> Result<(), Failure>
+    requires { searched.now.ended.solids ≡ [] }
+    ensures later { K.faults sink.old ≤ K.faults sink.new }
+    ensures ends { (decimals : ℕ) (solids : List (List Cell))
+        → AreFilled searched.now.problem searched.now.ended.solids solids → EndsText
+        (TellsAll (search_head limits searched.now) decimals searched.now.ended.solids solids)
+        (BeginsAll (search_head limits searched.now) decimals searched.now.ended.solids solids)
+        (K.held sink.old) (K.held sink.new) (Rose (K.faults sink.old) (K.faults sink.new)) result }
+{
+    let head = searched.head(alloc, limits)?;
+    write_text(sink, head.as_slice())
+}
+
+/// Writes how a search within limits ended, and its solids, whose coordinates have so many decimals.
+fn write_all<K: Sink>(
+    alloc: Global,
+    searched: &Searched,
+    limits: Limits,
+    decimals: u8,
+    sink: &mut K,
+) -> Result<(), Failure>
+    requires { decimals ≤ most_decimals }
+    ensures later { K.faults sink.old ≤ K.faults sink.new }
+    ensures ends { (solids : List (List Cell))
+        → AreFilled searched.now.problem searched.now.ended.solids solids → EndsText
+        (TellsAll (search_head limits searched.now) decimals searched.now.ended.solids solids)
+        (BeginsAll (search_head limits searched.now) decimals searched.now.ended.solids solids)
+        (K.held sink.old) (K.held sink.new) (Rose (K.faults sink.old) (K.faults sink.new)) result }
+{
+    let texts = SolidTexts::of(alloc, searched.problem(), decimals)?;
+    let mut room = texts.room(alloc)?;
+    write_text(sink, searched.head(alloc, limits)?.as_slice())?;
+    let solids = searched.ended().solids.as_slice();
+    write_solids(alloc, &texts, solids, &mut room, sink)
+}
+
+/// The same; where there are no solids, nothing is made ready for them.
+fn write_searched<K: Sink>(
+    alloc: Global,
+    searched: &Searched,
+    limits: Limits,
+    decimals: u8,
+    sink: &mut K,
+) -> Result<(), Failure>
+    requires { decimals ≤ most_decimals }
+    ensures later { K.faults sink.old ≤ K.faults sink.new }
+    ensures ends { (solids : List (List Cell))
+        → AreFilled searched.now.problem searched.now.ended.solids solids → EndsText
+        (TellsAll (search_head limits searched.now) decimals searched.now.ended.solids solids)
+        (BeginsAll (search_head limits searched.now) decimals searched.now.ended.solids solids)
+        (K.held sink.old) (K.held sink.new) (Rose (K.faults sink.old) (K.faults sink.new)) result }
+{
+    if searched.ended().solids.is_empty() {
+        write_none(alloc, searched, limits, sink)
+    } else {
+        write_all(alloc, searched, limits, decimals, sink)
+    }
+}
+
+/// Searches a problem for its solids, and writes all of them, after pages of them or without.
+pub fn answer_all<R: Threads + Wait + Sync, G: Gate, K: Sink>(
+    alloc: Global,
+    crew: &Crew<'_, R, G>,
+    all: &AllSolids,
+    profile: &Profile,
+    problem: Problem,
+    sink: &mut K,
+) -> Status
+    ensures { AnswersForm (form.AllSolids all.now) profile.now problem (K.held sink.old)
+        (K.held sink.new) (Rose (K.faults sink.old) (K.faults sink.new)) result }
+{
+    let limits = all.limits;
+    let searched = search_telling(alloc, problem, limits, all.pages, sink, crew)?;
+    write_searched(alloc, &searched, limits, profile.decimals(), sink)?;
+    Ok(Answer::at_end(searched.ended().kind))
+}

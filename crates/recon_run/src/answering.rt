@@ -1,0 +1,77 @@
+//! The one road from a source to what is written of its input.
+
+ghost use Rattle.std.specs.Prelude.{◌≡◌, ◌+◌, Err};
+ghost use Rattle.recon_run.specs.Endings.{Ends};
+ghost use Rattle.recon_run.specs.Owed.{read};
+ghost use Rattle.recon_run.specs.Searched.{AnswersForm, asked_of};
+ghost use Rattle.replies.specs.declared.status.Answer.TheVariants as answers;
+ghost use Rattle.replies.specs.declared.status.Failure.TheVariants.{ReadFault};
+ghost use Rattle.replies.specs.Writings.{EndsWriting, IsReply};
+ghost use Rattle.report.specs.FaultText.{fault_text};
+ghost use Rattle.tv_base.specs.Faults.{Rose};
+ghost use Rattle.tv_base.specs.Pieces.{ReadsWithin};
+
+use crate::all_solids::answer_all;
+use crate::crew::Crew;
+use crate::form::Form;
+use crate::found::{Found, find};
+use crate::one_solid::answer_one;
+use crate::profile::Profile;
+use replies::{Answer, Status, write_reply};
+use report::fault_text;
+use solid_model::{Fault, Problem};
+use std::alloc::Global;
+use std::sync::Wait;
+use std::thread::Threads;
+use tv_base::{Gate, Sink, Source};
+
+/// Writes what is answered in a form to an input that is read so and has this problem; the crew works
+/// at what is searched.
+fn answer_problem<R: Threads + Wait + Sync, G: Gate, K: Sink>(
+    alloc: Global,
+    crew: &Crew<'_, R, G>,
+    form: &Form,
+    profile: &Profile,
+    problem: Problem,
+    sink: &mut K,
+) -> Status
+    ensures { AnswersForm form.now profile.now problem (K.held sink.old) (K.held sink.new)
+        (Rose (K.faults sink.old) (K.faults sink.new)) result }
+{
+    match form {
+        Form::AllSolids(all) => answer_all(alloc, crew, all, profile, problem, sink),
+        Form::OneSolid(one) => answer_one(alloc, crew, one, profile, problem, sink),
+    }
+}
+
+/// Writes what every form answers to an input that has a fault.
+fn write_fault<K: Sink>(alloc: Global, fault: &Fault, sink: &mut K) -> Status
+    ensures { EndsWriting (IsReply answers.Faulty (fault_text fault.now))
+        (IsReply answers.Faulty (fault_text fault.now)) (K.held sink.old) (K.held sink.new)
+        (Rose (K.faults sink.old) (K.faults sink.new)) result }
+{
+    write_reply(Answer::Faulty, fault_text(alloc, fault)?.as_slice(), sink)
+}
+
+/// Reads what the source has left, and writes its first fault, or what the form answers.
+pub fn answer_source<R: Threads + Wait + Sync, G: Gate, S: Source, K: Sink>(
+    alloc: Global,
+    crew: &Crew<'_, R, G>,
+    profile: &Profile,
+    form: &Form,
+    source: &mut S,
+    sink: &mut K,
+) -> Status
+    ensures ends { Ends (read profile.now (asked_of form.now)) (S.left source.old)
+        (S.left source.new) (K.held sink.old) (K.held sink.new)
+        (Rose (S.faults source.old) (S.faults source.new))
+        (Rose (K.faults sink.old) (K.faults sink.new)) result }
+    ensures within { ReadsWithin (S.left source.old) (S.left source.new) (profile.now.most + 1) }
+    ensures unwritten { result ≡ Err ReadFault → sink.new ≡ sink.old }
+{
+    let found = find(alloc, profile, source)?;
+    match found {
+        Found::Problem(problem) => answer_problem(alloc, crew, form, profile, problem, sink),
+        Found::Fault(fault) => write_fault(alloc, &fault, sink),
+    }
+}

@@ -1,0 +1,31 @@
+//! Forms of answer.
+
+ghost use Rattle.std.specs.Prelude.{◌≤◌};
+
+use crate::export::Export;
+use solid_model::Limits;
+
+/// All solids, after pages of them or without.
+#[derive(Clone, Copy)]
+pub struct AllSolids {
+    pub limits: Limits,
+    pub pages: bool,
+}
+
+/// One of all solids, by its number, counted from 1, in the form that it is exported in.
+#[derive(Clone, Copy)]
+pub struct OneSolid {
+    pub export: Export,
+    pub which: u32,
+    pub limits: Limits,
+    ghost some: { 1 ≤ which },
+}
+
+/// A form of answer: what is asked of an input that has no fault.
+#[derive(Clone, Copy)]
+pub enum Form {
+    /// Its solids, all of them.
+    AllSolids(AllSolids),
+    /// One of its solids.
+    OneSolid(OneSolid),
+}
