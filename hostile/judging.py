@@ -4,22 +4,13 @@ import pathlib
 import subprocess
 import sys
 
-TOP = pathlib.Path(__file__).resolve().parent.parent
-PROGRAM = TOP / "crates" / "recon" / "out" / "recon"
-sys.path.append(str(TOP / "bench"))
+# What runs and times the program, and what makes drawings, stands there.
+sys.path.append(str(pathlib.Path(__file__).resolve().parent.parent / "bench"))
 
 # What a run is over: the program's words, and what it reads.
 Job = collections.namedtuple("Job", "words text")
 # What an undisturbed run gave: its status, what it wrote without the pages, and the choices that it lists.
 Answer = collections.namedtuple("Answer", "status text choices")
-
-
-def program():
-    """The built program, or the one that the first argument names."""
-    path = pathlib.Path(sys.argv[1] if len(sys.argv) > 1 else PROGRAM).resolve()
-    if not path.exists():
-        sys.exit(f"{path} isn't built: (cd crates/recon && rt run -- solve < ../../examples/unit_cube.dxf)")
-    return path
 
 
 def answer(path, job):
