@@ -47,6 +47,11 @@ x -> 1 fault F2 BadCode line 1
 0\r\r|EOF| -> 1 fault F2 BadCode line 1
 0\r |EOF| -> 1 fault F2 BadCode line 1
 0\rEOF| -> 1 fault F2 BadCode line 1
+-- Vertical tabs and form feeds are no blanks.
+0|\u{b}EOF| -> 1 fault F5 BadSection line 1
+0|EOF\u{c}| -> 1 fault F5 BadSection line 1
+\u{c}0|EOF| -> 1 fault F2 BadCode line 1
+0\u{b}|EOF| -> 1 fault F2 BadCode line 1
 -- Pairs: what may stand outside the sections.
 = #1
 0 ENDSEC -> 1 fault F5 BadSection line 1
