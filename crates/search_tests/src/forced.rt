@@ -121,7 +121,7 @@ fn push_closed(text: &mut String, partial: &mut Partial<'_>) -> Result<(), Fail>
 }
 
 /// What is known of a problem where the first blocks are decided.
-fn begun<'a>(alloc: Global, problem: &'a Problem, values: &str) -> Result<Partial<'a>, Fail> {
+pub fn begun<'a>(alloc: Global, problem: &'a Problem, values: &str) -> Result<Partial<'a>, Fail> {
     let mut partial = Partial::new(alloc, problem)?;
     decide_first(&mut partial, values)?;
     Ok(partial)
