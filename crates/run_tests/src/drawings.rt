@@ -86,14 +86,17 @@ line S 0 0 5 0, line D 0 3 2 3, line S 2 3 5 3, line S 0 4 2 4, line S 0 0 0 4, 
     face +z at 3 loop 2,0,3 5,0,3 5,5,3 0,5,3 0,1,3 2,1,3|face +z at 4 loop 0,0,4 2,0,4 2,1,4 0,1,4
 -- A lattice of voids with 4,097 blocks.
 lattice 16 16; lattice 16 16; lattice 16 16 -> 1 fault F18 TooManyBlocks count 4097
--- One line more than 32 cubes on the diagonal; and two axes that are too fine.
+-- One line more than 32 cubes on the diagonal; two axes that are too fine; and 66 heights in the side view.
 diagonal 32, line S 64 0 64 1; diagonal 32; diagonal 32 -> 1 fault F17 TooFine axis x count 65
 diagonal 32, line S 64 0 64 1; diagonal 32, line S 0 64 1 64; diagonal 32 -> \
     1 fault F17 TooFine axis x count 65
 diagonal 32, line S 0 64 1 64; diagonal 32, line S 0 66 1 66, line S 0 67 1 67; diagonal 32 -> \
     1 fault F17 TooFine axis y count 66
--- Views that show nothing.
+rect S 0 0 1 1; rect S 0 0 1 1; lattice 1 32 -> 1 fault F17 TooFine axis z count 66
+-- The unit cube's views in two sections; and views that show nothing.
 = 0 SECTION, 2 ENTITIES, #1, 0 ENDSEC, 0 EOF
+TOP, rect S 0 0 1 1, SIDE, rect S 0 0 1 1, 0 ENDSEC, 0 SECTION, 2 ENTITIES, \
+    FRONT, rect S 0 0 1 1 -> unit cube
 FRONT, rect S 0 0 1 1, TOP, rect S 0 0 1 1 -> 1 fault F14 EmptyView view SIDE
 FRONT, rect S 0 0 1 1, TOP, rect S 0 0 1 1, SIDE, line S 3 3 3 3 -> 1 fault F14 EmptyView view SIDE
 FRONT, rect S 0 0 1 1, TOP, line S 4 4 4 4 -> 1 fault F14 EmptyView view TOP

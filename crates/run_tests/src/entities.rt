@@ -12,6 +12,10 @@ pub const ENTITIES: &str = "\
 0 LINE, 8 FRONT, 67 1, 6 PHANTOM, 10 x -> unit cube
 8 FRONT, 10 x -> unit cube
 0 LINE, 8 NOTES, 10 0, 20 0, 11 1, 21 0 -> unit cube
+0 LINE, 8 RIGHT, 10 x -> unit cube
+0 TRACE, 8 TOP, 6 PHANTOM, 10 x -> unit cube
+0 MLINE, 8 FRONT, 10 0, 20 0 -> unit cube
+0 REGION, 8 SIDE -> unit cube
 -- What a line may tell in any order, or twice, or isn't read of it.
 0 LINE, 8 FRONT, 10 5, 20 5, 11 5, 21 5 -> unit cube
 0 LINE, 21 0, 11 1, 20 0, 10 0, 8 FRONT -> unit cube
@@ -35,7 +39,11 @@ pub const ENTITIES: &str = "\
 0 LINE, 8 FRONT, 10 x -> 1 fault F6 BadNumber line 10 code 10
 0 LINE, 8 FRONT, 10 0, 20 0.5 -> 1 fault F7 NotWhole line 12 code 20
 0 LINE, 8 FRONT, 11 2000000000 -> 1 fault F8 TooFar line 10 code 11
+0 LINE, 8 FRONT, 20 1000000001 -> 1 fault F8 TooFar line 10 code 20
+0 LINE, 8 FRONT, 10 0, 20 0, 21 -1000000001 -> 1 fault F8 TooFar line 14 code 21
 0 LINE, 8 FRONT, 21 - -> 1 fault F6 BadNumber line 10 code 21
+0 LINE, 8 FRONT, 20 x -> 1 fault F6 BadNumber line 10 code 20
+0 LINE, 8 FRONT, 20 0, 11 1e -> 1 fault F6 BadNumber line 12 code 11
 0 LINE, 8 FRONT, 21 .5, 10 x -> 1 fault F7 NotWhole line 10 code 21
 -- Coordinates that stand there again.
 0 LINE, 8 FRONT, 10 0, 10 x -> 1 fault F10 Repeated line 11 code 10

@@ -47,6 +47,11 @@ x -> 1 fault F2 BadCode line 1
 0\r\r|EOF| -> 1 fault F2 BadCode line 1
 0\r |EOF| -> 1 fault F2 BadCode line 1
 0\rEOF| -> 1 fault F2 BadCode line 1
+-- Vertical tabs and form feeds are no blanks.
+0|\u{b}EOF| -> 1 fault F5 BadSection line 1
+0|EOF\u{c}| -> 1 fault F5 BadSection line 1
+\u{c}0|EOF| -> 1 fault F2 BadCode line 1
+0\u{b}|EOF| -> 1 fault F2 BadCode line 1
 -- Pairs: what may stand outside the sections.
 = #1
 0 ENDSEC -> 1 fault F5 BadSection line 1
@@ -96,9 +101,11 @@ pub const SIZES: &str = "\
 0 EOF -> unit cube
 0 EOF  -> 1 fault F16 TooLong
 -- The first line of the unit cube, 99,988 times before its 12 lines, and 100,001 times; and 99,999
--- times before a polyline of two lines.
+-- times before a polyline of two lines. Lines of no length, 100,000 before an oblique one, and 100,001.
 = 0 SECTION, 2 ENTITIES, #1, 0 ENDSEC, 0 EOF
 99988 * line S 0 0 1 0, cube -> unit cube
 100001 * line S 0 0 1 0 -> 1 fault F15 TooManyLines line 1800005
 99999 * line S 0 0 1 0, 0 LWPOLYLINE, 8 FRONT, 70 1, 10 0, 20 0, 10 1, 20 0 -> \
-    1 fault F15 TooManyLines line 1799987";
+    1 fault F15 TooManyLines line 1799987
+100000 * line S 0 0 0 0, line S 0 0 1 1 -> 1 fault F11 Oblique line 1800005
+100001 * line S 0 0 0 0 -> 1 fault F15 TooManyLines line 1800005";

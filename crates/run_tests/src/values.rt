@@ -42,6 +42,8 @@ pub const LINETYPES: &str = "\
 999 x; 0 LAYER, 6 DASHED, 2 FRONT -> three cubes
 6 BYLAYER; 0 LAYER, 2 FRONT, 6 HIDDEN, 6 PHANTOM -> three cubes
 6 BYLAYER; 0 LAYER, 2 FRONT, 6 HIDDEN, 0 LAYER, 2 FRONT, 6 PHANTOM -> three cubes
+6 BYLAYER; 0 LAYER, 2 FRONT, 6 HIDDEN, 0 ENDSEC, 0 SECTION, 2 TABLES, \
+    0 LAYER, 2 FRONT, 6 CONTINUOUS -> three cubes
 6 BYLAYER; 0 LAYER, 2 FRONT, 102 {A, 6 PHANTOM, 102 }, 6 HIDDEN -> three cubes
 6 BYLAYER; 0 LAYER, 2 NOTES, 102 {A, 0 LAYER, 2 FRONT, 6 HIDDEN -> three cubes
 -- Linetypes of centre lines, which are passed over unread.
@@ -58,6 +60,9 @@ pub const LINETYPES: &str = "\
 6 BYLAYER; 0 LAYER, 2 FRONT, 6 CENTER -> three cubes
 -- Linetypes that have no style.
 6 PHANTOM; 5 1 -> 1 fault F12 Linetype line 13
+6 DOT; 5 1 -> 1 fault F12 Linetype line 13
+6 DASHDOT; 5 1 -> 1 fault F12 Linetype line 13
+6 DIVIDE; 5 1 -> 1 fault F12 Linetype line 13
 6 HIDDENX; 5 1 -> 1 fault F12 Linetype line 13
 6 HIDDEN 2; 5 1 -> 1 fault F12 Linetype line 13
 6 ; 5 1 -> 1 fault F12 Linetype line 13

@@ -13,7 +13,8 @@ use test_files::{Row, row_of};
 /// blocks are decided: a `1` for a full one, a `0` for an empty one. Wanted are the steps that its
 /// lines force, each block with its value and the line, and how they end; and how closing ends, with
 /// what is then known of each block where it is stable. The drawings show one cell, the quartered cube,
-/// that cube with half of a stroke hidden from above, and two cubes along an edge.
+/// that cube with half of a stroke hidden from above, two cubes along an edge, and three that no solid
+/// shows.
 const FORCED: &str = "\
 rect S 0 0 1 1; rect S 0 0 1 1; rect S 0 0 1 1 -> 0+ FRONT false 0 0, stable; stable 1
 rect S 0 0 2 2, line S 0 1 2 1, line S 1 0 1 2; rect S 0 0 2 2, line S 0 1 2 1, line S 1 0 1 2; \
@@ -33,7 +34,15 @@ rect S 0 0 2 2, line S 0 1 2 1, line S 1 0 1 2; \
     0+ TOP false 0 0, 1- FRONT true 1 0, 3+ FRONT false 0 1, 5+ TOP false 0 1, 7- TOP false 1 1, \
     conflict TOP true 1 1; conflict
 rect S 0 0 2 1, line S 1 0 1 1; rect S 0 0 1 1, rect S 1 1 2 2; rect S 0 0 2 1, line S 1 0 1 1 -> \
-    0+ FRONT false 0 0, 1+ FRONT false 0 1, stable; stable 11";
+    0+ FRONT false 0 0, 1+ FRONT false 0 1, stable; stable 11
+rect S 0 0 2 1, line D 1 0 1 1; rect S 0 0 2 2, line S 1 0 1 2; rect S 0 0 2 1, line S 1 0 1 1 -> \
+    0+ FRONT true 1 0, 1+ FRONT true 1 0, conflict FRONT true 1 0; conflict
+rect S 0 0 2 1, line D 1 0 1 1; \
+    line S 1 0 2 0, line S 0 1 1 1, line S 0 2 2 2, line S 0 1 0 2, line S 1 0 1 3, line S 2 0 2 3, \
+    line S 1 3 2 3; rect S 0 0 3 1, line D 1 0 1 1, line D 2 0 2 1 -> \
+    1+ FRONT false 0 0, 0+ FRONT true 1 0, conflict FRONT true 1 0; conflict
+line S 0 0 2 0, line S 0 2 2 2, line S 0 0 0 1, line D 0 1 0 2, line D 2 0 2 1, line S 2 1 2 2; \
+    rect S 0 0 2 2; rect S 0 0 2 2 -> conflict FRONT true 0 1; conflict";
 
 /// Decides the first blocks.
 fn decide_first(partial: &mut Partial<'_>, values: &str) -> Result<(), Fail> {
@@ -112,7 +121,7 @@ fn push_closed(text: &mut String, partial: &mut Partial<'_>) -> Result<(), Fail>
 }
 
 /// What is known of a problem where the first blocks are decided.
-fn begun<'a>(alloc: Global, problem: &'a Problem, values: &str) -> Result<Partial<'a>, Fail> {
+pub fn begun<'a>(alloc: Global, problem: &'a Problem, values: &str) -> Result<Partial<'a>, Fail> {
     let mut partial = Partial::new(alloc, problem)?;
     decide_first(&mut partial, values)?;
     Ok(partial)

@@ -10,6 +10,8 @@ mod demands;
 #[cfg(test)]
 mod forced;
 #[cfg(test)]
+mod masks;
+#[cfg(test)]
 mod searches;
 #[cfg(test)]
 mod trees;

@@ -89,7 +89,8 @@ impl OwnerSeat {
         }
     }
 
-    /// Takes the deque's first piece. `None` only where the deque was empty at a step of the call.
+    /// Takes the deque's first piece. `None` only where the deque was empty at a step of the call: the
+    /// clause tells that of a seat with all parts, at whose deque nobody else is; of others tests do.
     pub fn take(&mut self) -> Option<Prefix>
         ensures taken { MatchOption result
             ((self.new ≡ self.old) × Held [] (owner_account self.old))

@@ -27,12 +27,12 @@ fn wait_for(count: &AtomicU64, number: u64) -> bool {
 }
 
 /// Holds each of two workers inside its second expansion's beginning until the other one has come
-/// there too, so that both are inside at once.
+/// there too, so that both are inside at once, and counts those that met the other.
 #[derive(Drop)]
 struct Meeting {
     first: AtomicU64,
     second: AtomicU64,
-    given_up: AtomicU64,
+    met: AtomicU64,
 }
 
 impl Gate for Meeting {
@@ -46,18 +46,20 @@ impl Gate for Meeting {
             (&self.second, &self.first)
         };
         let before = own.fetch_add(1, Ordering::SeqCst);
-        if before == 1 && !wait_for(other, 2) {
-            self.given_up.fetch_add(1, Ordering::SeqCst);
+        if before == 1 && wait_for(other, 2) {
+            self.met.fetch_add(1, Ordering::SeqCst);
         }
     }
 }
 
-/// Holds each of two workers at its third expansion's beginning until a page was written.
+/// Holds each of two workers at its third expansion's beginning until a page was written, and counts
+/// those that were held and those that gave up.
 #[derive(Drop)]
 struct PageFirst {
     first: AtomicU64,
     second: AtomicU64,
     pages: AtomicU64,
+    held: AtomicU64,
     given_up: AtomicU64,
 }
 
@@ -71,8 +73,11 @@ impl Gate for PageFirst {
                     &self.second
                 };
                 let before = own.fetch_add(1, Ordering::SeqCst);
-                if before == 2 && !wait_for(&self.pages, 1) {
-                    self.given_up.fetch_add(1, Ordering::SeqCst);
+                if before == 2 {
+                    self.held.fetch_add(1, Ordering::SeqCst);
+                    if !wait_for(&self.pages, 1) {
+                        self.given_up.fetch_add(1, Ordering::SeqCst);
+                    }
                 }
             }
             Point::AfterReport => {}
@@ -96,31 +101,33 @@ fn found_by_two<R: Threads + Wait + Sync, G: Gate>(
     }
 }
 
-/// How many solids a search with a meeting finds, if no worker gave up.
+/// How many solids a search with a meeting finds, if both workers met there.
 fn found_at_meeting<R: Threads + Wait + Sync>(rt: &R, alloc: Global) -> Result<usize, Fail> {
     let gate = Meeting {
         first: AtomicU64::new(0),
         second: AtomicU64::new(0),
-        given_up: AtomicU64::new(0),
+        met: AtomicU64::new(0),
     };
     let found = found_by_two(rt, alloc, &gate)?;
-    if gate.given_up.load(Ordering::SeqCst) > 0 {
-        return Err(Fail::from("given up"));
+    if gate.met.load(Ordering::SeqCst) != 2 {
+        return Err(Fail::from("no meeting"));
     }
     Ok(found)
 }
 
-/// How many solids a search finds whose workers wait for a page, if none gave up.
+/// How many solids a search finds whose workers wait for a page, if some worker was held for one and
+/// none gave up: so a page was written while a third expansion was still to come.
 fn found_with_page<R: Threads + Wait + Sync>(rt: &R, alloc: Global) -> Result<usize, Fail> {
     let gate = PageFirst {
         first: AtomicU64::new(0),
         second: AtomicU64::new(0),
         pages: AtomicU64::new(0),
+        held: AtomicU64::new(0),
         given_up: AtomicU64::new(0),
     };
     let found = found_by_two(rt, alloc, &gate)?;
-    if gate.given_up.load(Ordering::SeqCst) > 0 {
-        return Err(Fail::from("given up"));
+    if gate.held.load(Ordering::SeqCst) == 0 || gate.given_up.load(Ordering::SeqCst) > 0 {
+        return Err(Fail::from("no page before a third expansion"));
     }
     Ok(found)
 }
