@@ -1,6 +1,6 @@
 //! A problem, some of whose blocks are decided.
 
-use crate::whole::{all_draw, wanted_styles};
+use crate::whole::{all_draw, drawn_lines, wanted_styles};
 use columns::{PartialState, SeenLine, Steps};
 use solid_model::{Decision, LineId, Memory, Problem, View};
 use std::alloc::Global;
@@ -11,11 +11,13 @@ use std::sync::ledger::Ledger;
 #[derive(Debug, Drop)]
 pub struct Partial<'p> {
     state: PartialState<'p>,
-    /// Room for the columns after and before each line, and for the styles that they draw.
+    /// The numbers of the lines that are drawn.
+    lines: Vec<usize>,
+    /// Room for the columns after and before each of these, and for the styles that they draw.
     after: Vec<u64>,
     before: Vec<u64>,
     drawn: Vec<u8>,
-    /// The styles of the lines themselves.
+    /// Their own styles.
     wanted: Vec<u8>,
 }
 
@@ -28,8 +30,8 @@ impl<'p> Model for Partial<'p> {
 
     ghost use Rattle.line_demands.specs.WholeChoices.{HasRoomForLines};
 
-    ghost invariant = { λ s. HasRoomForLines s.state.problem.grid s.after.items s.before.items
-        s.drawn.items s.wanted.items };
+    ghost invariant = { λ s. HasRoomForLines s.state.problem.grid s.lines.items s.after.items
+        s.before.items s.drawn.items s.wanted.items };
 }
 
 impl<'p> Partial<'p> {
@@ -52,13 +54,15 @@ impl<'p> Partial<'p> {
         }) }
     {
         let state = PartialState::new(alloc, problem)?;
-        let count = state.line_count();
+        let lines = drawn_lines(alloc, &state)?;
+        let count = lines.len();
         let after = vec![in alloc; 0; count]?;
         let before = vec![in alloc; 0; count]?;
         let drawn = vec![in alloc; 0; count]?;
-        let wanted = wanted_styles(alloc, &state)?;
+        let wanted = wanted_styles(alloc, &state, lines.as_slice())?;
         Ok(Partial {
             state,
+            lines,
             after,
             before,
             drawn,
@@ -161,8 +165,8 @@ impl<'p> Partial<'p> {
         self.state.broken_line()
     }
 
-    /// Whether the decided solid matches the drawing: what the columns beside each line draw is
-    /// looked at anew, whatever is known of lines. The condition is that every block is decided.
+    /// Whether the decided solid matches the drawing: what the columns beside each drawn line draw is
+    /// looked at anew, and of blank lines what is known. The condition is that every block is decided.
     pub fn whole_fits(&mut self) -> bool
         requires { AreOnAll self.old.problem.blocks.count self.old.decisions }
         ensures same { self.new ≡ self.old }
@@ -171,6 +175,7 @@ impl<'p> Partial<'p> {
     {
         all_draw(
             &self.state,
+            self.lines.as_slice(),
             self.after.as_mut_slice(),
             self.before.as_mut_slice(),
             self.drawn.as_mut_slice(),
