@@ -10,7 +10,6 @@ use Rattle.solid_model.specs.declared.frame.View.{View}
 use Rattle.solid_model.specs.declared.frame.View.TheVariants.{Front, Top, Side}
 use Rattle.solid_model.specs.Blocks.{ProblemParts}
 use Rattle.solid_model.specs.Drawings.{drawing_of, IsShown, IsFirstEmptyView}
-use Rattle.solid_model.specs.Limits.{most_file_bytes}
 use Rattle.solid_model.specs.Line.{Line}
 use Rattle.solid_model.specs.Panels.{GridParts, coordinates_of, IsGridOf}
 
@@ -70,7 +69,7 @@ one_fault t f g (inr p) (inl q) = absurd (omega (arith, p.0, q.0))
 one_fault t f g (inr p) (inr q) = one_fault_after (read_of t.decimals t.bytes) f g p.1 q.1
 
 -- a file that isn't too long has the fault of what it reads as
-pub file_fault : (t : Input) (r : Result (List Line) Fault) (f : Fault) → length t.bytes ≤ most_file_bytes → read_of t.decimals t.bytes ≡ r → IsFaultAfter r f → IsFileFault t f
+pub file_fault : (t : Input) (r : Result (List Line) Fault) (f : Fault) → length t.bytes ≤ t.most → read_of t.decimals t.bytes ≡ r → IsFaultAfter r f → IsFileFault t f
 file_fault t r f short reads after = inr (short, subst (λ r. IsFaultAfter r f) (sym reads) after)
 
 -- an input with a problem has no fault

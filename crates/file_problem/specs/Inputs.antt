@@ -8,14 +8,15 @@ use Rattle.solid_model.specs.declared.frame.View.{View}
 use Rattle.solid_model.specs.Blocks.{ProblemParts, IsBlocksOf, HasTooManyBlocks}
 use Rattle.solid_model.specs.Drawings.{drawing_of, IsShown, IsFirstEmptyView}
 use Rattle.solid_model.specs.Grid.{IsFirstTooFine}
-use Rattle.solid_model.specs.Limits.{most_blocks, most_file_bytes}
+use Rattle.solid_model.specs.Limits.{most_blocks}
 use Rattle.solid_model.specs.Line.{Line}
 use Rattle.solid_model.specs.Panels.{GridParts, IsGridOf}
 
--- an input: the bytes of a file, and how many decimals its coordinates are read with
+-- an input: the bytes of a file, how many decimals its coordinates are read with, and how many bytes it may have at most
 pub record Input : Type 0 where
   pub bytes : List ℕ
   pub decimals : ℕ
+  pub most : ℕ
 
 -- ---- the faults of an input
 
@@ -40,8 +41,8 @@ IsFaultAfter (Ok ls) fault = HasEmptyView ls fault ⊎ (HasFineAxis ls fault ⊎
 
 -- the first fault of an input: its file is too long, or else that of what it reads as
 abbrev pub IsFileFault : Input → Fault → Type 0
-IsFileFault t fault = ((most_file_bytes < length t.bytes) × (fault ≡ TooLong))
-    ⊎ ((length t.bytes ≤ most_file_bytes) × IsFaultAfter (read_of t.decimals t.bytes) fault)
+IsFileFault t fault = ((t.most < length t.bytes) × (fault ≡ TooLong))
+    ⊎ ((length t.bytes ≤ t.most) × IsFaultAfter (read_of t.decimals t.bytes) fault)
 
 -- the input has no fault
 abbrev pub HasNoFault : Input → Type 0
@@ -51,7 +52,7 @@ HasNoFault t = (fault : Fault) → IsFileFault t fault → ⊥
 
 -- an input without a fault: its lines, and the grid of their drawing with its blocks
 pub record HasProblem (t : Input) (p : ProblemParts) : Type 0 where
-  pub short : length t.bytes ≤ most_file_bytes
+  pub short : length t.bytes ≤ t.most
   pub lines : List Line
   pub reads : read_of t.decimals t.bytes ≡ Ok lines
   pub shown : IsShown lines

@@ -76,9 +76,11 @@ fn problem_of_lines(alloc: Global, lines: &[SheetLine]) -> Result<Problem, Refus
 pub fn problem_of(alloc: Global, file: Vec<u8>, decimals: u8) -> Result<Problem, Refused>
     requires short { length file.items ≤ most_file_bytes }
     requires decimals { decimals ≤ most_decimals }
-    ensures problem { IfOk result (λ problem. HasProblem (record { bytes = file.items; decimals = decimals }) problem) }
+    ensures problem { IfOk result (λ problem. HasProblem
+        (record { bytes = file.items; decimals = decimals; most = most_file_bytes }) problem) }
     ensures fault { (fault : Fault) → IsErrOf result (Refused.Fault fault)
-        → IsFileFault (record { bytes = file.items; decimals = decimals }) fault }
+        → IsFileFault
+        (record { bytes = file.items; decimals = decimals; most = most_file_bytes }) fault }
 {
     let lines = lines_of(alloc, file, decimals)?;
     problem_of_lines(alloc, lines.as_slice())

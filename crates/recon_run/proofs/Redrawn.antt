@@ -19,6 +19,7 @@ use Rattle.solid_model.specs.Choices.{AreSolidsOfChoices, cells_of_choice}
 use Rattle.solid_model.specs.Forcing.{is_live}
 use Rattle.solid_model.specs.Drawings.{drawing_of}
 use Rattle.solid_model.specs.Grid.{Coordinates, IsUnionOf}
+use Rattle.solid_model.specs.Limits.{most_file_bytes}
 use Rattle.solid_model.specs.Lists.{Each}
 use Rattle.solid_model.specs.Panels.{coordinates_of}
 use Rattle.solid_model.specs.Search.{SearchLimits}
@@ -91,4 +92,4 @@ module _ (limits : SearchLimits) (t : Input) (p : ProblemParts) (has : HasProble
 pub one_told : (writes : List Cell → List ℕ → Type 0) (which : ℕ) (limits : SearchLimits) (decimals : ℕ) → 1 ≤ which
     → TellsRightly (search_for_one writes which limits decimals) (TellsOne writes limits which)
 one_told writes which limits decimals some t s (has, ends) text told =
-    one_told_at limits (record { bytes = t; decimals = decimals }) s.problem has writes which decimals some s.ended.kind s.ended.opened s.ended.solids ends text told
+    one_told_at limits (record { bytes = t; decimals = decimals; most = most_file_bytes }) s.problem has writes which decimals some s.ended.kind s.ended.opened s.ended.solids ends text told

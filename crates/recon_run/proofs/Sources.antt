@@ -15,14 +15,14 @@ reads_nothing (Some bytes) limit = ([], omega arith, refl)
 
 -- all that was left was read, and what is found in it is found in what was left
 pub found_source : (decimals : ℕ) (left rest : Option (List ℕ)) (file : List ℕ) (found : Found) → length file ≤ most_file_bytes
-    → ReadsAll left rest file → IsFoundIn (record { bytes = file; decimals = decimals }) found
-    → IfSome left (λ t. ReadsAllOrPast t rest × IsFoundIn (record { bytes = t; decimals = decimals }) found)
+    → ReadsAll left rest file → IsFoundIn (record { bytes = file; decimals = decimals; most = most_file_bytes }) found
+    → IfSome left (λ t. ReadsAllOrPast t rest × IsFoundIn (record { bytes = t; decimals = decimals; most = most_file_bytes }) found)
 found_source decimals None rest file found short read is = tt
 found_source decimals (Some t) rest file found short read is =
-    (inl (subst (λ s. length s ≤ most_file_bytes) read.0 short, read.1), subst (λ s. IsFoundIn (record { bytes = s; decimals = decimals }) found) read.0 is)
+    (inl (subst (λ s. length s ≤ most_file_bytes) read.0 short, read.1), subst (λ s. IsFoundIn (record { bytes = s; decimals = decimals; most = most_file_bytes }) found) read.0 is)
 
 -- more was left than the most, and the fault is that it is too long
 pub too_long_source : (decimals : ℕ) (left rest : Option (List ℕ)) → ReadsPast left rest most_file_bytes
-    → IfSome left (λ t. ReadsAllOrPast t rest × IsFoundIn (record { bytes = t; decimals = decimals }) (Fault TooLong))
+    → IfSome left (λ t. ReadsAllOrPast t rest × IsFoundIn (record { bytes = t; decimals = decimals; most = most_file_bytes }) (Fault TooLong))
 too_long_source decimals None rest past = tt
 too_long_source decimals (Some t) rest past = (inr past, inl (past.0, refl))

@@ -15,6 +15,7 @@ use Rattle.solid_model.specs.declared.ended.EndKind.{EndKind}
 use Rattle.solid_model.specs.declared.ended.EndKind.TheVariants.{Whole, CutNodes, CutSolids}
 use Rattle.solid_model.specs.Blocks.{ProblemParts}
 use Rattle.solid_model.specs.Forcing.{is_live}
+use Rattle.solid_model.specs.Limits.{most_file_bytes}
 use Rattle.solid_model.specs.Panels.{coordinates_of}
 use Rattle.solid_model.specs.Search.{SearchLimits}
 use Rattle.solid_model.specs.SearchEnds.{EndsAs, EndsSearch}
@@ -33,18 +34,18 @@ TellsRightly s tells = (t : List ℕ) (found : SearchedParts) → IsSearched s.l
 -- so do those that `solve` writes,
 pub all_told : (paged : Bool) (limits : SearchLimits) (decimals : ℕ) → TellsRightly (search_for_all paged limits decimals) (TellsPaged paged limits decimals)
 all_told paged limits decimals bytes s (has, ends) text (before, (pages, are, told), rest, (texts, tells, is), both) =
-    let t : Input = record { bytes = bytes; decimals = decimals } in
+    let t : Input = record { bytes = bytes; decimals = decimals; most = most_file_bytes } in
     subst (λ text. (c : CanEnd limits t s.ended.kind) × ListsSolids paged limits t s.ended.kind c text) (sym (both ∙ ap₂ ◌++◌ told is))
     (solved limits t s.problem has paged s.ended.kind s.ended.opened s.ended.solids ends pages are texts tells)
 
 -- and those that it begins
 pub first_told : (paged : Bool) (limits : SearchLimits) (decimals : ℕ) → TellsRightly (beginning (search_for_all paged limits decimals)) (BeginsPaged paged limits decimals)
 first_told paged limits decimals bytes s (has, ends) text (inl (pages, are, first, told)) =
-    let t : Input = record { bytes = bytes; decimals = decimals } in
+    let t : Input = record { bytes = bytes; decimals = decimals; most = most_file_bytes } in
     subst (λ text. (c : CanEnd limits t s.ended.kind) × BeginsToList paged limits t s.ended.kind c text) (sym told)
     (pages_begun limits t s.problem has paged s.ended.kind s.ended.opened s.ended.solids ends pages are first)
 first_told paged limits decimals bytes s (has, ends) text (inr (before, (pages, are, told), rest, (texts, (first, tells), is), both)) =
-    let t : Input = record { bytes = bytes; decimals = decimals } in
+    let t : Input = record { bytes = bytes; decimals = decimals; most = most_file_bytes } in
     subst (λ text. (c : CanEnd limits t s.ended.kind) × BeginsToList paged limits t s.ended.kind c text) (sym (both ∙ ap₂ ◌++◌ told is))
     (begun limits t s.problem has paged s.ended.kind s.ended.opened s.ended.solids ends pages are first texts tells)
 
@@ -63,7 +64,7 @@ answer_of s t p has CutSolids opened choices ends c = refl
 
 -- what is found in what a source had left
 abbrev pub IsFound : ℕ → Option (List ℕ) → Option (List ℕ) → Found → Type 0
-IsFound decimals left rest found = IfSome left (λ t. ReadsAllOrPast t rest × IsFoundIn (record { bytes = t; decimals = decimals }) found)
+IsFound decimals left rest found = IfSome left (λ t. ReadsAllOrPast t rest × IsFoundIn (record { bytes = t; decimals = decimals; most = most_file_bytes }) found)
 
 -- a search of a file's problem
 searched_input : (limits : SearchLimits) (t : Input) (p : ProblemParts) → HasProblem t p → (s : SearchedParts) → IsSearchOf limits p s → IsSearched limits t s

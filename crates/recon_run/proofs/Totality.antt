@@ -95,7 +95,7 @@ abbrev EndlessSearch : SearchLimits → Input → Type 0
 EndlessSearch limits t = (p : ProblemParts) → HasProblem t p → (kind : EndKind) (opened : ℕ) (choices : List (List Bool))
     → EndsAs (is_live p) p.blocks.count limits kind opened choices → ⊥
 
-module _ (limits : SearchLimits) (t : Input) (short : length t.bytes ≤ most_file_bytes) (faultless : (fault : Fault) → IsFileFault t fault → ⊥)
+module _ (limits : SearchLimits) (t : Input) (short : length t.bytes ≤ t.most) (faultless : (fault : Fault) → IsFileFault t fault → ⊥)
     (endless : EndlessSearch limits t) where
   module _ (ls : List Line) (reads : read_of t.decimals t.bytes ≡ Ok ls) where
     abbrev drawing : Segment → Style
@@ -193,7 +193,7 @@ module _ (limits : SearchLimits) (t : Input) (short : length t.bytes ≤ most_fi
 searched_somehow : (limits : SearchLimits) (t : Input) → ((fault : Fault) → IsFileFault t fault → ⊥)
     → EndlessSearch limits t → ⊥
 searched_somehow limits t faultless endless = ⊎_elim (λ long. faultless TooLong (inl (long, refl)))
-    (λ short. short_input limits t short faultless endless (read_of t.decimals t.bytes) refl) (cases_lt most_file_bytes (length t.bytes))
+    (λ short. short_input limits t short faultless endless (read_of t.decimals t.bytes) refl) (cases_lt t.most (length t.bytes))
 
 -- a source that had t left can have been read to its end, or past the most
 can_be_read : (t : List ℕ) → ((rest : Option (List ℕ)) → ReadsAllOrPast t rest → ⊥) → ⊥
@@ -256,7 +256,7 @@ tried_somehow : (n : ℕ) → ((text : List ℕ) → IsTried n text → ⊥) →
 tried_somehow n never =
     let (t, file) = some_file (made_solid n) (made_is_solid n) 0 in
     let p = made_problem n in let has = made_has_problem n t file in
-    let end = can_list (is_live p) p.blocks.count default_limits (matching default_limits (record { bytes = t; decimals = 0 }) p has).ordered [] tt tt (omega arith) in
+    let end = can_list (is_live p) p.blocks.count default_limits (matching default_limits (record { bytes = t; decimals = 0; most = most_file_bytes }) p has).ordered [] tt tt (omega arith) in
     never _ (figures_are n t file p has end.kind end.opened end.choices end.ends _ refl)
 
 -- what is owed for a job is told by some text

@@ -37,7 +37,7 @@ module _ (n : ℕ) (t : List ℕ) (file : IsFileOf 0 (made_solid n) t) where
       ap drawing_of (ok_value lines back.lines (sym reads ∙ back.reads)) ∙ (λ i segment. same segment i)
 
   abbrev pub input : Input
-  input = record { bytes = t; decimals = 0 }
+  input = record { bytes = t; decimals = 0; most = most_file_bytes }
 
   -- it isn't too long,
   pub made_is_short : length t ≤ most_file_bytes

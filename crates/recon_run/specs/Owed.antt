@@ -137,7 +137,7 @@ ReadsAllOrPast t rest = ((length t ≤ most_file_bytes) × (rest ≡ Some []))
 
 -- the input of a search whose source has these bytes left
 abbrev pub input_of : Search → List ℕ → Input
-input_of s t = record { bytes = t; decimals = s.decimals }
+input_of s t = record { bytes = t; decimals = s.decimals; most = most_file_bytes }
 
 -- the right answer, over a source that had `left` and has `rest`, where told, and its text
 abbrev pub AnswersOwed : Owed → Option (List ℕ) → Option (List ℕ) → Answer → List ℕ → Type 0

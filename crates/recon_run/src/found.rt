@@ -30,7 +30,8 @@ pub enum Found {
 fn find_in(alloc: Global, file: Vec<u8>, decimals: u8) -> Result<Found, Memory>
     requires short { length file.items ≤ most_file_bytes }
     requires decimals { decimals ≤ most_decimals }
-    ensures { IfOk result (IsFoundIn (record { bytes = file.items; decimals = decimals })) }
+    ensures { IfOk result (IsFoundIn
+        (record { bytes = file.items; decimals = decimals; most = most_file_bytes })) }
 {
     match problem_of(alloc, file, decimals) {
         Ok(problem) => Ok(Found::Problem(problem)),
@@ -46,7 +47,7 @@ pub fn find<S: Source>(alloc: Global, decimals: u8, source: &mut S) -> Result<Fo
     ensures within { ReadsWithin (S.left source.old) (S.left source.new) (most_file_bytes + 1) }
     ensures found { IfOk result (λ found. IfSome (S.left source.old) (λ t.
         ReadsAllOrPast t (S.left source.new)
-        × IsFoundIn (record { bytes = t; decimals = decimals }) found)) }
+        × IsFoundIn (record { bytes = t; decimals = decimals; most = most_file_bytes }) found)) }
     ensures read_fault { IsErrOf result failure.ReadFault
         → Rose (S.faults source.old) (S.faults source.new) }
     ensures no_write_fault { IsErrOf result failure.WriteFault → ⊥ }

@@ -6,13 +6,15 @@ ghost use Rattle.file_problem.specs.Inputs.{HasNoFault, Input, IsFileFault};
 ghost use Rattle.recon_run.specs.Endings.{Answers, IsCut, SameButPages};
 ghost use Rattle.recon_run.specs.Owed.{AnswersOwed, asks_pages, owed_for};
 ghost use Rattle.solid_model.specs.declared.fault.Fault.{Fault};
+ghost use Rattle.solid_model.specs.Limits.{most_file_bytes};
 ghost use Rattle.words.specs.declared.job.Job.TheVariants as job;
 ghost use Rattle.words.specs.Jobs.{job_said};
 
 /// What `make` owes has no fault: whatever is made from a number can be searched.
 pub fn made_files_have_no_fault()
     ensures { (n : ℕ) (left rest : Option (List ℕ)) (answer : Answer) (text : List ℕ)
-        → AnswersOwed (owed_for (job.Make n)) left rest answer text → HasNoFault (record { bytes = text; decimals = 0 }) }
+        → AnswersOwed (owed_for (job.Make n)) left rest answer text
+        → HasNoFault (record { bytes = text; decimals = 0; most = most_file_bytes }) }
 {}
 
 /// An input has at most one first fault.
