@@ -3,3 +3,4 @@ pub mod Resumes
 pub mod KeptLines
 pub mod NearPoints
 pub mod NextPoints
+pub mod TextFaults

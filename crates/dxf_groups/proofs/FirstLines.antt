@@ -1,10 +1,10 @@
 -- The first line of what is left of a text.
-use Rattle.std.proofs.Common.{◌≡◌, ℕ, suc, ◌+◌, ◌-◌, ◌<◌, ◌≤◌, Bool, true, false, not, cond, List, [], ◌∷◌, length, take, drop, refl, map, sym, ap, ap₂, subst, ◌∙◌, arith}
+use Rattle.std.proofs.Common.{◌≡◌, ℕ, zero, suc, ◌+◌, ◌-◌, ◌<◌, ◌≤◌, Bool, true, false, not, cond, List, [], ◌∷◌, length, take, drop, refl, map, sym, ap, ap₂, subst, ◌∙◌, arith}
 use Rattle.std.specs.List.{onto_first, position_or_len, before_first, after_first}
 use Rattle.std.proofs.lemmas.List.{take-take, drop-take, drop-drop, length-take, length-drop}
 use Rattle.dxf_groups.specs.declared.span.Span.{Span}
 use Rattle.dxf_groups.specs.Spans.{IsSpanIn, span_of}
-use Rattle.dxf_groups.specs.TextLines.{is_feed, text_lines, content_of, contents_of}
+use Rattle.dxf_groups.specs.TextLines.{behind_lines, is_feed, text_lines, content_of, contents_of}
 
 -- a byte before the line feed is one more of the first line
 one_more : (k b : ℕ) (bytes : List ℕ) (lines : List (List ℕ))
@@ -86,3 +86,27 @@ line_found text rest start feed s after left some is inside content same =
     let next : start + (feed + 1) ≡ start + feed + 1 = omega arith in
     let rest_after = drop-drop (feed + 1) start text ∙ ap (λ k. drop k text) next ∙ sym same in
     whole ∙ ap₂ (λ (x : List ℕ) (xs : List ℕ). x ∷ contents_of xs) of_text rest_after
+
+-- behind it stands what is behind its line feed
+pub next_line : (text rest : List ℕ) (start feed after : ℕ) → rest ≡ drop start text
+    → feed ≡ position_or_len is_feed rest → drop after text ≡ drop (start + feed + 1) text
+    → drop after text ≡ after_first is_feed (drop start text)
+next_line text rest start feed after left is same =
+    let next : start + feed + 1 ≡ start + (feed + 1) = omega arith in
+    same ∙ ap (λ k. drop k text) next ∙ sym (drop-drop (feed + 1) start text)
+    ∙ ap (λ k. drop (k + 1) (drop start text)) (is ∙ ap (position_or_len is_feed) left)
+
+-- the lines behind the first line are the others,
+lines_after_first : (text : List ℕ)
+    → text_lines (after_first is_feed text) ≡ drop 1 (text_lines text)
+lines_after_first [] = refl
+lines_after_first (b ∷ bytes) = sym (ap (drop 1) (lines-first (b ∷ bytes) (omega arith)))
+
+-- and so are those behind the first so many
+pub lines_behind : (n : ℕ) (text : List ℕ)
+    → text_lines (behind_lines n text) ≡ drop n (text_lines text)
+lines_behind zero text = refl
+lines_behind (suc n) text =
+    let more : n + 1 ≡ suc n = omega arith in
+    lines_after_first (behind_lines n text) ∙ ap (drop 1) (lines_behind n text)
+    ∙ drop-drop 1 n (text_lines text) ∙ ap (λ k. drop k (text_lines text)) more

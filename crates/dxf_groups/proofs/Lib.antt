@@ -1,3 +1,4 @@
+pub mod BehindLines
 pub mod FewDigits
 pub mod FirstLines
 pub mod FirstPairs

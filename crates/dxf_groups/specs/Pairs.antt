@@ -5,7 +5,7 @@ use Rattle.solid_model.specs.declared.fault.Fault.{Fault}
 use Rattle.solid_model.specs.declared.fault.Fault.TheVariants.{Binary, BadCode, NoValue, NoEof}
 use Rattle.dxf_groups.specs.declared.pair.Pair.{Pair}
 use Rattle.dxf_groups.specs.Codes.{group_code_of, is_comment, is_end}
-use Rattle.dxf_groups.specs.TextLines.{contents_of}
+use Rattle.dxf_groups.specs.TextLines.{behind_lines, contents_of}
 
 -- a pair: its group code, its value, and the number of the line of its code
 pub record TextPair : Type 0 where
@@ -76,3 +76,12 @@ pairs_after_mark text = cond (starts_with nat_eq text binary_sentinel)
 -- the pairs of a text, whose mark is skipped, once
 unfoldable pub pairs_of : List ℕ → Pairs
 pairs_of text = pairs_after_mark (without_mark text)
+
+-- what stands behind the line after this one, that of the end pair's value; nothing is behind a fault
+abbrev pub behind_end : Result ℕ Fault → List ℕ → Option (List ℕ)
+behind_end (Ok line) text = Some (behind_lines (line + 1) text)
+behind_end (Err fault) text = None
+
+-- what stands in a text behind the two lines of its end pair; None where its pairs end by a fault
+unfoldable pub rest_of : List ℕ → Option (List ℕ)
+rest_of text = behind_end (pairs_of text).ending (without_mark text)

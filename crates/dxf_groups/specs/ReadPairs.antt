@@ -1,17 +1,20 @@
 -- A pair that is read at a place of a text, and what is left then.
-use Rattle.std.specs.Prelude.{◌≡◌, ◌≤◌, ◌<◌, ◌+◌, ℕ, List, length, drop, Option, Some, None, Result, Ok, Err}
+use Rattle.std.specs.Prelude.{◌≡◌, ◌≤◌, ◌<◌, ◌+◌, ◌-◌, ℕ, List, length, drop, Option, Some, None, Result, Ok, Err}
 use Rattle.solid_model.specs.declared.fault.Fault.{Fault}
 use Rattle.solid_model.specs.Limits.{most_text_bytes}
 use Rattle.dxf_groups.specs.declared.pairs.ReadPair.{ReadPair}
-use Rattle.dxf_groups.specs.Pairs.{Pairs, ended, text_pair, pair_before, pairs_from}
+use Rattle.dxf_groups.specs.Pairs.{Pairs, ended, text_pair, pair_before, pairs_from, pairs_of, without_mark}
 use Rattle.dxf_groups.specs.Spans.{IsSpanIn, span_of}
-use Rattle.dxf_groups.specs.TextLines.{contents_of}
+use Rattle.dxf_groups.specs.TextLines.{behind_lines, contents_of}
 
--- a place in a text of at most so many bytes; each line before it has a byte of its own, its line feed
+-- A place in a text of at most so many bytes, at which the line with this number begins, counted from 1
+-- after the text's mark. Each line before it has a byte of its own, its line feed.
 pub record IsPlaceIn (text : List ℕ) (place line : ℕ) : Type 0 where
   pub short : length text ≤ most_text_bytes
   pub within : place ≤ length text
   pub counted : line ≤ place + 1
+  pub some : 1 ≤ line
+  pub begins : drop place text ≡ behind_lines (line - 1) (without_mark text)
 
 -- the pairs of a text from this place on, where a line with this number begins
 abbrev pub pairs_at : List ℕ → ℕ → ℕ → Pairs
@@ -41,3 +44,10 @@ abbrev pub end_line_of : Option (Result ℕ Fault) → Option ℕ
 end_line_of None = None
 end_line_of (Some (Ok line)) = Some line
 end_line_of (Some (Err fault)) = None
+
+-- Where a reader stands: at a place of its text, of which the pairs that are left end as all do; once the
+-- end pair was read, behind its two lines.
+pub record StandsIn (text : List ℕ) (place line : ℕ) (ending : Option (Result ℕ Fault)) : Type 0 where
+  pub at : IsPlaceIn text place line
+  pub same_ending : (left_from text place line ending).ending ≡ (pairs_of text).ending
+  pub passed : (end : ℕ) → ending ≡ Some (Ok end) → line ≡ end + 2

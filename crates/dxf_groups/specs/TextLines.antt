@@ -1,6 +1,6 @@
 -- The lines of a text, and what counts of each.
-use Rattle.std.specs.Prelude.{ℕ, ◌-◌, Bool, cond, ◌==◌, ◌||◌, List, [], ◌∷◌, length, take, drop, map, slice_index}
-use Rattle.std.specs.List.{onto_first, prefix_len, suffix_len}
+use Rattle.std.specs.Prelude.{ℕ, zero, suc, ◌-◌, Bool, cond, ◌==◌, ◌||◌, List, [], ◌∷◌, length, take, drop, map, slice_index}
+use Rattle.std.specs.List.{after_first, onto_first, prefix_len, suffix_len}
 
 -- a line feed
 abbrev pub is_feed : ℕ → Bool
@@ -14,6 +14,11 @@ is_blank b = b == 32 || b == 9
 abbrev pub text_lines : List ℕ → List (List ℕ)
 text_lines [] = []
 text_lines (b ∷ bytes) = cond (is_feed b) ([] ∷ text_lines bytes) (onto_first b (text_lines bytes))
+
+-- what stands in a text behind its first so many lines
+abbrev pub behind_lines : ℕ → List ℕ → List ℕ
+behind_lines zero text = text
+behind_lines (suc n) text = after_first is_feed (behind_lines n text)
 
 -- a line without the carriage return at its end, if one stands there
 abbrev pub without_return : List ℕ → List ℕ

@@ -1,8 +1,8 @@
 //! The reader that gives the pairs of a text. The reader of `dxf_entities` makes lines of pairs.
 
-ghost use Rattle.std.specs.Prelude.{◌≡◌, ◌≤◌, length, drop, None};
+ghost use Rattle.std.specs.Prelude.{◌≡◌, ◌↔◌, ◌≤◌, length, drop, Some, None, IfSome};
 ghost use Rattle.dxf_groups.specs.Groups.{GroupsState, Gives};
-ghost use Rattle.dxf_groups.specs.Pairs.{pairs_of, without_mark};
+ghost use Rattle.dxf_groups.specs.Pairs.{pairs_of, rest_of, without_mark};
 ghost use Rattle.dxf_groups.specs.Spans.{IsSpanIn, span_of};
 ghost use Rattle.solid_model.specs.Limits.{most_text_bytes};
 
@@ -29,7 +29,7 @@ impl Model for Groups {
 
     ghost Value = { GroupsState };
 
-    ghost use Rattle.dxf_groups.specs.ReadPairs.{IsPlaceIn, left_from, end_line_of};
+    ghost use Rattle.dxf_groups.specs.ReadPairs.{StandsIn, left_from, end_line_of};
 
     ghost view = { λ g. record {
       text = g.text.items;
@@ -37,7 +37,7 @@ impl Model for Groups {
       end_line = end_line_of g.ending;
     } };
 
-    ghost invariant = { λ g. IsPlaceIn g.text.items g.place g.line };
+    ghost invariant = { λ g. StandsIn g.text.items g.place g.line g.ending };
 }
 
 /// How many bytes the mark of UTF-8 takes that the text may begin with: three or none.
@@ -96,12 +96,12 @@ impl Groups {
                 return Err(fault);
             }
         };
+        self.place = read.after;
+        self.line = read.pair.line + 2;
         if is_end(text, &read.pair) {
             self.ending = Some(Ok(read.pair.line));
             return Ok(None);
         }
-        self.place = read.after;
-        self.line = read.pair.line + 2;
         Ok(Some(read.pair))
     }
 
@@ -112,11 +112,29 @@ impl Groups {
         self.ending?.ok()
     }
 
+    /// The place after the line of the end pair's value; None where the end pair wasn't read.
+    pub fn after_end(&self) -> Option<usize>
+        ensures read { (result ≡ None) ↔ (self.now.end_line ≡ None) }
+        ensures within { IfSome result (λ place. place ≤ length self.now.text) }
+        ensures rest { IfSome result (λ place. rest_of self.now.text
+            ≡ Some (drop place self.now.text)) }
+    {
+        self.end_line()?;
+        Some(self.place)
+    }
+
     /// The value of a pair that this reader gave.
     pub fn value_of(&self, pair: &Pair) -> &[u8]
         requires { IsSpanIn self.now.text pair.now.value }
         ensures { result.now ≡ span_of self.now.text pair.now.value }
     {
         &self.text[pair.value.start..pair.value.end]
+    }
+
+    /// The whole text, back from the reader.
+    pub fn into_text(self) -> Vec<u8>
+        ensures { result.items ≡ self.text }
+    {
+        self.text
     }
 }

@@ -1,12 +1,13 @@
 //! Laws of the definitions of pairs and numerals.
 
-ghost use Rattle.std.specs.Prelude.{◌≡◌, ◌++◌, List, [], ◌∷◌, ℕ, pos, negsuc, neg_ℤ, Some, Ok, Err, codes};
+ghost use Rattle.std.specs.Prelude.{◌≡◌, ◌++◌, List, [], ◌∷◌, ℕ, pos, negsuc, neg_ℤ, drop, Some, None, Ok, Err, codes};
 ghost use Rattle.solid_model.specs.declared.fault.Fault.TheVariants.{BadCode, Binary, NoEof, NoValue};
 ghost use Rattle.solid_model.specs.Lists.{Each};
 ghost use Rattle.dxf_groups.specs.declared.numerals.NumeralFault.TheVariants as numeral;
 ghost use Rattle.dxf_groups.specs.Numerals.{IsNumeral, Numeral, numeral_of, scaled_of, whole_of};
-ghost use Rattle.dxf_groups.specs.Pairs.{ended, pairs_of, utf8_mark, with_pair};
+ghost use Rattle.dxf_groups.specs.Pairs.{ended, pairs_of, rest_of, utf8_mark, with_pair};
 ghost use Rattle.dxf_groups.specs.SmallTexts.{pair_on, pairs_of_marked};
+ghost use Rattle.dxf_groups.specs.TextLines.{behind_lines, text_lines};
 
 /// The pairs of small texts, written out by hand: what is no code; what of a line doesn't count,
 /// and what does; comments; how a text begins, and how it ends.
@@ -50,6 +51,29 @@ pub fn small_texts()
     ensures no_end { pairs_of (codes "1\nEOF\n0\nEOF1\n")
         ≡ with_pair (pair_on 1 (pos 1) (codes "EOF"))
         (with_pair (pair_on 3 (pos 0) (codes "EOF1")) (ended (Err (NoEof 5)))) }
+{}
+
+/// What stands behind the end pair of small texts, written out by hand: its two lines and what stands
+/// before them are passed, and nothing else.
+#[tactic(auto, unfolding(crate::specs::Pairs::pairs_of, crate::specs::Pairs::rest_of))]
+pub fn small_rests()
+    ensures nothing { Each (λ text. rest_of text ≡ Some [])
+        (codes "0\nEOF" ∷ codes "0\nEOF\r" ∷ codes "0\nEOF\n"
+        ∷ codes "999\n\n 0\neof \r\n" ∷ []) }
+    ensures returns { rest_of (codes "0\r\nEOF\r\nlog 1\r\n") ≡ Some (codes "log 1\r\n") }
+    ensures no_feed_behind { rest_of (codes "1\nA\n0\nEOF\nlog 1") ≡ Some (codes "log 1") }
+    ensures empty_lines { rest_of (codes "0\nEOF\n\n \n") ≡ Some (codes "\n \n") }
+    ensures second_end { rest_of (codes "0\nEOF\n0\nEOF\nx") ≡ Some (codes "0\nEOF\nx") }
+    ensures mark { rest_of (utf8_mark ++ codes "0\nEOF\nx") ≡ Some (codes "x") }
+    ensures mark_behind { rest_of (codes "0\nEOF\n" ++ utf8_mark) ≡ Some utf8_mark }
+    ensures none { Each (λ text. rest_of text ≡ None)
+        (codes "" ∷ codes "0\n" ∷ codes "0\nEOF1\n" ∷ codes "EOF\n0\nEOF\nx" ∷ []) }
+{}
+
+/// The lines of what stands behind the first lines of a text are its other lines.
+pub fn lines_behind_lines()
+    ensures { (n : ℕ) (text : List ℕ)
+        → text_lines (behind_lines n text) ≡ drop n (text_lines text) }
 {}
 
 /// What some texts stand for as numerals.

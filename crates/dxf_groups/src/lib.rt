@@ -11,7 +11,10 @@ mod span;
 mod text_lines;
 
 pub use groups::Groups;
-pub use laws::{numerals_are_spelled_so, small_decimals, small_numerals, small_texts};
+pub use laws::{
+    lines_behind_lines, numerals_are_spelled_so, small_decimals, small_numerals, small_rests,
+    small_texts,
+};
 pub use numerals::{NumeralFault, scaled, whole};
 pub use pair::Pair;
 pub use span::Span;

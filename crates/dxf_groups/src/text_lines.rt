@@ -1,7 +1,7 @@
 //! The lines of a text.
 
 ghost use Rattle.std.specs.Prelude.{◌≡◌, ◌-◌, ◌<◌, ◌≤◌, ◌∷◌, length, drop};
-ghost use Rattle.std.specs.List.{position_or_len, prefix_len, suffix_len};
+ghost use Rattle.std.specs.List.{after_first, position_or_len, prefix_len, suffix_len};
 ghost use Rattle.dxf_groups.specs.Spans.{IsSpanIn, span_of};
 ghost use Rattle.dxf_groups.specs.TextLines.{content_of, contents_of, is_blank, is_feed, without_return};
 
@@ -88,6 +88,7 @@ pub fn text_line_at(text: &[u8], start: usize) -> TextLine
     ensures span { IsSpanIn text.now result.content }
     ensures content { contents_of (drop start text.now)
         ≡ span_of text.now result.content ∷ contents_of (drop result.after text.now) }
+    ensures next { drop result.after text.now ≡ after_first is_feed (drop start text.now) }
     ensures goes_on { start < result.after }
     ensures within { result.after ≤ length text.now }
 {
