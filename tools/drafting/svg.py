@@ -1,9 +1,9 @@
-"""The three views of a drawing as parts of an SVG picture, for picture and page."""
+"""The three views of a drawing as parts of an SVG picture, for `picture` and `page`."""
 import html
 import itertools
 from collections.abc import Iterable, Iterator
 
-from answers import Line, Place
+from .drawing import Line, Place
 
 # Sizes on the picture, in pixels: the square that the views stand in, and what is between them.
 VIEWS, GAP = 290, 36

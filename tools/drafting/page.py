@@ -1,10 +1,5 @@
-#!/usr/bin/env python3
-"""examples/page FILE.dxf [ANSWER] > OUT.html
-
-Makes a page of a drawing file and of what `recon solve` writes for it, which is read from the file ANSWER or else from
-standard input:
-
-    recon solve < part.dxf | examples/page part.dxf > part.html
+"""Makes a page of a drawing and of what recon writes for it, which is read from the file ANSWER (`-` for standard input), or else
+had by running the program.
 
 The page stands alone and asks the network for nothing. It shows the three views as drawn, and each solid in three dimensions,
 up to the first 64 of them: turned by mouse, touch and arrow keys, all together. What only some of them have is coloured, and
@@ -12,18 +7,24 @@ two that are picked are compared. Of a fault it shows the line of the file that 
 
 For three dimensions it has three.js, on Debian: apt-get install libjs-three. What is proved is the program, and not this.
 """
+import argparse
 import html
 import json
 import pathlib
 import re
-import sys
 
-from answers import CUT, FAULT, Answer, Grid, Refused, Solid, answer_of, lines_of, run, text_of, usage, views_of
-from sheet import VIEWS, views_drawn
+from . import program
+from .answers import CUT, FAULT, Answer, Solid, answer_of, text_of
+from .cells import Grid
+from .drawing import lines_of, views_of
+from .messages import Refused, write_result
+from .svg import VIEWS, views_drawn
 
-HERE = pathlib.Path(__file__).resolve().parent
-VIEWER = HERE / "viewer"
-FORMAT = HERE.parent / "docs" / "FORMAT.md"
+NAME = "page"
+HELP = "make a page that shows a drawing and its solids"
+
+VIEWER = pathlib.Path(__file__).resolve().parent / "viewer"
+FORMAT = program.TOP / "docs" / "FORMAT.md"
 THREE = pathlib.Path("/usr/share/javascript/three")
 WIDE_LINES = ("LineSegmentsGeometry", "LineMaterial", "LineSegments2")
 LIBRARY = ["three.min.js", *(f"examples/js/lines/{name}.js" for name in WIDE_LINES)]
@@ -152,12 +153,18 @@ def page(name: str, lines: list[str], text: str) -> str:
     return re.sub(r"{{(\w+)}}", lambda place: parts[place[1]], (VIEWER / "page.html").read_text(encoding="utf-8"))
 
 
-def main(arguments: list[str]) -> None:
-    if len(arguments) not in (1, 2):
-        raise usage()
-    file, *answer = arguments
-    sys.stdout.write(page(pathlib.Path(file).name, lines_of(file), text_of(answer[0] if answer else None)))
+def add_arguments(parser: argparse.ArgumentParser) -> None:
+    parser.add_argument("drawing", metavar="FILE.dxf")
+    parser.add_argument("answer", metavar="ANSWER", nargs="?", help="what recon solve wrote for it; - for standard input")
+    parser.add_argument("-o", "--output", metavar="OUT.html", help="the file to write, else standard output")
+    program.add_arguments(parser)
 
 
-if __name__ == "__main__":
-    run(main)
+def run(arguments: argparse.Namespace) -> int:
+    if arguments.answer:
+        text = text_of(arguments.answer)
+    else:
+        data = pathlib.Path(arguments.drawing).read_bytes()
+        text = program.run(program.find(arguments.program), ["solve"], data, arguments.seconds).text
+    write_result(page(pathlib.Path(arguments.drawing).name, lines_of(arguments.drawing), text), arguments.output)
+    return 0

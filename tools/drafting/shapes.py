@@ -1,29 +1,16 @@
-#!/usr/bin/python3
-"""examples/freecad/views.py [--decimals D] SHAPE [DRAWING.dxf]
-
-Draws the three views of a shape as a file for `recon solve`, to standard output or into DRAWING.dxf; with D decimals, 0 to 6,
-for `recon solve --decimals D`. The shape is a STEP
-file (.step, .stp), a BREP file (.brep, .brp), or else a text of boxes, each line of which adds a box or cuts one off, by its
-least and its greatest corner; what follows a # is a comment:
-
-    add 0 0 0 60 40 10
-    cut 20 10 0 30 20 10
-
-FreeCAD's TechDraw projects the shape by OpenCASCADE's hidden line removal. Solids of one file are united, and faces of one
-plane that touch are joined. A shape is refused, with status 1 and no drawing, where it has no solid, a face that isn't
-parallel to a view plane, or a corner that has more decimals. docs/FORMAT.md says what is read of the drawing.
+"""The three views of a shape, as FreeCAD's TechDraw projects it by OpenCASCADE's hidden line removal. Solids of one shape are
+united, and faces of one plane that touch are joined.
 """
 import itertools
 import pathlib
-import sys
 from collections import defaultdict
 from collections.abc import Callable, Iterable, Iterator
 from decimal import Decimal, InvalidOperation
 from typing import NamedTuple
 
-# cad comes first: it finds FreeCAD's modules, and answers.
-from cad import FreeCAD, Part, TechDraw, is_shape_file, load
-from answers import Refused, run, usage
+from .cad import FreeCAD, Part, TechDraw, is_shape_file, load
+from .drawing import Stroke, written
+from .messages import Refused
 
 # The direction from the part to the viewer; and, as a box with three different sides shows, what is to the right and upwards
 # in the two coordinates that TechDraw answers.
@@ -161,46 +148,14 @@ def views_of(part: Part.Shape) -> dict[str, list[Edge]]:
 
 # ---- the file
 
-def pairs(*members: tuple[int, object]) -> str:
-    """The text of pairs: a code and a value each, on lines of their own."""
-    return "".join(f"{code}\n{value}\n" for code, value in members)
-
-
-def line(view: str, edge: Edge, decimals: int) -> str:
-    (x0, y0), (x1, y1) = ([Decimal(it).scaleb(-decimals) for it in end] for end in edge.ends())
-    style = "HIDDEN" if edge.hidden else "CONTINUOUS"
-    return pairs((0, "LINE"), (8, view), (6, style), (10, x0), (20, y0), (30, 0), (11, x1), (21, y1), (31, 0))
-
-
-def drawing(views: dict[str, list[Edge]], decimals: int) -> str:
-    """The file. It has a table of what HIDDEN looks like, which a CAD program asks for and recon passes over."""
-    hidden = [(3, "Hidden"), (72, 65), (73, 2), (40, 0.375), (49, 0.25), (49, -0.125)]
-    tables = pairs(
-        (0, "SECTION"), (2, "TABLES"), (0, "TABLE"), (2, "LTYPE"), (70, 1), (0, "LTYPE"), (2, "HIDDEN"), (70, 0), *hidden,
-        (0, "ENDTAB"), (0, "ENDSEC"),
-    )
-    lines = "".join(line(view, edge, decimals) for view, edges in views.items() for edge in edges)
-    return tables + pairs((0, "SECTION"), (2, "ENTITIES")) + lines + pairs((0, "ENDSEC"), (0, "EOF"))
-
-
-def main(arguments: list[str]) -> None:
-    decimals = 0
-    if arguments[:1] == ["--decimals"] and arguments[1:] and arguments[1] in map(str, range(7)):
-        decimals = int(arguments[1])
-        arguments = arguments[2:]
-    if len(arguments) not in (1, 2):
-        raise usage()
-    path = arguments[0]
+def drawing_of(path: str, decimals: int) -> str:
+    """The drawing of a file's shape, with so many decimals."""
     shape = load(path).scale(10**decimals) if is_shape_file(path) else shape_of_boxes(path, decimals)
     try:
-        text = drawing(views_of(part_of(shape)), decimals)
+        views = views_of(part_of(shape))
     except Refused as refusal:
         raise Refused(f"{path}: {refusal}") from None
-    if len(arguments) == 2:
-        pathlib.Path(arguments[1]).write_text(text)
-    else:
-        sys.stdout.write(text)
-
-
-if __name__ == "__main__":
-    run(main)
+    strokes: dict[str, list[Stroke]] = {
+        view: [(edge.hidden, *edge.ends()) for edge in edges] for view, edges in views.items()
+    }
+    return written(strokes, decimals)

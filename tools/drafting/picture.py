@@ -1,20 +1,21 @@
-#!/usr/bin/env python3
-"""examples/picture FILE.dxf [ANSWER] > OUT.svg
+"""Draws a drawing as a picture: its three views in third-angle places and, where a file with what recon solve writes for it is
+given too (`-` for standard input), the first of the solids, seen from the front, the left and above.
 
-Draws a drawing file as a picture: its three views in third-angle places and, where a file with what `recon solve` writes for
-it is given too, the first of the solids, seen from the front, the left and above:
-
-    recon solve < part.dxf > part.txt
-    examples/picture part.dxf part.txt > part.svg
-
-What is proved is the program, and not this script: it reads a drawing simply, looks for no fault, and only makes pictures.
+What is proved is the program, and not this: it reads a drawing simply, looks for no fault, and only makes pictures.
 """
+import argparse
 import itertools
 import math
 from collections.abc import Iterator
 
-from answers import CUT, FAULT, Grid, Place, Point, Refused, Solid, answer_of, lines_of, run, text_of, usage, views_of
-from sheet import VIEWS, label, path, views_drawn
+from .answers import CUT, FAULT, Point, Solid, answer_of, text_of
+from .cells import Grid
+from .drawing import Place, lines_of, views_of
+from .messages import Refused, write_result
+from .svg import VIEWS, label, path, views_drawn
+
+NAME = "picture"
+HELP = "draw a drawing and its first solids as a picture"
 
 # Sizes on the picture, in pixels.
 MARGIN, LABEL = 24, 26
@@ -142,12 +143,13 @@ def note_on(head: str, count: int, shown: int) -> str:
     return many or ("" if count else "no solid has these views")
 
 
-def main(arguments: list[str]) -> None:
-    if len(arguments) not in (1, 2):
-        raise usage()
-    file, *answer = arguments
-    print(*picture(lines_of(file), text_of(answer[0]) if answer else None), sep="\n")
+def add_arguments(parser: argparse.ArgumentParser) -> None:
+    parser.add_argument("drawing", metavar="FILE.dxf")
+    parser.add_argument("answer", metavar="ANSWER", nargs="?", help="what recon solve wrote for it; - for standard input")
+    parser.add_argument("-o", "--output", metavar="OUT.svg", help="the file to write, else standard output")
 
 
-if __name__ == "__main__":
-    run(main)
+def run(arguments: argparse.Namespace) -> int:
+    text = text_of(arguments.answer) if arguments.answer else None
+    write_result("".join(f"{line}\n" for line in picture(lines_of(arguments.drawing), text)), arguments.output)
+    return 0

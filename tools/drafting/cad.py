@@ -1,27 +1,26 @@
-"""What views.py and solids.py share: FreeCAD's modules, the files of shapes, and the way to what all scripts here share.
+"""What commands over FreeCAD share: its modules, and the files of shapes. Only what needs them imports this.
 
-FreeCAD runs without a window. On Debian it is `apt-get install --no-install-recommends freecad-python3`, whose modules are
-for /usr/bin/python3, which the scripts' first lines name. For a FreeCAD elsewhere PYTHONPATH names the folder of its modules,
-and its own Python runs the scripts. They were tried with FreeCAD 0.20.2, OpenCASCADE 7.6.3 and Python 3.11.
+FreeCAD runs without a window. On Debian it is `apt-get install --no-install-recommends freecad-python3`, whose modules are for
+/usr/bin/python3, which the first line of `draft` names. For a FreeCAD elsewhere PYTHONPATH names the folder of its modules, and
+its own Python runs `draft`. Tried with FreeCAD 0.20.2, OpenCASCADE 7.6.3 and Python 3.11.
 """
 import pathlib
 import sys
 
-# Where answers.py stands, and where FreeCAD's packages put its modules.
-sys.path.append(str(pathlib.Path(__file__).resolve().parent.parent))
-sys.path += ["/usr/lib/freecad-python3/lib", "/usr/lib/freecad/lib", "/usr/lib64/freecad/lib"]
-from answers import Refused
+from .messages import Refused
 
+# Where FreeCAD's packages put its modules.
+sys.path += ["/usr/lib/freecad-python3/lib", "/usr/lib/freecad/lib", "/usr/lib64/freecad/lib"]
 try:
     import FreeCAD
     import Part
     import TechDraw
 except ImportError as missing:
     version = ".".join(map(str, sys.version_info[:2]))
-    sys.exit(
+    raise Refused(
         f"FreeCAD's modules aren't there for Python {version} of {sys.executable} ({missing}):"
         " apt-get install --no-install-recommends freecad-python3, or name their folder in PYTHONPATH"
-    )
+    ) from None
 
 __all__ = ["FreeCAD", "Part", "TechDraw", "is_shape_file", "load", "save"]
 

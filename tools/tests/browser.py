@@ -10,7 +10,8 @@ import time
 from collections.abc import Iterator
 from typing import Any
 
-from answers import Place, Refused
+from drafting.drawing import Place
+from drafting.messages import Refused
 
 # How long the browser may take over one answer, in seconds.
 PATIENCE = 60

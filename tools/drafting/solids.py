@@ -1,25 +1,17 @@
-#!/usr/bin/python3
-"""examples/freecad/solids.py SHAPE.step < ANSWER
-
-Makes each solid that `recon solve` lists from its faces, and saves it: the first as SHAPE_1.step, the second as
-SHAPE_2.step, and so on; as BREP where the name ends in .brep. It writes the answer's first line, and for each solid the file,
-the volume, and how many parts and voids it has. Nothing is saved, and the status is 1, where the answer is a fault or isn't
-whole, or where some solid isn't closed or hasn't the volume that is told.
+"""Solids of an answer as FreeCAD's shapes, each made from its faces.
 
 Where four faces meet at an edge, each joins the one that bounds the same full cells. So parts that touch along an edge or at
 a corner alone stay parts, each with a closed shell of its own, and what touches itself there is one closed shell that comes
-to the same place twice. Several parts are saved as a compound of solids. A void is a further shell of the part round it.
+to the same place twice. Several parts are a compound of solids. A void is a further shell of the part round it.
 """
 import itertools
-import pathlib
-import sys
 from collections import Counter, defaultdict
 from collections.abc import Iterable, Iterator
 from typing import NamedTuple
 
-# cad comes first: it finds FreeCAD's modules, and answers.
-from cad import FreeCAD, Part, is_shape_file, save
-from answers import FAULT, Answer, Face, Point, Refused, Solid, Way, answer_of, run, usage, ways_along
+from .answers import Face, Point, Solid, Way, ways_along
+from .cad import FreeCAD, Part
+from .messages import Refused
 
 
 class Side(NamedTuple):
@@ -28,16 +20,6 @@ class Side(NamedTuple):
     low: Point
     high: Point
     full: Point | None
-
-
-# ---- what is read
-
-def told_answer(text: str) -> Answer:
-    """An answer with solids, which has to be whole."""
-    answer = answer_of(text)
-    if FAULT.fullmatch(answer.head):
-        raise Refused(f"no solids of a drawing: {answer.head}")
-    return answer
 
 
 # ---- the faces' sides
@@ -163,27 +145,3 @@ def shape_of(told: Solid) -> Part.Shape:
     if abs(shape.Volume - told.volume) > 1e-6 * told.volume:
         raise Refused(f"its volume is {shape.Volume:.6f}, and {told.volume} is told")
     return shape
-
-
-def main(arguments: list[str]) -> None:
-    if len(arguments) != 1 or not is_shape_file(arguments[0]):
-        raise usage()
-    text = sys.stdin.read()
-    answer = told_answer(text)
-    solids = []
-    for number, told in enumerate(answer.solids, 1):
-        try:
-            solids.append((told.volume, shape_of(told)))
-        except (Refused, Part.OCCError) as refusal:
-            raise Refused(f"solid {number}: {refusal}") from None
-    print(text.partition("\n")[0])
-    path = pathlib.Path(arguments[0])
-    for number, (volume, shape) in enumerate(solids, 1):
-        file = str(path.with_name(f"{path.stem}_{number}{path.suffix}"))
-        save(shape.scale(10**-answer.decimals), file)
-        parts = len(shape.Solids)
-        print(f"{file} volume {volume} parts {parts} voids {len(shape.Shells) - parts}")
-
-
-if __name__ == "__main__":
-    run(main)
