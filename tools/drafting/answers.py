@@ -102,3 +102,24 @@ def answer_of(text: str, most: int | None = None) -> Answer:
         raise Refused("the answer isn't whole")
     face = FACE.fullmatch(lines[1]) if count else None
     return Answer(head, solids, count, len(face[3].partition(".")[2]) if face else 0)
+
+
+def turned_round(solid: Solid, width: int) -> Solid:
+    """The solid in a mirror: x turned round in so many units."""
+    def face(one: Face) -> Face:
+        x, y, z = one.outward
+        return Face((-x, y, z), [[(width - a, b, c) for a, b, c in reversed(loop)] for loop in one.loops])
+
+    return solid._replace(faces=[face(one) for one in solid.faces])
+
+
+def turned_back(answer: Answer) -> Answer:
+    """The answer to a drawing that shows its part in a mirror: all its solids turned back. They have one width."""
+    corners = [x for solid in answer.solids for face in solid.faces for loop in face.loops for x, _, _ in loop]
+    return answer._replace(solids=[turned_round(solid, max(corners)) for solid in answer.solids])
+
+
+def sizes_of(solid: Solid) -> list[int]:
+    """How far a solid reaches along x, y and z."""
+    corners = [corner for face in solid.faces for loop in face.loops for corner in loop]
+    return [max(along) - min(along) for along in zip(*corners)]

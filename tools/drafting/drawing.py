@@ -5,7 +5,9 @@ A drawing is read as docs/FORMAT.md says, as far as its lines go, and looked thr
 import math
 import pathlib
 import re
+from collections import Counter
 from collections.abc import Iterable, Iterator, Mapping
+from decimal import Decimal
 from fractions import Fraction
 from typing import NamedTuple
 
@@ -127,6 +129,58 @@ def views_of(lines: list[str]) -> dict[str, list[Line]]:
                 told = entry.first, entry.last
                 views[layer] += [Line(linetype in DASHED, *ends, told) for ends in sides_of(entry)]
     return views
+
+
+def decimals_of(lines: list[str]) -> int:
+    """With how many decimals, at most 6, recon reads the lines of the three layers."""
+    most = 0
+    for entry in entries_of(lines):
+        if entry.section == "ENTITIES" and entry.name in DRAWN and entry.values.get(8, "").upper() in VIEWS:
+            for code, value in entry.pairs:
+                if code in (10, 20, 11, 21) and re.fullmatch(r"[-+]?(\d+\.?\d*|\.\d+)([eE][-+]?\d{1,3})?", value):
+                    exponent = Decimal(value).normalize().as_tuple().exponent
+                    most = max(most, -exponent if isinstance(exponent, int) else 0)
+    return min(most, 6)
+
+
+# What is passed over on other layers and could be meant as a part of a view.
+MEANT = (*DRAWN, "POLYLINE", "ARC", "CIRCLE", "ELLIPSE", "SPLINE", "INSERT", "SOLID", "3DFACE")
+
+
+def passed_over(lines: list[str]) -> Counter[tuple[str, str]]:
+    """How many lines, curves and inserts, by layer and kind, lie within the boxes of the three views and aren't read, since they are on
+    other layers."""
+    boxes = []
+    for its in views_of(lines).values():
+        points = [point for line in its for point in (line.start, line.end)]
+        if points:
+            xs, ys = zip(*points)
+            boxes.append((min(xs), min(ys), max(xs), max(ys)))
+    counts: Counter[tuple[str, str]] = Counter()
+    for entry in entries_of(lines):
+        layer = entry.values.get(8, "0")
+        unread = entry.name in MEANT and layer.upper() not in VIEWS and entry.values.get(67) != "1"
+        if entry.section == "ENTITIES" and unread and any(touches(entry, box) for box in boxes):
+            counts[layer, entry.name] += 1
+    return counts
+
+
+def touches(entry: Entry, box: tuple[float, float, float, float]) -> bool:
+    """Whether the box round an entity's points has something of another box; a circle's or an arc's is that of the whole circle."""
+    numbers: dict[int, list[float]] = {10: [], 20: [], 40: []}
+    for code, value in entry.pairs:
+        code = {11: 10, 21: 20, 12: 10, 22: 20, 13: 10, 23: 20}.get(code, code) if entry.name not in ("ELLIPSE", "INSERT") else code
+        if code in numbers:
+            try:
+                numbers[code].append(float(value))
+            except ValueError:
+                return False
+    radius = numbers[40][0] if entry.name in ("CIRCLE", "ARC") and numbers[40] else 0.0
+    xs, ys = numbers[10], numbers[20]
+    if not xs or not ys:
+        return False
+    level = min(xs) - radius <= box[2] and max(xs) + radius >= box[0]
+    return level and min(ys) - radius <= box[3] and max(ys) + radius >= box[1]
 
 
 def origin_of(lines: list[str]) -> Origin:
