@@ -26,12 +26,14 @@ UNITS = {1: "in", 2: "ft", 4: "mm", 5: "cm", 6: "m", 8: "µin", 9: "mil", 10: "y
 
 
 class Line(NamedTuple):
-    """A line of a view: whether it is dashed, its ends, and the first and the last line of the file that tell of it."""
+    """A line of a view: whether it is dashed, its ends, the first and the last line of the file that tell of it, and whether its
+    linetype has a meaning."""
 
     dashed: bool
     start: Place
     end: Place
     told: tuple[int, int]
+    known: bool = True
 
 
 class Entry(NamedTuple):
@@ -127,7 +129,8 @@ def views_of(lines: list[str]) -> dict[str, list[Line]]:
             linetype = layers.get(layer, "") if linetype == "BYLAYER" else linetype
             if linetype not in CENTER:
                 told = entry.first, entry.last
-                views[layer] += [Line(linetype in DASHED, *ends, told) for ends in sides_of(entry)]
+                known = linetype in ("", *VISIBLE, *DASHED)
+                views[layer] += [Line(linetype in DASHED, *ends, told, known) for ends in sides_of(entry)]
     return views
 
 

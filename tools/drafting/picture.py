@@ -36,6 +36,9 @@ STYLE = """
   .small { font-size: 13px; fill: #66727e }
 """
 
+# Lines of a linetype without a meaning, where there are some.
+UNKNOWN = "  .unknown { stroke: #b3261e; stroke-dasharray: 1 5 }\n"
+
 # The faces that are seen: the axis that each looks along, and whether to its greater side.
 FACES = {"top": (2, 1), "front": (1, 0), "left": (0, 0)}
 
@@ -127,7 +130,8 @@ def picture(drawing: list[str], text: str | None) -> Iterator[str]:
         parts += [label(beside + across / 2, height - MARGIN if shown else height / 2, note, "small")] if note else []
     size_told = f'width="{width:.0f}" height="{height:.0f}" viewBox="0 0 {width:.0f} {height:.0f}"'
     yield f'<svg xmlns="http://www.w3.org/2000/svg" {size_told}>'
-    yield f"<style>{STYLE}</style>"
+    unknown = any('class="unknown"' in part for part in parts)
+    yield f"<style>{STYLE}{UNKNOWN if unknown else ''}</style>"
     yield '<rect width="100%" height="100%" rx="8"/>'
     yield from parts
     yield "</svg>"

@@ -148,18 +148,17 @@ def is_extension_line(run: Run, x: float, y: float, size: float, tolerance: floa
 
 
 def frames(pieces: list[Group], tolerance: float) -> tuple[list[Group], list[Group]]:
-    """The pieces without those round all the rest, and those."""
-    found = []
-    while True:
-        groups = len(merged(pieces, tolerance)) if len(pieces) < MOST_GROUPS else 2
-        around = next((piece for piece in pieces if all(holds(piece.box, it.box, tolerance) for it in pieces)), None)
-        if around is None or len(pieces) < 4:
-            return pieces, found
-        rest = [piece for piece in pieces if piece is not around]
-        if groups > 1 or len(merged(rest, tolerance)) < 3:
-            return pieces, found
-        pieces = rest
+    """The pieces without those round all the rest, one within another, where three groups or more are left; and those."""
+    rest, found = pieces, []
+    while 4 <= len(rest) <= MOST_GROUPS:
+        around = next((piece for piece in rest if all(holds(piece.box, it.box, tolerance) for it in rest)), None)
+        if around is None:
+            break
+        rest = [piece for piece in rest if piece is not around]
         found.append(around)
+        if len(merged(rest, tolerance)) >= 3:
+            return rest, found
+    return pieces, []
 
 
 def why_no_view(group: Group, texts: Sequence[tuple[float, float]]) -> str:

@@ -51,13 +51,15 @@ class View:
         self.left, self.low = (min(point[axis] for point in points) for axis in (0, 1))
         self.width = max(point[0] for point in points) - self.left
         self.height = max(point[1] for point in points) - self.low
-        self.strokes = joined((line.dashed, line.start, line.end) for line in lines)
+        self.strokes = joined((line.dashed, line.start, line.end) for line in lines if line.known)
+        self.unknown = [(line.start, line.end) for line in lines if not line.known]
         self.marked = [(line.start, line.end) for line in lines if marked and line.told[0] <= marked <= line.told[1]]
 
     def drawn(self, left: float, bottom: float, scale: float) -> Iterator[str]:
         """The view with its lower left corner there."""
         kinds = [("dashed" if dashed else "solid", ends) for dashed, *ends in self.strokes]
-        for kind, ends in itertools.chain(kinds, (("marked", ends) for ends in self.marked)):
+        others = [*(("unknown", ends) for ends in self.unknown), *(("marked", ends) for ends in self.marked)]
+        for kind, ends in itertools.chain(kinds, others):
             yield path([(left + scale * (x - self.left), bottom - scale * (y - self.low)) for x, y in ends], kind)
 
 

@@ -22,7 +22,7 @@ class Ended(NamedTuple):
     said: str
 
 
-def draft(*words: object, data: bytes = b"", seconds: float = 120) -> Ended:
+def draft(*words: object, data: bytes = b"", seconds: float = 600) -> Ended:
     command = [str(TOOLS / "draft"), *map(str, words)]
     done = subprocess.run(command, input=data, capture_output=True, timeout=seconds)
     return Ended(done.returncode, done.stdout.decode(), done.stderr.decode())
