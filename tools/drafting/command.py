@@ -12,7 +12,9 @@ from .messages import Progress, Refused, say
 
 # The commands, in the order in which the help tells them: a module each, with NAME, HELP, add_arguments(parser) and
 # run(arguments), which answers the status. What a command needs beyond Python is imported by its run alone.
-MODULES = ("sheet", "solve", "table", "row", "step", "stl", "clean", "page", "picture", "views", "triangles")
+MODULES = (
+    "sheet", "solve", "why", "table", "row", "step", "stl", "clean", "page", "picture", "views", "triangles",
+)
 
 EPILOG = """\
 Results go to standard output, or into the file of --output, and only where the status is 0; words for people go to standard

@@ -10,7 +10,7 @@ from collections.abc import Iterator
 
 from .answers import CUT, FAULT, Point, Solid, answer_of, text_of
 from .cells import Grid
-from .drawing import Place, lines_of, views_of
+from .drawing import Line, Place, lines_of, views_of
 from .messages import Refused, write_result
 from .svg import VIEWS, label, path, views_drawn
 
@@ -35,6 +35,7 @@ STYLE = """
   text { font: 15px Helvetica, Arial, sans-serif; fill: #17212b; text-anchor: middle }
   .small { font-size: 13px; fill: #66727e }
 """
+MARKED = "  .marked { stroke: #d9480f; stroke-width: 9; stroke-opacity: 0.5 }\n"
 
 # Lines of a linetype without a meaning, where there are some.
 UNKNOWN = "  .unknown { stroke: #b3261e; stroke-dasharray: 1 5 }\n"
@@ -109,7 +110,8 @@ def solids_drawn(solids: list[Solid], left: float, top: float, size: float) -> I
 
 # ---- the picture
 
-def picture(drawing: list[str], text: str | None) -> Iterator[str]:
+def picture(views: dict[str, list[Line]], text: str | None, marked: int | None = None) -> Iterator[str]:
+    """The picture of some views and of an answer; the lines of the views that a number of the file tells are marked."""
     answer = None if text is None else answer_of(text, MOST_SOLIDS)
     shown = answer.solids if answer else []
     columns = min(len(shown), 3)
@@ -117,10 +119,9 @@ def picture(drawing: list[str], text: str | None) -> Iterator[str]:
     solids_height = math.ceil(len(shown) / 3) * (size + 2 * LABEL)
     height = max(VIEWS, solids_height) + 2 * (MARGIN + LABEL)
     width = 2 * MARGIN + VIEWS
-    views = views_of(drawing)
     if not any(views.values()) and not (answer and FAULT.fullmatch(answer.head)):
         raise Refused("no line of a view is in the drawing")
-    parts = list(views_drawn(views, MARGIN, (height - VIEWS) / 2))
+    parts = list(views_drawn(views, MARGIN, (height - VIEWS) / 2, marked))
     if answer:
         beside = width + BETWEEN - MARGIN
         across = max(columns * size, 260)
@@ -131,7 +132,7 @@ def picture(drawing: list[str], text: str | None) -> Iterator[str]:
     size_told = f'width="{width:.0f}" height="{height:.0f}" viewBox="0 0 {width:.0f} {height:.0f}"'
     yield f'<svg xmlns="http://www.w3.org/2000/svg" {size_told}>'
     unknown = any('class="unknown"' in part for part in parts)
-    yield f"<style>{STYLE}{UNKNOWN if unknown else ''}</style>"
+    yield f"<style>{STYLE}{UNKNOWN if unknown else ''}{MARKED if marked else ''}</style>"
     yield '<rect width="100%" height="100%" rx="8"/>'
     yield from parts
     yield "</svg>"
@@ -155,5 +156,5 @@ def add_arguments(parser: argparse.ArgumentParser) -> None:
 
 def run(arguments: argparse.Namespace) -> int:
     text = text_of(arguments.answer) if arguments.answer else None
-    write_result("".join(f"{line}\n" for line in picture(lines_of(arguments.drawing), text)), arguments.output)
+    write_result("".join(f"{line}\n" for line in picture(views_of(lines_of(arguments.drawing)), text)), arguments.output)
     return 0
