@@ -1,5 +1,5 @@
 """Judges an answer by another program: clingo (apt-get install gringo) lists all solids of the drawing from the column rule, in
-the twenty lines of views.lp beside this file, and knows nothing of grids of blocks, of searches or of the proved program. Each
+the twenty lines of views.lp beside this file, and knows nothing of blocks, of searches or of the proved program. Each
 solid of the answer is drawn by the definitions too and compared with the drawing; solids have to be the same ones, each once, in
 the stated order. The answer is read from the file ANSWER (`-` for standard input), or else had by running the program.
 

@@ -7,7 +7,6 @@ import shutil
 import subprocess
 from typing import NamedTuple
 
-from .drawing import VIEWS
 from .messages import Refused
 from .panels import FRAMES, Cell, Grid, Row, axis_of
 

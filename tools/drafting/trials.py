@@ -9,16 +9,11 @@ from typing import NamedTuple
 
 from . import program
 from .answers import CUT, WHOLE
-from .drawing import VIEWS
 from .messages import Refused
-from .panels import DASHED, Grid, Panels, Row, runs_of
+from .panels import DASHED, Grid, Row, runs_of
 
 # How far a trial goes: so many solids and nodes.
 SOLIDS, NODES = 100, 20_000
-# How many places between two views of a written drawing.
-APART = 10
-
-Number = Callable[[int], str]
 
 
 class Outcome(NamedTuple):
@@ -97,10 +92,6 @@ class Tried:
 def outcome(path: pathlib.Path, data: bytes, nodes: int = NODES, solids: int = SOLIDS) -> Outcome:
     """What the program says of a drawing."""
     return outcome_of(program.run(path, ["solve", "--nodes", nodes, "--solids", solids], data, seconds=600))
-
-
-def solids_of_panels(path: pathlib.Path, grid: Grid, panels: Panels) -> Outcome:
-    return outcome(path, Tried(grid).changed(panels.items()))
 
 
 # ---- all processors

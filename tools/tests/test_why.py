@@ -14,7 +14,7 @@ from drafting import program, why
 from drafting.drawing import lines_of, views_of
 from drafting.panels import Grid, grid_of, sheet_of
 
-from .made import MISTAKES, Canon, Run, canon, drawn, file_of, lines_of_runs, painted, random_cuts, random_solid, runs
+from .made import MISTAKES, Canon, Run, canon, drawn, file_of, painted, random_cuts, random_solid, runs
 from .support import EXAMPLES, draft, needs_command, needs_program
 
 # Where Debian's package puts FreeCAD's modules.
@@ -145,6 +145,13 @@ class Why(unittest.TestCase):
             self.assertEqual(draft("why", out).out, "Nothing is wrong: 3 solids have these views.\n")
             ended = draft("why", EXAMPLES / "quartered_cube_half_hidden.dxf", "--write", out, "--take", 3)
             self.assertEqual(ended.status, 1)
+
+    def test_the_picture_of_the_readme(self) -> None:
+        with tempfile.TemporaryDirectory() as folder:
+            out = pathlib.Path(folder) / "out.svg"
+            ended = draft("why", EXAMPLES / "quartered_cube_half_hidden.dxf", "--picture", out, "--take", 2)
+            self.assertEqual(ended.status, 0, ended.said)
+            self.assertEqual(out.read_text(), (EXAMPLES.parent / "docs" / "why.svg").read_text())
 
     def test_a_fault_comes_first(self) -> None:
         ended = draft("why", EXAMPLES / "bracket_cut.dxf")
