@@ -1,0 +1,52 @@
+"""What commands over FreeCAD share: its modules, and the files of shapes. Only what needs them imports this.
+
+FreeCAD runs without a window. On Debian it is `apt-get install --no-install-recommends freecad-python3`, whose modules are for
+/usr/bin/python3, which the first line of `draft` names. For a FreeCAD elsewhere PYTHONPATH names the folder of its modules, and
+its own Python runs `draft`. Tried with FreeCAD 0.20.2, OpenCASCADE 7.6.3 and Python 3.11.
+"""
+import pathlib
+import sys
+
+from .messages import Refused
+
+# Where FreeCAD's packages put its modules.
+sys.path += ["/usr/lib/freecad-python3/lib", "/usr/lib/freecad/lib", "/usr/lib64/freecad/lib"]
+try:
+    import FreeCAD
+    import Part
+    import TechDraw
+except ImportError as missing:
+    version = ".".join(map(str, sys.version_info[:2]))
+    raise Refused(
+        f"FreeCAD's modules aren't there for Python {version} of {sys.executable} ({missing}):"
+        " apt-get install --no-install-recommends freecad-python3, or name their folder in PYTHONPATH"
+    ) from None
+
+__all__ = ["FreeCAD", "Part", "TechDraw", "is_shape_file", "load", "save"]
+
+STEP, BREP = (".step", ".stp"), (".brep", ".brp")
+
+
+def is_shape_file(path: str) -> bool:
+    return pathlib.Path(path).suffix.lower() in STEP + BREP
+
+
+def load(path: str) -> Part.Shape:
+    """The shape of a STEP or BREP file."""
+    shape = Part.Shape()
+    try:
+        shape.read(path)
+    except (OSError, RuntimeError):
+        raise Refused(f"{path}: not there, or not what its ending says") from None
+    if shape.isNull():
+        raise Refused(f"{path}: no shape in it")
+    return shape
+
+
+def save(shape: Part.Shape, path: str) -> None:
+    """Writes the shape as STEP or BREP, as the path ends."""
+    write = shape.exportStep if pathlib.Path(path).suffix.lower() in STEP else shape.exportBrep
+    try:
+        write(path)
+    except (OSError, RuntimeError):
+        raise Refused(f"{path}: can't be written") from None

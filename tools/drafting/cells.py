@@ -1,0 +1,89 @@
+"""The cells of an answer's solids, as numbers of bits."""
+import functools
+import itertools
+from collections.abc import Iterable
+
+from .answers import Point, Solid
+from .messages import Refused
+
+
+class Grid:
+    """The cells between the coordinates of all corners of some solids.
+
+    A set of cells is a number, with a bit for each cell: x runs fastest, then y, then z. Along each axis there is one place
+    more than there are cells. It stands for what lies around them, behind the last cell and before the next row's first one.
+    """
+
+    def __init__(self, solids: Iterable[Solid]) -> None:
+        corners = {corner for solid in solids for face in solid.faces for loop in face.loops for corner in loop}
+        self.cuts = [sorted({corner[axis] for corner in corners}) for axis in range(3)]
+        self.ranks = [{at: rank for rank, at in enumerate(cut)} for cut in self.cuts]
+        x, y, z = map(len, self.cuts)
+        self.strides = 1, x, x * y
+        self.count = x * y * z
+        self.every = (1 << self.count) - 1
+
+    def place(self, corner: Point) -> int:
+        """The place of the cell whose least corner this is."""
+        return sum(rank[at] * stride for rank, at, stride in zip(self.ranks, corner, self.strides))
+
+    def between(self, solid: Solid, axis: int) -> int:
+        """The cells between a solid's faces across an axis.
+
+        From each corner of such a face on, to greater coordinates along all three axes, full turns to empty and empty to
+        full: along the face's plane that gives the inside of its loops, and across it what lies between two faces.
+        """
+        turns = bytearray(b"0") * self.count
+        for face in solid.faces:
+            for corner in itertools.chain(*face.loops) if face.outward[axis] else ():
+                turns[-1 - self.place(corner)] ^= 1
+        cells = int(turns or b"0", 2)
+        for stride in self.strides:
+            while stride < self.count:
+                cells = (cells ^ cells << stride) & self.every
+                stride *= 2
+        return cells
+
+    def cells(self, solid: Solid) -> int:
+        """The full cells of a solid; refused where its faces don't enclose its volume."""
+        found = {self.between(solid, axis) for axis in range(3)}
+        if len(found) != 1 or self.volume(min(found)) != solid.volume:
+            raise Refused(f"the faces of the solid of choice {solid.choice[:60]} don't enclose its volume")
+        return found.pop()
+
+    @functools.cached_property
+    def margin(self) -> int:
+        """The places that are no cells: the last ones along an axis."""
+        x, y, z = map(len, self.cuts)
+        rows = ["1" * x if k == z - 1 or j == y - 1 else "0" * (x - 1) + "1" for k in range(z) for j in range(y)]
+        return int("".join(rows)[::-1] or "0", 2)
+
+    def rows(self, cells: int) -> list[list[str]]:
+        """The cells as texts of 0 and 1, one for each row along x: by z, and then y."""
+        text = f"{cells:0{self.count}b}"[::-1]
+        _, row, layer = self.strides
+        return [[text[at:at + row] for at in range(start, start + layer, row)] for start in range(0, self.count, layer or 1)]
+
+    def volume(self, cells: int) -> int:
+        """How many unit cells there are in a set of cells."""
+        x, y, z = ([high - low for low, high in itertools.pairwise(cut)] for cut in self.cuts)
+        across = {"0" * len(self.cuts[0]): 0}
+        total = 0
+        for height, layer in zip(z, self.rows(cells)):
+            for depth, row in zip(y, layer):
+                if row not in across:
+                    across[row] = sum(width for width, full in zip(x, row) if full == "1")
+                total += across[row] * depth * height
+        return total
+
+    def outside(self, cells: int) -> int:
+        """The places that are joined with what lies around all cells, by chains of neighbours that aren't in a set of cells."""
+        around = self.margin
+        while True:
+            grown = around
+            for stride in self.strides:
+                grown |= around << stride | around >> self.count - stride | around >> stride | around << self.count - stride
+            grown &= self.every & ~cells
+            if grown == around:
+                return around
+            around = grown

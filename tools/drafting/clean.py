@@ -1,0 +1,49 @@
+"""Draws a drawing, or a sheet, anew: the drawing of one of its solids as recon writes it, one line for each edge, and with a table of
+linetypes and layers, which recon leaves out and other programs ask for before they draw HIDDEN dashed. It is read back here, line by
+line, from what the program writes.
+"""
+import argparse
+
+from . import asking, faults, program
+from .drawing import Stroke, lines_within, views_of, written
+from .messages import Refused, many, say, write_result
+
+NAME = "clean"
+HELP = "draw a drawing or a sheet anew, one line for each edge"
+
+
+def add_arguments(parser: argparse.ArgumentParser) -> None:
+    parser.add_argument("drawing", metavar="IN.dxf")
+    parser.add_argument("solid", metavar="K", nargs="?", type=int, default=1, help="the solid whose drawing is written (else 1)")
+    parser.add_argument("-o", "--output", metavar="OUT.dxf", help="the file to write, else standard output")
+    asking.add_arguments(parser)
+
+
+def strokes_in(text: str, decimals: int) -> dict[str, list[Stroke]]:
+    """The strokes of a drawing that recon wrote, in units of its last decimal."""
+    def units(place: tuple[float, float]) -> tuple[int, int]:
+        return round(place[0] * 10**decimals), round(place[1] * 10**decimals)
+
+    views = views_of(lines_within(text.encode()))
+    return {view: [(line.dashed, units(line.start), units(line.end)) for line in lines] for view, lines in views.items()}
+
+
+def redrawn(arguments: argparse.Namespace, say_it: asking.Tell) -> asking.Asked:
+    """What recon redraws of a solid; refused where there is none."""
+    asked = asking.ask(arguments.drawing, arguments, say_it, ("redraw", arguments.solid))
+    head = asked.run.text.partition("\n")[0]
+    if asked.run.status == program.FAULT:
+        raise Refused("; ".join(faults.told(head, asked.lines)))
+    if asked.run.status == program.NO_SUCH_SOLID:
+        raise Refused(f"there is no solid {arguments.solid}: {many(int(head.split()[-1]), 'solid')} of this drawing")
+    if asked.run.status != program.WHOLE:
+        raise Refused(f"the search was cut, {head}: raise the limit by --{head.split()[1]}")
+    return asked
+
+
+def run(arguments: argparse.Namespace) -> int:
+    asked = redrawn(arguments, lambda text: say(f"draft clean: {text}"))
+    strokes = strokes_in(asked.run.text, asked.decimals)
+    say(f"draft clean: {many(sum(map(len, strokes.values())), 'line')}, read with --decimals {asked.decimals}")
+    write_result(written(strokes, asked.decimals, asked.origin), arguments.output)
+    return 0

@@ -1,0 +1,70 @@
+"""The arguments, commands and statuses of `draft`."""
+import argparse
+import importlib
+import importlib.metadata
+import os
+import platform
+import sys
+from types import ModuleType
+
+from . import __version__
+from .messages import Progress, Refused, say
+
+# The commands, in the order in which the help tells them: a module each, with NAME, HELP, add_arguments(parser) and
+# run(arguments), which answers the status. What a command needs beyond Python is imported by its run alone.
+MODULES = (
+    "sheet", "solve", "why", "settle", "judge", "table", "row", "step", "stl", "clean", "page", "picture", "views", "triangles",
+)
+
+EPILOG = """\
+Results go to standard output, or into the file of --output, and only where the status is 0; words for people go to standard
+error. The status is 1 where an input is refused, 2 where the arguments aren't taken. None of this is proved: the program that
+it runs is, and each thing that is changed, left out or taken here is told."""
+
+
+def commands() -> list[ModuleType]:
+    return [importlib.import_module(f".{name}", __package__) for name in MODULES]
+
+
+def versions() -> str:
+    """The version of this program and of what it stands on."""
+    found = [f"Python {platform.python_version()}"]
+    try:
+        found.append(f"ezdxf {importlib.metadata.version('ezdxf')}")
+    except importlib.metadata.PackageNotFoundError:
+        found.append("no ezdxf")
+    return f"draft {__version__} ({', '.join(found)})"
+
+
+def parser_of(modules: list[ModuleType]) -> argparse.ArgumentParser:
+    parser = argparse.ArgumentParser(
+        prog="draft", description="Programs round recon, for drawings as people make them.", epilog=EPILOG, allow_abbrev=False,
+        formatter_class=argparse.RawDescriptionHelpFormatter,
+    )
+    parser.add_argument("--version", action="version", version=versions())
+    choices = parser.add_subparsers(dest="command", metavar="COMMAND", required=True)
+    for module in modules:
+        one = choices.add_parser(
+            module.NAME, help=module.HELP, description=module.__doc__, allow_abbrev=False,
+            formatter_class=argparse.RawDescriptionHelpFormatter,
+        )
+        module.add_arguments(one)
+        one.set_defaults(run=module.run)
+    return parser
+
+
+def main(words: list[str]) -> int:
+    arguments = parser_of(commands()).parse_args(words)
+    try:
+        return int(arguments.run(arguments))
+    except Refused as refusal:
+        say(f"draft {arguments.command}: {refusal}")
+    except BrokenPipeError:
+        # Whoever reads has gone: nothing is left to be told, and nothing may be flushed at the end.
+        os.dup2(os.open(os.devnull, os.O_WRONLY), sys.stdout.fileno())
+    except OSError as failure:
+        say(f"draft {arguments.command}: {failure.filename or 'input or output'}: {failure.strerror}")
+    except KeyboardInterrupt:
+        Progress.clear()
+        return 130
+    return 1

@@ -1,0 +1,249 @@
+"""Drawings of three layers: reading their lines, and writing one.
+
+A drawing is read as docs/FORMAT.md says, as far as its lines go, and looked through for no fault.
+"""
+import math
+import pathlib
+import re
+from collections import Counter
+from collections.abc import Iterable, Iterator, Mapping
+from decimal import Decimal
+from fractions import Fraction
+from typing import NamedTuple
+
+VIEWS = ("FRONT", "TOP", "SIDE")
+DRAWN = ("LINE", "LWPOLYLINE")
+VISIBLE = ("CONTINUOUS", "BYBLOCK")
+DASHED = ("HIDDEN", "HIDDEN2", "HIDDENX2", "DASHED", "DASHED2", "DASHEDX2")
+CENTER = ("CENTER", "CENTER2", "CENTERX2")
+
+Place = tuple[float, float]
+# A line to be written: whether it is dashed, and its ends in units of the last decimal.
+Stroke = tuple[bool, tuple[int, int], tuple[int, int]]
+
+# The units of DXF's $INSUNITS that drawings of parts have, as they are written behind a length.
+UNITS = {1: "in", 2: "ft", 4: "mm", 5: "cm", 6: "m", 8: "µin", 9: "mil", 10: "yd", 13: "µm", 14: "dm"}
+
+
+class Line(NamedTuple):
+    """A line of a view: whether it is dashed, its ends, the first and the last line of the file that tell of it, and whether its
+    linetype has a meaning."""
+
+    dashed: bool
+    start: Place
+    end: Place
+    told: tuple[int, int]
+    known: bool = True
+
+
+class Entry(NamedTuple):
+    """An entry of a section: its pairs, the first value of each of its codes, and the lines of the file where it begins and ends."""
+
+    section: str
+    name: str
+    pairs: list[tuple[int, str]]
+    values: dict[int, str]
+    first: int
+    last: int
+
+
+class Origin(NamedTuple):
+    """What a drawing says of the sheet that it was made from: the unit of its coordinates, how many units of the drawing make one
+    of the sheet, and whether it shows the sheet's part in a mirror, x turned round."""
+
+    unit: str = ""
+    times: Fraction = Fraction(1)
+    mirrored: bool = False
+
+
+def lines_of(path: str) -> list[str]:
+    """The lines of a drawing file."""
+    return lines_within(pathlib.Path(path).read_bytes())
+
+
+def lines_within(data: bytes) -> list[str]:
+    """The lines of a drawing, without what a carriage return or blanks at their ends add."""
+    text = data.decode("utf-8-sig", errors="replace")
+    return [line.removesuffix("\r").strip(" \t") for line in text.removesuffix("\n").split("\n")]
+
+
+def pairs_of(lines: list[str]) -> Iterator[tuple[int, int, str]]:
+    """The pairs of a drawing up to its end, or to what is no pair: the line of the code, the code and the value."""
+    for number, (code, value) in enumerate(zip(lines[0::2], lines[1::2])):
+        if not re.fullmatch(r"-?[0-9]{1,4}", code) or (int(code) == 0 and value.upper() == "EOF"):
+            return
+        yield 2 * number + 1, int(code), value
+
+
+def entries_of(lines: list[str]) -> Iterator[Entry]:
+    """The entries of a drawing; what belongs to an application is passed over, and so are comments."""
+    section, foreign = "", False
+    entry = None
+    for number, code, value in pairs_of(lines):
+        if code == 0:
+            if entry:
+                yield entry
+            entry, foreign = Entry(section, value.upper(), [], {}, number, number + 1), False
+        elif entry:
+            foreign = foreign or (code == 102 and value.startswith("{"))
+            if not foreign and code != 999:
+                entry.pairs.append((code, value))
+                entry.values.setdefault(code, value)
+            foreign = foreign and not (code == 102 and value == "}")
+            entry = entry._replace(last=number + 1)
+            if code == 2 and entry.name == "SECTION":
+                section = value.upper()
+    if entry:
+        yield entry
+
+
+def points_of(entry: Entry) -> list[Place]:
+    """The points through which a line or a polyline goes; none of one that is broken."""
+    try:
+        if entry.name == "LINE":
+            return [(float(entry.values[x]), float(entry.values[y])) for x, y in ((10, 20), (11, 21))]
+        xs, ys = [[float(value) for code, value in entry.pairs if code == wanted] for wanted in (10, 20)]
+        points = list(zip(xs, ys, strict=True))
+        closed = float(entry.values.get(70, "0")) % 2 == 1 and len(points) > 1
+    except (KeyError, ValueError):
+        return []
+    return points + points[:1] if closed else points
+
+
+def sides_of(entry: Entry) -> list[tuple[Place, Place]]:
+    """The two ends of each line that it gives and that has some length."""
+    points = points_of(entry)
+    return [ends for ends in zip(points, points[1:]) if ends[0] != ends[1] and all(map(math.isfinite, ends[0] + ends[1]))]
+
+
+def views_of(lines: list[str]) -> dict[str, list[Line]]:
+    """The lines of each view that can be read."""
+    layers: dict[str, str] = {}
+    views: dict[str, list[Line]] = {"FRONT": [], "TOP": [], "SIDE": []}
+    for entry in entries_of(lines):
+        layer = entry.values.get(8, "").upper()
+        if entry.section == "TABLES" and entry.name == "LAYER":
+            layers.setdefault(entry.values.get(2, "").upper(), entry.values.get(6, "").upper())
+        elif entry.section == "ENTITIES" and entry.name in DRAWN and layer in views and entry.values.get(67) != "1":
+            linetype = entry.values.get(6, "BYLAYER").upper()
+            linetype = layers.get(layer, "") if linetype == "BYLAYER" else linetype
+            if linetype not in CENTER:
+                told = entry.first, entry.last
+                known = linetype in ("", *VISIBLE, *DASHED)
+                views[layer] += [Line(linetype in DASHED, *ends, told, known) for ends in sides_of(entry)]
+    return views
+
+
+def decimals_of(lines: list[str]) -> int:
+    """With how many decimals, at most 6, recon reads the lines of the three layers."""
+    most = 0
+    for entry in entries_of(lines):
+        if entry.section == "ENTITIES" and entry.name in DRAWN and entry.values.get(8, "").upper() in VIEWS:
+            for code, value in entry.pairs:
+                if code in (10, 20, 11, 21) and re.fullmatch(r"[-+]?(\d+\.?\d*|\.\d+)([eE][-+]?\d{1,3})?", value):
+                    exponent = Decimal(value).normalize().as_tuple().exponent
+                    most = max(most, -exponent if isinstance(exponent, int) else 0)
+    return min(most, 6)
+
+
+# What is passed over on other layers and could be meant as a part of a view.
+MEANT = (*DRAWN, "POLYLINE", "ARC", "CIRCLE", "ELLIPSE", "SPLINE", "INSERT", "SOLID", "3DFACE")
+
+
+def passed_over(lines: list[str]) -> Counter[tuple[str, str]]:
+    """How many lines, curves and inserts, by layer and kind, lie within the boxes of the three views and aren't read, since they are on
+    other layers."""
+    boxes = []
+    for its in views_of(lines).values():
+        points = [point for line in its for point in (line.start, line.end)]
+        if points:
+            xs, ys = zip(*points)
+            boxes.append((min(xs), min(ys), max(xs), max(ys)))
+    counts: Counter[tuple[str, str]] = Counter()
+    for entry in entries_of(lines):
+        layer = entry.values.get(8, "0")
+        unread = entry.name in MEANT and layer.upper() not in VIEWS and entry.values.get(67) != "1"
+        if entry.section == "ENTITIES" and unread and any(touches(entry, box) for box in boxes):
+            counts[layer, entry.name] += 1
+    return counts
+
+
+def touches(entry: Entry, box: tuple[float, float, float, float]) -> bool:
+    """Whether the box round an entity's points has something of another box; a circle's or an arc's is that of the whole circle."""
+    numbers: dict[int, list[float]] = {10: [], 20: [], 40: []}
+    for code, value in entry.pairs:
+        code = {11: 10, 21: 20, 12: 10, 22: 20, 13: 10, 23: 20}.get(code, code) if entry.name not in ("ELLIPSE", "INSERT") else code
+        if code in numbers:
+            try:
+                numbers[code].append(float(value))
+            except ValueError:
+                return False
+    radius = numbers[40][0] if entry.name in ("CIRCLE", "ARC") and numbers[40] else 0.0
+    xs, ys = numbers[10], numbers[20]
+    if not xs or not ys:
+        return False
+    level = min(xs) - radius <= box[2] and max(xs) + radius >= box[0]
+    return level and min(ys) - radius <= box[3] and max(ys) + radius >= box[1]
+
+
+def origin_of(lines: list[str]) -> Origin:
+    """What the drawing's header says of its unit, and what comments say that `draft sheet` wrote."""
+    origin = Origin()
+    variable = ""
+    for _, code, value in pairs_of(lines):
+        if (code, value) == (2, "ENTITIES"):
+            break
+        if code == 9:
+            variable = value
+        elif code == 70 and variable == "$INSUNITS" and value.isdigit():
+            origin = origin._replace(unit=UNITS.get(int(value), ""))
+        elif code == 999 and (told := re.fullmatch(r"draft times (\d{1,9}(?:/[1-9]\d{0,8})?)", value)) and Fraction(told[1]):
+            origin = origin._replace(times=Fraction(told[1]))
+        elif code == 999 and value == "draft mirrored":
+            origin = origin._replace(mirrored=True)
+    return origin
+
+
+# ---- writing
+
+def number(units: int, decimals: int) -> str:
+    """A coordinate as it is written with so many decimals."""
+    if not decimals:
+        return str(units)
+    whole, part = divmod(abs(units), 10**decimals)
+    return f"{'-' if units < 0 else ''}{whole}.{part:0{decimals}d}"
+
+
+def pairs(*members: tuple[int, object]) -> str:
+    """The text of pairs: a code and a value each, on lines of their own."""
+    return "".join(f"{code}\n{value}\n" for code, value in members)
+
+
+def section(name: str, *members: tuple[int, object]) -> str:
+    return pairs((0, "SECTION"), (2, name), *members, (0, "ENDSEC"))
+
+
+def tables() -> str:
+    """What HIDDEN looks like, and the layers, which other programs ask for."""
+    plain = [(0, "LTYPE"), (2, "CONTINUOUS"), (70, 0), (3, "Solid line"), (72, 65), (73, 0), (40, 0)]
+    hidden = [(0, "LTYPE"), (2, "HIDDEN"), (70, 0), (3, "Hidden"), (72, 65), (73, 2), (40, 0.375), (49, 0.25), (49, -0.125)]
+    layers = [pair for view in VIEWS for pair in ((0, "LAYER"), (2, view), (70, 0), (62, 7), (6, "CONTINUOUS"))]
+    return section(
+        "TABLES", (0, "TABLE"), (2, "LTYPE"), (70, 2), *plain, *hidden, (0, "ENDTAB"),
+        (0, "TABLE"), (2, "LAYER"), (70, 3), *layers, (0, "ENDTAB"),
+    )
+
+
+def written(views: Mapping[str, Iterable[Stroke]], decimals: int, origin: Origin = Origin()) -> str:
+    """A drawing of three layers with a table of linetypes, which recon reads with so many decimals."""
+    unit = next((code for code, name in UNITS.items() if name == origin.unit), 0)
+    comments = [(999, f"draft times {origin.times}")] if origin.times != 1 else []
+    comments += [(999, "draft mirrored")] if origin.mirrored else []
+    members: list[tuple[int, object]] = []
+    for view, strokes in views.items():
+        for dashed, *ends in strokes:
+            members += [(0, "LINE"), (8, view), (6, "HIDDEN" if dashed else "CONTINUOUS")]
+            for end, codes in zip(ends, ((10, 20, 30), (11, 21, 31))):
+                members += zip(codes, (number(end[0], decimals), number(end[1], decimals), 0))
+    header = section("HEADER", (9, "$ACADVER"), (1, "AC1009"), (9, "$INSUNITS"), (70, unit))
+    return pairs(*comments) + header + tables() + section("ENTITIES", *members) + pairs((0, "EOF"))

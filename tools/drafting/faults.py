@@ -1,0 +1,97 @@
+"""Faults of a drawing in words: what is wrong, the entity that it is about, and what to change."""
+import re
+from collections import Counter
+
+from .answers import FAULT
+from .drawing import DRAWN, VIEWS, Entry, entries_of
+
+# Of each fault what is wrong, and what to do.
+WORDS = {
+    "Binary": ("the file is binary DXF", "save it as ASCII DXF, or let `draft sheet` read it"),
+    "BadCode": ("here stands no group code, where one has to stand", "the file is broken: export it again"),
+    "NoValue": ("a group code has no value", "the file is cut: export it again"),
+    "NoEof": ("the file ends without an end", "the file is cut: export it again"),
+    "BadSection": ("a pair stands where none may", "the file is broken: export it again"),
+    "BadNumber": ("a coordinate is no number", "the file is broken: export it again"),
+    "NotWhole": ("a coordinate has more decimals than are read", "read it with more --decimals, or let `draft sheet` find them"),
+    "TooFar": ("a coordinate is beyond 1,000,000,000", "move the drawing nearer to the origin, or read it with fewer --decimals"),
+    "Missing": ("a coordinate is missing", "the file is broken: export it again"),
+    "Repeated": ("a coordinate stands there twice", "the file is broken: export it again"),
+    "Oblique": ("a line is neither level nor upright", "draw it level or upright; oblique edges aren't read"),
+    "Linetype": ("a linetype tells no style", "make it CONTINUOUS, HIDDEN or CENTER, or let `draft sheet` read it, with --hidden linetype=NAME"),
+    "Geometry": ("here is geometry that gives no lines", "draw it by lines, or let `draft sheet` take blocks and polylines apart"),
+    "EmptyView": ("a view has no line", "draw it on the layer of its name, or let `draft sheet` find the views"),
+    "TooManyLines": ("there are more than 100,000 lines", "let `draft sheet` join them"),
+    "TooLong": ("the file has more than 16,777,216 bytes", "let `draft sheet` write it anew"),
+    "TooFine": ("an axis has more than 64 different coordinates", "leave out details, or draw parts of it by themselves"),
+    "TooManyBlocks": ("the drawing has more than 4,096 blocks", "leave out details, or draw parts of it by themselves"),
+    "Curved": ("a side of a polyline is bent", "draw it by straight lines; curves aren't read"),
+}
+
+
+def name_of(head: str) -> str:
+    """The name of the fault that an answer's first line tells, or nothing."""
+    fault = FAULT.fullmatch(head)
+    return fault[1].split()[1] if fault else ""
+
+
+def line_named(head: str) -> int | None:
+    """The line of the file that a fault names."""
+    fault = FAULT.fullmatch(head)
+    return int(fault[2]) if fault and fault[2] else None
+
+
+def entity_at(lines: list[str], number: int | None) -> Entry | None:
+    """The entity that has this line of the file."""
+    if number is None:
+        return None
+    return next((entry for entry in entries_of(lines) if entry.first <= number <= entry.last and entry.section == "ENTITIES"), None)
+
+
+def linetype_of(lines: list[str], entity: Entry) -> str:
+    """The name of an entity's linetype, its own or its layer's."""
+    name = entity.values.get(6, "BYLAYER")
+    if name.upper() != "BYLAYER":
+        return name
+    layers = (entry for entry in entries_of(lines) if entry.section == "TABLES" and entry.name == "LAYER")
+    layer = next((it for it in layers if it.values.get(2, "").upper() == entity.values.get(8, "").upper()), None)
+    return f"{layer.values.get(6, 'CONTINUOUS')}, by its layer" if layer else "CONTINUOUS"
+
+
+def layers_with_lines(lines: list[str]) -> Counter[str]:
+    """How many lines and polylines each layer of the file has."""
+    return Counter(entry.values.get(8, "0") for entry in entries_of(lines) if entry.section == "ENTITIES" and entry.name in DRAWN)
+
+
+def about(head: str, lines: list[str]) -> list[str]:
+    """What of the file a fault is about, in sentences."""
+    name, number = name_of(head), line_named(head)
+    said = []
+    entity = entity_at(lines, number)
+    if entity is not None:
+        where = f"a {entity.name} on layer {entity.values.get(8, '0')}, lines {entity.first} to {entity.last} of the file"
+        kind = f", of linetype {linetype_of(lines, entity)}" if name == "Linetype" else ""
+        said.append(where + kind)
+    elif number:
+        said.append(f"line {number} of the file")
+    if name == "EmptyView":
+        view = head.split()[-1]
+        layers = ", ".join(f"{layer} ({count})" for layer, count in layers_with_lines(lines).most_common(12))
+        said.append(f"no line that is an edge is on layer {view}; " + (f"lines are on {layers}" if layers else "the file has no lines"))
+    if found := re.search(r"axis (\w) count (\d+)", head):
+        said.append(f"the axis {found[1]} has {found[2]}")
+    if name in ("Oblique", "Missing", "NotWhole", "TooFar") and entity is not None:
+        points = "; ".join(f"{code}: {value}" for code, value in entity.pairs if code in (10, 20, 11, 21))
+        said.append(f"its coordinates by group code: {points[:200]}")
+    return said
+
+
+def told(head: str, lines: list[str]) -> list[str]:
+    """A fault in sentences: what is wrong, what it is about, what to change, and the program's own words."""
+    wrong, change = WORDS.get(name_of(head), ("the drawing has a fault", ""))
+    return [f"the drawing has a fault: {wrong} ({head})", *about(head, lines), *([change] if change else [])]
+
+
+def is_of_the_three_layers(lines: list[str]) -> bool:
+    """Whether the file has lines on each of the three layers."""
+    return set(VIEWS) <= {layer.upper() for layer in layers_with_lines(lines)}

@@ -1,0 +1,156 @@
+"""Judges an answer by another program: clingo (apt-get install gringo) lists all solids of the drawing from the column rule, in
+the twenty lines of views.lp beside this file, and knows nothing of blocks, of searches or of the proved program. Each
+solid of the answer is drawn by the definitions too and compared with the drawing; solids have to be the same ones, each once, in
+the stated order. The answer is read from the file ANSWER (`-` for standard input), or else had by running the program.
+
+Of an answer that was cut it is judged that what it lists is right. The status is 1 where something differs. Nodes, blocks and
+faults aren't judged.
+"""
+import argparse
+import itertools
+import re
+from collections.abc import Iterator
+
+from . import asking, solver
+from .answers import CUT, FAULT, Answer, answer_of, text_of
+from .cells import Grid as Cells
+from .drawing import VIEWS, decimals_of, lines_of, views_of
+from .messages import Progress, Refused, many, say, write_result
+from .panels import Cell, Grid, grid_of, panels_of, sheet_of
+
+NAME = "judge"
+HELP = "check an answer by another program, clingo, from other words"
+
+MOST, SEARCH = 10_000, 600.0
+FULL = re.compile(r"full\(c\((\d+),(\d+),(\d+)\)\)")
+
+Solid = frozenset[Cell]
+
+
+def add_arguments(parser: argparse.ArgumentParser) -> None:
+    parser.add_argument("drawing", metavar="FILE.dxf")
+    parser.add_argument("answer", metavar="ANSWER", nargs="?", help="what recon solve wrote for it; - for standard input")
+    parser.add_argument("--most", type=int, default=MOST, help=f"of how many solids at most ({MOST:,})")
+    parser.add_argument("--search", type=float, default=SEARCH, metavar="SECONDS", help=f"how long clingo may take ({SEARCH:g} s)")
+    asking.add_arguments(parser)
+
+
+# ---- the solids of an answer
+
+def grid_cells(cuts: list[int], low: int, high: int) -> range:
+    """The grid cells between two coordinates of an axis; refused where the drawing shows nothing at one of them."""
+    if low not in cuts or high not in cuts:
+        raise Refused("it has a corner where the drawing shows nothing")
+    return range(cuts.index(low), cuts.index(high))
+
+
+def solid_cells(cells: Cells, full: int, grid: Grid) -> Solid:
+    """The grid cells of the drawing that a solid fills."""
+    found: set[Cell] = set()
+    for k, layer in enumerate(cells.rows(full)):
+        for j, row in enumerate(layer):
+            for i in (at for at, text in enumerate(row) if text == "1"):
+                box = ((cut[at], cut[at + 1]) for cut, at in zip(cells.cuts, (i, j, k)))
+                x, y, z = (grid_cells(cut, *ends) for cut, ends in zip(grid.cuts, box))
+                found.update(itertools.product(x, y, z))
+    return frozenset(found)
+
+
+def solids_of(answer: Answer, grid: Grid) -> Iterator[tuple[int, Solid | Refused]]:
+    """The solids of an answer with their numbers, or why one is none of this grid."""
+    for number, told in enumerate(answer.solids, 1):
+        Progress.show(f"solid {number:,} of {len(answer.solids):,}")
+        try:
+            cells = Cells([told])
+            yield number, solid_cells(cells, cells.cells(told), grid)
+        except Refused as refusal:
+            yield number, refusal
+
+
+def has_views(solid: Solid, grid: Grid) -> bool:
+    """Whether a solid, drawn by the definitions, has the drawing's three views."""
+    sizes = [len(cut) - 1 for cut in grid.cuts]
+    return all(grid.panels[row] == styles for view in VIEWS for row, styles in panels_of(solid, sizes, view).items())
+
+
+def comes_first(first: Solid, second: Solid) -> bool:
+    """Whether the first of two solids has the least cell in which they differ, by z, then y, then x."""
+    return min(first ^ second, key=lambda cell: cell[::-1]) in first
+
+
+def complaints_of(solids: list[tuple[int, Solid | Refused]], grid: Grid) -> Iterator[str]:
+    """What is wrong with the solids of an answer, by themselves."""
+    seen: dict[Solid, int] = {}
+    last: Solid | None = None
+    for number, solid in solids:
+        if isinstance(solid, Refused):
+            yield f"solid {number}: {solid}"
+            continue
+        if not has_views(solid, grid):
+            yield f"solid {number} doesn't have these views"
+        if solid in seen:
+            yield f"solid {number} is solid {seen[solid]} once more"
+        elif last is not None and not comes_first(last, solid):
+            yield f"solid {number} comes before the one that stands before it, by the stated order"
+        seen.setdefault(solid, number)
+        last = solid
+
+
+# ---- the solids that clingo finds
+
+def found_solids(grid: Grid, most: int, seconds: float) -> set[Solid]:
+    """All solids of the drawing; refused where they are too many, or aren't found in time."""
+    Progress.show(f"clingo looks for all solids, for {seconds:g} seconds at most", 0)
+    found = solver.ask("views.lp", solver.facts_of(grid), [f"--models={most + 1}"], seconds)
+    if not found.done:
+        raise Refused(f"clingo wasn't done within {seconds:g} seconds: nothing is judged")
+    if len(found.models) > most:
+        raise Refused(f"there are more than {most:,} solids: nothing is judged (--most)")
+    return {
+        frozenset((int(told[1]), int(told[2]), int(told[3])) for atom in atoms if (told := FULL.fullmatch(atom)))
+        for atoms, _ in found.models
+    }
+
+
+def compared(mine: set[Solid], solids: list[tuple[int, Solid | Refused]]) -> Iterator[str]:
+    """Where the solids of an answer aren't those that clingo found."""
+    told = {solid for _, solid in solids if not isinstance(solid, Refused)}
+    for number, solid in solids:
+        if not isinstance(solid, Refused) and solid not in mine:
+            yield f"solid {number} is none of those that clingo finds"
+    missing = len(mine - told)
+    if missing:
+        yield f"{many(missing, 'solid')} that clingo finds {'is' if missing == 1 else 'are'} not in the answer"
+
+
+def judged(answer: Answer, grid: Grid, most: int, seconds: float) -> str:
+    """What is found right, in words; refused where something differs, after each such thing was said."""
+    solids = list(solids_of(answer, grid))
+    wrong = list(complaints_of(solids, grid))
+    count = many(answer.listed, "solid")
+    if CUT.fullmatch(answer.head):
+        right = f"The answer was cut. What it lists, {count}, has these views, each once, in the stated order."
+    else:
+        mine = found_solids(grid, most, seconds)
+        wrong += compared(mine, solids)
+        right = f"The same: {count} by clingo and in the answer, each once, in the stated order."
+    for complaint in wrong:
+        say(f"draft judge: {complaint}")
+    if wrong:
+        raise Refused(f"the answer isn't right: {many(len(wrong), 'difference')}")
+    return right
+
+
+def run(arguments: argparse.Namespace) -> int:
+    if arguments.answer:
+        answer = answer_of(text_of(arguments.answer))
+        lines = lines_of(arguments.drawing)
+        decimals = answer.decimals if answer.solids else decimals_of(lines)
+    else:
+        asked = asking.ask(arguments.drawing, arguments, lambda text: say(f"draft judge: {text}"))
+        answer, lines, decimals = answer_of(asked.run.text), asked.lines, asked.decimals
+    if FAULT.fullmatch(answer.head):
+        raise Refused(f"a fault isn't judged: {answer.head}")
+    grid = grid_of(sheet_of(views_of(lines), decimals))
+    write_result(judged(answer, grid, arguments.most, arguments.search) + "\n", None)
+    return 0

@@ -1,0 +1,70 @@
+"""Words to people: refusals, what is said on standard error, progress where one waits, and results that are whole or not there."""
+import os
+import pathlib
+import sys
+import tempfile
+import time
+from collections import Counter
+
+
+class Refused(Exception):
+    """An input that isn't taken, and why."""
+
+
+def say(text: str) -> None:
+    """One line for people, on standard error."""
+    Progress.clear()
+    print(text, file=sys.stderr, flush=True)
+
+
+def say_counted(what: str, counts: Counter[str]) -> None:
+    """A line for each thing that was changed or left out, with how many there are, in the order in which they were met."""
+    for thing, count in counts.items():
+        say(f"{what}: {count} {thing}")
+
+
+def many(count: int, one: str, more: str | None = None) -> str:
+    """A count with its noun."""
+    return f"{count:,} {one if count == 1 else more or one + 's'}"
+
+
+class Progress:
+    """A line on a terminal that says how far something is; nothing where standard error isn't one."""
+
+    shown = False
+    last = 0.0
+
+    @classmethod
+    def clear(cls) -> None:
+        if cls.shown:
+            print("\r\x1b[K", end="", file=sys.stderr, flush=True)
+            cls.shown = False
+
+    @classmethod
+    def show(cls, text: str, least: float = 0.2) -> None:
+        """Shows the line, at most once in so many seconds."""
+        if sys.stderr.isatty() and time.monotonic() - cls.last >= least:
+            print(f"\r\x1b[K{text}", end="", file=sys.stderr, flush=True)
+            cls.shown, cls.last = True, time.monotonic()
+
+
+def write_result(text: str | bytes, path: str | None) -> None:
+    """Writes a result to a file, which is there whole or not at all, or to standard output. It is called once, last."""
+    Progress.clear()
+    data = text.encode() if isinstance(text, str) else text
+    if path is None:
+        sys.stdout.buffer.write(data)
+        sys.stdout.buffer.flush()
+        return
+    target = pathlib.Path(path)
+    handle, part = tempfile.mkstemp(prefix=f".{target.name}.", dir=target.parent)
+    try:
+        with os.fdopen(handle, "wb") as file:
+            file.write(data)
+        umask = os.umask(0)
+        os.umask(umask)
+        os.chmod(part, 0o666 & ~umask)
+        os.replace(part, target)
+    except BaseException:
+        os.unlink(part)
+        raise

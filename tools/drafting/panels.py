@@ -1,0 +1,261 @@
+"""The styles that the views show along the lines of a grid: of a drawing, and of a solid drawn by the definitions.
+
+All coordinates are whole numbers of units, as the program reads them with so many decimals, and each view is moved to least
+coordinates 0.
+"""
+import itertools
+from collections import defaultdict
+from collections.abc import Iterable, Sequence
+from fractions import Fraction
+from typing import NamedTuple
+
+from .drawing import VIEWS, Line
+from .messages import Refused
+
+BLANK, DASHED, SOLID = range(3)
+STYLES = ("nothing there", "dashed", "solid")
+AXES = "xyz"
+
+
+class Frame(NamedTuple):
+    """How a view stands in space: the axes to the right, upwards and along the sight, and whether each is gone along backwards.
+    Depth counts from the viewer."""
+
+    right: int
+    up: int
+    sight: int
+    right_back: bool
+    up_back: bool
+    sight_back: bool
+
+
+FRAMES = {
+    "FRONT": Frame(0, 2, 1, False, False, False),
+    "TOP": Frame(0, 1, 2, False, False, True),
+    "SIDE": Frame(1, 2, 0, False, False, True),
+    "LEFT": Frame(1, 2, 0, True, False, False),
+    "REAR": Frame(0, 2, 1, True, False, True),
+    "BOTTOM": Frame(0, 1, 2, False, True, False),
+}
+FURTHER = ("LEFT", "REAR", "BOTTOM")
+
+
+class Row(NamedTuple):
+    """A line of a view's grid: upright or level, and its number among those of its direction."""
+
+    view: str
+    upright: bool
+    number: int
+
+
+Cuts = list[list[int]]
+Panels = dict[Row, bytes]
+
+
+class Stroke(NamedTuple):
+    """A level or upright line of a view, and the lines of the file that tell of it."""
+
+    view: str
+    dashed: bool
+    upright: bool
+    at: int
+    low: int
+    high: int
+    told: tuple[int, int]
+
+
+class Sheet(NamedTuple):
+    """The strokes of three views, each view moved to least coordinates 0, and where each began on the sheet."""
+
+    strokes: list[Stroke]
+    origins: dict[str, tuple[int, int]]
+    decimals: int
+
+    def extent(self, view: str, upright: bool) -> int:
+        """How far a view reaches to the right, or upwards."""
+        of_view = (stroke for stroke in self.strokes if stroke.view == view)
+        return max(stroke.high if stroke.upright == upright else stroke.at for stroke in of_view)
+
+    def moved(self, view: str, right: int, up: int) -> "Sheet":
+        """The sheet with one view standing farther to the right and upwards."""
+        strokes = [
+            stroke if stroke.view != view else stroke._replace(
+                at=stroke.at + (right if stroke.upright else up),
+                low=stroke.low + (up if stroke.upright else right),
+                high=stroke.high + (up if stroke.upright else right),
+            )
+            for stroke in self.strokes
+        ]
+        x, y = self.origins[view]
+        return Sheet(strokes, {**self.origins, view: (x - right, y - up)}, self.decimals)
+
+    def place(self, view: str, right: int, up: int) -> tuple[str, str]:
+        """A place of a view in the drawing's own coordinates."""
+        x, y = self.origins[view]
+        return self.number(x + right), self.number(y + up)
+
+    def number(self, units: int) -> str:
+        """A number of units as the drawing writes it, without zeros at the end."""
+        if self.decimals == 0:
+            return str(units)
+        whole, rest = divmod(abs(units), 10**self.decimals)
+        part = f"{rest:0{self.decimals}d}".rstrip("0")
+        return f"{'-' if units < 0 else ''}{whole}{'.' + part if part else ''}"
+
+
+def units_of(number: float, decimals: int) -> int:
+    """A coordinate in units; refused where it isn't whole, as the program does."""
+    units = round(Fraction(repr(number)) * 10**decimals)
+    if Fraction(units, 10**decimals) != Fraction(repr(number)):
+        raise Refused(f"the coordinate {number!r} has more than {decimals} decimals")
+    return units
+
+
+def strokes_of(view: str, lines: Iterable[Line], decimals: int) -> list[Stroke]:
+    """The lines of a view as strokes, where they stand on the sheet."""
+    strokes = []
+    for line in lines:
+        x0, y0, x1, y1 = (units_of(it, decimals) for it in line.start + line.end)
+        if x0 != x1 and y0 != y1:
+            raise Refused(f"the line at line {line.told[0]} of the file is neither level nor upright")
+        if x0 == x1 and y0 != y1:
+            strokes.append(Stroke(view, line.dashed, True, x0, min(y0, y1), max(y0, y1), line.told))
+        elif x0 != x1:
+            strokes.append(Stroke(view, line.dashed, False, y0, min(x0, x1), max(x0, x1), line.told))
+    return strokes
+
+
+def sheet_of(views: dict[str, list[Line]], decimals: int) -> Sheet:
+    """The sheet of a drawing's three views; refused where a view is empty."""
+    sheet = Sheet([], {}, decimals)
+    for view in VIEWS:
+        strokes = strokes_of(view, views[view], decimals)
+        if not strokes:
+            raise Refused(f"no line on the layer {view} covers anything")
+        x = min(stroke.at if stroke.upright else stroke.low for stroke in strokes)
+        y = min(stroke.low if stroke.upright else stroke.at for stroke in strokes)
+        standing = Sheet(strokes, {view: (0, 0)}, decimals).moved(view, -x, -y)
+        sheet.strokes.extend(standing.strokes)
+        sheet.origins[view] = x, y
+    return sheet
+
+
+def axis_of(view: str, upright: bool) -> int:
+    """The axis along which a view's upright or level rows run."""
+    frame = FRAMES[view]
+    return frame.up if upright else frame.right
+
+
+def row_of(strokes: Iterable[Stroke], cuts: Sequence[int]) -> bytes:
+    """The styles that strokes on one line give between its grid coordinates: a solid stroke wins over a dashed one."""
+    styles = bytearray(len(cuts) - 1)
+    ranks = {at: rank for rank, at in enumerate(cuts)}
+    for stroke in strokes:
+        style = DASHED if stroke.dashed else SOLID
+        for number in range(ranks[stroke.low], ranks[stroke.high]):
+            styles[number] = max(styles[number], style)
+    return bytes(styles)
+
+
+class Grid(NamedTuple):
+    """A drawing on its grid: the coordinates along each axis, the style of each segment, and the strokes of each row."""
+
+    cuts: Cuts
+    panels: Panels
+    strokes: dict[Row, list[Stroke]]
+
+    def ats(self, row: Row) -> list[int]:
+        """The coordinates of all rows of this row's view and direction."""
+        return self.cuts[axis_of(row.view, not row.upright)]
+
+    def along(self, row: Row) -> list[int]:
+        """The coordinates along a row."""
+        return self.cuts[axis_of(row.view, row.upright)]
+
+
+def on_grid(sheet: Sheet, cuts: Cuts) -> Grid:
+    """The drawing on a grid that has all coordinates of its strokes."""
+    ranks = [{at: rank for rank, at in enumerate(cut)} for cut in cuts]
+    strokes: dict[Row, list[Stroke]] = defaultdict(list)
+    for stroke in sheet.strokes:
+        number = ranks[axis_of(stroke.view, not stroke.upright)][stroke.at]
+        strokes[Row(stroke.view, stroke.upright, number)].append(stroke)
+    panels = {}
+    for view, upright in itertools.product(VIEWS, (False, True)):
+        along = cuts[axis_of(view, upright)]
+        for number in range(len(cuts[axis_of(view, not upright)])):
+            row = Row(view, upright, number)
+            panels[row] = row_of(strokes.get(row, ()), along)
+    return Grid(cuts, panels, dict(strokes))
+
+
+def grid_of(sheet: Sheet) -> Grid:
+    """The drawing on the grid of all ends and places of its strokes. It is at least as fine as the program's grid."""
+    cuts: list[set[int]] = [set(), set(), set()]
+    for stroke in sheet.strokes:
+        cuts[axis_of(stroke.view, stroke.upright)] |= {stroke.low, stroke.high}
+        cuts[axis_of(stroke.view, not stroke.upright)].add(stroke.at)
+    return on_grid(sheet, [sorted(cut) for cut in cuts])
+
+
+# ---- solids
+
+Cell = tuple[int, int, int]
+
+
+def columns_of(cells: Iterable[Cell], sizes: Sequence[int], frame: Frame) -> dict[tuple[int, int], int]:
+    """The columns of some grid cells that aren't empty, by their places in a view: a bit for each depth."""
+    columns: dict[tuple[int, int], int] = defaultdict(int)
+    for cell in cells:
+        right, up, depth = (
+            sizes[axis] - 1 - cell[axis] if back else cell[axis]
+            for axis, back in ((frame.right, frame.right_back), (frame.up, frame.up_back), (frame.sight, frame.sight_back))
+        )
+        columns[right, up] |= 1 << depth
+    return columns
+
+
+def style_between(first: int, second: int) -> int:
+    """What two neighbouring columns draw: nothing where they are equal, a solid edge where their first full depths differ."""
+    if first == second:
+        return BLANK
+    return DASHED if first & -first == second & -second else SOLID
+
+
+def panels_of(cells: Iterable[Cell], sizes: Sequence[int], view: str) -> Panels:
+    """What a view shows of a solid, in grid cells of a box."""
+    frame = FRAMES[view]
+    columns = columns_of(cells, sizes, frame)
+    wide, tall = sizes[frame.right], sizes[frame.up]
+    panels = {}
+    for i in range(wide + 1):
+        panels[Row(view, True, i)] = bytes(
+            style_between(columns.get((i - 1, j), 0), columns.get((i, j), 0)) for j in range(tall)
+        )
+    for j in range(tall + 1):
+        panels[Row(view, False, j)] = bytes(
+            style_between(columns.get((i, j - 1), 0), columns.get((i, j), 0)) for i in range(wide)
+        )
+    return panels
+
+
+def cuts_in(view: str, cuts: Cuts) -> tuple[list[int], list[int]]:
+    """The coordinates of a view to the right and upwards, from 0 on, of the box between some cuts."""
+    frame = FRAMES[view]
+
+    def gone(axis: int, back: bool) -> list[int]:
+        cut = cuts[axis]
+        return [cut[-1] - at for at in reversed(cut)] if back else [at - cut[0] for at in cut]
+
+    return gone(frame.right, frame.right_back), gone(frame.up, frame.up_back)
+
+
+def runs_of(styles: bytes) -> list[tuple[int, int, int]]:
+    """The maximal runs of one style that isn't blank: style, first segment, and the one behind the last."""
+    runs, at = [], 0
+    for style, group in itertools.groupby(styles):
+        count = sum(1 for _ in group)
+        if style != BLANK:
+            runs.append((style, at, at + count))
+        at += count
+    return runs

@@ -1,0 +1,367 @@
+"""Reading a sheet by ezdxf: the straight strokes that may be edges, what can't be read, and what is left out, each counted."""
+import io
+import math
+import pathlib
+import re
+from collections import Counter
+from collections.abc import Iterable, Iterator, Sequence
+from typing import Any, NamedTuple
+
+from .drawing import UNITS, Place, entries_of, lines_of
+from .messages import Refused, many
+from .styles import Choice, Look, Style, style_of
+
+# The most bytes of a file, entities that are looked at in it with its blocks taken apart, and blocks within blocks.
+MOST_BYTES, MOST_ENTITIES, DEEPEST = 64 << 20, 1_000_000, 16
+
+POLYLINES = ("LWPOLYLINE", "POLYLINE")
+CURVES = (
+    "ARC", "CIRCLE", "ELLIPSE", "SPLINE", "HELIX", "SOLID", "TRACE", "3DFACE", "MLINE", "REGION", "BODY", "3DSOLID", "SURFACE", "MESH",
+    "POLYFACE", "PLANESURFACE", "EXTRUDEDSURFACE", "LOFTEDSURFACE", "REVOLVEDSURFACE", "SWEPTSURFACE",
+)
+TEXTS = ("TEXT", "MTEXT", "ATTRIB", "ATTDEF")
+SCALE = re.compile(r"(?<![\d:.])(\d{1,4}(?:\.\d{1,3})?) ?: ?(\d{1,4}(?:\.\d{1,3})?)(?![\d:])")
+
+Box = tuple[float, float, float, float]
+
+
+class Source(NamedTuple):
+    """Which entity something is of: its kind, its layer, its handle, and the block that it is in."""
+
+    kind: str
+    layer: str
+    handle: str
+    block: str = ""
+
+    def __str__(self) -> str:
+        handle = f" {self.handle}" if self.handle else ""
+        return f"{self.kind}{handle} on layer {self.layer}" + (f" in block {self.block}" if self.block else "")
+
+
+class Edge(NamedTuple):
+    """A straight stroke that may be an edge."""
+
+    hidden: bool
+    start: Place
+    end: Place
+    colour: int
+    source: Source
+
+
+class Unread(NamedTuple):
+    """What can't be an edge as it is, and where; nowhere in particular, where that isn't known."""
+
+    why: str
+    box: Box | None
+    source: Source
+
+
+class Arrow(NamedTuple):
+    """The head of a dimension's arrow: where its tip may be, and how long it is."""
+
+    tips: list[Place]
+    size: float
+    source: Source
+
+
+class Around(NamedTuple):
+    """What the inserts round an entity hand down to it."""
+
+    look: Look
+    block: str = ""
+    handle: str = ""
+    off: bool = False
+    depth: int = 0
+
+
+class Sheet:
+    """What was read of a file."""
+
+    def __init__(self, unit: str) -> None:
+        self.unit = unit
+        self.edges: list[Edge] = []
+        self.unread: list[Unread] = []
+        self.texts: list[Place] = []
+        self.scales: set[str] = set()
+        self.arrows: list[Arrow] = []
+        self.changed: Counter[str] = Counter()
+        self.left: Counter[str] = Counter()
+
+
+# ---- the file
+
+def opened(path: str) -> tuple[Any, str]:
+    """The document of a file, and what had to be mended in it."""
+    try:
+        import ezdxf
+        from ezdxf import recover
+    except ImportError:
+        raise Refused("ezdxf isn't there: apt-get install python3-ezdxf") from None
+    data = data_of(path)
+    is_binary = data.startswith(b"AutoCAD Binary DXF")
+    if not is_binary and not re.search(rb"^[ \t]*0[ \t\r]*\n[ \t]*SECTION", data, re.M | re.I):
+        raise Refused(f"{path} is no DXF file: no section begins in it")
+    version = None if is_binary else version_needed(data)
+    if version is None:
+        try:
+            return ezdxf.readfile(path), ""
+        except OSError:
+            raise
+        except Exception:  # ezdxf's own errors, and whatever a broken file makes it stumble on
+            pass
+    try:
+        document, auditor = recover.readfile(path) if version is None else recover.read(io.BytesIO(version))
+    except Exception as failure:
+        told = " ".join(str(failure).split())[:200] or type(failure).__name__
+        raise Refused(f"ezdxf can't read {path}: {told}") from None
+    mended = len(auditor.errors) + len(auditor.fixes)
+    return document, f"the file is broken: ezdxf mended {many(mended, 'fault')}" if mended and version is None else ""
+
+
+def data_of(path: str) -> bytes:
+    """The bytes of a file that isn't empty, nor too long."""
+    size = pathlib.Path(path).stat().st_size
+    if size > MOST_BYTES:
+        raise Refused(f"{path} has {size:,} bytes, more than {MOST_BYTES:,}")
+    data = pathlib.Path(path).read_bytes()
+    if not data.strip():
+        raise Refused(f"{path} is empty")
+    return data
+
+
+def version_needed(data: bytes) -> bytes | None:
+    """The text with the version R2000 told, where it has that one's entities and tells none or an older one: ezdxf reads entities as
+    the version says, and would lose the layer and the flags of their polylines."""
+    if b"AcDb" not in data and b"LWPOLYLINE" not in data:
+        return None
+    version = re.search(rb"\$ACADVER[ \t\r]*\n[ \t]*1[ \t\r]*\n[ \t]*(AC\d+)", data)
+    if version:
+        return data[:version.start(1)] + b"AC1015" + data[version.end(1):] if version[1] < b"AC1012" else None
+    header = re.search(rb"^[ \t]*2[ \t\r]*\n[ \t]*HEADER[ \t\r]*\n", data, re.M)
+    told = b"  9\n$ACADVER\n  1\nAC1015\n"
+    if header:
+        return data[:header.end()] + told + data[header.end():]
+    return b"  0\nSECTION\n  2\nHEADER\n" + told + b"  0\nENDSEC\n" + data.removeprefix(b"\xef\xbb\xbf")
+
+
+def check_lines(path: str, document: Any) -> None:
+    """Refuses a document of an ASCII file whose lines and polylines ezdxf reads otherwise than the file has them."""
+    if pathlib.Path(path).read_bytes()[:18] == b"AutoCAD Binary DXF":
+        return
+    told: Counter[tuple[object, ...]] = Counter()
+    for entry in entries_of(lines_of(path)):
+        if entry.section == "ENTITIES" and entry.name in ("LINE", "LWPOLYLINE") and entry.values.get(67, "0").strip() != "1":
+            closed = entry.name == "LWPOLYLINE" and entry.values.get(70, "0").strip() in ("1", "129")
+            vertices = sum(code == 10 for code, _ in entry.pairs)
+            told[entry.name, entry.values.get(8, "0").upper(), entry.values.get(6, "BYLAYER").upper(), vertices, closed] += 1
+    read: Counter[tuple[object, ...]] = Counter()
+    for entity in document.modelspace().query("LINE LWPOLYLINE"):
+        is_line = entity.dxftype() == "LINE"
+        read[entity.dxftype(), entity.dxf.layer.upper(), entity.dxf.get("linetype", "BYLAYER").upper(),
+             1 if is_line else len(entity), not is_line and bool(entity.closed)] += 1
+    if told != read:
+        kind, layer, linetype, vertices, closed = next(iter((told - read) or (read - told)))
+        raise Refused(f"ezdxf reads the file otherwise than it is: {kind} on layer {layer} of linetype {linetype}, with {vertices} vertices"
+                      f"{', closed' if closed else ''}, {sum(told.values())} lines and polylines in the file and {sum(read.values())} read")
+
+
+def line_of_file(path: str, handle: str) -> str:
+    """Where an entity of this handle begins in an ASCII file, in words; nothing where that isn't found."""
+    try:
+        found = next((entry.first for entry in entries_of(lines_of(path)) if handle and entry.values.get(5) == handle), None)
+    except OSError:
+        return ""
+    return f", line {found:,} of {pathlib.Path(path).name}" if found else ""
+
+
+# ---- its entities
+
+class Reader:
+    """Walks over a document's entities, with its blocks taken apart."""
+
+    def __init__(self, document: Any, choices: Sequence[Choice], unit: str) -> None:
+        from ezdxf.render.arrows import ARROWS
+        self.document, self.choices, self.arrows = document, choices, ARROWS
+        self.sheet = Sheet(unit)
+        self.patterns: dict[str, list[float] | None] = {}
+        self.count = 0
+
+    def read(self) -> Sheet:
+        space = self.document.modelspace()
+        self.walk(space, Around(Look("0", "CONTINUOUS", 7)))
+        for layout in self.document.layouts:
+            if layout.name != "Model" and (count := sum(it.dxftype() != "VIEWPORT" for it in layout)):
+                self.sheet.left[f"entities of the paper space {layout.name}"] += count
+        return self.sheet
+
+    def pattern(self, linetype: str) -> list[float] | None:
+        """The dashes, gaps and dots of a linetype in the file's table."""
+        if linetype not in self.patterns:
+            lines = self.document.linetypes
+            known = linetype in lines
+            tags = lines.get(linetype).pattern_tags.tags if known else []
+            self.patterns[linetype] = [tag.value for tag in tags if tag.code == 49] if known else None
+        return self.patterns[linetype]
+
+    def look(self, entity: Any, around: Around) -> Look:
+        """How an entity looks; on layer 0 in a block it looks as its insert does."""
+        dxf = entity.dxf
+        layer = around.look.layer if dxf.layer == "0" and around.block else dxf.layer
+        table = self.document.layers
+        of_layer = table.get(layer) if layer in table else None
+        linetype, colour = dxf.get("linetype", "BYLAYER").upper(), dxf.get("color", 256)
+        own = linetype not in ("BYLAYER", "BYBLOCK")
+        if linetype == "BYBLOCK":
+            linetype = around.look.linetype
+        elif linetype == "BYLAYER":
+            linetype = of_layer.dxf.linetype if of_layer is not None else "CONTINUOUS"
+        if colour == 0:
+            colour = around.look.colour
+        elif colour == 256:
+            colour = abs(of_layer.dxf.color) if of_layer is not None else 7
+        return Look(layer, linetype, colour, own)
+
+    def hidden_away(self, entity: Any, layer: str, around: Around) -> str:
+        """Why an entity isn't seen, if it isn't."""
+        if entity.dxf.get("invisible", 0):
+            return "invisible"
+        of_layer = self.document.layers.get(layer) if layer in self.document.layers else None
+        if of_layer is not None and of_layer.is_frozen():
+            return f"on layer {layer}, which is frozen"
+        if around.off and entity.dxf.layer == "0" or of_layer is not None and of_layer.is_off() and entity.dxftype() != "INSERT":
+            return f"on layer {layer}, which is off"
+        return ""
+
+    def walk(self, entities: Iterable[Any], around: Around) -> None:
+        for entity in entities:
+            self.count += 1
+            if self.count > MOST_ENTITIES:
+                raise Refused(f"more than {MOST_ENTITIES:,} entities, with the blocks taken apart")
+            look = self.look(entity, around)
+            kind = entity.dxftype()
+            why = self.hidden_away(entity, look.layer, around)
+            if why:
+                self.sheet.left[f"{kind} {why}"] += 1
+            elif kind == "INSERT":
+                self.insert(entity, look, around)
+            else:
+                self.entity(entity, kind, look, around)
+
+    def source(self, entity: Any, kind: str, look: Look, around: Around) -> Source:
+        origin = entity.dxf.handle or getattr(entity.origin_of_copy, "dxf", entity.dxf).handle
+        return Source(kind, look.layer, str(origin or around.handle or ""), around.block)
+
+    # -- blocks
+
+    def insert(self, insert: Any, look: Look, around: Around) -> None:
+        name = insert.dxf.name
+        place = insert.dxf.insert
+        if self.arrows.is_acad_arrow(self.arrows.arrow_name(name)) or self.arrows.is_ezdxf_arrow(self.arrows.arrow_name(name)):
+            source = self.source(insert, "INSERT", look, around)
+            self.sheet.arrows.append(Arrow([(place.x, place.y)], abs(insert.dxf.get("xscale", 1.0)), source))
+            self.sheet.left[f"INSERT of an arrow head {name}"] += 1
+            return
+        if name not in self.document.blocks:
+            self.sheet.left[f"INSERT of {name}, which no block is named"] += 1
+            return
+        style, why = style_of(Look(name, "CONTINUOUS", 0), (), None)
+        if style is Style.APART:
+            self.sheet.left[f"INSERT of block {name}, which is named for frames, texts or dimensions"] += 1
+            return
+        if around.depth >= DEEPEST:
+            raise Refused(f"blocks stand in blocks more than {DEEPEST} deep, at {name}")
+        layers = self.document.layers
+        off = around.off and insert.dxf.layer == "0" or look.layer in layers and layers.get(look.layer).is_off()
+        within = Around(look, name, str(insert.dxf.handle or around.handle or ""), off, around.depth + 1)
+        copies: Iterable[Any] = insert.multi_insert() if insert.mcount > 1 else [insert]
+        if insert.mcount > MOST_ENTITIES:
+            raise Refused(f"block {name} is inserted {insert.mcount:,} times by one INSERT")
+        self.sheet.changed[f"INSERT of block {name} taken apart"] += 1
+        for attribute in insert.attribs:
+            self.entity(attribute, attribute.dxftype(), look, around)
+        for copy in copies:
+            self.walk(copy.virtual_entities(skipped_entity_callback=self.skipped), within)
+
+    def skipped(self, entity: Any, why: str) -> None:
+        self.sheet.left[f"{entity.dxftype()} of a block that ezdxf can't place"] += 1
+
+    # -- all else
+
+    def entity(self, entity: Any, kind: str, look: Look, around: Around) -> None:
+        sheet = self.sheet
+        style, why = style_of(look, self.choices, self.pattern(look.linetype))
+        source = self.source(entity, kind, look, around)
+        if kind in TEXTS:
+            self.text(entity)
+            sheet.left[f"{kind} on layer {look.layer}"] += 1
+        elif kind not in ("LINE", *POLYLINES, *CURVES):
+            sheet.left[f"{kind} on layer {look.layer}"] += 1
+        elif style in (Style.CENTRE, Style.APART):
+            what = "centre line, " if style is Style.CENTRE else ""
+            sheet.left[f"{kind} on layer {look.layer}{', ' + what + why if why else ', a centre line'}"] += 1
+        elif style is Style.UNKNOWN:
+            sheet.unread.append(Unread(f"has the {why}, which tells no style", box_of(entity), source))
+        elif kind in CURVES:
+            if kind in ("SOLID", "TRACE"):
+                self.arrow(entity, source)
+            sheet.unread.append(Unread("is no straight line", box_of(entity), source))
+        else:
+            if why:
+                sheet.changed[f"{kind} on layer {look.layer} taken as {style.value}, {why}"] += 1
+            self.lines(entity, kind, style is Style.HIDDEN, look, source)
+
+    def text(self, entity: Any) -> None:
+        place = entity.dxf.get("insert")
+        if place is not None:
+            self.sheet.texts.append((place.x, place.y))
+        words = entity.plain_text() if hasattr(entity, "plain_text") else str(entity.dxf.get("text", ""))
+        self.sheet.scales |= {f"{told[1]}:{told[2]}" for told in SCALE.finditer(words if isinstance(words, str) else "")}
+
+    def arrow(self, entity: Any, source: Source) -> None:
+        box = box_of(entity)
+        if box is not None:
+            corners = [(corner.x, corner.y) for corner in entity.wcs_vertices()]
+            self.sheet.arrows.append(Arrow(corners, math.dist(box[:2], box[2:]), source))
+
+    def lines(self, entity: Any, kind: str, hidden: bool, look: Look, source: Source) -> None:
+        parts = [entity]
+        if kind in POLYLINES:
+            self.sheet.changed[f"{kind} on layer {look.layer} taken apart"] += 1
+            parts = list(entity.virtual_entities())
+        for part in parts:
+            if part.dxftype() != "LINE":
+                self.sheet.unread.append(Unread("has a bent side" if kind in POLYLINES else "is no line", box_of(part), source))
+                continue
+            start, end = part.dxf.start, part.dxf.end
+            ends = (start.x, start.y, end.x, end.y)
+            if not all(map(math.isfinite, ends)):
+                raise Refused(f"{source} has a coordinate that is no number")
+            if abs(start.z - end.z) > 1e-9:
+                self.sheet.changed[f"{kind} on layer {look.layer} seen from above, since its ends differ in height"] += 1
+            self.sheet.edges.append(Edge(hidden, ends[:2], ends[2:], look.colour, source))
+
+
+def box_of(entity: Any) -> Box | None:
+    """The box round an entity, where ezdxf can tell it."""
+    from ezdxf import bbox
+    try:
+        box = bbox.extents([entity])
+    except Exception:  # whatever a broken entity makes ezdxf stumble on
+        return None
+    return (box.extmin.x, box.extmin.y, box.extmax.x, box.extmax.y) if box.has_data else None
+
+
+def read_sheet(path: str, choices: Sequence[Choice]) -> Sheet:
+    """Reads a file. What is changed and what is left out is counted in the sheet."""
+    document, mended = opened(path)
+    check_lines(path, document)
+    # Where a file tells no unit ezdxf answers metres.
+    told = b"$INSUNITS" in pathlib.Path(path).read_bytes()
+    unit = UNITS.get(document.header.get("$INSUNITS", 0), "") if told else ""
+    try:
+        sheet = Reader(document, choices, unit).read()
+    except RecursionError:
+        raise Refused(f"{path}: blocks stand in one another without an end") from None
+    if mended:
+        sheet.changed[mended] += 1
+    return sheet

@@ -1,0 +1,326 @@
+"""Says what tells the solids of a drawing apart: for each further view (LEFT, REAR, BOTTOM) and for the areas that a section
+between two grid planes cuts, into how many groups it splits the solids and how many the largest group keeps; the best ones first.
+
+With --meant K it says which further views, as few as possible, leave solid K alone, and the lines to be added for them; --write
+writes the drawing with these. Where even all three leave others, it says which sections would settle it and which blocks differ.
+
+Views and sections are drawn here, by the definitions, from the solids that the proved program lists. Where the program reads
+further views, the drawing with the added lines is checked by it; where it doesn't yet, that is said.
+"""
+import argparse
+import itertools
+import pathlib
+from collections import Counter
+from collections.abc import Hashable, Sequence
+from typing import NamedTuple
+
+from . import asking, faults, program
+from .answers import CUT, FAULT, Answer, answer_of, text_of
+from .cells import Grid as Cells
+from .drawing import lines_of, number, pairs_of, views_of
+from .messages import Progress, Refused, many, say, write_result
+from .panels import (
+    AXES, DASHED, FRAMES, FURTHER, SOLID, STYLES, Cell, Panels, Sheet, columns_of, cuts_in, panels_of, runs_of, sheet_of,
+    style_between,
+)
+
+NAME = "settle"
+HELP = "what further view or section tells the solids of a drawing apart"
+SHOWN = 12
+# How many sections together are looked at.
+MOST_SECTIONS = 3
+
+
+def add_arguments(parser: argparse.ArgumentParser) -> None:
+    parser.add_argument("drawing", metavar="FILE.dxf")
+    parser.add_argument("--answer", metavar="ANSWER", help="what recon solve wrote for it; - for standard input")
+    parser.add_argument("--meant", type=int, metavar="K", help="the solid that is meant, by its number in the answer")
+    parser.add_argument("--write", metavar="OUT.dxf", help="with --meant: write the drawing with the lines to be added")
+    parser.add_argument("--all", action="store_true", help=f"all sections, not the best {SHOWN} alone")
+    asking.add_arguments(parser)
+
+
+class Solids(NamedTuple):
+    """The solids of an answer: their grid, and the cells of each as a number of bits."""
+
+    cells: Cells
+    full: list[int]
+
+    @property
+    def sizes(self) -> list[int]:
+        return [len(cut) - 1 for cut in self.cells.cuts]
+
+    def cells_in(self, full: int) -> list[Cell]:
+        x, y, z = (len(cut) for cut in self.cells.cuts)
+        text = f"{full:b}"[::-1]
+        return [(at % x, at // x % y, at // (x * y)) for at, bit in enumerate(text) if bit == "1"]
+
+    def varying(self) -> int:
+        """The cells that some of the solids have and others don't."""
+        either, both = 0, self.cells.every
+        for full in self.full:
+            either, both = either | full, both & full
+        return either & ~both
+
+
+class Means(NamedTuple):
+    """A view or a section, and for each solid what it shows: solids of one key look alike in it."""
+
+    name: str
+    keys: list[Hashable]
+
+    @property
+    def sizes(self) -> list[int]:
+        """How many solids each group has, the largest first."""
+        return sorted(Counter(self.keys).values(), reverse=True)
+
+    def alike(self, number: int) -> set[int]:
+        return {other for other, key in enumerate(self.keys) if key == self.keys[number]}
+
+
+# ---- what views and sections show
+
+def view_keys(solids: Solids, view: str, varying: list[Cell]) -> Means:
+    """What a view shows of each solid, beside the columns in which the solids differ at all."""
+    frame, sizes = FRAMES[view], solids.sizes
+    places = set(columns_of(varying, sizes, frame))
+    around = {(i + dx, j + dy) for i, j in places for dx, dy in ((0, 0), (1, 0), (-1, 0), (0, 1), (0, -1))}
+    keys: list[Hashable] = []
+    for full in solids.full:
+        Progress.show(f"{view}: {len(keys):,} of {len(solids.full):,} solids")
+        columns = columns_of(solids.cells_in(full), sizes, frame)
+        shown = {place: columns.get(place, 0) for place in around}
+        keys.append(tuple(
+            style_between(shown[i, j], shown[i + dx, j + dy])
+            for i, j in sorted(places) for dx, dy in ((1, 0), (-1, 0), (0, 1), (0, -1))
+        ))
+    return Means(view, keys)
+
+
+def section_keys(solids: Solids, sheet: Sheet, varying: list[Cell]) -> list[Means]:
+    """What a section between each two neighbouring grid planes cuts of each solid, where they differ there."""
+    means = []
+    for axis, cut in enumerate(solids.cells.cuts):
+        for at in sorted({cell[axis] for cell in varying}):
+            slab = sum(1 << place_of(solids, cell) for cell in varying if cell[axis] == at)
+            ends = f"{sheet.number(cut[at])} and {sheet.number(cut[at + 1])}"
+            means.append(Means(f"section across {AXES[axis]} between {ends}", [full & slab for full in solids.full]))
+    return means
+
+
+def place_of(solids: Solids, cell: Cell) -> int:
+    return sum(at * stride for at, stride in zip(cell, solids.cells.strides))
+
+
+def best_first(means: list[Means]) -> list[Means]:
+    return sorted(means, key=lambda it: (it.sizes[0], -len(it.sizes)))
+
+
+# ---- the solid that is meant
+
+def views_for(views: list[Means], number: int) -> tuple[list[Means], set[int]]:
+    """The fewest further views that leave as few solids as all of them do, beside the one that is meant, and what they leave."""
+    everything = set(range(len(views[0].keys)))
+    least = everything.intersection(*(it.alike(number) for it in views))
+    for count in range(len(views) + 1):
+        for chosen in itertools.combinations(views, count):
+            if everything.intersection(*(it.alike(number) for it in chosen)) == least:
+                return list(chosen), least
+    return views, least
+
+
+def sections_for(sections: list[Means], number: int, left: set[int]) -> list[Means]:
+    """The fewest sections that tell a solid from all others that are left, up to so many."""
+    for count in range(1, MOST_SECTIONS + 1):
+        for chosen in itertools.combinations(sections[:SHOWN * 2], count):
+            if left.intersection(*(it.alike(number) for it in chosen)) == {number}:
+                return list(chosen)
+    return []
+
+
+class Added(NamedTuple):
+    """A line to be added: its layer, whether it is dashed, and its ends on the sheet in units."""
+
+    view: str
+    dashed: bool
+    start: tuple[int, int]
+    end: tuple[int, int]
+
+
+def place_on_sheet(view: str, sheet: Sheet, cuts: list[list[int]]) -> tuple[int, int]:
+    """Where a further view begins on the sheet: LEFT to the left of FRONT, REAR to the right of SIDE, BOTTOM below FRONT."""
+    (x, y), (side, beside) = sheet.origins["FRONT"], sheet.origins["SIDE"]
+    wide, deep, _ = (cut[-1] - cut[0] for cut in cuts)
+    gap = side - x - wide if side > x + wide else 10 * 10**sheet.decimals
+    return {"LEFT": (x - gap - deep, y), "REAR": (side + deep + gap, beside), "BOTTOM": (x, y - gap - deep)}[view]
+
+
+def lines_of_view(view: str, panels: Panels, sheet: Sheet, cuts: list[list[int]]) -> list[Added]:
+    """The lines of a further view, one for each run, where it stands on the sheet."""
+    x, y = place_on_sheet(view, sheet, cuts)
+    rights, ups = cuts_in(view, cuts)
+    added = []
+    for row, styles in panels.items():
+        along, at = (ups, rights[row.number]) if row.upright else (rights, ups[row.number])
+        for style, low, high in runs_of(styles):
+            start, end = ((x + at, y + along[it]) if row.upright else (x + along[it], y + at) for it in (low, high))
+            added.append(Added(view, style == DASHED, start, end))
+    return added
+
+
+def with_lines(lines: list[str], added: list[Added], decimals: int) -> str:
+    """The drawing's text with lines added at the end of its first section of entities."""
+    section, end = "", None
+    for line, code, value in pairs_of(lines):
+        section = value.upper() if code == 2 and section == "?" else section
+        section = "?" if (code, value.upper()) == (0, "SECTION") else section
+        if (code, value.upper()) == (0, "ENDSEC") and section == "ENTITIES":
+            end = line - 1
+            break
+    if end is None:
+        raise Refused("the drawing has no section of entities that ends")
+    more = []
+    for it in added:
+        more += ["0", "LINE", "8", it.view, "6", "HIDDEN" if it.dashed else "CONTINUOUS"]
+        for (right, up), codes in ((it.start, ("10", "20", "30")), (it.end, ("11", "21", "31"))):
+            more += [codes[0], number(right, decimals), codes[1], number(up, decimals), codes[2], "0"]
+    return "\n".join([*lines[:end], *more, *lines[end:]]) + "\n"
+
+
+def blocks_told(solids: Solids, answer: Answer, left: list[int], sheet: Sheet) -> list[str]:
+    """The blocks in which the solids that are left differ: where each is, as far as these solids tell it."""
+    here = Solids(solids.cells, [solids.full[number] for number in left])
+    patterns: dict[str, list[Cell]] = {}
+    for cell in here.cells_in(here.varying()):
+        bit = 1 << place_of(solids, cell)
+        patterns.setdefault("".join("1" if full & bit else "0" for full in here.full), []).append(cell)
+    blocks: dict[str, list[int]] = {}
+    for block, bits in enumerate(zip(*(answer.solids[number].choice for number in left))):
+        if len(set(bits)) == 2:
+            blocks.setdefault("".join(bits), []).append(block)
+    rows = []
+    for pattern, numbers in blocks.items():
+        cells = patterns.get(pattern, [])
+        box = [
+            f"{AXES[axis]} {sheet.number(cut[min(it[axis] for it in cells)])} to {sheet.number(cut[max(it[axis] for it in cells) + 1])}"
+            for axis, cut in enumerate(solids.cells.cuts)
+        ] if cells else []
+        name = f"block{'s' * (len(numbers) > 1)} {', '.join(map(str, numbers))}"
+        rows.append(f"  {name}, within {', '.join(box)}: full in {pattern.count('1')} of {len(left)}")
+    return rows
+
+
+# ---- what is told
+
+class Case(NamedTuple):
+    """A drawing that was read with so many decimals, and the answer to it."""
+
+    lines: list[str]
+    decimals: int
+    answer: Answer
+
+
+def case_of(arguments: argparse.Namespace) -> Case:
+    """What is settled: the answer that is given, or what the program says."""
+    if arguments.answer:
+        answer = answer_of(text_of(arguments.answer))
+        case = Case(lines_of(arguments.drawing), answer.decimals, answer)
+    else:
+        asked = asking.ask(arguments.drawing, arguments, lambda text: say(f"draft settle: {text}"))
+        case = Case(asked.lines, asked.decimals, answer_of(asked.run.text))
+    head = case.answer.head
+    if FAULT.fullmatch(head):
+        raise Refused("; ".join(faults.told(head, case.lines)))
+    if CUT.fullmatch(head):
+        say(f"draft settle: {head}: what is told is of the {many(case.answer.listed, 'solid')} listed alone")
+    return case
+
+
+def table(means: Sequence[Means]) -> list[str]:
+    """A row for each view or section: groups, and how many solids the largest keeps."""
+    rows = [("", "groups", "the largest keeps")]
+    rows += [(it.name, str(len(it.sizes)), str(it.sizes[0])) for it in means]
+    width = max(len(name) for name, _, _ in rows)
+    return [f"{name:{width}}  {groups:>6}  {largest:>17}" for name, groups, largest in rows]
+
+
+def checked(text: str, path: pathlib.Path, decimals: int, before: int, left: int, seconds: float) -> str:
+    """What the program says of the drawing with the added lines."""
+    head = program.run(path, ["solve", "--decimals", decimals], text.encode(), seconds).text.partition("\n")[0]
+    if head.startswith(f"whole {left} "):
+        return f"Checked: of the drawing with these lines the program lists {many(left, 'solid')}."
+    if head.startswith(f"whole {before} "):
+        return "Not checked by the program, which doesn't read LEFT, REAR and BOTTOM yet: the views are drawn here."
+    raise Refused(f"of the drawing with these lines the program says otherwise: {head}")
+
+
+def told_meant(
+    solids: Solids, answer: Answer, number: int, views: list[Means], sections: list[Means], sheet: Sheet
+) -> tuple[list[str], list[Added], int]:
+    """What is told of the solid that is meant, the lines to be added, and how many solids are left."""
+    chosen, left = views_for(views, number)
+    names = " and ".join(it.name for it in chosen)
+    added = [
+        line for it in chosen
+        for line in lines_of_view(it.name, panels_of(solids.cells_in(solids.full[number]), solids.sizes, it.name), sheet, solids.cells.cuts)
+    ]
+    if left == {number}:
+        rows = [f"Solid {number + 1} is told by {names} alone. The lines to be added:"]
+    elif chosen:
+        rows = [f"No further views tell solid {number + 1} alone: with {names} {len(left):,} solids are left. The lines to be added:"]
+    else:
+        rows = [f"No further view tells solid {number + 1} from any other."]
+    for line in added:
+        ends = " to ".join(f"({sheet.number(right)}, {sheet.number(up)})" for right, up in (line.start, line.end))
+        rows.append(f"  {line.view} {ends}: {STYLES[DASHED if line.dashed else SOLID]}")
+    if left != {number}:
+        rows.append(f"The solids that are left: {', '.join(str(it + 1) for it in sorted(left))}. They differ in")
+        rows += blocks_told(solids, answer, sorted(left), sheet)
+        settling = sections_for(sections, number, left)
+        names = " and a ".join(it.name for it in settling)
+        rows.append(f"It would be settled by a {names}." if settling else f"No {MOST_SECTIONS} sections settle it.")
+    return rows, added, len(left)
+
+
+def text_for(arguments: argparse.Namespace, case: Case, added: list[Added], left: int) -> tuple[str, str]:
+    """The drawing with the added lines, and what is said of its check by the program."""
+    text = with_lines(case.lines, added, case.decimals)
+    if arguments.answer:
+        return text, "Not checked by the program, since the answer was given: the views are drawn here."
+    path = program.find(arguments.program)
+    return text, checked(text, path, case.decimals, case.answer.listed, left, arguments.seconds)
+
+
+def run(arguments: argparse.Namespace) -> int:
+    case = case_of(arguments)
+    answer = case.answer
+    if len(answer.solids) < 2:
+        write_result(f"Nothing is to be settled: {many(answer.listed, 'solid')} listed.\n", None)
+        return 0
+    if arguments.meant is not None and not 1 <= arguments.meant <= len(answer.solids):
+        raise Refused(f"there is no solid {arguments.meant}: {many(len(answer.solids), 'solid')} listed")
+    sheet = sheet_of(views_of(case.lines), case.decimals)
+    cells = Cells(answer.solids)
+    solids = Solids(cells, [cells.cells(told) for told in answer.solids])
+    varying = solids.cells_in(solids.varying())
+    views = [view_keys(solids, view, varying) for view in FURTHER]
+    sections = best_first(section_keys(solids, sheet, varying))
+    Progress.clear()
+    shown = sections if arguments.all else sections[:SHOWN]
+    rows = [f"{many(len(answer.solids), 'solid')} have these views.", *table(best_first([*views, *shown]))]
+    if len(shown) < len(sections):
+        rows.append(f"({len(sections) - len(shown)} further sections: --all)")
+    added: list[Added] = []
+    if arguments.meant is None:
+        rows.append("Views and sections are drawn here, from the solids that the program lists.")
+    else:
+        more, added, left = told_meant(solids, answer, arguments.meant - 1, views, sections, sheet)
+        text, said = text_for(arguments, case, added, left) if added else ("", "")
+        rows += [*more, said] if added else more
+    write_result("".join(f"{row}\n" for row in rows), None)
+    if arguments.write:
+        if not added:
+            raise Refused("nothing is written, since there is no line to be added")
+        write_result(text, arguments.write)
+        say(f"draft settle: {arguments.write} has {many(len(added), 'line')} more")
+    return 0

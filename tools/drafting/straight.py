@@ -1,0 +1,167 @@
+"""Level and upright edges as runs: pieces that touch or lie upon one another are one, and coordinates are made whole."""
+import itertools
+import math
+from collections import defaultdict
+from collections.abc import Iterable, Sequence
+from fractions import Fraction
+from typing import NamedTuple
+
+from .messages import Refused
+from .reading import Box, Edge
+
+# How many times as far apart as the tolerance different coordinates of a view have to be.
+APART = 4
+# The greatest denominator that is looked for where coordinates fit no decimals: thirds, sevenths, sixty-fourths.
+MOST_PARTS = 64
+
+
+class Run(NamedTuple):
+    """A stretch of one style: upright or level, at a coordinate across it, from one along it to a greater one; with one of the
+    edges that it was drawn by. An oblique edge is kept with its box."""
+
+    hidden: bool
+    upright: bool
+    at: float
+    low: float
+    high: float
+    edge: Edge
+    oblique: bool = False
+
+    def box(self) -> Box:
+        if self.oblique:
+            (a, b), (c, d) = self.edge.start, self.edge.end
+            return min(a, c), min(b, d), max(a, c), max(b, d)
+        return (self.at, self.low, self.at, self.high) if self.upright else (self.low, self.at, self.high, self.at)
+
+
+Row = list[tuple[float, float, float, Edge]]
+
+
+def rows_of(edges: Iterable[Edge], tolerance: float) -> tuple[dict[tuple[bool, bool], Row], list[Run], int]:
+    """The level and the upright edges by style and way, those that are neither, and how many have no length."""
+    rows: dict[tuple[bool, bool], Row] = defaultdict(list)
+    oblique, short = [], 0
+    for edge in edges:
+        (a, b), (c, d) = edge.start, edge.end
+        width, height = abs(a - c), abs(b - d)
+        if width <= tolerance and height <= tolerance:
+            short += 1
+        elif min(width, height) > tolerance:
+            oblique.append(Run(edge.hidden, False, 0.0, 0.0, 0.0, edge, True))
+        elif width <= tolerance:
+            rows[edge.hidden, True].append(((a + c) / 2, min(b, d), max(b, d), edge))
+        else:
+            rows[edge.hidden, False].append(((b + d) / 2, min(a, c), max(a, c), edge))
+    return rows, oblique, short
+
+
+def runs_of(edges: Sequence[Edge], tolerance: float) -> tuple[list[Run], int, int]:
+    """The runs of edges, how many pieces were joined with others, and how many edges have no length."""
+    rows, runs, short = rows_of(edges, tolerance)
+    pieces = 0
+    for (hidden, upright), row in rows.items():
+        row.sort(key=lambda piece: piece[0])
+        lines: list[Row] = []
+        for piece in row:
+            if lines and piece[0] - lines[-1][0][0] <= tolerance:
+                lines[-1].append(piece)
+            else:
+                lines.append([piece])
+        for line in lines:
+            joined = joined_along(line, tolerance)
+            pieces += len(line) - len(joined)
+            runs += [Run(hidden, upright, line[0][0], low, high, edge) for low, high, edge in joined]
+    return runs, pieces, short
+
+
+def joined_along(line: Row, tolerance: float) -> list[tuple[float, float, Edge]]:
+    """The stretches of one line, each once."""
+    stretches: list[tuple[float, float, Edge]] = []
+    for _, low, high, edge in sorted(line, key=lambda piece: piece[1]):
+        if stretches and low <= stretches[-1][1] + tolerance:
+            stretches[-1] = stretches[-1][0], max(stretches[-1][1], high), stretches[-1][2]
+        else:
+            stretches.append((low, high, edge))
+    return stretches
+
+
+def hidden_by(whole: Sequence[Edge], visible: Sequence[Edge], tolerance: float) -> list[Edge]:
+    """The edges of a sheet with those hidden that the same sheet without hidden lines lacks, cut where that begins and ends."""
+    plain = [edge._replace(hidden=False) for edge in whole]
+    seen, _, _ = runs_of([edge._replace(hidden=False) for edge in visible], tolerance)
+    lines: dict[bool, list[Run]] = {way: sorted((run for run in seen if run.upright == way and not run.oblique), key=lambda it: it.at)
+                                    for way in (False, True)}
+    edges: list[Edge] = []
+    covered: set[int] = set()
+    for run in runs_of(plain, tolerance)[0]:
+        if run.oblique:
+            edges.append(run.edge)
+            continue
+        beside = [it for it in lines[run.upright] if abs(it.at - run.at) <= 2 * tolerance and it.low < run.high - tolerance
+                  and it.high > run.low + tolerance]
+        covered |= {id(it) for it in beside if run.low - tolerance <= it.low and it.high <= run.high + tolerance}
+        stops = sorted({run.low, run.high, *(stop for it in beside for stop in (it.low, it.high)
+                                             if run.low + tolerance < stop < run.high - tolerance)})
+        for low, high in itertools.pairwise(stops):
+            is_seen = any(it.low <= (low + high) / 2 <= it.high for it in beside)
+            start, end = ((run.at, it) if run.upright else (it, run.at) for it in (low, high))
+            edges.append(Edge(not is_seen, start, end, run.edge.colour, run.edge.source))
+    lost = [run for way in lines.values() for run in way if id(run) not in covered]
+    if lost:
+        raise Refused(f"the sheets aren't two exports of one drawing: the one without hidden lines has {lost[0].edge.source} at "
+                      f"{lost[0].edge.start}, which the other lacks")
+    return edges
+
+
+# ---- whole coordinates
+
+def apart(values: Iterable[float], tolerance: float, where: str) -> None:
+    """Refuses coordinates that are farther apart than noise and nearer than edges are."""
+    for one, other in itertools.pairwise(sorted(values)):
+        if tolerance < other - one < APART * tolerance:
+            raise Refused(
+                f"{where} has coordinates {other - one:.3g} apart, at {one:.9g} and {other:.9g}: more than noise and less than an edge; "
+                f"say by --tolerance what is noise (now {tolerance:.3g})"
+            )
+
+
+class Measure(NamedTuple):
+    """How lengths of a sheet become whole: multiplied by a number and with so many decimals; and how far they are moved at most."""
+
+    times: Fraction
+    decimals: int
+    moved: float
+
+    def units(self, length: float) -> int:
+        return round(length * float(self.times) * 10**self.decimals)
+
+
+def fits(values: Iterable[float], times: Fraction, decimals: int, tolerance: float) -> float | None:
+    """How far values are from so many decimals at most, where that is noise: below the tolerance, and a tenth of the last decimal."""
+    unit = 10.0**-decimals
+    most = min(tolerance * float(times), unit / 10)
+    worst = 0.0
+    for value in values:
+        scaled = value * float(times)
+        off = abs(scaled - round(scaled / unit) * unit)
+        # What a double of this size can't tell apart is no noise of the sheet.
+        if off > most + 4 * math.ulp(abs(scaled)):
+            return None
+        worst = max(worst, off)
+    return worst / float(times)
+
+
+def measure_of(values: Sequence[float], scale: Fraction, decimals: int | None, tolerance: float) -> Measure:
+    """The least number of decimals that lengths have, multiplied by the scale; else the least parts of a unit that they are."""
+    for count in range(7) if decimals is None else [decimals]:
+        moved = fits(values, scale, count, tolerance)
+        if moved is not None:
+            return Measure(scale, count, moved)
+    if decimals is None:
+        for parts in range(3, MOST_PARTS + 1):
+            moved = fits(values, scale * parts, 0, tolerance)
+            if moved is not None:
+                return Measure(scale * parts, 0, moved)
+    odd = next(value for value in values if fits([value], scale, 6 if decimals is None else decimals, tolerance) is None)
+    many = "up to 6 decimals" if decimals is None else f"{decimals} decimals"
+    raise Refused(f"a length of {odd:.9g} doesn't fit {many}, nor do all fit parts of a unit: say --tolerance, --decimals or --scale")

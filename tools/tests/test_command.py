@@ -1,0 +1,37 @@
+"""The commands' arguments, statuses and streams."""
+import pathlib
+import tempfile
+import unittest
+
+from .support import EXAMPLES, draft
+
+
+class Command(unittest.TestCase):
+    def test_help_and_version_are_what_is_asked(self) -> None:
+        for words, begins in ((["--help"], "usage: draft"), (["--version"], "draft "), (["page", "--help"], "usage: draft page")):
+            ended = draft(*words)
+            self.assertEqual((ended.status, ended.said), (0, ""), words)
+            self.assertTrue(ended.out.startswith(begins), ended.out)
+
+    def test_arguments_that_are_not_taken(self) -> None:
+        for words in ([], ["pge"], ["page"], ["page", "--frobnicate", "x"], ["--vers"]):
+            ended = draft(*words)
+            self.assertEqual((ended.status, ended.out), (2, ""), words)
+            self.assertIn("usage:", ended.said)
+
+    def test_a_refusal_is_one_line_and_writes_no_result(self) -> None:
+        with tempfile.TemporaryDirectory() as folder:
+            out = pathlib.Path(folder) / "out.html"
+            ended = draft("page", EXAMPLES / "bracket.dxf", EXAMPLES / "bracket.dxf", "--output", out)
+            self.assertEqual((ended.status, ended.out, list(pathlib.Path(folder).iterdir())), (1, "", []))
+            self.assertRegex(ended.said, r"\Adraft page: no answer of recon solve[^\n]*\n\Z")
+            ended = draft("page", pathlib.Path(folder) / "none.dxf", EXAMPLES / "bracket.txt", "--output", out)
+            self.assertEqual((ended.status, ended.out), (1, ""))
+            self.assertIn("none.dxf: No such file or directory", ended.said)
+
+    def test_a_result_goes_into_a_file(self) -> None:
+        with tempfile.TemporaryDirectory() as folder:
+            out = pathlib.Path(folder) / "out.svg"
+            ended = draft("picture", EXAMPLES / "bracket.dxf", EXAMPLES / "bracket.txt", "--output", out)
+            self.assertEqual(ended, (0, "", ""))
+            self.assertEqual(out.read_text(), draft("picture", EXAMPLES / "bracket.dxf", EXAMPLES / "bracket.txt").out)

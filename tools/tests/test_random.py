@@ -1,0 +1,124 @@
+"""Random sheets of drawings that recon makes and of examples, each put on a sheet in some way, come to the answers of the drawings."""
+import pathlib
+import random
+import tempfile
+import unittest
+
+from drafting import program, sheet
+from drafting.drawing import lines_within, views_of
+
+from .support import EXAMPLES, needs_module, needs_program
+from .test_sheet import arguments, plain_answer, solved
+
+try:
+    from . import sheets
+except ImportError:
+    sheets = None  # type: ignore[assignment]
+
+SHEETS = 100
+NAMES = ("bracket", "clevis", "pierced_plate", "quartered_cube", "untidy_redrawn", "two_cubes_along_an_edge")
+# Scales at which a sheet is drawn, and how many units of what is read then make one of the drawing.
+SCALES = ((1.0, 1), (0.5, 5), (0.0625, 625), (1 / 3, 1), (0.1, 1), (2.5, 25))
+
+
+@needs_module("ezdxf", "python3-ezdxf")
+@needs_program()
+class RandomSheets(unittest.TestCase):
+    def test_a_hundred(self) -> None:
+        with tempfile.TemporaryDirectory() as folder:
+            for seed in range(SHEETS):
+                with self.subTest(seed=seed):
+                    self.one(random.Random(seed), seed, pathlib.Path(folder))
+
+    def one(self, chance: random.Random, seed: int, folder: pathlib.Path) -> None:
+        base = folder / "base.dxf"
+        name = f"{chance.choice(NAMES)}.dxf"
+        if is_made := chance.random() < 0.5:
+            base.write_text(program.run(program.find(), ["make", seed], b"").text)
+        else:
+            base.write_bytes((EXAMPLES / name).read_bytes())
+        views = sheets.views_in(base)
+        file, words, mirrored = self.drawn(chance, views, folder)
+        said: list[str] = []
+        made = sheet.draw(str(file), arguments("sheet", file, *words), said.append)
+        self.assertEqual(made.origin.mirrored, mirrored)
+        # Lengths are those of the drawing, times what the scale and the decimals make of them.
+        own, told = plain_views(base.read_bytes(), 0), plain_views(made.text.encode(), made.decimals)
+        factor = max(told["FRONT"])[2] // max(own["FRONT"])[2]
+        grown = {view: [(*run[:2], *(factor * it for it in run[2:])) for run in runs] for view, runs in own.items()}
+        self.assertEqual(told, grown, said)
+        if not is_made:
+            answer = (EXAMPLES / name).with_suffix(".txt").read_text()
+            self.assertEqual(plain_answer(solved(made.text.encode(), made.decimals)), plain_answer(answer, factor), said)
+
+    def drawn(self, chance: random.Random, views: "sheets.Views", folder: pathlib.Path) -> tuple[pathlib.Path, list[str], bool]:
+        angle, left = chance.choice(("third", "first")), chance.random() < 0.5
+        mirrored = (angle == "third") == left
+        its = sheets.mirrored(views) if mirrored else views
+        places = sheets.places_of(its, angle, left)
+        scale, _ = chance.choice(SCALES)
+        doc = sheets.new(chance.choice(("R2000", "R2010", "R2018")), chance.choice((0, 1, 4)))
+        space = doc.modelspace()
+        look, words = self.look(chance, doc, any(dashed for strokes in its.values() for dashed, _ in strokes))
+        if chance.random() < 0.5:
+            its = in_pieces(chance, its)
+        if chance.random() < 0.3:
+            self.blocks(doc, its, places, look, scale)
+        else:
+            sheets.draw(space, its, places, look, scale)
+        scaled = {view: (scale * x, scale * y) for view, (x, y) in places.items()}
+        sized = {view: [(dashed, tuple((scale * x, scale * y) for x, y in ends)) for dashed, ends in strokes] for view, strokes in views.items()}
+        if chance.random() < 0.5:
+            sheets.dimensions(space, sized, scaled, explode=chance.random() < 0.5)
+        if chance.random() < 0.5:
+            reach = scale * max(x + y for x, y in places.values()) + sum(map(max, map(sheets.size_of, sized.values()))) + 150
+            for margin in (0, 10):
+                sheets.rectangle(space, -100 + margin, -100 + margin, reach - margin, reach - margin)
+        file = folder / "sheet.dxf"
+        doc.saveas(file)
+        return file, words, mirrored
+
+    def look(self, chance: random.Random, doc: object, any_hidden: bool) -> tuple["sheets.Look", list[str]]:
+        kind = chance.randrange(4)
+        if kind == 0:
+            return sheets.by_linetype, []
+        if kind == 1:
+            return lambda view, dashed: {"layer": "HIDDEN" if dashed else "EDGES"}, []
+        if kind == 2:
+            return lambda view, dashed: {"color": 5 if dashed else 2}, ["--hidden", "color=5"]
+        return lambda view, dashed: {"linetype": "ACAD_ISO02W100" if dashed else "CONTINUOUS", "layer": "A"}, []
+
+    def blocks(self, doc: object, views: "sheets.Views", places: dict[str, tuple[float, float]], look: "sheets.Look", scale: float) -> None:
+        for number, (view, strokes) in enumerate(views.items()):
+            block = doc.blocks.new(f"B{number}")  # type: ignore[attr-defined]
+            for dashed, ends in strokes:
+                block.add_line(*ends, dxfattribs=look(view, dashed))
+            x, y = places[view]
+            doc.modelspace().add_blockref(  # type: ignore[attr-defined]
+                f"B{number}", (scale * x, scale * y), dxfattribs={"xscale": scale, "yscale": scale, "zscale": scale})
+
+
+def plain_views(data: bytes, decimals: int) -> dict[str, list[sheet.Whole]]:
+    """The runs of a drawing's views in whole units, each from its least corner on; two drawings with the same ones have one answer."""
+    views = {}
+    for view, lines in views_of(lines_within(data)).items():
+        whole = [(line.dashed, *(round(it * 10**decimals) for it in (*line.start, *line.end))) for line in lines]
+        x, y = min(min(a, c) for _, a, _, c, _ in whole), min(min(b, d) for _, _, b, _, d in whole)
+        runs = [(dashed, a == c, *((a - x, *sorted((b - y, d - y))) if a == c else (b - y, *sorted((a - x, c - x)))))
+                for dashed, a, b, c, d in whole if (a, b) != (c, d)]
+        views[view] = sheet.plain(runs)
+    return views
+
+
+def in_pieces(chance: random.Random, views: "sheets.Views") -> "sheets.Views":
+    """The same views with each line cut somewhere, and ends that are off by noise."""
+    pieces: sheets.Views = {}
+    for view, strokes in views.items():
+        pieces[view] = []
+        for dashed, (start, end) in strokes:
+            at = chance.uniform(0.2, 0.8)
+            middle = tuple(a + at * (b - a) for a, b in zip(start, end))
+            for ends in ((start, middle), (end, middle)):
+                noisy = tuple(tuple(it + chance.uniform(-1e-9, 1e-9) for it in point) for point in ends)
+                pieces[view].append((dashed, noisy))  # type: ignore[arg-type]
+    return pieces

@@ -1,0 +1,91 @@
+"""Random parts as pages of FreeCAD's TechDraw, exported with and without hidden lines, come to the answer of the parts' own drawings."""
+import pathlib
+import random
+import tempfile
+import unittest
+
+from drafting import sheet
+from drafting.drawing import Stroke, written
+from drafting.messages import Refused
+
+from .parts import Box, boxes_of, cells_of
+from .support import needs_module, needs_program
+from .test_sheet import arguments, plain_answer, solved
+
+try:
+    from drafting.cad import FreeCAD, Part, TechDraw
+    from drafting.shapes import part_of, views_of
+    missing = ""
+except Refused as refusal:
+    missing = "apt-get install freecad-python3"
+
+PARTS = 50
+# How large a part is drawn, and where the middles of its views are on the page.
+SIZE = 10
+PLACES = {"FRONT": ((0, -1, 0), (1, 0, 0), (100, 80)), "TOP": ((0, 0, 1), (1, 0, 0), (100, 180)), "SIDE": ((1, 0, 0), (0, 1, 0), (220, 80))}
+TEMPLATE = "/usr/share/freecad/Mod/TechDraw/Templates/A3_Landscape_blank.svg"
+
+
+def shape_of(boxes: list[Box]) -> "Part.Shape":
+    shape = None
+    for word, low, high in boxes:
+        sides = [SIZE * (b - a) for a, b in zip(low, high)]
+        box = Part.makeBox(*sides, FreeCAD.Vector(*(SIZE * it for it in low)))
+        shape = box if shape is None else shape.fuse(box) if word == "add" else shape.cut(box)
+    return part_of(shape)
+
+
+def exported(shape: "Part.Shape", folder: pathlib.Path) -> tuple[pathlib.Path, pathlib.Path]:
+    """The two exports of a page with three views, whose middles are at the places that FreeCAD gives the middle of a view."""
+    doc = FreeCAD.newDocument()
+    feature = doc.addObject("Part::Feature", "Shape")
+    feature.Shape = shape
+    page, template = doc.addObject("TechDraw::DrawPage", "Page"), doc.addObject("TechDraw::DrawSVGTemplate", "Template")
+    template.Template, page.Template = TEMPLATE, template
+    views = []
+    for direction, right, (x, y) in PLACES.values():
+        view = doc.addObject("TechDraw::DrawViewPart", "ProjItem")
+        page.addView(view)
+        view.Source, view.Direction, view.XDirection = [feature], FreeCAD.Vector(*direction), FreeCAD.Vector(*right)
+        view.X, view.Y, view.Scale = x, y, 1
+        views.append(view)
+    files = folder / "whole.dxf", folder / "visible.dxf"
+    for file, hidden in zip(files, (True, False)):
+        for view in views:
+            view.HardHidden = hidden
+        doc.recompute()
+        TechDraw.writeDXFPage(page, str(file))
+    FreeCAD.closeDocument(doc.Name)
+    return files
+
+
+@unittest.skipIf(missing, missing)
+@needs_module("ezdxf", "python3-ezdxf")
+@needs_program()
+class Pages(unittest.TestCase):
+    def test_fifty_parts(self) -> None:
+        done = 0
+        with tempfile.TemporaryDirectory() as folder:
+            for seed in range(10 * PARTS):
+                boxes = boxes_of(random.Random(seed))
+                if done == PARTS:
+                    break
+                if not cells_of(boxes):
+                    continue
+                with self.subTest(seed=seed):
+                    done += self.one(boxes, pathlib.Path(folder))
+        self.assertEqual(done, PARTS)
+
+    def one(self, boxes: list[Box], folder: pathlib.Path) -> bool:
+        shape = shape_of(boxes)
+        strokes: dict[str, list[Stroke]] = {view: [(edge.hidden, *edge.ends()) for edge in edges] for view, edges in views_of(shape).items()}
+        own = solved(written(strokes, 0).encode())
+        if not own.startswith("whole"):
+            return False
+        whole, visible = exported(shape, folder)
+        said: list[str] = []
+        made = sheet.draw(str(whole), arguments("sheet", whole, "--visible-only", visible), said.append)
+        self.assertEqual(made.decimals, 0, said)
+        self.assertEqual(plain_answer(solved(made.text.encode())), plain_answer(own), said)
+        self.assertIn(len(cells_of(boxes)) * SIZE**3, [volume for _, volume, _ in plain_answer(own)])
+        return True
