@@ -5,6 +5,8 @@
 #[cfg(test)]
 mod decimals;
 #[cfg(test)]
+mod deep;
+#[cfg(test)]
 mod drawings;
 #[cfg(test)]
 mod entities;

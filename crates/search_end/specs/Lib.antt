@@ -2,3 +2,4 @@ pub mod Sorting
 pub mod Pages
 pub mod Handed
 pub mod Answers
+pub mod GoingOn

@@ -5,11 +5,14 @@ ghost use Rattle.std.specs.Arc.{arc_value};
 ghost use Rattle.solid_model.specs.Forcing.{is_live};
 ghost use Rattle.search_core.specs.Desk.{IsDesk};
 ghost use Rattle.search_tree.specs.BlockPaths.{IsWayOf};
+ghost use Rattle.search_end.specs.GoingOn.{GoesOn};
 
+use crate::kept::keep_all;
 use search_core::{Desk, Reported};
 use search_tree::{BlockPath, expand_from};
 use solid_model::{EndKind, Limits, Memory, Prefix, Problem};
 use std::alloc::Global;
+use std::collections::VecDeque;
 use std::sync::Arc;
 
 /// How many live prefixes a piece is expanded into at most, before it is reported.
@@ -56,8 +59,61 @@ pub fn begin(alloc: Global, problem: &Arc<Problem>, limits: Limits) -> Result<De
     begin_from(alloc, &mut path, problem, limits)
 }
 
-/// Expands the first piece of the frontier by a way down the tree of the desk's problem, and reports
-/// it. An `Err` is out of memory.
+/// Expands a piece by a way down the tree of the desk's problem and reports it. Its rest is kept where
+/// the report is taken. An `Err` is out of memory.
+fn try_piece(
+    alloc: Global,
+    path: &mut BlockPath,
+    desk: &mut Desk,
+    kept: &mut VecDeque<Prefix>,
+    piece: &Prefix,
+) -> Result<(), Memory>
+    requires way { IsWayOf desk.old.problem path.old }
+    ensures way { OnOk result (IsWayOf desk.new.problem path.new) }
+    ensures goes_on { OnOk result (GoesOn desk.old desk.new) }
+{
+    // A look at the desk tells that it stands as its history leaves it.
+    let _end = desk.end();
+    let Some(expansion) = expand_from(alloc, path, desk.problem(), piece, QUANTUM)? else {
+        return Ok(());
+    };
+    match desk.report(expansion) {
+        Ok(Reported::Taken { rest }) => {
+            keep_all(kept, rest);
+            Ok(())
+        }
+        Ok(_) => Ok(()),
+        Err(_) => Err(Memory),
+    }
+}
+
+/// Goes on deep first below what is kept, until none is or the desk has ended. An `Err` is out of memory.
+fn go_deep(
+    alloc: Global,
+    path: &mut BlockPath,
+    desk: &mut Desk,
+    kept: VecDeque<Prefix>,
+) -> Result<(), Memory>
+    requires way { IsWayOf desk.old.problem path.old }
+    requires kept { IsDesk desk.old }
+    ensures way { OnOk result (IsWayOf desk.new.problem path.new) }
+    ensures goes_on { OnOk result (GoesOn desk.old desk.new) }
+{
+    let mut kept = kept;
+    for _ in 0..u64::MAX {
+        if desk.end().is_some() {
+            return Ok(());
+        }
+        let Some(piece) = kept.pop_back() else {
+            return Ok(());
+        };
+        try_piece(alloc, path, desk, &mut kept, &piece)?;
+    }
+    Ok(())
+}
+
+/// Expands the first piece of the frontier by a way down the tree of the desk's problem, reports it, and
+/// goes on deep first below it. An `Err` is out of memory.
 fn step(alloc: Global, path: &mut BlockPath, desk: &mut Desk) -> Result<(), Memory>
     requires way { IsWayOf desk.old.problem path.old }
     requires going { desk.old.end ≡ None }
@@ -76,7 +132,11 @@ fn step(alloc: Global, path: &mut BlockPath, desk: &mut Desk) -> Result<(), Memo
         unreachable!()
     };
     match desk.report(expansion) {
-        Ok(Reported::Taken { .. }) => Ok(()),
+        Ok(Reported::Taken { rest }) => {
+            let mut kept = VecDeque::new(alloc);
+            keep_all(&mut kept, rest);
+            go_deep(alloc, path, desk, kept)
+        }
         Ok(_) => unreachable!(),
         Err(_) => Err(Memory),
     }

@@ -4,7 +4,9 @@
 mod paging;
 mod room;
 mod running;
+mod search;
 mod shared;
+mod worker;
 mod working;
 
 pub use running::run_search;

@@ -7,14 +7,15 @@ ghost use Rattle.search_end.specs.Handed.{BreaksOff, HandsOn, PagesOn};
 ghost use Rattle.search_end.specs.Pages.{CountsFaults};
 ghost use Rattle.search_run.specs.Reading.{IsReadUpTo};
 
-use crate::room::Room;
+use crate::search::Search;
+use crate::worker::Worker;
 use crate::working::work;
 use search_end::{Handed, PAGE, PageOut, RunFault};
 use search_tree::BlockPath;
-use solid_model::{Limits, Problem};
+use solid_model::Problem;
 use solution_book::BookReader;
 use std::alloc::Global;
-use std::sync::{Arc, Wait};
+use std::sync::Wait;
 use std::thread;
 use std::thread::Threads;
 use steal_pool::WorkerSeat;
@@ -29,27 +30,26 @@ fn is_book_of<B: Wait + Drop>(reader: &mut BookReader<B>, problem: &Problem) -> 
 
 /// Hands out a page of what is published and not yet handed out, as far as the limit of solids has
 /// room. Says whether there was any. An `Err` is that of the page, or out of memory.
-fn page_new<B: Wait + Drop, P: PageOut>(
+fn page_new<B: Wait + Drop, G: Gate, P: PageOut>(
     alloc: Global,
-    problem: &Arc<Problem>,
-    limits: Limits,
+    search: &Search<'_, B, G>,
     reader: &mut BookReader<B>,
     handed: &mut Handed,
     pages: &mut P,
 ) -> Result<bool, RunFault>
-    requires read { IsReadUpTo (arc_value problem.now) reader.old handed.old.choices }
-    requires few { length handed.old.choices ≤ limits.solids }
-    ensures read { OnOk result (IsReadUpTo (arc_value problem.now) reader.new handed.new.choices) }
-    ensures few { OnOk result (length handed.new.choices ≤ limits.solids) }
+    requires read { IsReadUpTo (arc_value search.now.problem.now) reader.old handed.old.choices }
+    requires few { length handed.old.choices ≤ search.now.limits.solids }
+    ensures read { OnOk result (IsReadUpTo (arc_value search.now.problem.now) reader.new handed.new.choices) }
+    ensures few { OnOk result (length handed.new.choices ≤ search.now.limits.solids) }
     ensures out { MatchResult result
         (λ _. HandsOn (P.calls pages.old) handed.old (P.calls pages.new) handed.new)
-        (λ _. BreaksOff (arc_value problem.now) limits.solids (P.calls pages.old) handed.old
+        (λ _. BreaksOff (arc_value search.now.problem.now) search.now.limits.solids (P.calls pages.old) handed.old
         (P.calls pages.new)) }
     ensures faults { CountsFaults (P.faults pages.old) (P.faults pages.new) result
         RunFault.PageFault }
 {
     let from = handed.choices().len();
-    let most = PAGE.min(limits.solids as usize - from);
+    let most = PAGE.min(search.limits.solids as usize - from);
     let Ok(page) = reader.page(alloc, from, most) else {
         return Err(RunFault::Memory);
     };
@@ -68,18 +68,14 @@ fn page_new<B: Wait + Drop, P: PageOut>(
 fn page_on<B: Wait + Drop, R: Wait, G: Gate, P: PageOut>(
     rt: &R,
     alloc: Global,
-    problem: &Arc<Problem>,
-    limits: Limits,
-    room: &Room<B>,
-    gate: &G,
-    workers: u32,
+    search: &Search<'_, B, G>,
     reader: BookReader<B>,
     handed: Handed,
     pages: &mut P,
 ) -> Result<Handed, RunFault>
-    requires read { IsReadUpTo (arc_value problem.now) reader handed.choices }
-    requires few { length handed.choices ≤ limits.solids }
-    ensures paged { PagesOn (arc_value problem.now) limits.solids (P.calls pages.old) handed
+    requires read { IsReadUpTo (arc_value search.now.problem.now) reader handed.choices }
+    requires few { length handed.choices ≤ search.now.limits.solids }
+    ensures paged { PagesOn (arc_value search.now.problem.now) search.now.limits.solids (P.calls pages.old) handed
         (P.calls pages.new) result }
     ensures faults { CountsFaults (P.faults pages.old) (P.faults pages.new) result
         RunFault.PageFault }
@@ -89,13 +85,13 @@ fn page_on<B: Wait + Drop, R: Wait, G: Gate, P: PageOut>(
     let mut seen = 0;
     let mut last = false;
     for _ in rt.forever() {
-        match page_new(alloc, problem, limits, &mut reader, &mut handed, pages) {
-            Ok(true) => gate.pass(workers, Point::PageWritten),
+        match page_new(alloc, search, &mut reader, &mut handed, pages) {
+            Ok(true) => search.gate.pass(search.workers, Point::PageWritten),
             Ok(false) => {
                 if last {
                     return Ok(handed);
                 }
-                let news = room.wait_for_news(rt, seen);
+                let news = search.room.wait_for_news(rt, seen);
                 seen = news.published;
                 last = news.last;
             }
@@ -109,47 +105,37 @@ fn page_on<B: Wait + Drop, R: Wait, G: Gate, P: PageOut>(
 fn page_all<B: Wait + Drop, R: Wait, G: Gate, P: PageOut>(
     rt: &R,
     alloc: Global,
-    problem: &Arc<Problem>,
-    limits: Limits,
-    room: &Room<B>,
-    gate: &G,
-    workers: u32,
+    search: &Search<'_, B, G>,
     reader: BookReader<B>,
     pages: &mut P,
 ) -> Result<Handed, RunFault>
-    ensures paged { PagesOn (arc_value problem.now) limits.solids (P.calls pages.old)
+    ensures paged { PagesOn (arc_value search.now.problem.now) search.now.limits.solids (P.calls pages.old)
         record { choices = []; pages = 0 } (P.calls pages.new) result }
     ensures faults { CountsFaults (P.faults pages.old) (P.faults pages.new) result
         RunFault.PageFault }
 {
     let mut reader = reader;
     let handed = Handed::new(alloc);
-    if !is_book_of(&mut reader, problem) {
+    if !is_book_of(&mut reader, search.problem) {
         return Ok(handed);
     }
-    page_on(
-        rt, alloc, problem, limits, room, gate, workers, reader, handed, pages,
-    )
+    page_on(rt, alloc, search, reader, handed, pages)
 }
 
 /// Starts a worker at each seat, of which the first goes by this way down the tree of the problem's
 /// prefixes, and hands out pages until all have returned. A worker whose start is refused stops
 /// counting; its work is done by others. Where a page is refused, or memory runs out, all are to stop.
-pub fn search_together<'a, R: Threads + Wait + Sync, G: Gate, P: PageOut>(
+pub fn search_together<'a, 's, R: Threads + Wait + Sync, G: Gate, P: PageOut>(
     rt: &'a R,
     alloc: Global,
-    problem: &'a Arc<Problem>,
-    limits: Limits,
-    room: &Room<&'a R>,
-    gate: &G,
-    workers: u32,
-    path: BlockPath<'a>,
+    search: &Search<'s, &'a R, G>,
+    path: BlockPath<'s>,
     seats: Vec<WorkerSeat>,
     reader: BookReader<&'a R>,
     pages: &mut P,
 ) -> Result<Handed, RunFault>
-    requires way { IsWayOf (arc_value problem.now) path }
-    ensures paged { PagesOn (arc_value problem.now) limits.solids (P.calls pages.old)
+    requires way { IsWayOf (arc_value search.now.problem.now) path }
+    ensures paged { PagesOn (arc_value search.now.problem.now) search.now.limits.solids (P.calls pages.old)
         record { choices = []; pages = 0 } (P.calls pages.new) result }
     ensures faults { CountsFaults (P.faults pages.old) (P.faults pages.new) result
         RunFault.PageFault }
@@ -160,33 +146,31 @@ pub fn search_together<'a, R: Threads + Wait + Sync, G: Gate, P: PageOut>(
         thread::scope_env(),
         rt,
         move |scope| -> (&mut P, Result<Handed, RunFault>)
-            requires way { IsWayOf (arc_value problem.now) path }
+            requires way { IsWayOf (arc_value search.now.problem.now) path }
             ensures same { result.0.ghost_name ≡ lent.entry.ghost_name }
-            ensures paged { PagesOn (arc_value problem.entry.now) limits.solids
+            ensures paged { PagesOn (arc_value search.entry.now.problem.now) search.entry.now.limits.solids
                 (P.calls lent.entry.now) record { choices = []; pages = 0 }
                 (P.calls result.0.now) result.1 }
             ensures faults { CountsFaults (P.faults lent.entry.now) (P.faults result.0.now) result.1
                 RunFault.PageFault }
         {
-            let mut worker: u32 = 0;
+            let mut number: u32 = 0;
             let mut path = Some(path);
             for seat in seats {
                 let own = path.take();
                 let started = scope.spawn(
                     move ||
-                        requires way { IfSome own (IsWayOf (arc_value problem.now)) }
-                    { work(rt, alloc, problem, own, room, gate, worker, seat) },
+                        requires way { IfSome own (IsWayOf (arc_value search.now.problem.now)) }
+                    { work(rt, alloc, search, own, Worker::new(alloc, number, seat)) },
                 );
                 if started.is_err() {
-                    room.leave(rt);
+                    search.room.leave(rt);
                 }
-                worker = worker.saturating_add(1);
+                number = number.saturating_add(1);
             }
-            let handed = page_all(
-                rt, alloc, problem, limits, room, gate, workers, reader, lent,
-            );
+            let handed = page_all(rt, alloc, search, reader, lent);
             if handed.is_err() {
-                room.halt(rt);
+                search.room.halt(rt);
             }
             (lent, handed)
         },

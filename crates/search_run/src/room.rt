@@ -59,26 +59,29 @@ impl<B: Wait + Drop> Room<B> {
         self.enter(rt).changes()
     }
 
-    /// A worker has found no piece, and is to look once more before it waits.
+    /// A worker has found no piece: it looks once more, or waits.
     pub fn begin_idle(&self) {
         self.idle.fetch_add(1, Ordering::SeqCst);
     }
 
-    /// It has found one after all, or its wait is over.
+    /// It has found one, or leaves.
     pub fn end_idle(&self) {
         self.idle.fetch_sub(1, Ordering::SeqCst);
     }
 
-    /// A worker has put pieces: signals a change if others have found none, and tells how many were
-    /// signalled then. Nobody misses the pieces: who becomes idle behind this look at the count looks for
-    /// a piece behind the puts. So it adds nothing in place of a load, which could come before them.
-    pub fn signal_idle<R: Wait>(&self, rt: &R) -> Option<u64> {
-        if self.idle.fetch_add(0, Ordering::SeqCst) == 0 {
-            return None;
+    /// How many workers are idle.
+    pub fn idle(&self) -> usize {
+        self.idle.load(Ordering::SeqCst) as usize
+    }
+
+    /// A worker has put so many pieces: signals a change and wakes as many of those that wait. Nobody
+    /// misses a piece: each puts before it signals, and who is idle asks for the number of changes before
+    /// it looks.
+    pub fn signal<R: Wait>(&self, rt: &R, pieces: usize) {
+        self.enter(rt).change();
+        for _ in 0..pieces {
+            self.changed.notify_one();
         }
-        let changes = self.enter(rt).change();
-        self.changed.notify_all();
-        Some(changes)
     }
 
     /// An idle worker stops counting, and waits while no more changes are signalled than it has seen.
@@ -94,9 +97,7 @@ impl<B: Wait + Drop> Room<B> {
         let mut shared = self
             .changed
             .wait_while(rt, shared, |shared| shared.changes() == seen);
-        let changes = shared.resume();
-        self.end_idle();
-        Some(changes)
+        Some(shared.resume())
     }
 
     /// A worker that is at work stops counting and leaves.

@@ -9,6 +9,7 @@ ghost use Rattle.search_end.specs.Pages.{CountsFaults, HasPaged, HasAllPaged};
 
 use crate::paging::search_together;
 use crate::room::Room;
+use crate::search::Search;
 use crate::shared::Shared;
 use search_core::Desk;
 use search_end::{PageOut, RunFault, finish, set_up};
@@ -90,9 +91,17 @@ pub fn run_search<R: Threads + Wait + Sync, G: Gate, P: PageOut>(
     let Ok((room, reader)) = room_for(rt, alloc, &problem, workers, desk) else {
         return Err(RunFault::Memory);
     };
-    match search_together(
-        rt, alloc, &problem, limits, &room, gate, workers, path, seats, reader, pages,
-    ) {
+    let handed = {
+        let search = Search {
+            problem: &problem,
+            limits,
+            room: &room,
+            gate,
+            workers,
+        };
+        search_together(rt, alloc, &search, path, seats, reader, pages)
+    };
+    match handed {
         Ok(handed) => match room.into_desk() {
             Some(desk) => finish(alloc, &problem, limits, desk, handed, pages),
             None => Err(RunFault::Memory),

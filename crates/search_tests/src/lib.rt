@@ -6,6 +6,8 @@ mod books;
 #[cfg(test)]
 mod columns_anew;
 #[cfg(test)]
+mod deep;
+#[cfg(test)]
 mod demands;
 #[cfg(test)]
 mod forced;

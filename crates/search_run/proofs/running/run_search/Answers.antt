@@ -16,12 +16,17 @@ returns-in_default-room_for-clause-paged g c = unpaged (arc_value c.args.problem
 pub returns-in-Some-clause-paged : goal.returns-in-Some-clause-paged
 returns-in-Some-clause-paged g c =
     let before = g.P.PageOut.calls c.args.pages.now in
-    c.finish.ensures.paged before (c.in-Ok-search_together.ensures.paged.1 before (none_yet before))
+    c.finish.ensures.paged before (c.in-Ok-handed.ensures.paged.1 before (none_yet before))
 
-pub returns-in-Ok-search_together-clause-paged : goal.returns-in-Ok-search_together-clause-paged
-returns-in-Ok-search_together-clause-paged g c =
+pub returns-in-Ok-handed-clause-paged : goal.returns-in-Ok-handed-clause-paged
+returns-in-Ok-handed-clause-paged g c =
     let before = g.P.PageOut.calls c.args.pages.now in
-    let now = g.P.PageOut.calls c.search_together.new.pages in
-    let handed = c.in-Ok-search_together.handed in
-    paged before now now handed [] (c.in-Ok-search_together.ensures.paged.1 before (none_yet before)) (arc_value c.args.problem) c.args.limits.solids
-    c.in-Ok-search_together.ensures.paged.0
+    let now = g.P.PageOut.calls c.search_together-handed.new.pages in
+    let handed = c.in-Ok-handed.handed in
+    paged before now now handed [] (c.in-Ok-handed.ensures.paged.1 before (none_yet before)) (arc_value c.args.problem) c.args.limits.solids
+    c.in-Ok-handed.ensures.paged.0
+
+pub returns-clause-paged : goal.returns-clause-paged
+returns-clause-paged g c =
+    let before = g.P.PageOut.calls c.args.pages.now in
+    c.in-Err.ensures.paged before (none_yet before)
