@@ -8,7 +8,7 @@ ghost use Rattle.solid_model.specs.declared.segment.Segment.{Segment};
 ghost use Rattle.solid_model.specs.declared.segment.Style.{Style};
 ghost use Rattle.solid_model.specs.Blocks.{ProblemParts, IsBlocksOf};
 ghost use Rattle.solid_model.specs.Choices.{IsMatchingChoice};
-ghost use Rattle.solid_model.specs.Demands.{said_by, AllMet, CanBeMet, can_be_met, lines_of};
+ghost use Rattle.solid_model.specs.Demands.{said_by, AllMet, CanBeMet, can_be_met, lines_in, lines_of};
 ghost use Rattle.solid_model.specs.Forcing.{IsForced, IsLive, is_live};
 ghost use Rattle.solid_model.specs.Panels.{coordinates_of, IsGridOf};
 ghost use Rattle.solid_model.specs.Runs.{IsDrawing};
@@ -28,15 +28,22 @@ pub fn demands_are_computed()
 {}
 
 /// The lines of a grid of two cells along x and one along y and z, in their order: by view, the
-/// level ones before the upright ones, then by position and by cell.
+/// level ones before the upright ones, then by position and by cell. And those of the side view, of a
+/// grid of one cell along x and two along y and z.
 pub fn lines_in_order()
-    ensures { lines_of two_cells ≡
+    ensures all { lines_of two_cells ≡
         line Front false 0 0 ∷ line Front false 0 1 ∷ line Front false 1 0 ∷ line Front false 1 1
         ∷ line Front true 0 0 ∷ line Front true 1 0 ∷ line Front true 2 0
         ∷ line Top false 0 0 ∷ line Top false 0 1 ∷ line Top false 1 0 ∷ line Top false 1 1
         ∷ line Top true 0 0 ∷ line Top true 1 0 ∷ line Top true 2 0
         ∷ line Side false 0 0 ∷ line Side false 1 0
         ∷ line Side true 0 0 ∷ line Side true 1 0 ∷ [] }
+    ensures side { lines_in
+        (record two_cells { xs = two_cells.ys; ys = two_cells.xs; zs = two_cells.xs }) Side ≡
+        line Side false 0 0 ∷ line Side false 0 1 ∷ line Side false 1 0 ∷ line Side false 1 1
+        ∷ line Side false 2 0 ∷ line Side false 2 1
+        ∷ line Side true 0 0 ∷ line Side true 0 1 ∷ line Side true 1 0 ∷ line Side true 1 1
+        ∷ line Side true 2 0 ∷ line Side true 2 1 ∷ [] }
 {}
 
 /// A line can be met exactly where some cells that agree with what is known draw it: so that two

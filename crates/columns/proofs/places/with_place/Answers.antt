@@ -1,5 +1,5 @@
 -- One bit more, or none.
-use Rattle.std.proofs.Common.{◌≡◌, ◌||◌, ◌&&◌, ◌%◌, ◌==◌, ◌<◌, Bool, true, false, ℕ, bit_or, w64, inl, inr, refl, ap, sym, ◌∙◌, arith}
+use Rattle.std.proofs.Common.{◌≡◌, ◌||◌, ◌&&◌, ◌%◌, ◌==◌, ◌<◌, Bool, true, false, bit_or, w64, inl, inr, refl, ap, sym, ◌∙◌, arith}
 use Rattle.std.proofs.lemmas.Bool.{cases_Bool, eqb-true, eqb-false, or_right}
 use Rattle.std.proofs.lemmas.Nat.Bits.{bit_at_set_same, bit_at_set_other}
 use Rattle.solid_model.specs.Bits.{is_set}
