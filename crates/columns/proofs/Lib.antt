@@ -42,7 +42,7 @@ pub mod BoxSight
 pub mod ListParts
 pub mod DrawnDemands
 pub mod LiveTree
-pub mod PackedColumns
+pub mod DecidedCells
 pub mod WholeChoices
 pub mod CellPlaces
 pub mod CellsBeside

@@ -10,7 +10,6 @@ pub mod Lines
 pub mod Plans
 pub mod KeptColumns
 pub mod Gathered
-pub mod Packed
 pub mod Sight
 pub mod SightCells
 pub mod Seen

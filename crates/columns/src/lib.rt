@@ -11,7 +11,6 @@ mod grid_columns;
 mod known;
 mod laws;
 mod lines;
-mod packed;
 mod partial_state;
 mod places;
 mod plan;

@@ -10,7 +10,6 @@ use crate::gather::{
 };
 use crate::known::KnownColumn;
 use crate::lines::{Beside, can_be_met, least, mend_lines, try_lines};
-use crate::packed::pack;
 use crate::plan::{LineList, SpanList};
 use crate::seen::{SeenLine, seen_line};
 use crate::spans::set_spans;
@@ -73,7 +72,6 @@ impl<'p> PartialState<'p> {
     ghost use Rattle.solid_model.specs.declared.decision.Decision.{Decision};
     ghost use Rattle.solid_model.specs.Decisions.{decided_by, AreDecisions, AreOnAll};
     ghost use Rattle.columns.specs.Free.{LeaveFreeBut};
-    ghost use Rattle.columns.specs.Packed.{ArePacked};
     ghost use Rattle.columns.specs.Touching.{lines_touching, touching, view_width, view_height, shown_cell};
     ghost use Rattle.columns.specs.Seen.{IsSeen};
     ghost use Rattle.solid_model.specs.Known.{known_bits, LiesWithin};
@@ -335,24 +333,6 @@ impl<'p> PartialState<'p> {
             (slice_index_or (lines_of self.now.problem.grid) number d) }
     {
         self.sides[number].style
-    }
-
-    /// Puts the columns after and before each line, in the order of all lines, where every block is
-    /// decided. A bit that is set is a full cell, and bit 0 is the nearest.
-    pub fn pack(&self, after: &mut [u64], before: &mut [u64])
-        requires decided { AreOnAll self.now.problem.blocks.count self.now.decisions }
-        requires after { length after.old ≡ length (lines_of self.now.problem.grid) }
-        requires before { length before.old ≡ length (lines_of self.now.problem.grid) }
-        ensures { ArePacked self.now.problem (decided_by self.now.decisions) after.new before.new }
-    {
-        // A look at the problem tells that its blocks are those of its grid.
-        let _grid = self.problem.grid();
-        pack(
-            self.columns.as_slice(),
-            self.sides.as_slice(),
-            after,
-            before,
-        );
     }
 }
 
