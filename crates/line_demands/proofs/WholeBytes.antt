@@ -1,13 +1,12 @@
 -- Where every block is decided the bytes of the styles that the columns draw tell whether all lines can be met.
-use Rattle.std.proofs.Common.{◌≡◌, inl, inr, Bool, true, false, ℕ, ℤ, pos, negsuc, ◌<◌, ◌+◌, ◌++◌, ◌∷◌, [], List, length, get_or, set, Option, Some, None, is_some, refl, ap, sym, subst, ◌∙◌, arith}
+use Rattle.std.proofs.Common.{◌≡◌, inl, inr, Bool, false, ℕ, ℤ, ◌<◌, ◌+◌, ◌++◌, ◌∷◌, [], List, length, get_or, set, Option, Some, None, is_some, refl, ap, sym, subst, ◌∙◌, arith}
 use Rattle.std.proofs.lemmas.Bool.{cases_lt, false≢true}
 use Rattle.std.proofs.lemmas.List.{ext_get_or, get_or-set_same, get_or-set_other}
-use Rattle.std.proofs.lemmas.Option.{none-some}
 use Rattle.column_lanes.specs.Styles.{style_byte, IsStyleByte}
 use Rattle.columns.specs.declared.known.KnownColumn.{KnownColumn}
 use Rattle.columns.specs.declared.seen.SeenLine.{SeenLine}
 use Rattle.columns.specs.Seen.{IsSeen}
-use Rattle.columns.proofs.DecidedCells.{cell_decided}
+use Rattle.columns.proofs.DecidedCells.{full_tells, cell_decided}
 use Rattle.columns.proofs.AllLines.{lines_are_there, lines_are_listed}
 use Rattle.columns.proofs.WholeChoices.{one_drawn, met_drawn, drawn_met}
 use Rattle.line_demands.specs.WholeChoices.{AreDrawnMet, ListDrawn, AreStylesOf, ArePackedOf}
@@ -17,10 +16,10 @@ use Rattle.solid_model.specs.declared.segment.Style.{Style}
 use Rattle.solid_model.specs.declared.segment.Style.TheVariants.{Blank, Dashed, Solid}
 use Rattle.solid_model.specs.declared.cell.Cell.{Cell}
 use Rattle.solid_model.specs.declared.decision.Decision.{Decision}
-use Rattle.solid_model.specs.Bits.{is_set, bits}
+use Rattle.solid_model.specs.Bits.{bits}
 use Rattle.solid_model.specs.Blocks.{ProblemParts, IsBlocksOf}
 use Rattle.solid_model.specs.Decisions.{decided_by, AreOnAll}
-use Rattle.solid_model.specs.Known.{known_of, known_bits}
+use Rattle.solid_model.specs.Known.{known_bits}
 use Rattle.solid_model.specs.Lists.{Member}
 use Rattle.solid_model.specs.Panels.{GridParts}
 use Rattle.solid_model.specs.Columns.{ColumnsDraw}
@@ -72,16 +71,6 @@ module _ (p : ProblemParts) (known : ℕ → Option Bool) (lines after before dr
       let drawn_style = met_drawn p known m (bits (get_or after i 0)) (bits (get_or before i 0)) (packed.after_is i no_line there) (packed.before_is i no_line there) can in
       byte ∙ ap style_byte (one_drawn _ _ style (line_style p.grid m) draws drawn_style) ∙ sym (wants i no_line there))
 
--- a cell that is known is full where it is full for certain
-certain : (column : KnownColumn) (k : ℤ) (value : Bool) → known_bits column.full column.may k ≡ Some value → known_bits column.full column.may k ≡ Some (bits column.full k)
-certain column (pos k) value e = by (is_set column.full k) (is_set column.may k) e
-  where
-    by : (f m : Bool) → known_of f m ≡ Some value → known_of f m ≡ Some f
-    by true m e = refl
-    by false true e = absurd (none-some value e)
-    by false false e = refl
-certain column (negsuc k) value e = refl
-
 -- one line more whose columns are packed
 module _ (p : ProblemParts) (blocks : IsBlocksOf p.grid p.blocks) (decisions : List Decision) (all : AreOnAll p.blocks.count decisions)
     (numbers after before : List ℕ) (count : ℕ) (so_far : ArePackedOf p (decided_by decisions) numbers count after before)
@@ -92,7 +81,7 @@ module _ (p : ProblemParts) (blocks : IsBlocksOf p.grid p.blocks) (decisions : L
 
   -- what is known of a column is all of it
   whole : (column : KnownColumn) (k : ℤ) (n : Cell) → known_bits column.full column.may k ≡ known_cell p.blocks known n → known_cell p.blocks known n ≡ Some (bits column.full k)
-  whole column k n e = let (value, there) = cell_decided p blocks decisions all n in sym e ∙ certain column k value (e ∙ there)
+  whole column k n e = let (value, there) = cell_decided p blocks decisions all n in sym e ∙ full_tells column.full column.may k value (e ∙ there)
 
   pub packed_more : ArePackedOf p known numbers (count + 1) (set after count s.after.full) (set before count s.before.full)
   packed_more = record {
