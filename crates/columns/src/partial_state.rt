@@ -70,7 +70,7 @@ impl<'p> Model for PartialState<'p> {
 impl<'p> PartialState<'p> {
     ghost use Rattle.std.specs.Prelude.{◌≡◌, ◌↔◌, ◌<◌, ◌≤◌, ◌+◌, ◌++◌, ◌∷◌, [], ℕ, pos, Some, None, false, length, take, slice_get, slice_index_or, IsTrue, IfSome, IfOk};
     ghost use Rattle.solid_model.specs.declared.decision.Decision.{Decision};
-    ghost use Rattle.solid_model.specs.Decisions.{decided_by, AreDecisions, AreOnAll};
+    ghost use Rattle.solid_model.specs.Decisions.{decided_by, AreDecisions};
     ghost use Rattle.columns.specs.Free.{LeaveFreeBut};
     ghost use Rattle.columns.specs.Touching.{lines_touching, touching, view_width, view_height, shown_cell};
     ghost use Rattle.columns.specs.Seen.{IsSeen};
