@@ -3,7 +3,7 @@ use Rattle.std.proofs.Common.{◌≡◌, ℕ, zero, suc, ◌+◌, List, [], ◌�
 use Rattle.std.proofs.lemmas.List.{append-nil}
 use Rattle.std.specs.List.{slice_get}
 use Rattle.recon_run.specs.Answers.{TellsSolid, TellsSolids, first_volume}
-use Rattle.recon_run.specs.Searched.{AreFilled}
+use Rattle.recon_run.specs.Searched.{FillSolids}
 use Rattle.report.specs.Texts.{solid_text}
 use Rattle.solid_model.specs.declared.cell.Cell.{Cell}
 use Rattle.solid_model.specs.Blocks.{ProblemParts}
@@ -32,24 +32,24 @@ fills_at coordinates numbers count P (c ∷ choices) (s ∷ solids) filled each 
     fills_at coordinates numbers count P choices solids filled.2 each.1 k choice at
 
 module _ (p : ProblemParts) where
-  pub filled_at : (choices : List (List Bool)) (solids : List (List Cell)) → AreFilled p choices solids → (k : ℕ) (choice : List Bool)
-      → slice_get choices k ≡ Some choice → (s : List Cell) × (slice_get solids k ≡ Some s) × AreFilled p (choice ∷ []) (s ∷ [])
+  pub filled_at : (choices : List (List Bool)) (solids : List (List Cell)) → FillSolids p choices solids → (k : ℕ) (choice : List Bool)
+      → slice_get choices k ≡ Some choice → (s : List Cell) × (slice_get solids k ≡ Some s) × FillSolids p (choice ∷ []) (s ∷ [])
   filled_at choices solids are k choice at =
       let (s, there, filled, matching) = fills_at (coordinates_of p.grid) p.blocks.numbers p.blocks.count _ choices solids are.filled are.matching k choice at in
       (s, there, record { drawing = are.drawing; grid = are.grid; filled = filled; matching = (matching, tt) })
 
   -- there are as many
-  pub filled_count : (choices : List (List Bool)) (solids : List (List Cell)) → AreFilled p choices solids → length choices ≡ length solids
+  pub filled_count : (choices : List (List Bool)) (solids : List (List Cell)) → FillSolids p choices solids → length choices ≡ length solids
   filled_count choices solids are = as_many (coordinates_of p.grid) p.blocks.numbers p.blocks.count choices solids are.filled
 
   -- its volume is a number of unit cells
-  filled_volume : (choice : List Bool) (s : List Cell) → AreFilled p (choice ∷ []) (s ∷ [])
+  filled_volume : (choice : List Bool) (s : List Cell) → FillSolids p (choice ∷ []) (s ∷ [])
       → length s ≡ volume_of (coordinates_of p.grid) (cells_of_choice p.blocks.numbers choice)
   filled_volume choice s are = volume_counts (coordinates_of p.grid) (λ a. (are.grid.coordinates a).ordered) (cells_of_choice p.blocks.numbers choice) s
       are.filled.1 are.matching.0.1
 
   -- that of the first choice is the first volume,
-  pub first_counts : (choices : List (List Bool)) (solids : List (List Cell)) → AreFilled p choices solids → (choice : List Bool) → slice_get choices 0 ≡ Some choice
+  pub first_counts : (choices : List (List Bool)) (solids : List (List Cell)) → FillSolids p choices solids → (choice : List Bool) → slice_get choices 0 ≡ Some choice
       → volume_of (coordinates_of p.grid) (cells_of_choice p.blocks.numbers choice) ≡ first_volume solids
   first_counts [] solids are choice at = cc
   first_counts (c ∷ choices) [] are choice at = absurd are.filled
@@ -58,10 +58,10 @@ module _ (p : ProblemParts) where
       (sym (filled_volume c s (record { drawing = are.drawing; grid = are.grid; filled = (are.filled.0, are.filled.1, tt); matching = (are.matching.0, tt) })))
 
   -- whatever solids they fill
-  pub some_first : (choices : List (List Bool)) → (volume : ℕ) × ((solids : List (List Cell)) → AreFilled p choices solids → volume ≡ first_volume solids)
+  pub some_first : (choices : List (List Bool)) → (volume : ℕ) × ((solids : List (List Cell)) → FillSolids p choices solids → volume ≡ first_volume solids)
   some_first [] = (0, none)
     where
-      none : (solids : List (List Cell)) → AreFilled p [] solids → 0 ≡ first_volume solids
+      none : (solids : List (List Cell)) → FillSolids p [] solids → 0 ≡ first_volume solids
       none [] are = refl
       none (s ∷ solids) are = absurd are.filled
   some_first (choice ∷ choices) = (
@@ -72,7 +72,7 @@ module _ (p : ProblemParts) where
   -- ---- what is told of it
 
   -- faces of whatever the choice fills, and its volume, are told of the solid
-  pub tells_solid : (decimals number : ℕ) (choice : List Bool) (s : List Cell) → AreFilled p (choice ∷ []) (s ∷ []) → (faces : List FaceParts)
+  pub tells_solid : (decimals number : ℕ) (choice : List Bool) (s : List Cell) → FillSolids p (choice ∷ []) (s ∷ []) → (faces : List FaceParts)
       → ((full : Cell → Bool) → IsUnionOf (coordinates_of p.grid) (cells_of_choice p.blocks.numbers choice) full → AreFacesOf full faces) → (text : List ℕ)
       → text ≡ solid_text decimals number choice (volume_of (coordinates_of p.grid) (cells_of_choice p.blocks.numbers choice)) faces
       → TellsSolid decimals number choice s text
@@ -104,7 +104,7 @@ tells_more decimals number (c ∷ choices) (u ∷ solids) (suc place) choice s t
 )
 
 -- where there are no choices, no text tells their solids
-pub none_told : (p : ProblemParts) (decimals : ℕ) (choices : List (List Bool)) (solids : List (List Cell)) → choices ≡ [] → AreFilled p choices solids
+pub none_told : (p : ProblemParts) (decimals : ℕ) (choices : List (List Bool)) (solids : List (List Cell)) → choices ≡ [] → FillSolids p choices solids
     → TellsSolids decimals 1 choices solids []
 none_told p decimals [] [] none are = refl
 none_told p decimals [] (s ∷ solids) none are = absurd are.filled

@@ -7,7 +7,7 @@ use Rattle.replies.specs.declared.status.Answer.TheVariants as answers
 use Rattle.replies.specs.Status.{end_answer}
 use Rattle.recon_run.specs.Answers.{CanEnd, head_of, numbered_answer}
 use Rattle.recon_run.specs.Owed.{IsAnEnd, search_for_one}
-use Rattle.recon_run.specs.Searched.{AnswersNumbered, AreFilled, IsSearchOf, SearchedParts, search_head}
+use Rattle.recon_run.specs.Searched.{AnswersNumbered, FillSolids, IsSearchOf, SearchedParts, search_head}
 use Rattle.recon_run.proofs.Filled.{filled_at, filled_count}
 use Rattle.recon_run.proofs.Searching.{searched_end, searched_listing, searched_problem}
 use Rattle.recon_run.proofs.Solved.{whole_listing}
@@ -28,7 +28,7 @@ pub numbered_lacks : (which solids : ℕ) → solids < which → answers.NoSolid
 numbered_lacks which solids few = sym (ap (λ b. cond b answers.NoSolid answers.Done) (lt-ltb solids which few))
 
 -- what is written of the solid that the choice of a number fills is told of the solid of that number
-pub numbered : (writes : List Cell → List ℕ → Type 0) (which : ℕ) (p : ProblemParts) (choices : List (List Bool)) (solids : List (List Cell)) (are : AreFilled p choices solids)
+pub numbered : (writes : List Cell → List ℕ → Type 0) (which : ℕ) (p : ProblemParts) (choices : List (List Bool)) (solids : List (List Cell)) (are : FillSolids p choices solids)
     (choice : List Bool) → 1 ≤ which → which - 1 < length choices → (at : slice_get choices (which - 1) ≡ Some choice) → (text : List ℕ)
     → writes (filled_at p choices solids are (which - 1) choice at).0 text → AnswersNumbered writes which solids answers.Done text
 numbered writes which p choices solids are choice some within at text told =
@@ -43,7 +43,7 @@ module _ (writes : ℕ → List Cell → List ℕ → Type 0) (which : ℕ) (lim
 
   -- the answer to a whole search is that of the solid of the number,
   at_whole : (p : ProblemParts) (has : HasProblem t p) (opened : ℕ) (choices : List (List Bool)) → EndsAs (is_live p) p.blocks.count limits Whole opened choices
-      → (solids : List (List Cell)) × AreFilled p choices solids × ((answer : Answer) (text : List ℕ) → AnswersNumbered (writes t.decimals) which solids answer text → Tells answer text)
+      → (solids : List (List Cell)) × FillSolids p choices solids × ((answer : Answer) (text : List ℕ) → AnswersNumbered (writes t.decimals) which solids answer text → Tells answer text)
   at_whole p has opened choices ends =
       let is = whole_listing limits t p has opened choices ends in
       (is.can.solids, is.filled, λ answer text told. (Whole, is.can, told.0, told.1))
@@ -56,7 +56,7 @@ module _ (writes : ℕ → List Cell → List ℕ → Type 0) (which : ℕ) (lim
 
   module _ (p : ProblemParts) (has : HasProblem t p) (s : SearchedParts) (is_of : IsSearchOf limits p s) where
     pub whole_told : s.ended.kind ≡ Whole
-        → (solids : List (List Cell)) × AreFilled s.problem s.ended.solids solids
+        → (solids : List (List Cell)) × FillSolids s.problem s.ended.solids solids
         × ((answer : Answer) (text : List ℕ) → AnswersNumbered (writes t.decimals) which solids answer text → Tells answer text)
     whole_told whole = at_whole s.problem (searched_problem limits t p has s is_of) s.ended.opened s.ended.solids
         (subst (λ k. EndsAs (is_live s.problem) s.problem.blocks.count limits k s.ended.opened s.ended.solids) whole (searched_end limits t p has s is_of))

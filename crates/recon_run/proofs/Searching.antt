@@ -11,7 +11,7 @@ use Rattle.replies.specs.Writings.{EndsText, EndsWriting}
 use Rattle.recon_run.specs.Answers.{BeginsAll, BeginsToList, CanEnd, ListsSolids, TellsAll}
 use Rattle.recon_run.specs.Owed.{IsAnEnd, answer_at, search_for_all}
 use Rattle.recon_run.specs.Pages.{BeginsPages, TellsPages, pages_text}
-use Rattle.recon_run.specs.Searched.{AreFilled, IsSearchOf, SearchedParts, TellsSearch, search_head}
+use Rattle.recon_run.specs.Searched.{FillSolids, IsSearchOf, SearchedParts, TellsSearch, search_head}
 use Rattle.recon_run.proofs.Solved.{IsListing, begins, listing, lists, pages_begin}
 use Rattle.recon_run.proofs.TextByText.{ends_after, refused}
 use Rattle.solid_model.specs.declared.cell.Cell.{Cell}
@@ -72,7 +72,7 @@ module _ (paged : Bool) (limits : SearchLimits) (t : Input) (p : ProblemParts) (
       (since : rose → rises) (answer : Answer) (right : answer ≡ end_answer s.ended.kind) where
     -- how the writing of the solids behind the pages ends
     abbrev EndsAll : Result (Unit {0}) Failure → Type 0
-    EndsAll r = (solids : List (List Cell)) → AreFilled s.problem s.ended.solids solids
+    EndsAll r = (solids : List (List Cell)) → FillSolids s.problem s.ended.solids solids
         → EndsText (TellsAll (search_head limits s) t.decimals s.ended.solids solids) (BeginsAll (search_head limits s) t.decimals s.ended.solids solids) mid now rose r
 
     abbrev of_input : HasProblem t s.problem

@@ -4,7 +4,7 @@ use Rattle.columns.proofs.LivePrefixes.{live_keeps_matching}
 use Rattle.file_problem.specs.Inputs.{HasProblem, Input}
 use Rattle.recon_run.specs.Answers.{AllowsEnd, AreListed, BeginsAll, BeginsToList, CanEnd, ListedSolids, ListsSolids, TellsAll, head_of, node_count}
 use Rattle.recon_run.specs.Pages.{BeginsPages, TellsPages, pages_text}
-use Rattle.recon_run.specs.Searched.{AreFilled}
+use Rattle.recon_run.specs.Searched.{FillSolids}
 use Rattle.recon_run.proofs.GoingOn.{some_telling}
 use Rattle.recon_run.proofs.Paged.{some_pages}
 use Rattle.file_problem.proofs.Problems.{problem_drawing}
@@ -70,11 +70,11 @@ module _ (limits : SearchLimits) (t : Input) (p : ProblemParts) (has : HasProble
   whole_end opened choices (few_nodes, few_solids, counted, is_whole) =
       end_with Whole (few_nodes, omega (arith, few_solids, count_solids whole all.0 all.2))
 
-  whole_filled : (opened : ℕ) (choices : List (List Bool)) → EndsAs (is_live p) p.blocks.count limits Whole opened choices → AreFilled p choices all.0
+  whole_filled : (opened : ℕ) (choices : List (List Bool)) → EndsAs (is_live p) p.blocks.count limits Whole opened choices → FillSolids p choices all.0
   whole_filled opened choices (few_nodes, few_solids, counted, is_whole) =
       record { drawing = drawing; grid = has.grid; filled = subst (λ cs. Fill cs all.0) (sym is_whole) all.2; matching = all.1.matching }
 
-  some_filled : (choices : List (List Bool)) (are : AreSomeOf (is_live p) p.blocks.count choices) → AreFilled p choices (some choices are).0
+  some_filled : (choices : List (List Bool)) (are : AreSomeOf (is_live p) p.blocks.count choices) → FillSolids p choices (some choices are).0
   some_filled choices are =
       let found = some choices are in record { drawing = drawing; grid = has.grid; filled = found.2; matching = found.1.matching }
 
@@ -82,7 +82,7 @@ module _ (limits : SearchLimits) (t : Input) (p : ProblemParts) (has : HasProble
   pub record IsListing (kind : EndKind) (opened : ℕ) (choices : List (List Bool)) (solids : List (List Cell)) : Type 0 where
     pub can : CanEnd limits t kind
     pub listed : AreListed limits has kind solids
-    pub filled : AreFilled p choices solids
+    pub filled : FillSolids p choices solids
     pub head : head_text limits kind (length choices) opened p.blocks.count ≡ head_of can
 
   pub listing : (kind : EndKind) (opened : ℕ) (choices : List (List Bool)) → EndsAs (is_live p) p.blocks.count limits kind opened choices
@@ -124,7 +124,7 @@ module _ (limits : SearchLimits) (t : Input) (p : ProblemParts) (has : HasProble
     pub can : CanEnd limits t Whole
     pub problem : can.problem ≡ p
     pub counts : can.counted ≡ can.solids
-    pub filled : AreFilled p choices can.solids
+    pub filled : FillSolids p choices can.solids
     pub many : length choices ≡ length can.solids
     pub opened_all : opened ≡ node_count p
 

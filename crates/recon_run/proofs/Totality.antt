@@ -10,7 +10,7 @@ use Rattle.recon_run.specs.Answers.{usage_text, CanEnd, IsTried, TellsNumbered, 
 use Rattle.solid_model.specs.Search.{default_limits, SearchLimits}
 use Rattle.recon_run.specs.Endings.{Answers}
 use Rattle.recon_run.specs.Owed.{AnswersOwed, HasRead, Judgement, Owed, Search, alone, answer_at, drawing_profile, in_one_piece, input_of, judgement_of, owed, owed_for, read, search_for_all, search_for_one, searched}
-use Rattle.recon_run.specs.Searched.{AreFilled}
+use Rattle.recon_run.specs.Searched.{FillSolids}
 use Rattle.recon_run.proofs.Filled.{filled_at, some_first}
 use Rattle.file_problem.proofs.Faults.{file_fault}
 use Rattle.recon_run.proofs.PossibleEnds.{can_list}
@@ -220,7 +220,7 @@ some_in_one_piece limits whole tells alike some t p has CutSolids opened choices
 
 -- a whole search has a solid of a number, of which something is written; or there are fewer
 module _ (writes : ℕ → List Cell → List ℕ → Type 0)
-    (written : (decimals : ℕ) (p : ProblemParts) (choice : List Bool) (s : List Cell) → AreFilled p (choice ∷ []) (s ∷ []) → (text : List ℕ) × writes decimals s text)
+    (written : (decimals : ℕ) (p : ProblemParts) (choice : List Bool) (s : List Cell) → FillSolids p (choice ∷ []) (s ∷ []) → (text : List ℕ) × writes decimals s text)
     (which : ℕ) (some : 1 ≤ which) (limits : SearchLimits) where
   module _ (t : Input) (p : ProblemParts) (has : HasProblem t p) (opened : ℕ) (choices : List (List Bool)) (is : IsWholeListing limits t p has opened choices)
       (never : (text : List ℕ) → TellsNumbered (writes t.decimals) which is.can.solids text → ⊥) where
@@ -245,7 +245,7 @@ some_written_file : (s : List Cell) → IsSolid s → ((text : List ℕ) → IsF
 some_written_file s is never = let (text, file) = some_file s is 0 in never text file
 
 -- nor one that matches an STL text
-some_stl : (decimals : ℕ) (p : ProblemParts) (choice : List Bool) (s : List Cell) → AreFilled p (choice ∷ []) (s ∷ []) → (text : List ℕ) × IsSolidStl s text
+some_stl : (decimals : ℕ) (p : ProblemParts) (choice : List Bool) (s : List Cell) → FillSolids p (choice ∷ []) (s ∷ []) → (text : List ℕ) × IsSolidStl s text
 some_stl decimals p choice s are =
     some_text are.drawing (coordinates_of p.grid) are.grid.coordinates s are.matching.0.0 (cells_of_choice p.blocks.numbers choice) are.filled.1
 

@@ -10,7 +10,7 @@ use Rattle.redraw.specs.Files.{IsFileOf}
 use Rattle.file_problem.specs.Inputs.{HasNoFault, HasProblem, Input}
 use Rattle.recon_run.specs.Answers.{AllowsEnd, IsTried, first_volume, made_drawing, node_count}
 use Rattle.recon_run.specs.Owed.{drawing_profile, input_of}
-use Rattle.recon_run.specs.Searched.{AreFilled}
+use Rattle.recon_run.specs.Searched.{FillSolids}
 use Rattle.file_problem.proofs.Faults.{no_fault}
 use Rattle.recon_run.proofs.Solved.{whole_listing}
 use Rattle.report.specs.Texts.{trial_text}
@@ -64,7 +64,7 @@ module _ (n : ℕ) (t : List ℕ) (file : IsFileOf 0 (made_solid n) t) where
   -- the figures of its search are those of the made drawing's
   pub figures_are : (p : ProblemParts) → HasProblem input p → (kind : EndKind) (opened : ℕ) (choices : List (List Bool))
       → EndsAs (is_live p) p.blocks.count default_limits kind opened choices → (text : List ℕ)
-      → ((solids : List (List Cell)) → AreFilled p choices solids → text ≡ trial_text n p.blocks.count (length choices) opened (first_volume solids)) → IsTried n text
+      → ((solids : List (List Cell)) → FillSolids p choices solids → text ≡ trial_text n p.blocks.count (length choices) opened (first_volume solids)) → IsTried n text
   figures_are p has Whole opened choices ends text told =
       let is = whole_listing default_limits input p has opened choices ends in
       let c = is.can in

@@ -69,7 +69,7 @@ run_failure run_fault.Memory = Memory
 -- ---- its solids
 
 -- choices of a problem's blocks fill these solids, which match a drawing whose grid is the problem's
-pub record AreFilled (p : ProblemParts) (choices : List (List Bool)) (solids : List (List Cell)) : Type 0 where
+pub record FillSolids (p : ProblemParts) (choices : List (List Bool)) (solids : List (List Cell)) : Type 0 where
   pub drawing : Segment → Style
   pub grid : IsGridOf drawing p.grid
   pub filled : AreSolidsOfChoices (coordinates_of p.grid) p.blocks.numbers p.blocks.count choices solids

@@ -2,7 +2,7 @@
 
 ghost use Rattle.std.specs.Prelude.{◌≡◌, ◌≤◌, ℕ, List, [], ◌∷◌, length, take};
 ghost use Rattle.recon_run.specs.Answers.{BeginsAll, TellsAll, TellsSolid, TellsSolids};
-ghost use Rattle.recon_run.specs.Searched.{AnswersForm, AreFilled, search_head};
+ghost use Rattle.recon_run.specs.Searched.{AnswersForm, FillSolids, search_head};
 ghost use Rattle.recon_run.specs.declared.form.Form.TheVariants as form;
 ghost use Rattle.replies.specs.Writings.{EndsText};
 ghost use Rattle.solid_model.specs.declared.cell.Cell.{Cell};
@@ -34,7 +34,7 @@ fn write_solid<K: Sink>(
     requires { room.old.rows.sizes ≡ texts.now.problem.blocks.sizes }
     ensures sizes { room.new.rows.sizes ≡ texts.now.problem.blocks.sizes }
     ensures later { K.faults sink.old ≤ K.faults sink.new }
-    ensures ends { (s : List Cell) → AreFilled texts.now.problem (choice.now ∷ []) (s ∷ [])
+    ensures ends { (s : List Cell) → FillSolids texts.now.problem (choice.now ∷ []) (s ∷ [])
         → EndsText (TellsSolid texts.now.decimals number choice.now s)
         (TellsSolid texts.now.decimals number choice.now s) (K.held sink.old) (K.held sink.new)
         (Rose (K.faults sink.old) (K.faults sink.new)) result }
@@ -55,7 +55,7 @@ fn write_solids<K: Sink>(
     requires few { length choices.now ≤ most_solid_limit }
     requires sizes { room.old.rows.sizes ≡ texts.now.problem.blocks.sizes }
     ensures later { K.faults sink.old ≤ K.faults sink.new }
-    ensures ends { (solids : List (List Cell)) → AreFilled texts.now.problem choices.now solids
+    ensures ends { (solids : List (List Cell)) → FillSolids texts.now.problem choices.now solids
         → EndsText (TellsSolids texts.now.decimals 1 choices.now solids)
         (λ text. (first : ℕ) × TellsSolids texts.now.decimals 1 (take first choices.now)
         (take first solids) text) (K.held sink.old) (K.held sink.new)
@@ -77,7 +77,7 @@ fn write_none<K: Sink>(
     requires { searched.now.ended.solids ≡ [] }
     ensures later { K.faults sink.old ≤ K.faults sink.new }
     ensures ends { (decimals : ℕ) (solids : List (List Cell))
-        → AreFilled searched.now.problem searched.now.ended.solids solids → EndsText
+        → FillSolids searched.now.problem searched.now.ended.solids solids → EndsText
         (TellsAll (search_head limits searched.now) decimals searched.now.ended.solids solids)
         (BeginsAll (search_head limits searched.now) decimals searched.now.ended.solids solids)
         (K.held sink.old) (K.held sink.new) (Rose (K.faults sink.old) (K.faults sink.new)) result }
@@ -97,7 +97,7 @@ fn write_all<K: Sink>(
     requires { decimals ≤ most_decimals }
     ensures later { K.faults sink.old ≤ K.faults sink.new }
     ensures ends { (solids : List (List Cell))
-        → AreFilled searched.now.problem searched.now.ended.solids solids → EndsText
+        → FillSolids searched.now.problem searched.now.ended.solids solids → EndsText
         (TellsAll (search_head limits searched.now) decimals searched.now.ended.solids solids)
         (BeginsAll (search_head limits searched.now) decimals searched.now.ended.solids solids)
         (K.held sink.old) (K.held sink.new) (Rose (K.faults sink.old) (K.faults sink.new)) result }
@@ -120,7 +120,7 @@ fn write_searched<K: Sink>(
     requires { decimals ≤ most_decimals }
     ensures later { K.faults sink.old ≤ K.faults sink.new }
     ensures ends { (solids : List (List Cell))
-        → AreFilled searched.now.problem searched.now.ended.solids solids → EndsText
+        → FillSolids searched.now.problem searched.now.ended.solids solids → EndsText
         (TellsAll (search_head limits searched.now) decimals searched.now.ended.solids solids)
         (BeginsAll (search_head limits searched.now) decimals searched.now.ended.solids solids)
         (K.held sink.old) (K.held sink.new) (Rose (K.faults sink.old) (K.faults sink.new)) result }

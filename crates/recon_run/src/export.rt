@@ -1,7 +1,7 @@
 //! The forms in which one solid is written.
 
 ghost use Rattle.std.specs.Prelude.{◌≡◌, List, [], ◌∷◌, ◌≤◌};
-ghost use Rattle.recon_run.specs.Searched.{AreFilled, writes_of};
+ghost use Rattle.recon_run.specs.Searched.{FillSolids, writes_of};
 ghost use Rattle.redraw.specs.Files.{IsFileOf};
 ghost use Rattle.replies.specs.Writings.{EndsText};
 ghost use Rattle.solid_model.specs.declared.cell.Cell.{Cell};
@@ -34,7 +34,7 @@ fn write_drawing<K: Sink>(
     sink: &mut K,
 ) -> Result<(), Failure>
     requires { decimals ≤ most_decimals }
-    ensures { (s : List Cell) → AreFilled problem.now (choice.now ∷ []) (s ∷ [])
+    ensures { (s : List Cell) → FillSolids problem.now (choice.now ∷ []) (s ∷ [])
         → EndsText (IsFileOf decimals s) (IsFileOf decimals s) (K.held sink.old) (K.held sink.new)
         (Rose (K.faults sink.old) (K.faults sink.new)) result }
 {
@@ -50,7 +50,7 @@ fn write_triangles<K: Sink>(
     choice: &Choice,
     sink: &mut K,
 ) -> Result<(), Failure>
-    ensures { (s : List Cell) → AreFilled problem.now (choice.now ∷ []) (s ∷ [])
+    ensures { (s : List Cell) → FillSolids problem.now (choice.now ∷ []) (s ∷ [])
         → EndsText (IsSolidStl s) (IsSolidStl s) (K.held sink.old) (K.held sink.new)
         (Rose (K.faults sink.old) (K.faults sink.new)) result }
 {
@@ -73,7 +73,7 @@ impl Export {
         sink: &mut K,
     ) -> Result<(), Failure>
         requires { decimals ≤ most_decimals }
-        ensures { (s : List Cell) → AreFilled problem.now (choice.now ∷ []) (s ∷ [])
+        ensures { (s : List Cell) → FillSolids problem.now (choice.now ∷ []) (s ∷ [])
             → EndsText (writes_of self decimals s) (writes_of self decimals s) (K.held sink.old)
             (K.held sink.new) (Rose (K.faults sink.old) (K.faults sink.new)) result }
     {

@@ -1,7 +1,7 @@
 //! The form that writes one of the solids.
 
 ghost use Rattle.std.specs.Prelude.{List, ◌≤◌};
-ghost use Rattle.recon_run.specs.Searched.{AnswersForm, AnswersNumbered, AreFilled, writes_of};
+ghost use Rattle.recon_run.specs.Searched.{AnswersForm, AnswersNumbered, FillSolids, writes_of};
 ghost use Rattle.recon_run.specs.declared.form.Form.TheVariants as form;
 ghost use Rattle.replies.specs.Writings.{EndsWriting};
 ghost use Rattle.solid_model.specs.declared.cell.Cell.{Cell};
@@ -30,7 +30,7 @@ fn write_numbered<K: Sink>(
 ) -> Status
     requires { decimals ≤ most_decimals }
     ensures { (solids : List (List Cell))
-        → AreFilled searched.now.problem searched.now.ended.solids solids
+        → FillSolids searched.now.problem searched.now.ended.solids solids
         → EndsWriting (AnswersNumbered (writes_of one.now.export decimals) one.now.which solids)
         (AnswersNumbered (writes_of one.now.export decimals) one.now.which solids)
         (K.held sink.old) (K.held sink.new) (Rose (K.faults sink.old) (K.faults sink.new)) result }

@@ -3,7 +3,7 @@
 ghost use Rattle.std.specs.Prelude.{◌≡◌, List, length, IfOk};
 ghost use Rattle.drawing_maker.specs.Made.{made_solid};
 ghost use Rattle.recon_run.specs.Answers.{IsTried, first_volume};
-ghost use Rattle.recon_run.specs.Searched.{AreFilled};
+ghost use Rattle.recon_run.specs.Searched.{FillSolids};
 ghost use Rattle.redraw.specs.Files.{IsFileOf};
 ghost use Rattle.report.specs.Texts.{trial_text};
 ghost use Rattle.solid_model.specs.declared.cell.Cell.{Cell};
@@ -32,7 +32,7 @@ pub fn made_file(alloc: Global, n: u64) -> Result<Vec<u8>, Memory>
 /// The volume of the first solid that was found.
 fn first_volume(searched: &Searched) -> u128
     ensures { (solids : List (List Cell))
-        → AreFilled searched.now.problem searched.now.ended.solids solids
+        → FillSolids searched.now.problem searched.now.ended.solids solids
         → result ≡ first_volume solids }
 {
     match searched.ended().solids.as_slice() {
@@ -44,7 +44,7 @@ fn first_volume(searched: &Searched) -> u128
 /// The line of figures of a search.
 fn figures(alloc: Global, n: u64, searched: &Searched) -> Result<Vec<u8>, Memory>
     ensures { IfOk result (λ text. (solids : List (List Cell))
-        → AreFilled searched.now.problem searched.now.ended.solids solids
+        → FillSolids searched.now.problem searched.now.ended.solids solids
         → text.items ≡ trial_text n searched.now.problem.blocks.count
         (length searched.now.ended.solids) searched.now.ended.opened (first_volume solids)) }
 {

@@ -5,7 +5,7 @@ use Rattle.replies.specs.Status.{end_answer}
 use Rattle.replies.specs.Writings.{EndsText}
 use Rattle.recon_run.specs.Answers.{BeginsAll, TellsAll}
 use Rattle.recon_run.specs.Owed.{input_of}
-use Rattle.recon_run.specs.Searched.{AreFilled, search_head}
+use Rattle.recon_run.specs.Searched.{FillSolids, search_head}
 use Rattle.recon_run.proofs.Searching.{search_refused, solids_refused, solids_written}
 use Rattle.recon_run.proofs.TextByText.{rose_since}
 use Rattle.solid_model.specs.declared.cell.Cell.{Cell}
@@ -31,7 +31,7 @@ returns-in_err-write_searched g c t has =
     rw (failed.1, failed.2) (solids_refused all.pages limits (input_of c.args.profile.now t) c.args.problem has (g.K.Sink.held c.args.sink.now)
     (g.K.Sink.held c.search_telling.new.sink) (g.K.Sink.held c.write_searched.new.sink) (Rose mid last) (Rose first last) s is_of before pages appends
     (rose_since first mid last c.in_ok-searched.ensures.later) (end_answer s.ended.kind) refl c.in_err-write_searched.field-0.0
-    (subst (λ (d : ℕ). (solids : List (List Cell)) → AreFilled s.problem s.ended.solids solids
+    (subst (λ (d : ℕ). (solids : List (List Cell)) → FillSolids s.problem s.ended.solids solids
     → EndsText (TellsAll (search_head limits s) d s.ended.solids solids) (BeginsAll (search_head limits s) d s.ended.solids solids)
     (g.K.Sink.held c.search_telling.new.sink) (g.K.Sink.held c.write_searched.new.sink) (Rose mid last) (Err c.in_err-write_searched.field-0.0))
     c.decimals.ensures.decimals c.in_err-write_searched.ensures.ends))
@@ -45,7 +45,7 @@ returns g c t has =
     (g.K.Sink.held c.search_telling.new.sink) (g.K.Sink.held c.write_searched.new.sink) (Rose mid last) (Rose first last) s is_of before pages appends
     (rose_since first mid last c.in_ok-searched.ensures.later) c.at_end.result
     (c.at_end.ensures ∙ ap (λ (e : SearchEnd). end_answer e.kind) (c.behind-searched.view_is ∙ c.ended.ensures.same)) tt
-    (subst (λ (d : ℕ). (solids : List (List Cell)) → AreFilled s.problem s.ended.solids solids
+    (subst (λ (d : ℕ). (solids : List (List Cell)) → FillSolids s.problem s.ended.solids solids
     → EndsText (TellsAll (search_head limits s) d s.ended.solids solids) (BeginsAll (search_head limits s) d s.ended.solids solids)
     (g.K.Sink.held c.search_telling.new.sink) (g.K.Sink.held c.write_searched.new.sink) (Rose mid last) (Ok tt))
     c.decimals.ensures.decimals c.in_ok-write_searched.ensures.ends)

@@ -3,7 +3,7 @@ use Rattle.std.proofs.Common.{◌≡◌, List, Bool, ℕ, [], ◌++◌, ◌∙�
 use Rattle.std.proofs.lemmas.List.{append-nil}
 use Rattle.std.proofs.lemmas.Result.{err_from_is_err_and}
 use Rattle.recon_run.specs.Answers.{BeginsAll, TellsAll, TellsSolids}
-use Rattle.recon_run.specs.Searched.{AreFilled, search_head}
+use Rattle.recon_run.specs.Searched.{FillSolids, search_head}
 use Rattle.recon_run.proofs.Endings.{keeps_itself}
 use Rattle.recon_run.proofs.TextByText.{ends_after, refused, rose_since}
 use Rattle.solid_model.specs.Blocks.{ProblemParts}
@@ -37,7 +37,7 @@ returns-clause-ends g c solids filled =
     let same : choices ≡ s.ended.solids =
     c.as_slice-solids.ensures.value ∙ ap (λ (e : SearchEnd). e.solids) (c.behind-searched.view_is ∙ c.ended.ensures.same) in
     let of : texts.problem ≡ s.problem = c.in_ok-texts.ensures.0 ∙ c.problem.ensures in
-    let are = subst₂ (λ (q : ProblemParts) (cs : List (List Bool)). AreFilled q cs solids) (sym of) (sym same) filled in
+    let are = subst₂ (λ (q : ProblemParts) (cs : List (List Bool)). FillSolids q cs solids) (sym of) (sym same) filled in
     let first = g.K.Sink.faults c.args.sink.now in let mid = g.K.Sink.faults c.write_text.new.sink in let last = g.K.Sink.faults c.write_solids.new.sink in
     ends_after (TellsSolids texts.decimals 1 choices solids) (TellsAll first_line decimals s.ended.solids solids)
     (λ text. (n : ℕ) × TellsSolids texts.decimals 1 (take n choices) (take n solids) text) (BeginsAll first_line decimals s.ended.solids solids) head

@@ -1,6 +1,6 @@
 -- The text is that of the solid that the choice fills.
 use Rattle.std.proofs.Common.{Bool, List, ℕ, [], ◌∷◌, inr, Err, ap}
-use Rattle.recon_run.specs.Searched.{AreFilled}
+use Rattle.recon_run.specs.Searched.{FillSolids}
 use Rattle.solid_model.specs.declared.cell.Cell.{Cell}
 use Rattle.solid_model.specs.Blocks.{ProblemParts}
 use Rattle.solid_model.specs.Choices.{cells_of_choice}
@@ -11,7 +11,7 @@ use Rattle.stl_out.proofs.SolidTexts.{text_of_union}
 use Rattle.recon_run.proofs.export.write_triangles.Goals as goal
 
 written : (p : ProblemParts) (choice : List Bool) (text : List ℕ) → IsStlOf (coordinates_of p.grid) (cells_of_choice p.blocks.numbers choice) text
-    → (s : List Cell) → AreFilled p (choice ∷ []) (s ∷ []) → IsSolidStl s text
+    → (s : List Cell) → FillSolids p (choice ∷ []) (s ∷ []) → IsSolidStl s text
 written p choice text stl s are =
     text_of_union are.drawing (coordinates_of p.grid) are.grid.coordinates s are.matching.0.0 (cells_of_choice p.blocks.numbers choice) are.filled.1 text stl
 

@@ -5,7 +5,7 @@ use Rattle.std.proofs.lemmas.Option.{slice_get_read}
 use Rattle.std.proofs.lemmas.Result.{err_from_is_err_and}
 use Rattle.replies.specs.declared.status.Answer.{Answer}
 use Rattle.replies.specs.declared.status.Answer.TheVariants as answers
-use Rattle.recon_run.specs.Searched.{AnswersNumbered, AreFilled, writes_of}
+use Rattle.recon_run.specs.Searched.{AnswersNumbered, FillSolids, writes_of}
 use Rattle.recon_run.proofs.Filled.{filled_at, filled_count}
 use Rattle.recon_run.proofs.OneSolid.{numbered, numbered_lacks}
 use Rattle.recon_run.proofs.TextByText.{refused, writing_weaker}
@@ -22,7 +22,7 @@ returns-in_err-write g c solids filled =
     let p = c.problem.result.now in let choices = c.as_slice-solids.result.now in
     let same : choices ≡ c.args.searched.now.ended.solids =
     c.as_slice-solids.ensures.value ∙ ap (λ (e : SearchEnd). e.solids) (c.behind-searched.view_is ∙ c.ended.ensures.same) in
-    let are = subst₂ (λ (q : ProblemParts) (cs : List (List Bool)). AreFilled q cs solids) (sym c.problem.ensures) (sym same) filled in
+    let are = subst₂ (λ (q : ProblemParts) (cs : List (List Bool)). FillSolids q cs solids) (sym c.problem.ensures) (sym same) filled in
     let choice = c.index-solids-place.result in
     let at : slice_get choices (which - 1) ≡ Some choice = slice_get_read choices (length choices) (which - 1) choice refl c.if-place-solids.true c.index-solids-place.is in
     let failed = err_from_is_err_and c.from_residual.result c.from_residual.ensures.1 in
@@ -39,7 +39,7 @@ returns-in_ok-write g c solids filled =
     let p = c.problem.result.now in let choices = c.as_slice-solids.result.now in
     let same : choices ≡ c.args.searched.now.ended.solids =
     c.as_slice-solids.ensures.value ∙ ap (λ (e : SearchEnd). e.solids) (c.behind-searched.view_is ∙ c.ended.ensures.same) in
-    let are = subst₂ (λ (q : ProblemParts) (cs : List (List Bool)). AreFilled q cs solids) (sym c.problem.ensures) (sym same) filled in
+    let are = subst₂ (λ (q : ProblemParts) (cs : List (List Bool)). FillSolids q cs solids) (sym c.problem.ensures) (sym same) filled in
     let choice = c.index-solids-place.result in
     let at : slice_get choices (which - 1) ≡ Some choice = slice_get_read choices (length choices) (which - 1) choice refl c.if-place-solids.true c.index-solids-place.is in
     let (s, there, one) = filled_at p choices solids are (which - 1) choice at in

@@ -1,6 +1,6 @@
 use Rattle.std.proofs.Common.{◌≡◌, List, length, Err, ap, subst}
 use Rattle.recon_run.specs.Answers.{first_volume}
-use Rattle.recon_run.specs.Searched.{AreFilled}
+use Rattle.recon_run.specs.Searched.{FillSolids}
 use Rattle.report.specs.Texts.{trial_text}
 use Rattle.solid_model.specs.declared.cell.Cell.{Cell}
 use Rattle.recon_run.proofs.Trials.{figures_are, made_is_faultless, made_is_short}
@@ -15,7 +15,7 @@ returns g c =
     let searched = c.in_ok-searched.searched in let text = c.in_ok-text.text.items in let found = searched.ended.solids in
     figures_are c.args.n c.in_ok-file.file.items c.in_ok-file.ensures c.in-Ok.problem c.in-Ok.ensures.problem searched.ended.kind
     searched.ended.opened found c.in_ok-searched.ensures.1 text
-    (subst (λ (p : ProblemParts). (solids : List (List Cell)) → AreFilled p found solids
+    (subst (λ (p : ProblemParts). (solids : List (List Cell)) → FillSolids p found solids
     → text ≡ trial_text c.args.n p.blocks.count (length found) searched.ended.opened (first_volume solids)) c.in_ok-searched.ensures.0 c.in_ok-text.ensures)
 
 pub unreachable-requires : goal.unreachable-requires
