@@ -21,8 +21,8 @@ invariant_of-result c =
     (take_rest c.deref-2.result.now place ∙ ap (drop place) c.deref-2.ensures.value) in
     let stands = stands_at_mark text place c.requires within mark in
     elim c.if-starts_with.branch [
-      then-starts_with w ↦ subst (StandsIn text place 1) (sym w.ending-is)
-      (stands _ (binary_ending text place mark (sym says ∙ w.if-starts_with.true)) (λ end is. absurd cc))
-    | else-starts_with w ↦ subst (StandsIn text place 1) (sym w.ending-is)
-      (stands _ (text_ending text place mark (sym says ∙ w.if-starts_with.false)) (λ end is. absurd cc))
+      | then-starts_with w ↦ subst (StandsIn text place 1) (sym w.ending-is)
+          (stands _ (binary_ending text place mark (sym says ∙ w.if-starts_with.true)) (λ end is. absurd cc))
+      | else-starts_with w ↦ subst (StandsIn text place 1) (sym w.ending-is)
+          (stands _ (text_ending text place mark (sym says ∙ w.if-starts_with.false)) (λ end is. absurd cc))
     ]
