@@ -1,4 +1,10 @@
 //! The cells beside a line that may have one value alone, told at a few looks.
+//!
+//! It is proved that each cell which isn't doubted can have either value, and not that these can't.
+//! Beside a Solid line that is one cell of a column at most, the first that may be full; beside a
+//! Dashed one those down to the first depth at which both may be full, and behind it the one at
+//! which the columns can differ, where there is but one; beside a Blank one those that are decided
+//! in the other column. In most lines there is none.
 
 ghost use Rattle.std.specs.Prelude.{◌≡◌, ◌↔◌, ◌<◌, ℕ, true, not, ◌&&◌};
 ghost use Rattle.columns.specs.Doubted.{IsDoubted};

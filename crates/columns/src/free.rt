@@ -1,5 +1,9 @@
 //! Whether the columns beside a line that can be met leave each other free: each undecided cell can
 //! have either value. It is told at a few looks. No says nothing.
+//!
+//! Free is told of both columns together, apart from which cells are doubted: it is asked at each
+//! try of a line, and mostly yes, so it is as short as it can be, and sharper where that costs
+//! nothing in the common case.
 
 ghost use Rattle.std.specs.Prelude.{◌≡◌, ℕ, true, not, ◌&&◌, bit_and};
 ghost use Rattle.columns.specs.Doubted.{AreFree, AreFreeAt, AreFreeBut, CanDrawEmpty};

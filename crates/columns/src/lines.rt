@@ -1,4 +1,9 @@
 //! The lines that can't be met, in the order in which they were found.
+//!
+//! More decisions never mend a line; so the broken lines, in the order in which they were found,
+//! are the trail, and a length for each decision is all that is kept to take it back. They are
+//! listed on past the first: a state that stopped there would need no marks, but would have to look
+//! for the least one at each question.
 
 ghost use Rattle.std.specs.Prelude.{◌≡◌, ◌↔◌, ◌<◌, ◌≤◌, ◌+◌, ◌++◌, ◌∷◌, [], ◌==◌, ℕ, true, false, length, take, All, slice_index_or, slice_set, vec_capacity, IsTrue};
 ghost use Rattle.columns.specs.Lines.{times_listed, AreMarked, IsMetBy, AreFreeBeside, AreBeside, BeginsWith, AreTried, AreFreeAmong, IsLeast, lesser_of};

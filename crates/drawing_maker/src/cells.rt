@@ -1,4 +1,6 @@
 //! Which of the cells between the ticks of a row are full.
+//!
+//! What lies before each tick, a part of a cube or nothing, tells which cells are full.
 
 ghost use Rattle.std.specs.Prelude.{◌≡◌, ◌≤◌, ◌++◌, length, map, drop, IfOk, OnOk};
 ghost use Rattle.std.specs.List.{flat_map};

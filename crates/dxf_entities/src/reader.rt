@@ -1,4 +1,9 @@
 //! The reader that makes lines of a file's pairs. `dxf_groups::Groups` gives the pairs of a text.
+//!
+//! The reader keeps one entry that is open, and what counts of it, of a polyline its vertices so
+//! far; an entity on another layer is passed over from the pair on that says so. The definition
+//! cuts a file into entries; `proofs/Resumes.antt` shows that the reader goes on as the definition
+//! does with what is left.
 
 ghost use Rattle.std.specs.Prelude.{◌≡◌, ◌≤◌, ℕ, List, [], ◌∷◌, Result, Ok, Err, IfOk, OnOk, IsErrOf, true, false, IsTrue};
 ghost use Rattle.solid_model.specs.declared.fault.Fault.{Fault};

@@ -1,4 +1,6 @@
 //! The reader that gives the pairs of a text. The reader of `dxf_entities` makes lines of pairs.
+//!
+//! A pair is read at a place in the text; its value is a span, and nothing is copied.
 
 ghost use Rattle.std.specs.Prelude.{◌≡◌, ◌↔◌, ◌≤◌, length, drop, Some, None, IfSome};
 ghost use Rattle.dxf_groups.specs.Groups.{GroupsState, Gives};

@@ -1,4 +1,7 @@
 //! Numerals, and the whole numbers that they stand for.
+//!
+//! A numeral's digits are moved by its exponent and the decimals: no number can wrap, and nothing
+//! loops over an exponent's value.
 
 ghost use Rattle.std.specs.Prelude.{◌≡◌, ◌↔◌, ◌≤◌, IfOk, ℕ, ◌*◌, ◌^◌, ℤ, pos, ◌+ℤ◌, Option, option_map, true, false, IsTrue};
 ghost use Rattle.std.specs.Str.Parse.{AllDigits, digits_value, digits_value_after, starts_with_minus, without_leading_sign};

@@ -1,4 +1,7 @@
 //! Pairs of a group code and a value.
+//!
+//! A pair carries beside its line number that this is at most 134,217,728, so that the line of its
+//! value can be told.
 
 ghost use Rattle.std.specs.Prelude.{◌≤◌};
 

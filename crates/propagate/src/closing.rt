@@ -1,4 +1,11 @@
 //! All that is forced.
+//!
+//! What is to be done is the list of decisions itself: of the lines that touch the block of each,
+//! in order, those that may exclude a value, as was told when it was taken, are looked at once for
+//! it; each takes at most one decision, which stands at the end of the list, so that the line comes
+//! again if it may exclude more. So closing keeps no set of lines and takes no memory. `close`
+//! looks at all lines first; `decide_closed` takes a decision and begins at it, where the lines
+//! exclude nothing under those before.
 
 ghost use Rattle.std.specs.Prelude.{◌≡◌, ◌<◌, ◌≤◌, ◌+◌, ◌++◌, ◌∷◌, [], ℕ, Some, None, length, slice_get, slice_index_or, IfSome, IsTrue};
 ghost use Rattle.propagate.specs.Closing.{Grows, TellsClosed, IsHandled};

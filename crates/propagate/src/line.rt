@@ -1,4 +1,9 @@
 //! What a line forces.
+//!
+//! Which values two columns exclude of each other has a formula for each style, but what is to be
+//! found among them is the least block, and full where both values are excluded. So a few cells are
+//! doubted, and each of these alone is tried with either value, by the test that tells whether a
+//! line can be met; the block is asked for only where a value is excluded.
 
 ghost use Rattle.std.specs.Prelude.{◌≡◌, ◌<◌, ℕ, pos, true, None, IsTrue};
 ghost use Rattle.solid_model.specs.Known.{LiesWithin};

@@ -1,4 +1,7 @@
 //! The laws that join the writer of files to the reader: what is written reads back.
+//!
+//! In a crate of their own, so that the writer doesn't stand on the reader, nor the reader on the
+//! writer.
 #![tactic(auto)]
 
 mod laws;

@@ -1,4 +1,6 @@
 //! Who works at a search.
+//!
+//! The runtime, how many, and the gate are one value, whose type keeps that there are 1 to 64.
 
 ghost use Rattle.words.specs.Jobs.{AreWorkers};
 

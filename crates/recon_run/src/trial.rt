@@ -1,4 +1,7 @@
 //! Files that are made from a number, and trials of the program on them.
+//!
+//! Where the file is read, the case of a fault is one that isn't reached
+//! (`made_files_have_no_fault`).
 
 ghost use Rattle.std.specs.Prelude.{◌≡◌, List, length, IfOk};
 ghost use Rattle.drawing_maker.specs.Made.{made_solid};

@@ -1,4 +1,7 @@
 //! The written file of a solid that is made of grid cells.
+//!
+//! `dxf_of` takes any list of cells, on no condition; what it promises, it promises of each solid
+//! that is the union of the chosen ones.
 
 ghost use Rattle.std.specs.Prelude.{◌≡◌, ◌≤◌, ◌++◌, ◌+ℤ◌, List, pos, IfOk, OnOk};
 ghost use Rattle.std.specs.List.{flat_map};

@@ -1,4 +1,7 @@
 //! The runs of three views, and how far they reach.
+//!
+//! How far the solid reaches along x and z is where the last upright and the last level run of the
+//! front view stand (`proofs/FarEnds.antt`: an outermost full cell draws an outermost edge).
 
 ghost use Rattle.std.specs.Prelude.{◌≡◌, Bool, IfOk};
 ghost use Rattle.solid_model.specs.declared.frame.View.{View};

@@ -1,4 +1,7 @@
 //! The search of a problem by the calling thread alone.
+//!
+//! The caller goes on at a new desk until that has ended, and then the same end finds nothing
+//! missing: so there is one body, and one proof, of what an answer rests on.
 
 ghost use Rattle.std.specs.Prelude.{◌≡◌, IfOk, MatchResult};
 ghost use Rattle.std.specs.Arc.{arc_value};

@@ -1,4 +1,9 @@
 //! The end of a search, at which several may have worked.
+//!
+//! The caller compares the desk's problem and limits with its own, makes the events that are
+//! missing, by a way of its own where there are any, hands out what was found and not yet handed
+//! out, and lists what was handed out in the stated order. A worker that did nothing, or that
+//! couldn't be started, costs time and no answer.
 
 ghost use Rattle.std.specs.Prelude.{◌≡◌, ◌≤◌, ◌++◌, ℕ, List, Option, Some, length, IsTrue, IfOk, IfSome, OnOk, IsPermutation, MatchResult};
 ghost use Rattle.std.specs.Arc.{arc_value};

@@ -1,4 +1,7 @@
 //! A desk, and the calling thread that works at it alone.
+//!
+//! 64 live prefixes are opened before a report: fewer cost more reports, more make a search of few
+//! nodes one report, which could not be shared.
 
 ghost use Rattle.std.specs.Prelude.{◌≡◌, ◌<◌, None, Some, [], IfOk, OnOk};
 ghost use Rattle.std.specs.Arc.{arc_value};

@@ -1,4 +1,8 @@
 //! What is left to be handed out at the end.
+//!
+//! What is left is what follows in the desk's list, where that begins with what was handed out, as
+//! it does where that came out of the desk's own book; which is tried, choice by choice. Else each
+//! choice that was found is looked up among those that were handed out.
 
 ghost use Rattle.std.specs.Prelude.{◌≡◌, ◌≢◌, ◌↔◌, ◌++◌, Bool, List, take, IsTrue, IfOk};
 ghost use Rattle.std.specs.List.{list_any};

@@ -1,4 +1,9 @@
 //! Where pages go.
+//!
+//! Page after page is told for every list of calls before: each inner call says that if such pages
+//! were added since any earlier list of calls, one more is after it; so the calls chain with
+//! nothing kept beside them. A page that is refused counts among the calls, or leaves no trace, as
+//! its taker decides; want of memory in a taker is the search's.
 
 ghost use Rattle.std.specs.Prelude.{◌≡◌, ◌∷◌, [], None, List, Option, ℕ, true, false, OnOk, OnErr};
 ghost use Rattle.search_end.specs.Pages.{Call, AddsCalls, CountsFaults, MayAddCall};

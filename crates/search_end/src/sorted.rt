@@ -1,4 +1,7 @@
 //! Choices are put into the stated order.
+//!
+//! A sort takes an order of all lists of truth values, so the shorter one comes first, though the
+//! choices of a problem are equally long.
 
 ghost use Rattle.std.specs.Prelude.{◌≡◌, ◌≢◌, ℕ, length, IsPermutation};
 ghost use Rattle.solid_model.specs.Choices.{ChoicePrecedes};

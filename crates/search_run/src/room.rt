@@ -1,4 +1,9 @@
 //! Where the workers of a search meet: the lock, and where they wait for a change.
+//!
+//! The lock is tried a thousand times before a thread sleeps for it, with another thread let run
+//! after each: the toolchain's lock looks a hundred times in a row and then sleeps, a report holds
+//! it for a few microseconds, and who sleeps wakes up later than that, by a call of the thread that
+//! leaves it.
 
 use crate::shared::{Answered, Shared};
 use search_core::{Desk, ReadyReport};

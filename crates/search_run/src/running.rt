@@ -1,4 +1,7 @@
 //! The search of a problem by several workers.
+//!
+//! `run_search` doesn't close its pool: what is left in it is in the desk's frontier too, and the
+//! caller expands it from there.
 
 ghost use Rattle.std.specs.Prelude.{◌≡◌, ◌≤◌, IfOk, MatchResult};
 ghost use Rattle.std.specs.Arc.{arc_value};

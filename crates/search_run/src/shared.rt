@@ -1,4 +1,9 @@
 //! What the workers of a search share, under their lock.
+//!
+//! The caller is woken for solids once in 64 reports at most, and at the end, since to wake it
+//! takes as long as some reports; the first solid wakes it at once. A page comes some milliseconds
+//! later, and has more solids. Two places to wait at one lock, for a change and for solids, so that
+//! a report that finds none wakes no caller.
 
 use search_core::{Desk, ReadyReport, Reported};
 use solid_model::{Memory, Prefix};

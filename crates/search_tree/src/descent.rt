@@ -1,5 +1,12 @@
 //! Steps down the tree of a problem's prefixes, and back: with each live prefix what follows from it is
 //! decided.
+//!
+//! A value that is decided already tells at once whether the next prefix is live; another one is
+//! decided and closed; where that ends in a conflict the prefix is dead, and all is taken back. For
+//! each live prefix on the way a mark says how many decisions there were before its last value, so
+//! going up takes back to the mark. Its decisions at a live prefix are no forcing chain from it:
+//! what an earlier one forced stands before the later values. So what is kept is that the prefix
+//! implies them (`IsImplied`), and that they leave nothing excluded and every line able to be met.
 
 ghost use Rattle.std.specs.Prelude.{◌≡◌, ◌∷◌, [], ◌++◌, Bool, List, true, false, ◌+◌, ◌-◌, ◌<◌, ◌≤◌, length, take, vec_capacity};
 ghost use Rattle.search_tree.specs.BlockPaths.{IsClosure, AreMarks};

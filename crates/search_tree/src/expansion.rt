@@ -1,4 +1,8 @@
 //! The expansion of a piece.
+//!
+//! The list of a rest takes its room at once. Grown step by step, it went on in whatever part of
+//! the C library's memory its first small piece came from; where that was the main thread's, all
+//! workers met at that part's lock.
 
 ghost use Rattle.std.specs.Prelude.{◌≡◌, ◌≤◌, false, length, IsTrue, IfOk, IfSome, MatchOption};
 ghost use Rattle.std.specs.Arc.{arc_value};

@@ -1,4 +1,8 @@
 //! The way to a piece.
+//!
+//! `expand_from` takes a way that goes down the tree of the problem's prefixes (`IsWayOf`),
+//! wherever it stands, and goes up no farther than where the piece parts from it; so a search makes
+//! one `Partial`.
 
 ghost use Rattle.std.specs.Prelude.{◌≡◌, ◌≤◌, length, take};
 ghost use Rattle.solid_model.specs.Forcing.{is_live};

@@ -1,4 +1,7 @@
 //! Ways down the tree of prefixes.
+//!
+//! A path is a trait: what is proved of the walk holds for every word live, and for every partial
+//! state to come.
 
 ghost use Rattle.std.specs.Prelude.{◌≡◌, Bool, List, [], ◌∷◌, ◌++◌, ℕ, ◌<◌, length, IfOk, MatchOption};
 ghost use Rattle.solid_model.specs.Tree.{IsTree};

@@ -1,4 +1,7 @@
 //! The seat that owns a deque: it puts pieces in, and takes them out again.
+//!
+//! At most 16,384 pieces wait in a deque, some 2 MB: its owner puts in what others are to take, and
+//! what comes back it keeps.
 
 ghost use Rattle.std.specs.Prelude.{◌≡◌, ◌<◌, ◌≤◌, ◌+◌, ◌-◌, ◌++◌, ◌∷◌, [], ℕ, length, vec_len, vec_capacity, IfOk, MatchOption, MatchResult};
 ghost use Rattle.crossbeam_deque.specs.Handles.{stealer_deque};

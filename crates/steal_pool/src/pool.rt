@@ -1,4 +1,8 @@
 //! The pool: how it is opened and closed.
+//!
+//! A pool keeps a handle of each deque, by which its seats are told from another pool's. `Memory`
+//! of `open` stands also for a room above 2^39, for which no deque is made. It grows by one
+//! worker's seat at a time, which meets all earlier ones, and is closed from the last one on.
 
 ghost use Rattle.std.specs.Prelude.{◌≡◌, ◌<◌, ◌≤◌, ◌+◌, ◌++◌, List, ℕ, length, map, vec_len, vec_capacity, IfOk, OnOk, MatchResult};
 ghost use Rattle.crossbeam_deque.specs.Handles.{stealer_deque};

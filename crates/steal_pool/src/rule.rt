@@ -1,4 +1,11 @@
 //! What each pass of a deque knows, and the rule that ties it to the pieces in the deque.
+//!
+//! 64 parts are dealt out among a deque's passes: a call learns what the sums of a deque are only
+//! where it knows that no other pass is at work there, which who has all parts does. A thief has
+//! one, the owner the rest, and joining gives them back. Beside the sums the rule keeps the order
+//! of what was put, so that an owner who took the last piece would break it. A count is a step too:
+//! before `close` takes a piece it counts those in the deque, which changes nothing, and learns the
+//! sums.
 
 ghost use Rattle.std.specs.Prelude.{◌≡◌, ◌+◌, ◌-◌, [], ◌++◌};
 ghost use Rattle.steal_pool.specs.Accounts.{account, Balanced, Held, WasFirst, IsSettled};

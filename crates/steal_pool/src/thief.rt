@@ -1,4 +1,6 @@
 //! A seat that steals from another worker's deque.
+//!
+//! `steal` alone takes the runtime, since it tries again where others were quicker.
 
 ghost use Rattle.std.specs.Prelude.{◌≡◌, ◌++◌, ◌∷◌, [], MatchOption};
 ghost use Rattle.steal_pool.specs.Accounts.{Held, WasFirst};
