@@ -39,12 +39,13 @@ fn page_new<B: Wait + Drop, G: Gate, P: PageOut>(
 ) -> Result<bool, RunFault>
     requires read { IsReadUpTo (arc_value search.now.problem.now) reader.old handed.old.choices }
     requires few { length handed.old.choices ≤ search.now.limits.solids }
-    ensures read { OnOk result (IsReadUpTo (arc_value search.now.problem.now) reader.new handed.new.choices) }
+    ensures read { OnOk result
+        (IsReadUpTo (arc_value search.now.problem.now) reader.new handed.new.choices) }
     ensures few { OnOk result (length handed.new.choices ≤ search.now.limits.solids) }
     ensures out { MatchResult result
         (λ _. HandsOn (P.calls pages.old) handed.old (P.calls pages.new) handed.new)
-        (λ _. BreaksOff (arc_value search.now.problem.now) search.now.limits.solids (P.calls pages.old) handed.old
-        (P.calls pages.new)) }
+        (λ _. BreaksOff (arc_value search.now.problem.now) search.now.limits.solids
+        (P.calls pages.old) handed.old (P.calls pages.new)) }
     ensures faults { CountsFaults (P.faults pages.old) (P.faults pages.new) result
         RunFault.PageFault }
 {
@@ -75,8 +76,8 @@ fn page_on<B: Wait + Drop, R: Wait, G: Gate, P: PageOut>(
 ) -> Result<Handed, RunFault>
     requires read { IsReadUpTo (arc_value search.now.problem.now) reader handed.choices }
     requires few { length handed.choices ≤ search.now.limits.solids }
-    ensures paged { PagesOn (arc_value search.now.problem.now) search.now.limits.solids (P.calls pages.old) handed
-        (P.calls pages.new) result }
+    ensures paged { PagesOn (arc_value search.now.problem.now) search.now.limits.solids
+        (P.calls pages.old) handed (P.calls pages.new) result }
     ensures faults { CountsFaults (P.faults pages.old) (P.faults pages.new) result
         RunFault.PageFault }
 {
@@ -109,8 +110,8 @@ fn page_all<B: Wait + Drop, R: Wait, G: Gate, P: PageOut>(
     reader: BookReader<B>,
     pages: &mut P,
 ) -> Result<Handed, RunFault>
-    ensures paged { PagesOn (arc_value search.now.problem.now) search.now.limits.solids (P.calls pages.old)
-        record { choices = []; pages = 0 } (P.calls pages.new) result }
+    ensures paged { PagesOn (arc_value search.now.problem.now) search.now.limits.solids
+        (P.calls pages.old) record { choices = []; pages = 0 } (P.calls pages.new) result }
     ensures faults { CountsFaults (P.faults pages.old) (P.faults pages.new) result
         RunFault.PageFault }
 {
@@ -135,8 +136,8 @@ pub fn search_together<'a, 's, R: Threads + Wait + Sync, G: Gate, P: PageOut>(
     pages: &mut P,
 ) -> Result<Handed, RunFault>
     requires way { IsWayOf (arc_value search.now.problem.now) path }
-    ensures paged { PagesOn (arc_value search.now.problem.now) search.now.limits.solids (P.calls pages.old)
-        record { choices = []; pages = 0 } (P.calls pages.new) result }
+    ensures paged { PagesOn (arc_value search.now.problem.now) search.now.limits.solids
+        (P.calls pages.old) record { choices = []; pages = 0 } (P.calls pages.new) result }
     ensures faults { CountsFaults (P.faults pages.old) (P.faults pages.new) result
         RunFault.PageFault }
 {
@@ -148,9 +149,9 @@ pub fn search_together<'a, 's, R: Threads + Wait + Sync, G: Gate, P: PageOut>(
         move |scope| -> (&mut P, Result<Handed, RunFault>)
             requires way { IsWayOf (arc_value search.now.problem.now) path }
             ensures same { result.0.ghost_name ≡ lent.entry.ghost_name }
-            ensures paged { PagesOn (arc_value search.entry.now.problem.now) search.entry.now.limits.solids
-                (P.calls lent.entry.now) record { choices = []; pages = 0 }
-                (P.calls result.0.now) result.1 }
+            ensures paged { PagesOn (arc_value search.entry.now.problem.now)
+                search.entry.now.limits.solids (P.calls lent.entry.now)
+                record { choices = []; pages = 0 } (P.calls result.0.now) result.1 }
             ensures faults { CountsFaults (P.faults lent.entry.now) (P.faults result.0.now) result.1
                 RunFault.PageFault }
         {
