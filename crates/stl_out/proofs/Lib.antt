@@ -10,5 +10,6 @@ pub mod WrittenPieces
 pub mod Texts
 pub mod SomeRectangles
 pub mod SolidTexts
+pub mod SolidSurfaces
 pub mod Mapped
 pub mod CornerNumbers

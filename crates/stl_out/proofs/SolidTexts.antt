@@ -49,7 +49,7 @@ module _ (drawing : Segment → Style) (coordinates : Coordinates) (are : (a : A
       let same : drawing ≡ solid_drawing s = λ i g. sym (matching_draws_it drawing s matches g) i in
       subst (λ (d : Segment → Style). AreGridCoordinates d a (coordinates a)) same (are a)
 
-  same_cells : grid_fullness coordinates (is_full s) ≡ numbered_fullness coordinates chosen
+  pub same_cells : grid_fullness coordinates (is_full s) ≡ numbered_fullness coordinates chosen
   same_cells = union_fullness coordinates (λ a. (are a).ordered) chosen (is_full s) union
 
   -- the text of the grid cells that a solid fills is its text

@@ -1,36 +1,30 @@
 //! The laws of the triangles of a solid's boundary. Each is the contract of a function that does
 //! nothing.
 
-ghost use Rattle.std.specs.Prelude.{◌≡◌, Bool, true, List, [], ◌∷◌, ◌++◌, ℕ, ℤ, codes, IsTrue, if◌then◌else◌};
-ghost use Rattle.std.specs.List.{count_by};
+ghost use Rattle.std.specs.Prelude.{◌≡◌, Bool, true, List, [], ◌∷◌, ◌++◌, ℕ, codes, IsTrue};
 ghost use Rattle.face_laws.specs.GridFaces.{Planes, AreCellsOf, numbered_fullness};
 ghost use Rattle.face_laws.specs.GridRounds.{Rises};
 ghost use Rattle.solid_model.specs.declared.cell.Axis.{Axis};
 ghost use Rattle.solid_model.specs.declared.cell.Cell.{Cell};
-ghost use Rattle.solid_model.specs.declared.face.Out.{Out};
 ghost use Rattle.solid_model.specs.declared.segment.Segment.{Segment};
 ghost use Rattle.solid_model.specs.declared.segment.Style.{Style};
-ghost use Rattle.solid_model.specs.Cells.{is_full};
-ghost use Rattle.solid_model.specs.Faces.{is_boundary};
+ghost use Rattle.solid_model.specs.Cells.{is_full, IsSolid};
 ghost use Rattle.solid_model.specs.Grid.{Coordinates, AreGridCoordinates, IsUnionOf};
 ghost use Rattle.solid_model.specs.Lists.{Member};
 ghost use Rattle.solid_model.specs.Matching.{Matches};
-ghost use Rattle.solid_model.specs.Rounds.{Spot};
 ghost use Rattle.stl_out.specs.declared.rectangle.Rectangle.{Rectangle};
-ghost use Rattle.stl_out.specs.Closed.{DirectedEdge, reverse, occurrences, has_unit_square};
+ghost use Rattle.stl_out.specs.Closed.{Close, CoverBoundary};
 ghost use Rattle.stl_out.specs.Rectangles.{AreRectanglesOf, all_triangles, AreTrianglesOf};
 ghost use Rattle.stl_out.specs.SmallStl.{brick_coordinates, brick_triangles, first_triangle};
 ghost use Rattle.stl_out.specs.SolidStl.{IsSolidStl};
-ghost use Rattle.stl_out.specs.StlText.{facet_text, IsStlOf};
+ghost use Rattle.stl_out.specs.StlText.{facet_text, stl_text, IsStlOf};
 
 /// The triangles close: each directed edge occurs in them as often as its reverse, also where two
 /// parts of the solid touch along an edge alone.
 pub fn triangles_close()
     ensures { (planes : Planes) (full : Cell → Bool) (list : List Cell)
         → ((n : Cell) → IsTrue (full n) → Member list n)
-        → (rs : List Rectangle) → AreRectanglesOf full rs → (e : DirectedEdge)
-        → occurrences e (all_triangles planes rs)
-        ≡ occurrences (reverse e) (all_triangles planes rs) }
+        → (rs : List Rectangle) → AreRectanglesOf full rs → Close (all_triangles planes rs) }
 {}
 
 /// The rectangles cover the boundary: each unit square, with its outward side, lies in one of them
@@ -38,8 +32,15 @@ pub fn triangles_close()
 pub fn rectangles_cover_the_boundary()
     ensures { (planes : Planes) → ((a : Axis) → Rises (planes a))
         → (numbered full : Cell → Bool) → AreCellsOf planes numbered full
-        → (rs : List Rectangle) → AreRectanglesOf numbered rs → (out : Out) (at : ℤ) (p : Spot)
-        → count_by (has_unit_square planes out at p) rs ≡ (if is_boundary full out at p then 1 else 0) }
+        → (rs : List Rectangle) → AreRectanglesOf numbered rs → CoverBoundary planes full rs }
+{}
+
+/// What is called the text of a solid is that of the triangles of rectangles: the triangles close, and the
+/// rectangles cover just the solid's boundary. Each matching solid is one.
+pub fn stl_texts_close_and_cover()
+    ensures { (s : List Cell) → IsSolid s → (text : List ℕ) → IsSolidStl s text
+        → (planes : Planes) × (rs : List Rectangle) × (text ≡ stl_text (all_triangles planes rs))
+        × Close (all_triangles planes rs) × CoverBoundary planes (is_full s) rs }
 {}
 
 /// A solid has one list of boundary rectangles, and the chosen cells of a grid have one.

@@ -15,7 +15,7 @@ mod write;
 
 pub use laws::{
     one_list_of_rectangles, one_stl_of_a_solid, rectangles_cover_the_boundary, small_stl,
-    triangles_close,
+    stl_texts_close_and_cover, triangles_close,
 };
 pub use rectangle::Rectangle;
 pub use surface::triangles;
