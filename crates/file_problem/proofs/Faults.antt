@@ -1,11 +1,12 @@
 -- When an input has a fault, and when it has none.
 use Rattle.std.proofs.Common.{◌≡◌, refl, inl, inr, ◌≤◌, List, length, Result, Ok, Err, sym, subst, ap, ◌∙◌, arith}
 use Rattle.dxf_entities.specs.Reading.{read_of}
+use Rattle.dxf_entities.proofs.TextFaults.{reads_are_not_long}
 use Rattle.file_problem.specs.Inputs.{HasFineAxis, Input, IsFaultAfter, IsFileFault, HasNoFault, HasProblem}
 use Rattle.file_problem.proofs.Grids.{one_too_fine, none_too_fine, one_grid, coordinates_from_grid}
 use Rattle.file_problem.proofs.Problems.{one_block_count}
 use Rattle.solid_model.specs.declared.fault.Fault.{Fault}
-use Rattle.solid_model.specs.declared.fault.Fault.TheVariants.{EmptyView, TooFine, TooManyBlocks}
+use Rattle.solid_model.specs.declared.fault.Fault.TheVariants.{EmptyView, TooFine, TooLong, TooManyBlocks}
 use Rattle.solid_model.specs.declared.frame.View.{View}
 use Rattle.solid_model.specs.declared.frame.View.TheVariants.{Front, Top, Side}
 use Rattle.solid_model.specs.Blocks.{ProblemParts}
@@ -84,3 +85,18 @@ no_fault {t} {p} has f (inr read) = by (subst (λ r. IsFaultAfter r f) has.reads
         let same = one_grid (drawing_of has.lines) other p.grid is_other has.grid in
         let counted = (one_block_count other p.grid same others p.blocks.numbers many p.blocks.count are has.blocks.blocks).1 in
         let few = has.few in omega (arith, above)
+
+-- no fault of lines is that their file is too long,
+lines_are_not_long : (ls : List Line) → IsFaultAfter (Ok ls) TooLong → ⊥
+lines_are_not_long ls (inl (v, empty, is)) = cc
+lines_are_not_long ls (inr (inl (shown, a, count, fine, is))) = cc
+lines_are_not_long ls (inr (inr (shown, g, grid, count, many, is))) = cc
+
+-- nor is it one of an input that isn't
+pub short_is_not_long : (t : Input) → length t.bytes ≤ t.most → IsFileFault t TooLong → ⊥
+short_is_not_long t short (inl long) = absurd (omega (arith, long.0))
+short_is_not_long t short (inr read) = by (read_of t.decimals t.bytes) refl read.1
+  where
+    by : (r : Result (List Line) Fault) → read_of t.decimals t.bytes ≡ r → IsFaultAfter r TooLong → ⊥
+    by (Err found) is after = reads_are_not_long t.decimals t.bytes (is ∙ ap Err (sym after))
+    by (Ok ls) is after = lines_are_not_long ls after

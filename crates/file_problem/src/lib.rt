@@ -3,4 +3,4 @@
 
 mod problem;
 
-pub use problem::problem_of;
+pub use problem::{problem_and_rest, problem_of};

@@ -2,14 +2,16 @@
 //! lines that it keeps, their drawing in three views, the drawing's grid, the grid's pseudo wire
 //! frame, virtual faces and blocks.
 
-ghost use Rattle.std.specs.Prelude.{◌≡◌, ◌⊎◌, ◌≤◌, ℕ, length, Ok, Err, IfOk, OnOk, IsErrOf};
-ghost use Rattle.dxf_entities.specs.Reading.{read_of};
+ghost use Rattle.std.specs.Prelude.{◌≡◌, ◌⊎◌, ◌≤◌, ℕ, length, drop, Some, Ok, IfOk, OnOk, IsErrOf};
+ghost use Rattle.dxf_groups.specs.Groups.{IsReadThrough};
+ghost use Rattle.dxf_groups.specs.Pairs.{pairs_of, rest_of};
 ghost use Rattle.file_problem.specs.Inputs.{HasEmptyView, HasFineAxis, HasProblem, Input, IsFaultAfter, IsFileFault};
 ghost use Rattle.solid_model.specs.declared.fault.Fault.{Fault};
+ghost use Rattle.solid_model.specs.declared.fault.Fault.TheVariants.{TooLong};
 ghost use Rattle.solid_model.specs.declared.fault.Refused.TheVariants as refused;
 ghost use Rattle.solid_model.specs.Blocks.{HasTooManyBlocks, IsBlocksOf};
 ghost use Rattle.solid_model.specs.Drawings.{drawing_of, IsShown};
-ghost use Rattle.solid_model.specs.Limits.{most_blocks, most_decimals, most_file_bytes};
+ghost use Rattle.solid_model.specs.Limits.{most_blocks, most_decimals, most_file_bytes, most_text_bytes};
 ghost use Rattle.solid_model.specs.Panels.{IsGridOf};
 
 use blocks::blocks_of;
@@ -21,17 +23,6 @@ use solid_model::{Blocks, Grid, Problem, Refused, SheetLine};
 use std::alloc::Global;
 use views::drawing;
 use virtual_faces::faces_of;
-
-/// The lines that a file keeps.
-fn lines_of(alloc: Global, file: Vec<u8>, decimals: u8) -> Result<Vec<SheetLine>, Refused>
-    requires short { length file.items ≤ most_file_bytes }
-    requires decimals { decimals ≤ most_decimals }
-    ensures lines { IfOk result (λ lines. read_of decimals file.items ≡ Ok lines.items) }
-    ensures fault { (fault : Fault) → IsErrOf result (refused.Fault fault)
-        → read_of decimals file.items ≡ Err fault }
-{
-    entities(alloc, &mut Groups::new(file), decimals)
-}
 
 /// The grid of the drawing of lines.
 fn grid_of_lines(alloc: Global, lines: &[SheetLine]) -> Result<Grid, Refused>
@@ -70,6 +61,22 @@ fn problem_of_lines(alloc: Global, lines: &[SheetLine]) -> Result<Problem, Refus
     Ok(Problem::new(grid, blocks))
 }
 
+/// The grid and the blocks of the drawing of a reader's text, whose coordinates have so many decimals;
+/// or the text's first fault.
+fn read(alloc: Global, groups: &mut Groups, decimals: u8) -> Result<Problem, Refused>
+    requires fresh { groups.old.left ≡ pairs_of groups.old.text }
+    requires decimals { decimals ≤ most_decimals }
+    ensures problem { (most : ℕ) → length groups.old.text ≤ most → IfOk result (λ problem. HasProblem
+        (record { bytes = groups.old.text; decimals = decimals; most = most }) problem) }
+    ensures fault { (most : ℕ) → length groups.old.text ≤ most
+        → (fault : Fault) → IsErrOf result (refused.Fault fault)
+        → IsFileFault (record { bytes = groups.old.text; decimals = decimals; most = most }) fault }
+    ensures through { OnOk result (IsReadThrough groups.old groups.new) }
+{
+    let lines = entities(alloc, groups, decimals)?;
+    problem_of_lines(alloc, lines.as_slice())
+}
+
 /// The grid and the blocks of the drawing of a file whose coordinates have so many decimals, or the
 /// file's first fault; Memory comes when out of memory. The file has at most 16,777,216 bytes, and
 /// there are at most 6 decimals.
@@ -82,6 +89,36 @@ pub fn problem_of(alloc: Global, file: Vec<u8>, decimals: u8) -> Result<Problem,
         → IsFileFault
         (record { bytes = file.items; decimals = decimals; most = most_file_bytes }) fault }
 {
-    let lines = lines_of(alloc, file, decimals)?;
-    problem_of_lines(alloc, lines.as_slice())
+    read(alloc, &mut Groups::new(file), decimals)
+}
+
+/// The bytes from a place of a text on. They are moved to its front, and no memory is taken.
+fn bytes_from(text: Vec<u8>, place: usize) -> Vec<u8>
+    requires { place ≤ length text.items }
+    ensures { result.items ≡ drop place text.items }
+{
+    let mut bytes = text;
+    let len = bytes.len() - place;
+    bytes.copy_within(place.., 0);
+    bytes.truncate(len);
+    bytes
+}
+
+/// The grid and the blocks of the drawing of a text whose coordinates have no decimals, and the bytes
+/// behind the line of its end pair's value; or the text's first fault, which is never that it is too
+/// long. The text has at most 134,217,728 bytes. Memory comes when out of memory.
+pub fn problem_and_rest(alloc: Global, text: Vec<u8>) -> Result<(Problem, Vec<u8>), Refused>
+    requires { length text.items ≤ most_text_bytes }
+    ensures problem { IfOk result (λ found. HasProblem
+        (record { bytes = text.items; decimals = 0; most = most_text_bytes }) found.0) }
+    ensures rest { IfOk result (λ found. rest_of text.items ≡ Some found.1.items) }
+    ensures fault { (fault : Fault) → IsErrOf result (refused.Fault fault)
+        → IsFileFault (record { bytes = text.items; decimals = 0; most = most_text_bytes }) fault }
+    ensures not_long { IsErrOf result (refused.Fault TooLong) → ⊥ }
+{
+    let mut groups = Groups::new(text);
+    let problem = read(alloc, &mut groups, 0)?;
+    let place = groups.after_end().unwrap();
+    let rest = bytes_from(groups.into_text(), place);
+    Ok((problem, rest))
 }
