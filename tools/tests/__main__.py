@@ -5,7 +5,7 @@ import unittest
 from collections import Counter
 
 # What takes minutes, and is run by `--long`.
-LONG = ("test_random", "test_table", "test_techdraw")
+LONG = ("test_judge", "test_random", "test_table", "test_techdraw", "test_why")
 
 
 def main(words: list[str]) -> int:
