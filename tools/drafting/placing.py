@@ -259,11 +259,11 @@ def ways_of(groups: Sequence[Group], hints: Hints) -> Iterator[Way]:
                     yield way
 
 
-def stretches_of(group: Group, axis: int, is_turned: bool = False) -> list[float]:
+def stretches_of(group: Group, axis: int, tolerance: float, is_turned: bool = False) -> list[float]:
     """The ends of the stretches along an axis that the lines of a group cover, from its least one on, or turned round."""
     ends: list[float] = []
     for low, high in sorted((box[axis], box[axis + 2]) for box in (run.box() for run in group.runs)):
-        if ends and low <= ends[-1] + 1e-9:
+        if ends and low <= ends[-1] + tolerance:
             ends[-1] = max(ends[-1], high)
         else:
             ends += [low, high]
@@ -274,8 +274,9 @@ def stretches_of(group: Group, axis: int, is_turned: bool = False) -> list[float
 def covers_alike(way: Way, tolerance: float) -> bool:
     """Whether two views that show the same axis cover the same stretches of it, as views of one part do even where it is in pieces."""
     pairs = [
-        (stretches_of(way.front, 0), stretches_of(way.top, 0)), (stretches_of(way.front, 1), stretches_of(way.side, 1)),
-        (stretches_of(way.top, 1), stretches_of(way.side, 0, way.is_left())),
+        (stretches_of(way.front, 0, tolerance), stretches_of(way.top, 0, tolerance)),
+        (stretches_of(way.front, 1, tolerance), stretches_of(way.side, 1, tolerance)),
+        (stretches_of(way.top, 1, tolerance), stretches_of(way.side, 0, tolerance, way.is_left())),
     ]
     return all(len(one) == len(other) and all(abs(a - b) <= 3 * tolerance for a, b in zip(one, other)) for one, other in pairs)
 
@@ -349,10 +350,9 @@ def beside(groups: Sequence[Group], others: Sequence[Group], used: Sequence[Grou
 def no_way(groups: Sequence[Group], chosen: Sequence[Group], count: int, hints: Hints) -> str:
     """The refusal of groups that can be taken in no way or in several, with what was seen."""
     seen = [f"group {number}: {group}, first {group.runs[0].edge.source}" for number, group in enumerate(groups[:12], 1)]
-    ways = f"{count} ways" if count else "no way"
+    ways = f"there are {count} ways" if count else "there is no way"
     angle = f" in {hints.angle} angle" if hints.angle else ""
-    text = f"there is {ways} to take three of these as FRONT, TOP and SIDE{angle}"
-    text = text.replace("is 0", "is no").replace("there is 2", "there are 2") if count else text
+    text = f"{ways} to take three of these as FRONT, TOP and SIDE{angle}"
     near = nearly(chosen, hints) if not count else ""
     return "\n  ".join([text + (f": {near}" if near else ""), *seen, *(["and more"] if len(groups) > 12 else [])])
 

@@ -1,6 +1,6 @@
 """Says how many solids have the views of a drawing, in words: a drawing of three layers as recon reads it, or any sheet that `draft
 sheet` can draw for it. Standard output says how many there are and of each its size and volume in the drawing's unit; --answer saves
-what recon wrote. Standard error says what was changed, left out or not read. The status is recon's: 0 where the list is whole, 1 at a
+what recon wrote, where the list is whole. Standard error says what was changed, left out or not read. The status is recon's: 0 where the list is whole, 1 at a
 fault, 3 and 4 where a limit cut it.
 """
 import argparse
@@ -52,8 +52,10 @@ def run(arguments: argparse.Namespace) -> int:
         for text in faults.told(head, asked.lines):
             say(f"draft solve: {text}")
         return asked.run.status
-    if arguments.answer:
+    if arguments.answer and asked.run.status == program.WHOLE:
         write_result(asked.run.text, arguments.answer)
+    elif arguments.answer:
+        say(f"draft solve: {arguments.answer} isn't written, since the list isn't whole")
     if asked.origin.mirrored and arguments.answer:
         say(f"draft solve: {arguments.answer} has the solids in a mirror, x turned round, as recon read them")
     write_result("".join(f"{row}\n" for row in told(asked, max(0, arguments.list))), None)

@@ -9,7 +9,7 @@ import argparse
 import pathlib
 from fractions import Fraction
 
-from . import asking, faults
+from . import asking, faults, program
 from .answers import FAULT, Answer, answer_of, text_of, turned_back
 from .drawing import lines_of, origin_of
 from .messages import Refused, say, write_result
@@ -25,8 +25,8 @@ def add_arguments(parser: argparse.ArgumentParser) -> None:
     asking.add_arguments(parser)
 
 
-def answered(arguments: argparse.Namespace) -> tuple[Answer, Fraction, int]:
-    """The answer, how many of its units one of the drawing's has, and the status."""
+def answered(arguments: argparse.Namespace) -> tuple[Answer, Fraction]:
+    """The answer, and how many of its units one of the drawing's has."""
     if arguments.answer:
         lines = lines_of(arguments.drawing)
         answer, origin = answer_of(text_of(arguments.answer)), origin_of(lines)
@@ -38,7 +38,9 @@ def answered(arguments: argparse.Namespace) -> tuple[Answer, Fraction, int]:
         answer = asked.answer()
     if FAULT.fullmatch(answer.head):
         raise Refused("; ".join(faults.told(answer.head, lines)))
-    return answer, per_unit, status
+    if status != program.WHOLE:
+        raise Refused(f"the search was cut, {answer.head}: raise the limit, or have a cut answer saved by --answer")
+    return answer, per_unit
 
 
 def run(arguments: argparse.Namespace) -> int:
@@ -46,7 +48,7 @@ def run(arguments: argparse.Namespace) -> int:
     from .solids import shape_of
     if not is_shape_file(arguments.shape):
         raise Refused(f"{arguments.shape} ends neither in .step nor in .brep")
-    answer, per_unit, status = answered(arguments)
+    answer, per_unit = answered(arguments)
     shapes = []
     for number, told in enumerate(answer.solids, 1):
         try:
@@ -62,4 +64,4 @@ def run(arguments: argparse.Namespace) -> int:
         parts = len(shape.Solids)
         rows.append(f"{file} volume {volume} parts {parts} voids {len(shape.Shells) - parts}")
     write_result("".join(f"{row}\n" for row in rows), None)
-    return status
+    return 0

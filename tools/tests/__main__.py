@@ -1,20 +1,26 @@
 """Runs the tests, and names what was left out; see tools/check."""
+import pathlib
 import sys
 import unittest
 from collections import Counter
 
+# What takes minutes, and is run by `--long`.
+LONG = ("test_judge", "test_random", "test_table", "test_techdraw", "test_why")
+
 
 def main(words: list[str]) -> int:
-    whole = "--whole" in words
     names = [word for word in words if not word.startswith("-")]
-    loader = unittest.defaultTestLoader
-    suite = loader.loadTestsFromNames(names) if names else loader.discover("tests", top_level_dir=".")
+    long = [] if "--long" in words or names else list(LONG)
+    found = sorted(file.stem for file in pathlib.Path(__file__).parent.glob("test_*.py"))
+    suite = unittest.defaultTestLoader.loadTestsFromNames(names or [f"tests.{name}" for name in found if name not in long])
     result = unittest.TextTestRunner(verbosity=2 if "-v" in words else 1).run(suite)
     left_out = Counter(reason for _, reason in result.skipped)
     for reason, count in left_out.items():
         print(f"left out: {count} tests: {reason}", file=sys.stderr)
+    for name in long:
+        print(f"left out: {name}, which takes minutes: tools/check --long", file=sys.stderr)
     print(f"tools: {result.testsRun - len(result.skipped)} tests run, {len(result.skipped)} left out", file=sys.stderr)
-    return 0 if result.wasSuccessful() and not (whole and left_out) else 1
+    return 0 if result.wasSuccessful() and not ("--whole" in words and left_out) else 1
 
 
 sys.exit(main(sys.argv[1:]))

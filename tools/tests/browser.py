@@ -14,7 +14,7 @@ from drafting.drawing import Place
 from drafting.messages import Refused
 
 # How long the browser may take over one answer, in seconds.
-PATIENCE = 60
+PATIENCE = 600
 
 OPTIONS = [
     "--headless=new", "--remote-debugging-pipe", "--no-first-run", "--disable-background-networking", "--hide-scrollbars",

@@ -30,9 +30,10 @@ def plain_answer(text: str, factor: int = 1) -> list[tuple[str, int, list[object
     return [(solid.choice, solid.volume * factor**3, grown(solid)) for solid in answer_of(text).solids]
 
 
-def solved(data: bytes, decimals: int = 0) -> str:
-    words = ["solve", *(["--decimals", decimals] if decimals else [])]
-    return program.run(program.find(), words, data, 60).text
+def solved(data: bytes, decimals: int = 0, most: int | None = None) -> str:
+    """What recon writes of a drawing, with at most so many solids."""
+    words = ["solve", *(["--decimals", decimals] if decimals else []), *(["--solids", most] if most else [])]
+    return program.run(program.find(), words, data, 600).text
 
 
 @needs_module("ezdxf", "python3-ezdxf")
@@ -129,6 +130,23 @@ class BrokenFiles(unittest.TestCase):
                 file.write_bytes(data)
                 with self.subTest(name), self.assertRaisesRegex(Refused, words):
                     sheet.draw(str(file), arguments("sheet", file), lambda text: None)
+
+    def test_a_file_that_is_too_long(self) -> None:
+        from drafting import reading
+        with tempfile.TemporaryDirectory() as folder:
+            file = pathlib.Path(folder) / "long.dxf"
+            with open(file, "wb") as out:
+                out.truncate(reading.MOST_BYTES + 1)
+            with self.assertRaisesRegex(Refused, "more than 67,108,864"):
+                sheet.draw(str(file), arguments("sheet", file), lambda text: None)
+
+    def test_a_drawing_of_more_than_16_mib_is_drawn_anew(self) -> None:
+        text = (EXAMPLES / "clevis.dxf").read_bytes()
+        with tempfile.TemporaryDirectory() as folder:
+            file = pathlib.Path(folder) / "long.dxf"
+            file.write_bytes((b"999\n" + b"-" * 999_999 + b"\n") * 17 + text)
+            drawn = sheet.draw(str(file), arguments("sheet", file), lambda text: None)
+        self.assertLess(len(drawn.text), 20_000)
 
     def test_blocks_that_stand_in_themselves_or_multiply(self) -> None:
         doc = sheets.new()

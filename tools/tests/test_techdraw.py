@@ -20,6 +20,8 @@ except Refused as refusal:
     missing = "apt-get install freecad-python3"
 
 PARTS = 50
+# A part whose drawing has more solids is passed over.
+MOST_SOLIDS = 100
 # How large a part is drawn, and where the middles of its views are on the page.
 SIZE = 10
 PLACES = {"FRONT": ((0, -1, 0), (1, 0, 0), (100, 80)), "TOP": ((0, 0, 1), (1, 0, 0), (100, 180)), "SIDE": ((1, 0, 0), (0, 1, 0), (220, 80))}
@@ -76,16 +78,22 @@ class Pages(unittest.TestCase):
                     done += self.one(boxes, pathlib.Path(folder))
         self.assertEqual(done, PARTS)
 
+    def test_a_page_without_a_second_export_is_refused(self) -> None:
+        with tempfile.TemporaryDirectory() as folder:
+            whole, _ = exported(shape_of([("add", (0, 0, 0), (3, 2, 1)), ("add", (0, 1, 1), (1, 2, 2))]), pathlib.Path(folder))
+            with self.assertRaisesRegex(Refused, "which tells no linetypes: .*--visible-only"):
+                sheet.draw(str(whole), arguments("sheet", whole), lambda text: None)
+
     def one(self, boxes: list[Box], folder: pathlib.Path) -> bool:
         shape = shape_of(boxes)
         strokes: dict[str, list[Stroke]] = {view: [(edge.hidden, *edge.ends()) for edge in edges] for view, edges in views_of(shape).items()}
-        own = solved(written(strokes, 0).encode())
+        own = solved(written(strokes, 0).encode(), most=MOST_SOLIDS)
         if not own.startswith("whole"):
             return False
         whole, visible = exported(shape, folder)
         said: list[str] = []
         made = sheet.draw(str(whole), arguments("sheet", whole, "--visible-only", visible), said.append)
         self.assertEqual(made.decimals, 0, said)
-        self.assertEqual(plain_answer(solved(made.text.encode())), plain_answer(own), said)
+        self.assertEqual(plain_answer(solved(made.text.encode(), most=MOST_SOLIDS)), plain_answer(own), said)
         self.assertIn(len(cells_of(boxes)) * SIZE**3, [volume for _, volume, _ in plain_answer(own)])
         return True
