@@ -6,7 +6,7 @@ from collections.abc import Callable, Iterable, Iterator, Sequence
 from typing import NamedTuple
 
 from .messages import Refused, many
-from .reading import Arrow, Box, Edge, Source
+from .reading import Box, Edge, Source
 from .straight import Run
 
 # The words that name a view in the name of a layer or block. A left view is drawn in a mirror.
@@ -108,44 +108,6 @@ def merged(groups: Sequence[Group], tolerance: float) -> list[Group]:
 
 
 # ---- what isn't a view
-
-def without_dimensions(runs: Sequence[Run], arrows: Iterable[Arrow], tolerance: float) -> tuple[list[Run], list[Arrow]]:
-    """The runs without those of exploded dimensions, and their arrow heads: a line that ends at an arrow head, and across its tip a
-    line with a loose end."""
-    gone: set[int] = set()
-    used = []
-    ends = Counter(corner for run in runs for corner in corners_of(run, tolerance))
-    straight = [(at, run) for at, run in enumerate(runs) if not run.oblique]
-    for arrow in arrows:
-        found: set[int] = set()
-        for x, y in arrow.tips:
-            along = {at for at, run in straight if is_dimension_line(run, x, y, arrow.size, tolerance)}
-            ways = {runs[at].upright for at in along}
-            across = {at for at, run in straight if {not run.upright} & ways and is_extension_line(run, x, y, arrow.size, tolerance, ends)}
-            found |= along | across if across else set()
-        gone |= found
-        used += [arrow] if found else []
-    return [run for at, run in enumerate(runs) if at not in gone], used
-
-
-def corners_of(run: Run, tolerance: float) -> list[tuple[int, int]]:
-    """The ends of a run, on a grid of the tolerance."""
-    points = [(run.at, it) if run.upright else (it, run.at) for it in (run.low, run.high)]
-    return [(round(x / tolerance / 2), round(y / tolerance / 2)) for x, y in points]
-
-
-def is_dimension_line(run: Run, x: float, y: float, size: float, tolerance: float) -> bool:
-    across, along = (x, y) if run.upright else (y, x)
-    near = min(abs(along - run.low), abs(along - run.high)) <= 1.01 * size + tolerance
-    return abs(across - run.at) <= tolerance and near and run.high - run.low > tolerance
-
-
-def is_extension_line(run: Run, x: float, y: float, size: float, tolerance: float, ends: Counter[tuple[int, int]]) -> bool:
-    across, along = (x, y) if run.upright else (y, x)
-    through = abs(across - run.at) <= tolerance and run.low - tolerance <= along <= run.high + tolerance
-    near = min(abs(along - run.low), abs(along - run.high)) <= 2 * size + tolerance
-    return through and near and any(ends[corner] == 1 for corner in corners_of(run, tolerance))
-
 
 def frames(pieces: list[Group], tolerance: float) -> tuple[list[Group], list[Group]]:
     """The pieces without those round all the rest, one within another, where three groups or more are left; and those."""

@@ -13,9 +13,10 @@ from collections.abc import Callable, Mapping, Sequence
 from fractions import Fraction
 from typing import NamedTuple
 
+from .dimensions import without_dimensions
 from .drawing import VIEWS, Origin, Stroke, written
 from .messages import Refused, many, say, write_result
-from .placing import Group, Hints, Placed, by_names, by_places, meet, named_views, without_dimensions
+from .placing import Group, Hints, Placed, by_names, by_places, meet, named_views
 from .reading import Arrow, Edge, Sheet, Source, Unread, line_of_file, read_sheet
 from .straight import Measure, Run, apart, hidden_by, measure_of, runs_of
 from .styles import Style, choice_of
@@ -106,12 +107,12 @@ def straight_runs(edges: Mapping[str, list[Edge]], arrows: Sequence[Arrow], tole
     heads: list[Arrow] = []
     pieces = short = lines = 0
     for name, its in edges.items():
-        found, joined, without = runs_of(its, tolerance)
-        if len(found) > MOST_RUNS:
-            raise Refused(f"{len(found):,} lines once pieces are joined, more than {MOST_RUNS:,}")
-        runs[name], used = without_dimensions(found, arrows, tolerance)
+        kept, used = without_dimensions(its, arrows, tolerance)
+        runs[name], joined, without = runs_of(kept, tolerance)
+        if len(runs[name]) > MOST_RUNS:
+            raise Refused(f"{len(runs[name]):,} lines once pieces are joined, more than {MOST_RUNS:,}")
         heads += used
-        pieces, short, lines = pieces + joined, short + without, lines + len(found) - len(runs[name])
+        pieces, short, lines = pieces + joined, short + without, lines + len(its) - len(kept)
     if pieces:
         tell(f"changed: {many(pieces, 'piece')} joined with others in their line, or drawn there twice")
     if short:

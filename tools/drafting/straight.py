@@ -34,7 +34,16 @@ class Run(NamedTuple):
         return (self.at, self.low, self.at, self.high) if self.upright else (self.low, self.at, self.high, self.at)
 
 
-Row = list[tuple[float, float, float, Edge]]
+class Piece(NamedTuple):
+    """An edge as it is drawn: at a coordinate across it, from one along it to a greater one."""
+
+    at: float
+    low: float
+    high: float
+    edge: Edge
+
+
+Row = list[Piece]
 
 
 def rows_of(edges: Iterable[Edge], tolerance: float) -> tuple[dict[tuple[bool, bool], Row], list[Run], int]:
@@ -49,9 +58,9 @@ def rows_of(edges: Iterable[Edge], tolerance: float) -> tuple[dict[tuple[bool, b
         elif min(width, height) > tolerance:
             oblique.append(Run(edge.hidden, False, 0.0, 0.0, 0.0, edge, True))
         elif width <= tolerance:
-            rows[edge.hidden, True].append(((a + c) / 2, min(b, d), max(b, d), edge))
+            rows[edge.hidden, True].append(Piece((a + c) / 2, min(b, d), max(b, d), edge))
         else:
-            rows[edge.hidden, False].append(((b + d) / 2, min(a, c), max(a, c), edge))
+            rows[edge.hidden, False].append(Piece((b + d) / 2, min(a, c), max(a, c), edge))
     return rows, oblique, short
 
 
@@ -60,24 +69,24 @@ def runs_of(edges: Sequence[Edge], tolerance: float) -> tuple[list[Run], int, in
     rows, runs, short = rows_of(edges, tolerance)
     pieces = 0
     for (hidden, upright), row in rows.items():
-        row.sort(key=lambda piece: piece[0])
+        row.sort(key=lambda piece: piece.at)
         lines: list[Row] = []
         for piece in row:
-            if lines and piece[0] - lines[-1][0][0] <= tolerance:
+            if lines and piece.at - lines[-1][0].at <= tolerance:
                 lines[-1].append(piece)
             else:
                 lines.append([piece])
         for line in lines:
             joined = joined_along(line, tolerance)
             pieces += len(line) - len(joined)
-            runs += [Run(hidden, upright, line[0][0], low, high, edge) for low, high, edge in joined]
+            runs += [Run(hidden, upright, line[0].at, low, high, edge) for low, high, edge in joined]
     return runs, pieces, short
 
 
 def joined_along(line: Row, tolerance: float) -> list[tuple[float, float, Edge]]:
     """The stretches of one line, each once."""
     stretches: list[tuple[float, float, Edge]] = []
-    for _, low, high, edge in sorted(line, key=lambda piece: piece[1]):
+    for _, low, high, edge in sorted(line, key=lambda piece: piece.low):
         if stretches and low <= stretches[-1][1] + tolerance:
             stretches[-1] = stretches[-1][0], max(stretches[-1][1], high), stretches[-1][2]
         else:

@@ -95,10 +95,11 @@ def frame(doc: Any, space: Any) -> None:
     space.add_blockref("TITLEBLOCK", (310, 10)).add_auto_attribs({"SCALE": "1:1"})
 
 
-def dimensions(space: Any, views: Views, places: dict[str, tuple[float, float]], explode: bool = False) -> None:
+def dimensions(space: Any, views: Views, places: dict[str, tuple[float, float]], explode: bool = False, away: float = 12.0) -> None:
+    """The width and the height of FRONT, their lines so far away from it."""
     x, y = places["FRONT"]
     width, height = size_of(views["FRONT"])
-    for base, p1, p2, angle in (((x, y - 12), (x, y), (x + width, y), 0), ((x - 12, y), (x, y), (x, y + height), 90)):
+    for base, p1, p2, angle in (((x, y - away), (x, y), (x + width, y), 0), ((x - away, y), (x, y), (x, y + height), 90)):
         made = space.add_linear_dim(base=base, p1=p1, p2=p2, angle=angle, override={"dimtsz": 0, "dimblk": "", "dimasz": 2.5, "dimexe": 1.25,
                                                                                      "dimexo": 0.625, "dimtxt": 2.5})
         made.render()
@@ -178,6 +179,12 @@ class Maker:
         doc = self.sheet()
         dimensions(doc.modelspace(), self.views, self.places, explode=True)
         yield self.save(doc, "exploded_dimensions")
+        doc = new()
+        places = places_of(self.views, "first", True)
+        draw(doc.modelspace(), self.views, places)
+        _, depth = size_of(self.views["TOP"])
+        dimensions(doc.modelspace(), self.views, places, explode=True, away=2 * GAP + depth)
+        yield self.save(doc, "exploded_dimensions_across_views")
         doc = self.sheet()
         self.isometric(doc.modelspace())
         yield self.save(doc, "isometric_view_beside")
@@ -238,10 +245,9 @@ class Maker:
     # ---- where views stand
 
     def placings(self) -> Iterator[Made]:
-        for name, angle, left in (("first_angle_right_view", "first", True), ):
-            doc = new()
-            draw(doc.modelspace(), self.views, places_of(self.views, angle, left))
-            yield self.save(doc, name)
+        doc = new()
+        draw(doc.modelspace(), self.views, places_of(self.views, "first", True))
+        yield self.save(doc, "first_angle_right_view")
         for name, angle, left in (("third_angle_left_view", "third", True), ("first_angle_left_view", "first", False)):
             doc = new()
             draw(doc.modelspace(), mirrored(self.views), places_of(self.views, angle, left))

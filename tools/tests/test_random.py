@@ -3,6 +3,7 @@ import pathlib
 import random
 import tempfile
 import unittest
+from fractions import Fraction
 
 from drafting import program, sheet
 from drafting.drawing import lines_within, views_of
@@ -17,8 +18,8 @@ except ImportError:
 
 SHEETS = 100
 NAMES = ("bracket", "clevis", "pierced_plate", "quartered_cube", "untidy_redrawn", "two_cubes_along_an_edge")
-# Scales at which a sheet is drawn, and how many units of what is read then make one of the drawing.
-SCALES = ((1.0, 1), (0.5, 5), (0.0625, 625), (1 / 3, 1), (0.1, 1), (2.5, 25))
+# Scales at which a sheet is drawn.
+SCALES = (1.0, 0.5, 0.0625, 1 / 3, 0.1, 2.5)
 
 
 @needs_module("ezdxf", "python3-ezdxf")
@@ -44,7 +45,7 @@ class RandomSheets(unittest.TestCase):
         self.assertEqual(made.origin.mirrored, mirrored)
         # Lengths are those of the drawing, times what the scale and the decimals make of them.
         own, told = plain_views(base.read_bytes(), 0), plain_views(made.text.encode(), made.decimals)
-        factor = max(told["FRONT"])[2] // max(own["FRONT"])[2]
+        factor = Fraction(max(told["FRONT"])[2], max(own["FRONT"])[2])
         grown = {view: [(*run[:2], *(factor * it for it in run[2:])) for run in runs] for view, runs in own.items()}
         self.assertEqual(told, grown, said)
         if not is_made:
@@ -56,7 +57,7 @@ class RandomSheets(unittest.TestCase):
         mirrored = (angle == "third") == left
         its = sheets.mirrored(views) if mirrored else views
         places = sheets.places_of(its, angle, left)
-        scale, _ = chance.choice(SCALES)
+        scale = chance.choice(SCALES)
         doc = sheets.new(chance.choice(("R2000", "R2010", "R2018")), chance.choice((0, 1, 4)))
         space = doc.modelspace()
         look, words = self.look(chance, doc, any(dashed for strokes in its.values() for dashed, _ in strokes))

@@ -4,6 +4,7 @@ import pathlib
 import re
 import tempfile
 import unittest
+from fractions import Fraction
 
 from drafting import asking, command, program, sheet
 from drafting.answers import Answer, Solid, answer_of, turned_round
@@ -23,7 +24,7 @@ def arguments(*words: object) -> argparse.Namespace:
     return PARSER.parse_args(list(map(str, words)))
 
 
-def plain_answer(text: str, factor: int = 1) -> list[tuple[str, int, list[object]]]:
+def plain_answer(text: str, factor: int | Fraction = 1) -> list[tuple[str, int | Fraction, list[object]]]:
     """The solids of an answer, with all lengths so many times as large."""
     def grown(solid: Solid) -> list[object]:
         return [(face.outward, [[tuple(factor * it for it in corner) for corner in loop] for loop in face.loops]) for face in solid.faces]
