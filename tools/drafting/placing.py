@@ -276,15 +276,17 @@ def by_places(runs: Sequence[Run], hints: Hints) -> Placed:
     if not chosen:
         raise Refused("no group of lines is left")
     ways = list(ways_of(chosen, hints))
+    views = [group for group in chosen if not why_no_view(group, hints.texts)]
     found = []
-    if len(ways) != 1:
-        views = [group for group in chosen if not why_no_view(group, hints.texts)]
+    # Where three groups alone are views of a part, a fourth one may be of the same part: then all together are views too.
+    if len(ways) != 1 or len(views) > 3:
         more = list(ways_by_cuts(views, hints)) if views else []
-        if len(more) != 1:
+        if len(more) == 1:
+            left += [f"{group}: {why_no_view(group, hints.texts)}" for group in chosen if group not in views]
+            found.append(f"{many(len(views), 'group')} of lines taken as three views, parted by one cut upwards and one across")
+            ways, chosen = more, []
+        elif len(ways) != 1:
             raise Refused(no_way(groups, chosen, len(ways), hints))
-        left += [f"{group}: {why_no_view(group, hints.texts)}" for group in chosen if group not in views]
-        found.append(f"{many(len(views), 'group')} of lines taken as three views, parted by one cut upwards and one across")
-        ways, chosen = more, []
     way = ways[0]
     used = (way.front, way.top, way.side)
     left += beside(groups, [group for group in chosen if not any(group is it for it in used)], used, hints)
