@@ -95,13 +95,19 @@ def frame(doc: Any, space: Any) -> None:
     space.add_blockref("TITLEBLOCK", (310, 10)).add_auto_attribs({"SCALE": "1:1"})
 
 
-def dimensions(space: Any, views: Views, places: dict[str, tuple[float, float]], explode: bool = False, away: float = 12.0) -> None:
-    """The width and the height of FRONT, their lines so far away from it."""
+# Lengths of a dimension's arrows, lines and text.
+DIMENSION = {"dimasz": 2.5, "dimexe": 1.25, "dimexo": 0.625, "dimtxt": 2.5}
+
+
+def dimensions(space: Any, views: Views, places: dict[str, tuple[float, float]], explode: bool = False, away: float = 12.0,
+               scale: float = 1.0) -> None:
+    """The width and the height of FRONT, their lines so far away from it; all of them drawn at a scale."""
     x, y = places["FRONT"]
+    away *= scale
+    style = {"dimtsz": 0, "dimblk": "", **{name: scale * length for name, length in DIMENSION.items()}}
     width, height = size_of(views["FRONT"])
     for base, p1, p2, angle in (((x, y - away), (x, y), (x + width, y), 0), ((x - away, y), (x, y), (x, y + height), 90)):
-        made = space.add_linear_dim(base=base, p1=p1, p2=p2, angle=angle, override={"dimtsz": 0, "dimblk": "", "dimasz": 2.5, "dimexe": 1.25,
-                                                                                     "dimexo": 0.625, "dimtxt": 2.5})
+        made = space.add_linear_dim(base=base, p1=p1, p2=p2, angle=angle, override=style)
         made.render()
         if explode:
             made.dimension.explode()

@@ -70,7 +70,7 @@ class RandomSheets(unittest.TestCase):
         scaled = {view: (scale * x, scale * y) for view, (x, y) in places.items()}
         sized = {view: [(dashed, tuple((scale * x, scale * y) for x, y in ends)) for dashed, ends in strokes] for view, strokes in views.items()}
         if chance.random() < 0.5:
-            sheets.dimensions(space, sized, scaled, explode=chance.random() < 0.5)
+            sheets.dimensions(space, sized, scaled, chance.random() < 0.5, scale=scale)
         if chance.random() < 0.5:
             reach = scale * max(x + y for x, y in places.values()) + sum(map(max, map(sheets.size_of, sized.values()))) + 150
             for margin in (0, 10):
