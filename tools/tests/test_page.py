@@ -27,7 +27,7 @@ CUBE = [rectangle("FRONT", 0, 0, 3), rectangle("TOP", 0, 9, 3), rectangle("SIDE"
 
 
 class Pages(unittest.TestCase):
-    def page(self, lines: list[str], text: str, decimals: int = 0) -> str:
+    def made(self, lines: list[str], text: str, decimals: int = 0) -> str:
         return page.page("part.dxf", lines, answer_of(text), page.Units(decimals, Origin("mm")), [], 64)
 
     def test_all_solids_are_there_by_their_blocks(self) -> None:
@@ -49,7 +49,7 @@ class Pages(unittest.TestCase):
     def test_a_linetype_without_a_meaning(self) -> None:
         odd = LINE.format("FRONT", "ZIGZAG", 1, 0, 1, 3)
         lines = drawing(odd, *CUBE)
-        text = self.page(lines, "fault F12 Linetype line 5\n")
+        text = self.made(lines, "fault F12 Linetype line 5\n")
         self.assertIn("of linetype ZIGZAG", text)
         named = re.search(r"<pre>(.*)</pre>", text, re.S)[1]  # type: ignore[index]
         self.assertEqual([row.split()[0] for row in re.sub("<[^>]*>", "", named).splitlines()], [str(it) for it in range(5, 19)])
@@ -57,12 +57,12 @@ class Pages(unittest.TestCase):
 
     def test_an_empty_view_names_the_layers(self) -> None:
         lines = drawing(rectangle("A", 0, 0, 3), rectangle("B", 0, 9, 3))
-        self.assertIn("lines are on A (4), B (4)", self.page(lines, "fault F14 EmptyView view FRONT\n"))
+        self.assertIn("lines are on A (4), B (4)", self.made(lines, "fault F14 EmptyView view FRONT\n"))
 
     @unittest.skipUnless((page.THREE / "three.min.js").exists(), "apt-get install libjs-three")
     def test_sizes_and_volumes_have_units(self) -> None:
         cube = (EXAMPLES / "unit_cube.txt").read_text()
-        text = self.page(drawing(*CUBE), cube, 1)
+        text = self.made(drawing(*CUBE), cube, 1)
         self.assertIn("FRONT 3 mm × 3 mm; TOP 3 mm × 3 mm; SIDE 3 mm × 3 mm", text)
         self.assertIn("<b>Solid 1</b> volume 0.001 mm³", text)
 

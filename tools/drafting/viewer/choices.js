@@ -141,7 +141,7 @@ function rowOf(group) {
     button.addEventListener("click", () => fix(group, full));
     buttons.append(button);
   }
-  row.append(name, counts, buttons);
+  row.append(buttons, name, counts);
   return row;
 }
 
