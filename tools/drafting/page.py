@@ -1,9 +1,10 @@
 """Makes a page of a drawing and of what recon writes for it, which is read from the file ANSWER (`-` for standard input), or else
 had by running the program.
 
-The page stands alone and asks the network for nothing. It shows the three views as drawn, and each solid in three dimensions,
-up to the first 64 of them: turned by mouse, touch and arrow keys, all together. What only some of them have is coloured, and
-two that are picked are compared. Of a fault it shows the line of the file that is named.
+The page stands alone and asks the network for nothing. It shows the three views as drawn, and the solids in three dimensions, so
+many at a time: turned by mouse, touch and arrow keys, all together. What only some of them have is coloured, two that are picked are
+compared, and blocks can be fixed full or empty, by which those solids are left that have them so. Of a fault it shows the lines of
+the file that are named.
 
 For three dimensions it has three.js, on Debian: apt-get install libjs-three. What is proved is the program, and not this.
 """
@@ -17,7 +18,7 @@ from typing import NamedTuple
 
 from . import asking, faults, program
 from .answers import CUT, FAULT, Answer, Solid, answer_of, sizes_of, text_of, turned_back
-from .cells import Grid
+from .cells import Blocks
 from .drawing import Line, Origin, decimals_of, lines_of, origin_of, views_of
 from .messages import Refused, say, write_result
 from .svg import VIEWS, views_drawn
@@ -34,7 +35,7 @@ WIDE_LINES = ("LineSegmentsGeometry", "LineMaterial", "LineSegments2")
 LIBRARY = ["three.min.js", *(f"examples/js/lines/{name}.js" for name in WIDE_LINES)]
 LICENCE = "three.js, (c) 2010-2019 three.js authors, MIT licence: https://github.com/mrdoob/three.js/blob/r111/LICENSE"
 
-MOST_SOLIDS = 64
+TILES = 64
 # How many lines of the file are shown before and behind the one that a fault names, and how much of each.
 BESIDE, WIDTH = 4, 100
 MARGIN = 26
@@ -84,7 +85,7 @@ def cut_told(what: str, limit: int, count: int) -> str:
     return f'<div class="notice cut"><strong>{text}</strong></div>'
 
 
-def told(answer: Answer, lines: list[str], alike: bool, notes: list[str]) -> str:
+def told(answer: Answer, lines: list[str], alike: bool, notes: list[str], tiles: int) -> str:
     """The words at the top."""
     warnings = "".join(f'<div class="notice">{html.escape(note[0].upper() + note[1:])}.</div>' for note in notes)
     if FAULT.fullmatch(answer.head):
@@ -95,9 +96,8 @@ def told(answer: Answer, lines: list[str], alike: bool, notes: list[str]) -> str
     else:
         many = {0: "No solid has", 1: "One solid has"}.get(answer.listed, f"{answer.listed:,} solids have")
         parts = [paragraph(f"{many} these views.", "count")]
-    shown = len(answer.solids)
-    if answer.listed > shown:
-        parts.append(paragraph(f"The first {shown} are shown; {answer.listed - shown:,} more are in the answer."))
+    if answer.listed > tiles:
+        parts.append(paragraph(f"The first {tiles} are shown; {answer.listed - tiles:,} more by the button Next."))
     if alike:
         parts.append(paragraph("Some of them look the same from outside and differ within: so they are drawn see-through."))
     return "\n".join([*parts, warnings, paragraph(f"<code>{html.escape(answer.head)}</code>", "muted")])
@@ -162,25 +162,26 @@ def scripts() -> str:
     missing = [name for name in LIBRARY if not (THREE / name).is_file()]
     if missing:
         raise Refused(f"three.js isn't there, no {THREE / missing[0]}: apt-get install libjs-three")
-    files = [*(THREE / name for name in LIBRARY), VIEWER / "page.js"]
+    files = [*(THREE / name for name in LIBRARY), VIEWER / "choices.js", VIEWER / "page.js"]
     texts = [file.read_text(encoding="utf-8").replace("</script", "<\\/script") for file in files]
     return "\n".join([f"<!-- {LICENCE} -->", *(f"<script>\n{text}\n</script>" for text in texts)])
 
 
-def page(name: str, lines: list[str], answer: Answer, units: Units, notes: list[str]) -> str:
-    grid = Grid(answer.solids)
-    cells = [grid.cells(solid) for solid in answer.solids]
-    alike = len({grid.outside(full) for full in cells}) < len(cells)
+def page(name: str, lines: list[str], answer: Answer, units: Units, notes: list[str], tiles: int) -> str:
+    shown = answer.solids[:tiles]
+    blocks = Blocks(answer.solids)
+    cells = [blocks.grid.cells(solid) for solid in shown]
+    alike = len({blocks.grid.outside(full) for full in cells}) < len(cells)
     several = len(cells) > 1
     parts = {
         "title": html.escape(name),
         "style": (VIEWER / "page.css").read_text(encoding="utf-8"),
         "kind": "several" if several else "one" if cells else "alone",
-        "told": told(answer, lines, alike, notes),
+        "told": told(answer, lines, alike, notes, tiles),
         "drawing": drawing(lines, answer.head, units),
         "through": " checked" if alike else "",
-        "solids": "\n".join(figure(number, solid, several, units) for number, solid in enumerate(answer.solids, 1)),
-        "answer": json.dumps({"cuts": grid.cuts, "solids": [f"{full:x}" for full in cells]}),
+        "solids": "\n".join(figure(number, solid, several, units) for number, solid in enumerate(shown, 1)),
+        "answer": json.dumps({**blocks.told(), "volumes": [units.told(solid.volume, 3) for solid in answer.solids]}),
         "scripts": scripts() if cells else "",
     }
     return re.sub(r"{{(\w+)}}", lambda place: parts[place[1]], (VIEWER / "page.html").read_text(encoding="utf-8"))
@@ -190,6 +191,7 @@ def add_arguments(parser: argparse.ArgumentParser) -> None:
     parser.add_argument("drawing", metavar="FILE.dxf")
     parser.add_argument("answer", metavar="ANSWER", nargs="?", help="what recon solve wrote for it as it is; - for standard input")
     parser.add_argument("-o", "--output", metavar="OUT.html", help="the file to write, else standard output")
+    parser.add_argument("--tiles", type=int, default=TILES, help=f"how many solids are shown at a time (else {TILES})")
     asking.add_arguments(parser)
 
 
@@ -204,10 +206,10 @@ def asked_of(arguments: argparse.Namespace) -> tuple[list[str], Answer, Units, l
                 notes.append(text.removeprefix("warning: "))
 
         asked = asking.ask(arguments.drawing, arguments, tell)
-        answer = asked.answer(MOST_SOLIDS)
+        answer = asked.answer()
         return asked.lines, answer, Units(asked.decimals, asked.origin), notes
     lines = lines_of(arguments.drawing)
-    answer, origin = answer_of(text_of(arguments.answer), MOST_SOLIDS), origin_of(lines)
+    answer, origin = answer_of(text_of(arguments.answer)), origin_of(lines)
     answer = turned_back(answer) if origin.mirrored else answer
     decimals = answer.decimals if answer.solids else decimals_of(lines)
     return lines, answer, Units(decimals, origin), asking.passed_over_told(lines)
@@ -217,5 +219,8 @@ def run(arguments: argparse.Namespace) -> int:
     lines, answer, units, notes = asked_of(arguments)
     if units.origin.mirrored:
         notes.append("the side view is the left one: the drawing is shown in a mirror, and the solids as they are")
-    write_result(page(pathlib.Path(arguments.drawing).name, lines, answer, units, notes), arguments.output)
+    if arguments.tiles < 1:
+        raise Refused("not even one solid at a time")
+    text = page(pathlib.Path(arguments.drawing).name, lines, answer, units, notes, arguments.tiles)
+    write_result(text, arguments.output)
     return 0

@@ -22,6 +22,7 @@ OPTIONS = [
 ]
 # Codes of keys, as the protocol wants them.
 KEYS = {"Enter": 13, "ArrowLeft": 37, "ArrowUp": 38}
+SHIFT = 8
 
 
 class Browser:
@@ -156,13 +157,13 @@ class Browser:
         x, y = self.value(f"{middle}({element}.getBoundingClientRect())")
         return x, y
 
-    def mouse(self, element: str, right: int = 0, down: int = 0) -> None:
-        """Presses the mouse on an element, moves it so far, and lets it go."""
+    def mouse(self, element: str, right: int = 0, down: int = 0, keys: int = 0) -> None:
+        """Presses the mouse on an element, moves it so far, and lets it go, with some keys held."""
         x, y = self.middle(element)
         for kind, share in (("mousePressed", 0), ("mouseMoved", 0.5), ("mouseMoved", 1), ("mouseReleased", 1)):
             place = {"x": x + share * right, "y": y + share * down}
             buttons = 0 if kind == "mouseReleased" else 1
-            self.call("Input.dispatchMouseEvent", type=kind, **place, button="left", buttons=buttons, clickCount=1)
+            self.call("Input.dispatchMouseEvent", type=kind, **place, button="left", buttons=buttons, clickCount=1, modifiers=keys)
 
     def touch(self, element: str, right: int) -> None:
         """Draws a finger over an element, so far to the right."""

@@ -16,16 +16,6 @@ const SHADES = [0.72, 0.8, 0.88, 0.78, 0.6, 1];
 
 // ---- cells
 
-/** The cells of a number in base 16, whose bits they are. */
-function cellsOf(number) {
-  const cells = new Uint8Array(places);
-  [...number].reverse().forEach((digit, at) => {
-    const four = parseInt(digit, 16);
-    for (let bit = 0; bit < 4 && four >> bit; bit++) cells[4 * at + bit] = (four >> bit) & 1;
-  });
-  return cells;
-}
-
 /** The cells that the first has and the second lacks. */
 function without(first, second) {
   return first.map((full, place) => full & ~second[place]);
@@ -43,13 +33,6 @@ function volumeOf(cells) {
     if (full) volume += BigInt(width(place, 0)) * BigInt(width(place, 1)) * BigInt(width(place, 2));
   });
   return volume;
-}
-
-/** The kind of each cell: 0 where all solids have it, 1 where most of them do, 2 where half of them or fewer. */
-function kindsOf(solids) {
-  const having = new Uint8Array(places);
-  for (const cells of solids) cells.forEach((full, place) => (having[place] += full));
-  return having.map((many) => (many === solids.length ? 0 : 2 * many > solids.length ? 1 : 2));
 }
 
 // ---- what is drawn of them
@@ -228,8 +211,7 @@ function drawAxes(flat, scale, size) {
   });
 }
 
-const solids = told.solids.map(cellsOf);
-const kinds = kindsOf(solids);
+readGroups();
 const tiles = [...document.querySelectorAll(".solids canvas")].map((canvas) => new Tile(canvas));
 const pair = [...document.querySelectorAll(".pair canvas")].map((canvas) => new Tile(canvas));
 
@@ -323,11 +305,15 @@ function pick(number) {
   if (picked.includes(number)) picked.splice(picked.indexOf(number), 1);
   else picked.push(number);
   if (picked.length > 2) picked.shift();
-  document.querySelectorAll(".solids figure").forEach((figure, at) => {
-    figure.classList.toggle("picked", picked.includes(at));
-    figure.querySelector("button")?.setAttribute("aria-pressed", picked.includes(at));
-  });
+  markPicked();
   compare();
+}
+
+function markPicked() {
+  document.querySelectorAll(".solids figure").forEach((figure, at) => {
+    figure.classList.toggle("picked", picked.includes(numberAt(at)));
+    figure.querySelector("button")?.setAttribute("aria-pressed", picked.includes(numberAt(at)));
+  });
 }
 
 function compare() {
@@ -340,9 +326,9 @@ function compare() {
     : "To see what one solid has and another lacks, pick both by Compare.";
   if (picked.length < 2) return;
   [[first, second], [second, first]].forEach(([one, other], at) => {
-    const more = without(solids[one], solids[other]);
+    const more = without(cellsOfSolid(one), cellsOfSolid(other));
     const volume = volumeOf(more);
-    pair[at].show(solids[one], more.map((full) => 2 * full));
+    pair[at].show(cellsOfSolid(one), more.map((full) => 2 * full));
     pair[at].through = true;
     box.querySelectorAll("figcaption")[at].textContent = volume
       ? `Solid ${one + 1} has, and solid ${other + 1} lacks: volume ${volume}`
@@ -352,9 +338,9 @@ function compare() {
 }
 
 function listenForPicks() {
-  document.querySelectorAll(".solids button").forEach((button, number) => {
+  document.querySelectorAll(".solids button").forEach((button, at) => {
     button.addEventListener("click", () => {
-      pick(number);
+      pick(numberAt(at));
       if (picked.length === 2) document.getElementById("compared").scrollIntoView({ block: "nearest" });
     });
   });
@@ -374,7 +360,8 @@ function begin() {
   }
   Object.assign(camera, { left: -radius, right: radius, top: radius, bottom: -radius, near: radius / 2, far: 4 * radius });
   camera.updateProjectionMatrix();
-  tiles.forEach((tile, number) => tile.show(solids[number], kinds));
+  listenForFixing();
+  showFitting();
   const seen = new IntersectionObserver((entries) => {
     for (const entry of entries) [...tiles, ...pair].find((tile) => tile.canvas === entry.target).isSeen = entry.isIntersecting;
     redraw();
@@ -389,8 +376,8 @@ function begin() {
   listenForPicks();
   setShown();
   look(...START);
-  if (solids.length === 2) [0, 1].forEach(pick);
+  if (told.choices.length === 2) [0, 1].forEach(pick);
   else compare();
 }
 
-if (solids.length) begin();
+if (told.choices.length) begin();
