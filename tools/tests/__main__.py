@@ -4,21 +4,15 @@ import sys
 import unittest
 from collections import Counter
 
-# What takes minutes, and is run by `--long`.
-LONG = ("test_judge", "test_random", "test_table", "test_techdraw", "test_why")
-
 
 def main(words: list[str]) -> int:
     names = [word for word in words if not word.startswith("-")]
-    long = [] if "--long" in words or names else list(LONG)
     found = sorted(file.stem for file in pathlib.Path(__file__).parent.glob("test_*.py"))
-    suite = unittest.defaultTestLoader.loadTestsFromNames(names or [f"tests.{name}" for name in found if name not in long])
+    suite = unittest.defaultTestLoader.loadTestsFromNames(names or [f"tests.{name}" for name in found])
     result = unittest.TextTestRunner(verbosity=2 if "-v" in words else 1).run(suite)
     left_out = Counter(reason for _, reason in result.skipped)
     for reason, count in left_out.items():
         print(f"left out: {count} tests: {reason}", file=sys.stderr)
-    for name in long:
-        print(f"left out: {name}, which takes minutes: tools/check --long", file=sys.stderr)
     print(f"tools: {result.testsRun - len(result.skipped)} tests run, {len(result.skipped)} left out", file=sys.stderr)
     return 0 if result.wasSuccessful() and not ("--whole" in words and left_out) else 1
 

@@ -171,7 +171,7 @@ class Why(unittest.TestCase):
 
     @needs_command("clingo", "gringo")
     def test_several_mistakes(self) -> None:
-        """The least change is no longer than the one that was made, and the program lists solids of what is told."""
+        """A least change is told, and the program lists solids of each drawing that is."""
         rng = random.Random(65)
         count = 0
         while count < 10:
