@@ -3,13 +3,13 @@ use Rattle.std.proofs.Common.{◌≤◌, ℕ, List, Option, Some, None, IsTrue, 
 use Rattle.solid_model.specs.Blocks.{AreBlocksOf}
 use Rattle.solid_model.specs.Kept.{IsBelow, IsFaceMapOf}
 use Rattle.solid_model.specs.Limits.{most_blocks}
-use Rattle.solid_model.specs.Lists.{Each}
+use Rattle.lemmas.specs.Lists.{Each}
 use Rattle.solid_model.specs.Marks.{AxisMarks, marks_along, is_marked}
 use Rattle.solid_model.specs.Panels.{GridParts}
 use Rattle.solid_model.specs.Rooms.{face_sizes, AreRooms}
 use Rattle.solid_model.specs.VirtualFaces.{IsVirtual}
 use Rattle.solid_model.specs.GridBox.{grid_sizes}
-use Rattle.solid_model.proofs.Lists.{each-weaker}
+use Rattle.lemmas.proofs.Lists.{each-weaker}
 use Rattle.solid_model.proofs.MarkedCells.{marked_everywhere}
 use Rattle.solid_model.proofs.Rooms.{rooms_between_same, room_numbers-below}
 

@@ -5,7 +5,7 @@ ghost use Rattle.solid_model.specs.Blocks.{IsBlocksOf, HasTooManyBlocks};
 ghost use Rattle.solid_model.specs.Kept.{IsBelow, IsFaceMapOf};
 ghost use Rattle.solid_model.specs.declared.fault.Fault.{Fault};
 ghost use Rattle.solid_model.specs.Limits.{most_blocks};
-ghost use Rattle.solid_model.specs.Lists.{Each};
+ghost use Rattle.lemmas.specs.Lists.{Each};
 
 use flood::{Walls, rooms_of};
 use solid_model::{Axis, Blocks, FaceMap, Fault, Grid, Memory, PerAxis, Refused};

@@ -5,7 +5,7 @@ use Rattle.std.proofs.lemmas.List.{get_or_past}
 use Rattle.std.proofs.lemmas.Nat.{mod-mul-add, div-mul-add, div-add-mod', mod_below}
 use Rattle.std.proofs.lemmas.Nat.Bits.{bit_at-zero, bit_at_above}
 use Rattle.std.proofs.Math.Nat.{div-div-eq-div-mul}
-use Rattle.solid_model.specs.Bits.{is_set, bit_of}
+use Rattle.lemmas.specs.Bits.{is_set, bit_of}
 
 -- bits that are moved down are those farther up
 pub moved_down : (n s k : ℕ) → is_set (n / 2 ^ s) k ≡ is_set n (s + k)

@@ -4,14 +4,14 @@ use Rattle.std.proofs.lemmas.Bool.{false_from_ne_true, both_ways, and_parts}
 use Rattle.solid_model.specs.declared.cell.Axis.{Axis}
 use Rattle.solid_model.specs.declared.cell.Axis.TheVariants.{X, Y, Z}
 use Rattle.solid_model.specs.declared.per_axis.PerAxis.{PerAxis}
-use Rattle.solid_model.specs.Bits.{is_set}
+use Rattle.lemmas.specs.Bits.{is_set}
 use Rattle.solid_model.specs.Cells.{coordinate, cell_at}
 use Rattle.solid_model.specs.Marks.{BoxMarks, is_marked}
 use Rattle.solid_model.specs.PerAxis.{numbers_of, cell_of, numbered, AreFew}
 use Rattle.solid_model.specs.Rooms.{Sizes, is_below, is_within, box_place, box_count}
 use Rattle.solid_model.proofs.BoxCells.{place-below, within-below, below-within}
 use Rattle.solid_model.proofs.BoxPlaces.{below_number, one_cell, cell_there}
-use Rattle.solid_model.proofs.Pushed.{HoldsSoFar}
+use Rattle.lemmas.proofs.Pushed.{HoldsSoFar}
 use Rattle.cell_rows.specs.Rows.{cell_numbered, is_marked_at, stride_along, row_sizes, AreRows}
 
 -- numbers with another one along an axis are those of the cell

@@ -7,13 +7,13 @@ use Rattle.cell_rows.specs.Rows.{cell_numbered, row_sizes, AreRows}
 use Rattle.cell_rows.specs.Spans.{is_filled, chosen_marks, AreRowSpans, AreFilled}
 use Rattle.cell_rows.proofs.RowCells.{AreBitsAt}
 use Rattle.solid_model.specs.declared.cell.Axis.{Axis}
-use Rattle.solid_model.specs.Bits.{is_set}
+use Rattle.lemmas.specs.Bits.{is_set}
 use Rattle.solid_model.specs.Blocks.{BlockNumbers}
 use Rattle.solid_model.specs.Marks.{BoxMarks}
 use Rattle.solid_model.specs.PerAxis.{numbers_of, numbered}
 use Rattle.solid_model.specs.Rooms.{box_place, box_count}
 use Rattle.solid_model.proofs.BoxPlaces.{cell_there}
-use Rattle.solid_model.proofs.Pushed.{HoldsSoFar}
+use Rattle.lemmas.proofs.Pushed.{HoldsSoFar}
 
 -- the spans at the place of a row tell of every choice what it fills
 abbrev pub AreSpansAt : BlockNumbers → Axis → ℕ → List Span → Type 0

@@ -5,7 +5,7 @@ use Rattle.cell_rows.specs.Rows.{cell_numbered, is_marked_at, row_sizes}
 use Rattle.solid_model.specs.declared.cell.Axis.{Axis}
 use Rattle.solid_model.specs.declared.cell.Axis.TheVariants.{X, Y, Z}
 use Rattle.solid_model.specs.declared.per_axis.PerAxis.{PerAxis}
-use Rattle.solid_model.specs.Bits.{is_set}
+use Rattle.lemmas.specs.Bits.{is_set}
 use Rattle.solid_model.specs.Blocks.{BlockNumbers}
 use Rattle.solid_model.specs.Choices.{is_chosen, cells_of_choice}
 use Rattle.solid_model.specs.Marks.{BoxMarks}

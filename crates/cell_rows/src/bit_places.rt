@@ -1,7 +1,7 @@
 //! The places of bits that are set.
 
 ghost use Rattle.std.specs.Prelude.{◌≡◌, ◌≤◌, ◌<◌, ◌*◌, ◌^◌, ℕ, false, length, IsTrue};
-ghost use Rattle.solid_model.specs.Bits.{is_set, bit_of};
+ghost use Rattle.lemmas.specs.Bits.{is_set, bit_of};
 
 /// A bit of a word is set.
 pub fn has_bit(word: u64, bit: usize) -> bool

@@ -3,7 +3,7 @@
 ghost use Rattle.std.specs.Prelude.{◌≡◌, ◌≢◌, ◌≤◌, ◌<◌, ◌++◌, ◌∷◌, ◌||◌, [], ℕ, Bool, List, map, IsTrue, IfOk};
 ghost use Rattle.cell_rows.specs.Rows.{is_marked_at};
 ghost use Rattle.cell_rows.specs.Spans.{is_filled, chosen_marks, AreRowSpans};
-ghost use Rattle.solid_model.specs.Bits.{is_set};
+ghost use Rattle.lemmas.specs.Bits.{is_set};
 ghost use Rattle.solid_model.specs.Choices.{is_chosen};
 ghost use Rattle.solid_model.specs.PerAxis.{numbers_of};
 

@@ -3,7 +3,7 @@
 ghost use Rattle.std.specs.Prelude.{◌≡◌, ◌≤◌, ◌<◌, ℕ, length, map, IfOk};
 ghost use Rattle.cell_rows.specs.Rows.{is_marked_at, stride_along, AreRows};
 ghost use Rattle.cell_rows.specs.Spans.{AreFilled};
-ghost use Rattle.solid_model.specs.Bits.{is_set};
+ghost use Rattle.lemmas.specs.Bits.{is_set};
 ghost use Rattle.solid_model.specs.PerAxis.{numbers_of, AreFew};
 
 use crate::block_rows::{BlockRows, filled_row};
@@ -98,7 +98,7 @@ impl CellRows {
     ghost use Rattle.cell_rows.specs.Rows.{is_marked_at, AreRows};
     ghost use Rattle.cell_rows.specs.Spans.{chosen_marks};
     ghost use Rattle.solid_model.specs.declared.cell.Axis.{Axis};
-    ghost use Rattle.solid_model.specs.Bits.{is_set};
+    ghost use Rattle.lemmas.specs.Bits.{is_set};
     ghost use Rattle.solid_model.specs.PerAxis.{numbers_of};
 
     /// The rows of these marks. An `Err` is out of memory.

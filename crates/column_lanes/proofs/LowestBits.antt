@@ -5,10 +5,10 @@ use Rattle.std.proofs.lemmas.Bool.{false≢true, both_ways, and_parts, and_from,
 use Rattle.std.proofs.lemmas.Nat.{xor_lt}
 use Rattle.std.proofs.lemmas.Nat.Bits.{bit_at-lt, bit_at_above, same_from_bits}
 use Rattle.solid_model.specs.declared.segment.Style.TheVariants.{Blank, Dashed, Solid}
-use Rattle.solid_model.specs.Bits.{is_set, bits, near}
+use Rattle.lemmas.specs.Bits.{is_set, bits, near}
 use Rattle.solid_model.proofs.FirstBits.{zero_or_more, same_bit, dashed_from_zeros, solid_from_zeros}
-use Rattle.solid_model.proofs.NearBits.{near_to, near_from}
-use Rattle.solid_model.proofs.WordBits.{set_both, not_zero, zeros, zeros_of_none, lowest_set, lowest_at_most}
+use Rattle.lemmas.proofs.NearBits.{near_to, near_from}
+use Rattle.lemmas.proofs.WordBits.{set_both, not_zero, zeros, zeros_of_none, lowest_set, lowest_at_most}
 use Rattle.column_lanes.specs.Styles.{IsStyleByte, lowest_bit, style_code}
 
 module _ (n : ℕ) (fits : n < 2 ^ 64) where

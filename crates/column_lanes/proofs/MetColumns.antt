@@ -6,10 +6,10 @@ use Rattle.std.proofs.lemmas.Nat.{or_lt}
 use Rattle.solid_model.specs.Known.{known_bits, LiesWithin}
 use Rattle.solid_model.proofs.KnownBits.{blank_from, blank_to, solid_from, solid_to, dashed_from, dashed_to}
 use Rattle.solid_model.specs.declared.segment.Style.TheVariants.{Blank, Dashed, Solid}
-use Rattle.solid_model.specs.Bits.{is_set, near}
+use Rattle.lemmas.specs.Bits.{is_set, near}
 use Rattle.solid_model.specs.Demands.{CanDraw}
-use Rattle.solid_model.proofs.NearBits.{near_to}
-use Rattle.solid_model.proofs.WordBits.{set_both, set_either, zeros, lowest_set, lowest_at_most}
+use Rattle.lemmas.proofs.NearBits.{near_to}
+use Rattle.lemmas.proofs.WordBits.{set_both, set_either, zeros, lowest_set, lowest_at_most}
 use Rattle.column_lanes.specs.Meets.{IsMetByte, without, must_differ, can_differ, can_begin, met_code}
 use Rattle.column_lanes.proofs.NearBits.{set_apart, near_fits, apart_fits, some_near, some_behind}
 

@@ -6,9 +6,9 @@ use Rattle.std.proofs.lemmas.Bool.{false≢true, both_ways, and_parts, and_from,
 use Rattle.std.proofs.lemmas.Nat.{xor_lt}
 use Rattle.std.proofs.lemmas.Nat.Bits.{bit_at-lt, bit_at_xor, bit_at_above}
 use Rattle.solid_model.proofs.KnownBits.{behind, some_bit}
-use Rattle.solid_model.specs.Bits.{is_set, near}
-use Rattle.solid_model.proofs.NearBits.{near_to, near_from}
-use Rattle.solid_model.proofs.WordBits.{set_both, not_zero, zeros, zeros_of_none, lowest_set, lowest_at_most}
+use Rattle.lemmas.specs.Bits.{is_set, near}
+use Rattle.lemmas.proofs.NearBits.{near_to, near_from}
+use Rattle.lemmas.proofs.WordBits.{set_both, not_zero, zeros, zeros_of_none, lowest_set, lowest_at_most}
 use Rattle.column_lanes.specs.Meets.{without}
 
 -- the bits of the one without those of the other

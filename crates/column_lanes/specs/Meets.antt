@@ -3,7 +3,7 @@ use Rattle.std.specs.Prelude.{◌≡◌, ◌==◌, ◌<◌, ◌↔◌, ℤ, Bool
 use Rattle.std.specs.Int.Bits.{bit_and, bit_or}
 use Rattle.std.specs.Int.RustNames.{bit_xor}
 use Rattle.solid_model.specs.declared.segment.Style.{Style}
-use Rattle.solid_model.specs.Bits.{near}
+use Rattle.lemmas.specs.Bits.{near}
 use Rattle.solid_model.specs.Demands.{CanDraw}
 use Rattle.column_lanes.specs.Styles.{style_byte}
 

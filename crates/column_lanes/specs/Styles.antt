@@ -3,7 +3,7 @@ use Rattle.std.specs.Prelude.{◌≡◌, ◌==◌, ℤ, Bool, ℕ, List, slice_i
 use Rattle.std.specs.Int.Bits.{bit_and}
 use Rattle.solid_model.specs.declared.segment.Style.{Style}
 use Rattle.solid_model.specs.declared.segment.Style.TheVariants.{Blank, Dashed, Solid}
-use Rattle.solid_model.specs.Bits.{near}
+use Rattle.lemmas.specs.Bits.{near}
 use Rattle.solid_model.specs.Columns.{ColumnsDraw}
 
 -- the byte of a style

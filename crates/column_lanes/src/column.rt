@@ -1,7 +1,7 @@
 //! Columns of cells, as bits.
 
 ghost use Rattle.solid_model.specs.Columns.{ColumnsDraw};
-ghost use Rattle.solid_model.specs.Bits.{bits};
+ghost use Rattle.lemmas.specs.Bits.{bits};
 
 use solid_model::Style;
 

@@ -1,7 +1,7 @@
 //! Lanes: numbers that are computed together.
 
 ghost use Rattle.std.specs.Prelude.{◌≡◌, ◌<◌, ◌≤◌, ◌+◌, ◌^◌, ℕ, length, slice_index_or};
-ghost use Rattle.solid_model.specs.Bits.{near};
+ghost use Rattle.lemmas.specs.Bits.{near};
 ghost use Rattle.column_lanes.specs.Lanes.{AreLanes, AreBytes};
 
 use std::simd::prelude::*;

@@ -1,7 +1,7 @@
 //! The styles that pairs of columns draw.
 
 ghost use Rattle.std.specs.Prelude.{◌≡◌, ◌<◌, ◌≤◌, ◌+◌, ◌*◌, ◌/◌, ℕ, length, slice_index_or};
-ghost use Rattle.solid_model.specs.Bits.{bits};
+ghost use Rattle.lemmas.specs.Bits.{bits};
 ghost use Rattle.column_lanes.specs.Lanes.{AreLanes, AreBytes};
 ghost use Rattle.column_lanes.specs.Styles.{style_byte, style_code, code_at, IsStyleByte};
 

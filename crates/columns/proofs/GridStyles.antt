@@ -16,10 +16,10 @@ use Rattle.solid_model.specs.Panels.{starts_of}
 use Rattle.solid_model.specs.Segments.{segment_at}
 use Rattle.solid_model.specs.PerAxis.{gaps_of}
 use Rattle.column_lanes.specs.declared.column.Column.{Column}
-use Rattle.columns.specs.GridColumns.{AreColumns}
-use Rattle.columns.specs.GridPanels.{place_right, place_up, IsColumnBeside, IsStyleBetween, AreStylesAlong}
-use Rattle.columns.proofs.GridSegments.{segment_drawn}
-use Rattle.solid_model.proofs.Pushed.{HoldsSoFar}
+use Rattle.columns.specs.ColumnLists.{AreColumns}
+use Rattle.column_laws.specs.GridPanels.{place_right, place_up, IsColumnBeside, IsStyleBetween, AreStylesAlong}
+use Rattle.column_laws.proofs.GridSegments.{segment_drawn}
+use Rattle.lemmas.proofs.Pushed.{HoldsSoFar}
 
 -- ---- columns beside a line
 
@@ -37,7 +37,7 @@ column_within f sizes upright start line l m =
     let within = mul-add-lt (place_up upright start line) (sizes f.right.axis) (place_right upright start line) (sizes f.up.axis) p.1 p.0 in
     omega (arith, mul_comm (sizes f.right.axis) (sizes f.up.axis))
 
--- it is the one beside the line,
+-- it is the one beside the line
 pub beside_line : (f : Frame) (sizes : Axis → ℕ) (chosen : List Bool) (upright : Bool) (start line : ℕ) (columns : List Column) (column : Column) → AreColumns f sizes chosen columns
     → start < sizes (along f upright).axis → line < sizes (across f upright).axis
     → column ≡ get_or columns (place_up upright start line * sizes f.right.axis + place_right upright start line) record { 0 = 0 }
@@ -46,11 +46,6 @@ beside_line f sizes chosen upright start line columns column are l m e =
     let p = places_within f sizes upright start line l m in
     subst (λ (c : Column). IsColumnBeside f sizes chosen upright start line c.0) (sym e)
     (record { inside = λ within k. are.each (place_right upright start line) (place_up upright start line) p.0 p.1 k; outside = λ beyond. absurd (omega arith) })
-
--- and beyond the last line none is
-pub beyond_lines : (f : Frame) (sizes : Axis → ℕ) (chosen : List Bool) (upright : Bool) (start line : ℕ) → sizes (across f upright).axis ≤ line
-    → IsColumnBeside f sizes chosen upright start line 0
-beyond_lines f sizes chosen upright start line beyond = record { inside = λ within. absurd (omega arith); outside = λ l. refl }
 
 -- ---- styles, line by line
 

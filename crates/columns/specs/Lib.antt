@@ -1,16 +1,1 @@
-pub mod GridColumns
-pub mod GridPanels
-pub mod Broken
-pub mod DrawnDemands
-pub mod SmallForcing
-pub mod Touching
-pub mod Spans
-pub mod Doubted
-pub mod Lines
-pub mod Plans
-pub mod KeptColumns
-pub mod Gathered
-pub mod Sight
-pub mod SightCells
-pub mod Seen
-pub mod Free
+pub mod ColumnLists

@@ -11,8 +11,8 @@ ghost use Rattle.solid_model.specs.Grid.{gaps_along, IsUnionOf};
 ghost use Rattle.solid_model.specs.Limits.{most_grid_coordinates};
 ghost use Rattle.solid_model.specs.Panels.{coordinates_of, AreGridStyles, panel_of, styles_along};
 ghost use Rattle.solid_model.specs.PerAxis.{numbers_of, gaps_of};
-ghost use Rattle.columns.specs.GridColumns.{AreColumns, columns_in};
-ghost use Rattle.columns.specs.GridPanels.{HasCounts, ArePanels, AreStylesAlong};
+ghost use Rattle.columns.specs.ColumnLists.{AreColumns, columns_in};
+ghost use Rattle.column_laws.specs.GridPanels.{HasCounts, ArePanels, AreStylesAlong};
 
 use crate::grid_columns::view_columns;
 use crate::segment_styles::styles_along;
@@ -31,7 +31,7 @@ pub struct ColumnSet {
 }
 
 impl Model for ColumnSet {
-    ghost use Rattle.columns.specs.GridColumns.{ColumnLists};
+    ghost use Rattle.columns.specs.ColumnLists.{ColumnLists};
 
     ghost Value = { ColumnLists };
 
@@ -40,7 +40,7 @@ impl Model for ColumnSet {
 
 impl ColumnSet {
     ghost use Rattle.std.specs.Prelude.{◌≡◌};
-    ghost use Rattle.columns.specs.GridColumns.{columns_in};
+    ghost use Rattle.columns.specs.ColumnLists.{columns_in};
 
     /// The columns of a view.
     pub fn view(&self, view: View) -> &[Column]

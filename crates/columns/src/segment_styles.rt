@@ -5,8 +5,8 @@ ghost use Rattle.solid_model.specs.declared.cell.Axis.{Axis};
 ghost use Rattle.solid_model.specs.Frames.{frame_of, along, across};
 ghost use Rattle.solid_model.specs.Limits.{most_grid_coordinates};
 ghost use Rattle.solid_model.specs.PerAxis.{numbers_of, gaps_of};
-ghost use Rattle.columns.specs.GridColumns.{AreColumns};
-ghost use Rattle.columns.specs.GridPanels.{place_right, place_up, IsColumnBeside, IsStyleBetween, AreStylesAlong};
+ghost use Rattle.columns.specs.ColumnLists.{AreColumns};
+ghost use Rattle.column_laws.specs.GridPanels.{place_right, place_up, IsColumnBeside, IsStyleBetween, AreStylesAlong};
 
 use column_lanes::{Column, style_of};
 use solid_model::{Frame, Memory, PerAxis, Style, View};

@@ -7,14 +7,14 @@ use Rattle.solid_model.specs.declared.cell.Axis.{Axis}
 use Rattle.solid_model.specs.declared.cell.Axis.TheVariants.{X, Y, Z}
 use Rattle.solid_model.specs.declared.cell.Cell.{Cell}
 use Rattle.solid_model.specs.Cells.{coordinate, cell_at, is_full}
-use Rattle.solid_model.specs.Lists.{Member}
+use Rattle.lemmas.specs.Lists.{Member}
 use Rattle.solid_model.proofs.Fullness.{same_coordinates, is_full-member, member-is_full}
-use Rattle.solid_model.proofs.Integers.{natural}
-use Rattle.solid_model.proofs.Lists.{member-map, member-from_map, member-filter, member-from_filter}
+use Rattle.lemmas.proofs.Integers.{natural}
+use Rattle.lemmas.proofs.Lists.{member-map, member-from_map, member-filter, member-from_filter}
 use Rattle.drawing_maker.specs.declared.cube.Cube.{Cube}
 use Rattle.drawing_maker.specs.Cubes.{Cubelet, cubelets_in, cube_side, is_void, full_cubelets, enlarged, cube_cells, row_cells}
-use Rattle.solid_model.proofs.Concatenations.{member-flat_map, member-from_flat_map}
-use Rattle.solid_model.proofs.Ranges.{member-range, member-from_range}
+use Rattle.lemmas.proofs.Concatenations.{member-flat_map, member-from_flat_map}
+use Rattle.lemmas.proofs.Ranges.{member-range, member-from_range}
 use Rattle.drawing_maker.proofs.Rows.{IsRow, Spans, LiesInPart, part_spans, one_part, one_cube}
 
 -- ---- cubelets

@@ -16,7 +16,7 @@ use Rattle.solid_model.specs.Draws.{Draws}
 use Rattle.solid_model.specs.DrawnStyle.{solid_drawing}
 use Rattle.solid_model.specs.Frames.{frame_of, along, across}
 use Rattle.solid_model.specs.Grid.{Coordinates, IsDrawnAcross, ChangesAt, IsGridCoordinate, IsInSomeGap}
-use Rattle.solid_model.specs.Lists.{Member, Ascends}
+use Rattle.lemmas.specs.Lists.{Member, Ascends}
 use Rattle.solid_model.proofs.OnGrid.{StaysOnGrid}
 use Rattle.solid_model.specs.Segments.{segment_at}
 use Rattle.solid_model.proofs.ColumnRule.{beside_blank}

@@ -9,14 +9,14 @@ use Rattle.solid_model.specs.Cells.{is_full}
 use Rattle.solid_model.specs.DrawnStyle.{solid_drawing}
 use Rattle.solid_model.specs.Frames.{frame_of, along}
 use Rattle.solid_model.specs.Grid.{Coordinates, IsDrawnAcross, AreGridCoordinates, IsUnionOf, grid_cell_count, gaps_along}
-use Rattle.solid_model.specs.Lists.{Member, Each, Ascends}
+use Rattle.lemmas.specs.Lists.{Member, Each, Ascends}
 use Rattle.solid_model.specs.Panels.{PanelsStyles, GridParts, coordinates_of, IsGridOf, IsGrid}
 use Rattle.solid_model.proofs.OnGrid.{StaysOnGrid}
 use Rattle.solid_model.specs.PerAxis.{by_axis}
 use Rattle.solid_model.specs.Runs.{IsDrawing}
-use Rattle.solid_model.proofs.Lists.{member-from_map, each-at}
+use Rattle.lemmas.proofs.Lists.{member-from_map, each-at}
 use Rattle.solid_model.proofs.UnionDrawing.{union_on_grid}
-use Rattle.columns.specs.GridPanels.{ArePanels}
+use Rattle.column_laws.specs.GridPanels.{ArePanels}
 use Rattle.drawing_maker.specs.declared.cube.Cube.{Cube}
 use Rattle.drawing_maker.specs.declared.ticks.Tick.{Tick}
 use Rattle.drawing_maker.specs.Made.{generator_of, made_cubes, made_solid}

@@ -5,8 +5,8 @@ use Rattle.std.proofs.lemmas.List.FromFn.{length-map-range_with_len}
 use Rattle.std.proofs.lemmas.Nat.{mod_below}
 use Rattle.rand_pcg.specs.Lcg.{Lcg}
 use Rattle.rand_pcg.specs.Pcg.{pcg32}
-use Rattle.solid_model.specs.Lists.{Each, Ascends}
-use Rattle.solid_model.proofs.Lists.{each-weaker}
+use Rattle.lemmas.specs.Lists.{Each, Ascends}
+use Rattle.lemmas.proofs.Lists.{each-weaker}
 use Rattle.drawing_maker.specs.declared.cube.Kind.{Kind}
 use Rattle.drawing_maker.specs.declared.cube.Kind.TheVariants.{UnitCube, HollowCube, EightVoids}
 use Rattle.drawing_maker.specs.declared.cube.Cube.{Cube}

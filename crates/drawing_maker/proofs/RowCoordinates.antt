@@ -8,10 +8,11 @@ use Rattle.solid_model.specs.declared.cell.Axis.TheVariants.{X, Y, Z}
 use Rattle.solid_model.specs.declared.cell.Cell.{Cell}
 use Rattle.solid_model.specs.Cells.{coordinate, cell_before, is_full}
 use Rattle.solid_model.specs.DrawnStyle.{solid_drawing}
-use Rattle.solid_model.specs.Edges.{agree, second_axis}
+use Rattle.lemmas.specs.Truth.{agree}
+use Rattle.solid_model.specs.Edges.{second_axis}
 use Rattle.solid_model.specs.Grid.{IsGridCoordinate}
-use Rattle.solid_model.specs.Lists.{Member, Each}
-use Rattle.solid_model.proofs.Lists.{member-from_map, each-at}
+use Rattle.lemmas.specs.Lists.{Member, Each}
+use Rattle.lemmas.proofs.Lists.{member-from_map, each-at}
 use Rattle.drawing_maker.specs.declared.cube.Kind.{Kind}
 use Rattle.drawing_maker.specs.declared.cube.Kind.TheVariants.{UnitCube, HollowCube, EightVoids}
 use Rattle.drawing_maker.specs.declared.cube.Cube.{Cube}
@@ -19,7 +20,7 @@ use Rattle.drawing_maker.specs.declared.ticks.Tick.{Tick}
 use Rattle.drawing_maker.specs.Cubes.{Cubelet, cube_side, is_void, row_cells}
 use Rattle.drawing_maker.specs.Rows.{row_ticks, coordinates_of_ticks}
 use Rattle.drawing_maker.proofs.DrawnAcross.{coordinate_between}
-use Rattle.solid_model.proofs.Ranges.{member-range}
+use Rattle.lemmas.proofs.Ranges.{member-range}
 use Rattle.drawing_maker.proofs.Rows.{IsRow, Spans, LiesInPart, scaled, part_spans}
 use Rattle.drawing_maker.proofs.RowTicks.{tick_in_cube, tick_in_row}
 use Rattle.drawing_maker.proofs.Cubelets.{place_along, empty_beside, full_in_cubelet}

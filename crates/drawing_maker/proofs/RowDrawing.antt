@@ -9,7 +9,7 @@ use Rattle.solid_model.specs.declared.segment.Style.TheVariants.{Blank}
 use Rattle.solid_model.specs.Frames.{frame_of, along, across}
 use Rattle.solid_model.specs.Grid.{Coordinates, IsInSomeGap, IsDrawnAcross}
 use Rattle.solid_model.specs.Limits.{farthest_in_view}
-use Rattle.solid_model.specs.Lists.{Member, Ascends}
+use Rattle.lemmas.specs.Lists.{Member, Ascends}
 use Rattle.solid_model.proofs.OnGrid.{StaysOnGrid}
 use Rattle.solid_model.specs.Runs.{IsDrawing}
 use Rattle.solid_model.specs.Segments.{segment_at, far_right, far_up}

@@ -4,16 +4,16 @@ use Rattle.std.specs.List.{range_with_len}
 use Rattle.std.proofs.lemmas.Bool.{false≢true, and_parts}
 use Rattle.std.proofs.lemmas.Int.{ints, by_lt_z}
 use Rattle.solid_model.specs.Grid.{is_in_gap}
-use Rattle.solid_model.specs.Lists.{Member, Each, Ascends}
-use Rattle.solid_model.proofs.Lists.{member-from_map, each-at, each-from, each-map, ascends-append, ascends-map}
+use Rattle.lemmas.specs.Lists.{Member, Each, Ascends}
+use Rattle.lemmas.proofs.Lists.{member-from_map, each-at, each-from, each-map, ascends-append, ascends-map}
 use Rattle.solid_model.proofs.UnionDrawing.{none_before_first}
 use Rattle.drawing_maker.specs.declared.cube.Cube.{Cube}
 use Rattle.drawing_maker.specs.declared.ticks.Part.{Part}
 use Rattle.drawing_maker.specs.declared.ticks.Tick.{Tick}
 use Rattle.drawing_maker.specs.Cubes.{cube_side}
 use Rattle.drawing_maker.specs.Rows.{first_tick, tick_after, cube_ticks, row_ticks, coordinates_of_ticks}
-use Rattle.solid_model.proofs.Concatenations.{member-from_flat_map}
-use Rattle.solid_model.proofs.Ranges.{member-from_range, ascends-range}
+use Rattle.lemmas.proofs.Concatenations.{member-from_flat_map}
+use Rattle.lemmas.proofs.Ranges.{member-from_range, ascends-range}
 use Rattle.drawing_maker.proofs.Rows.{end_of, EndsBefore, IsRow, row_behind, Spans, LiesInPart, scaled}
 
 -- ---- ascending ticks

@@ -9,10 +9,10 @@ use Rattle.solid_model.specs.declared.cell.Axis.TheVariants.{X, Y, Z}
 use Rattle.solid_model.specs.declared.cell.Cell.{Cell}
 use Rattle.solid_model.specs.Cells.{coordinate, is_full}
 use Rattle.solid_model.specs.Grid.{is_in_gap, IsInSomeGap, Coordinates, GridCell, LiesInGridCell, LiesInGrid, gaps_along, grid_cell_place, IsUnionOf}
-use Rattle.solid_model.specs.Lists.{Member}
+use Rattle.lemmas.specs.Lists.{Member}
 use Rattle.solid_model.proofs.Gaps.{lies_in}
 use Rattle.solid_model.proofs.InGrid.{some_gap_or_outside}
-use Rattle.solid_model.proofs.Lists.{member-map}
+use Rattle.lemmas.proofs.Lists.{member-map}
 use Rattle.drawing_maker.specs.declared.cube.Kind.{Kind}
 use Rattle.drawing_maker.specs.declared.cube.Kind.TheVariants.{UnitCube, HollowCube, EightVoids}
 use Rattle.drawing_maker.specs.declared.cube.Cube.{Cube}
@@ -20,8 +20,8 @@ use Rattle.drawing_maker.specs.declared.ticks.Part.{Part}
 use Rattle.drawing_maker.specs.declared.ticks.Tick.{Tick}
 use Rattle.drawing_maker.specs.Cubes.{cube_side, is_void, row_cells}
 use Rattle.drawing_maker.specs.Rows.{first_tick, tick_after, cube_ticks, row_ticks, coordinates_of_ticks, is_full_where, is_full_before, cells_before}
-use Rattle.solid_model.proofs.Concatenations.{member-flat_map, length-over_triples, get_or-over_triples}
-use Rattle.solid_model.proofs.Ranges.{member-range}
+use Rattle.lemmas.proofs.Concatenations.{member-flat_map, length-over_triples, get_or-over_triples}
+use Rattle.lemmas.proofs.Ranges.{member-range}
 use Rattle.drawing_maker.proofs.Rows.{end_of, IsRow, Spans, LiesInPart, part_spans, one_origin}
 use Rattle.drawing_maker.proofs.RowTicks.{IsTold, before_at, ascends_row, told_in_gap}
 use Rattle.drawing_maker.proofs.Cubelets.{IsInside, LiesInCubelet, filled_from_full, filled_spans, filled_by, full_in_cubelet}

@@ -3,8 +3,8 @@ use Rattle.std.proofs.Common.{◌≡◌, ⊎_elim, inl, inr, ℕ, ◌+◌, ◌*�
 use Rattle.std.proofs.Math.Nat.{mul-le-mul_left}
 use Rattle.std.proofs.lemmas.Bool.{cases_lt}
 use Rattle.std.proofs.lemmas.Int.{ints}
-use Rattle.solid_model.specs.Lists.{Member, Each, Ascends}
-use Rattle.solid_model.proofs.Lists.{ascends-members}
+use Rattle.lemmas.specs.Lists.{Member, Each, Ascends}
+use Rattle.lemmas.proofs.Lists.{ascends-members}
 use Rattle.drawing_maker.specs.declared.cube.Cube.{Cube}
 use Rattle.drawing_maker.specs.Cubes.{cube_side}
 

@@ -2,7 +2,7 @@
 -- cube ends.
 use Rattle.std.specs.Prelude.{◌+◌, ◌*◌, ◌≤◌, ◌&&◌, ◌==◌, Bool, false, not, ℕ, List, ◌∷◌, map, Option, Some, None, ℤ, pos}
 use Rattle.std.specs.List.{flat_map, range_with_len}
-use Rattle.solid_model.specs.Lists.{Each}
+use Rattle.lemmas.specs.Lists.{Each}
 use Rattle.solid_model.specs.Panels.{PanelsStyles, GridParts}
 use Rattle.drawing_maker.specs.declared.cube.Cube.{Cube}
 use Rattle.drawing_maker.specs.declared.ticks.Part.{Part}

@@ -27,8 +27,8 @@ use Rattle.solid_model.specs.declared.frame.View.{View}
 use Rattle.solid_model.specs.declared.segment.Style.{Style}
 use Rattle.solid_model.specs.declared.segment.Style.TheVariants.{Blank, Dashed, Solid}
 use Rattle.solid_model.specs.Line.{Line, IsKept}
-use Rattle.solid_model.specs.Lists.{Each}
-use Rattle.solid_model.proofs.Lists.{each-append}
+use Rattle.lemmas.specs.Lists.{Each}
+use Rattle.lemmas.proofs.Lists.{each-append}
 use Rattle.dxf_entities.proofs.NearPoints.{IsNearShape, after_ok, begun_near, known_near, ok_value, points_near}
 
 -- ---- lines

@@ -18,8 +18,8 @@ use Rattle.dxf_groups.specs.Pairs.{TextPair}
 use Rattle.dxf_groups.proofs.NumeralReach.{scaled_near}
 use Rattle.solid_model.specs.declared.fault.Fault.{Fault}
 use Rattle.solid_model.specs.Line.{IsNear}
-use Rattle.solid_model.specs.Lists.{Each}
-use Rattle.solid_model.proofs.Lists.{each-append}
+use Rattle.lemmas.specs.Lists.{Each}
+use Rattle.lemmas.proofs.Lists.{each-append}
 
 -- ---- steps that may have a fault
 

@@ -1,7 +1,7 @@
 -- What is known of the points that an entity gives.
 use Rattle.std.specs.Prelude.{ℤ, Bool, List, [], Option, None, IfSome}
 use Rattle.solid_model.specs.Line.{IsNear}
-use Rattle.solid_model.specs.Lists.{Each}
+use Rattle.lemmas.specs.Lists.{Each}
 
 -- a point of the sheet
 pub record Point : Type 0 where

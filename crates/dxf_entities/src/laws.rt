@@ -4,7 +4,7 @@ ghost use Rattle.std.specs.Prelude.{◌≡◌, ℕ, List, [], ◌∷◌, ◌++�
 ghost use Rattle.solid_model.specs.declared.fault.Fault.TheVariants.{BadSection, Curved, Missing, NoEof, Oblique, Repeated};
 ghost use Rattle.solid_model.specs.declared.segment.Style.TheVariants.{Dashed, Solid};
 ghost use Rattle.solid_model.specs.Line.{Line, IsKept};
-ghost use Rattle.solid_model.specs.Lists.{Each};
+ghost use Rattle.lemmas.specs.Lists.{Each};
 ghost use Rattle.dxf_groups.specs.SmallTexts.{pair_on};
 ghost use Rattle.dxf_entities.specs.Reading.{pairs_read, read_of};
 ghost use Rattle.dxf_entities.specs.SmallFiles.{line_from, section_at, end_of_section, hidden_layer, unit_line, file_of_polyline, vertex_at, line_to};

@@ -2,7 +2,7 @@
 
 ghost use Rattle.std.specs.Prelude.{◌≡◌, ◌++◌, List, [], ◌∷◌, ℕ, pos, negsuc, neg_ℤ, drop, Some, None, Ok, Err, codes};
 ghost use Rattle.solid_model.specs.declared.fault.Fault.TheVariants.{BadCode, Binary, NoEof, NoValue};
-ghost use Rattle.solid_model.specs.Lists.{Each};
+ghost use Rattle.lemmas.specs.Lists.{Each};
 ghost use Rattle.dxf_groups.specs.declared.numerals.NumeralFault.TheVariants as numeral;
 ghost use Rattle.dxf_groups.specs.Numerals.{IsNumeral, Numeral, numeral_of, scaled_of, whole_of};
 ghost use Rattle.dxf_groups.specs.Pairs.{ended, pairs_of, rest_of, utf8_mark, with_pair};

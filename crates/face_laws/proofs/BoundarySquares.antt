@@ -6,10 +6,10 @@ use Rattle.solid_model.specs.declared.face.Out.{Out}
 use Rattle.solid_model.specs.declared.face.Out.TheVariants.{MinusX, PlusX, MinusY, PlusY, MinusZ, PlusZ}
 use Rattle.solid_model.specs.Cells.{coordinate, is_full}
 use Rattle.solid_model.specs.Faces.{right_axis, up_axis, inner_cell, outer_cell, is_boundary}
-use Rattle.solid_model.specs.Lists.{Member}
+use Rattle.lemmas.specs.Lists.{Member}
 use Rattle.solid_model.specs.Rounds.{Spot, Side, left_square, right_square, is_border}
 use Rattle.solid_model.proofs.Fullness.{is_full-member}
-use Rattle.solid_model.proofs.Lists.{member-map}
+use Rattle.lemmas.proofs.Lists.{member-map}
 
 -- on the left of a border side lies one of the squares
 pub border_left : (squares : Spot → Bool) (s : Side) → IsTrue (is_border squares s) → squares (left_square s) ≡ true

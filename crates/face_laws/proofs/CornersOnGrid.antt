@@ -9,7 +9,7 @@ use Rattle.solid_model.specs.declared.face.Out.TheVariants.{MinusX, PlusX, Minus
 use Rattle.solid_model.specs.Cells.{coordinate, cell_before}
 use Rattle.solid_model.specs.Faces.{outward, right_axis, up_axis, place, inner_cell, outer_cell, is_boundary}
 use Rattle.solid_model.specs.Grid.{Coordinates, IsUnionOf}
-use Rattle.solid_model.specs.Lists.{Member, Ascends}
+use Rattle.lemmas.specs.Lists.{Member, Ascends}
 use Rattle.solid_model.specs.Rounds.{Spot, Heading, East, North, West, South, same_heading, spot_after, Side, end_of, is_border, heading_after, turns}
 use Rattle.solid_model.proofs.SameOnGrid.{member_or_not}
 use Rattle.face_laws.proofs.Turns.{round, arrives, onward, border_at_end}

@@ -6,7 +6,7 @@ use Rattle.solid_model.specs.declared.face.Out.{Out}
 use Rattle.solid_model.specs.declared.face.Out.TheVariants.{MinusX, PlusX, MinusY, PlusY, MinusZ, PlusZ}
 use Rattle.solid_model.specs.Cells.{cell_at, same_cell, is_full}
 use Rattle.solid_model.specs.Faces.{inner_cell, is_boundary, place, BeginsLeast, FaceParts, IsFaceAt, FaceBefore, AreFacesOf}
-use Rattle.solid_model.specs.Lists.{Member, Each, Ascends}
+use Rattle.lemmas.specs.Lists.{Member, Each, Ascends}
 use Rattle.solid_model.specs.Rounds.{Spot, South, round_corners}
 use Rattle.face_laws.specs.SmallFaces.{first_square, unit_cube_faces}
 use Rattle.solid_model.specs.SmallSolids.{unit_cube}

@@ -7,10 +7,10 @@ use Rattle.std.proofs.lemmas.Int.{ints}
 use Rattle.solid_model.specs.declared.cell.Cell.{Cell}
 use Rattle.solid_model.specs.declared.face.Out.{Out}
 use Rattle.solid_model.specs.Faces.{is_boundary, place, IsLoopOf, starts_before, StartsBefore, AreLoopsOf, FaceParts, IsFaceAt, out_number, first_loop, is_face_before, FaceBefore, AreFacesOf}
-use Rattle.solid_model.specs.Lists.{Member}
+use Rattle.lemmas.specs.Lists.{Member}
 use Rattle.solid_model.specs.Rounds.{Spot}
 use Rattle.solid_model.proofs.CellOrder.{before_one_way, Decides-int_lt}
-use Rattle.solid_model.proofs.Lists.{IsWithin, each-at, same_ascending}
+use Rattle.lemmas.proofs.Lists.{IsWithin, each-at, same_ascending}
 
 -- ---- loops
 

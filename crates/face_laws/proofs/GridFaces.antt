@@ -7,11 +7,11 @@ use Rattle.solid_model.specs.declared.face.Out.{Out}
 use Rattle.solid_model.specs.Faces.{outward, right_axis, up_axis, place, is_boundary, BeginsLeast, IsLoopOf, StartsBefore, AreLoopsOf, FaceParts, IsFaceAt, out_number, first_loop, FaceBefore, AreFacesOf}
 use Rattle.face_laws.specs.GridFaces.{Planes, point_of_numbers, AreCellsOf, face_in_space}
 use Rattle.face_laws.specs.GridRounds.{Rises, grid_point, last_side}
-use Rattle.solid_model.specs.Lists.{Member}
+use Rattle.lemmas.specs.Lists.{Member}
 use Rattle.solid_model.specs.Orders.{ComesBefore}
 use Rattle.solid_model.specs.Rounds.{Spot, Side, left_square, IsRound, round_sides, round_corners, AreNeighbours, AreJoined}
 use Rattle.face_laws.proofs.BoundarySquares.{spot_of, boundary_within, border_left}
-use Rattle.solid_model.proofs.Chains.{reaches-onward}
+use Rattle.lemmas.proofs.Chains.{reaches-onward}
 use Rattle.face_laws.proofs.FaceLists.{LiesFirst, Decides-is_face_before}
 use Rattle.face_laws.proofs.FacePlaces.{place_keeps}
 use Rattle.face_laws.proofs.GridBoundary.{place_in_space, order_in_space, squares_in_space, plane_in_space}
@@ -19,7 +19,7 @@ use Rattle.face_laws.proofs.GridJoined.{same_in, square_of, square_of-in, point_
 use Rattle.face_laws.proofs.GridLines.{LiesBetween, later_line}
 use Rattle.face_laws.proofs.GridTraces.{grid_round, ends_on_grid}
 use Rattle.face_laws.proofs.JoinedSides.{joined-back, round-joined}
-use Rattle.solid_model.proofs.Lists.{each-map, each-weaker, ascends-map, member-map}
+use Rattle.lemmas.proofs.Lists.{each-map, each-weaker, ascends-map, member-map}
 use Rattle.face_laws.proofs.OutwardSides.{one_out}
 use Rattle.face_laws.proofs.RoundStarts.{one_start}
 use Rattle.face_laws.proofs.SomeLoop.{some_round}

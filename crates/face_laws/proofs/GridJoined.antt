@@ -4,10 +4,10 @@ use Rattle.std.proofs.lemmas.Bool.{both_ways}
 use Rattle.std.proofs.lemmas.Int.{ints, by_lt_z}
 use Rattle.face_laws.specs.GridRounds.{Rises, grid_point, AreSquaresOf, last_side}
 use Rattle.solid_model.specs.Rounds.{Spot, Heading, East, North, West, South, left_of, spot_after, square_at, Side, end_of, left_square, is_border, turns, AreNeighbours, AreJoined}
-use Rattle.solid_model.proofs.Chains.{reaches-then_step, reaches-step, reaches-onward, reaches-map}
+use Rattle.lemmas.proofs.Chains.{reaches-then_step, reaches-step, reaches-onward, reaches-map}
 use Rattle.face_laws.proofs.CornersOnGrid.{straight_between_columns, straight_between_rows, no_turn}
 use Rattle.face_laws.proofs.GridLines.{LiesBetween, on_line, before_line, one_between, some_between}
-use Rattle.solid_model.proofs.Integers.{natural}
+use Rattle.lemmas.proofs.Integers.{natural}
 use Rattle.face_laws.proofs.JoinedSides.{joined-back}
 use Rattle.face_laws.proofs.Turns.{same_spot, step_back, step_forth, down_and_up, left_at_end}
 

@@ -2,7 +2,7 @@
 use Rattle.std.proofs.Common.{◌≡◌, ℕ, zero, suc, ℤ, pos, ◌+ℤ◌, ◌-ℤ◌, ◌≤ℤ◌, ◌<ℤ◌, sym, ap, subst, arith}
 use Rattle.std.proofs.lemmas.Int.{ints, by_lt_z}
 use Rattle.face_laws.specs.GridRounds.{Rises}
-use Rattle.solid_model.proofs.Integers.{natural}
+use Rattle.lemmas.proofs.Integers.{natural}
 use Rattle.face_laws.proofs.Turns.{down_and_up}
 
 -- how far a greater integer lies beyond

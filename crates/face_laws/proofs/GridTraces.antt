@@ -1,10 +1,10 @@
 -- A round of grid squares is a round of unit squares, with the same corners.
 use Rattle.std.proofs.Common.{◌≡◌, inl, inr, Bool, true, false, if◌then◌else◌, ℕ, zero, suc, ◌+◌, ◌<◌, ◌≤◌, List, [], ◌∷◌, ◌++◌, map, ℤ, IsTrue, refl, sym, ◌∙◌, ap, ap₂, subst, arith}
 use Rattle.face_laws.specs.GridRounds.{Rises, grid_point, AreSquaresOf, back_of, last_side}
-use Rattle.solid_model.specs.Lists.{Member}
+use Rattle.lemmas.specs.Lists.{Member}
 use Rattle.solid_model.specs.Rounds.{Spot, spot_after, Side, end_of, is_border, following, turns, further, sides_from, round_sides, IsRound, corners, round_corners}
 use Rattle.face_laws.proofs.GridUnits.{most, unit, unit-next, first_border, last_end, last_border, last_turns, last_following, last_is, unit_one, unit_place}
-use Rattle.solid_model.proofs.Lists.{member-append}
+use Rattle.lemmas.proofs.Lists.{member-append}
 use Rattle.face_laws.proofs.SidesInOrder.{member-earlier, round-further}
 use Rattle.face_laws.proofs.Turns.{same_side, step_back, step_forth, following_border}
 

@@ -3,9 +3,9 @@ use Rattle.std.proofs.Common.{◌≡◌, Bool, true, false, not, ◌&&◌, if◌
 use Rattle.std.proofs.lemmas.Bool.{false≢true, and_parts}
 use Rattle.std.proofs.lemmas.Int.{ints}
 use Rattle.face_laws.specs.GridRounds.{back_of}
-use Rattle.solid_model.specs.Lists.{Member}
+use Rattle.lemmas.specs.Lists.{Member}
 use Rattle.solid_model.specs.Rounds.{Spot, Heading, East, North, West, South, left_of, right_of, spot_after, square_at, Side, end_of, left_square, is_border, following, further, round_sides, AreNeighbours, AreJoined}
-use Rattle.solid_model.proofs.Chains.{reaches-itself, reaches-step, reaches-onward, reaches-back}
+use Rattle.lemmas.proofs.Chains.{reaches-itself, reaches-step, reaches-onward, reaches-back}
 use Rattle.face_laws.proofs.SidesInOrder.{member-earlier}
 use Rattle.face_laws.proofs.Turns.{same_spot, step_back, left_at_end, border_at_end, round, arrives, leaves, onward, following_border}
 

@@ -4,11 +4,11 @@ use Rattle.std.proofs.lemmas.Bool.{false≢true, and_parts}
 use Rattle.solid_model.specs.declared.cell.Cell.{Cell}
 use Rattle.solid_model.specs.Faces.{BeginsLeast}
 use Rattle.face_laws.specs.GridRounds.{back_of}
-use Rattle.solid_model.specs.Lists.{Member, Each}
+use Rattle.lemmas.specs.Lists.{Member, Each}
 use Rattle.solid_model.specs.Orders.{ComesBefore}
 use Rattle.solid_model.specs.Rounds.{Spot, Heading, East, North, West, South, same_heading, spot_after, Side, end_of, is_border, heading_after, following, turns, further, sides_from, round_sides, IsRound, corners, round_corners}
 use Rattle.solid_model.proofs.CellOrder.{one_or_before}
-use Rattle.solid_model.proofs.Lists.{each-map}
+use Rattle.lemmas.proofs.Lists.{each-map}
 use Rattle.face_laws.proofs.SidesInOrder.{member-border, round-following, round-before}
 use Rattle.face_laws.proofs.Turns.{same_side, step_back, round, arrives, border_at_end}
 

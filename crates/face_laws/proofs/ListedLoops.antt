@@ -3,7 +3,7 @@ use Rattle.std.proofs.Common.{◌≡◌, Bool, ℕ, List, map, ℤ, IsTrue, inl,
 use Rattle.solid_model.specs.declared.cell.Cell.{Cell}
 use Rattle.solid_model.specs.declared.face.Out.{Out}
 use Rattle.solid_model.specs.Faces.{place, BeginsLeast, IsLoopOf}
-use Rattle.solid_model.specs.Lists.{Member}
+use Rattle.lemmas.specs.Lists.{Member}
 use Rattle.solid_model.specs.Rounds.{Spot, Side, left_square, is_border, IsRound, round_sides, round_corners, AreJoined}
 use Rattle.face_laws.proofs.FacePlaces.{place_keeps}
 use Rattle.face_laws.proofs.RoundStarts.{one_start}

@@ -3,7 +3,7 @@ use Rattle.std.proofs.Common.{◌≡◌, inl, Bool, true, List, [], ◌∷◌, m
 use Rattle.solid_model.specs.declared.cell.Cell.{Cell}
 use Rattle.solid_model.specs.declared.face.Out.{Out}
 use Rattle.solid_model.specs.Faces.{place, BeginsLeast, AreLoopsOf}
-use Rattle.solid_model.specs.Lists.{Member}
+use Rattle.lemmas.specs.Lists.{Member}
 use Rattle.solid_model.specs.Rounds.{Spot, Heading, East, North, West, South, left_square, IsRound, round_sides, round_corners, AreJoined}
 use Rattle.face_laws.proofs.BoundarySquares.{border_left}
 use Rattle.face_laws.proofs.ListedLoops.{listed_complete}

@@ -4,15 +4,15 @@ use Rattle.std.proofs.lemmas.Bool.{false≢true}
 use Rattle.std.proofs.lemmas.Int.{ints}
 use Rattle.solid_model.specs.declared.cell.Cell.{Cell}
 use Rattle.solid_model.specs.Faces.{BeginsLeast, IsLoopOf, StartsBefore, AreLoopsOf, first_loop}
-use Rattle.solid_model.specs.Lists.{Member, Each}
+use Rattle.lemmas.specs.Lists.{Member, Each}
 use Rattle.solid_model.specs.Orders.{ComesBefore}
 use Rattle.solid_model.specs.Rounds.{Spot, South, West, spot_after, Side, end_of, left_square, right_square, is_border, following, sides_from, IsRound, corners, round_corners, AreNeighbours, AreJoined}
 use Rattle.solid_model.proofs.CellOrder.{before_onward, one_or_before}
-use Rattle.solid_model.proofs.Chains.{reaches-itself, reaches-onward, reaches-step_then}
-use Rattle.solid_model.proofs.Integers.{natural}
+use Rattle.lemmas.proofs.Chains.{reaches-itself, reaches-onward, reaches-step_then}
+use Rattle.lemmas.proofs.Integers.{natural}
 use Rattle.face_laws.proofs.JoinedSides.{joined-back, round-joined}
 use Rattle.face_laws.proofs.LeastSides.{GoesDown, KeepsOrder, comes_down, one_down, corners_from}
-use Rattle.solid_model.proofs.Lists.{least_member}
+use Rattle.lemmas.proofs.Lists.{least_member}
 use Rattle.face_laws.proofs.ListedLoops.{GoesAlong}
 use Rattle.face_laws.proofs.RoundStarts.{begins_least_side, one_length}
 use Rattle.face_laws.proofs.SomeLoop.{side_of, some_round}

@@ -8,7 +8,7 @@ use Rattle.solid_model.specs.declared.cell.Cell.{Cell}
 use Rattle.solid_model.specs.declared.face.Out.TheVariants.{PlusZ}
 use Rattle.solid_model.specs.Cells.{cell_at, same_cell}
 use Rattle.solid_model.specs.Faces.{inner_cell, is_boundary, place, BeginsLeast, StartsBefore, AreLoopsOf}
-use Rattle.solid_model.specs.Lists.{Member}
+use Rattle.lemmas.specs.Lists.{Member}
 use Rattle.solid_model.specs.Rounds.{Spot, Heading, East, North, West, South, Side, left_square, is_border, IsRound, round_sides, round_corners, AreJoined}
 use Rattle.face_laws.specs.SmallFaces.{first_square, plate, pierced_plate, pierced_loops, twice_pierced_plate, twice_pierced_loops}
 use Rattle.face_laws.proofs.BoundarySquares.{inner_full, border_left}

@@ -3,11 +3,11 @@ use Rattle.std.proofs.Common.{◌≡◌, inl, inr, Bool, true, false, if◌then�
 use Rattle.std.proofs.lemmas.Bool.{cases_lt}
 use Rattle.solid_model.specs.declared.cell.Cell.{Cell}
 use Rattle.solid_model.specs.Faces.{BeginsLeast}
-use Rattle.solid_model.specs.Lists.{Member, Each}
+use Rattle.lemmas.specs.Lists.{Member, Each}
 use Rattle.solid_model.specs.Orders.{ComesBefore}
 use Rattle.solid_model.specs.Rounds.{Spot, Side, end_of, following, turns, further, sides_from, round_sides, IsRound, corners, round_corners}
 use Rattle.solid_model.proofs.CellOrder.{one_or_before}
-use Rattle.solid_model.proofs.Lists.{each-at, each-from_map, first_member}
+use Rattle.lemmas.proofs.Lists.{each-at, each-from_map, first_member}
 use Rattle.solid_model.proofs.SolidOrder.{IsNoLater, no_later_some, no_later_onward}
 use Rattle.face_laws.proofs.SidesInOrder.{earlier-member, member-earlier, member-border, round-further, round-comes}
 use Rattle.face_laws.proofs.LeastSides.{KeepsOrder, least_turns, least_once, corners_from}

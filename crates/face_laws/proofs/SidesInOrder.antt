@@ -1,6 +1,6 @@
 -- Sides, one following another.
 use Rattle.std.proofs.Common.{◌≡◌, ◌⊎◌, inl, inr, Bool, ℕ, zero, suc, ◌<◌, IsTrue, refl, sym, ◌∙◌, ap, subst, arith}
-use Rattle.solid_model.specs.Lists.{Member}
+use Rattle.lemmas.specs.Lists.{Member}
 use Rattle.solid_model.specs.Rounds.{Spot, Side, is_border, following, further, sides_from, round_sides}
 use Rattle.face_laws.proofs.Turns.{following_border}
 

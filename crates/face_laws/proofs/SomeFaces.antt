@@ -7,7 +7,7 @@ use Rattle.solid_model.specs.declared.face.Out.{Out}
 use Rattle.solid_model.specs.declared.face.Out.TheVariants.{MinusX, PlusX, MinusY, PlusY, MinusZ, PlusZ}
 use Rattle.solid_model.specs.Cells.{coordinate, is_full}
 use Rattle.solid_model.specs.Faces.{outward, place, inner_cell, is_boundary, IsLoopOf, StartsBefore, AreLoopsOf, FaceParts, IsFaceAt, out_number, first_loop, FaceBefore, AreFacesOf}
-use Rattle.solid_model.specs.Lists.{Member}
+use Rattle.lemmas.specs.Lists.{Member}
 use Rattle.solid_model.specs.Rounds.{Spot, Side, left_square, is_border, AreJoined}
 use Rattle.face_laws.proofs.BoundarySquares.{spot_of, inner_full, boundary_finite}
 use Rattle.solid_model.proofs.CellOrder.{one_or_less}

@@ -1,8 +1,8 @@
 -- It can't be that things which finitely many others lead to have no list in order.
 use Rattle.std.proofs.Common.{◌≡◌, ◌⊎◌, inl, inr, List, [], ◌∷◌, refl, sym, ◌∙◌, subst}
-use Rattle.solid_model.specs.Lists.{Member, Each, Ascends}
-use Rattle.solid_model.proofs.Decisions.{IsDecided, never_undecided}
-use Rattle.solid_model.proofs.Lists.{IsWithin, each-at, each-from, each-weaker}
+use Rattle.lemmas.specs.Lists.{Member, Each, Ascends}
+use Rattle.lemmas.proofs.Decisions.{IsDecided, never_undecided}
+use Rattle.lemmas.proofs.Lists.{IsWithin, each-at, each-from, each-weaker}
 
 -- some list in order that has one more member
 pub record HasOneMore {A : Type 0} (R : A → A → Type 0) (x : A) (xs : List A) : Type 0 where

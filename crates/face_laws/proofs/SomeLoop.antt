@@ -3,16 +3,16 @@ use Rattle.std.proofs.Common.{◌≡◌, ◌≢◌, ◌⊎◌, inl, inr, Bool, t
 use Rattle.std.proofs.lemmas.Bool.{both_ways, cases_lt, and_parts}
 use Rattle.solid_model.specs.declared.cell.Cell.{Cell}
 use Rattle.solid_model.specs.Faces.{BeginsLeast}
-use Rattle.solid_model.specs.Lists.{Member, Ascends}
+use Rattle.lemmas.specs.Lists.{Member, Ascends}
 use Rattle.solid_model.specs.Orders.{ComesBefore}
 use Rattle.solid_model.specs.Rounds.{Spot, Heading, East, North, West, South, square_at, Side, end_of, left_square, right_square, is_border, following, further, sides_from, round_sides, IsRound, round_corners}
 use Rattle.face_laws.proofs.LeastSides.{KeepsOrder, least_begins}
-use Rattle.solid_model.proofs.Lists.{each-from}
+use Rattle.lemmas.proofs.Lists.{each-from}
 use Rattle.face_laws.proofs.RoundStarts.{further-following, least_side}
 use Rattle.face_laws.proofs.SameSides.{is_same_side, Decides-same_side}
 use Rattle.face_laws.proofs.SidesInOrder.{earlier-member, member-earlier, member-border, round-further, round-comes}
 use Rattle.face_laws.proofs.Turns.{same_spot, same_side, down_and_up, following_border, following_one}
-use Rattle.solid_model.proofs.WithoutRepeats.{no_longer}
+use Rattle.lemmas.proofs.WithoutRepeats.{no_longer}
 
 -- ---- the sides of some squares
 

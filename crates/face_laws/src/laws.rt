@@ -11,7 +11,7 @@ ghost use Rattle.solid_model.specs.Faces.{outward, right_axis, up_axis, place, i
 ghost use Rattle.solid_model.specs.Grid.{Coordinates, IsUnionOf};
 ghost use Rattle.face_laws.specs.GridFaces.{Planes, AreCellsOf, face_in_space, grid_planes, numbered_fullness};
 ghost use Rattle.face_laws.specs.GridRounds.{Rises, grid_point, AreSquaresOf, last_side};
-ghost use Rattle.solid_model.specs.Lists.{Member, Ascends};
+ghost use Rattle.lemmas.specs.Lists.{Member, Ascends};
 ghost use Rattle.solid_model.specs.Orders.{ComesBefore};
 ghost use Rattle.solid_model.specs.Rounds.{Spot, West, South, spot_after, Side, end_of, left_square, is_border, following, turns, further, sides_from, IsRound, round_sides, round_corners, AreJoined};
 ghost use Rattle.face_laws.specs.SmallFaces.{faces_apart, first_square, unit_cube_faces, hollow_cube, middle_square, void_loops, pierced_plate, pierced_loops, twice_pierced_plate, twice_pierced_loops};

@@ -9,14 +9,14 @@ use Rattle.faces.proofs.SideNumbers.{out_of, there, same_order}
 use Rattle.rounds.specs.Succession.{node_ahead, run, first, IsInsideRound, AreRounds}
 use Rattle.rounds.proofs.Runs.{member-node_ahead, node_ahead-apart}
 use Rattle.solid_model.specs.Faces.{BeginsLeast}
-use Rattle.solid_model.specs.Lists.{Member, Each, Ascends}
+use Rattle.lemmas.specs.Lists.{Member, Each, Ascends}
 use Rattle.solid_model.specs.Orders.{ComesBefore}
 use Rattle.solid_model.specs.Rounds.{Spot, Side, end_of, left_square, following, sides_from, round_sides, corners, round_corners}
 use Rattle.solid_model.specs.Rounds.{further, IsRound}
 use Rattle.solid_model.proofs.CellOrder.{one_or_before}
 use Rattle.face_laws.proofs.FacePlaces.{place_keeps}
 use Rattle.face_laws.proofs.LeastSides.{KeepsOrder, corners_from, least_begins}
-use Rattle.solid_model.proofs.Lists.{each-at, each-from, each-weaker, each-map, each-from_map, member-map}
+use Rattle.lemmas.proofs.Lists.{each-at, each-from, each-weaker, each-map, each-from_map, member-map}
 use Rattle.face_laws.proofs.RoundStarts.{one_start}
 use Rattle.face_laws.proofs.SidesInOrder.{member-earlier}
 

@@ -6,13 +6,13 @@ use Rattle.std.proofs.lemmas.Int.{ints}
 use Rattle.solid_model.specs.declared.cell.Cell.{Cell}
 use Rattle.solid_model.specs.declared.face.Out.{Out}
 use Rattle.solid_model.specs.Faces.{place, is_boundary, BeginsLeast, IsLoopOf, starts_before, StartsBefore, AreLoopsOf, IsFaceAt, out_number, FaceBefore}
-use Rattle.solid_model.specs.Lists.{Member}
+use Rattle.lemmas.specs.Lists.{Member}
 use Rattle.solid_model.specs.Rounds.{Spot, South, West, spot_after, left_square, right_square, is_border, round_corners, AreNeighbours, AreJoined}
 use Rattle.face_laws.proofs.BoundarySquares.{border_left}
-use Rattle.solid_model.proofs.Chains.{reaches-itself, reaches-onward, reaches-step}
+use Rattle.lemmas.proofs.Chains.{reaches-itself, reaches-onward, reaches-step}
 use Rattle.face_laws.proofs.FacePlaces.{place_keeps}
 use Rattle.face_laws.proofs.JoinedSides.{joined-back, round-joined}
-use Rattle.solid_model.proofs.Lists.{each-at, each-from, each-map, member-map, member-filter, ascends-map, ascends-filter}
+use Rattle.lemmas.proofs.Lists.{each-at, each-from, each-map, member-map, member-filter, ascends-map, ascends-filter}
 use Rattle.face_laws.proofs.SomeLoop.{side_of, some_round}
 use Rattle.face_laws.proofs.Turns.{same_spot}
 use Rattle.faces.specs.Groups.{with_key, IsGroup, heads_before, AreGroups}

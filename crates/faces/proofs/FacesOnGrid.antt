@@ -8,14 +8,14 @@ use Rattle.solid_model.specs.declared.face.Out.{Out}
 use Rattle.solid_model.specs.declared.face.Out.TheVariants.{MinusX, PlusX, MinusY, PlusY, MinusZ, PlusZ}
 use Rattle.solid_model.specs.Faces.{outward, right_axis, up_axis, place, is_boundary, IsLoopOf, FaceParts, IsFaceAt}
 use Rattle.solid_model.specs.Grid.{Coordinates}
-use Rattle.solid_model.specs.Lists.{Each}
+use Rattle.lemmas.specs.Lists.{Each}
 use Rattle.solid_model.specs.Marks.{BoxMarks, is_marked}
 use Rattle.solid_model.specs.PerAxis.{numbers_of}
 use Rattle.solid_model.specs.Rounds.{Spot, Side, end_of, left_square, is_border, round_sides, round_corners}
 use Rattle.face_laws.proofs.BoundarySquares.{border_left}
 use Rattle.solid_model.proofs.BoxCells.{below-bounds}
 use Rattle.face_laws.proofs.LeastSides.{corners_each}
-use Rattle.solid_model.proofs.Lists.{each-map, each-weaker}
+use Rattle.lemmas.proofs.Lists.{each-map, each-weaker}
 use Rattle.face_laws.proofs.SidesInOrder.{member-border}
 use Rattle.faces.specs.GridPoints.{HasPoint, HasFace}
 use Rattle.faces.proofs.NearCorners.{ends_beside}

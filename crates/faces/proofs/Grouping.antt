@@ -5,9 +5,9 @@ use Rattle.std.proofs.lemmas.Bool.Decides.{Decides-eqb, eqb_tells}
 use Rattle.std.proofs.lemmas.List.{length-set, length-append, get_or-set_same, get_or-set_other, get_or_push, get_or_append_left, get_or_default}
 use Rattle.std.proofs.lemmas.List.Elements.{filter-append}
 use Rattle.std.proofs.lemmas.Option.{same_Some, none-some}
-use Rattle.solid_model.specs.Lists.{Member, Each, Ascends}
-use Rattle.solid_model.proofs.ListPlaces.{member-at, member-place, pairs-ascends}
-use Rattle.solid_model.proofs.Lists.{each-at, each-from, member-append_left, member-push_last, member-filter, member-from_filter, ascends-append_left, ascends-append_across}
+use Rattle.lemmas.specs.Lists.{Member, Each, Ascends}
+use Rattle.lemmas.proofs.ListPlaces.{member-at, member-place, pairs-ascends}
+use Rattle.lemmas.proofs.Lists.{each-at, each-from, member-append_left, member-push_last, member-filter, member-from_filter, ascends-append_left, ascends-append_across}
 use Rattle.faces.specs.Groups.{with_key, IsGroup, heads_before, AreGroups, IsPut}
 
 -- the group of that number, if any

@@ -1,7 +1,7 @@
 -- Two rounds that begin at their least points, and both at the same one, begin with the same side.
 use Rattle.std.proofs.Common.{◌≡◌, inl, Bool, ℕ, IsTrue, refl}
 use Rattle.solid_model.specs.declared.cell.Cell.{Cell}
-use Rattle.solid_model.specs.Lists.{Member}
+use Rattle.lemmas.specs.Lists.{Member}
 use Rattle.solid_model.specs.Orders.{ComesBefore}
 use Rattle.solid_model.specs.Rounds.{Spot, Side, end_of, is_border, following, further, round_sides}
 use Rattle.face_laws.proofs.LeastSides.{KeepsOrder, GoesDown, one_down, comes_down}

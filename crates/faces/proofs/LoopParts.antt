@@ -8,7 +8,7 @@ use Rattle.faces.specs.Points.{spot_of}
 use Rattle.faces.specs.Ways.{heading_of}
 use Rattle.faces.proofs.Sides.{end_of-side_to}
 use Rattle.rounds.specs.Succession.{first}
-use Rattle.solid_model.specs.Lists.{Each}
+use Rattle.lemmas.specs.Lists.{Each}
 use Rattle.solid_model.specs.Rounds.{Spot, Side, end_of, turns, corners}
 use Rattle.face_laws.proofs.GridTraces.{corners-append}
 

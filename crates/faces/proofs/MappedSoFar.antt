@@ -1,8 +1,8 @@
 -- Lists whose members are changed one by one.
 use Rattle.std.proofs.Common.{◌≡◌, ℕ, zero, suc, ◌+◌, ◌<◌, List, [], ◌∷◌, length, map, get_or, set, add-one, refl, sym, ap, subst, ◌∙◌, arith}
-use Rattle.solid_model.specs.Lists.{Each}
-use Rattle.solid_model.proofs.ListPlaces.{member-at}
-use Rattle.solid_model.proofs.Lists.{each-at}
+use Rattle.lemmas.specs.Lists.{Each}
+use Rattle.lemmas.proofs.ListPlaces.{member-at}
+use Rattle.lemmas.proofs.Lists.{each-at}
 
 -- the first so many members are changed
 abbrev pub mapped : {A : Type 0} → (A → A) → ℕ → List A → List A

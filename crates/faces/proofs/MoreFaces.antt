@@ -7,12 +7,12 @@ use Rattle.std.proofs.lemmas.Int.{ints, by_lt_z}
 use Rattle.solid_model.specs.declared.cell.Cell.{Cell}
 use Rattle.solid_model.specs.declared.face.Out.{Out}
 use Rattle.solid_model.specs.Faces.{outward, is_boundary, starts_before, FaceParts, IsFaceAt, out_number, first_loop, FaceBefore, AreFacesOf}
-use Rattle.solid_model.specs.Lists.{Member, Each}
+use Rattle.lemmas.specs.Lists.{Member, Each}
 use Rattle.solid_model.specs.Marks.{BoxMarks, is_marked}
 use Rattle.solid_model.specs.PerAxis.{numbers_of}
 use Rattle.solid_model.specs.Rounds.{Spot}
 use Rattle.solid_model.proofs.CellOrder.{Decides-int_lt}
-use Rattle.solid_model.proofs.Lists.{each-at, each-from, each-append, each-weaker, ascends-append, member-append_left, member-append_right}
+use Rattle.lemmas.proofs.Lists.{each-at, each-from, each-append, each-weaker, ascends-append, member-append_left, member-append_right}
 use Rattle.face_laws.proofs.OutwardSides.{one_out, out_number-below}
 use Rattle.faces.specs.FacesSoFar.{IsEarlierPlane, AreFacesBefore}
 use Rattle.faces.specs.PlaneFaces.{AreFacesInPlane}

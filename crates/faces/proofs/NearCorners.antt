@@ -2,13 +2,13 @@
 use Rattle.std.proofs.Common.{◌≡◌, Bool, true, ℕ, suc, List, pos, ◌+ℤ◌, ◌<ℤ◌, ◌≤ℤ◌, sym, subst, arith}
 use Rattle.std.proofs.lemmas.Bool.{and_parts}
 use Rattle.std.proofs.lemmas.Int.{ints}
-use Rattle.solid_model.specs.Lists.{Member, Each}
+use Rattle.lemmas.specs.Lists.{Member, Each}
 use Rattle.solid_model.specs.Rooms.{is_below}
 use Rattle.solid_model.specs.Rounds.{Spot, Heading, East, North, West, South, Side, end_of, left_square, round_sides}
 use Rattle.face_laws.proofs.BoundarySquares.{border_left}
 use Rattle.solid_model.proofs.BoxCells.{below-bounds}
 use Rattle.face_laws.proofs.LeastSides.{corners_each}
-use Rattle.solid_model.proofs.Lists.{each-at, each-from}
+use Rattle.lemmas.proofs.Lists.{each-at, each-from}
 use Rattle.face_laws.proofs.SidesInOrder.{member-border}
 use Rattle.faces.specs.Groups.{IsGroup, AreGroups}
 use Rattle.faces.specs.PlaneFaces.{IsNearSpot, IsNearLoop}

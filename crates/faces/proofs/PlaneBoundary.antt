@@ -9,7 +9,7 @@ use Rattle.solid_model.specs.declared.cell.Axis.TheVariants.{X, Y, Z}
 use Rattle.solid_model.specs.declared.cell.Cell.{Cell}
 use Rattle.solid_model.specs.declared.face.Out.{Out}
 use Rattle.solid_model.specs.declared.face.Out.TheVariants.{MinusX, PlusX, MinusY, PlusY, MinusZ, PlusZ}
-use Rattle.solid_model.specs.Bits.{is_set}
+use Rattle.lemmas.specs.Bits.{is_set}
 use Rattle.solid_model.specs.Cells.{coordinate}
 use Rattle.solid_model.specs.Faces.{outward, right_axis, up_axis, inner_cell, is_boundary}
 use Rattle.solid_model.specs.Marks.{BoxMarks, is_marked}
@@ -18,7 +18,7 @@ use Rattle.solid_model.specs.Rooms.{is_below, is_within, box_place, place_of_num
 use Rattle.solid_model.specs.Rounds.{Spot}
 use Rattle.solid_model.proofs.BoxCells.{below-bounds, below-more, place-below, within-below}
 use Rattle.face_laws.proofs.BoundarySquares.{inner_full}
-use Rattle.solid_model.proofs.Pushed.{HoldsSoFar}
+use Rattle.lemmas.proofs.Pushed.{HoldsSoFar}
 use Rattle.faces.specs.PlaneSquares.{SquareTable, IsTable, is_in_table, is_there}
 use Rattle.faces.proofs.SquarePlaces.{in_table-numbers, bit_there}
 

@@ -10,7 +10,7 @@ use Rattle.solid_model.specs.Faces.{place, BeginsLeast, starts_before}
 use Rattle.solid_model.specs.Orders.{is_before, ComesBefore}
 use Rattle.solid_model.specs.Rounds.{Spot}
 use Rattle.solid_model.proofs.CellOrder.{Decides-int_lt}
-use Rattle.solid_model.proofs.Lists.{each-map, each-from_map, each-weaker}
+use Rattle.lemmas.proofs.Lists.{each-map, each-from_map, each-weaker}
 use Rattle.faces.specs.PlaneFaces.{is_up_first}
 use Rattle.faces.specs.PlaneLoops.{is_spot_before, BeginsFirst, first_corner_before}
 

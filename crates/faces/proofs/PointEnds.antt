@@ -7,12 +7,12 @@ use Rattle.std.proofs.lemmas.Int.{ints}
 use Rattle.std.proofs.lemmas.List.{get_or_past}
 use Rattle.std.proofs.lemmas.Nat.{mod_below, mod-mul-add, div-mul-add}
 use Rattle.std.proofs.lemmas.Nat.Bits.{bit_at-zero}
-use Rattle.solid_model.specs.Bits.{is_set}
+use Rattle.lemmas.specs.Bits.{is_set}
 use Rattle.solid_model.specs.Rooms.{is_below}
 use Rattle.solid_model.specs.Rounds.{Spot, Heading, East, North, West, South, left_of, square_at, is_border}
 use Rattle.solid_model.proofs.BoxPlaces.{below_number}
-use Rattle.solid_model.proofs.Pushed.{HoldsSoFar}
-use Rattle.solid_model.proofs.WordBits.{set_either, same_where_clear, moved_up_first, moved_up}
+use Rattle.lemmas.proofs.Pushed.{HoldsSoFar}
+use Rattle.lemmas.proofs.WordBits.{set_either, same_where_clear, moved_up_first, moved_up}
 use Rattle.faces.specs.Border.{side_to, is_border_at, TellEnds}
 use Rattle.faces.specs.Ends.{is_set_before, TellRowEnds, AreTurned}
 use Rattle.faces.specs.PlaneSquares.{SquareTable, IsTable, is_in_table, is_there}

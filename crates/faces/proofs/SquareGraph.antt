@@ -3,11 +3,11 @@ use Rattle.std.proofs.Common.{◌≡◌, ◌↔◌, Bool, true, false, ◌&&◌,
 use Rattle.std.proofs.lemmas.Bool.{false≢true, and_parts, and_from}
 use Rattle.std.proofs.lemmas.Option.{same_Some, none-some}
 use Rattle.cell_rows.proofs.BitPlaces.{bit_there}
-use Rattle.solid_model.specs.Bits.{bit_of}
-use Rattle.solid_model.specs.Chains.{Reaches}
+use Rattle.lemmas.specs.Bits.{bit_of}
+use Rattle.lemmas.specs.Chains.{Reaches}
 use Rattle.solid_model.specs.Rooms.{place_of_number}
 use Rattle.solid_model.specs.Rounds.{Spot, Heading, East, North, West, South, spot_after, AreNeighbours, AreJoined}
-use Rattle.solid_model.proofs.Chains.{reaches-map, reaches-step}
+use Rattle.lemmas.proofs.Chains.{reaches-map, reaches-step}
 use Rattle.face_laws.proofs.JoinedSides.{neighbours-back}
 use Rattle.flood.specs.Graph.{Leads, GoesBack, AreComponentsOf}
 use Rattle.faces.specs.PlaneSquares.{SquareTable, square_place, is_there}

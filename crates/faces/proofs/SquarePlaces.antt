@@ -2,12 +2,12 @@
 use Rattle.std.proofs.Common.{◌≡◌, inl, inr, Bool, true, ℕ, zero, suc, ◌+◌, ◌*◌, ◌<◌, List, [], ◌∷◌, map, ℤ, pos, ◌≤ℤ◌, slice_index_or, ap, ap₂, sym, subst, ◌∙◌, arith}
 use Rattle.std.proofs.lemmas.Bool.{and_parts, cases_lt}
 use Rattle.std.proofs.lemmas.Nat.{mod-mul-add, div-mul-add, div-add-mod'}
-use Rattle.solid_model.specs.Bits.{is_set}
-use Rattle.solid_model.specs.Lists.{Member}
+use Rattle.lemmas.specs.Bits.{is_set}
+use Rattle.lemmas.specs.Lists.{Member}
 use Rattle.solid_model.specs.Rooms.{is_below, place_of_number}
 use Rattle.solid_model.specs.Rounds.{Spot}
 use Rattle.solid_model.proofs.BoxCells.{below-bounds}
-use Rattle.solid_model.proofs.Lists.{member-map}
+use Rattle.lemmas.proofs.Lists.{member-map}
 use Rattle.solid_model.proofs.BoxPlaces.{IsNumber, number_below}
 use Rattle.face_laws.proofs.Turns.{same_spot}
 use Rattle.faces.specs.PlaneSquares.{SquareTable, is_in_table, square_place, is_there}

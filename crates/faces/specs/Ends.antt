@@ -1,6 +1,6 @@
 -- The points of a row at which sides of the border of squares may end.
 use Rattle.std.specs.Prelude.{◌≡◌, ◌<◌, Bool, false, ℕ, zero, suc, List, length, slice_index_or}
-use Rattle.solid_model.specs.Bits.{is_set}
+use Rattle.lemmas.specs.Bits.{is_set}
 
 -- the bit before a bit
 abbrev pub is_set_before : ℕ → ℕ → Bool

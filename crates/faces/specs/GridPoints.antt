@@ -5,7 +5,7 @@ use Rattle.solid_model.specs.declared.cell.Cell.{Cell}
 use Rattle.solid_model.specs.Cells.{coordinate}
 use Rattle.solid_model.specs.Faces.{outward, FaceParts}
 use Rattle.solid_model.specs.Grid.{Coordinates}
-use Rattle.solid_model.specs.Lists.{Each}
+use Rattle.lemmas.specs.Lists.{Each}
 
 -- the grid has coordinates of these numbers, counted from 0
 abbrev pub HasPoint : Coordinates → Cell → Type 0

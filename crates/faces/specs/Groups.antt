@@ -1,7 +1,7 @@
 -- Members of a list, put into groups by their keys.
 use Rattle.std.specs.Prelude.{◌≡◌, Bool, false, nat_eq, ℕ, List, [], ◌∷◌, ◌++◌, length, slice_set, slice_index_or, Option, Some, None, IsTrue}
 use Rattle.std.specs.List.{filter}
-use Rattle.solid_model.specs.Lists.{Member, Each, Ascends}
+use Rattle.lemmas.specs.Lists.{Member, Each, Ascends}
 
 -- those that have a key, in their order
 abbrev pub with_key : {A : Type 0} → (A → ℕ) → ℕ → List A → List A

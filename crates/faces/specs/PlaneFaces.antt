@@ -6,7 +6,7 @@ use Rattle.solid_model.specs.declared.face.Out.{Out}
 use Rattle.solid_model.specs.declared.face.Out.TheVariants.{MinusX, PlusX, MinusY, PlusY, MinusZ, PlusZ}
 use Rattle.solid_model.specs.Faces.{place, is_boundary, FaceParts, IsFaceAt, FaceBefore}
 use Rattle.solid_model.specs.Grid.{Coordinates}
-use Rattle.solid_model.specs.Lists.{Member, Each, Ascends}
+use Rattle.lemmas.specs.Lists.{Member, Each, Ascends}
 use Rattle.solid_model.specs.Marks.{BoxMarks, is_marked}
 use Rattle.solid_model.specs.PerAxis.{numbers_of}
 use Rattle.solid_model.specs.Rounds.{Spot}

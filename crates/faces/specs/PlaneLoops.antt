@@ -1,7 +1,7 @@
 -- The loops round squares of a plane, in order.
 use Rattle.std.specs.Prelude.{◌≡◌, Bool, false, ◌&&◌, ◌||◌, ℕ, List, [], ◌∷◌, int_lt, IsTrue, if◌then◌else◌}
 use Rattle.std.specs.Ordering.{int_eq}
-use Rattle.solid_model.specs.Lists.{Member, Each, Ascends}
+use Rattle.lemmas.specs.Lists.{Member, Each, Ascends}
 use Rattle.solid_model.specs.Rounds.{Spot, Side, left_square, IsRound, round_corners}
 
 -- Points of a plane come in an order: by v, then u, where upwards counts first; else by u, then v.

@@ -1,6 +1,6 @@
 -- Squares of a plane, kept in a table.
 use Rattle.std.specs.Prelude.{◌≡◌, Bool, false, ◌&&◌, ℕ, ◌+◌, ◌*◌, ◌≤◌, List, length, slice_index_or}
-use Rattle.solid_model.specs.Bits.{is_set}
+use Rattle.lemmas.specs.Bits.{is_set}
 use Rattle.solid_model.specs.Rooms.{is_below, place_of_number}
 use Rattle.solid_model.specs.Rounds.{Spot}
 

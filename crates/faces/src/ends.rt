@@ -3,7 +3,7 @@
 ghost use Rattle.std.specs.Prelude.{◌≡◌, ◌<◌, ℕ, true, false, length, slice_index_or, IfOk};
 ghost use Rattle.faces.specs.Border.{TellEnds};
 ghost use Rattle.faces.specs.Ends.{TellRowEnds, AreTurned};
-ghost use Rattle.solid_model.specs.Bits.{is_set};
+ghost use Rattle.lemmas.specs.Bits.{is_set};
 
 use crate::squares::Squares;
 use cell_rows::has_bit;

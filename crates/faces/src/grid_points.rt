@@ -3,7 +3,7 @@
 ghost use Rattle.std.specs.Prelude.{◌≡◌, length, map, pos, ◌≤ℤ◌, ◌<ℤ◌};
 ghost use Rattle.faces.specs.GridPoints.{HasPoint, HasFace};
 ghost use Rattle.face_laws.specs.GridFaces.{point_of_numbers, face_in_space, planes_at, grid_planes};
-ghost use Rattle.solid_model.specs.Lists.{Each};
+ghost use Rattle.lemmas.specs.Lists.{Each};
 ghost use Rattle.solid_model.specs.Panels.{coordinates_of};
 
 use solid_model::{Axis, Cell, Face, Grid, Loop};

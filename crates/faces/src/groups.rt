@@ -4,7 +4,7 @@ ghost use Rattle.std.specs.Prelude.{◌≡◌, ◌<◌, None, length, map, slice
 ghost use Rattle.faces.specs.Groups.{AreGroups, IsPut};
 ghost use Rattle.faces.specs.PlaneSquares.{is_there};
 ghost use Rattle.faces.specs.SquareSteps.{number_of, AreSquareComponents};
-ghost use Rattle.solid_model.specs.Lists.{Each};
+ghost use Rattle.lemmas.specs.Lists.{Each};
 
 use crate::plane_loop::PlaneLoop;
 use crate::squares::Squares;

@@ -6,7 +6,7 @@ ghost use Rattle.faces.specs.PlaneLoops.{ArePlaneLoops};
 ghost use Rattle.faces.specs.PlaneSquares.{is_there};
 ghost use Rattle.faces.specs.Points.{spot_of};
 ghost use Rattle.rounds.specs.Succession.{IsInsideRound};
-ghost use Rattle.solid_model.specs.Lists.{Each};
+ghost use Rattle.lemmas.specs.Lists.{Each};
 ghost use Rattle.solid_model.specs.Rounds.{corners};
 
 use crate::border::Border;

@@ -4,7 +4,7 @@ ghost use Rattle.std.specs.Prelude.{◌≡◌, ◌<◌, ℕ, pos, IfOk};
 ghost use Rattle.cell_rows.specs.Rows.{cell_numbered};
 ghost use Rattle.faces.specs.PlaneSquares.{is_there};
 ghost use Rattle.faces.specs.Points.{spot_of};
-ghost use Rattle.solid_model.specs.Bits.{is_set};
+ghost use Rattle.lemmas.specs.Bits.{is_set};
 ghost use Rattle.solid_model.specs.Cells.{cell_before};
 ghost use Rattle.solid_model.specs.Faces.{place, outward, right_axis, is_boundary};
 ghost use Rattle.solid_model.specs.Marks.{is_marked};

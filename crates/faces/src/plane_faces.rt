@@ -4,7 +4,7 @@ ghost use Rattle.std.specs.Prelude.{◌≡◌, ◌≤◌, ◌++◌, List, ℤ, p
 ghost use Rattle.face_laws.specs.GridFaces.{face_in_space, grid_planes};
 ghost use Rattle.faces.specs.PlaneFaces.{is_up_first, face_of, AreFacesInPlane, AreFacesOfSquares, LieOnGrid, IsNearLoop};
 ghost use Rattle.solid_model.specs.Faces.{FaceParts};
-ghost use Rattle.solid_model.specs.Lists.{Each};
+ghost use Rattle.lemmas.specs.Lists.{Each};
 ghost use Rattle.solid_model.specs.Marks.{is_marked};
 ghost use Rattle.solid_model.specs.Panels.{coordinates_of};
 

@@ -4,7 +4,7 @@ ghost use Rattle.std.specs.Prelude.{◌≡◌, ◌++◌, ◌≤◌, pos, map, If
 ghost use Rattle.faces.specs.PlaneFaces.{IsNearSpot, IsNearLoop, loop_in_space, face_of};
 ghost use Rattle.faces.specs.Points.{spot_of};
 ghost use Rattle.solid_model.specs.Faces.{place};
-ghost use Rattle.solid_model.specs.Lists.{Each};
+ghost use Rattle.lemmas.specs.Lists.{Each};
 
 use crate::plane_loop::PlaneLoop;
 use crate::point::Point;

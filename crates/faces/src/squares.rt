@@ -2,7 +2,7 @@
 
 ghost use Rattle.std.specs.Prelude.{◌≡◌, ◌≤◌, pos, length, slice_index_or};
 ghost use Rattle.faces.specs.PlaneSquares.{is_there};
-ghost use Rattle.solid_model.specs.Bits.{is_set};
+ghost use Rattle.lemmas.specs.Bits.{is_set};
 
 use crate::point::Point;
 use cell_rows::has_bit;

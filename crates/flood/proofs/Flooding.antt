@@ -2,10 +2,10 @@
 use Rattle.std.proofs.Common.{◌≡◌, ◌⊎◌, inl, inr, ◌↔◌, ℕ, ◌<◌, List, [], ◌∷◌, ◌++◌, length, set, Some, refl, sym, subst, ◌∙◌}
 use Rattle.std.proofs.lemmas.List.{get_or-set_same}
 use Rattle.std.proofs.lemmas.Option.{same_Some}
-use Rattle.solid_model.specs.Chains.{Reaches}
-use Rattle.solid_model.specs.Lists.{Member}
-use Rattle.solid_model.proofs.Chains.{reaches-itself, reaches-then_step, reaches-keeps}
-use Rattle.solid_model.proofs.Lists.{member-append_left, member-push_last, member-push}
+use Rattle.lemmas.specs.Chains.{Reaches}
+use Rattle.lemmas.specs.Lists.{Member}
+use Rattle.lemmas.proofs.Chains.{reaches-itself, reaches-then_step, reaches-keeps}
+use Rattle.lemmas.proofs.Lists.{member-append_left, member-push_last, member-push}
 use Rattle.flood.specs.NodeMarks.{no_mark, mark_of, IsMarked, AreClosed, Spreads, Floods}
 use Rattle.flood.proofs.Spreading.{still_marked, spreads_one}
 

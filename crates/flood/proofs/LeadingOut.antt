@@ -4,9 +4,9 @@ use Rattle.std.proofs.lemmas.Bool.{or_left, or_right, true_from_ne_false}
 use Rattle.solid_model.specs.declared.cell.Axis.{Axis}
 use Rattle.solid_model.specs.declared.cell.Cell.{Cell}
 use Rattle.solid_model.specs.Cells.{cell_before}
-use Rattle.solid_model.specs.Chains.{Chain, Reaches}
+use Rattle.lemmas.specs.Chains.{Chain, Reaches}
 use Rattle.solid_model.specs.Rooms.{Sizes, is_within, Walls, Passes, LeadsOut}
-use Rattle.solid_model.proofs.Chains.{reaches-itself, reaches-step, reaches-step_then, reaches-map, reaches-map_within}
+use Rattle.lemmas.proofs.Chains.{reaches-itself, reaches-step, reaches-step_then, reaches-map, reaches-map_within}
 use Rattle.solid_model.proofs.Passages.{passes-past_fewer}
 use Rattle.flood.specs.Ring.{OwnWalls}
 

@@ -2,8 +2,8 @@
 use Rattle.std.proofs.Common.{◌≡◌, ◌⊎◌, inl, inr, ◌↔◌, ℕ, ◌+◌, ◌<◌, ◌≤◌, Bool, true, false, IsTrue, List, [], length, replicate, refl, sym, ap, subst, ◌∙◌, arith}
 use Rattle.std.proofs.lemmas.Bool.{cases_lt, both_ways}
 use Rattle.std.proofs.lemmas.List.{get_or_default, get_or-replicate, length-replicate}
-use Rattle.solid_model.specs.Chains.{Reaches}
-use Rattle.solid_model.proofs.Chains.{reaches-onward, reaches-keeps, reaches-back_within}
+use Rattle.lemmas.specs.Chains.{Reaches}
+use Rattle.lemmas.proofs.Chains.{reaches-onward, reaches-keeps, reaches-back_within}
 use Rattle.flood.specs.Graph.{GoesBack, component, AreComponents, AreComponentsOf}
 use Rattle.flood.specs.NodeMarks.{no_mark, mark_of, IsMarked, Floods, Numbers}
 use Rattle.flood.proofs.Spreading.{marked_within, still_marked}

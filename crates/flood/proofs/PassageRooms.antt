@@ -2,11 +2,11 @@
 use Rattle.std.proofs.Common.{◌≡◌, ◌↔◌, Bool, false, ℕ, zero, suc, ◌-◌, ◌<◌, List, slice_index_or, Option, Some, None, IsTrue, refl, ap, sym, subst, ◌∙◌, arith}
 use Rattle.solid_model.specs.declared.cell.Axis.{Axis}
 use Rattle.solid_model.specs.declared.cell.Cell.{Cell}
-use Rattle.solid_model.specs.Chains.{Reaches}
+use Rattle.lemmas.specs.Chains.{Reaches}
 use Rattle.solid_model.specs.Marks.{BoxMarks, AreMarksOf}
 use Rattle.solid_model.specs.Rooms.{Sizes, is_within, box_place, LeadsOut, AreRooms}
 use Rattle.solid_model.proofs.BoxPlaces.{one_cell}
-use Rattle.solid_model.proofs.Chains.{same_chains}
+use Rattle.lemmas.proofs.Chains.{same_chains}
 use Rattle.flood.specs.Graph.{component, AreComponents}
 use Rattle.flood.specs.Passages.{PassageParts, StepsAlong}
 use Rattle.flood.specs.Ring.{ring_count, ring_place, RingStep, ArePassages, room_of, AreRoomNumbers}

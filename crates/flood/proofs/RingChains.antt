@@ -7,10 +7,10 @@ use Rattle.solid_model.specs.declared.cell.Axis.{Axis}
 use Rattle.solid_model.specs.declared.cell.Axis.TheVariants.{X, Y, Z}
 use Rattle.solid_model.specs.declared.cell.Cell.{Cell}
 use Rattle.solid_model.specs.Cells.{coordinate, placed, cell_before}
-use Rattle.solid_model.specs.Chains.{Reaches}
+use Rattle.lemmas.specs.Chains.{Reaches}
 use Rattle.solid_model.specs.Rooms.{Sizes, is_below, is_within, Walls, Passes}
 use Rattle.solid_model.proofs.BoxCells.{below-bounds, within-below}
-use Rattle.solid_model.proofs.Chains.{reaches-step, reaches-back, reaches-map}
+use Rattle.lemmas.proofs.Chains.{reaches-step, reaches-back, reaches-map}
 use Rattle.solid_model.proofs.Fullness.{same_coordinates}
 use Rattle.solid_model.proofs.Passages.{passes-back}
 use Rattle.flood.specs.Graph.{GoesBack}

@@ -10,7 +10,7 @@ use Rattle.solid_model.specs.Cells.{coordinate, cell_before}
 use Rattle.solid_model.specs.Rooms.{Sizes, is_within, box_place, Walls}
 use Rattle.solid_model.proofs.InGrid.{placed_at}
 use Rattle.solid_model.proofs.BoxPlaces.{one_cell}
-use Rattle.solid_model.proofs.Pushed.{HoldsSoFar}
+use Rattle.lemmas.proofs.Pushed.{HoldsSoFar}
 use Rattle.flood.specs.Graph.{GoesBack}
 use Rattle.flood.specs.declared.cell_bars.CellBars.{CellBars}
 use Rattle.flood.specs.Passages.{PassageParts, no_bars, has_bar, LeadsBack, StepsAlong}

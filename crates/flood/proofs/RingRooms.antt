@@ -3,10 +3,10 @@ use Rattle.std.proofs.Common.{◌≡◌, ◌↔◌, ℕ, zero, suc, ◌-◌, ◌
 use Rattle.std.proofs.lemmas.Int.{ints}
 use Rattle.solid_model.specs.declared.cell.Axis.TheVariants.{X, Y, Z}
 use Rattle.solid_model.specs.declared.cell.Cell.{Cell}
-use Rattle.solid_model.specs.Chains.{Reaches}
+use Rattle.lemmas.specs.Chains.{Reaches}
 use Rattle.solid_model.specs.Orders.{ComesBefore}
 use Rattle.solid_model.specs.Rooms.{Sizes, box_count, is_within, Walls, Passes, LeadsOut, number_at, IsEarlier, AreRooms}
-use Rattle.solid_model.proofs.Chains.{reaches-onward}
+use Rattle.lemmas.proofs.Chains.{reaches-onward}
 use Rattle.flood.specs.Graph.{component, AreComponents}
 use Rattle.flood.specs.Ring.{ring_count, ring_place, ring_cell, OwnWalls, RingStep, room_of, IsRinged}
 use Rattle.flood.proofs.RingPlaces.{within-ringed, ring_place-below, ring_cell-ringed, ring_place-ring_cell, before-earlier}

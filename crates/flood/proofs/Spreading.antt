@@ -3,8 +3,8 @@ use Rattle.std.proofs.Common.{◌≡◌, ◌⊎◌, inl, inr, ℕ, ◌<◌, List
 use Rattle.std.proofs.lemmas.Bool.{cases_lt, cases_eq}
 use Rattle.std.proofs.lemmas.List.{get_or-set_same, get_or-set_other, get_or_past, get_or-replicate, length-set, length-replicate}
 use Rattle.std.proofs.lemmas.Option.{same_Some}
-use Rattle.solid_model.specs.Lists.{Member}
-use Rattle.solid_model.proofs.Lists.{member-append_left, member-push_last, member-push}
+use Rattle.lemmas.specs.Lists.{Member}
+use Rattle.lemmas.proofs.Lists.{member-append_left, member-push_last, member-push}
 use Rattle.flood.specs.NodeMarks.{no_mark, mark_of, IsMarked, Spreads}
 
 -- a node that has a mark stands in the list

@@ -1,6 +1,6 @@
 -- Finite graphs, whose nodes are numbered from 0, and their components.
 use Rattle.std.specs.Prelude.{◌≡◌, ◌↔◌, ℕ, ◌<◌, Bool, List, length, slice_index_or, Option, Some, IsTrue}
-use Rattle.solid_model.specs.Chains.{Reaches}
+use Rattle.lemmas.specs.Chains.{Reaches}
 
 -- one of so many ways out of a node leads from a to b
 abbrev pub Leads : ℕ → (ℕ → ℕ → Option ℕ) → ℕ → ℕ → Type 0

@@ -1,8 +1,8 @@
 -- Marks on the nodes of a graph, and what a flood makes of them.
 use Rattle.std.specs.Prelude.{◌≡◌, ◌⊎◌, ◌==◌, ◌↔◌, Bool, nat_lt, ℕ, ◌<◌, ◌≤◌, List, length, slice_index_or, IsTrue}
 use Rattle.std.specs.List.{count_by}
-use Rattle.solid_model.specs.Chains.{Reaches}
-use Rattle.solid_model.specs.Lists.{Member}
+use Rattle.lemmas.specs.Chains.{Reaches}
+use Rattle.lemmas.specs.Lists.{Member}
 
 -- what stands in place of a mark: the greatest number of 32 bits
 abbrev pub no_mark : ℕ

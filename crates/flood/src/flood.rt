@@ -2,7 +2,7 @@
 
 ghost use Rattle.std.specs.Prelude.{◌≡◌, ◌↔◌, ◌≤◌, ◌++◌, [], ◌∷◌, ℕ, ◌+◌, ◌<◌, Some, false, IsTrue, length, map, slice_set, slice_index_or, vec_len, vec_capacity, IfSome, IfOk};
 ghost use Rattle.flood.specs.NodeMarks.{no_mark, mark_of, is_mark, unmarked, AreClosed, Spreads, Floods};
-ghost use Rattle.solid_model.specs.Chains.{Reaches};
+ghost use Rattle.lemmas.specs.Chains.{Reaches};
 
 use crate::graph::Graph;
 use solid_model::Memory;

@@ -3,7 +3,7 @@
 ghost use Rattle.std.specs.Prelude.{◌≡◌, ◌≤◌, ◌-◌, ◌*◌, ◌^◌, ◌<◌, true, length, vec_len, vec_capacity, replicate, IfOk};
 ghost use Rattle.flood.specs.Graph.{GoesBack, AreComponents, AreComponentsOf};
 ghost use Rattle.flood.specs.NodeMarks.{no_mark, Numbers};
-ghost use Rattle.solid_model.specs.Bits.{bit_of};
+ghost use Rattle.lemmas.specs.Bits.{bit_of};
 
 use crate::flood::{UNMARKED, flood};
 use crate::graph::Graph;

@@ -6,11 +6,11 @@ use Rattle.std.proofs.lemmas.Int.{ints, by_lt_z}
 use Rattle.std.proofs.lemmas.List.{get_or_default, get_or-take, length-take-le}
 use Rattle.solid_model.specs.declared.runs.Run.{Run}
 use Rattle.solid_model.specs.declared.segment.Style.TheVariants.{Blank}
-use Rattle.solid_model.specs.Lists.{Member}
+use Rattle.lemmas.specs.Lists.{Member}
 use Rattle.solid_model.specs.Runs.{run_covers, run_style, IsRun, StandsApart, AreRuns}
 use Rattle.solid_model.proofs.InGrid.{blank_or_drawn}
-use Rattle.solid_model.proofs.Lists.{each-at}
-use Rattle.solid_model.proofs.ListPlaces.{member-at, member-place, ascends-pairs}
+use Rattle.lemmas.proofs.Lists.{each-at}
+use Rattle.lemmas.proofs.ListPlaces.{member-at, member-place, ascends-pairs}
 use Rattle.solid_model.proofs.RunStyles.{covers_parts, covering_run}
 use Rattle.grid.specs.Positions.{begins_by}
 use Rattle.grid.proofs.ShownPositions.{run_style-covered}

@@ -6,9 +6,9 @@ use Rattle.solid_model.specs.declared.segment.Segment.{Segment}
 use Rattle.solid_model.specs.declared.segment.Style.{Style}
 use Rattle.solid_model.specs.Grid.{AreGridCoordinates}
 use Rattle.solid_model.specs.Limits.{farthest_in_view}
-use Rattle.solid_model.specs.Lists.{Each, Ascends}
+use Rattle.lemmas.specs.Lists.{Each, Ascends}
 use Rattle.solid_model.specs.Runs.{IsDrawing}
-use Rattle.solid_model.proofs.Lists.{each-from, each-weaker, each-both}
+use Rattle.lemmas.proofs.Lists.{each-from, each-weaker, each-both}
 use Rattle.solid_model.proofs.SomeGrid.{coordinate_near}
 
 -- ---- how many ascend between two bounds

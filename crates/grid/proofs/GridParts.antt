@@ -8,7 +8,7 @@ use Rattle.solid_model.specs.declared.segment.Style.{Style}
 use Rattle.solid_model.specs.Grid.{AreGridCoordinates, IsFineEnough}
 use Rattle.solid_model.specs.Limits.{most_grid_coordinates}
 use Rattle.solid_model.specs.Panels.{PanelsStyles, GridParts, coordinates_of, AreGridStyles, IsGridOf}
-use Rattle.solid_model.proofs.Lists.{same_ascending}
+use Rattle.lemmas.proofs.Lists.{same_ascending}
 use Rattle.grid.specs.declared.coordinates.Coordinates.{Coordinates}
 use Rattle.grid.specs.AxisCoordinates.{coordinates_in, AreFewCoordinates}
 

@@ -9,9 +9,9 @@ use Rattle.std.proofs.lemmas.Bool.Decides.{Decides-int_eq}
 use Rattle.std.proofs.lemmas.List.Filters.{dedup_is}
 use Rattle.std.proofs.lemmas.List.Kept.{IsStrictlySortedBy-dedup, Contains-dedup, Contains-from_dedup}
 use Rattle.std.proofs.lemmas.List.Sorted.{Contains-permutation, IsPermutation-sym}
-use Rattle.solid_model.specs.Lists.{Member, Ascends}
-use Rattle.solid_model.proofs.Lists.{each-weaker}
-use Rattle.solid_model.proofs.ListPlaces.{contains-member, member-contains}
+use Rattle.lemmas.specs.Lists.{Member, Ascends}
+use Rattle.lemmas.proofs.Lists.{each-weaker}
+use Rattle.lemmas.proofs.ListPlaces.{contains-member, member-contains}
 
 -- one integer is less than another where their comparison says so
 less : (x y : ℤ) → int_cmp x y ≡ Less → x <ℤ y

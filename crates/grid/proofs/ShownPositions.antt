@@ -12,11 +12,11 @@ use Rattle.solid_model.specs.declared.segment.Style.TheVariants.{Blank}
 use Rattle.solid_model.specs.Drawings.{same_style}
 use Rattle.solid_model.specs.Frames.{frame_of, along}
 use Rattle.solid_model.specs.Grid.{IsDrawnAcross, ChangesAt, IsGridCoordinate}
-use Rattle.solid_model.specs.Lists.{Member}
+use Rattle.lemmas.specs.Lists.{Member}
 use Rattle.solid_model.specs.Runs.{run_covers, run_style, IsRun, AreRuns, DrawingRuns, view_runs, runs_along, style_in}
 use Rattle.solid_model.specs.Segments.{segment_at}
 use Rattle.solid_model.proofs.InGrid.{blank_or_drawn}
-use Rattle.solid_model.proofs.Lists.{each-at, member-append, member-append_left, member-append_right, member-push, member-push_last, member-map, member-from_map}
+use Rattle.lemmas.proofs.Lists.{each-at, member-append, member-append_left, member-append_right, member-push, member-push_last, member-map, member-from_map}
 use Rattle.solid_model.proofs.RunStyles.{covers_parts, covers_from, covering_run, run_stretch, in_runs}
 use Rattle.solid_model.proofs.Sheets.{same_style-one}
 use Rattle.grid.specs.Positions.{ends_of, run_lines, ShowsByKind, ShowsInView, ShowsInSomeView}

@@ -2,7 +2,7 @@
 
 ghost use Rattle.std.specs.Prelude.{◌≡◌, ◌⊎◌, ◌↔◌, ◌++◌, ℤ, ◌<ℤ◌, IfOk};
 ghost use Rattle.solid_model.specs.Grid.{IsGridCoordinate, AreGridCoordinates};
-ghost use Rattle.solid_model.specs.Lists.{Member, Ascends};
+ghost use Rattle.lemmas.specs.Lists.{Member, Ascends};
 ghost use Rattle.solid_model.specs.Runs.{IsDrawing, style_in};
 ghost use Rattle.grid.specs.Positions.{ends_of, run_lines, ShowsByKind, ShowsInView};
 

@@ -3,12 +3,12 @@ use Rattle.std.proofs.Common.{◌≡◌, inl, inr, Bool, false, ℕ, ℤ, ◌<�
 use Rattle.std.proofs.lemmas.Bool.{cases_lt, false≢true}
 use Rattle.std.proofs.lemmas.List.{ext_get_or, get_or-set_same, get_or-set_other}
 use Rattle.column_lanes.specs.Styles.{style_byte, IsStyleByte}
-use Rattle.columns.specs.declared.known.KnownColumn.{KnownColumn}
-use Rattle.columns.specs.declared.seen.SeenLine.{SeenLine}
-use Rattle.columns.specs.Seen.{IsSeen}
-use Rattle.columns.proofs.DecidedCells.{full_tells, cell_decided}
-use Rattle.columns.proofs.AllLines.{lines_are_there, lines_are_listed}
-use Rattle.columns.proofs.WholeChoices.{one_drawn, met_drawn, drawn_met}
+use Rattle.line_demands.specs.declared.known.KnownColumn.{KnownColumn}
+use Rattle.line_demands.specs.declared.seen.SeenLine.{SeenLine}
+use Rattle.line_demands.specs.Seen.{IsSeen}
+use Rattle.column_laws.proofs.DecidedCells.{full_tells, cell_decided}
+use Rattle.column_laws.proofs.AllLines.{lines_are_there, lines_are_listed}
+use Rattle.line_demands.proofs.WholeChoices.{one_drawn, met_drawn, drawn_met}
 use Rattle.line_demands.specs.WholeChoices.{AreDrawnMet, ListDrawn, AreStylesOf, ArePackedOf}
 use Rattle.solid_model.specs.declared.frame.View.TheVariants.{Front}
 use Rattle.solid_model.specs.declared.line_id.LineId.{LineId}
@@ -16,16 +16,16 @@ use Rattle.solid_model.specs.declared.segment.Style.{Style}
 use Rattle.solid_model.specs.declared.segment.Style.TheVariants.{Blank, Dashed, Solid}
 use Rattle.solid_model.specs.declared.cell.Cell.{Cell}
 use Rattle.solid_model.specs.declared.decision.Decision.{Decision}
-use Rattle.solid_model.specs.Bits.{bits}
+use Rattle.lemmas.specs.Bits.{bits}
 use Rattle.solid_model.specs.Blocks.{ProblemParts, IsBlocksOf}
 use Rattle.solid_model.specs.Decisions.{decided_by, AreOnAll}
 use Rattle.solid_model.specs.Known.{known_bits}
-use Rattle.solid_model.specs.Lists.{Member}
+use Rattle.lemmas.specs.Lists.{Member}
 use Rattle.solid_model.specs.Panels.{GridParts}
 use Rattle.solid_model.specs.Columns.{ColumnsDraw}
 use Rattle.solid_model.specs.Demands.{known_cell, known_after, known_before, line_style, lines_of, CanBeMet, AllMet}
-use Rattle.solid_model.proofs.ListPlaces.{member-at, member-place}
-use Rattle.solid_model.proofs.Lists.{each-at, each-push, member-append_left, member-push_last}
+use Rattle.lemmas.proofs.ListPlaces.{member-at, member-place}
+use Rattle.lemmas.proofs.Lists.{each-at, each-push, member-append_left, member-push_last}
 
 -- styles with the same byte are the same
 same_style : (s t : Style) → style_byte s ≡ style_byte t → s ≡ t

@@ -1,1 +1,13 @@
 pub mod WholeChoices
+pub mod Broken
+pub mod Doubted
+pub mod Free
+pub mod Gathered
+pub mod KeptColumns
+pub mod Lines
+pub mod Plans
+pub mod Seen
+pub mod Sight
+pub mod SightCells
+pub mod Spans
+pub mod Touching

@@ -6,11 +6,11 @@ use Rattle.solid_model.specs.declared.line_id.LineId.{LineId}
 use Rattle.solid_model.specs.declared.segment.Segment.{Segment}
 use Rattle.solid_model.specs.declared.segment.Style.{Style}
 use Rattle.solid_model.specs.declared.segment.Style.TheVariants.{Blank}
-use Rattle.solid_model.specs.Bits.{bits}
+use Rattle.lemmas.specs.Bits.{bits}
 use Rattle.solid_model.specs.Blocks.{ProblemParts}
 use Rattle.solid_model.specs.Choices.{IsMatchingChoice}
 use Rattle.solid_model.specs.Demands.{known_cell, known_after, known_before, has_line, line_style, lines_of, said_by, CanBeMet}
-use Rattle.solid_model.specs.Lists.{Member, Each}
+use Rattle.lemmas.specs.Lists.{Member, Each}
 use Rattle.solid_model.specs.Panels.{GridParts, coordinates_of, IsGridOf}
 use Rattle.solid_model.specs.Runs.{IsDrawing}
 

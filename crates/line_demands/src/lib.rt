@@ -1,7 +1,25 @@
 //! What the lines of a grid demand of its blocks, while some of them are decided.
 #![tactic(auto)]
 
+mod beside;
+mod doubts;
+mod free;
+mod gather;
+mod known;
+mod lines;
 mod partial;
+mod partial_state;
+mod places;
+mod plan;
+mod seen;
+mod sight;
+mod spans;
+mod steps;
 mod whole;
 
+pub use doubts::{doubted, without_lowest};
+pub use known::{KnownColumn, can_draw, meets};
 pub use partial::Partial;
+pub use places::has_place;
+pub use seen::{SeenLine, block_beside};
+pub use steps::Steps;

@@ -1,7 +1,9 @@
 //! A problem, some of whose blocks are decided.
 
 use crate::whole::{all_draw, drawn_lines, wanted_styles};
-use columns::{PartialState, SeenLine, Steps};
+use crate::partial_state::PartialState;
+use crate::seen::SeenLine;
+use crate::steps::Steps;
 use solid_model::{Decision, LineId, Memory, Problem, View};
 use std::alloc::Global;
 use std::marker::Model;
@@ -39,10 +41,10 @@ impl<'p> Partial<'p> {
     ghost use Rattle.solid_model.specs.declared.decision.Decision.{Decision};
     ghost use Rattle.solid_model.specs.Decisions.{decided_by, AreDecisions, AreOnAll};
     ghost use Rattle.line_demands.specs.WholeChoices.{TellsMatching};
-    ghost use Rattle.columns.specs.Free.{LeaveFreeBut};
-    ghost use Rattle.columns.specs.Touching.{lines_touching, touching, view_width, view_height, shown_cell};
+    ghost use Rattle.line_demands.specs.Free.{LeaveFreeBut};
+    ghost use Rattle.line_demands.specs.Touching.{lines_touching, touching, view_width, view_height, shown_cell};
     ghost use Rattle.solid_model.specs.Known.{known_bits, LiesWithin};
-    ghost use Rattle.columns.specs.Seen.{IsSeen};
+    ghost use Rattle.line_demands.specs.Seen.{IsSeen};
     ghost use Rattle.solid_model.specs.GridBox.{grid_sizes};
     ghost use Rattle.solid_model.specs.Demands.{has_line, known_cell, lines_of, CanBeMet, AllMet, IsFirstBroken};
 

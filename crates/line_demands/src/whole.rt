@@ -5,10 +5,10 @@ ghost use Rattle.solid_model.specs.declared.segment.Style.TheVariants.{Blank};
 ghost use Rattle.solid_model.specs.Decisions.{decided_by, AreOnAll};
 ghost use Rattle.line_demands.specs.WholeChoices.{TellsMatching, ListDrawn, AreStylesOf, ArePackedOf, AreDrawnMet};
 ghost use Rattle.solid_model.specs.Demands.{lines_of, AllMet};
-ghost use Rattle.solid_model.specs.Lists.{Each};
+ghost use Rattle.lemmas.specs.Lists.{Each};
 
+use crate::partial_state::PartialState;
 use column_lanes::{style_byte, styles};
-use columns::PartialState;
 use solid_model::{Memory, Style};
 use std::alloc::Global;
 

@@ -8,10 +8,10 @@ use Rattle.solid_model.specs.declared.frame.View.TheVariants.{Front}
 use Rattle.solid_model.specs.Blocks.{ProblemParts}
 use Rattle.solid_model.specs.Demands.{said_by}
 use Rattle.solid_model.specs.Forcing.{IsLive, is_live}
-use Rattle.solid_model.specs.Lists.{Member}
+use Rattle.lemmas.specs.Lists.{Member}
 use Rattle.solid_model.specs.Tree.{live_count, live_below}
-use Rattle.solid_model.proofs.Lists.{member-map}
-use Rattle.columns.proofs.LiveComputed.{live_computed}
+use Rattle.lemmas.proofs.Lists.{member-map}
+use Rattle.column_laws.proofs.LiveComputed.{live_computed}
 use Rattle.drawing_maker.specs.declared.cube.Cube.{Cube}
 use Rattle.drawing_maker.specs.Made.{made_cubes}
 use Rattle.drawing_maker.specs.Cubes.{cube_side}
@@ -22,8 +22,8 @@ use Rattle.made_laws.proofs.DemandedCells.{first_not_empty, voids_not_full}
 use Rattle.made_laws.proofs.DemandedColumns.{IsProblemOf}
 use Rattle.made_laws.proofs.DemandedCubes.{CubeletColumn, cubelet_in, column_blocks, void_columns, says_full, allowed_values, rule_of, all_images_pass, places_in, no_void_in, last_is_solid, each_void_column}
 use Rattle.made_laws.proofs.DemandedPlaces.{around}
-use Rattle.solid_model.proofs.Ranges.{member-range}
-use Rattle.solid_model.proofs.Tests.{passes_all}
+use Rattle.lemmas.proofs.Ranges.{member-range}
+use Rattle.lemmas.proofs.Tests.{passes_all}
 use Rattle.drawing_maker.proofs.RowUnion.{has_side}
 use Rattle.made_laws.proofs.Parts.{Fits, all_sizes, live_in_parts, whole_in_parts}
 

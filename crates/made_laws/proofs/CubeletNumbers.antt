@@ -4,10 +4,10 @@ use Rattle.std.proofs.lemmas.Bool.{both_ways, and_parts, and_from}
 use Rattle.std.proofs.lemmas.Int.{ints}
 use Rattle.solid_model.specs.declared.cell.Axis.TheVariants.{X, Y, Z}
 use Rattle.solid_model.specs.Cells.{cell_at}
-use Rattle.solid_model.specs.Lists.{Member, Ascends}
+use Rattle.lemmas.specs.Lists.{Member, Ascends}
 use Rattle.solid_model.specs.Orders.{ComesBefore}
 use Rattle.solid_model.proofs.CellOrder.{LiesBefore, before-lies, before_one_way, not_before_itself}
-use Rattle.solid_model.proofs.Lists.{each-at, member-filter, member-from_filter}
+use Rattle.lemmas.proofs.Lists.{each-at, member-filter, member-from_filter}
 use Rattle.drawing_maker.specs.declared.cube.Kind.{Kind}
 use Rattle.drawing_maker.specs.declared.cube.Kind.TheVariants.{UnitCube, HollowCube, EightVoids}
 use Rattle.drawing_maker.specs.Cubes.{Cubelet, cube_side, cubelets_in, is_void}

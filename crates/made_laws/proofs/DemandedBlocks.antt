@@ -7,10 +7,10 @@ use Rattle.solid_model.specs.declared.cell.Axis.{Axis}
 use Rattle.solid_model.specs.declared.cell.Axis.TheVariants.{X, Y, Z}
 use Rattle.solid_model.specs.declared.cell.Cell.{Cell}
 use Rattle.solid_model.specs.Blocks.{BlockNumbers, block_at}
-use Rattle.solid_model.specs.Lists.{Each}
+use Rattle.lemmas.specs.Lists.{Each}
 use Rattle.solid_model.specs.PerAxis.{numbers_of}
 use Rattle.solid_model.specs.Rooms.{is_below, place_of_number}
-use Rattle.solid_model.proofs.Lists.{each-at, each-weaker, member-append_right}
+use Rattle.lemmas.proofs.Lists.{each-at, each-weaker, member-append_right}
 use Rattle.drawing_maker.specs.declared.cube.Cube.{Cube}
 use Rattle.drawing_maker.specs.declared.ticks.Part.{Part}
 use Rattle.drawing_maker.specs.declared.ticks.Tick.{Tick}
@@ -19,7 +19,7 @@ use Rattle.made_laws.specs.RowBlocks.{block_count, cubelet_block, blocks_before,
 use Rattle.drawing_maker.specs.Rows.{row_ticks}
 use Rattle.made_laws.proofs.DemandedPlaces.{IsOff}
 use Rattle.drawing_maker.proofs.RowTicks.{no_tick, part_at}
-use Rattle.solid_model.proofs.Concatenations.{get_or-over_triples}
+use Rattle.lemmas.proofs.Concatenations.{get_or-over_triples}
 use Rattle.drawing_maker.proofs.Rows.{IsRow, row_behind, EndsBefore}
 
 -- ---- the list of all cells' blocks

@@ -15,7 +15,7 @@ use Rattle.solid_model.specs.Frames.{frame_of, along, across, cell_on}
 use Rattle.solid_model.specs.Panels.{coordinates_of}
 use Rattle.solid_model.specs.GridBox.{grid_sizes}
 use Rattle.solid_model.proofs.Gaps.{member}
-use Rattle.solid_model.proofs.Lists.{each-at}
+use Rattle.lemmas.proofs.Lists.{each-at}
 use Rattle.solid_model.proofs.Views.{across_along, views_are_frames, HasCoordinates, coordinates_at, runs_forward, stands_forward, forward_cell, cell_on_twice}
 use Rattle.drawing_maker.specs.declared.cube.Kind.{Kind}
 use Rattle.drawing_maker.specs.declared.cube.Cube.{Cube}

@@ -3,7 +3,7 @@
 use Rattle.std.proofs.Common.{◌≡◌, Bool, true, false, ◌&&◌, not, nat_lt, inl, inr, ℕ, suc, ◌-◌, ◌<◌, List, [], ◌∷◌, map, get_or, IsTrue, refl, ap, ◌∙◌, arith}
 use Rattle.std.proofs.lemmas.Bool.{and_parts, and_from, not-true, ltb-true}
 use Rattle.std.specs.List.{list_all, flat_map, range_with_len}
-use Rattle.solid_model.specs.Lists.{Member}
+use Rattle.lemmas.specs.Lists.{Member}
 use Rattle.solid_model.specs.declared.frame.View.{View}
 use Rattle.solid_model.specs.declared.frame.View.TheVariants.{Front, Top, Side}
 use Rattle.drawing_maker.specs.declared.cube.Kind.{Kind}
@@ -11,8 +11,8 @@ use Rattle.drawing_maker.specs.declared.cube.Kind.TheVariants.{UnitCube, HollowC
 use Rattle.drawing_maker.specs.declared.cube.Cube.{Cube}
 use Rattle.drawing_maker.specs.Cubes.{Cubelet, cube_side, is_void}
 use Rattle.made_laws.specs.RowBlocks.{block_count, cubelet_block}
-use Rattle.solid_model.proofs.Ranges.{member-range}
-use Rattle.solid_model.proofs.Tests.{passes_all}
+use Rattle.lemmas.proofs.Ranges.{member-range}
+use Rattle.lemmas.proofs.Tests.{passes_all}
 use Rattle.made_laws.proofs.Parts.{PartRule, passing}
 
 -- ---- columns of cubelets

@@ -5,15 +5,15 @@ use Rattle.std.proofs.lemmas.Bool.Decides.{eqb_tells}
 use Rattle.std.proofs.lemmas.Grind.{flat_map-append, get_or_after_one}
 use Rattle.std.proofs.lemmas.List.{length-map, get_or-map, get_or_append_left, get_or-append-add}
 use Rattle.std.proofs.lemmas.List.FromFn.{length-map-range_with_len}
-use Rattle.solid_model.specs.Lists.{Member, Each}
+use Rattle.lemmas.specs.Lists.{Member, Each}
 use Rattle.solid_model.proofs.Gaps.{member}
-use Rattle.solid_model.proofs.Lists.{member-append_right, member-from_map, each-from}
+use Rattle.lemmas.proofs.Lists.{member-append_right, member-from_map, each-from}
 use Rattle.drawing_maker.specs.declared.cube.Cube.{Cube}
 use Rattle.drawing_maker.specs.declared.ticks.Part.{Part}
 use Rattle.drawing_maker.specs.declared.ticks.Tick.{Tick}
 use Rattle.drawing_maker.specs.Cubes.{cube_side}
 use Rattle.drawing_maker.specs.Rows.{first_tick, tick_after, cube_ticks, row_ticks, coordinates_of_ticks}
-use Rattle.solid_model.proofs.Ranges.{member-from_range}
+use Rattle.lemmas.proofs.Ranges.{member-from_range}
 use Rattle.drawing_maker.proofs.Rows.{IsRow, one_origin}
 use Rattle.drawing_maker.proofs.RowTicks.{no_tick, before_at, part_at, tick_in_row}
 

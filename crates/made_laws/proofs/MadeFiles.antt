@@ -14,13 +14,13 @@ use Rattle.solid_model.specs.Drawings.{drawing_of}
 use Rattle.solid_model.specs.DrawnStyle.{solid_drawing}
 use Rattle.solid_model.specs.Frames.{frame_of, along}
 use Rattle.solid_model.specs.Grid.{Coordinates, IsInSomeGap, IsUnionOf}
-use Rattle.solid_model.specs.Lists.{Member, Each, Ascends}
+use Rattle.lemmas.specs.Lists.{Member, Each, Ascends}
 use Rattle.solid_model.specs.Panels.{GridParts, coordinates_of, IsGrid}
 use Rattle.solid_model.proofs.OnGrid.{StaysOnGrid}
 use Rattle.solid_model.specs.Runs.{IsRun, IsDrawing, DrawingRuns, view_runs, runs_along, run_style}
 use Rattle.solid_model.specs.Segments.{segment_at}
 use Rattle.solid_model.proofs.InGrid.{between_members, gap_or_none}
-use Rattle.solid_model.proofs.Lists.{each-at, each-from}
+use Rattle.lemmas.proofs.Lists.{each-at, each-from}
 use Rattle.solid_model.proofs.RunStyles.{run_stretch, in_runs}
 use Rattle.solid_model.proofs.Sheets.{same_style-one}
 use Rattle.solid_model.proofs.UnionDrawing.{in_grid_or_not, union_on_grid}

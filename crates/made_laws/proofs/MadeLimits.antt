@@ -16,7 +16,7 @@ use Rattle.drawing_maker.proofs.MadeRows.{made_row}
 use Rattle.made_laws.proofs.MadeSolid.{made_is_drawing}
 use Rattle.made_laws.proofs.SomeMadeGrid.{made_grid, made_grid_is}
 use Rattle.rand_pcg.specs.Lcg.{Lcg}
-use Rattle.columns.proofs.LivePrefixes.{live_keeps_matching}
+use Rattle.column_laws.proofs.LivePrefixes.{live_keeps_matching}
 use Rattle.solid_model.specs.declared.cell.Axis.{Axis}
 use Rattle.solid_model.specs.declared.cell.Axis.TheVariants.{X, Y, Z}
 use Rattle.solid_model.specs.declared.cell.Cell.{Cell}

@@ -8,7 +8,7 @@ use Rattle.solid_model.specs.declared.cell.Cell.{Cell}
 use Rattle.solid_model.specs.Blocks.{Joined, IsOutside, AreBlocksOf}
 use Rattle.solid_model.specs.Cells.{cell_at}
 use Rattle.solid_model.specs.DrawnStyle.{solid_drawing}
-use Rattle.solid_model.specs.Lists.{Member}
+use Rattle.lemmas.specs.Lists.{Member}
 use Rattle.solid_model.specs.Orders.{ComesBefore}
 use Rattle.solid_model.specs.Panels.{GridParts, coordinates_of, IsGridOf}
 use Rattle.solid_model.specs.Rooms.{is_within, number_at, IsEarlier}
@@ -34,7 +34,7 @@ use Rattle.made_laws.proofs.RowCubelets.{Covers, place_in, place_is, place_less,
 use Rattle.made_laws.proofs.RowSteps.{chain_keeps}
 use Rattle.drawing_maker.proofs.RowUnion.{gaps_are}
 use Rattle.drawing_maker.proofs.Cubelets.{IsInside}
-use Rattle.solid_model.proofs.Concatenations.{length-over_triples, get_or-over_triples}
+use Rattle.lemmas.proofs.Concatenations.{length-over_triples, get_or-over_triples}
 use Rattle.made_laws.proofs.CubeletNumbers.{CubeletBefore, block_below, one_or_full, IsFirstOf, first_of_block}
 
 module _ (ps : List Cube) (row : IsRow ps) (g : GridParts) (same : (a : Axis) → coordinates_of g a ≡ coordinates_of_ticks (row_ticks ps))

@@ -14,13 +14,13 @@ use Rattle.solid_model.specs.Blocks.{Joined}
 use Rattle.solid_model.specs.Cells.{coordinate, placed, cell_before}
 use Rattle.solid_model.specs.DrawnStyle.{solid_drawing}
 use Rattle.solid_model.specs.Frames.{frame_of}
-use Rattle.solid_model.specs.Lists.{Member}
+use Rattle.lemmas.specs.Lists.{Member}
 use Rattle.solid_model.specs.Panels.{GridParts, coordinates_of, IsGridOf}
 use Rattle.solid_model.specs.Rooms.{face_sizes, Passes}
 use Rattle.solid_model.specs.Runs.{IsDrawing}
 use Rattle.solid_model.specs.VirtualFaces.{Bars, IsVirtual}
 use Rattle.solid_model.specs.GridBox.{grid_sizes, axis_along, axis_across}
-use Rattle.solid_model.proofs.Chains.{reaches-onward, reaches-step_then}
+use Rattle.lemmas.proofs.Chains.{reaches-onward, reaches-step_then}
 use Rattle.solid_model.proofs.InGrid.{placed_at}
 use Rattle.solid_model.proofs.Passages.{passages-back}
 use Rattle.solid_model.proofs.Views.{each_axis, across_along, views_are_frames}

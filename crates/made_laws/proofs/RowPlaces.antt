@@ -7,8 +7,8 @@ use Rattle.std.proofs.lemmas.List.{get_or_append_left, get_or-append-add}
 use Rattle.std.proofs.lemmas.List.FromFn.{get_or-map-range_with_len, length-map-range_with_len}
 use Rattle.std.proofs.lemmas.List.Sums.{sum-map, sum_by-cons}
 use Rattle.std.proofs.lemmas.Option.{none-some, same_Some}
-use Rattle.solid_model.specs.Lists.{Member, Each}
-use Rattle.solid_model.proofs.Lists.{each-at, each-weaker}
+use Rattle.lemmas.specs.Lists.{Member, Each}
+use Rattle.lemmas.proofs.Lists.{each-at, each-weaker}
 use Rattle.drawing_maker.specs.declared.cube.Kind.{Kind}
 use Rattle.drawing_maker.specs.declared.cube.Cube.{Cube}
 use Rattle.drawing_maker.specs.declared.ticks.Part.{Part}

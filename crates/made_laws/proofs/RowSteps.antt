@@ -13,7 +13,7 @@ use Rattle.solid_model.specs.Panels.{GridParts, coordinates_of, IsGridOf}
 use Rattle.solid_model.specs.Rooms.{Passes}
 use Rattle.solid_model.specs.Runs.{IsDrawing}
 use Rattle.solid_model.specs.VirtualFaces.{IsVirtual}
-use Rattle.solid_model.proofs.Chains.{reaches-keeps}
+use Rattle.lemmas.proofs.Chains.{reaches-keeps}
 use Rattle.solid_model.proofs.ConstantOnBlocks.{flat_unless_virtual}
 use Rattle.solid_model.proofs.InGrid.{placed_at}
 use Rattle.drawing_maker.specs.declared.cube.Cube.{Cube}

@@ -1,7 +1,7 @@
 -- Stored prefixes and their places.
 use Rattle.std.proofs.Common.{◌≡◌, ℕ, ◌<◌, Bool, List, [], ◌∷◌, ◌++◌, map, length, refl, ◌∙◌, ap₂, arith}
 use Rattle.std.proofs.lemmas.List.{get_or_append_left, get_or_push, length_push, length-append}
-use Rattle.solid_model.specs.Lists.{Each}
+use Rattle.lemmas.specs.Lists.{Each}
 use Rattle.prefix_tree.specs.Places.{prefix_at, StandsAt}
 
 -- what stands at a place stands there where more are stored

@@ -1,7 +1,7 @@
 //! Prefixes, each of which is named by its place.
 
 ghost use Rattle.std.specs.Prelude.{◌≡◌, ◌<◌, ◌≤◌, ◌+◌, ◌++◌, ◌∷◌, [], Bool, List, length, map, take, slice_index_or, IfOk};
-ghost use Rattle.solid_model.specs.Lists.{Each};
+ghost use Rattle.lemmas.specs.Lists.{Each};
 ghost use Rattle.prefix_tree.specs.Alike.{BeginAlike};
 ghost use Rattle.prefix_tree.specs.Nodes.{IsWay, AreWays};
 ghost use Rattle.prefix_tree.specs.Places.{prefix_at, StandsAt};
@@ -141,7 +141,7 @@ impl Model for Prefixes {
 
 impl Prefixes {
     ghost use Rattle.std.specs.Prelude.{◌≡◌, ◌<◌, ◌++◌, ◌∷◌, [], ℕ, Bool, List, length, map, IfOk, MatchOption};
-    ghost use Rattle.solid_model.specs.Lists.{Each};
+    ghost use Rattle.lemmas.specs.Lists.{Each};
     ghost use Rattle.prefix_tree.specs.Alike.{BeginAlike};
     ghost use Rattle.prefix_tree.specs.Places.{prefix_at, AreDistinct, StandsAt};
     ghost use Rattle.prefix_tree.specs.Nodes.{IsMeeting};

@@ -2,8 +2,8 @@
 use Rattle.std.proofs.Common.{◌≡◌, Bool, not, ℕ, ◌≤◌, List, [], ◌∷◌, ◌++◌, length, take, drop, slice_get, ◌<◌, Option, Some, None, IsTrue, refl, ap, sym, subst, ◌∙◌, arith, append_assoc, zero, suc, inl}
 use Rattle.std.proofs.lemmas.List.{append-nil, length-append}
 use Rattle.std.proofs.lemmas.Option.{none-some}
-use Rattle.columns.proofs.AllLines.{lines_are_there}
-use Rattle.columns.proofs.Deciding.{decided_more}
+use Rattle.column_laws.proofs.AllLines.{lines_are_there}
+use Rattle.line_demands.proofs.Deciding.{decided_more}
 use Rattle.propagate.specs.declared.closing.Closed.TheVariants.{Stable, Conflict}
 use Rattle.propagate.specs.Closing.{Grows, TellsClosed}
 use Rattle.propagate.specs.Forced.{IsCalm}
@@ -14,8 +14,8 @@ use Rattle.solid_model.specs.Blocks.{ProblemParts}
 use Rattle.solid_model.specs.Decisions.{decided_by, AreDecisions}
 use Rattle.solid_model.specs.Demands.{has_line, AllMet, CanBeMet, IsFirstBroken}
 use Rattle.solid_model.specs.Forcing.{known_with, known_by, IsLess, IsExcluded, IsForced, IsStable}
-use Rattle.solid_model.specs.Lists.{Member}
-use Rattle.solid_model.proofs.Lists.{member-append_right}
+use Rattle.lemmas.specs.Lists.{Member}
+use Rattle.lemmas.proofs.Lists.{member-append_right}
 use Rattle.solid_model.proofs.Lives.{less_chain, lives_less, stable_lives}
 
 -- one decision more says what it says of its block

@@ -7,10 +7,10 @@ use Rattle.std.proofs.lemmas.List.{append-nil, length-append, length-take-le, ta
 use Rattle.std.proofs.lemmas.List.Folds.{list_any_at}
 use Rattle.std.proofs.lemmas.List.FromFn.{length-range_with_len, get_or-range_with_len}
 use Rattle.std.proofs.lemmas.Option.{none-some, same_Some, slice_get_within, get_or_from_slice_get}
-use Rattle.columns.specs.Free.{LeavesFree, LeaveFreeBut}
-use Rattle.columns.specs.Touching.{is_of, block_beside, touches, lines_touching}
-use Rattle.columns.proofs.AllLines.{lines_are_listed, lines_are_there}
-use Rattle.columns.proofs.Gathering.{block_below}
+use Rattle.line_demands.specs.Free.{LeavesFree, LeaveFreeBut}
+use Rattle.line_demands.specs.Touching.{is_of, block_beside, touches, lines_touching}
+use Rattle.column_laws.proofs.AllLines.{lines_are_listed, lines_are_there}
+use Rattle.line_demands.proofs.Gathering.{block_below}
 use Rattle.propagate.specs.Closing.{Awaits, IsHandled}
 use Rattle.propagate.specs.Forced.{ExcludesOpen, IsCalm}
 use Rattle.propagate.proofs.Chains.{decided_push, at_before}
@@ -19,15 +19,15 @@ use Rattle.solid_model.specs.declared.decision.Decision.{Decision}
 use Rattle.solid_model.specs.declared.line_id.LineId.{LineId}
 use Rattle.solid_model.specs.Blocks.{ProblemParts, IsBlocksOf, block_at}
 use Rattle.solid_model.specs.Columns.{ColumnsDraw}
-use Rattle.solid_model.specs.Bits.{is_set}
+use Rattle.lemmas.specs.Bits.{is_set}
 use Rattle.solid_model.specs.Decisions.{decided_by, AreDecisions}
 use Rattle.solid_model.specs.Demands.{has_line, line_style, lines_of, known_in, known_cell, known_after, known_before, AgreesWith, AllMet, CanBeMet}
 use Rattle.solid_model.specs.Forcing.{known_with, cell_beside, IsLess}
 use Rattle.solid_model.specs.Frames.{frame_of}
 use Rattle.solid_model.specs.GridBox.{grid_sizes}
-use Rattle.solid_model.specs.Lists.{Member}
-use Rattle.solid_model.proofs.Lists.{member-filter, member-from_filter}
-use Rattle.solid_model.proofs.ListPlaces.{member-at}
+use Rattle.lemmas.specs.Lists.{Member}
+use Rattle.lemmas.proofs.Lists.{member-filter, member-from_filter}
+use Rattle.lemmas.proofs.ListPlaces.{member-at}
 use Rattle.solid_model.proofs.Lives.{less_with, met_less}
 
 -- ---- lines and decisions

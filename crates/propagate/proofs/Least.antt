@@ -2,10 +2,10 @@
 use Rattle.std.proofs.Common.{◌≡◌, ◌≢◌, ◌↔◌, ◌⊎◌, inl, inr, ◌==◌, ◌||◌, Bool, true, false, not, ℕ, ◌<◌, ◌≤◌, ◌^◌, nat_lt, Option, Some, None, if◌then◌else◌, refl, ap, sym, subst, ◌∙◌, arith}
 use Rattle.std.proofs.lemmas.Bool.{cases_Bool, eqb-true, eqb-false, false≢true, ltb-true, ltb-false}
 use Rattle.solid_model.specs.declared.decision.Decision.{Decision}
-use Rattle.solid_model.specs.Bits.{is_set}
-use Rattle.solid_model.proofs.WordBits.{zeros}
+use Rattle.lemmas.specs.Bits.{is_set}
+use Rattle.lemmas.proofs.WordBits.{zeros}
 use Rattle.propagate.specs.Looking.{IsLeastIn, TellsLeast, lesser_decision}
-use Rattle.columns.proofs.LowestLeft.{rest_off, rest_lowest, rest_other}
+use Rattle.line_demands.proofs.LowestLeft.{rest_off, rest_lowest, rest_other}
 
 -- the same for what is excluded alike
 pub told_alike : (P Q : ℕ → Bool → Type 0) (best : Option Decision) → ((b : ℕ) (v : Bool) → P b v → Q b v) → ((b : ℕ) (v : Bool) → Q b v → P b v) → TellsLeast P best → TellsLeast Q best

@@ -3,18 +3,18 @@ use Rattle.std.proofs.Common.{◌≡◌, ◌⊎◌, inl, inr, Bool, true, false,
 use Rattle.std.proofs.lemmas.Bool.{cases_Bool, cases_lt}
 use Rattle.std.proofs.lemmas.Int.{ints}
 use Rattle.std.proofs.lemmas.Option.{none-some}
-use Rattle.columns.specs.declared.seen.SeenLine.{SeenLine}
-use Rattle.columns.proofs.MetLines.{none_beyond}
-use Rattle.columns.proofs.SeenCells.{cell_known, met_with, with_met}
-use Rattle.columns.specs.Doubted.{IsDoubted}
-use Rattle.columns.specs.Seen.{IsSeen, known_beside}
+use Rattle.line_demands.specs.declared.seen.SeenLine.{SeenLine}
+use Rattle.column_laws.proofs.MetLines.{none_beyond}
+use Rattle.line_demands.proofs.SeenCells.{cell_known, met_with, with_met}
+use Rattle.line_demands.specs.Doubted.{IsDoubted}
+use Rattle.line_demands.specs.Seen.{IsSeen, known_beside}
 use Rattle.propagate.specs.Beside.{ExcludesAmong, ExcludesBeside}
 use Rattle.propagate.specs.Forced.{ExcludesOpen}
 use Rattle.propagate.specs.Looking.{TellsLeast, lesser_decision}
 use Rattle.propagate.proofs.Least.{told_alike, told_lesser}
 use Rattle.solid_model.specs.declared.decision.Decision.{Decision}
 use Rattle.solid_model.specs.declared.line_id.LineId.{LineId}
-use Rattle.solid_model.specs.Bits.{is_set}
+use Rattle.lemmas.specs.Bits.{is_set}
 use Rattle.solid_model.specs.Blocks.{ProblemParts, IsBlocksOf, block_at}
 use Rattle.solid_model.specs.Demands.{known_in}
 use Rattle.solid_model.specs.Forcing.{place_beside, cell_beside, CanBeMetWith}

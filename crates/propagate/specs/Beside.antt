@@ -1,9 +1,9 @@
 -- What the columns beside a line that is seen exclude.
 use Rattle.std.specs.Prelude.{◌≡◌, ◌<◌, Bool, true, not, ℕ, pos}
-use Rattle.columns.specs.declared.seen.SeenLine.{SeenLine}
-use Rattle.columns.specs.Seen.{known_beside}
+use Rattle.line_demands.specs.declared.seen.SeenLine.{SeenLine}
+use Rattle.line_demands.specs.Seen.{known_beside}
 use Rattle.propagate.specs.Looking.{CellExcludes}
-use Rattle.solid_model.specs.Bits.{is_set}
+use Rattle.lemmas.specs.Bits.{is_set}
 use Rattle.solid_model.specs.Blocks.{ProblemParts, block_at}
 use Rattle.solid_model.specs.Forcing.{cell_beside}
 use Rattle.solid_model.specs.Frames.{frame_of}

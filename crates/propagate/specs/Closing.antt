@@ -1,6 +1,6 @@
 -- Decisions that go on by what the lines force, until nothing is forced or a line can't be met.
 use Rattle.std.specs.Prelude.{◌≡◌, ◌⊎◌, ◌≤◌, true, ℕ, List, ◌++◌, slice_get, Some}
-use Rattle.columns.specs.Touching.{touches}
+use Rattle.line_demands.specs.Touching.{touches}
 use Rattle.propagate.specs.declared.closing.Closed.{Closed}
 use Rattle.propagate.specs.declared.closing.Closed.TheVariants.{Stable, Conflict}
 use Rattle.propagate.specs.Forced.{IsCalm}

@@ -9,7 +9,7 @@ use Rattle.solid_model.specs.Blocks.{ProblemParts}
 use Rattle.solid_model.specs.Decisions.{decided_by}
 use Rattle.solid_model.specs.Demands.{lines_of, AllMet, IsFirstBroken}
 use Rattle.solid_model.specs.Forcing.{LineExcludes, IsExcluded}
-use Rattle.solid_model.specs.Lists.{Member}
+use Rattle.lemmas.specs.Lists.{Member}
 
 -- a line excludes a value of an undecided block
 abbrev pub ExcludesOpen : ProblemParts → (ℕ → Option Bool) → LineId → ℕ → Bool → Type 0

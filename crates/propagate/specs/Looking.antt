@@ -2,7 +2,7 @@
 use Rattle.std.specs.Prelude.{◌≡◌, ◌==◌, ◌||◌, ◌≤◌, Bool, false, not, ℕ, nat_lt, ℤ, pos, Option, Some, None, if◌then◌else◌}
 use Rattle.solid_model.specs.declared.decision.Decision.{Decision}
 use Rattle.solid_model.specs.declared.segment.Style.{Style}
-use Rattle.columns.specs.Doubted.{CanDrawWith}
+use Rattle.line_demands.specs.Doubted.{CanDrawWith}
 
 -- a cell excludes a value of its block, if it has one
 abbrev pub CellExcludes : (ℤ → Option Bool) → (ℤ → Option Bool) → Style → ℕ → Option ℕ → ℕ → Bool → Type 0

@@ -2,11 +2,11 @@
 
 ghost use Rattle.std.specs.Prelude.{◌≡◌, ◌↔◌, ◌<◌, ℕ, ℤ, pos, Some, None, IsTrue};
 ghost use Rattle.solid_model.specs.Known.{known_bits, LiesWithin};
-ghost use Rattle.columns.specs.Doubted.{CanDrawWith};
+ghost use Rattle.line_demands.specs.Doubted.{CanDrawWith};
 ghost use Rattle.propagate.specs.Looking.{CellExcludes, TellsLeast, decision_on, lesser_decision};
 ghost use Rattle.solid_model.specs.Forcing.{with_value};
 
-use columns::{KnownColumn, can_draw};
+use line_demands::{KnownColumn, can_draw};
 use solid_model::{Decision, Style};
 
 /// The column, where an undecided cell has a value.

@@ -16,7 +16,7 @@ ghost use Rattle.solid_model.specs.Decisions.{decided_by};
 ghost use Rattle.solid_model.specs.Demands.{has_line, lines_of, AllMet, IsFirstBroken};
 
 use crate::line::forced_by_line;
-use columns::has_place;
+use line_demands::has_place;
 use line_demands::Partial;
 use solid_model::LineId;
 

@@ -7,18 +7,18 @@
 
 ghost use Rattle.std.specs.Prelude.{◌≡◌, ◌<◌, ℕ, pos, true, None, IsTrue};
 ghost use Rattle.solid_model.specs.Known.{LiesWithin};
-ghost use Rattle.columns.specs.Seen.{IsSeen, column_of, known_beside};
+ghost use Rattle.line_demands.specs.Seen.{IsSeen, column_of, known_beside};
 ghost use Rattle.propagate.specs.Forced.{ExcludesOpen};
 ghost use Rattle.propagate.specs.Looking.{TellsLeast};
 ghost use Rattle.propagate.specs.Beside.{ExcludesAt, ExcludesAmong};
-ghost use Rattle.solid_model.specs.Bits.{is_set};
+ghost use Rattle.lemmas.specs.Bits.{is_set};
 ghost use Rattle.solid_model.specs.Frames.{frame_of};
 ghost use Rattle.solid_model.specs.GridBox.{grid_sizes};
 ghost use Rattle.solid_model.specs.Decisions.{decided_by};
 ghost use Rattle.solid_model.specs.Demands.{has_line, CanBeMet};
 
 use crate::cells::{forced_value, lesser};
-use columns::{KnownColumn, SeenLine, block_beside, doubted, without_lowest};
+use line_demands::{KnownColumn, SeenLine, block_beside, doubted, without_lowest};
 use line_demands::Partial;
 use solid_model::{Decision, Problem};
 

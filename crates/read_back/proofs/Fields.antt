@@ -1,6 +1,6 @@
 -- A file as a list of fields, each a group code and a value, and the pairs that are read of it.
 use Rattle.std.proofs.Common.{◌≡◌, ℕ, ◌+◌, true, false, List, [], ◌∷◌, ◌++◌, ℤ, Some, Ok, flat_map, codes, refl, ap, ◌∙◌, append_assoc}
-use Rattle.solid_model.specs.Lists.{Each}
+use Rattle.lemmas.specs.Lists.{Each}
 use Rattle.dxf_groups.specs.Codes.{group_code_of, is_comment, is_end}
 use Rattle.dxf_groups.specs.Pairs.{TextPair, with_pair, pairs_from}
 use Rattle.dxf_groups.specs.SmallTexts.{pair_on}

@@ -8,7 +8,7 @@ use Rattle.solid_model.specs.declared.segment.Style.TheVariants.{Blank, Dashed, 
 use Rattle.solid_model.specs.Frames.{layer_name}
 use Rattle.solid_model.specs.Limits.{most_decimals}
 use Rattle.solid_model.specs.Line.{Line, IsKept}
-use Rattle.solid_model.specs.Lists.{Each}
+use Rattle.lemmas.specs.Lists.{Each}
 use Rattle.redraw.specs.Plain.{pair_text, linetype_name, line_text, file_head, file_end, plain_file}
 use Rattle.read_back.proofs.Spellings.{printed_length}
 

@@ -9,7 +9,7 @@ use Rattle.solid_model.specs.declared.segment.Style.TheVariants.{Blank, Dashed, 
 use Rattle.solid_model.specs.Frames.{layer_name}
 use Rattle.solid_model.specs.Limits.{most_lines}
 use Rattle.solid_model.specs.Line.{Line, IsKept}
-use Rattle.solid_model.specs.Lists.{Each}
+use Rattle.lemmas.specs.Lists.{Each}
 use Rattle.dxf_entities.specs.declared.facts.Facts.{Facts}
 use Rattle.dxf_entities.specs.declared.kind.Kind.TheVariants as kind
 use Rattle.dxf_entities.specs.declared.linetype.Linetype.{Linetype}

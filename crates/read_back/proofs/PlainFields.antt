@@ -8,8 +8,8 @@ use Rattle.solid_model.specs.declared.segment.Style.{Style}
 use Rattle.solid_model.specs.declared.segment.Style.TheVariants.{Blank, Dashed, Solid}
 use Rattle.solid_model.specs.Frames.{layer_name}
 use Rattle.solid_model.specs.Line.{Line, IsKept}
-use Rattle.solid_model.specs.Lists.{Each}
-use Rattle.solid_model.proofs.Lists.{each-append}
+use Rattle.lemmas.specs.Lists.{Each}
+use Rattle.lemmas.proofs.Lists.{each-append}
 use Rattle.dxf_groups.specs.Codes.{group_code_of, is_comment, is_end}
 use Rattle.dxf_groups.specs.Pairs.{pairs_from, pairs_of}
 use Rattle.dxf_groups.specs.TextLines.{contents_of}

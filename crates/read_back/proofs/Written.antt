@@ -10,11 +10,11 @@ use Rattle.solid_model.specs.DrawnStyle.{solid_drawing}
 use Rattle.solid_model.specs.Grid.{IsUnionOf}
 use Rattle.solid_model.specs.Limits.{farthest_on_sheet, most_decimals}
 use Rattle.solid_model.specs.Line.{Line, IsKept, IsNear}
-use Rattle.solid_model.specs.Lists.{Each}
+use Rattle.lemmas.specs.Lists.{Each}
 use Rattle.solid_model.specs.Moved.{IsMovedToZero}
 use Rattle.solid_model.specs.Panels.{GridParts, coordinates_of, IsGrid}
 use Rattle.solid_model.specs.Runs.{DrawingRuns, IsDrawing}
-use Rattle.solid_model.proofs.Lists.{each-both, each-weaker}
+use Rattle.lemmas.proofs.Lists.{each-both, each-weaker}
 use Rattle.solid_model.proofs.Moved.{moved_already, one_moved}
 use Rattle.redraw.specs.Files.{sheet_lines, IsSheetOf}
 use Rattle.redraw.specs.Plain.{plain_file}

@@ -10,7 +10,7 @@ ghost use Rattle.solid_model.specs.DrawnStyle.{solid_drawing};
 ghost use Rattle.solid_model.specs.Grid.{IsUnionOf};
 ghost use Rattle.solid_model.specs.Limits.{most_decimals, most_lines};
 ghost use Rattle.solid_model.specs.Line.{Line, IsKept, IsNear};
-ghost use Rattle.solid_model.specs.Lists.{Each};
+ghost use Rattle.lemmas.specs.Lists.{Each};
 ghost use Rattle.solid_model.specs.Panels.{GridParts, coordinates_of, IsGrid};
 ghost use Rattle.solid_model.specs.Runs.{DrawingRuns, IsDrawing};
 ghost use Rattle.dxf_groups.specs.Numerals.{scaled_of};

@@ -4,27 +4,27 @@ use Rattle.std.proofs.Math.Seq.{take-length}
 use Rattle.std.proofs.lemmas.List.{take-append-le}
 use Rattle.std.proofs.lemmas.List.Sorted.{IsPermutation-refl}
 use Rattle.std.specs.Io.KnownBytes.{Appends}
-use Rattle.columns.proofs.LivePrefixes.{live_keeps_matching}
+use Rattle.column_laws.proofs.LivePrefixes.{live_keeps_matching}
 use Rattle.replies.specs.Writings.{EndsWriting}
 use Rattle.recon_run.specs.Pages.{ArePagesOf, BeginsPages, IsPage, Page, TellsPages, choices_on, pages_text}
 use Rattle.recon_run.specs.Searched.{SearchedParts, TellsSearch, run_failure}
 use Rattle.sink_pages.specs.Gained.{HasGained, calls_text}
 use Rattle.recon_run.proofs.PossibleEnds.{can_list}
 use Rattle.report.specs.Texts.{page_text}
-use Rattle.search_end.specs.Pages.{AreNumbered, Call, HasAllPaged, HasPaged, choices_of}
-use Rattle.search_end.specs.declared.page_out.RunFault.{RunFault}
-use Rattle.search_end.specs.declared.page_out.RunFault.TheVariants as run_fault
+use Rattle.page_calls.specs.Pages.{AreNumbered, Call, HasAllPaged, HasPaged, choices_of}
+use Rattle.page_calls.specs.declared.page_out.RunFault.{RunFault}
+use Rattle.page_calls.specs.declared.page_out.RunFault.TheVariants as run_fault
 use Rattle.search_end.proofs.DeskAnswers.{live_solution}
 use Rattle.solid_model.specs.Blocks.{IsBlocksOf, ProblemParts}
 use Rattle.solid_model.specs.Choices.{ChoicePrecedes}
 use Rattle.solid_model.specs.Forcing.{is_live}
-use Rattle.solid_model.specs.Lists.{Each, Ascends, Member}
+use Rattle.lemmas.specs.Lists.{Each, Ascends, Member}
 use Rattle.solid_model.specs.Panels.{IsGrid}
 use Rattle.solid_model.specs.Search.{SearchLimits}
 use Rattle.solid_model.specs.Solutions.{IsSolutionOf}
 use Rattle.solid_model.specs.Tree.{live_below}
 use Rattle.solid_model.proofs.CompleteTree.{complete_tree}
-use Rattle.solid_model.proofs.Lists.{each-append, each-at, each-from}
+use Rattle.lemmas.proofs.Lists.{each-append, each-at, each-from}
 use Rattle.tv_base.specs.Pieces.{AppendsPrefix}
 
 -- ---- pages of calls

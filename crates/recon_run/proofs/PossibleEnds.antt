@@ -5,20 +5,20 @@ use Rattle.std.proofs.lemmas.Bool.{both_ways, cases_lt}
 use Rattle.std.proofs.lemmas.List.{length-take-le, take_all}
 use Rattle.std.proofs.lemmas.List.Sorted.{length_permutation, IsPermutation-refl, IsPermutation-sym, IsPermutation-trans, IsPermutation-cons, IsPermutation-middle}
 use Rattle.std.proofs.lemmas.Map.Made.{is_member-Decides}
-use Rattle.search_core.specs.Core.{same_prefix}
-use Rattle.search_core.proofs.Lists.{member-permutation, once-permutation}
-use Rattle.search_core.proofs.TakenOut.{Decides-same_prefix}
+use Rattle.lemmas.specs.Truth.{same_values}
+use Rattle.lemmas.proofs.Permutations.{member-permutation, once-permutation}
+use Rattle.lemmas.proofs.Truth.{Decides-same_values}
 use Rattle.solid_model.specs.declared.ended.EndKind.{EndKind}
 use Rattle.solid_model.specs.declared.ended.EndKind.TheVariants.{Whole, CutNodes, CutSolids}
 use Rattle.solid_model.specs.Choices.{ChoicePrecedes}
-use Rattle.solid_model.specs.Lists.{Member, Each, Ascends}
+use Rattle.lemmas.specs.Lists.{Member, Each, Ascends}
 use Rattle.solid_model.specs.Search.{SearchLimits}
 use Rattle.solid_model.specs.SearchEnds.{AreSomeOf, EndsAs}
 use Rattle.solid_model.specs.Tree.{PrefixTest, live_count, live_below}
 use Rattle.solid_model.proofs.ComparedChoices.{precedes_one_way}
-use Rattle.solid_model.proofs.ListPlaces.{contains-member, member-contains}
-use Rattle.solid_model.proofs.Lists.{IsWithin, each-at, each-from, ascends-append, ascends-append_left, ascends-filter, member-append, member-append_left, member-append_right, member-filter, member-from_filter, same_ascending}
-use Rattle.solid_model.proofs.WithoutRepeats.{ascends-weaker, equally_long}
+use Rattle.lemmas.proofs.ListPlaces.{contains-member, member-contains}
+use Rattle.lemmas.proofs.Lists.{IsWithin, each-at, each-from, ascends-append, ascends-append_left, ascends-filter, member-append, member-append_left, member-append_right, member-filter, member-from_filter, same_ascending}
+use Rattle.lemmas.proofs.WithoutRepeats.{ascends-weaker, equally_long}
 
 -- where a member stands: behind a front and before the rest
 between : {A : Type 0} (ys : List A) (x : A) → Member ys x → (front : List A) × (rest : List A) × (ys ≡ front ++ x ∷ rest)
@@ -33,7 +33,7 @@ rearranged [] (y ∷ ys) once once_too there back = absurd (back y (inl refl))
 rearranged (x ∷ xs) ys once once_too there back =
     let (front, rest, is) = between ys x (there x (inl refl)) in
     let moved : IsPermutation ys (x ∷ (front ++ rest)) = subst (λ zs. IsPermutation zs (x ∷ (front ++ rest))) (sym is) (IsPermutation-middle front x rest) in
-    let apart = once-permutation same_prefix Decides-same_prefix ys (x ∷ (front ++ rest)) moved once_too in
+    let apart = once-permutation same_values Decides-same_values ys (x ∷ (front ++ rest)) moved once_too in
     let others : IsWithin xs (front ++ rest) = λ y k. ⊎_elim
     (λ e. absurd (each-at (λ z. x ≢ z) xs y once.0 k e))
     (λ m. m) (member-permutation ys (x ∷ (front ++ rest)) y moved (there y (inr k))) in
@@ -46,13 +46,13 @@ rearranged (x ∷ xs) ys once once_too there back =
 
 -- a choice is one of a list
 abbrev is_among : List (List Bool) → List Bool → Bool
-is_among = is_member same_prefix
+is_among = is_member same_values
 
 among : (xs : List (List Bool)) (x : List Bool) → Member xs x → is_among xs x ≡ true
-among xs x k = (is_member-Decides Decides-same_prefix xs x).1 (member-contains xs x k)
+among xs x k = (is_member-Decides Decides-same_values xs x).1 (member-contains xs x k)
 
 from_among : (xs : List (List Bool)) (x : List Bool) → is_among xs x ≡ true → Member xs x
-from_among xs x e = contains-member xs x ((is_member-Decides Decides-same_prefix xs x).0 e)
+from_among xs x e = contains-member xs x ((is_member-Decides Decides-same_values xs x).0 e)
 
 -- an end of a search, which lists these choices and more
 pub record CanList (live : PrefixTest) (n : ℕ) (limits : SearchLimits) (told : List (List Bool)) : Type 0 where

@@ -1,6 +1,6 @@
 -- From the end of a search to the solids that are listed.
 use Rattle.std.proofs.Common.{◌≡◌, ℕ, ◌<◌, ◌≤◌, List, [], ◌++◌, Bool, length, inl, inr, refl, sym, subst, ◌∙◌, arith}
-use Rattle.columns.proofs.LivePrefixes.{live_keeps_matching}
+use Rattle.column_laws.proofs.LivePrefixes.{live_keeps_matching}
 use Rattle.file_problem.specs.Inputs.{HasProblem, Input}
 use Rattle.recon_run.specs.Answers.{AllowsEnd, AreListed, BeginsAll, BeginsToList, CanEnd, ListedSolids, ListsSolids, TellsAll, head_of, node_count}
 use Rattle.recon_run.specs.Pages.{BeginsPages, TellsPages, pages_text}
@@ -18,7 +18,7 @@ use Rattle.solid_model.specs.Blocks.{ProblemParts}
 use Rattle.solid_model.specs.Choices.{AreChoicesThat, IsMatchingChoice, AreSolidsOfChoices}
 use Rattle.solid_model.specs.Forcing.{is_live}
 use Rattle.solid_model.specs.Drawings.{drawing_of}
-use Rattle.solid_model.specs.Lists.{Member}
+use Rattle.lemmas.specs.Lists.{Member}
 use Rattle.solid_model.specs.Matching.{AreSolidsOf, AreSomeSolidsOf}
 use Rattle.solid_model.specs.Panels.{coordinates_of}
 use Rattle.solid_model.specs.Search.{SearchLimits}
@@ -26,7 +26,7 @@ use Rattle.solid_model.specs.SearchEnds.{AreSomeOf, EndsAs}
 use Rattle.solid_model.specs.Tree.{live_below}
 use Rattle.solid_model.proofs.BlockChoices.{all_solids_of_blocks, some_solids_of_blocks}
 use Rattle.solid_model.proofs.CompleteTree.{complete_tree}
-use Rattle.solid_model.proofs.Lists.{each-at, each-weaker}
+use Rattle.lemmas.proofs.Lists.{each-at, each-weaker}
 use Rattle.solid_model.proofs.SolidsOfChoices.{as_many}
 
 module _ (limits : SearchLimits) (t : Input) (p : ProblemParts) (has : HasProblem t p) where

@@ -2,7 +2,7 @@
 use Rattle.std.specs.Prelude.{◌≡◌, ◌+◌, ◌≤◌, Bool, true, false, ℕ, List, [], ◌∷◌, ◌++◌, length, take, IsPermutation}
 use Rattle.report.specs.Texts.{page_text}
 use Rattle.solid_model.specs.Limits.{most_page_choices}
-use Rattle.solid_model.specs.Lists.{Each}
+use Rattle.lemmas.specs.Lists.{Each}
 
 -- a page, by the choices that it tells
 abbrev pub Page : Type 0

@@ -17,8 +17,8 @@ use Rattle.replies.specs.declared.status.Answer.{Answer}
 use Rattle.replies.specs.declared.status.Failure.{Failure}
 use Rattle.replies.specs.declared.status.Failure.TheVariants.{WriteFault, Memory}
 use Rattle.report.specs.Texts.{head_text}
-use Rattle.search_end.specs.declared.page_out.RunFault.{RunFault}
-use Rattle.search_end.specs.declared.page_out.RunFault.TheVariants as run_fault
+use Rattle.page_calls.specs.declared.page_out.RunFault.{RunFault}
+use Rattle.page_calls.specs.declared.page_out.RunFault.TheVariants as run_fault
 use Rattle.solid_model.specs.declared.cell.Cell.{Cell}
 use Rattle.solid_model.specs.declared.segment.Segment.{Segment}
 use Rattle.solid_model.specs.declared.segment.Style.{Style}
@@ -26,7 +26,7 @@ use Rattle.solid_model.specs.Blocks.{ProblemParts}
 use Rattle.solid_model.specs.Choices.{AreSolidsOfChoices}
 use Rattle.solid_model.specs.Forcing.{is_live}
 use Rattle.solid_model.specs.Limits.{most_solid_limit}
-use Rattle.solid_model.specs.Lists.{Each}
+use Rattle.lemmas.specs.Lists.{Each}
 use Rattle.solid_model.specs.Matching.{Matches}
 use Rattle.solid_model.specs.Orders.{IsInStatedForm}
 use Rattle.solid_model.specs.Panels.{coordinates_of, IsGridOf}

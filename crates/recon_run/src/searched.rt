@@ -2,7 +2,7 @@
 
 ghost use Rattle.std.specs.Prelude.{IfOk, MatchResult};
 ghost use Rattle.recon_run.specs.Searched.{IsSearchOf};
-ghost use Rattle.search_end.specs.Pages.{CountsFaults, HasAllPaged, HasPaged};
+ghost use Rattle.page_calls.specs.Pages.{CountsFaults, HasAllPaged, HasPaged};
 
 use crate::crew::Crew;
 use report::head_text;

@@ -7,11 +7,11 @@ use Rattle.solid_model.specs.declared.runs.Run.{Run}
 use Rattle.solid_model.specs.declared.segment.Style.{Style}
 use Rattle.solid_model.specs.declared.segment.Style.TheVariants.{Blank}
 use Rattle.solid_model.specs.Grid.{is_in_gap, IsInSomeGap}
-use Rattle.solid_model.specs.Lists.{Member, Each, Ascends}
+use Rattle.lemmas.specs.Lists.{Member, Each, Ascends}
 use Rattle.solid_model.specs.Runs.{run_style, AreRuns}
 use Rattle.solid_model.proofs.Gaps.{member, lies_in, earlier_less}
-use Rattle.solid_model.proofs.ListPlaces.{member-at}
-use Rattle.solid_model.proofs.Lists.{each-from}
+use Rattle.lemmas.proofs.ListPlaces.{member-at}
+use Rattle.lemmas.proofs.Lists.{each-from}
 use Rattle.redraw.specs.GridRuns.{cell_style, IsWithLine, AreRunsOn}
 use Rattle.redraw.proofs.LastRuns.{run_style-uncovered}
 

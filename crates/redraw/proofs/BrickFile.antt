@@ -13,7 +13,7 @@ use Rattle.solid_model.specs.declared.segment.Style.TheVariants.{Blank, Solid}
 use Rattle.solid_model.specs.Cells.{coordinate, cell_at, is_full}
 use Rattle.solid_model.specs.DrawnStyle.{solid_drawing}
 use Rattle.solid_model.specs.Grid.{Coordinates, is_in_gap, IsUnionOf}
-use Rattle.solid_model.specs.Lists.{Member, Ascends}
+use Rattle.lemmas.specs.Lists.{Member, Ascends}
 use Rattle.solid_model.specs.Panels.{PanelStyles, PanelsStyles, panel_of, styles_along, AreGridStyles}
 use Rattle.solid_model.specs.Runs.{run_style, AreRuns, ViewRuns, DrawingRuns, view_runs, runs_along}
 use Rattle.solid_model.specs.GridBox.{axis_along, axis_across}

@@ -15,7 +15,7 @@ use Rattle.solid_model.specs.DrawnStyle.{solid_drawing}
 use Rattle.solid_model.specs.Frames.{frame_of, along, across}
 use Rattle.solid_model.specs.Grid.{Coordinates, is_in_gap, IsUnionOf}
 use Rattle.solid_model.specs.Limits.{farthest_in_view}
-use Rattle.solid_model.specs.Lists.{Member, Each, Ascends}
+use Rattle.lemmas.specs.Lists.{Member, Each, Ascends}
 use Rattle.solid_model.specs.Panels.{starts_of, PanelsStyles, panel_of, styles_along, AreGridStyles, GridParts, coordinates_of, IsGrid}
 use Rattle.solid_model.proofs.OnGrid.{StaysOnGrid}
 use Rattle.solid_model.specs.Runs.{run_style, IsRun, DrawingRuns, view_runs, runs_along, style_in}
@@ -25,9 +25,9 @@ use Rattle.solid_model.proofs.Fullness.{full_cell_of}
 use Rattle.solid_model.proofs.Gaps.{member, lies_in, begins_gap}
 use Rattle.solid_model.proofs.GridStyle.{style_on_grid, grid_style-drawing}
 use Rattle.solid_model.proofs.InGrid.{gap_or_none, between_members}
-use Rattle.solid_model.proofs.ListPlaces.{member-place}
-use Rattle.solid_model.proofs.Lists.{each-at, each-from}
-use Rattle.solid_model.proofs.Concatenations.{length-equal_parts}
+use Rattle.lemmas.proofs.ListPlaces.{member-place}
+use Rattle.lemmas.proofs.Lists.{each-at, each-from}
+use Rattle.lemmas.proofs.Concatenations.{length-equal_parts}
 use Rattle.solid_model.proofs.SameOnGrid.{member_or_not}
 use Rattle.solid_model.proofs.SomeGrid.{coordinate_near}
 use Rattle.solid_model.proofs.UnionDrawing.{union_on_grid}

@@ -13,10 +13,10 @@ use Rattle.solid_model.specs.Boxes.{place_of}
 use Rattle.solid_model.specs.Cells.{coordinate, is_full}
 use Rattle.solid_model.specs.DrawnStyle.{solid_drawing}
 use Rattle.solid_model.specs.Frames.{frame_of, across}
-use Rattle.solid_model.specs.Lists.{Member}
+use Rattle.lemmas.specs.Lists.{Member}
 use Rattle.solid_model.specs.Runs.{run_style, IsRun, AreRuns}
 use Rattle.solid_model.specs.Segments.{segment_at}
-use Rattle.solid_model.proofs.Lists.{each-at}
+use Rattle.lemmas.proofs.Lists.{each-at}
 use Rattle.solid_model.proofs.RunStyles.{covers_parts, covering_run}
 use Rattle.solid_model.proofs.Styles.{edge_not_blank, drawn_style_drawn, cell_beside_drawn}
 use Rattle.solid_model.proofs.Views.{views_are_frames, stands_forward, forward_cell, line_at}

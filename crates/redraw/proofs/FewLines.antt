@@ -13,12 +13,12 @@ use Rattle.solid_model.specs.Cells.{coordinate, is_full}
 use Rattle.solid_model.specs.DrawnStyle.{solid_drawing}
 use Rattle.solid_model.specs.Grid.{Coordinates, IsUnionOf}
 use Rattle.solid_model.specs.Line.{Line}
-use Rattle.solid_model.specs.Lists.{Member, Each, Ascends}
+use Rattle.lemmas.specs.Lists.{Member, Each, Ascends}
 use Rattle.solid_model.specs.Panels.{GridParts, coordinates_of, IsGrid}
 use Rattle.solid_model.specs.Runs.{IsRun, DrawingRuns, view_runs, runs_along, run_style}
 use Rattle.solid_model.specs.Segments.{segment_at}
 use Rattle.solid_model.proofs.InGrid.{between_members}
-use Rattle.solid_model.proofs.Lists.{each-at, each-from}
+use Rattle.lemmas.proofs.Lists.{each-at, each-from}
 use Rattle.solid_model.proofs.SomeGrid.{coordinate_near}
 use Rattle.solid_model.proofs.UnionDrawing.{in_grid_or_not, union_on_grid}
 use Rattle.solid_model.proofs.RunStyles.{in_runs}

@@ -4,10 +4,10 @@ use Rattle.std.proofs.lemmas.Bool.{false_from_ne_true}
 use Rattle.std.proofs.lemmas.Int.{ints}
 use Rattle.solid_model.specs.declared.runs.Run.{Run}
 use Rattle.solid_model.specs.declared.segment.Style.TheVariants.{Blank}
-use Rattle.solid_model.specs.Lists.{Member, Each}
+use Rattle.lemmas.specs.Lists.{Member, Each}
 use Rattle.solid_model.specs.Runs.{run_covers, run_style, IsRun, StandsApart, AreRuns}
 use Rattle.solid_model.proofs.InGrid.{blank_or_drawn}
-use Rattle.solid_model.proofs.Lists.{each-at, each-push, ascends-push, member-push_last}
+use Rattle.lemmas.proofs.Lists.{each-at, each-push, ascends-push, member-push_last}
 use Rattle.solid_model.proofs.RunStyles.{covers_parts, covers_from, covering_run, run_stretch}
 use Rattle.solid_model.proofs.Sheets.{same_style-one}
 

@@ -7,12 +7,12 @@ use Rattle.solid_model.specs.declared.runs.Run.{Run}
 use Rattle.solid_model.specs.declared.segment.Style.{Style}
 use Rattle.solid_model.specs.declared.segment.Style.TheVariants.{Blank}
 use Rattle.solid_model.specs.Grid.{is_in_gap, IsInSomeGap}
-use Rattle.solid_model.specs.Lists.{Member, Each, Ascends}
+use Rattle.lemmas.specs.Lists.{Member, Each, Ascends}
 use Rattle.solid_model.specs.Runs.{run_style, StandsApart, AreRuns}
 use Rattle.solid_model.proofs.Gaps.{member, lies_in, earlier_less, earlier_at_most}
 use Rattle.solid_model.proofs.InGrid.{some_gap_or_outside}
-use Rattle.solid_model.proofs.ListPlaces.{member-at}
-use Rattle.solid_model.proofs.Lists.{each-at, each-weaker, each-push, member-push}
+use Rattle.lemmas.proofs.ListPlaces.{member-at}
+use Rattle.lemmas.proofs.Lists.{each-at, each-weaker, each-push, member-push}
 use Rattle.redraw.specs.GridRuns.{cell_style, IsStretchEnd, IsWithLine}
 use Rattle.redraw.proofs.LastRuns.{run_style-uncovered, blank_past, runs_push, push-elsewhere, push-covered, apart_later}
 

@@ -6,10 +6,10 @@ use Rattle.solid_model.specs.declared.runs.Run.{Run}
 use Rattle.solid_model.specs.declared.segment.Style.{Style}
 use Rattle.solid_model.specs.declared.segment.Style.TheVariants.{Blank}
 use Rattle.solid_model.specs.Drawings.{same_style}
-use Rattle.solid_model.specs.Lists.{Member, Each, Ascends}
+use Rattle.lemmas.specs.Lists.{Member, Each, Ascends}
 use Rattle.solid_model.specs.Runs.{StandsApart}
 use Rattle.solid_model.proofs.InGrid.{blank_or_drawn}
-use Rattle.solid_model.proofs.Lists.{each-weaker}
+use Rattle.lemmas.proofs.Lists.{each-weaker}
 use Rattle.solid_model.proofs.Sheets.{same_style-itself, same_style-one}
 
 -- what holds of a place, and from the next one on, holds from it on

@@ -14,18 +14,18 @@ use Rattle.solid_model.specs.declared.segment.Style.TheVariants.{Blank}
 use Rattle.solid_model.specs.Drawings.{same_style}
 use Rattle.solid_model.specs.Frames.{frame_of, along, across}
 use Rattle.solid_model.specs.Grid.{Coordinates, IsInSomeGap}
-use Rattle.solid_model.specs.Lists.{Member, Ascends}
+use Rattle.lemmas.specs.Lists.{Member, Ascends}
 use Rattle.solid_model.proofs.OnGrid.{StaysOnGrid}
 use Rattle.solid_model.specs.Runs.{run_style, IsRun, StandsApart, AreRuns}
 use Rattle.solid_model.specs.Segments.{segment_at}
 use Rattle.solid_model.proofs.InGrid.{gap_or_none}
-use Rattle.solid_model.proofs.Lists.{IsWithin, each-at, each-weaker, each-map, member-from_map}
+use Rattle.lemmas.proofs.Lists.{IsWithin, each-at, each-weaker, each-map, member-from_map}
 use Rattle.solid_model.proofs.RunStyles.{run_stretch}
 use Rattle.solid_model.proofs.SameOnGrid.{member_or_not}
 use Rattle.solid_model.proofs.Sheets.{same_style-itself, same_style-one}
 use Rattle.solid_model.proofs.UnionDrawing.{same_gaps_before}
 use Rattle.solid_model.proofs.Unions.{cells_over, member-cells_over, length-cells_over}
-use Rattle.solid_model.proofs.WithoutRepeats.{no_longer}
+use Rattle.lemmas.proofs.WithoutRepeats.{no_longer}
 
 -- ---- where a run begins
 

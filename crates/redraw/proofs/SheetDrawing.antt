@@ -10,11 +10,11 @@ use Rattle.solid_model.specs.declared.segment.Style.{Style}
 use Rattle.solid_model.specs.declared.segment.Style.TheVariants.{Blank}
 use Rattle.solid_model.specs.Drawings.{same_view, has_length, covering_lines, extreme, least_right, least_up, is_shown, sheet_style, drawing_of, IsShown}
 use Rattle.solid_model.specs.Line.{Line}
-use Rattle.solid_model.specs.Lists.{Member}
+use Rattle.lemmas.specs.Lists.{Member}
 use Rattle.solid_model.specs.Moved.{BeginsAt, IsMovedToZero}
 use Rattle.solid_model.specs.Runs.{DrawingRuns, view_runs, runs_along}
 use Rattle.solid_model.specs.Segments.{segment_at, along_of, across_of, farther}
-use Rattle.solid_model.proofs.Lists.{each-at, member-map, member-from_map, member-from_filter}
+use Rattle.lemmas.proofs.Lists.{each-at, member-map, member-from_map, member-from_filter}
 use Rattle.solid_model.proofs.RunStyles.{covers_from, in_runs}
 use Rattle.solid_model.proofs.Sheets.{least_member_of, same_view-true, drawn_line, covered_from_style, sheet_stands_from}
 use Rattle.redraw.specs.Files.{AreRunsOf, right_on_sheet, up_on_sheet, sheet_lines}

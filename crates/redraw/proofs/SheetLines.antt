@@ -11,10 +11,10 @@ use Rattle.solid_model.specs.declared.segment.Style.{Style}
 use Rattle.solid_model.specs.declared.segment.Style.TheVariants.{Blank, Dashed, Solid}
 use Rattle.solid_model.specs.Drawings.{same_view, same_style, is_between, covers, is_covered, sheet_style}
 use Rattle.solid_model.specs.Line.{Line}
-use Rattle.solid_model.specs.Lists.{Member}
+use Rattle.lemmas.specs.Lists.{Member}
 use Rattle.solid_model.specs.Runs.{run_covers, run_style, AreRuns, DrawingRuns, view_runs, runs_along, style_in}
 use Rattle.solid_model.specs.Segments.{along_of, across_of, start_of, line_of, farther}
-use Rattle.solid_model.proofs.Lists.{each-at, member-append, member-append_left, member-append_right, member-map, member-from_map}
+use Rattle.lemmas.proofs.Lists.{each-at, member-append, member-append_left, member-append_right, member-map, member-from_map}
 use Rattle.solid_model.proofs.RunStyles.{covers_parts, covers_from, covering_run, run_stretch}
 use Rattle.solid_model.proofs.Sheets.{same_view-true, same_view-itself, same_style-itself, same_style-one}
 use Rattle.redraw.specs.Files.{right_on_sheet, up_on_sheet, run_line, placed_lines, sheet_lines}

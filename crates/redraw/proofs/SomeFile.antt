@@ -17,7 +17,7 @@ use Rattle.solid_model.specs.Frames.{frame_of, along, across}
 use Rattle.solid_model.specs.Runs.{AreRuns, DrawingRuns, view_runs, runs_along, run_style}
 use Rattle.solid_model.specs.Segments.{segment_at, start_of, line_of}
 use Rattle.solid_model.proofs.Fullness.{member-is_full}
-use Rattle.solid_model.proofs.Integers.{natural}
+use Rattle.lemmas.proofs.Integers.{natural}
 use Rattle.solid_model.proofs.Styles.{cell_beside_drawn, drawn_style_drawn}
 use Rattle.solid_model.proofs.Views.{views_are_frames}
 use Rattle.solid_model.proofs.WithinViews.{Least, Greatest, outermost_by}

@@ -4,11 +4,11 @@ use Rattle.std.proofs.lemmas.Int.{ints}
 use Rattle.solid_model.specs.declared.runs.Run.{Run}
 use Rattle.solid_model.specs.declared.segment.Style.{Style}
 use Rattle.solid_model.specs.declared.segment.Style.TheVariants.{Blank}
-use Rattle.solid_model.specs.Lists.{Member, Each}
-use Rattle.solid_model.proofs.Lists.{appended, each-at, each-weaker, each-appended, member-appended, member-from_appended, ascends-appended}
+use Rattle.lemmas.specs.Lists.{Member, Each}
+use Rattle.lemmas.proofs.Lists.{appended, each-at, each-weaker, each-appended, member-appended, member-from_appended, ascends-appended}
 use Rattle.solid_model.specs.Runs.{run_style, IsRun, StandsApart, AreRuns}
 use Rattle.solid_model.proofs.InGrid.{blank_or_drawn}
-use Rattle.solid_model.proofs.Integers.{natural}
+use Rattle.lemmas.proofs.Integers.{natural}
 use Rattle.solid_model.proofs.RunStyles.{covers_parts, covers_from, covering_run}
 use Rattle.redraw.proofs.SheetLines.{style_of_run}
 use Rattle.redraw.proofs.PlacesRuns.{IsLineRun, AreFrom, some_line_runs, each_line_run, line_runs_apart, on_line_run}

@@ -9,7 +9,7 @@ use Rattle.solid_model.specs.declared.segment.Style.TheVariants.{Blank}
 use Rattle.solid_model.specs.Frames.{frame_of, along, across}
 use Rattle.solid_model.specs.Grid.{is_in_gap, IsInSomeGap}
 use Rattle.solid_model.specs.Limits.{farthest_in_view}
-use Rattle.solid_model.specs.Lists.{Member, Each}
+use Rattle.lemmas.specs.Lists.{Member, Each}
 use Rattle.solid_model.specs.Panels.{PanelsStyles, panel_of, styles_along, AreGridStyles, GridParts, coordinates_of, IsGrid}
 use Rattle.solid_model.specs.Runs.{run_style, AreRuns, DrawingRuns, view_runs, runs_along}
 use Rattle.redraw.specs.declared.text.Place.{Place}

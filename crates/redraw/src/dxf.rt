@@ -9,7 +9,7 @@ ghost use Rattle.solid_model.specs.declared.cell.Cell.{Cell};
 ghost use Rattle.solid_model.specs.Cells.{IsSolid, is_full};
 ghost use Rattle.solid_model.specs.Grid.{IsUnionOf};
 ghost use Rattle.solid_model.specs.Limits.{farthest_in_view, most_decimals};
-ghost use Rattle.solid_model.specs.Lists.{Each};
+ghost use Rattle.lemmas.specs.Lists.{Each};
 ghost use Rattle.solid_model.specs.Panels.{coordinates_of};
 ghost use Rattle.redraw.specs.Files.{right_on_sheet, up_on_sheet, placed_lines, IsFileOf};
 ghost use Rattle.redraw.specs.GridRuns.{last_line, IsUpTo, IsNearRun, IsNearPlace, AreNearRuns, sheet_text};

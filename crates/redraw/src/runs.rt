@@ -1,7 +1,7 @@
 //! The maximal runs of a grid's segments.
 
 ghost use Rattle.std.specs.Prelude.{◌≡◌, ◌<◌, ◌*◌, ◌-◌, length, ◌<ℤ◌, IfOk};
-ghost use Rattle.solid_model.specs.Lists.{Each, Ascends};
+ghost use Rattle.lemmas.specs.Lists.{Each, Ascends};
 ghost use Rattle.solid_model.specs.Runs.{AreRuns};
 ghost use Rattle.redraw.specs.GridRuns.{IsStretchEnd, IsWithLine, AreRunsOn};
 

@@ -4,7 +4,7 @@ ghost use Rattle.std.specs.Prelude.{◌≡◌, ◌≤◌, ◌++◌, ◌+ℤ◌, 
 ghost use Rattle.std.specs.List.{flat_map};
 ghost use Rattle.decimal_texts.specs.Decimals.{decimal_text};
 ghost use Rattle.solid_model.specs.Limits.{farthest_in_view, most_decimals};
-ghost use Rattle.solid_model.specs.Lists.{Each};
+ghost use Rattle.lemmas.specs.Lists.{Each};
 ghost use Rattle.solid_model.specs.Segments.{along_of, across_of};
 ghost use Rattle.redraw.specs.Files.{run_line, view_lines};
 ghost use Rattle.redraw.specs.GridRuns.{IsNearRun, IsUpTo, IsNearPlace, runs_text};

@@ -10,11 +10,11 @@ use Rattle.solid_model.specs.declared.cell.Cell.{Cell}
 use Rattle.solid_model.specs.declared.face.Out.{Out}
 use Rattle.solid_model.specs.Faces.{outward, out_number, FaceParts, AreFacesOf}
 use Rattle.solid_model.specs.Grid.{Coordinates, gaps_along}
-use Rattle.solid_model.specs.Lists.{Ascends}
+use Rattle.lemmas.specs.Lists.{Ascends}
 use Rattle.solid_model.specs.Marks.{BoxMarks, is_marked}
 use Rattle.solid_model.specs.PerAxis.{numbers_of}
 use Rattle.solid_model.specs.Rooms.{is_within, box_place}
-use Rattle.solid_model.proofs.Lists.{each-push}
+use Rattle.lemmas.proofs.Lists.{each-push}
 use Rattle.face_laws.specs.GridFaces.{face_in_space, grid_planes, numbered_fullness}
 use Rattle.face_laws.proofs.GridPlanes.{union_faces}
 use Rattle.faces.specs.PlaneFaces.{AreBoundary, AreFacesOfSquares, AreFacesInPlane}

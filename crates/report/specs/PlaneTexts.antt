@@ -6,7 +6,7 @@ use Rattle.solid_model.specs.declared.cell.Cell.{Cell}
 use Rattle.solid_model.specs.declared.face.Out.{Out}
 use Rattle.solid_model.specs.Faces.{FaceParts, AreFacesOf}
 use Rattle.solid_model.specs.Grid.{Coordinates, IsUnionOf}
-use Rattle.solid_model.specs.Lists.{Each}
+use Rattle.lemmas.specs.Lists.{Each}
 use Rattle.face_laws.specs.GridFaces.{face_in_space, grid_planes}
 use Rattle.faces.specs.FacesSoFar.{AreFacesBefore}
 use Rattle.faces.specs.PlaneFaces.{AreFacesOfSquares}

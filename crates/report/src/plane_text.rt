@@ -4,7 +4,7 @@ ghost use Rattle.std.specs.Prelude.{◌≡◌, ◌≤◌, pos, IfSome, IfOk};
 ghost use Rattle.faces.specs.PlaneFaces.{LieOnGrid};
 ghost use Rattle.report.specs.PlaneTexts.{AreLines, AreLinesOf};
 ghost use Rattle.solid_model.specs.Limits.{most_decimals};
-ghost use Rattle.solid_model.specs.Lists.{Each, Member};
+ghost use Rattle.lemmas.specs.Lists.{Each, Member};
 ghost use Rattle.solid_model.specs.Panels.{coordinates_of};
 
 use crate::solid::push_faces;

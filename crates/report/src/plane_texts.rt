@@ -6,7 +6,7 @@ ghost use Rattle.report.specs.PlaneTexts.{PlaneLines, AreLines, AreLinesBefore, 
 ghost use Rattle.solid_model.specs.Faces.{out_number};
 ghost use Rattle.solid_model.specs.GridBox.{grid_sizes};
 ghost use Rattle.solid_model.specs.Limits.{most_decimals};
-ghost use Rattle.solid_model.specs.Lists.{Each};
+ghost use Rattle.lemmas.specs.Lists.{Each};
 ghost use Rattle.solid_model.specs.Marks.{is_marked};
 ghost use Rattle.solid_model.specs.Panels.{coordinates_of};
 ghost use Rattle.solid_model.specs.PerAxis.{numbers_of};
@@ -126,7 +126,7 @@ pub struct PlaneTexts {
 
 impl Model for PlaneTexts {
     ghost use Rattle.report.specs.PlaneTexts.{GridLines, AreLines, listed};
-    ghost use Rattle.solid_model.specs.Lists.{Each};
+    ghost use Rattle.lemmas.specs.Lists.{Each};
 
     ghost Value = { GridLines };
 

@@ -1,8 +1,8 @@
 -- There is at most one list of rounds.
 use Rattle.std.proofs.Common.{◌≡◌, ◌≢◌, inl, inr, ℕ, zero, suc, ◌+◌, ◌-◌, ◌<◌, ◌≤◌, Bool, List, length, refl, sym, ap, subst, ◌∙◌, arith}
 use Rattle.std.proofs.lemmas.Bool.{cases_lt}
-use Rattle.solid_model.specs.Lists.{Member, Ascends}
-use Rattle.solid_model.proofs.Lists.{IsWithin, each-at, same_ascending}
+use Rattle.lemmas.specs.Lists.{Member, Ascends}
+use Rattle.lemmas.proofs.Lists.{IsWithin, each-at, same_ascending}
 use Rattle.rounds.specs.Succession.{IsInside, node_ahead, run, first, IsRoundFrom, IsInsideRound, AreRounds}
 use Rattle.rounds.proofs.Runs.{member-node_ahead, member-run, node_ahead-apart}
 use Rattle.rounds.proofs.Traced.{member_start}

@@ -1,7 +1,7 @@
 -- Runs: nodes that follow one another.
 use Rattle.std.proofs.Common.{◌≡◌, ◌≢◌, inl, inr, ℕ, zero, suc, ◌<◌, [], ◌∷◌, ◌++◌, length, refl, sym, ap, subst, ◌∙◌, arith}
-use Rattle.solid_model.specs.Lists.{Member, Ascends}
-use Rattle.solid_model.proofs.Lists.{each-at}
+use Rattle.lemmas.specs.Lists.{Member, Ascends}
+use Rattle.lemmas.proofs.Lists.{each-at}
 use Rattle.rounds.specs.Succession.{node_ahead, run}
 
 -- so many steps on from the next node are one more from the node

@@ -1,9 +1,9 @@
 -- Each inside node of a succession has a round.
 use Rattle.std.proofs.Common.{◌≡◌, ◌≢◌, inl, inr, ℕ, zero, suc, ◌+◌, ◌<◌, Bool, List, refl, sym, ap, subst, ◌∙◌, arith}
 use Rattle.std.proofs.lemmas.Bool.{cases_eq}
-use Rattle.solid_model.specs.Lists.{Member, Each, Ascends}
-use Rattle.solid_model.proofs.Lists.{each-from, ascends-push}
-use Rattle.solid_model.proofs.WithoutRepeats.{no_longer}
+use Rattle.lemmas.specs.Lists.{Member, Each, Ascends}
+use Rattle.lemmas.proofs.Lists.{each-from, ascends-push}
+use Rattle.lemmas.proofs.WithoutRepeats.{no_longer}
 use Rattle.rounds.specs.Succession.{IsInside, IsSuccession, node_ahead, run, IsRoundFrom}
 use Rattle.rounds.proofs.Runs.{run-push, length-run, member-node_ahead, member-run, node_ahead-apart}
 

@@ -2,8 +2,8 @@
 use Rattle.std.proofs.Common.{◌≡◌, ◌⊎◌, inl, inr, ℕ, zero, suc, ◌+◌, ◌<◌, ◌≤◌, Bool, false, IsTrue, List, [], ◌∷◌, ◌++◌, length, replicate, refl, sym, ap, subst, ◌∙◌, arith}
 use Rattle.std.proofs.lemmas.Bool.{both_ways, cases_lt}
 use Rattle.std.proofs.lemmas.List.{get_or-replicate, get_or_past, length-replicate}
-use Rattle.solid_model.specs.Lists.{Member}
-use Rattle.solid_model.proofs.Lists.{member-append_left, member-push_last, member-push, each-at, each-from, each-weaker, each-push, ascends-push}
+use Rattle.lemmas.specs.Lists.{Member}
+use Rattle.lemmas.proofs.Lists.{member-append_left, member-push_last, member-push, each-at, each-from, each-weaker, each-push, ascends-push}
 use Rattle.rounds.specs.NodeMarks.{has_mark, IsTraced, AreTraced}
 use Rattle.rounds.specs.Succession.{IsInside, run, first, IsRoundFrom, IsInsideRound, AreRounds}
 

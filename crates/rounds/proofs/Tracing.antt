@@ -2,8 +2,8 @@
 use Rattle.std.proofs.Common.{◌≡◌, ◌≢◌, ◌⊎◌, inl, inr, ℕ, suc, ◌<◌, Bool, true, false, IsTrue, List, [], ◌∷◌, ◌++◌, length, set, refl, sym, ap, ap₂, subst, ◌∙◌, arith}
 use Rattle.std.proofs.lemmas.Bool.{both_ways}
 use Rattle.std.proofs.lemmas.List.{length-append}
-use Rattle.solid_model.specs.Lists.{Member}
-use Rattle.solid_model.proofs.Lists.{each-push, each-from, ascends-push}
+use Rattle.lemmas.specs.Lists.{Member}
+use Rattle.lemmas.proofs.Lists.{each-push, each-from, ascends-push}
 use Rattle.rounds.specs.NodeMarks.{has_mark, AreClosedBack, Marks, Traces, IsTraced}
 use Rattle.rounds.specs.Succession.{IsInside, IsOneToOne, node_ahead, run}
 use Rattle.rounds.proofs.Runs.{run-push}

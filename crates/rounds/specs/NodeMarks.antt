@@ -1,7 +1,7 @@
 -- Marks on the nodes of a succession, and what tracing makes of them.
 use Rattle.std.specs.Prelude.{◌≡◌, ◌≢◌, ◌⊎◌, ◌↔◌, Bool, false, not, IsTrue, ℕ, ◌<◌, List, length, slice_index_or}
 use Rattle.std.specs.List.{count_by}
-use Rattle.solid_model.specs.Lists.{Member, Each, Ascends}
+use Rattle.lemmas.specs.Lists.{Member, Each, Ascends}
 use Rattle.rounds.specs.Succession.{IsInside, node_ahead, run, first, IsRoundFrom, IsInsideRound}
 
 -- a node has a mark

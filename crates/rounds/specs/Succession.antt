@@ -1,6 +1,6 @@
 -- Successions on finitely many nodes, which are numbered from 0, and their rounds.
 use Rattle.std.specs.Prelude.{◌≡◌, ◌≢◌, Bool, IsTrue, ℕ, zero, suc, ◌<◌, ◌≤◌, List, [], ◌∷◌, length}
-use Rattle.solid_model.specs.Lists.{Member, Each, Ascends}
+use Rattle.lemmas.specs.Lists.{Member, Each, Ascends}
 
 -- a node is one of the first so many, and inside
 abbrev pub IsInside : ℕ → (ℕ → Bool) → ℕ → Type 0

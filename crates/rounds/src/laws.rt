@@ -3,7 +3,7 @@
 ghost use Rattle.std.specs.Prelude.{◌≡◌, Bool, ℕ, List};
 ghost use Rattle.rounds.specs.SmallRounds.{small_inside, small_next, small_rounds};
 ghost use Rattle.rounds.specs.Succession.{IsInside, IsSuccession, IsRoundFrom, AreRounds};
-ghost use Rattle.solid_model.specs.Lists.{Each};
+ghost use Rattle.lemmas.specs.Lists.{Each};
 
 /// In a succession each inside node has a round, of inside nodes alone, which comes back to it.
 pub fn each_inside_node_has_a_round()

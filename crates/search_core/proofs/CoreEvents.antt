@@ -8,16 +8,18 @@ use Rattle.std.proofs.lemmas.List.Sorted.{IsPermutation-refl, IsPermutation-tran
 use Rattle.std.proofs.lemmas.List.Sums.{sum_by-cons}
 use Rattle.std.proofs.lemmas.Grind.{flat_map-append}
 use Rattle.solid_model.specs.declared.ended.EndKind.TheVariants.{Whole, CutNodes, CutSolids}
-use Rattle.solid_model.specs.Lists.{Member, Each}
+use Rattle.lemmas.specs.Lists.{Member, Each}
 use Rattle.solid_model.specs.Search.{SearchLimits}
 use Rattle.solid_model.specs.Tree.{PrefixTest, IsAllowed, live_count, live_below, IsClosed}
-use Rattle.solid_model.proofs.Lists.{each-from, each-append, each-append_left, each-append_right, ascends-append_left, member-append_left}
+use Rattle.lemmas.proofs.Lists.{each-from, each-append, each-append_left, each-append_right, ascends-append_left, member-append_left}
 use Rattle.solid_model.proofs.PrefixTree.{live_count_none, live_below_none}
 use Rattle.search_core.specs.Conserves.{IsWholeTree, EndsRightly, LeavesRightly, IsConserved}
-use Rattle.search_core.specs.Core.{Core, Event, IsEvent, IsCoreRun, core_start, same_prefix, without, end_at, after_event, after_events}
-use Rattle.search_core.proofs.Lists.{sum-append, each-take, ascends-take, member-permutation, put_apart, once-permutation}
+use Rattle.search_core.specs.Core.{Core, Event, IsEvent, IsCoreRun, core_start, without, end_at, after_event, after_events}
+use Rattle.lemmas.specs.Truth.{same_values}
+use Rattle.lemmas.proofs.Permutations.{sum-append, each-take, ascends-take, member-permutation, put_apart, once-permutation}
 use Rattle.search_core.proofs.OnceBelow.{once_below}
-use Rattle.search_core.proofs.TakenOut.{Decides-same_prefix, StandsBetween, stands_between}
+use Rattle.lemmas.proofs.Truth.{Decides-same_values}
+use Rattle.search_core.proofs.TakenOut.{StandsBetween, stands_between}
 
 -- the state after an event, had the limit of solids room for all that was found
 abbrev with_all_found : SearchLimits → Core → Event → Core
@@ -129,7 +131,7 @@ module _ (live : PrefixTest) (n : ℕ) where
       conserved_after closed frontier =
           let all = c.found ++ e.found in
           let once = ascends-append_left ◌≢◌ all (choices_of frontier_after)
-          (once-permutation same_prefix Decides-same_prefix (live_below live n []) (all ++ choices_of frontier_after) tree.shared (once_below live n closed)) in
+          (once-permutation same_values Decides-same_values (live_below live n []) (all ++ choices_of frontier_after) tree.shared (once_below live n closed)) in
           let listed = each-from (Member (live_below live n [])) all (λ x k.
           member-permutation (all ++ choices_of frontier_after) (live_below live n []) x (IsPermutation-sym _ _ tree.shared)
           (member-append_left all (choices_of frontier_after) x k)) in

@@ -9,11 +9,11 @@ use Rattle.solid_model.specs.declared.ended.EndKind.{EndKind}
 use Rattle.solid_model.specs.declared.ended.EndKind.TheVariants.{Whole, CutNodes, CutSolids}
 use Rattle.solid_model.specs.Blocks.{ProblemParts}
 use Rattle.solid_model.specs.Forcing.{is_live}
-use Rattle.solid_model.specs.Lists.{Member, Each}
+use Rattle.lemmas.specs.Lists.{Member, Each}
 use Rattle.solid_model.specs.Reports.{Report, IsReport}
 use Rattle.solid_model.specs.Search.{SearchLimits}
 use Rattle.solid_model.specs.Tree.{IsAllowed}
-use Rattle.solid_model.proofs.Lists.{each-append, each-push, each-weaker}
+use Rattle.lemmas.proofs.Lists.{each-append, each-push, each-weaker}
 use Rattle.search_core.specs.declared.note.Note.{Note}
 use Rattle.search_core.specs.Ledger.{LedgerParts, history_of, desk_of, IsBegun, HasGrown, HasPosted, IsLedger, KeepsFrontier, IsLedgerOf}
 use Rattle.search_core.specs.Core.{Core, Event, IsCoreRun, times_among, without, core_start, end_at, end_after, after_event}

@@ -6,17 +6,17 @@ use Rattle.std.proofs.lemmas.Option.{none-some}
 use Rattle.solid_model.specs.declared.ended.EndKind.TheVariants.{Whole, CutNodes, CutSolids}
 use Rattle.solid_model.specs.Blocks.{ProblemParts}
 use Rattle.solid_model.specs.Forcing.{is_live}
-use Rattle.solid_model.specs.Lists.{Member, Each}
+use Rattle.lemmas.specs.Lists.{Member, Each}
 use Rattle.solid_model.specs.Reports.{Report}
 use Rattle.solid_model.specs.Search.{SearchLimits}
 use Rattle.solid_model.specs.Tree.{PrefixTest, live_count, IsClosed}
-use Rattle.solid_model.proofs.Lists.{each-at, each-append}
+use Rattle.lemmas.proofs.Lists.{each-at, each-append}
 use Rattle.search_core.specs.Conserves.{IsConserved}
 use Rattle.search_core.specs.Core.{Core, Event, IsEvent, IsCoreRun, core_start, without, end_at, after_event, after_events}
 use Rattle.search_core.specs.Desk.{DeskParts, IsDesk, IsTaken, desk_state, event_of}
 use Rattle.search_core.proofs.CoreEvents.{conserved}
 use Rattle.search_core.proofs.KeptFrontiers.{each-without}
-use Rattle.search_core.proofs.Lists.{member-permutation}
+use Rattle.lemmas.proofs.Permutations.{member-permutation}
 
 -- where the search goes on after an event something is left to be expanded
 some_left : (t u : Bool) (frontier : List (List Bool)) → (if t then Some CutSolids else (if u then Some CutNodes else end_at frontier)) ≡ None → frontier ≡ [] → ⊥

@@ -1,7 +1,7 @@
 -- The first piece of a frontier, after a report too.
 use Rattle.std.proofs.Common.{◌≡◌, ℕ, ◌==◌, List, [], ◌∷◌, ◌++◌, refl}
 use Rattle.std.proofs.lemmas.Bool.{cond_both}
-use Rattle.solid_model.specs.Lists.{Each}
+use Rattle.lemmas.specs.Lists.{Each}
 use Rattle.search_core.specs.Frontier.{first_or, passed}
 
 -- the first one of a list is what all of it are, and what stands for it is

@@ -3,15 +3,17 @@ use Rattle.std.proofs.Common.{◌≡◌, inl, inr, ℕ, ◌+◌, ◌-◌, ◌<�
 use Rattle.std.proofs.lemmas.Bool.{cases_eq, cases_lt, eq-eqb, ne_eqb, le-ltb, false_from_ne_true}
 use Rattle.std.proofs.lemmas.List.{get_or_append_left, length-append}
 use Rattle.std.specs.Prelude.{if◌then◌else◌}
-use Rattle.solid_model.specs.Lists.{Member, Each}
+use Rattle.lemmas.specs.Lists.{Member, Each}
 use Rattle.solid_model.specs.Search.{SearchLimits}
-use Rattle.solid_model.proofs.ListPlaces.{member-at, member-place}
-use Rattle.solid_model.proofs.Lists.{member-append_left, each-at, each-append, each-append_left, each-append_right, each-weaker}
+use Rattle.lemmas.proofs.ListPlaces.{member-at, member-place}
+use Rattle.lemmas.proofs.Lists.{member-append_left, each-at, each-append, each-append_left, each-append_right, each-weaker}
 use Rattle.search_core.specs.Ledger.{KeepsFrontier}
-use Rattle.search_core.specs.Core.{same_prefix, times_among, without, end_at, end_after}
+use Rattle.lemmas.specs.Truth.{same_values}
+use Rattle.search_core.specs.Core.{times_among, without, end_at, end_after}
 use Rattle.prefix_tree.specs.Places.{prefix_at, StandsAt, AreDistinct}
 use Rattle.search_core.specs.Frontier.{count_of, times_in}
-use Rattle.search_core.proofs.TakenOut.{Decides-same_prefix, stands_between}
+use Rattle.lemmas.proofs.Truth.{Decides-same_values}
+use Rattle.search_core.proofs.TakenOut.{stands_between}
 
 -- ---- how often a prefix stands in a list
 
@@ -22,16 +24,16 @@ times_among-append p (x ∷ xs) ys = omega (arith, times_among-append p xs ys)
 -- one that stands there at all is a member
 member-times : (p : List Bool) (xs : List (List Bool)) → 0 < times_among p xs → Member xs p
 member-times p [] h = absurd (omega arith)
-member-times p (x ∷ xs) h = at (same_prefix p x) refl h (member-times p xs)
+member-times p (x ∷ xs) h = at (same_values p x) refl h (member-times p xs)
   where
-    at : (t : Bool) → same_prefix p x ≡ t → 0 < (if t then 1 else 0) + times_among p xs → (0 < times_among p xs → Member xs p) → Member (x ∷ xs) p
-    at true e g later = inl (sym ((Decides-same_prefix p x).0 e))
+    at : (t : Bool) → same_values p x ≡ t → 0 < (if t then 1 else 0) + times_among p xs → (0 < times_among p xs → Member xs p) → Member (x ∷ xs) p
+    at true e g later = inl (sym ((Decides-same_values p x).0 e))
     at false e g later = inr (later (omega arith))
 
 -- and the other way round
 times-member : (p : List Bool) (xs : List (List Bool)) → Member xs p → 0 < times_among p xs
 times-member p [] k = absurd k
-times-member p (x ∷ xs) (inl e) = rw ((Decides-same_prefix p x).1 (sym e)) (omega arith)
+times-member p (x ∷ xs) (inl e) = rw ((Decides-same_values p x).1 (sym e)) (omega arith)
 times-member p (x ∷ xs) (inr k) = let h = times-member p xs k in omega arith
 
 -- one that is no member stands there never
@@ -57,10 +59,10 @@ each-without P p xs k h =
 
 module _ (stored : List (List Bool)) (distinct : AreDistinct stored) where
   -- two prefixes are the same where their places are
-  same-places : (j k : ℕ) → j < length stored → k < length stored → same_prefix (prefix_at stored k) (prefix_at stored j) ≡ (j == k)
-  same-places j k lj lk = elim (cases_eq j k) as (λ _. same_prefix (prefix_at stored k) (prefix_at stored j) ≡ (j == k)) [
-    | inl e ↦ (Decides-same_prefix (prefix_at stored k) (prefix_at stored j)).1 (ap (prefix_at stored) (sym e)) ∙ sym (eq-eqb j k e)
-    | inr ne ↦ false_from_ne_true (same_prefix (prefix_at stored k) (prefix_at stored j)) (λ t. ne (distinct j k lj lk (sym ((Decides-same_prefix (prefix_at stored k) (prefix_at stored j)).0 t)))) ∙ sym (ne_eqb j k ne)
+  same-places : (j k : ℕ) → j < length stored → k < length stored → same_values (prefix_at stored k) (prefix_at stored j) ≡ (j == k)
+  same-places j k lj lk = elim (cases_eq j k) as (λ _. same_values (prefix_at stored k) (prefix_at stored j) ≡ (j == k)) [
+    | inl e ↦ (Decides-same_values (prefix_at stored k) (prefix_at stored j)).1 (ap (prefix_at stored) (sym e)) ∙ sym (eq-eqb j k e)
+    | inr ne ↦ false_from_ne_true (same_values (prefix_at stored k) (prefix_at stored j)) (λ t. ne (distinct j k lj lk (sym ((Decides-same_values (prefix_at stored k) (prefix_at stored j)).0 t)))) ∙ sym (ne_eqb j k ne)
   ]
 
   -- so they stand among prefixes as often as their places among places

@@ -1,4 +1,3 @@
-pub mod Lists
 pub mod TakenOut
 pub mod OnceBelow
 pub mod CoreEvents

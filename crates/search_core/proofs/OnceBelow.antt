@@ -2,9 +2,9 @@
 use Rattle.std.proofs.Common.{◌≡◌, ◌≢◌, Bool, true, false, true≢false, ℕ, zero, suc, ◌+◌, ◌<◌, List, [], ◌∷◌, ◌++◌, length, IsTrue, refl, sym, ◌∙◌, append_assoc, length-append, arith}
 use Rattle.std.proofs.lemmas.List.{append_cancel_left}
 use Rattle.solid_model.proofs.PrefixTree.{BeginsWith, live_from_begins, live_below_none, live_below_more, live_below_whole}
-use Rattle.solid_model.specs.Lists.{Each, Ascends}
+use Rattle.lemmas.specs.Lists.{Each, Ascends}
 use Rattle.solid_model.specs.Tree.{PrefixTest, live_from, is_whole, live_below, IsClosed}
-use Rattle.solid_model.proofs.Lists.{each-weaker, each-filter, ascends-append}
+use Rattle.lemmas.proofs.Lists.{each-weaker, each-filter, ascends-append}
 
 -- what begins with a list and a full block is not what begins with it and an empty one
 sides_differ : (prefix choice other : List Bool) → BeginsWith (prefix ++ true ∷ []) choice → BeginsWith (prefix ++ false ∷ []) other → choice ≢ other

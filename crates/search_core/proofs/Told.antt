@@ -2,10 +2,10 @@
 use Rattle.std.proofs.Common.{◌≡◌, ℕ, ◌<◌, Bool, List, [], ◌∷◌, ◌++◌, map, length, take, drop, refl, sym, ◌∙◌, ap, ap₂, subst, arith}
 use Rattle.std.proofs.lemmas.List.{length-append, take-append-drop, take-append-le, drop-append-le, get_or_append_left, take_all, drop_all, map-append}
 use Rattle.std.specs.List.{flat_map}
-use Rattle.solid_model.specs.Lists.{Each}
+use Rattle.lemmas.specs.Lists.{Each}
 use Rattle.solid_model.specs.Search.{SearchLimits}
 use Rattle.solid_model.specs.Tree.{PrefixTest}
-use Rattle.solid_model.proofs.Lists.{each-append_left, each-append_right}
+use Rattle.lemmas.proofs.Lists.{each-append_left, each-append_right}
 use Rattle.search_core.specs.declared.note.Note.{Note}
 use Rattle.search_core.specs.Core.{Core, Event, IsEvent, IsCoreRun, after_event, after_events}
 use Rattle.search_core.specs.Notes.{told, AreShared}

@@ -3,26 +3,20 @@
 use Rattle.std.specs.Prelude.{◌≡◌, ◌&&◌, Bool, true, false, ℕ, ◌+◌, nat_lt, List, [], ◌∷◌, ◌++◌, length, take, Option, Some, None, if◌then◌else◌}
 use Rattle.solid_model.specs.declared.ended.EndKind.{EndKind}
 use Rattle.solid_model.specs.declared.ended.EndKind.TheVariants.{Whole, CutNodes, CutSolids}
-use Rattle.solid_model.specs.Edges.{agree}
-use Rattle.solid_model.specs.Lists.{Member}
+use Rattle.lemmas.specs.Truth.{same_values}
+use Rattle.lemmas.specs.Lists.{Member}
 use Rattle.solid_model.specs.Search.{SearchLimits}
 use Rattle.solid_model.specs.Tree.{PrefixTest, IsAllowed}
-
--- two prefixes are the same
-abbrev pub same_prefix : List Bool → List Bool → Bool
-same_prefix [] [] = true
-same_prefix (x ∷ p) (y ∷ q) = agree x y && same_prefix p q
-same_prefix _ _ = false
 
 -- how often a prefix stands in a list
 abbrev pub times_among : List Bool → List (List Bool) → ℕ
 times_among p [] = 0
-times_among p (q ∷ qs) = (if same_prefix p q then 1 else 0) + times_among p qs
+times_among p (q ∷ qs) = (if same_values p q then 1 else 0) + times_among p qs
 
 -- prefixes without the first one that is this
 abbrev pub without : List Bool → List (List Bool) → List (List Bool)
 without p [] = []
-without p (q ∷ qs) = if same_prefix p q then qs else q ∷ without p qs
+without p (q ∷ qs) = if same_values p q then qs else q ∷ without p qs
 
 -- the state of a search
 pub record Core : Type 0 where

@@ -3,7 +3,7 @@ use Rattle.std.specs.Prelude.{◌≡◌, ◌<◌, ◌≤◌, ◌+◌, Bool, ℕ,
 use Rattle.solid_model.specs.declared.ended.EndKind.{EndKind}
 use Rattle.solid_model.specs.Blocks.{ProblemParts}
 use Rattle.solid_model.specs.Forcing.{is_live}
-use Rattle.solid_model.specs.Lists.{Member, Each}
+use Rattle.lemmas.specs.Lists.{Member, Each}
 use Rattle.solid_model.specs.Search.{SearchLimits}
 use Rattle.search_core.specs.declared.ledger.Ledger.{Ledger}
 use Rattle.search_core.specs.declared.note.Note.{Note}

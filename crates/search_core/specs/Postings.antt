@@ -1,6 +1,6 @@
 -- What a report puts into the ledger of a desk.
 use Rattle.std.specs.Prelude.{◌≡◌, ◌<◌, ◌≤◌, ◌+◌, Bool, ℕ, List, length, map, vec_len, vec_capacity, Option, Some, None}
-use Rattle.solid_model.specs.Lists.{Each}
+use Rattle.lemmas.specs.Lists.{Each}
 use Rattle.search_core.specs.declared.ledger.Ledger.{Ledger}
 use Rattle.search_core.specs.declared.ledger.Placed.{Placed}
 use Rattle.search_core.specs.declared.ledger.Posting.{Posting}

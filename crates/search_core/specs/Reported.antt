@@ -1,6 +1,6 @@
 -- What a desk answers to a report.
 use Rattle.std.specs.Prelude.{◌≡◌, ◌≢◌, None}
-use Rattle.solid_model.specs.Lists.{Member}
+use Rattle.lemmas.specs.Lists.{Member}
 use Rattle.solid_model.specs.Reports.{Report}
 use Rattle.search_core.specs.declared.desk.Reported.{Reported}
 use Rattle.search_core.specs.declared.desk.Reported.TheVariants.{Taken, Stranger, Stop, Gone}

@@ -1,7 +1,7 @@
 //! The ledger of a desk.
 
 ghost use Rattle.std.specs.Prelude.{◌≡◌, ◌<◌, ◌≤◌, ◌+◌, ◌++◌, ℕ, length, IfOk, IfSome, MatchOption};
-ghost use Rattle.solid_model.specs.Lists.{Each};
+ghost use Rattle.lemmas.specs.Lists.{Each};
 ghost use Rattle.search_core.specs.Ledger.{ledger_of, next_first, IsBegun, HasGrown, HasPosted, KnowsFirst};
 ghost use Rattle.search_core.specs.Copies.{AreCopies};
 ghost use Rattle.search_core.specs.Postings.{HasRoom, IsPosting, placed_or};

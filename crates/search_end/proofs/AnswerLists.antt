@@ -9,39 +9,40 @@ use Rattle.std.proofs.lemmas.List.Sorted.{length_permutation, IsPermutation-sym}
 use Rattle.solid_model.specs.declared.ended.EndKind.{EndKind}
 use Rattle.solid_model.specs.declared.ended.EndKind.TheVariants.{Whole, CutNodes, CutSolids}
 use Rattle.solid_model.specs.Choices.{ChoicePrecedes}
-use Rattle.solid_model.specs.Lists.{Member, Each, Ascends}
+use Rattle.lemmas.specs.Lists.{Member, Each, Ascends}
 use Rattle.solid_model.specs.Search.{SearchLimits}
 use Rattle.solid_model.specs.SearchEnds.{AreSomeOf, EndsAs}
 use Rattle.solid_model.specs.Tree.{PrefixTest, live_from, is_whole, live_below}
-use Rattle.solid_model.proofs.Lists.{each-at, each-from, each-append, each-filter, ascends-append, ascends-append_across, ascends-filter, member-filter, member-from_filter, member-append_left, member-append_right, same_ascending}
+use Rattle.lemmas.proofs.Lists.{each-at, each-from, each-append, each-filter, ascends-append, ascends-append_across, ascends-filter, member-filter, member-from_filter, member-append_left, member-append_right, same_ascending}
 use Rattle.solid_model.proofs.Styles.{any_from_member}
 use Rattle.solid_model.proofs.AllowedReports.{filter_none}
 use Rattle.solid_model.proofs.ComparedChoices.{precedes_one_way}
-use Rattle.solid_model.proofs.WithoutRepeats.{no_longer}
+use Rattle.lemmas.proofs.WithoutRepeats.{no_longer}
 use Rattle.search_core.specs.Conserves.{EndsRightly, IsConserved}
-use Rattle.search_core.specs.Core.{Core, same_prefix}
-use Rattle.search_core.proofs.Lists.{each-take, ascends-take, member-permutation}
-use Rattle.search_core.proofs.TakenOut.{Decides-same_prefix}
+use Rattle.search_core.specs.Core.{Core}
+use Rattle.lemmas.specs.Truth.{same_values}
+use Rattle.lemmas.proofs.Permutations.{each-take, ascends-take, member-permutation}
+use Rattle.lemmas.proofs.Truth.{Decides-same_values}
 use Rattle.search_tree.proofs.SearchEnds.{some_found}
 use Rattle.search_end.specs.Answers.{is_new, new_ones}
 
 -- one that isn't new is
-not_new : (handed : List (List Bool)) (x : List Bool) → list_any (same_prefix x) handed ≡ true → Member handed x
+not_new : (handed : List (List Bool)) (x : List Bool) → list_any (same_values x) handed ≡ true → Member handed x
 not_new [] x e = absurd (both_ways false refl e)
-not_new (y ∷ handed) x e = at (same_prefix x y) refl (not_new handed x)
+not_new (y ∷ handed) x e = at (same_values x y) refl (not_new handed x)
   where
-    at : (t : Bool) → same_prefix x y ≡ t → (list_any (same_prefix x) handed ≡ true → Member handed x) → Member (y ∷ handed) x
-    at true s later = inl (sym ((Decides-same_prefix x y).0 s))
-    at false s later = inr (later (subst (λ (b : Bool). (b || list_any (same_prefix x) handed) ≡ true) s e))
+    at : (t : Bool) → same_values x y ≡ t → (list_any (same_values x) handed ≡ true → Member handed x) → Member (y ∷ handed) x
+    at true s later = inl (sym ((Decides-same_values x y).0 s))
+    at false s later = inr (later (subst (λ (b : Bool). (b || list_any (same_values x) handed) ≡ true) s e))
 
 -- one that is among those isn't new, and one that isn't is
 old_one : (handed : List (List Bool)) (x : List Bool) → Member handed x → is_new handed x ≡ false
-old_one handed x k = ap not (any_from_member (same_prefix x) handed x k ((Decides-same_prefix x x).1 refl))
+old_one handed x k = ap not (any_from_member (same_values x) handed x k ((Decides-same_values x x).1 refl))
 
 new_one : (handed : List (List Bool)) (x : List Bool) → (Member handed x → ⊥) → is_new handed x ≡ true
-new_one handed x none = at (list_any (same_prefix x) handed) refl
+new_one handed x none = at (list_any (same_values x) handed) refl
   where
-    at : (t : Bool) → list_any (same_prefix x) handed ≡ t → is_new handed x ≡ true
+    at : (t : Bool) → list_any (same_values x) handed ≡ t → is_new handed x ≡ true
     at true e = absurd (none (not_new handed x e))
     at false e = ap not e
 
@@ -91,9 +92,9 @@ module _ (live : PrefixTest) (n : ℕ) (limits : SearchLimits) (c : Core) (kept 
       both_ways (is_new handed y) (old_one handed y (subst (Member handed) e k)) (member-from_filter (is_new handed) c.found y m).1)))
 
   found_in : (x : List Bool) → Member c.found x → Member whole x
-  found_in x k = at (list_any (same_prefix x) handed) refl
+  found_in x k = at (list_any (same_values x) handed) refl
     where
-      at : (t : Bool) → list_any (same_prefix x) handed ≡ t → Member whole x
+      at : (t : Bool) → list_any (same_values x) handed ≡ t → Member whole x
       at true e = member-append_left handed (new_ones handed c.found) x (not_new handed x e)
       at false e = member-append_right handed (new_ones handed c.found) x (member-filter (is_new handed) c.found x k (ap not e))
 

@@ -6,21 +6,21 @@ use Rattle.solid_model.specs.declared.ended.EndKind.{EndKind}
 use Rattle.solid_model.specs.Blocks.{ProblemParts, IsBlocksOf}
 use Rattle.solid_model.specs.Choices.{ChoicePrecedes}
 use Rattle.solid_model.specs.Forcing.{is_live}
-use Rattle.solid_model.specs.Lists.{Member, Each, Ascends}
+use Rattle.lemmas.specs.Lists.{Member, Each, Ascends}
 use Rattle.solid_model.specs.Panels.{IsGrid}
 use Rattle.solid_model.specs.Search.{SearchLimits}
 use Rattle.solid_model.specs.SearchEnds.{EndsAs}
 use Rattle.solid_model.specs.Solutions.{IsSolutionOf, AreSolutions}
 use Rattle.solid_model.specs.Tree.{PrefixTest, live_from, is_whole, live_below, IsClosed}
 use Rattle.solid_model.proofs.CompleteTree.{complete_tree}
-use Rattle.solid_model.proofs.Lists.{each-at, each-from, member-from_filter}
-use Rattle.columns.proofs.LivePrefixes.{live_keeps_matching}
-use Rattle.columns.proofs.LiveTree.{problem_tree}
+use Rattle.lemmas.proofs.Lists.{each-at, each-from, member-from_filter}
+use Rattle.column_laws.proofs.LivePrefixes.{live_keeps_matching}
+use Rattle.column_laws.proofs.LiveTree.{problem_tree}
 use Rattle.search_core.specs.Conserves.{EndsRightly, IsConserved}
 use Rattle.search_core.specs.Core.{Core}
 use Rattle.search_core.specs.Desk.{DeskParts, IsDesk, desk_state}
 use Rattle.search_core.proofs.Desks.{desk_conserved}
-use Rattle.search_core.proofs.Lists.{member-permutation}
+use Rattle.lemmas.proofs.Permutations.{member-permutation}
 use Rattle.search_end.specs.Answers.{new_ones, IsAnswerList}
 use Rattle.search_end.proofs.AnswerLists.{take_behind, list_each, list_once, list_few, covers, ends}
 

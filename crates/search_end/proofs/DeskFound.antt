@@ -2,12 +2,12 @@
 use Rattle.std.proofs.Common.{◌≡◌, ◌≢◌, Bool, ◌≤◌, List, [], ◌-◌, ◌++◌, length, take, sym, ◌∙◌, ap, subst, arith}
 use Rattle.solid_model.specs.Blocks.{IsBlocksOf}
 use Rattle.solid_model.specs.Forcing.{is_live}
-use Rattle.solid_model.specs.Lists.{Member, Each, Ascends}
+use Rattle.lemmas.specs.Lists.{Member, Each, Ascends}
 use Rattle.solid_model.specs.Reports.{Report}
 use Rattle.solid_model.specs.Solutions.{IsSolutionOf}
 use Rattle.solid_model.specs.Tree.{live_below}
-use Rattle.solid_model.proofs.Lists.{each-from, each-at}
-use Rattle.columns.proofs.LiveTree.{problem_tree}
+use Rattle.lemmas.proofs.Lists.{each-from, each-at}
+use Rattle.column_laws.proofs.LiveTree.{problem_tree}
 use Rattle.search_core.specs.Conserves.{IsConserved}
 use Rattle.search_core.specs.Desk.{DeskParts, IsDesk, IsTaken, desk_state}
 use Rattle.search_core.proofs.Desks.{desk_conserved}

@@ -1,5 +1,3 @@
-mod SortedChoices
-mod SameChoices
 pub mod PageCalls
 pub mod AnswerLists
 pub mod DeskAnswers

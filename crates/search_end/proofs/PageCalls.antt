@@ -4,9 +4,9 @@ use Rattle.std.proofs.lemmas.Grind.{flat_map-append}
 use Rattle.solid_model.specs.Blocks.{ProblemParts}
 use Rattle.solid_model.specs.Limits.{most_page_choices}
 use Rattle.solid_model.specs.Solutions.{IsSolutionOf, AreSolutions}
-use Rattle.solid_model.proofs.Lists.{each-append_left, each-push, ascends-append_left}
+use Rattle.lemmas.proofs.Lists.{each-append_left, each-push, ascends-append_left}
 use Rattle.search_end.specs.Handed.{AreFewSolutions, HandedParts, IsHandedOut}
-use Rattle.search_end.specs.Pages.{Call, AddsCalls, MayAddCall, choices_of, AreNumbered, ArePages, HasPaged, HasAllPaged}
+use Rattle.page_calls.specs.Pages.{Call, AddsCalls, MayAddCall, choices_of, AreNumbered, ArePages, HasPaged, HasAllPaged}
 
 -- calls that are added in two steps
 adds_on : (a b c : Option (List Call)) (xs ys : List Call) → AddsCalls a b xs → AddsCalls b c ys → AddsCalls a c (xs ++ ys)

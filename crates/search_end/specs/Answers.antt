@@ -2,11 +2,11 @@
 use Rattle.std.specs.Prelude.{◌≡◌, ◌⊎◌, ◌≤◌, ◌-◌, ◌++◌, take, Bool, List, Some, not, filter, length}
 use Rattle.std.specs.List.{list_any}
 use Rattle.solid_model.specs.Blocks.{ProblemParts}
-use Rattle.solid_model.specs.Lists.{Member, Each}
+use Rattle.lemmas.specs.Lists.{Member, Each}
 use Rattle.solid_model.specs.Search.{SearchLimits}
 use Rattle.solid_model.specs.SearchEnds.{SearchEnd}
 use Rattle.solid_model.specs.Solutions.{AreSolutions}
-use Rattle.search_core.specs.Core.{same_prefix}
+use Rattle.lemmas.specs.Truth.{same_values}
 use Rattle.search_core.specs.Desk.{DeskParts, IsDesk}
 
 -- The desk of an answer: it is of this problem and within these limits, stands as its history leaves it, and its end and the
@@ -21,7 +21,7 @@ pub record IsAnswer (p : ProblemParts) (limits : SearchLimits) (e : SearchEnd) (
 
 -- the choice is none of those that were handed out
 abbrev pub is_new : List (List Bool) → List Bool → Bool
-is_new handed choice = not (list_any (same_prefix choice) handed)
+is_new handed choice = not (list_any (same_values choice) handed)
 
 -- those that were found and not handed out
 abbrev pub new_ones : List (List Bool) → List (List Bool) → List (List Bool)

@@ -1,9 +1,9 @@
 -- What has been handed out so far.
 use Rattle.std.specs.Prelude.{◌≡◌, ◌≤◌, Bool, true, ℕ, List, length, Option, Result, MatchResult}
 use Rattle.solid_model.specs.Blocks.{ProblemParts}
-use Rattle.solid_model.specs.Lists.{Each}
+use Rattle.lemmas.specs.Lists.{Each}
 use Rattle.solid_model.specs.Solutions.{AreSolutions}
-use Rattle.search_end.specs.Pages.{Call, AddsCalls, AreNumbered, HasPaged, choices_of}
+use Rattle.page_calls.specs.Pages.{Call, AddsCalls, AreNumbered, HasPaged, choices_of}
 
 -- the choices that were handed out, and in how many calls
 pub record HandedParts : Type 0 where

@@ -9,12 +9,12 @@ ghost use Rattle.solid_model.specs.Forcing.{is_live};
 ghost use Rattle.solid_model.specs.SearchEnds.{EndsSearch};
 ghost use Rattle.search_tree.specs.BlockPaths.{IsWayOf};
 ghost use Rattle.search_end.specs.Answers.{IsAnswer};
-ghost use Rattle.search_end.specs.Pages.{CountsFaults, HasPaged, HasAllPaged};
+ghost use Rattle.page_calls.specs.Pages.{CountsFaults, HasPaged, HasAllPaged};
 
 use crate::closing::finish;
 use crate::desk_search::{begin_from, go_on};
 use crate::handed::Handed;
-use crate::page_out::{NoPages, PageOut, RunFault};
+use page_calls::{NoPages, PageOut, RunFault};
 use search_core::Desk;
 use search_tree::BlockPath;
 use solid_model::{Ended, Limits, Memory, Problem};

@@ -15,16 +15,15 @@ ghost use Rattle.search_core.specs.Desk.{IsDesk};
 ghost use Rattle.search_tree.specs.BlockPaths.{IsWayOf};
 ghost use Rattle.search_end.specs.Answers.{IsAnswer, IsAnswerList};
 ghost use Rattle.search_end.specs.Handed.{AreFewSolutions, BreaksOff, HandsOn, IsHandedOut};
-ghost use Rattle.search_end.specs.Pages.{Call, CountsFaults, HasPaged, HasAllPaged};
+ghost use Rattle.page_calls.specs.Pages.{Call, CountsFaults, HasPaged, HasAllPaged};
 
 use crate::desk_search::{begin_from, go_on};
 use crate::handed::{Handed, PAGE};
 use crate::left::left_over;
-use crate::page_out::{PageOut, RunFault};
-use crate::sorted::sort_choices;
+use page_calls::{PageOut, RunFault};
 use search_core::Desk;
 use search_tree::BlockPath;
-use solid_model::{Axis, Choice, EndKind, Ended, Limits, Memory, Problem};
+use solid_model::{Axis, Choice, EndKind, Ended, Limits, Memory, Problem, sort_choices};
 use std::alloc::Global;
 use std::sync::Arc;
 

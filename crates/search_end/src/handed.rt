@@ -1,6 +1,6 @@
 //! What has been handed out so far.
 
-use crate::page_out::{PageOut, RunFault};
+use page_calls::{PageOut, RunFault};
 use solid_model::Choice;
 use std::alloc::Global;
 use std::marker::Model;
@@ -32,7 +32,7 @@ impl Handed {
     ghost use Rattle.solid_model.specs.Blocks.{ProblemParts};
     ghost use Rattle.solid_model.specs.Limits.{most_page_choices, most_solid_limit};
     ghost use Rattle.search_end.specs.Handed.{AreFewSolutions, BreaksOff, HandsOn};
-    ghost use Rattle.search_end.specs.Pages.{CountsFaults};
+    ghost use Rattle.page_calls.specs.Pages.{CountsFaults};
 
     /// Nothing has been handed out.
     pub fn new(alloc: Global) -> Handed

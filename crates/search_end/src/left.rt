@@ -6,8 +6,8 @@
 
 ghost use Rattle.std.specs.Prelude.{◌≡◌, ◌≢◌, ◌↔◌, ◌++◌, Bool, List, take, IsTrue, IfOk};
 ghost use Rattle.std.specs.List.{list_any};
-ghost use Rattle.solid_model.specs.Lists.{Ascends};
-ghost use Rattle.search_core.specs.Core.{same_prefix};
+ghost use Rattle.lemmas.specs.Lists.{Ascends};
+ghost use Rattle.lemmas.specs.Truth.{same_values};
 ghost use Rattle.search_end.specs.Answers.{new_ones};
 
 use solid_model::{Choice, Memory, compare};
@@ -16,7 +16,7 @@ use std::cmp::Ordering;
 
 /// Whether two choices are the same.
 fn same_choice(a: &Choice, b: &Choice) -> bool
-    ensures { result ≡ same_prefix a.now b.now }
+    ensures { result ≡ same_values a.now b.now }
 {
     if a.len() != b.len() {
         return false;
@@ -29,7 +29,7 @@ fn same_choice(a: &Choice, b: &Choice) -> bool
 
 /// Whether a choice is one of these.
 fn is_among(choice: &Choice, choices: &[Choice]) -> bool
-    ensures { result ≡ list_any (same_prefix choice.now) choices.now }
+    ensures { result ≡ list_any (same_values choice.now) choices.now }
 {
     for other in choices {
         if same_choice(choice, other) {

@@ -10,12 +10,9 @@ mod desk_search;
 mod handed;
 mod kept;
 mod left;
-mod page_out;
-mod sorted;
 
 pub use by_desk::{search_by_desk, set_up};
 pub use closing::finish;
 pub use desk_search::{QUANTUM, begin};
 pub use handed::{Handed, PAGE};
 pub use kept::keep_all;
-pub use page_out::{NoPages, PageOut, RunFault};

@@ -2,10 +2,10 @@
 use Rattle.std.proofs.Common.{◌≡◌, ◌≢◌, Bool, ℕ, List, [], ◌-◌, ◌++◌, append_assoc, append-nil, length, take, drop, sym, ◌∙◌, ap, subst}
 use Rattle.std.proofs.Math.Seq.{drop-append_seam}
 use Rattle.solid_model.specs.Blocks.{IsBlocksOf}
-use Rattle.solid_model.specs.Lists.{Each, Ascends}
+use Rattle.lemmas.specs.Lists.{Each, Ascends}
 use Rattle.solid_model.specs.Reports.{Report}
 use Rattle.solid_model.specs.Solutions.{IsSolutionOf}
-use Rattle.solid_model.proofs.Lists.{each-append_right}
+use Rattle.lemmas.proofs.Lists.{each-append_right}
 use Rattle.search_core.specs.declared.desk.Reported.{Reported}
 use Rattle.search_core.specs.declared.desk.Reported.TheVariants.{Taken, Stranger, Stop, Gone}
 use Rattle.search_core.specs.Desk.{DeskParts, IsDesk}

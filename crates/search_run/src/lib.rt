@@ -10,4 +10,5 @@ mod worker;
 mod working;
 
 pub use running::run_search;
-pub use search_end::{NoPages, PageOut, RunFault, begin, search_by_desk};
+pub use page_calls::{NoPages, PageOut, RunFault};
+pub use search_end::{begin, search_by_desk};

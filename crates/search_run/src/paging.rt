@@ -4,13 +4,14 @@ ghost use Rattle.std.specs.Prelude.{◌≡◌, ◌≤◌, [], length, IsTrue, If
 ghost use Rattle.std.specs.Arc.{arc_value};
 ghost use Rattle.search_tree.specs.BlockPaths.{IsWayOf};
 ghost use Rattle.search_end.specs.Handed.{BreaksOff, HandsOn, PagesOn};
-ghost use Rattle.search_end.specs.Pages.{CountsFaults};
+ghost use Rattle.page_calls.specs.Pages.{CountsFaults};
 ghost use Rattle.search_run.specs.Reading.{IsReadUpTo};
 
 use crate::search::Search;
 use crate::worker::Worker;
 use crate::working::work;
-use search_end::{Handed, PAGE, PageOut, RunFault};
+use page_calls::{PageOut, RunFault};
+use search_end::{Handed, PAGE};
 use search_tree::BlockPath;
 use solid_model::Problem;
 use solution_book::BookReader;

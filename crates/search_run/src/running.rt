@@ -8,14 +8,15 @@ ghost use Rattle.std.specs.Arc.{arc_value};
 ghost use Rattle.solid_model.specs.Forcing.{is_live};
 ghost use Rattle.solid_model.specs.SearchEnds.{EndsSearch};
 ghost use Rattle.search_end.specs.Answers.{IsAnswer};
-ghost use Rattle.search_end.specs.Pages.{CountsFaults, HasPaged, HasAllPaged};
+ghost use Rattle.page_calls.specs.Pages.{CountsFaults, HasPaged, HasAllPaged};
 
 use crate::paging::search_together;
 use crate::room::Room;
 use crate::search::Search;
 use crate::shared::Shared;
 use search_core::Desk;
-use search_end::{PageOut, RunFault, finish, set_up};
+use page_calls::{PageOut, RunFault};
+use search_end::{finish, set_up};
 use solid_model::{Ended, Limits, Memory, Problem};
 use solution_book::{Book, BookReader};
 use std::alloc::Global;

@@ -2,8 +2,8 @@
 use Rattle.std.proofs.Common.{◌≡◌, ◌≢◌, ℕ, Bool, List, ◌++◌, length, take, drop, sym, ap, subst, ◌∙◌, append_assoc}
 use Rattle.std.proofs.Math.Seq.{drop-append_seam}
 use Rattle.std.proofs.lemmas.List.{take-append-drop}
-use Rattle.solid_model.specs.Lists.{Ascends}
-use Rattle.solid_model.proofs.Lists.{ascends-append_left}
+use Rattle.lemmas.specs.Lists.{Ascends}
+use Rattle.lemmas.proofs.Lists.{ascends-append_left}
 use Rattle.solution_book.specs.Editions.{StartsWith}
 use Rattle.search_tests.specs.Authors.{AuthorParts, IsAuthor}
 

@@ -7,15 +7,15 @@ use Rattle.solid_model.specs.declared.ended.EndKind.TheVariants.{Whole, CutNodes
 use Rattle.solid_model.specs.Blocks.{ProblemParts, IsBlocksOf}
 use Rattle.solid_model.specs.Choices.{ChoicePrecedes}
 use Rattle.solid_model.specs.Forcing.{is_live}
-use Rattle.solid_model.specs.Lists.{Member}
+use Rattle.lemmas.specs.Lists.{Member}
 use Rattle.solid_model.specs.Search.{SearchLimits}
 use Rattle.solid_model.specs.SearchEnds.{AreSomeOf, EndsAs}
 use Rattle.solid_model.specs.Solutions.{IsSolutionOf, AreSolutions}
 use Rattle.solid_model.specs.Tree.{live_from, live_below, is_whole}
 use Rattle.solid_model.proofs.ComparedChoices.{precedes_one_way}
-use Rattle.solid_model.proofs.Lists.{each-weaker, member-from_filter}
-use Rattle.solid_model.proofs.WithoutRepeats.{ascends-weaker}
-use Rattle.columns.proofs.LivePrefixes.{live_keeps_matching}
+use Rattle.lemmas.proofs.Lists.{each-weaker, member-from_filter}
+use Rattle.lemmas.proofs.WithoutRepeats.{ascends-weaker}
+use Rattle.column_laws.proofs.LivePrefixes.{live_keeps_matching}
 use Rattle.search_tree.proofs.SearchEnds.{some_found}
 
 module _ (p : ProblemParts) (blocks : IsBlocksOf p.grid p.blocks) where

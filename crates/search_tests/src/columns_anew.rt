@@ -5,7 +5,7 @@ ghost use Rattle.solid_model.specs.Known.{LiesWithin};
 ghost use Rattle.solid_model.specs.Demands.{has_line};
 
 use crate::demands::problem_in;
-use columns::{KnownColumn, can_draw};
+use line_demands::{KnownColumn, can_draw};
 use line_demands::Partial;
 use solid_model::{LineId, PerAxis, View};
 use std::alloc::Global;

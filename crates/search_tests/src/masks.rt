@@ -1,7 +1,7 @@
 //! What is known of the columns of small drawings.
 
 ghost use Rattle.std.specs.Prelude.{◌≡◌};
-ghost use Rattle.columns.specs.Touching.{view_width, view_height};
+ghost use Rattle.line_demands.specs.Touching.{view_width, view_height};
 ghost use Rattle.solid_model.specs.PerAxis.{numbers_of};
 
 use crate::forced::begun;

@@ -6,11 +6,11 @@ use Rattle.std.proofs.lemmas.List.Elements.{filter-append}
 use Rattle.std.proofs.lemmas.Bool.{cases_lt, false_from_ne_true}
 use Rattle.std.proofs.lemmas.Grind.{flat_map-append}
 use Rattle.solid_model.proofs.PrefixTree.{BeginsWith, live_from_none, live_from_more, live_from_whole, live_from_begins}
-use Rattle.solid_model.specs.Lists.{Member, Each, Ascends}
+use Rattle.lemmas.specs.Lists.{Member, Each, Ascends}
 use Rattle.solid_model.specs.Tree.{PrefixTest, extensions, live_from, is_next_to, opened_of, rest_of}
-use Rattle.solid_model.proofs.Concatenations.{member-flat_map}
+use Rattle.lemmas.proofs.Concatenations.{member-flat_map}
 use Rattle.solid_model.proofs.AllowedReports.{filter_none, last_of, next_there, next_of}
-use Rattle.solid_model.proofs.Lists.{each-at, each-from, each-append, each-weaker, each-filter, member-append, member-append_left, member-append_right, member-push_last, member-filter, ascends-append_across}
+use Rattle.lemmas.proofs.Lists.{each-at, each-from, each-append, each-weaker, each-filter, member-append, member-append_left, member-append_right, member-push_last, member-filter, ascends-append_across}
 use Rattle.search_tree.specs.Walk.{after, coming}
 use Rattle.search_tree.specs.Opened.{StandsAtLast}
 use Rattle.search_tree.proofs.StatedOrder.{Before, not_itself, before_longer, one_way, each_extension, ascending_tree}
@@ -267,14 +267,14 @@ module _ (live : PrefixTest) (n : ℕ) (closed : (prefix rest : List Bool) → I
         let (lives, (value, e)) = each-at P (live_sides live prefix) root (each-append P (live_side live prefix true) (live_side live prefix false) (side true) (side false)) k in
         root_stops root (member-append_left (live_sides live prefix) (besides live (length piece) prefix) root k) lives prefix value prefix_opened e
 
-    same_piece : take (length piece) prefix ≡ piece
-    same_piece = let (values, e) = (opened_in prefix prefix_opened).0 in ap (take (length piece)) e ∙ take_at piece values (length piece) refl
+    same_values : take (length piece) prefix ≡ piece
+    same_values = let (values, e) = (opened_in prefix prefix_opened).0 in ap (take (length piece)) e ∙ take_at piece values (length piece) refl
 
     beside_stops : (root : List Bool) → Member (besides live (length piece) prefix) root → Stops (is_next_to opened) root
     beside_stops root k =
         let floor = length piece in
         let all = each_beside (take floor prefix) (drop floor prefix) prefix (sym (take-append-drop floor prefix)) in
-        let b = subst (λ p. IsBeside p prefix root) same_piece (each-at (IsBeside (take floor prefix) prefix) (besides live floor prefix) root all k) in
+        let b = subst (λ p. IsBeside p prefix root) same_values (each-at (IsBeside (take floor prefix) prefix) (besides live floor prefix) root all k) in
         root_stops root (member-append_right (live_sides live prefix) (besides live floor prefix) root k) b.lives (piece ++ b.front) false
         (begun_opened b.front b.rest b.path) b.is
 

@@ -5,11 +5,11 @@ use Rattle.std.proofs.lemmas.List.{take-append-drop}
 use Rattle.std.proofs.lemmas.List.Elements.{filter-append}
 use Rattle.solid_model.specs.declared.ended.EndKind.TheVariants.{Whole, CutNodes, CutSolids}
 use Rattle.solid_model.specs.Choices.{ChoicePrecedes}
-use Rattle.solid_model.specs.Lists.{Member, Each, Ascends}
+use Rattle.lemmas.specs.Lists.{Member, Each, Ascends}
 use Rattle.solid_model.specs.Search.{SearchLimits}
 use Rattle.solid_model.specs.SearchEnds.{AreSomeOf, EndsAs}
 use Rattle.solid_model.specs.Tree.{PrefixTest, live_from, live_count, is_whole, live_below, found_of, opened_of}
-use Rattle.solid_model.proofs.Lists.{each-at, each-from, member-append_left, member-from_filter, ascends-filter, ascends-append_left}
+use Rattle.lemmas.proofs.Lists.{each-at, each-from, member-append_left, member-from_filter, ascends-filter, ascends-append_left}
 use Rattle.solid_model.proofs.PrefixTree.{live_from_none}
 use Rattle.search_tree.specs.Walk.{coming, StandsAtFirst}
 use Rattle.search_tree.proofs.OpenedPrefixes.{take_whole, drop_next, count_next, filter_next}

@@ -2,9 +2,9 @@
 use Rattle.std.proofs.Common.{◌≡◌, ◌⊎◌, inl, inr, Bool, true, false, ℕ, zero, suc, List, [], ◌∷◌, ◌++◌, length, refl, sym, ◌∙◌, subst, append_assoc, append-nil, arith}
 use Rattle.std.proofs.lemmas.Bool.{both_ways}
 use Rattle.solid_model.specs.Choices.{ChoicePrecedes}
-use Rattle.solid_model.specs.Lists.{Each, Ascends}
+use Rattle.lemmas.specs.Lists.{Each, Ascends}
 use Rattle.solid_model.specs.Tree.{PrefixTest, extensions, live_from}
-use Rattle.solid_model.proofs.Lists.{each-append, ascends-append, ascends-filter}
+use Rattle.lemmas.proofs.Lists.{each-append, ascends-append, ascends-filter}
 
 -- a prefix comes before another: it is its beginning, or is full where they first differ
 abbrev pub Before : List Bool → List Bool → Type 0

@@ -3,9 +3,9 @@ use Rattle.std.proofs.Common.{◌≡◌, ◌+◌, Bool, true, false, true≢fals
 use Rattle.std.proofs.Math.Seq.{take-append-add}
 use Rattle.std.proofs.lemmas.Grind.{flat_map-append}
 use Rattle.std.specs.Io.KnownBytes.{Appends}
-use Rattle.search_end.specs.Pages.{Call}
+use Rattle.page_calls.specs.Pages.{Call}
 use Rattle.sink_pages.specs.Gained.{HasGained, call_text, calls_text}
-use Rattle.solid_model.proofs.Lists.{each-append_right}
+use Rattle.lemmas.proofs.Lists.{each-append_right}
 use Rattle.tv_base.proofs.Told.{appends_both}
 use Rattle.tv_base.specs.declared.sink.SinkError.{SinkError}
 use Rattle.tv_base.specs.Pieces.{AppendsPrefix}

@@ -2,9 +2,9 @@
 use Rattle.std.specs.Prelude.{◌≡◌, Bool, true, false, ℕ, List, Option}
 use Rattle.std.specs.Io.KnownBytes.{Appends}
 use Rattle.std.specs.List.{flat_map}
-use Rattle.search_end.specs.Pages.{Call}
+use Rattle.page_calls.specs.Pages.{Call}
 use Rattle.report.specs.Texts.{page_text}
-use Rattle.solid_model.specs.Lists.{Each}
+use Rattle.lemmas.specs.Lists.{Each}
 use Rattle.tv_base.specs.Pieces.{AppendsPrefix}
 
 -- what the sink holds, where it tells it; how often it has failed; and the calls that handed out pages

@@ -1,6 +1,6 @@
 -- Calls that hand out pages, as they are kept.
 use Rattle.sink_pages.specs.declared.pages.Told.{Told}
-use Rattle.search_end.specs.Pages.{Call}
+use Rattle.page_calls.specs.Pages.{Call}
 
 -- the call that is kept so
 abbrev pub call_of : Told → Call

@@ -1,11 +1,11 @@
 //! Pages that were handed out, each kept with its text written.
 
 ghost use Rattle.std.specs.Prelude.{◌≡◌, ◌∷◌, [], List, Option, Some, None, ℕ, Bool, true, false, IfOk, OnOk, OnErr};
-ghost use Rattle.search_end.specs.Pages.{Call, AddsCalls, CountsFaults, MayAddCall};
+ghost use Rattle.page_calls.specs.Pages.{Call, AddsCalls, CountsFaults, MayAddCall};
 ghost use Rattle.sink_pages.specs.Gained.{HasGained};
 
+use page_calls::PageOut;
 use report::page_text;
-use search_end::PageOut;
 use solid_model::{Choice, Memory};
 use std::alloc::Global;
 use std::marker::{Brand, Model, PhantomData};

@@ -10,11 +10,11 @@ use Rattle.std.proofs.lemmas.List.Sorted.{IsPermutation-refl, IsPermutation-tran
 use Rattle.std.proofs.lemmas.List.Sums.{sum_by-append}
 use Rattle.std.proofs.lemmas.Grind.{flat_map-append}
 use Rattle.solid_model.proofs.PrefixTree.{BeginsWith, begins_itself, begins_without, live_from_begins, live_from_none, live_count_none, live_below_none, live_from_more, live_count_more, not_whole, live_below_more, live_from_whole, live_count_whole, live_below_whole}
-use Rattle.solid_model.specs.Edges.{agree}
-use Rattle.solid_model.specs.Lists.{Member, Each}
+use Rattle.lemmas.specs.Truth.{agree}
+use Rattle.lemmas.specs.Lists.{Member, Each}
 use Rattle.solid_model.specs.Tree.{PrefixTest, live_from, live_count, is_whole, live_below, IsAllowed, is_one_more, is_next_to, opened_of, found_of, rest_of}
 use Rattle.solid_model.proofs.ColumnRule.{same_from_agree}
-use Rattle.solid_model.proofs.Lists.{member-append, member-append_left, member-append_right, each-at, each-from, each-weaker, each-append_right, each-filter}
+use Rattle.lemmas.proofs.Lists.{member-append, member-append_left, member-append_right, each-at, each-from, each-weaker, each-append_right, each-filter}
 use Rattle.solid_model.proofs.Styles.{passing_member, any_from_member}
 
 -- ---- lists

@@ -10,7 +10,7 @@ use Rattle.solid_model.specs.Blocks.{IsOutside, AreBlocksOf}
 use Rattle.solid_model.specs.Cells.{is_full}
 use Rattle.solid_model.specs.Choices.{ChoicePrecedes, AreChoicesThat, cells_of_choice, IsMatchingChoice, AreSolidsOfChoices}
 use Rattle.solid_model.specs.Grid.{LiesInGridCell, IsUnionOf}
-use Rattle.solid_model.specs.Lists.{Each, Ascends}
+use Rattle.lemmas.specs.Lists.{Each, Ascends}
 use Rattle.solid_model.specs.Matching.{Matches, AreSolidsOf, AreSomeSolidsOf}
 use Rattle.solid_model.specs.Orders.{SolidPrecedes}
 use Rattle.solid_model.specs.Panels.{GridParts, coordinates_of, IsGridOf}

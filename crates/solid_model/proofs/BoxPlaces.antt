@@ -14,7 +14,7 @@ use Rattle.solid_model.specs.Rooms.{Sizes, is_below, is_within, box_place, box_c
 use Rattle.solid_model.specs.Kept.{edge_sizes}
 use Rattle.solid_model.proofs.BoxCells.{place-below, within-below, below-within}
 use Rattle.solid_model.proofs.CellOrder.{LiesBefore, before-lies, one_or_before}
-use Rattle.solid_model.proofs.Concatenations.{within_product}
+use Rattle.lemmas.proofs.Concatenations.{within_product}
 
 -- ---- how far they go
 

@@ -5,9 +5,9 @@ use Rattle.std.proofs.lemmas.Int.{ints, by_lt_z}
 use Rattle.std.proofs.lemmas.Bool.Decides.{Decides-int_eq, Decides-and, Decides-or}
 use Rattle.solid_model.specs.declared.cell.Cell.{Cell}
 use Rattle.solid_model.specs.Cells.{same_cell, is_full, SameCells}
-use Rattle.solid_model.specs.Lists.{Member}
+use Rattle.lemmas.specs.Lists.{Member}
 use Rattle.solid_model.specs.Orders.{is_before, ComesBefore, IsInStatedForm}
-use Rattle.solid_model.proofs.Lists.{each-at, each-from, same_ascending}
+use Rattle.lemmas.proofs.Lists.{each-at, each-from, same_ascending}
 use Rattle.solid_model.proofs.Fullness.{same_coordinates, same_cells-members}
 
 -- ---- the order of cells

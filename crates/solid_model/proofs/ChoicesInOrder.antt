@@ -3,8 +3,8 @@ use Rattle.std.proofs.Common.{◌≡◌, ◌⊎◌, inl, inr, ℕ, zero, suc, �
 use Rattle.std.proofs.lemmas.List.{append-nil, length-append}
 use Rattle.solid_model.specs.Choices.{ChoicePrecedes, AreChoicesThat}
 use Rattle.solid_model.proofs.PrefixTree.{BeginsWith, begins_without}
-use Rattle.solid_model.specs.Lists.{Member, Each}
-use Rattle.solid_model.proofs.Lists.{member-append_left, member-append_right, each-weaker, each-append, ascends-append}
+use Rattle.lemmas.specs.Lists.{Member, Each}
+use Rattle.lemmas.proofs.Lists.{member-append_left, member-append_right, each-weaker, each-append, ascends-append}
 
 -- a choice that is longer than the values with which it begins has a value more, full or empty
 one_value_more : (chosen choice : List Bool) → length chosen < length choice → BeginsWith chosen choice

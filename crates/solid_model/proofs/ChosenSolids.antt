@@ -11,7 +11,7 @@ use Rattle.solid_model.specs.declared.segment.Style.{Style}
 use Rattle.solid_model.specs.Cells.{is_full}
 use Rattle.solid_model.specs.Choices.{ChoicePrecedes}
 use Rattle.solid_model.specs.Grid.{Coordinates, AreGridCoordinates, GridCell, LiesInGridCell, gaps_along, grid_cell_count, grid_cell_place, IsUnionOf}
-use Rattle.solid_model.specs.Lists.{Member, Ascends}
+use Rattle.lemmas.specs.Lists.{Member, Ascends}
 use Rattle.solid_model.specs.Matching.{Matches}
 use Rattle.solid_model.specs.Orders.{ComesBefore, Precedes}
 use Rattle.solid_model.specs.GridBox.{grid_cell_of}
@@ -19,8 +19,8 @@ use Rattle.solid_model.proofs.BoxPlaces.{cell_of_place, cell_of_place-within, ce
 use Rattle.solid_model.proofs.CellOrder.{LiesBefore, before-lies, lies-before, before_one_way, not_before_itself}
 use Rattle.solid_model.proofs.Corners.{corners, corner_of, corner_lies, corner_at_place, length-corners, place_within, ascends-corners, lying-is_grid_cell, within-is_grid_cell, begins_no_later, IsGridCell}
 use Rattle.solid_model.proofs.InGrid.{agree_in_grid_cell, lies_in_grid}
-use Rattle.solid_model.proofs.ListPlaces.{member-at}
-use Rattle.solid_model.proofs.Lists.{each-at}
+use Rattle.lemmas.proofs.ListPlaces.{member-at}
+use Rattle.lemmas.proofs.Lists.{each-at}
 use Rattle.solid_model.proofs.UnionDrawing.{in_grid_or_not}
 
 -- the first difference of two choices that are read off an ascending list of cells

@@ -12,11 +12,12 @@ use Rattle.solid_model.specs.Cells.{is_full}
 use Rattle.solid_model.specs.Columns.{column_after, column_before, IsFirstFull, HaveSameFirstFull, ColumnsDraw}
 use Rattle.solid_model.specs.Draws.{has_edge, IsHidden, Draws}
 use Rattle.solid_model.specs.DrawnStyle.{cell_depths}
-use Rattle.solid_model.specs.Edges.{agree, is_edge_of}
+use Rattle.lemmas.specs.Truth.{agree}
+use Rattle.solid_model.specs.Edges.{is_edge_of}
 use Rattle.solid_model.specs.Frames.{IsFrame}
-use Rattle.solid_model.specs.Lists.{Member}
+use Rattle.lemmas.specs.Lists.{Member}
 use Rattle.solid_model.specs.Segments.{line_of}
-use Rattle.solid_model.proofs.Lists.{least_member}
+use Rattle.lemmas.proofs.Lists.{least_member}
 use Rattle.solid_model.proofs.Styles.{passing_member, any_from_member, full_beside_edge, full_at_cell_depth}
 use Rattle.solid_model.proofs.Views.{has_edge_is}
 

@@ -16,7 +16,7 @@ use Rattle.solid_model.specs.Rooms.{is_below, is_within, same_axis, face_sizes, 
 use Rattle.solid_model.specs.VirtualFaces.{axis_across_both, is_barred, Bars, IsVirtual}
 use Rattle.solid_model.specs.GridBox.{grid_sizes, grid_cell_of, IsGridFullness}
 use Rattle.solid_model.proofs.BoxCells.{below-more, below-next, outside-below}
-use Rattle.solid_model.proofs.Chains.{reaches-keeps}
+use Rattle.lemmas.proofs.Chains.{reaches-keeps}
 use Rattle.solid_model.proofs.GridFillings.{IsFlatFace, flat_after, flat_before}
 use Rattle.solid_model.proofs.GridFullness.{full_within, grid_fullness, is_grid_fullness}
 use Rattle.solid_model.proofs.InGrid.{placed_at}

@@ -9,16 +9,16 @@ use Rattle.solid_model.specs.declared.cell.Axis.TheVariants.{X, Y, Z}
 use Rattle.solid_model.specs.declared.cell.Cell.{Cell}
 use Rattle.solid_model.specs.Cells.{coordinate}
 use Rattle.solid_model.specs.Grid.{Coordinates, GridCell, is_in_gap, LiesInGridCell, gaps_along, grid_cell_count, grid_cell_place}
-use Rattle.solid_model.specs.Lists.{Each, Ascends}
+use Rattle.lemmas.specs.Lists.{Each, Ascends}
 use Rattle.solid_model.specs.Orders.{ComesBefore}
 use Rattle.solid_model.specs.Panels.{starts_of}
 use Rattle.solid_model.specs.Rooms.{is_within}
 use Rattle.solid_model.specs.GridBox.{grid_cell_of}
 use Rattle.solid_model.proofs.BoxCells.{place-below, within-below}
 use Rattle.solid_model.proofs.CellOrder.{lies-before}
-use Rattle.solid_model.proofs.Lists.{each-at, each-from, each-map}
+use Rattle.lemmas.proofs.Lists.{each-at, each-from, each-map}
 use Rattle.solid_model.proofs.SameOnGrid.{starts_more}
-use Rattle.solid_model.proofs.Concatenations.{each-flat_map, ascends-flat_map, within_product, get_or-over_triples}
+use Rattle.lemmas.proofs.Concatenations.{each-flat_map, ascends-flat_map, within_product, get_or-over_triples}
 use Rattle.solid_model.proofs.Unions.{cells_over, length-cells_over}
 
 -- ---- where gaps begin

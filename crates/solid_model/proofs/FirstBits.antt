@@ -7,9 +7,9 @@ use Rattle.std.proofs.lemmas.Int.{ints}
 use Rattle.std.proofs.lemmas.Nat.Bits.{bit_at-zero, bit_at-lt, bit_at_xor, bit_at-trailing_zeros, same_from_bits}
 use Rattle.solid_model.specs.declared.segment.Style.TheVariants.{Dashed, Solid}
 use Rattle.solid_model.specs.Columns.{IsFirstFull, HaveSameFirstFull, ColumnsDraw}
-use Rattle.solid_model.specs.Bits.{bits}
+use Rattle.lemmas.specs.Bits.{bits}
 use Rattle.solid_model.proofs.ColumnRule.{one_first}
-use Rattle.solid_model.proofs.WordBits.{zeros, zeros_of_none}
+use Rattle.lemmas.proofs.WordBits.{zeros, zeros_of_none}
 
 -- a number is 0 or isn't
 pub zero_or_more : (n : ℕ) → (n ≡ 0) ⊎ (0 < n)

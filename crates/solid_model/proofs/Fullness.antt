@@ -5,7 +5,7 @@ use Rattle.std.proofs.lemmas.Bool.{false≢true, false_from_ne_true, both_ways, 
 use Rattle.std.proofs.lemmas.Bool.Decides.{Decides-int_eq, Decides-and, Decides-or, Decides-like}
 use Rattle.solid_model.specs.declared.cell.Cell.{Cell}
 use Rattle.solid_model.specs.Cells.{same_cell, is_full, IsSolid, SameCells}
-use Rattle.solid_model.specs.Lists.{Member}
+use Rattle.lemmas.specs.Lists.{Member}
 
 -- ---- cells
 

@@ -3,9 +3,9 @@ use Rattle.std.proofs.Common.{◌≡◌, inl, inr, true, ℕ, zero, suc, ◌+◌
 use Rattle.std.proofs.lemmas.Bool.{false≢true, and_parts, and_from, cases_lt}
 use Rattle.std.proofs.lemmas.Int.{ints}
 use Rattle.solid_model.specs.Grid.{is_in_gap}
-use Rattle.solid_model.specs.Lists.{Ascends}
+use Rattle.lemmas.specs.Lists.{Ascends}
 use Rattle.solid_model.specs.Rooms.{place_of_number}
-use Rattle.solid_model.proofs.ListPlaces.{ascends-pairs}
+use Rattle.lemmas.proofs.ListPlaces.{ascends-pairs}
 
 -- a member by its place
 abbrev pub member : List ℤ → ℕ → ℤ

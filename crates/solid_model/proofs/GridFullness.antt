@@ -11,7 +11,7 @@ use Rattle.solid_model.specs.Cells.{coordinate, is_full}
 use Rattle.solid_model.specs.Edges.{AreAcross, second_axis, third_axis, is_edge, is_edge_of}
 use Rattle.solid_model.specs.Frames.{at_places}
 use Rattle.solid_model.specs.Grid.{is_in_gap, LiesInGridCell}
-use Rattle.solid_model.specs.Lists.{Ascends}
+use Rattle.lemmas.specs.Lists.{Ascends}
 use Rattle.solid_model.specs.Matching.{Matches}
 use Rattle.solid_model.specs.Panels.{GridParts, coordinates_of, IsGridOf}
 use Rattle.solid_model.specs.Rooms.{is_below, is_within, place_of_number}

@@ -12,7 +12,7 @@ use Rattle.solid_model.specs.Draws.{Draws}
 use Rattle.solid_model.specs.DrawnStyle.{solid_drawing}
 use Rattle.solid_model.specs.Frames.{frame_of}
 use Rattle.solid_model.specs.Grid.{IsUnionOf}
-use Rattle.solid_model.specs.Lists.{Ascends}
+use Rattle.lemmas.specs.Lists.{Ascends}
 use Rattle.solid_model.specs.Matching.{Matches}
 use Rattle.solid_model.specs.Panels.{PanelsStyles, panel_of, styles_along, grid_styles, AreGridStyles, GridParts, coordinates_of, IsGridOf}
 use Rattle.solid_model.proofs.OnGrid.{StaysOnGrid, on_own_grid}

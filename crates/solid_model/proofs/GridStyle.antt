@@ -12,7 +12,7 @@ use Rattle.solid_model.specs.Segments.{segment_at}
 use Rattle.solid_model.specs.GridBox.{grid_sizes, axis_along, axis_across, grid_style}
 use Rattle.solid_model.proofs.Corners.{length-starts_of}
 use Rattle.solid_model.proofs.Gaps.{member, member_of}
-use Rattle.solid_model.proofs.Concatenations.{get_or-equal_parts}
+use Rattle.lemmas.proofs.Concatenations.{get_or-equal_parts}
 
 -- off the grid it is Blank
 pub blank_off_grid : (line lines cell cells : ℕ) (style : Style) → (lines < line) ⊎ (cells ≤ cell)

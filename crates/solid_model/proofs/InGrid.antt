@@ -16,12 +16,12 @@ use Rattle.solid_model.specs.Columns.{cell_in}
 use Rattle.solid_model.specs.Draws.{Draws}
 use Rattle.solid_model.specs.Frames.{frame_of, along, across}
 use Rattle.solid_model.specs.Grid.{IsGridCoordinate, AreGridCoordinates, is_in_gap, IsInSomeGap, Coordinates, GridCell, LiesInGridCell, LiesInGrid}
-use Rattle.solid_model.specs.Lists.{Member, Ascends}
+use Rattle.lemmas.specs.Lists.{Member, Ascends}
 use Rattle.solid_model.specs.Matching.{Matches}
 use Rattle.solid_model.specs.Segments.{segment_at}
 use Rattle.solid_model.proofs.ColumnRule.{beside_blank}
-use Rattle.solid_model.proofs.Integers.{natural}
-use Rattle.solid_model.proofs.Lists.{each-at, same_ascending}
+use Rattle.lemmas.proofs.Integers.{natural}
+use Rattle.lemmas.proofs.Lists.{each-at, same_ascending}
 use Rattle.solid_model.proofs.WithinViews.{Least, Greatest, outermost_by}
 use Rattle.solid_model.proofs.Views.{views_are_frames, cell_at_its_places}
 

@@ -5,7 +5,7 @@ use Rattle.std.proofs.lemmas.List.{length-append, length-map, get_or-map, get_or
 use Rattle.solid_model.specs.Choices.{ChoicePrecedes, is_chosen, cells_of_choice}
 use Rattle.solid_model.specs.Rooms.{Sizes, is_within, box_place, Walls, number_at, IsEarlier, AreRooms}
 use Rattle.solid_model.proofs.BoxPlaces.{cell_of_place, cell_of_place-within, cell_of_place-there, cell_there, earlier_before}
-use Rattle.solid_model.proofs.Decisions.{holds_below_next}
+use Rattle.lemmas.proofs.Decisions.{holds_below_next}
 
 -- ---- first cells
 

@@ -8,10 +8,10 @@ use Rattle.solid_model.specs.declared.segment.Style.TheVariants.{Blank}
 use Rattle.solid_model.specs.Segments.{far_right, far_up, farther}
 use Rattle.solid_model.specs.Drawings.{same_view, has_length, covering_lines, extreme, least_right, least_up, sheet_style, drawing_of}
 use Rattle.solid_model.specs.Line.{Line, IsNear, IsKept}
-use Rattle.solid_model.specs.Lists.{Member, Each}
+use Rattle.lemmas.specs.Lists.{Member, Each}
 use Rattle.solid_model.specs.Runs.{IsDrawing}
 use Rattle.solid_model.specs.Limits.{farthest_in_view}
-use Rattle.solid_model.proofs.Lists.{each-at, member-map, member-from_map, member-from_filter}
+use Rattle.lemmas.proofs.Lists.{each-at, member-map, member-from_map, member-from_filter}
 use Rattle.solid_model.proofs.Moved.{moved_begins}
 use Rattle.solid_model.proofs.Sheets.{least_member_of, drawn_line, covered_from_style, lines_moved}
 

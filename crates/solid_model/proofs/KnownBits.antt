@@ -6,11 +6,11 @@ use Rattle.std.proofs.lemmas.Int.{ints}
 use Rattle.std.proofs.Math.Nat.{div-div-eq-div-mul, mul_assoc}
 use Rattle.std.proofs.lemmas.Nat.Bits.{bit_at-zero, bit_at-lt, bit_at-trailing_zeros, same_from_bits}
 use Rattle.solid_model.specs.declared.segment.Style.TheVariants.{Blank, Dashed, Solid}
-use Rattle.solid_model.specs.Bits.{is_set}
+use Rattle.lemmas.specs.Bits.{is_set}
 use Rattle.solid_model.specs.Columns.{IsFirstFull, HaveSameFirstFull}
 use Rattle.solid_model.specs.Demands.{CanDraw}
 use Rattle.solid_model.specs.Known.{known_bits, LiesWithin}
-use Rattle.solid_model.proofs.WordBits.{set_either, not_zero, zeros, zeros_of_none, lowest_set, below_lowest, lowest_at_most, lowest_at_least}
+use Rattle.lemmas.proofs.WordBits.{set_either, not_zero, zeros, zeros_of_none, lowest_set, below_lowest, lowest_at_most, lowest_at_least}
 use Rattle.solid_model.proofs.KnownColumns.{Fits, fits_from, draw_blank, draw_solid, draw_dashed, same_first_back, same_first_down_to, differ_at, same_at}
 
 -- ---- bits of masks

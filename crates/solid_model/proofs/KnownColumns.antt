@@ -4,7 +4,7 @@ use Rattle.std.proofs.lemmas.Bool.{false≢true, both_ways, cases_lt, and_from, 
 use Rattle.std.proofs.lemmas.Int.{ints, by_lt_z}
 use Rattle.std.proofs.lemmas.Option.{none-some, same_Some}
 use Rattle.solid_model.specs.declared.segment.Style.TheVariants.{Blank, Dashed, Solid}
-use Rattle.solid_model.specs.Bits.{is_set}
+use Rattle.lemmas.specs.Bits.{is_set}
 use Rattle.solid_model.specs.Columns.{IsFirstFull, HaveSameFirstFull}
 use Rattle.solid_model.specs.Demands.{AgreesWith, CanDraw}
 use Rattle.solid_model.specs.Known.{known_of, known_bits, LiesWithin}

@@ -1,11 +1,4 @@
-pub mod Integers
-pub mod Lists
-pub mod Tests
 pub mod Lives
-pub mod ListPlaces
-pub mod Ranges
-pub mod Concatenations
-pub mod Chains
 pub mod Gaps
 pub mod GridFillings
 pub mod BoxCells
@@ -38,7 +31,7 @@ pub mod SolidsOfChoices
 pub mod SomeGrid
 pub mod MaximalStretches
 pub mod RunStyles
-pub mod Pushed
+pub mod GridPlaces
 pub mod BoxPlaces
 pub mod MarkedCells
 pub mod Numbers
@@ -46,21 +39,14 @@ pub mod OneNumbering
 mod OneProblem
 pub mod Passages
 pub mod Rooms
-pub mod Decisions
 pub mod ItemOrder
 pub mod NumberedPlaces
 pub mod SomeNumbering
 pub mod BlockChoices
-pub mod FilledWords
-pub mod KeptBits
-pub mod BitChanges
-pub mod WordBits
-pub mod NearBits
 pub mod FirstBits
 pub mod KnownColumns
 pub mod KnownBits
 pub mod ComparedChoices
-pub mod WithoutRepeats
 pub mod Volumes
 pub mod SmallVolumes
 pub mod PrefixTree
@@ -68,3 +54,4 @@ pub mod AllowedReports
 pub mod ChoicesInOrder
 pub mod CompleteTree
 pub mod SomeLines
+pub mod SortedChoices

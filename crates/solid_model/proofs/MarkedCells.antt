@@ -9,7 +9,7 @@ use Rattle.solid_model.specs.Marks.{BoxMarks, is_marked, AreMarksOf, AxisMarks, 
 use Rattle.solid_model.specs.PerAxis.{numbers_of}
 use Rattle.solid_model.specs.Rooms.{Sizes, is_within, box_place, box_count}
 use Rattle.solid_model.proofs.BoxPlaces.{one_cell, cell_there}
-use Rattle.solid_model.proofs.Pushed.{HoldsSoFar}
+use Rattle.lemmas.proofs.Pushed.{HoldsSoFar}
 
 -- a value is what is true of the cell that has this place
 abbrev pub IsAnswerAt : Sizes → (Cell → Bool) → ℕ → Bool → Type 0

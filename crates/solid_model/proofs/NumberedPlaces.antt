@@ -4,7 +4,7 @@ use Rattle.std.proofs.Common.{◌≡◌, ◌↔◌, ◌⊎◌, inl, inr, ℕ, ze
 use Rattle.std.proofs.lemmas.List.{length-append, get_or_append_left, get_or_push}
 use Rattle.std.proofs.lemmas.Option.{none-some, same_Some}
 use Rattle.solid_model.specs.Rooms.{IsEarlier}
-use Rattle.solid_model.proofs.Decisions.{IsDecided, below_next, holds_below_next, some_or_none}
+use Rattle.lemmas.proofs.Decisions.{IsDecided, below_next, holds_below_next, some_or_none}
 use Rattle.solid_model.proofs.ItemOrder.{AreInOrder}
 
 -- places that are left out, and those that are joined

@@ -2,9 +2,9 @@
 use Rattle.std.proofs.Common.{inl, inr}
 use Rattle.solid_model.specs.declared.cell.Axis.{Axis}
 use Rattle.solid_model.specs.declared.cell.Cell.{Cell}
-use Rattle.solid_model.specs.Chains.{Reaches}
+use Rattle.lemmas.specs.Chains.{Reaches}
 use Rattle.solid_model.specs.Rooms.{Sizes, Walls, Passes, LeadsOut}
-use Rattle.solid_model.proofs.Chains.{reaches-onward, reaches-back}
+use Rattle.lemmas.proofs.Chains.{reaches-onward, reaches-back}
 
 -- a step leads back
 pub passes-back : (wall : Walls) (n m : Cell) → Passes wall n m → Passes wall m n

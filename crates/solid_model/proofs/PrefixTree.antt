@@ -3,9 +3,9 @@ use Rattle.std.proofs.Common.{◌≡◌, Bool, true, false, ℕ, zero, suc, ◌+
 use Rattle.std.proofs.lemmas.Bool.{both_ways}
 use Rattle.std.proofs.lemmas.Bool.Decides.{nat_tests}
 use Rattle.std.proofs.lemmas.List.Elements.{filter-append}
-use Rattle.solid_model.specs.Lists.{Each}
+use Rattle.lemmas.specs.Lists.{Each}
 use Rattle.solid_model.specs.Tree.{PrefixTest, extensions, live_from, live_count, is_whole, live_below}
-use Rattle.solid_model.proofs.Lists.{each-weaker, each-append, each-from, each-at, member-from_filter}
+use Rattle.lemmas.proofs.Lists.{each-weaker, each-append, each-from, each-at, member-from_filter}
 
 -- the choice begins with these values
 abbrev pub BeginsWith : List Bool → List Bool → Type 0

@@ -3,13 +3,13 @@ use Rattle.std.proofs.Common.{◌≡◌, ◌↔◌, ℕ, ◌<◌, List, get_or, 
 use Rattle.solid_model.specs.Kept.{IsBelow}
 use Rattle.solid_model.specs.declared.cell.Axis.{Axis}
 use Rattle.solid_model.specs.declared.cell.Cell.{Cell}
-use Rattle.solid_model.specs.Chains.{Reaches}
-use Rattle.solid_model.specs.Lists.{Each}
+use Rattle.lemmas.specs.Chains.{Reaches}
+use Rattle.lemmas.specs.Lists.{Each}
 use Rattle.solid_model.specs.Rooms.{Sizes, is_within, Walls, Passes, LeadsOut, number_at, AreRooms}
 use Rattle.solid_model.proofs.BoxPlaces.{cell_of_place, cell_of_place-within, cell_of_place-there}
-use Rattle.solid_model.proofs.Chains.{same_chains}
-use Rattle.solid_model.proofs.ListPlaces.{member-place}
-use Rattle.solid_model.proofs.Lists.{each-from}
+use Rattle.lemmas.proofs.Chains.{same_chains}
+use Rattle.lemmas.proofs.ListPlaces.{member-place}
+use Rattle.lemmas.proofs.Lists.{each-from}
 use Rattle.solid_model.proofs.Passages.{passes-past_fewer}
 
 -- where a wall of v stands, one of w does, and the other way round

@@ -8,11 +8,11 @@ use Rattle.solid_model.specs.declared.runs.Run.{Run}
 use Rattle.solid_model.specs.declared.segment.Style.{Style}
 use Rattle.solid_model.specs.declared.segment.Style.TheVariants.{Blank}
 use Rattle.solid_model.specs.Drawings.{same_style}
-use Rattle.solid_model.specs.Lists.{Member, Each, Ascends}
+use Rattle.lemmas.specs.Lists.{Member, Each, Ascends}
 use Rattle.solid_model.specs.Runs.{run_covers, run_style, IsRun, StandsApart, AreRuns, DrawingRuns, view_runs, runs_along, style_in}
 use Rattle.solid_model.specs.Segments.{segment_at}
 use Rattle.solid_model.specs.Stretches.{IsStretch}
-use Rattle.solid_model.proofs.Lists.{IsWithin, each-at, each-from, each-weaker, ascends-members, same_ascending}
+use Rattle.lemmas.proofs.Lists.{IsWithin, each-at, each-from, each-weaker, ascends-members, same_ascending}
 use Rattle.solid_model.proofs.MaximalStretches.{one_stretch}
 use Rattle.solid_model.proofs.Sheets.{same_style-itself, same_style-one}
 

@@ -12,10 +12,10 @@ use Rattle.solid_model.specs.declared.segment.Style.TheVariants.{Blank, Dashed, 
 use Rattle.solid_model.specs.Drawings.{same_view, same_style, is_between, covers, is_covered, has_length, covering_lines, extreme, least_right, least_up, is_shown, sheet_style, drawing_of, IsEmptyView}
 use Rattle.solid_model.specs.Segments.{along_of, across_of, line_of, far_right, far_up, farther}
 use Rattle.solid_model.specs.Line.{Line, IsKept}
-use Rattle.solid_model.specs.Lists.{Member, Each}
+use Rattle.lemmas.specs.Lists.{Member, Each}
 use Rattle.solid_model.specs.Moved.{StandsFrom, BeginsAt, IsMovedToZero}
-use Rattle.solid_model.proofs.ListPlaces.{contains-member, all-each}
-use Rattle.solid_model.proofs.Lists.{each-at, member-map, member-from_map, member-filter, member-from_filter}
+use Rattle.lemmas.proofs.ListPlaces.{contains-member, all-each}
+use Rattle.lemmas.proofs.Lists.{each-at, member-map, member-from_map, member-filter, member-from_filter}
 use Rattle.solid_model.proofs.Moved.{moved_to_zero, moved_stands}
 
 -- ---- the least of a list

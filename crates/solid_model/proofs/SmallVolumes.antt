@@ -6,7 +6,7 @@ use Rattle.solid_model.specs.declared.cell.Axis.{Axis}
 use Rattle.solid_model.specs.declared.cell.Axis.TheVariants.{X, Y, Z}
 use Rattle.solid_model.specs.declared.per_axis.PerAxis.{PerAxis}
 use Rattle.solid_model.specs.Grid.{Coordinates, gaps_along}
-use Rattle.solid_model.specs.Lists.{Member}
+use Rattle.lemmas.specs.Lists.{Member}
 use Rattle.solid_model.specs.Panels.{GridParts, IsGrid, coordinates_of}
 use Rattle.solid_model.specs.PerAxis.{numbers_of, cell_of}
 use Rattle.solid_model.specs.Rooms.{Sizes, is_within, box_place, box_count}

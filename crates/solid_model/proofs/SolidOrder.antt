@@ -5,11 +5,11 @@ use Rattle.solid_model.specs.declared.cell.Cell.{Cell}
 use Rattle.solid_model.specs.declared.segment.Segment.{Segment}
 use Rattle.solid_model.specs.declared.segment.Style.{Style}
 use Rattle.solid_model.specs.Cells.{same_cell, is_full, SameCells}
-use Rattle.solid_model.specs.Edges.{agree}
-use Rattle.solid_model.specs.Lists.{Member, Each}
+use Rattle.lemmas.specs.Truth.{agree}
+use Rattle.lemmas.specs.Lists.{Member, Each}
 use Rattle.solid_model.specs.Matching.{Matches, AreSolidsOf}
 use Rattle.solid_model.specs.Orders.{ComesBefore, IsInStatedForm, Precedes, SolidPrecedes}
-use Rattle.solid_model.proofs.Lists.{IsWithin, HasLeast, least_or_none, each-at, member-append_left, member-append_right, same_ascending}
+use Rattle.lemmas.proofs.Lists.{IsWithin, HasLeast, least_or_none, each-at, member-append_left, member-append_right, same_ascending}
 use Rattle.solid_model.proofs.Fullness.{same_cell-true, is_full-member, member-is_full, not_member-is_empty, is_full-append}
 use Rattle.solid_model.proofs.CellOrder.{before_one_way, not_before_itself, before_onward, one_or_before, one_list}
 

@@ -10,7 +10,7 @@ use Rattle.solid_model.specs.Cells.{is_full, SameCells}
 use Rattle.solid_model.specs.Choices.{ChoicePrecedes, AreChoicesThat, is_chosen, cells_of_choice, IsMatchingChoice, AreSolidsOfChoices}
 use Rattle.solid_model.specs.Frames.{frame_of}
 use Rattle.solid_model.specs.Grid.{Coordinates, grid_cell_count, IsUnionOf}
-use Rattle.solid_model.specs.Lists.{Member, Each, Ascends}
+use Rattle.lemmas.specs.Lists.{Member, Each, Ascends}
 use Rattle.solid_model.specs.Matching.{Matches, AreSolidsOf, AreSomeSolidsOf}
 use Rattle.solid_model.specs.Orders.{IsInStatedForm, SolidPrecedes}
 use Rattle.solid_model.proofs.CellOrder.{stated_form}

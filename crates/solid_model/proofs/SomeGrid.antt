@@ -7,11 +7,11 @@ use Rattle.solid_model.specs.declared.segment.Segment.{Segment}
 use Rattle.solid_model.specs.declared.segment.Style.{Style}
 use Rattle.solid_model.specs.declared.segment.Style.TheVariants.{Blank}
 use Rattle.solid_model.specs.Grid.{IsDrawnAcross, ChangesAt, IsGridCoordinate, AreGridCoordinates}
-use Rattle.solid_model.specs.Lists.{Member, Ascends}
+use Rattle.lemmas.specs.Lists.{Member, Ascends}
 use Rattle.solid_model.specs.Runs.{IsDrawing}
 use Rattle.solid_model.specs.Segments.{segment_at}
 use Rattle.solid_model.proofs.InGrid.{blank_or_drawn}
-use Rattle.solid_model.proofs.Lists.{each-from, ascends-append, member-append_left, member-push, member-push_last}
+use Rattle.lemmas.proofs.Lists.{each-from, ascends-append, member-append_left, member-push, member-push_last}
 
 module _ (drawing : Segment → Style) (is : IsDrawing drawing) where
   -- where a segment is drawn, its line and its beginning lie between 0 and the farthest coordinate

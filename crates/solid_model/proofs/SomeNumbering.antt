@@ -1,10 +1,10 @@
 -- It can't be that the rooms of a box have no numbering.
 use Rattle.std.proofs.Common.{◌≡◌, ◌↔◌, ℕ, ◌<◌, List, length, get_or, Option, None, sym, subst, subst₂, ◌∙◌, ap}
-use Rattle.solid_model.specs.Chains.{Reaches}
+use Rattle.lemmas.specs.Chains.{Reaches}
 use Rattle.solid_model.specs.Rooms.{Sizes, box_place, box_count, Walls, Passes, LeadsOut, number_at, AreRooms}
 use Rattle.solid_model.proofs.BoxPlaces.{cell_there, cell_of_place, cell_of_place-within, cell_of_place-there, cell_of_place-own, before_earlier}
-use Rattle.solid_model.proofs.Chains.{reaches-itself, reaches-onward}
-use Rattle.solid_model.proofs.Decisions.{IsDecided, never_undecided, never_none}
+use Rattle.lemmas.proofs.Chains.{reaches-itself, reaches-onward}
+use Rattle.lemmas.proofs.Decisions.{IsDecided, never_undecided, never_none}
 use Rattle.solid_model.proofs.NumberedPlaces.{AreNumbered, numbers_of_decided}
 use Rattle.solid_model.proofs.Passages.{passages-back, passages-leads_out}
 

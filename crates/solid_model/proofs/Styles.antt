@@ -15,10 +15,10 @@ use Rattle.solid_model.specs.Draws.{has_edge, is_inside, IsHidden, Draws}
 use Rattle.solid_model.specs.DrawnStyle.{cell_depths, side_depths, hides, is_hidden, is_seen, drawn_style}
 use Rattle.solid_model.specs.Edges.{is_edge_of}
 use Rattle.solid_model.specs.Frames.{IsFrame, along, across}
-use Rattle.solid_model.specs.Lists.{Member}
+use Rattle.lemmas.specs.Lists.{Member}
 use Rattle.solid_model.specs.Segments.{start_of, line_of}
 use Rattle.solid_model.proofs.Fullness.{is_full-member}
-use Rattle.solid_model.proofs.Lists.{member-append_left, member-append_right, member-map}
+use Rattle.lemmas.proofs.Lists.{member-append_left, member-append_right, member-map}
 use Rattle.solid_model.proofs.Views.{has_edge_is, places_of_cell_in}
 
 -- ---- a test that some member of a list passes

@@ -12,12 +12,12 @@ use Rattle.solid_model.specs.Columns.{cell_in}
 use Rattle.solid_model.specs.DrawnStyle.{solid_drawing}
 use Rattle.solid_model.specs.Frames.{frame_of, along, across, cell_on}
 use Rattle.solid_model.specs.Grid.{Coordinates, GridCell, is_in_gap, IsInSomeGap, LiesInGridCell, LiesInGrid, IsUnionOf}
-use Rattle.solid_model.specs.Lists.{Member, Ascends}
+use Rattle.lemmas.specs.Lists.{Member, Ascends}
 use Rattle.solid_model.proofs.OnGrid.{StaysOnGrid}
 use Rattle.solid_model.specs.Segments.{segment_at}
 use Rattle.solid_model.proofs.ColumnRule.{equal_columns}
 use Rattle.solid_model.proofs.InGrid.{between_members, gap_or_none}
-use Rattle.solid_model.proofs.Lists.{each-at}
+use Rattle.lemmas.proofs.Lists.{each-at}
 use Rattle.solid_model.proofs.Styles.{one_style, same_columns, drawn_style_drawn}
 use Rattle.solid_model.proofs.Views.{across_along, views_are_frames, each_axis, coordinates_at, runs_forward, stands_forward, forward_cell}
 

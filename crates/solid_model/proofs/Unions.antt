@@ -7,10 +7,10 @@ use Rattle.solid_model.specs.declared.cell.Axis.TheVariants.{X, Y, Z}
 use Rattle.solid_model.specs.declared.cell.Cell.{Cell}
 use Rattle.solid_model.specs.Cells.{coordinate, is_full}
 use Rattle.solid_model.specs.Grid.{Coordinates, GridCell, is_in_gap, LiesInGridCell, LiesInGrid, gaps_along, grid_cell_place, IsUnionOf}
-use Rattle.solid_model.specs.Lists.{Member, Ascends}
-use Rattle.solid_model.proofs.Concatenations.{over_triples, member-over_triples, member-from_over_triples, length-over_triples}
+use Rattle.lemmas.specs.Lists.{Member, Ascends}
+use Rattle.lemmas.proofs.Concatenations.{over_triples, member-over_triples, member-from_over_triples, length-over_triples}
 use Rattle.solid_model.proofs.Fullness.{is_full-member, member-is_full}
-use Rattle.solid_model.proofs.Lists.{member-append_left, member-append_right, member-filter, member-from_filter}
+use Rattle.lemmas.proofs.Lists.{member-append_left, member-append_right, member-filter, member-from_filter}
 use Rattle.solid_model.proofs.UnionDrawing.{one_gap, in_grid_or_not}
 
 -- ---- lists over three axes

@@ -14,7 +14,8 @@ use Rattle.solid_model.specs.Boxes.{place_of}
 use Rattle.solid_model.specs.Cells.{coordinate}
 use Rattle.solid_model.specs.Columns.{cell_in, column_after, column_before}
 use Rattle.solid_model.specs.Draws.{has_edge}
-use Rattle.solid_model.specs.Edges.{agree, second_axis, third_axis, AreAcross, is_edge, is_edge_of}
+use Rattle.lemmas.specs.Truth.{agree}
+use Rattle.solid_model.specs.Edges.{second_axis, third_axis, AreAcross, is_edge, is_edge_of}
 use Rattle.solid_model.specs.Frames.{IsFrame, frame_of, along, across, point_on, cell_on, at_places}
 use Rattle.solid_model.specs.Segments.{segment_at, start_of, line_of}
 

@@ -7,8 +7,8 @@ use Rattle.solid_model.specs.declared.cell.Axis.TheVariants.{X, Y, Z}
 use Rattle.solid_model.specs.declared.cell.Cell.{Cell}
 use Rattle.solid_model.specs.Cells.{coordinate, cell_at, is_full}
 use Rattle.solid_model.specs.Grid.{Coordinates, GridCell, is_in_gap, LiesInGridCell, LiesInGrid, gaps_along, grid_cell_count, grid_cell_place, IsUnionOf}
-use Rattle.solid_model.specs.Lists.{Member, Ascends}
-use Rattle.solid_model.proofs.Lists.{appended, each-from, member-appended, member-from_appended, ascends-appended}
+use Rattle.lemmas.specs.Lists.{Member, Ascends}
+use Rattle.lemmas.proofs.Lists.{appended, each-from, member-appended, member-from_appended, ascends-appended}
 use Rattle.solid_model.specs.Orders.{ComesBefore, IsInStatedForm}
 use Rattle.solid_model.specs.Rooms.{place_of_number, box_place}
 use Rattle.solid_model.specs.Volumes.{gap_width, grid_cell_volume, grid_cell_at, volume_below, volume_of}
@@ -17,10 +17,10 @@ use Rattle.solid_model.proofs.CellOrder.{not_before_itself}
 use Rattle.solid_model.proofs.Corners.{ascends-cells_over}
 use Rattle.solid_model.proofs.Fullness.{is_full-member, member-is_full}
 use Rattle.solid_model.proofs.Gaps.{member, lies_in, in_gap, earlier_less}
-use Rattle.solid_model.proofs.Integers.{natural}
+use Rattle.lemmas.proofs.Integers.{natural}
 use Rattle.solid_model.proofs.UnionDrawing.{in_grid_or_not}
 use Rattle.solid_model.proofs.Unions.{cells_over, member-cells_over, member-from_cells_over, length-cells_over, range_from, member-range_from, one_grid_cell}
-use Rattle.solid_model.proofs.WithoutRepeats.{ascends-weaker, equally_long}
+use Rattle.lemmas.proofs.WithoutRepeats.{ascends-weaker, equally_long}
 
 -- ---- ranges, and cells over three of them
 

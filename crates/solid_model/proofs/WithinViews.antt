@@ -17,7 +17,7 @@ use Rattle.solid_model.specs.Edges.{is_edge_of}
 use Rattle.solid_model.specs.Frames.{IsFrame, along, across}
 use Rattle.solid_model.specs.Segments.{segment_at}
 use Rattle.solid_model.proofs.Fullness.{is_full-member, member-is_full}
-use Rattle.solid_model.proofs.Lists.{least_member, greatest_member}
+use Rattle.lemmas.proofs.Lists.{least_member, greatest_member}
 use Rattle.solid_model.proofs.Styles.{edge_not_blank}
 use Rattle.solid_model.proofs.Views.{has_edge_at, cell_at_its_places, places_of_cell_in}
 

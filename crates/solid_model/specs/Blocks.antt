@@ -3,7 +3,7 @@ use Rattle.std.specs.Prelude.{◌≡◌, ◌<◌, ℕ, List, Option, None, if◌
 use Rattle.solid_model.specs.declared.cell.Axis.{Axis}
 use Rattle.solid_model.specs.declared.cell.Cell.{Cell}
 use Rattle.solid_model.specs.declared.per_axis.PerAxis.{PerAxis}
-use Rattle.solid_model.specs.Chains.{Reaches}
+use Rattle.lemmas.specs.Chains.{Reaches}
 use Rattle.solid_model.specs.Limits.{most_blocks}
 use Rattle.solid_model.specs.Panels.{GridParts}
 use Rattle.solid_model.specs.PerAxis.{numbers_of}

@@ -5,7 +5,7 @@ use Rattle.solid_model.specs.declared.segment.Segment.{Segment}
 use Rattle.solid_model.specs.declared.segment.Style.{Style}
 use Rattle.solid_model.specs.Cells.{is_full}
 use Rattle.solid_model.specs.Grid.{Coordinates, IsUnionOf}
-use Rattle.solid_model.specs.Lists.{Member, Each, Ascends}
+use Rattle.lemmas.specs.Lists.{Member, Each, Ascends}
 use Rattle.solid_model.specs.Matching.{Matches}
 
 -- The stated order of choices, which say for each item whether it is full: the one that is full at the first item at which

@@ -12,9 +12,9 @@ use Rattle.solid_model.specs.declared.segment.Style.{Style}
 use Rattle.solid_model.specs.declared.segment.Style.TheVariants.{Blank, Dashed, Solid}
 use Rattle.solid_model.specs.Blocks.{BlockNumbers, ProblemParts, block_at}
 use Rattle.solid_model.specs.Columns.{ColumnsDraw}
-use Rattle.solid_model.specs.Edges.{agree}
+use Rattle.lemmas.specs.Truth.{agree}
 use Rattle.solid_model.specs.Frames.{frame_of, along, across, at_places}
-use Rattle.solid_model.specs.Lists.{Member}
+use Rattle.lemmas.specs.Lists.{Member}
 use Rattle.solid_model.specs.Panels.{GridParts}
 use Rattle.solid_model.specs.Rooms.{Sizes}
 use Rattle.solid_model.specs.GridBox.{grid_sizes, axis_along, axis_across, grid_style}

@@ -1,14 +1,10 @@
 -- Edges of a solid: facts of a unit edge and the four cells round it, in space.
-use Rattle.std.specs.Prelude.{◌≡◌, ◌⊎◌, Bool, true, false, not, ◌&&◌, ◌||◌}
+use Rattle.std.specs.Prelude.{◌≡◌, ◌⊎◌, Bool, not, ◌&&◌, ◌||◌}
+use Rattle.lemmas.specs.Truth.{agree}
 use Rattle.solid_model.specs.declared.cell.Axis.{Axis}
 use Rattle.solid_model.specs.declared.cell.Axis.TheVariants.{X, Y, Z}
 use Rattle.solid_model.specs.declared.cell.Cell.{Cell}
 use Rattle.solid_model.specs.Cells.{cell_before}
-
--- two cells agree: both full or both empty
-abbrev pub agree : Bool → Bool → Bool
-agree true b = b
-agree false b = not b
 
 -- Four cells stand round a unit edge, a and b on one side of a plane through it, c and d on the other, and the second
 -- plane parts a and c from b and d. They make it an edge unless, for one plane, each of the two pairs across it agrees.

@@ -10,7 +10,7 @@ use Rattle.solid_model.specs.declared.frame.Direction.{Direction}
 use Rattle.solid_model.specs.Cells.{cell_before}
 use Rattle.solid_model.specs.Edges.{second_axis, third_axis}
 use Rattle.solid_model.specs.Frames.{forward, backward, at_places}
-use Rattle.solid_model.specs.Lists.{Member, Each, Ascends}
+use Rattle.lemmas.specs.Lists.{Member, Each, Ascends}
 use Rattle.solid_model.specs.Orders.{is_before, ComesBefore}
 use Rattle.solid_model.specs.Rounds.{Spot, Side, left_square, IsRound, round_corners, AreJoined}
 

@@ -10,7 +10,7 @@ use Rattle.solid_model.specs.declared.segment.Style.TheVariants.{Blank}
 use Rattle.solid_model.specs.Cells.{coordinate}
 use Rattle.solid_model.specs.Frames.{frame_of, along}
 use Rattle.solid_model.specs.Limits.{most_grid_coordinates}
-use Rattle.solid_model.specs.Lists.{Member, Ascends}
+use Rattle.lemmas.specs.Lists.{Member, Ascends}
 use Rattle.solid_model.specs.Segments.{segment_at}
 
 -- ---- grid coordinates

@@ -7,7 +7,7 @@ use Rattle.solid_model.specs.Rooms.{Sizes, same_axis, face_sizes, box_count}
 use Rattle.solid_model.specs.GridBox.{grid_sizes}
 use Rattle.solid_model.specs.Wire.{is_pseudo_edge}
 use Rattle.solid_model.specs.VirtualFaces.{IsVirtual}
-use Rattle.solid_model.specs.Lists.{Each}
+use Rattle.lemmas.specs.Lists.{Each}
 use Rattle.solid_model.specs.PerAxis.{numbers_of, AreFew}
 use Rattle.solid_model.specs.Blocks.{BlockNumbers}
 

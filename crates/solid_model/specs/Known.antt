@@ -1,7 +1,7 @@
 -- What is known of a column of cells, kept as two numbers: a bit of the first is a cell that is full for certain, a bit of the
 -- second one that may be full.
 use Rattle.std.specs.Prelude.{Bool, true, false, ℕ, ℤ, pos, negsuc, Option, Some, None, IsTrue}
-use Rattle.solid_model.specs.Bits.{is_set}
+use Rattle.lemmas.specs.Bits.{is_set}
 
 -- what is known of a cell that is full for certain, or may be full, or can't be
 abbrev pub known_of : Bool → Bool → Option Bool

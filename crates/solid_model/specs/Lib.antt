@@ -1,4 +1,3 @@
-pub mod Lists
 pub mod Limits
 pub mod Cells
 pub mod Edges
@@ -22,10 +21,9 @@ pub mod SmallSheet
 pub mod Grid
 pub mod Panels
 pub mod Choices
-pub mod Bits
-pub mod Chains
 pub mod Rooms
 pub mod PerAxis
+pub mod GridPlaces
 pub mod Marks
 pub mod GridBox
 pub mod Wire
@@ -45,3 +43,4 @@ pub mod SmallLines
 pub mod SmallTree
 pub mod Rounds
 pub mod Faces
+pub mod Sorting

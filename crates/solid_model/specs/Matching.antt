@@ -6,7 +6,7 @@ use Rattle.solid_model.specs.declared.segment.Style.{Style}
 use Rattle.solid_model.specs.Cells.{is_full, IsSolid, SameCells}
 use Rattle.solid_model.specs.Draws.{Draws}
 use Rattle.solid_model.specs.Frames.{frame_of}
-use Rattle.solid_model.specs.Lists.{Member, Each, Ascends}
+use Rattle.lemmas.specs.Lists.{Member, Each, Ascends}
 use Rattle.solid_model.specs.Orders.{IsInStatedForm, SolidPrecedes}
 
 -- A solid matches a drawing, which gives each unit segment of each view a style, where its own drawing is the same.

@@ -1,8 +1,8 @@
 -- Squares of a plane, and how one goes round them along their sides. The plane is looked at from the side on which u runs to
 -- the right and v upwards, so that left and right have their plain meaning.
 use Rattle.std.specs.Prelude.{◌≡◌, Bool, true, false, not, ◌&&◌, ℕ, zero, suc, List, [], ◌∷◌, ℤ, pos, ◌+ℤ◌, ◌-ℤ◌, IsTrue, if◌then◌else◌}
-use Rattle.solid_model.specs.Chains.{Reaches}
-use Rattle.solid_model.specs.Lists.{Member}
+use Rattle.lemmas.specs.Chains.{Reaches}
+use Rattle.lemmas.specs.Lists.{Member}
 
 -- a whole point (u, v) of a plane; also the unit square from (u, v) to (u + 1, v + 1)
 pub record Spot : Type 0 where

@@ -8,7 +8,7 @@ use Rattle.solid_model.specs.declared.segment.Segment.{Segment}
 use Rattle.solid_model.specs.declared.segment.Style.{Style}
 use Rattle.solid_model.specs.declared.segment.Style.TheVariants.{Blank}
 use Rattle.solid_model.specs.Limits.{farthest_in_view}
-use Rattle.solid_model.specs.Lists.{Each, Ascends}
+use Rattle.lemmas.specs.Lists.{Each, Ascends}
 use Rattle.solid_model.specs.Moved.{BeginsAt}
 use Rattle.solid_model.specs.Segments.{start_of, line_of, far_right, far_up}
 

@@ -4,7 +4,7 @@ use Rattle.solid_model.specs.declared.segment.Segment.{Segment}
 use Rattle.solid_model.specs.declared.segment.Style.{Style}
 use Rattle.solid_model.specs.Blocks.{ProblemParts}
 use Rattle.solid_model.specs.Choices.{IsMatchingChoice}
-use Rattle.solid_model.specs.Lists.{Each, Ascends}
+use Rattle.lemmas.specs.Lists.{Each, Ascends}
 use Rattle.solid_model.specs.Panels.{coordinates_of, IsGridOf}
 use Rattle.solid_model.specs.Runs.{IsDrawing}
 

@@ -2,8 +2,8 @@
 -- first blocks whether it is full; below it stand those that say so for one block more, the full one first.
 use Rattle.std.specs.Prelude.{◌≡◌, Bool, true, false, ◌&&◌, ℕ, zero, suc, ◌+◌, ◌-◌, ◌≤◌, ◌==◌, List, [], ◌∷◌, ◌++◌, length, take, drop, filter, map, sum, IsPermutation, IsTrue}
 use Rattle.std.specs.List.{flat_map, list_any}
-use Rattle.solid_model.specs.Edges.{agree}
-use Rattle.solid_model.specs.Lists.{Each}
+use Rattle.lemmas.specs.Truth.{agree}
+use Rattle.lemmas.specs.Lists.{Each}
 
 -- a test of prefixes: which are live
 abbrev pub PrefixTest : Type 0

@@ -1,8 +1,8 @@
 //! Lists of truth values, kept as bits.
 
 ghost use Rattle.std.specs.Prelude.{◌≡◌, ◌≢◌, ◌≤◌, ◌<◌, ◌+◌, ℕ, false, length, take, slice_index_or};
-ghost use Rattle.solid_model.specs.Bits.{is_set};
-ghost use Rattle.solid_model.specs.Edges.{agree};
+ghost use Rattle.lemmas.specs.Bits.{is_set};
+ghost use Rattle.lemmas.specs.Truth.{agree};
 
 use crate::memory::Memory;
 use std::alloc::Global;
@@ -17,7 +17,7 @@ pub struct Bits {
 
 impl Model for Bits {
     ghost use Rattle.std.specs.Prelude.{Bool, ◌*◌, ◌≤◌, List, length};
-    ghost use Rattle.solid_model.specs.Bits.{first_bits};
+    ghost use Rattle.lemmas.specs.Bits.{first_bits};
 
     ghost Value = { List Bool };
 
@@ -77,7 +77,7 @@ fn same_bits(left: u64, right: u64) -> usize
 impl Bits {
     ghost use Rattle.std.specs.Prelude.{◌≡◌, ◌≤◌, ◌<◌, ℕ, false, length, take, slice_index_or, slice_set, IfOk, MatchResult};
     ghost use Rattle.std.specs.List.{common_prefix_len};
-    ghost use Rattle.solid_model.specs.Edges.{agree};
+    ghost use Rattle.lemmas.specs.Truth.{agree};
 
     /// These values.
     pub fn from_bools(alloc: Global, values: &[bool]) -> Result<Bits, Memory>

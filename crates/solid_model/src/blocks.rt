@@ -32,7 +32,7 @@ impl Blocks {
     ghost use Rattle.std.specs.Prelude.{◌≡◌, length};
     ghost use Rattle.solid_model.specs.Blocks.{block_at};
     ghost use Rattle.solid_model.specs.Kept.{IsBelow};
-    ghost use Rattle.solid_model.specs.Lists.{Each};
+    ghost use Rattle.lemmas.specs.Lists.{Each};
     ghost use Rattle.solid_model.specs.PerAxis.{numbers_of, cell_of};
     ghost use Rattle.solid_model.specs.Rooms.{box_count};
     ghost use Rattle.solid_model.specs.GridBox.{grid_sizes};

@@ -16,6 +16,7 @@ mod face_map;
 mod fault;
 mod frame;
 mod grid;
+mod grid_places;
 mod laws;
 mod limits;
 mod line;
@@ -28,6 +29,7 @@ mod prefix;
 mod problem;
 mod runs;
 mod segment;
+mod sorted;
 mod volume;
 mod wire;
 
@@ -44,6 +46,7 @@ pub use face_map::FaceMap;
 pub use fault::{Fault, Refused};
 pub use frame::{Direction, Frame, View};
 pub use grid::{Grid, same_coordinates};
+pub use grid_places::{cell_in, number_on, place_of_cell};
 pub use laws::{
     all_matching_choices_are_all_matching_solids, all_matching_solids_are_one_list, column_rule,
     each_axis_has_a_coordinate, each_segment_has_one_style, fillings_round_an_edge,
@@ -67,5 +70,6 @@ pub use prefix::Prefix;
 pub use problem::Problem;
 pub use runs::{Run, Runs};
 pub use segment::{Segment, Style};
+pub use sorted::sort_choices;
 pub use volume::{cell_volume, chosen_volume};
 pub use wire::Wire;

@@ -24,7 +24,7 @@ impl Model for Prefix {
 impl Prefix {
     ghost use Rattle.std.specs.Prelude.{◌≡◌, ◌≤◌, ◌<◌, ℕ, false, length, take, slice_index_or, slice_set, IfOk, MatchResult};
     ghost use Rattle.std.specs.List.{common_prefix_len};
-    ghost use Rattle.solid_model.specs.Edges.{agree};
+    ghost use Rattle.lemmas.specs.Truth.{agree};
 
     /// The prefix with these values, block by block. An `Err` is out of memory.
     pub fn from_bools(alloc: Global, values: &[bool]) -> Result<Prefix, Memory>

@@ -1,7 +1,7 @@
 -- A list of choices, kept in full batches and a last one.
 use Rattle.std.specs.Prelude.{◌≡◌, ℕ, Bool, List, ◌++◌, length}
 use Rattle.std.specs.List.{flat_map}
-use Rattle.solid_model.specs.Lists.{Each}
+use Rattle.lemmas.specs.Lists.{Each}
 
 -- the choices of the full batches and then those of the last one
 abbrev pub in_batches : List (List (List Bool)) → List (List Bool) → List (List Bool)

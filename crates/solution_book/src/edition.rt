@@ -28,7 +28,7 @@ impl Model for Edition {
 impl Edition {
     ghost use Rattle.std.specs.Prelude.{◌≡◌, ◌≢◌, ◌++◌, ◌↔◌, [], IsTrue, IfOk};
     ghost use Rattle.std.specs.Arc.{arc_value};
-    ghost use Rattle.solid_model.specs.Lists.{Each, Ascends};
+    ghost use Rattle.lemmas.specs.Lists.{Each, Ascends};
     ghost use Rattle.solid_model.specs.Solutions.{IsSolutionOf};
     ghost use Rattle.solution_book.specs.Editions.{EditionParts, IsEdition, GoesOn};
 

@@ -59,7 +59,7 @@ impl<R: Wait + Drop> Model for BookWriter<R> {
 
 impl<R: Wait + Drop> BookWriter<R> {
     ghost use Rattle.std.specs.Prelude.{◌≡◌, ◌≢◌, ◌↔◌, ◌++◌, true, false, length, MatchResult, IsTrue};
-    ghost use Rattle.solid_model.specs.Lists.{Each, Ascends};
+    ghost use Rattle.lemmas.specs.Lists.{Each, Ascends};
     ghost use Rattle.solid_model.specs.Solutions.{IsSolutionOf};
     ghost use Rattle.solution_book.specs.Editions.{IsEdition};
 

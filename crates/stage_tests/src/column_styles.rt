@@ -1,7 +1,7 @@
 //! The styles of many pairs of columns, told together.
 
 use column_lanes::{style_byte, styles};
-use columns::{Column, style_of};
+use column_lanes::{Column, style_of};
 use std::alloc::Global;
 use std::test::Fail;
 use test_files::{Row, row_of};

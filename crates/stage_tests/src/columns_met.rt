@@ -5,7 +5,7 @@ ghost use Rattle.solid_model.specs.Known.{LiesWithin};
 
 use crate::column_styles::{numbers, pair, told_digits};
 use column_lanes::{still_meets, style_byte};
-use columns::{KnownColumn, can_draw};
+use line_demands::{KnownColumn, can_draw};
 use solid_model::Style;
 use std::alloc::Global;
 use std::test::Fail;

@@ -1,6 +1,6 @@
 -- The seats of a pool: one more, and one less.
 use Rattle.std.proofs.Common.{◌≡◌, ℕ, suc, ◌+◌, ◌-◌, ◌<◌, ◌≤◌, List, [], ◌∷◌, ◌++◌, length, length-append, map, sym, refl, ap, ◌∙◌, append_assoc, arith}
-use Rattle.solid_model.specs.Lists.{Each}
+use Rattle.lemmas.specs.Lists.{Each}
 use Rattle.steal_pool.specs.Accounts.{Piece, total}
 use Rattle.steal_pool.specs.Seats.{Deque, OwnerState, ThiefState, SeatState, new_thief, opened_thief, new_seat, seats_after, new_seats, as_opened, grown, absorbed_last, without_last, EndsAt, shrunk, AreMet, parted_seats, parted_owner, new_thieves, taken_by, put_by}
 use Rattle.steal_pool.proofs.Sums.{total-append, total_snoc}

@@ -1,6 +1,6 @@
 -- Lists of seats, seat by seat.
 use Rattle.std.proofs.Common.{◌≡◌, ℕ, zero, suc, ◌-◌, ◌<◌, List, [], ◌∷◌, ◌++◌, length, length-append, map, get_or, set, sym, refl, ap, ◌∙◌, subst, append_assoc, arith}
-use Rattle.solid_model.specs.Lists.{Each}
+use Rattle.lemmas.specs.Lists.{Each}
 use Rattle.steal_pool.specs.Seats.{Deque, OwnerState, ThiefState, SeatState, absorbed, absorbed_last, without_last, EndsAt, shrunk, AreMet, parted_seats}
 
 abbrev pub head_or : {A : Type 0} → A → List A → A

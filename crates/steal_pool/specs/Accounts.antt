@@ -2,17 +2,11 @@
 use Rattle.std.specs.Prelude.{◌≡◌, ◌+◌, ℕ, Bool, true, false, ◌&&◌, List, [], ◌∷◌, ◌++◌, if◌then◌else◌}
 use mathlib.Core.Option.{some}
 use lib.ListN.{get_elem?}
-use Rattle.solid_model.specs.Edges.{agree}
+use Rattle.lemmas.specs.Truth.{same_values}
 use Rattle.steal_pool.specs.declared.rule.Account.{Account}
 
 abbrev pub Piece : Type 0
 Piece = List Bool
-
--- two pieces are the same
-abbrev pub same_piece : Piece → Piece → Bool
-same_piece [] [] = true
-same_piece (x ∷ p) (y ∷ q) = agree x y && same_piece p q
-same_piece _ _ = false
 
 -- the numbers of the members, added up
 abbrev pub total : {A : Type 0} → (A → ℕ) → List A → ℕ
@@ -21,7 +15,7 @@ total f (x ∷ xs) = f x + total f xs
 
 -- 1 at the piece, and 0 at each other one
 abbrev pub is_piece : Piece → Piece → ℕ
-is_piece p q = if same_piece p q then 1 else 0
+is_piece p q = if same_values p q then 1 else 0
 
 -- how often a piece stands in a list
 abbrev pub times : Piece → List Piece → ℕ

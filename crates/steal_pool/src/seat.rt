@@ -1,7 +1,7 @@
 //! The seats of a worker, and how the seats of a pool come to know each other and part again.
 
 ghost use Rattle.std.specs.Prelude.{◌≡◌, ◌<◌, ◌-◌, length, map, IfOk, IfSome, OnOk};
-ghost use Rattle.solid_model.specs.Lists.{Each};
+ghost use Rattle.lemmas.specs.Lists.{Each};
 ghost use Rattle.steal_pool.specs.Accounts.{total};
 ghost use Rattle.steal_pool.specs.Seats.{grown, new_thief, absorbed_last, shrunk, EndsAt, AreMet, parted_seats, parted_owner, new_thieves};
 ghost use Rattle.steal_pool.specs.WorkerSeats.{state_of};

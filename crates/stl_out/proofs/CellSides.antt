@@ -7,9 +7,9 @@ use Rattle.solid_model.specs.declared.face.Out.{Out}
 use Rattle.solid_model.specs.declared.face.Out.TheVariants.{MinusX, PlusX, MinusY, PlusY, MinusZ, PlusZ}
 use Rattle.solid_model.specs.Cells.{coordinate}
 use Rattle.solid_model.specs.Faces.{outward, right_axis, up_axis, inner_cell, outer_cell, out_number}
-use Rattle.solid_model.specs.Lists.{Member, Ascends}
-use Rattle.solid_model.proofs.Lists.{ascends-from_map}
-use Rattle.solid_model.proofs.Ranges.{ascends-range}
+use Rattle.lemmas.specs.Lists.{Member, Ascends}
+use Rattle.lemmas.proofs.Lists.{ascends-from_map}
+use Rattle.lemmas.proofs.Ranges.{ascends-range}
 use Rattle.stl_out.specs.declared.rectangle.Rectangle.{Rectangle}
 use Rattle.stl_out.specs.Rectangles.{square_of}
 

@@ -9,19 +9,19 @@ use Rattle.std.proofs.lemmas.List.Sums.{sum_by-cons, sum_by-append}
 use Rattle.face_laws.specs.GridFaces.{Planes}
 use Rattle.solid_model.specs.declared.cell.Cell.{Cell}
 use Rattle.solid_model.specs.Faces.{out_number}
-use Rattle.solid_model.specs.Lists.{Member, Each, Ascends}
+use Rattle.lemmas.specs.Lists.{Member, Each, Ascends}
 use Rattle.solid_model.specs.Orders.{ComesBefore}
 use Rattle.solid_model.proofs.CellOrder.{stated_form, not_before_itself}
-use Rattle.solid_model.proofs.Concatenations.{member-flat_map, member-from_flat_map, ascends-flat_map}
+use Rattle.lemmas.proofs.Concatenations.{member-flat_map, member-from_flat_map, ascends-flat_map}
 use Rattle.solid_model.proofs.Fullness.{member-is_full, is_full-member}
-use Rattle.solid_model.proofs.Lists.{IsWithin, member-map, member-from_map, member-filter, member-from_filter, each-at, each-from, ascends-filter, ascends-map}
+use Rattle.lemmas.proofs.Lists.{IsWithin, member-map, member-from_map, member-filter, member-from_filter, each-at, each-from, ascends-filter, ascends-map}
 use Rattle.stl_out.specs.declared.rectangle.Rectangle.{Rectangle}
 use Rattle.stl_out.specs.Closed.{DirectedEdge, reverse, occurrences}
 use Rattle.stl_out.specs.Rectangles.{AreRectanglesOf, is_boundary_rectangle, all_triangles}
 use Rattle.stl_out.proofs.CellSides.{inner_of, outer_of, side_of, inner-side, side-inner, six_outs, among_six, six_ascend, flipped, inner-flipped, outer-flipped, flipped-twice}
 use Rattle.stl_out.proofs.EdgeCounts.{in_rectangle, occurrences-sum, edge-flipped, sides_of, cell-closes}
 use Rattle.stl_out.proofs.RectangleOrder.{rectangles_once}
-use Rattle.solid_model.proofs.WithoutRepeats.{ascends-weaker, no_more, same_sum}
+use Rattle.lemmas.proofs.WithoutRepeats.{ascends-weaker, no_more, same_sum}
 
 -- ---- the sides of cells
 

@@ -15,10 +15,10 @@ use Rattle.solid_model.specs.declared.cell.Axis.{Axis}
 use Rattle.solid_model.specs.declared.cell.Cell.{Cell}
 use Rattle.solid_model.specs.declared.face.Out.{Out}
 use Rattle.solid_model.specs.Faces.{outward, right_axis, up_axis, is_boundary, out_number}
-use Rattle.solid_model.specs.Lists.{Member}
+use Rattle.lemmas.specs.Lists.{Member}
 use Rattle.solid_model.specs.Rounds.{Spot}
-use Rattle.solid_model.proofs.Lists.{each-at, member-filter, member-from_filter, ascends-filter}
-use Rattle.solid_model.proofs.WithoutRepeats.{equally_long}
+use Rattle.lemmas.proofs.Lists.{each-at, member-filter, member-from_filter, ascends-filter}
+use Rattle.lemmas.proofs.WithoutRepeats.{equally_long}
 use Rattle.stl_out.specs.declared.rectangle.Rectangle.{Rectangle}
 use Rattle.stl_out.specs.Closed.{is_between_planes, has_unit_square}
 use Rattle.stl_out.specs.Rectangles.{AreRectanglesOf, is_boundary_rectangle, square_of}

@@ -9,12 +9,12 @@ use Rattle.solid_model.specs.declared.face.Out.TheVariants.{MinusX, PlusX, Minus
 use Rattle.solid_model.specs.Faces.{outward, right_axis, up_axis, place}
 use Rattle.solid_model.specs.Grid.{Coordinates}
 use Rattle.solid_model.specs.Limits.{most_grid_coordinates}
-use Rattle.solid_model.specs.Lists.{Each}
+use Rattle.lemmas.specs.Lists.{Each}
 use Rattle.solid_model.specs.Marks.{BoxMarks, is_marked}
 use Rattle.solid_model.specs.PerAxis.{numbers_of}
 use Rattle.solid_model.specs.Rounds.{Spot}
 use Rattle.solid_model.proofs.BoxCells.{below-bounds}
-use Rattle.solid_model.proofs.Lists.{each-weaker}
+use Rattle.lemmas.proofs.Lists.{each-weaker}
 use Rattle.stl_out.specs.declared.rectangle_corners.Corners.{Corners}
 use Rattle.stl_out.specs.declared.rectangle.Rectangle.{Rectangle}
 use Rattle.stl_out.specs.Numbered.{IsGridNumber, IsGridPoint, IsOfGrid, corners_of}

@@ -5,11 +5,11 @@ use Rattle.std.proofs.lemmas.Bool.Decides.{Decides-ltb, Decides-eqb, Decides-int
 use Rattle.std.proofs.lemmas.Int.{ints}
 use Rattle.solid_model.specs.declared.cell.Cell.{Cell}
 use Rattle.solid_model.specs.Faces.{out_number}
-use Rattle.solid_model.specs.Lists.{Ascends}
+use Rattle.lemmas.specs.Lists.{Ascends}
 use Rattle.solid_model.specs.Orders.{is_before, ComesBefore}
 use Rattle.solid_model.proofs.CellOrder.{Decides-int_lt, before_one_way}
-use Rattle.solid_model.proofs.Lists.{each-at, same_ascending}
-use Rattle.solid_model.proofs.WithoutRepeats.{ascends-weaker}
+use Rattle.lemmas.proofs.Lists.{each-at, same_ascending}
+use Rattle.lemmas.proofs.WithoutRepeats.{ascends-weaker}
 use Rattle.stl_out.specs.declared.rectangle.Rectangle.{Rectangle}
 use Rattle.stl_out.specs.Rectangles.{AreRectanglesOf, is_boundary_rectangle, least_corner, is_rectangle_before, RectangleBefore}
 

@@ -11,12 +11,12 @@ use Rattle.solid_model.specs.Cells.{is_full, IsSolid}
 use Rattle.solid_model.specs.DrawnStyle.{solid_drawing}
 use Rattle.solid_model.specs.Frames.{frame_of}
 use Rattle.solid_model.specs.Grid.{Coordinates, AreGridCoordinates, IsUnionOf}
-use Rattle.solid_model.specs.Lists.{Member, Ascends}
+use Rattle.lemmas.specs.Lists.{Member, Ascends}
 use Rattle.solid_model.specs.Matching.{Matches}
 use Rattle.solid_model.proofs.ChosenSolids.{matching_union}
 use Rattle.solid_model.proofs.Corners.{corners}
 use Rattle.solid_model.proofs.Fullness.{is_full-member}
-use Rattle.solid_model.proofs.Lists.{member-map}
+use Rattle.lemmas.proofs.Lists.{member-map}
 use Rattle.solid_model.proofs.Styles.{drawn_style_drawn}
 use Rattle.solid_model.proofs.Views.{views_are_frames}
 use Rattle.stl_out.specs.declared.rectangle.Rectangle.{Rectangle}

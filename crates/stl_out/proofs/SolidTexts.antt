@@ -11,7 +11,7 @@ use Rattle.solid_model.specs.declared.segment.Style.{Style}
 use Rattle.solid_model.specs.Cells.{is_full}
 use Rattle.solid_model.specs.DrawnStyle.{solid_drawing}
 use Rattle.solid_model.specs.Grid.{Coordinates, AreGridCoordinates, IsUnionOf}
-use Rattle.solid_model.specs.Lists.{Ascends}
+use Rattle.lemmas.specs.Lists.{Ascends}
 use Rattle.solid_model.specs.Matching.{Matches}
 use Rattle.solid_model.proofs.GridMatching.{matching_draws_it}
 use Rattle.solid_model.proofs.InGrid.{one_coordinates}

@@ -14,16 +14,16 @@ use Rattle.solid_model.specs.declared.cell.Cell.{Cell}
 use Rattle.solid_model.specs.declared.face.Out.{Out}
 use Rattle.solid_model.specs.declared.face.Out.TheVariants.{MinusX, PlusX, MinusY, PlusY, MinusZ, PlusZ}
 use Rattle.solid_model.specs.Faces.{outward, right_axis, up_axis, place, is_boundary, out_number}
-use Rattle.solid_model.specs.Lists.{Member, Each, Ascends}
+use Rattle.lemmas.specs.Lists.{Member, Each, Ascends}
 use Rattle.solid_model.specs.Marks.{BoxMarks, is_marked}
 use Rattle.solid_model.specs.PerAxis.{numbers_of}
 use Rattle.solid_model.specs.Rounds.{Spot}
 use Rattle.solid_model.proofs.BoxPlaces.{number_below}
 use Rattle.solid_model.proofs.CellOrder.{Decides-int_lt}
-use Rattle.solid_model.proofs.Concatenations.{member-flat_map, each-flat_map, ascends-flat_map}
-use Rattle.solid_model.proofs.Lists.{each-weaker}
-use Rattle.solid_model.proofs.Integers.{natural}
-use Rattle.solid_model.proofs.Ranges.{member-range, ascends-range}
+use Rattle.lemmas.proofs.Concatenations.{member-flat_map, each-flat_map, ascends-flat_map}
+use Rattle.lemmas.proofs.Lists.{each-weaker}
+use Rattle.lemmas.proofs.Integers.{natural}
+use Rattle.lemmas.proofs.Ranges.{member-range, ascends-range}
 use Rattle.stl_out.specs.declared.rectangle.Rectangle.{Rectangle}
 use Rattle.stl_out.specs.Rectangles.{AreRectanglesOf, is_boundary_rectangle, square_of, RectangleBefore}
 use Rattle.stl_out.specs.Walk.{row_axis, across_rows, square_in, at_square, in_row, in_plane, on_side, on_all_sides}

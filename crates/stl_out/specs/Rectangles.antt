@@ -7,7 +7,7 @@ use Rattle.face_laws.specs.GridFaces.{Planes, point_of_numbers, grid_planes, num
 use Rattle.solid_model.specs.declared.cell.Cell.{Cell}
 use Rattle.solid_model.specs.Faces.{place, is_boundary, out_number}
 use Rattle.solid_model.specs.Grid.{Coordinates}
-use Rattle.solid_model.specs.Lists.{Member, Each, Ascends}
+use Rattle.lemmas.specs.Lists.{Member, Each, Ascends}
 use Rattle.solid_model.specs.Orders.{is_before}
 use Rattle.solid_model.specs.Rounds.{Spot, East, North, spot_after}
 use Rattle.stl_out.specs.declared.rectangle.Rectangle.{Rectangle}

@@ -10,7 +10,7 @@ ghost use Rattle.solid_model.specs.declared.segment.Segment.{Segment};
 ghost use Rattle.solid_model.specs.declared.segment.Style.{Style};
 ghost use Rattle.solid_model.specs.Cells.{is_full, IsSolid};
 ghost use Rattle.solid_model.specs.Grid.{Coordinates, AreGridCoordinates, IsUnionOf};
-ghost use Rattle.solid_model.specs.Lists.{Member};
+ghost use Rattle.lemmas.specs.Lists.{Member};
 ghost use Rattle.solid_model.specs.Matching.{Matches};
 ghost use Rattle.stl_out.specs.declared.rectangle.Rectangle.{Rectangle};
 ghost use Rattle.stl_out.specs.Closed.{Close, CoverBoundary};

@@ -3,7 +3,7 @@
 ghost use Rattle.std.specs.Prelude.{◌≡◌, IfOk};
 ghost use Rattle.face_laws.specs.GridFaces.{numbered_fullness};
 ghost use Rattle.solid_model.specs.Choices.{cells_of_choice};
-ghost use Rattle.solid_model.specs.Lists.{Each};
+ghost use Rattle.lemmas.specs.Lists.{Each};
 ghost use Rattle.solid_model.specs.Panels.{coordinates_of};
 ghost use Rattle.stl_out.specs.Numbered.{IsOfGrid};
 ghost use Rattle.stl_out.specs.Rectangles.{AreRectanglesOf, AreTrianglesOf};

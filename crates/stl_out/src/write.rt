@@ -5,7 +5,7 @@ ghost use Rattle.std.specs.Io.KnownBytes.{Appends};
 ghost use Rattle.std.specs.List.{flat_map};
 ghost use Rattle.face_laws.specs.GridFaces.{grid_planes};
 ghost use Rattle.solid_model.specs.Choices.{cells_of_choice};
-ghost use Rattle.solid_model.specs.Lists.{Each};
+ghost use Rattle.lemmas.specs.Lists.{Each};
 ghost use Rattle.solid_model.specs.Panels.{coordinates_of};
 ghost use Rattle.stl_out.specs.Numbered.{AreShort, IsOfGrid};
 ghost use Rattle.stl_out.specs.Pieces.{WritesOn, rectangle_text};

@@ -7,9 +7,9 @@ use Rattle.solid_model.specs.declared.runs.Run.{Run}
 use Rattle.solid_model.specs.declared.segment.Style.{Style}
 use Rattle.solid_model.specs.declared.segment.Style.TheVariants.{Blank}
 use Rattle.solid_model.specs.Drawings.{same_style}
-use Rattle.solid_model.specs.Lists.{Each}
+use Rattle.lemmas.specs.Lists.{Each}
 use Rattle.solid_model.specs.Runs.{run_covers, run_style, IsRun, StandsApart, AreRuns}
-use Rattle.solid_model.proofs.Lists.{each-weaker, each-append_left, each-append_right, each-push, ascends-append_left, ascends-append_across, ascends-push}
+use Rattle.lemmas.proofs.Lists.{each-weaker, each-append_left, each-append_right, each-push, ascends-append_left, ascends-append_across, ascends-push}
 use Rattle.solid_model.proofs.RunStyles.{apart-covers}
 use Rattle.solid_model.proofs.Sheets.{same_style-itself, same_style-one}
 use Rattle.views.specs.declared.strokes.Stroke.{Stroke}

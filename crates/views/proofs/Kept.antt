@@ -6,7 +6,7 @@ use Rattle.solid_model.specs.declared.segment.Segment.{Segment}
 use Rattle.solid_model.specs.Segments.{start_of, line_of}
 use Rattle.solid_model.specs.Drawings.{covering_lines, drawing_of, IsEmptyView}
 use Rattle.solid_model.specs.Line.{Line, IsKept}
-use Rattle.solid_model.specs.Lists.{Each}
+use Rattle.lemmas.specs.Lists.{Each}
 use Rattle.solid_model.specs.Runs.{run_style, ViewRuns, DrawingRuns, view_runs, runs_along, style_in, IsDrawing}
 use Rattle.solid_model.proofs.KeptDrawings.{lines_are_drawing}
 use Rattle.solid_model.proofs.Sheets.{empty-without_lines}

@@ -7,7 +7,7 @@ use Rattle.solid_model.specs.declared.runs.Run.{Run}
 use Rattle.solid_model.specs.declared.segment.Style.{Style}
 use Rattle.solid_model.specs.declared.segment.Style.TheVariants.{Blank, Dashed, Solid}
 use Rattle.solid_model.specs.Runs.{run_style}
-use Rattle.solid_model.proofs.Lists.{each-weaker}
+use Rattle.lemmas.proofs.Lists.{each-weaker}
 use Rattle.views.specs.declared.strokes.Stroke.{Stroke}
 use Rattle.views.specs.Joined.{EndsBy, EndBy}
 use Rattle.views.specs.Strokes.{stroke_covers, stroke_style, stronger}

@@ -3,7 +3,7 @@ use Rattle.std.specs.Prelude.{◌≡◌, ◌⊎◌, Bool, ◌&&◌, List, [], �
 use Rattle.std.specs.Ordering.{int_eq}
 use Rattle.solid_model.specs.declared.runs.Run.{Run}
 use Rattle.solid_model.specs.Drawings.{same_style}
-use Rattle.solid_model.specs.Lists.{Each}
+use Rattle.lemmas.specs.Lists.{Each}
 use Rattle.solid_model.specs.Runs.{run_style, AreRuns}
 use Rattle.views.specs.declared.strokes.Stroke.{Stroke}
 use Rattle.views.specs.Strokes.{stroke_style, stronger}

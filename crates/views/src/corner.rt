@@ -28,7 +28,7 @@ impl Corner {
     ghost use Rattle.solid_model.specs.Drawings.{covering_lines};
     ghost use Rattle.solid_model.specs.Segments.{along_of, across_of};
     ghost use Rattle.solid_model.specs.Line.{IsNear, IsKept};
-    ghost use Rattle.solid_model.specs.Lists.{Each};
+    ghost use Rattle.lemmas.specs.Lists.{Each};
     ghost use Rattle.views.specs.Corners.{IsCornerOf, IsCornerOfLine, IsLeastOf};
 
     /// The corner of a point.

@@ -7,7 +7,7 @@ ghost use Rattle.solid_model.specs.declared.segment.Segment.{Segment};
 ghost use Rattle.solid_model.specs.Segments.{start_of, line_of};
 ghost use Rattle.solid_model.specs.Drawings.{sheet_style, covering_lines, drawing_of, IsShown, IsFirstEmptyView};
 ghost use Rattle.solid_model.specs.Line.{IsKept};
-ghost use Rattle.solid_model.specs.Lists.{Each};
+ghost use Rattle.lemmas.specs.Lists.{Each};
 ghost use Rattle.solid_model.specs.Runs.{run_style, runs_along, style_in};
 ghost use Rattle.views.specs.Corners.{from_corner};
 

@@ -4,7 +4,7 @@ use Rattle.std.specs.Prelude.{option_map}
 use Rattle.std.specs.Str.{bytes_eq}
 use Rattle.std.proofs.lemmas.Slice.Eq.{bytes_eq-Decides}
 use Rattle.solid_model.specs.Limits.{most_decimals, most_solid_limit}
-use Rattle.solid_model.specs.Lists.{Each}
+use Rattle.lemmas.specs.Lists.{Each}
 use Rattle.words.specs.declared.job.Job.{Job}
 use Rattle.words.specs.Jobs.{AreWorkers, Command, IsCounted, command_said, commands, decimals_field, decimals_in, job_said, most_workers, number_in, redraw_table, said_among, solve_table, stl_table, trial_table, workers_field, workers_in}
 use Rattle.words.specs.Rows.{is_sound}

@@ -7,7 +7,7 @@ ghost use Rattle.solid_model.specs.Cells.{is_full, IsSolid};
 ghost use Rattle.solid_model.specs.Drawings.{drawing_of, IsShown};
 ghost use Rattle.solid_model.specs.DrawnStyle.{solid_drawing};
 ghost use Rattle.solid_model.specs.Grid.{IsUnionOf};
-ghost use Rattle.solid_model.specs.Lists.{Each};
+ghost use Rattle.lemmas.specs.Lists.{Each};
 ghost use Rattle.solid_model.specs.Moved.{IsMovedToZero};
 ghost use Rattle.solid_model.specs.Panels.{GridParts, coordinates_of, IsGrid};
 ghost use Rattle.solid_model.specs.Runs.{DrawingRuns};

@@ -14,7 +14,7 @@ ghost use Rattle.solid_model.specs.Draws.{Draws};
 ghost use Rattle.solid_model.specs.DrawnStyle.{drawn_style, solid_drawing};
 ghost use Rattle.solid_model.specs.Edges.{is_edge_of};
 ghost use Rattle.solid_model.specs.Frames.{IsFrame, frame_of};
-ghost use Rattle.solid_model.specs.Lists.{Each};
+ghost use Rattle.lemmas.specs.Lists.{Each};
 ghost use Rattle.solid_model.specs.SmallSolids.{unit_cube, cubes_along_edge, three_cubes, third_behind, third_before, five_of_eight, four_of_eight, other_four_of_eight, styles_near_zero, none_drawn, four_quarters};
 
 /// The drawing of a solid gives each unit segment exactly one style, which can be computed: in each

@@ -8,7 +8,7 @@ ghost use Rattle.solid_model.specs.declared.segment.Style.{Style};
 ghost use Rattle.solid_model.specs.Cells.{SameCells};
 ghost use Rattle.solid_model.specs.Matching.{AreSolidsOf};
 ghost use Rattle.solid_model.specs.Orders.{ComesBefore, IsInStatedForm, Precedes, SolidPrecedes};
-ghost use Rattle.solid_model.specs.Lists.{Each, Ascends};
+ghost use Rattle.lemmas.specs.Lists.{Each, Ascends};
 ghost use Rattle.solid_model.specs.SmallSolids.{eight_cells, five_of_eight, four_of_eight, other_four_of_eight};
 
 /// A drawing has one list of all matching solids: whoever finds them all, in the stated form and

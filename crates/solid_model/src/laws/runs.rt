@@ -4,7 +4,7 @@ ghost use Rattle.std.specs.Prelude.{◌≡◌, List, [], ◌∷◌, ℤ, pos};
 ghost use Rattle.solid_model.specs.declared.runs.Run.{Run};
 ghost use Rattle.solid_model.specs.declared.segment.Style.TheVariants.{Blank, Dashed, Solid};
 ghost use Rattle.solid_model.specs.Drawings.{same_style};
-ghost use Rattle.solid_model.specs.Lists.{Each};
+ghost use Rattle.lemmas.specs.Lists.{Each};
 ghost use Rattle.solid_model.specs.Runs.{run_style, AreRuns};
 ghost use Rattle.solid_model.specs.SmallRuns.{four_runs, two_halves, styles_on, first_places};
 ghost use Rattle.solid_model.specs.Stretches.{IsStretch};

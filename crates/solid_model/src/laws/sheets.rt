@@ -8,7 +8,7 @@ ghost use Rattle.solid_model.specs.declared.segment.Style.{Style};
 ghost use Rattle.solid_model.specs.declared.segment.Style.TheVariants.{Blank, Dashed, Solid};
 ghost use Rattle.solid_model.specs.Drawings.{sheet_style, covering_lines, least_right, least_up, drawing_of, IsEmptyView, IsFirstEmptyView};
 ghost use Rattle.solid_model.specs.Line.{Line, IsKept};
-ghost use Rattle.solid_model.specs.Lists.{Each};
+ghost use Rattle.lemmas.specs.Lists.{Each};
 ghost use Rattle.solid_model.specs.Moved.{StandsFrom, BeginsAt, IsMovedToZero};
 ghost use Rattle.solid_model.specs.Runs.{IsDrawing};
 ghost use Rattle.solid_model.specs.SmallSheet.{small_sheet};

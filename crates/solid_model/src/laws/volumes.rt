@@ -5,7 +5,7 @@ ghost use Rattle.solid_model.specs.declared.cell.Axis.{Axis};
 ghost use Rattle.solid_model.specs.declared.cell.Cell.{Cell};
 ghost use Rattle.solid_model.specs.Cells.{is_full};
 ghost use Rattle.solid_model.specs.Grid.{Coordinates, IsUnionOf};
-ghost use Rattle.solid_model.specs.Lists.{Ascends};
+ghost use Rattle.lemmas.specs.Lists.{Ascends};
 ghost use Rattle.solid_model.specs.Orders.{IsInStatedForm};
 ghost use Rattle.solid_model.specs.Volumes.{volume_of};
 

@@ -4,7 +4,7 @@ use Rattle.solid_model.specs.declared.fault.Fault.TheVariants.{TooManyBlocks}
 use Rattle.solid_model.specs.Blocks.{AreBlocksOf}
 use Rattle.solid_model.specs.Kept.{IsBelow}
 use Rattle.solid_model.specs.Limits.{most_blocks}
-use Rattle.solid_model.specs.Lists.{Each}
+use Rattle.lemmas.specs.Lists.{Each}
 use Rattle.solid_model.specs.VirtualFaces.{IsVirtual}
 use Rattle.solid_model.specs.GridBox.{grid_sizes}
 use Rattle.solid_model.proofs.Rooms.{room_numbers-below}

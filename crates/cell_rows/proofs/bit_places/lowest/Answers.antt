@@ -2,8 +2,8 @@
 use Rattle.std.proofs.Common.{◌≡◌, true, inl, inr, w64, arith}
 use Rattle.std.specs.Int.{trailing_zeros}
 use Rattle.std.proofs.lemmas.Bool.{cases_lt}
-use Rattle.solid_model.specs.Bits.{is_set}
-use Rattle.solid_model.proofs.WordBits.{below_lowest, lowest_set, zeros_of_none}
+use Rattle.lemmas.specs.Bits.{is_set}
+use Rattle.lemmas.proofs.WordBits.{below_lowest, lowest_set, zeros_of_none}
 use Rattle.cell_rows.proofs.bit_places.lowest.Goals as goal
 
 pub returns-clause-none : goal.returns-clause-none

@@ -1,12 +1,12 @@
 -- What is filled of one span more.
 use Rattle.std.proofs.Common.{◌≡◌, ◌&&◌, ◌||◌, ℕ, ◌+◌, None, take, get_or, ap, sym, ◌∙◌}
 use Rattle.std.proofs.lemmas.List.{take_more}
-use Rattle.solid_model.specs.Bits.{is_set}
+use Rattle.lemmas.specs.Bits.{is_set}
 use Rattle.solid_model.specs.Choices.{is_chosen}
 use Rattle.cell_rows.specs.declared.span.Span.{Span}
 use Rattle.cell_rows.specs.Spans.{is_filled}
 use Rattle.cell_rows.proofs.FilledSpans.{filled-last, or_false}
-use Rattle.solid_model.proofs.WordBits.{set_either}
+use Rattle.lemmas.proofs.WordBits.{set_either}
 use Rattle.cell_rows.proofs.block_rows.filled_row.Goals as goal
 use Rattle.cell_rows.proofs.block_rows.filled_row.Goals.{then-fills, else-fills}
 

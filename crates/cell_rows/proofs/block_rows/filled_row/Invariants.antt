@@ -1,6 +1,6 @@
 -- What is filled of the spans so far.
 use Rattle.std.proofs.Common.{◌≡◌, ℕ, take}
-use Rattle.solid_model.specs.Bits.{is_set}
+use Rattle.lemmas.specs.Bits.{is_set}
 use Rattle.cell_rows.specs.Spans.{is_filled}
 use Rattle.cell_rows.proofs.block_rows.filled_row.Given as goal
 

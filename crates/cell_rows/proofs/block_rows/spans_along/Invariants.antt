@@ -1,6 +1,6 @@
 -- The rows so far.
 use Rattle.std.proofs.Common.{map}
-use Rattle.solid_model.proofs.Pushed.{HoldsSoFar}
+use Rattle.lemmas.proofs.Pushed.{HoldsSoFar}
 use Rattle.cell_rows.proofs.SpanRows.{AreSpansAt}
 use Rattle.cell_rows.proofs.block_rows.spans_along.Given as goal
 

@@ -5,7 +5,7 @@ use Rattle.solid_model.specs.PerAxis.{numbers_of, cell_of, AreFew}
 use Rattle.solid_model.specs.Rooms.{is_within, box_place, box_count}
 use Rattle.solid_model.proofs.BoxPlaces.{cells_small}
 use Rattle.cell_rows.specs.Rows.{is_marked_at, stride_along}
-use Rattle.solid_model.proofs.FilledWords.{IsFilledBy, filled_none, fill_clear, fill_set, filled_whole}
+use Rattle.lemmas.proofs.FilledWords.{IsFilledBy, filled_none, fill_clear, fill_set, filled_whole}
 use Rattle.cell_rows.proofs.RowCells.{numbered_cell, none_beyond, none_outside, mark_along}
 use Rattle.cell_rows.proofs.rows.row_of.Goals as goal
 use Rattle.cell_rows.proofs.rows.row_of.Goals.{then-values-start, else-values-start}

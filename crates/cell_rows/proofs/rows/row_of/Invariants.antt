@@ -1,6 +1,6 @@
 -- The bits so far.
 use Rattle.cell_rows.specs.Rows.{is_marked_at}
-use Rattle.solid_model.proofs.FilledWords.{IsFilledBy}
+use Rattle.lemmas.proofs.FilledWords.{IsFilledBy}
 use Rattle.cell_rows.proofs.rows.row_of.Given as goal
 
 abbrev pub invariant-loop-number : goal.invariant-loop-number

@@ -1,9 +1,9 @@
 -- One row more; and all of them.
 use Rattle.std.proofs.Common.{◌≡◌, length, ap, sym, subst, ◌∙◌, arith}
-use Rattle.solid_model.specs.Bits.{is_set}
+use Rattle.lemmas.specs.Bits.{is_set}
 use Rattle.solid_model.specs.PerAxis.{numbers_of, numbered, AreFew}
 use Rattle.solid_model.specs.Rooms.{box_count}
-use Rattle.solid_model.proofs.Pushed.{holds_more}
+use Rattle.lemmas.proofs.Pushed.{holds_more}
 use Rattle.cell_rows.specs.Rows.{row_sizes}
 use Rattle.cell_rows.proofs.RowCells.{few_rows, IsRowAt, row_at, all_rows}
 use Rattle.cell_rows.proofs.rows.rows_along.Goals as goal

@@ -1,5 +1,5 @@
 -- The rows so far.
-use Rattle.solid_model.proofs.Pushed.{HoldsSoFar}
+use Rattle.lemmas.proofs.Pushed.{HoldsSoFar}
 use Rattle.cell_rows.proofs.RowCells.{IsRowAt}
 use Rattle.cell_rows.proofs.rows.rows_along.Given as goal
 

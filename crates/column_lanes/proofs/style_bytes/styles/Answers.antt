@@ -1,6 +1,6 @@
 -- Each byte tells the style that its columns draw.
 use Rattle.std.proofs.Common.{get_or, sym, subst}
-use Rattle.solid_model.specs.Bits.{bits}
+use Rattle.lemmas.specs.Bits.{bits}
 use Rattle.column_lanes.specs.Styles.{IsStyleByte}
 use Rattle.column_lanes.proofs.LowestBits.{code_tells}
 use Rattle.column_lanes.proofs.style_bytes.styles.Goals as goal

@@ -1,9 +1,9 @@
 -- A full or an empty cell more.
 use Rattle.solid_model.specs.PerAxis.{numbers_of}
 use Rattle.std.proofs.Common.{◌<◌, ap, sym, ◌∙◌, arith, slice_index_or, false}
-use Rattle.solid_model.specs.Bits.{bits}
-use Rattle.columns.specs.GridColumns.{place_in}
-use Rattle.columns.proofs.GridColumns.{full_depth, empty_depth}
+use Rattle.lemmas.specs.Bits.{bits}
+use Rattle.solid_model.specs.GridPlaces.{place_in}
+use Rattle.column_laws.proofs.GridColumns.{full_depth, empty_depth}
 use Rattle.columns.proofs.grid_columns.column_of.Goals as goal
 use Rattle.columns.proofs.grid_columns.column_of.Goals.{then-is_chosen, else-is_chosen}
 

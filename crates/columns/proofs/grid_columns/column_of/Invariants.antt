@@ -1,8 +1,8 @@
 -- The column down to the depth so far.
 use Rattle.solid_model.specs.PerAxis.{numbers_of}
 use Rattle.std.proofs.Common.{◌≡◌, ℤ}
-use Rattle.solid_model.specs.Bits.{bits}
-use Rattle.columns.specs.GridColumns.{column_to}
+use Rattle.lemmas.specs.Bits.{bits}
+use Rattle.column_laws.specs.GridColumns.{column_to}
 use Rattle.columns.proofs.grid_columns.column_of.Given as goal
 
 abbrev pub invariant-loop-depth : goal.invariant-loop-depth

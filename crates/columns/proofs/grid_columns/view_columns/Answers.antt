@@ -1,8 +1,8 @@
 -- One column more; and all of them.
 use Rattle.solid_model.specs.PerAxis.{numbers_of}
 use Rattle.std.proofs.Common.{◌≡◌, ap₂, ◌*◌, ◌∙◌, arith}
-use Rattle.columns.proofs.GridColumns.{IsColumnAt, all_columns}
-use Rattle.solid_model.proofs.Pushed.{holds_more}
+use Rattle.columns.proofs.ListedColumns.{IsColumnAt, all_columns}
+use Rattle.lemmas.proofs.Pushed.{holds_more}
 use Rattle.columns.proofs.grid_columns.view_columns.Goals as goal
 
 pub loop-place-preserved : goal.loop-place-preserved

@@ -3,7 +3,7 @@ use Rattle.std.proofs.Common.{◌≡◌, ◌+◌, ◌*◌, ap, ap₂, ◌∙◌,
 use Rattle.solid_model.specs.declared.frame.Direction.{Direction}
 use Rattle.solid_model.specs.Frames.{across}
 use Rattle.solid_model.specs.PerAxis.{numbers_of}
-use Rattle.columns.specs.GridPanels.{place_right, place_up}
+use Rattle.column_laws.specs.GridPanels.{place_right, place_up}
 use Rattle.columns.proofs.GridStyles.{column_within}
 use Rattle.columns.proofs.segment_styles.column_beside.Goals as goal
 

@@ -1,7 +1,7 @@
 -- The columns after and before the line draw the style; before the first line there is none.
 use Rattle.solid_model.specs.PerAxis.{numbers_of}
 use Rattle.std.proofs.Common.{refl, subst, arith}
-use Rattle.columns.specs.GridPanels.{IsColumnBeside}
+use Rattle.column_laws.specs.GridPanels.{IsColumnBeside}
 use Rattle.columns.proofs.segment_styles.segment_style.Goals as goal
 
 pub returns-then-line-eq0 : goal.returns-then-line-eq0

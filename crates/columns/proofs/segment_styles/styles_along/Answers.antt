@@ -5,9 +5,9 @@ use Rattle.solid_model.specs.declared.cell.Axis.{Axis}
 use Rattle.solid_model.specs.declared.frame.Frame.{Frame}
 use Rattle.solid_model.specs.Frames.{frame_of, along, across}
 use Rattle.solid_model.specs.PerAxis.{numbers_of, gaps_of}
-use Rattle.columns.specs.GridColumns.{AreColumns}
+use Rattle.columns.specs.ColumnLists.{AreColumns}
 use Rattle.columns.proofs.GridStyles.{IsStyleAt, few_gaps, all_styles}
-use Rattle.solid_model.proofs.Pushed.{HoldsSoFar, holds_more}
+use Rattle.lemmas.proofs.Pushed.{HoldsSoFar, holds_more}
 use Rattle.columns.proofs.segment_styles.styles_along.Goals as goal
 
 pub overflow_mul-place-end : goal.overflow_mul-place-end

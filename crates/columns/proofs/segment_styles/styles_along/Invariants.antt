@@ -1,9 +1,9 @@
 -- The styles so far.
 use Rattle.solid_model.specs.PerAxis.{numbers_of}
 use Rattle.std.specs.Prelude.{Bool, List}
-use Rattle.columns.specs.GridColumns.{AreColumns}
+use Rattle.columns.specs.ColumnLists.{AreColumns}
 use Rattle.columns.proofs.GridStyles.{IsStyleAt}
-use Rattle.solid_model.proofs.Pushed.{HoldsSoFar}
+use Rattle.lemmas.proofs.Pushed.{HoldsSoFar}
 use Rattle.columns.proofs.segment_styles.styles_along.Given as goal
 
 abbrev pub invariant-loop-place : goal.invariant-loop-place

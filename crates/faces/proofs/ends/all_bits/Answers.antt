@@ -3,8 +3,8 @@ use Rattle.std.proofs.Common.{◌≡◌, ◌==◌, inl, inr, false, length, get_
 use Rattle.std.proofs.lemmas.Bool.{cases_lt}
 use Rattle.std.proofs.lemmas.List.{get_or_past}
 use Rattle.std.proofs.lemmas.Nat.Bits.{bit_at-zero}
-use Rattle.solid_model.specs.Bits.{is_set}
-use Rattle.solid_model.proofs.WordBits.{set_either}
+use Rattle.lemmas.specs.Bits.{is_set}
+use Rattle.lemmas.proofs.WordBits.{set_either}
 use Rattle.faces.proofs.PointEnds.{or_clear}
 use Rattle.faces.proofs.ends.all_bits.Goals as goal
 

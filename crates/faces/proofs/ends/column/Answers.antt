@@ -1,7 +1,7 @@
 -- One bit more; and all of them.
 use Rattle.std.proofs.Common.{◌+◌, ℕ, get_or, sym, subst, ◌∙◌, arith}
-use Rattle.solid_model.specs.Bits.{is_set}
-use Rattle.solid_model.proofs.FilledWords.{IsFilledBy, filled_none, fill_clear, fill_set, filled_whole}
+use Rattle.lemmas.specs.Bits.{is_set}
+use Rattle.lemmas.proofs.FilledWords.{IsFilledBy, filled_none, fill_clear, fill_set, filled_whole}
 use Rattle.faces.proofs.ends.column.Goals as goal
 use Rattle.faces.proofs.ends.column.Goals.{then-has_bit, else-has_bit}
 

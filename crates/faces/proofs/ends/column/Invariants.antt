@@ -1,7 +1,7 @@
 -- The bits so far.
 use Rattle.std.proofs.Common.{get_or}
-use Rattle.solid_model.specs.Bits.{is_set}
-use Rattle.solid_model.proofs.FilledWords.{IsFilledBy}
+use Rattle.lemmas.specs.Bits.{is_set}
+use Rattle.lemmas.proofs.FilledWords.{IsFilledBy}
 use Rattle.faces.proofs.ends.column.Given as goal
 
 abbrev pub invariant-loop-place : goal.invariant-loop-place

@@ -1,6 +1,6 @@
 -- One row more; and all of them.
 use Rattle.std.proofs.Common.{◌≡◌, ◌+◌, ℕ, suc, length, refl, ap, subst, ◌∙◌, arith}
-use Rattle.solid_model.proofs.Pushed.{HoldsSoFar, holds_more}
+use Rattle.lemmas.proofs.Pushed.{HoldsSoFar, holds_more}
 use Rattle.faces.specs.Ends.{TellRowEnds}
 use Rattle.faces.proofs.PointEnds.{IsEndRow, row_below, ends_told}
 use Rattle.faces.proofs.ends.ends_by_rows.Goals as goal

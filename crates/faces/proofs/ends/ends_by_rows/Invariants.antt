@@ -1,6 +1,6 @@
 -- The rows so far, and the row below the next one.
 use Rattle.std.proofs.Common.{◌≡◌}
-use Rattle.solid_model.proofs.Pushed.{HoldsSoFar}
+use Rattle.lemmas.proofs.Pushed.{HoldsSoFar}
 use Rattle.faces.proofs.PointEnds.{IsEndRow, row_below}
 use Rattle.faces.proofs.ends.ends_by_rows.Given as goal
 

@@ -1,6 +1,6 @@
 -- One column more; and all of them.
 use Rattle.std.proofs.Common.{◌≡◌, length, ap, subst, arith}
-use Rattle.solid_model.proofs.Pushed.{HoldsSoFar, holds_more}
+use Rattle.lemmas.proofs.Pushed.{HoldsSoFar, holds_more}
 use Rattle.faces.proofs.PointEnds.{IsColumnAt}
 use Rattle.faces.proofs.ends.turned.Goals as goal
 

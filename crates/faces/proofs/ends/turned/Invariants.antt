@@ -1,5 +1,5 @@
 -- The columns so far.
-use Rattle.solid_model.proofs.Pushed.{HoldsSoFar}
+use Rattle.lemmas.proofs.Pushed.{HoldsSoFar}
 use Rattle.faces.proofs.PointEnds.{IsColumnAt}
 use Rattle.faces.proofs.ends.turned.Given as goal
 

@@ -2,7 +2,7 @@
 use Rattle.std.proofs.Common.{map, drop, length, sym, ap, subst, ◌∙◌, arith}
 use Rattle.std.proofs.lemmas.List.{take_at}
 use Rattle.face_laws.specs.GridFaces.{point_of_numbers, grid_planes}
-use Rattle.solid_model.specs.Lists.{Each}
+use Rattle.lemmas.specs.Lists.{Each}
 use Rattle.solid_model.specs.Panels.{coordinates_of}
 use Rattle.faces.specs.GridPoints.{HasPoint}
 use Rattle.faces.proofs.MappedSoFar.{mapped-next_holds, mapped-next, mapped-end}

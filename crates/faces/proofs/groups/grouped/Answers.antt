@@ -3,9 +3,9 @@ use Rattle.std.proofs.Common.{◌≡◌, ◌<◌, drop, ℕ, List, Option, None,
 use Rattle.std.proofs.lemmas.List.{map-id, take_at, get_or_default}
 use Rattle.std.proofs.lemmas.Iterator.Adapters.{YieldsList-from_vec}
 use Rattle.std.proofs.lemmas.Iterator.Consumers.{YieldsList-turn, YieldsList-end}
-use Rattle.solid_model.specs.Lists.{Member}
-use Rattle.solid_model.proofs.ListPlaces.{member-at}
-use Rattle.solid_model.proofs.Lists.{each-at}
+use Rattle.lemmas.specs.Lists.{Member}
+use Rattle.lemmas.proofs.ListPlaces.{member-at}
+use Rattle.lemmas.proofs.Lists.{each-at}
 use Rattle.faces.specs.declared.plane_loop.PlaneLoop.{PlaneLoop}
 use Rattle.faces.specs.Groups.{IsPut}
 use Rattle.faces.specs.PlaneSquares.{is_there}

@@ -5,7 +5,7 @@ use Rattle.solid_model.specs.Cells.{cell_before}
 use Rattle.solid_model.specs.Faces.{outward}
 use Rattle.solid_model.specs.Marks.{is_marked}
 use Rattle.cell_rows.specs.Rows.{cell_numbered}
-use Rattle.solid_model.proofs.WordBits.{set_without}
+use Rattle.lemmas.proofs.WordBits.{set_without}
 use Rattle.faces.proofs.PlaneRows.{along_right, boundary_forward, boundary_backward}
 use Rattle.faces.proofs.plane.boundary_row.Goals as goal
 

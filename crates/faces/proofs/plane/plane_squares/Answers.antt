@@ -5,7 +5,7 @@ use Rattle.solid_model.specs.Faces.{is_boundary}
 use Rattle.solid_model.specs.Marks.{is_marked}
 use Rattle.solid_model.specs.PerAxis.{numbers_of}
 use Rattle.solid_model.specs.Rounds.{Spot}
-use Rattle.solid_model.proofs.Pushed.{holds_more}
+use Rattle.lemmas.proofs.Pushed.{holds_more}
 use Rattle.faces.specs.PlaneSquares.{SquareTable, is_there}
 use Rattle.faces.proofs.PlaneBoundary.{IsBoundaryRow, boundary_rows, boundary_table}
 use Rattle.faces.proofs.plane.plane_squares.Goals as goal

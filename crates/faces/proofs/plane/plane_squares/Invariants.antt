@@ -1,6 +1,6 @@
 -- The rows so far.
 use Rattle.std.proofs.Common.{pos}
-use Rattle.solid_model.proofs.Pushed.{HoldsSoFar}
+use Rattle.lemmas.proofs.Pushed.{HoldsSoFar}
 use Rattle.faces.proofs.PlaneBoundary.{IsBoundaryRow}
 use Rattle.faces.proofs.plane.plane_squares.Given as goal
 

@@ -3,11 +3,11 @@ use Rattle.std.proofs.Common.{◌≡◌, ◌++◌, List, drop, length, map, pos,
 use Rattle.std.proofs.lemmas.List.{take_at}
 use Rattle.face_laws.specs.GridFaces.{face_in_space, grid_planes}
 use Rattle.solid_model.specs.Faces.{FaceParts, IsFaceAt}
-use Rattle.solid_model.specs.Lists.{Each}
+use Rattle.lemmas.specs.Lists.{Each}
 use Rattle.solid_model.specs.Marks.{is_marked}
 use Rattle.solid_model.specs.Panels.{coordinates_of}
 use Rattle.solid_model.specs.Rounds.{Spot}
-use Rattle.solid_model.proofs.Lists.{each-weaker}
+use Rattle.lemmas.proofs.Lists.{each-weaker}
 use Rattle.faces.specs.GridPoints.{HasFace}
 use Rattle.faces.specs.PlaneFaces.{face_of, AreFacesInPlane}
 use Rattle.faces.proofs.FacesOnGrid.{faces_on_grid}

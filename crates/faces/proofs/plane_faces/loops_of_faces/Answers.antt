@@ -2,7 +2,7 @@
 use Rattle.std.proofs.Common.{ℕ, pos, IsTrue, subst}
 use Rattle.std.proofs.lemmas.Result.{IfOk-weaker}
 use Rattle.solid_model.specs.Rounds.{Spot}
-use Rattle.solid_model.proofs.Lists.{each-from}
+use Rattle.lemmas.proofs.Lists.{each-from}
 use Rattle.faces.specs.declared.plane_loop.PlaneLoop.{PlaneLoop}
 use Rattle.faces.specs.PlaneFaces.{is_up_first}
 use Rattle.faces.specs.PlaneLoops.{ArePlaneLoops}

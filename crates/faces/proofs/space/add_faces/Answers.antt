@@ -1,6 +1,6 @@
 -- One face more.
 use Rattle.std.proofs.Common.{◌∙◌, ap, sym, subst}
-use Rattle.solid_model.specs.Lists.{Each}
+use Rattle.lemmas.specs.Lists.{Each}
 use Rattle.faces.specs.PlaneFaces.{IsNearLoop}
 use Rattle.faces.proofs.LoopParts.{each-place}
 use Rattle.faces.proofs.space.add_faces.Goals as goal

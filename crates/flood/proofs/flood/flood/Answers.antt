@@ -2,7 +2,7 @@
 use Rattle.std.proofs.Common.{◌≡◌, ◌<◌, ◌==◌, [], length, ◌∙◌, sym, arith}
 use Rattle.std.proofs.lemmas.List.{nil_from_length}
 use Rattle.std.proofs.lemmas.List.Sums.{count_by-le-length}
-use Rattle.solid_model.proofs.Lists.{member-push_last}
+use Rattle.lemmas.proofs.Lists.{member-push_last}
 use Rattle.flood.specs.NodeMarks.{no_mark}
 use Rattle.flood.proofs.Spreading.{marked_within}
 use Rattle.flood.proofs.Flooding.{floods_begin, floods_more}

@@ -1,7 +1,7 @@
 -- All nodes that are asked for are numbered.
 use Rattle.std.proofs.Common.{◌∙◌, sym, subst}
 use Rattle.std.proofs.lemmas.List.{take_at}
-use Rattle.solid_model.specs.Bits.{bit_of}
+use Rattle.lemmas.specs.Bits.{bit_of}
 use Rattle.flood.specs.Graph.{AreComponentsOf}
 use Rattle.flood.proofs.Numbered.{numbers_asked}
 use Rattle.flood.proofs.numbering.components_of.Goals as goal

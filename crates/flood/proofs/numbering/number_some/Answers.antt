@@ -2,7 +2,7 @@
 use Rattle.std.proofs.Common.{◌<◌, ◌≤◌, ◌+◌, ℕ, List, length, vec_len, vec_capacity, ◌∙◌, sym, ap, subst, arith}
 use Rattle.std.proofs.lemmas.Grind.{common_steps}
 use Rattle.std.proofs.lemmas.List.{get_or_default}
-use Rattle.solid_model.specs.Bits.{bit_of}
+use Rattle.lemmas.specs.Bits.{bit_of}
 use Rattle.cell_rows.proofs.BitPlaces.{clear_beyond}
 use Rattle.flood.specs.NodeMarks.{no_mark, IsMarked, Numbers}
 use Rattle.flood.proofs.Numbered.{numbers_unmarked, numbers_onward, numbers_skip, numbers_more}

@@ -1,7 +1,7 @@
 -- The nodes so far.
 use Rattle.std.proofs.Common.{◌≡◌, ◌≤◌, ◌*◌, ◌-◌, length, vec_len, vec_capacity}
 use Rattle.flood.specs.NodeMarks.{Numbers}
-use Rattle.solid_model.specs.Bits.{bit_of}
+use Rattle.lemmas.specs.Bits.{bit_of}
 use Rattle.flood.proofs.numbering.number_some.Given as goal
 
 abbrev pub invariant-loop-node : goal.invariant-loop-node

@@ -5,7 +5,7 @@ use Rattle.solid_model.specs.Marks.{AreMarksOf}
 use Rattle.solid_model.specs.PerAxis.{numbers_of, cell_of}
 use Rattle.solid_model.specs.Rooms.{Sizes, box_count}
 use Rattle.solid_model.proofs.MarkedCells.{IsAnswerAt, answer_at, all_marked}
-use Rattle.solid_model.proofs.Pushed.{holds_more}
+use Rattle.lemmas.proofs.Pushed.{holds_more}
 use Rattle.flood.specs.Ring.{ring_place}
 use Rattle.flood.proofs.rooms.reached_cells.Goals as goal
 

@@ -3,7 +3,7 @@ use Rattle.std.proofs.Common.{◌≡◌, ◌<◌, ◌≤◌, ◌+◌, false, sli
 use Rattle.solid_model.specs.PerAxis.{numbers_of, cell_of}
 use Rattle.solid_model.specs.Rooms.{is_within, box_place, box_count}
 use Rattle.solid_model.proofs.MarkedCells.{IsAnswerAt}
-use Rattle.solid_model.proofs.Pushed.{HoldsSoFar}
+use Rattle.lemmas.proofs.Pushed.{HoldsSoFar}
 use Rattle.flood.specs.Ring.{ring_place}
 use Rattle.flood.proofs.rooms.reached_cells.Given as goal
 

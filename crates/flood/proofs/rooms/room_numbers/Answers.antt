@@ -3,7 +3,7 @@ use Rattle.std.proofs.Common.{◌≡◌, ◌<◌, refl, ap, sym, subst, ◌∙�
 use Rattle.solid_model.specs.PerAxis.{numbers_of, cell_of}
 use Rattle.solid_model.specs.Rooms.{box_place, box_count}
 use Rattle.solid_model.proofs.BoxPlaces.{cell_there}
-use Rattle.solid_model.proofs.Pushed.{holds_more}
+use Rattle.lemmas.proofs.Pushed.{holds_more}
 use Rattle.flood.specs.Graph.{component}
 use Rattle.flood.specs.Ring.{room_of}
 use Rattle.flood.proofs.PassageRooms.{IsRoomAt, room_at}

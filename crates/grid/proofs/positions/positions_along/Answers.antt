@@ -2,7 +2,7 @@ use Rattle.std.proofs.Common.{◌↔◌, List, [], ◌∷◌, take, ℤ, sym, su
 use Rattle.std.proofs.lemmas.List.{take_more, take_all}
 use Rattle.solid_model.specs.declared.frame.View.{View}
 use Rattle.solid_model.specs.declared.frame.View.TheVariants.{Front, Top, Side}
-use Rattle.solid_model.specs.Lists.{Member}
+use Rattle.lemmas.specs.Lists.{Member}
 use Rattle.solid_model.specs.Runs.{style_in}
 use Rattle.grid.specs.Positions.{ShowsInSomeView}
 use Rattle.grid.proofs.ShownPositions.{with_next, in_three_views}

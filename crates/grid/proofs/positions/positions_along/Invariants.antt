@@ -1,5 +1,5 @@
 use Rattle.std.proofs.Common.{◌↔◌, ◌<◌, take, ℤ}
-use Rattle.solid_model.specs.Lists.{Member}
+use Rattle.lemmas.specs.Lists.{Member}
 use Rattle.solid_model.specs.Runs.{IsDrawing, style_in}
 use Rattle.grid.specs.Positions.{ShowsInSomeView}
 use Rattle.grid.proofs.positions.positions_along.Given as goal

@@ -2,7 +2,7 @@ use Rattle.std.proofs.Common.{◌≡◌, ◌++◌, ◌↔◌, ◌⊎◌, ℤ, no
 use Rattle.std.proofs.lemmas.Result.{IfOk-weaker}
 use Rattle.solid_model.specs.declared.frame.Direction.{Direction}
 use Rattle.solid_model.specs.Frames.{along}
-use Rattle.solid_model.specs.Lists.{Member}
+use Rattle.lemmas.specs.Lists.{Member}
 use Rattle.solid_model.specs.Runs.{AreRuns, style_in, runs_along, view_runs}
 use Rattle.grid.specs.Positions.{ends_of, run_lines, ShowsByKind}
 use Rattle.grid.proofs.ShownPositions.{with_shown}

@@ -1,6 +1,6 @@
 use Rattle.std.proofs.Common.{◌↔◌, ◌⊎◌, ℤ}
 use Rattle.std.proofs.lemmas.Result.{IfOk-weaker}
-use Rattle.solid_model.specs.Lists.{Member}
+use Rattle.lemmas.specs.Lists.{Member}
 use Rattle.solid_model.specs.Runs.{style_in}
 use Rattle.grid.specs.Positions.{ShowsInView}
 use Rattle.grid.proofs.ShownPositions.{with_both}

@@ -3,7 +3,7 @@ use Rattle.std.proofs.Common.{is_some, sym, ap, subst, ◌∙◌}
 use Rattle.std.proofs.lemmas.Bool.{false≢true}
 use Rattle.solid_model.specs.Blocks.{ProblemParts, IsBlocksOf}
 use Rattle.solid_model.specs.Decisions.{decided_by}
-use Rattle.columns.proofs.WholeChoices.{whole_matches}
+use Rattle.line_demands.proofs.WholeChoices.{whole_matches}
 use Rattle.line_demands.proofs.WholeBytes.{none_there}
 use Rattle.line_demands.proofs.whole.all_draw.Goals as goal
 

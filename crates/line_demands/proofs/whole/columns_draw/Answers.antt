@@ -3,7 +3,7 @@ use Rattle.std.proofs.Common.{◌<◌, ℕ, length, get_or, ◌∙◌, arith}
 use Rattle.std.proofs.lemmas.Bool.Decides.{Decides-eqb}
 use Rattle.std.proofs.lemmas.Slice.Eq.{slice_eq-Decides}
 use Rattle.column_lanes.specs.Styles.{IsStyleByte}
-use Rattle.solid_model.specs.Bits.{bits}
+use Rattle.lemmas.specs.Bits.{bits}
 use Rattle.solid_model.specs.Decisions.{decided_by}
 use Rattle.line_demands.proofs.WholeBytes.{drawn_met_all, all_wanted}
 use Rattle.line_demands.proofs.whole.columns_draw.Goals as goal

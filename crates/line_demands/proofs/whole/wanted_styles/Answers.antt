@@ -1,7 +1,7 @@
 -- One line's byte more.
 use Rattle.std.proofs.Common.{◌∙◌, ap}
 use Rattle.column_lanes.specs.Styles.{style_byte}
-use Rattle.solid_model.proofs.Pushed.{holds_more}
+use Rattle.lemmas.proofs.Pushed.{holds_more}
 use Rattle.line_demands.proofs.whole.wanted_styles.Goals as goal
 
 pub loop-number-preserved : goal.loop-number-preserved

@@ -3,7 +3,7 @@ use Rattle.std.proofs.Common.{◌≡◌, get_or}
 use Rattle.column_lanes.specs.Styles.{style_byte}
 use Rattle.solid_model.specs.declared.line_id.LineId.{LineId}
 use Rattle.solid_model.specs.Demands.{line_style, lines_of}
-use Rattle.solid_model.proofs.Pushed.{HoldsSoFar}
+use Rattle.lemmas.proofs.Pushed.{HoldsSoFar}
 use Rattle.line_demands.proofs.whole.wanted_styles.Given as goal
 
 abbrev pub invariant-loop-number : goal.invariant-loop-number

@@ -4,8 +4,8 @@ use Rattle.std.proofs.lemmas.Bool.{cases_lt}
 use Rattle.std.proofs.lemmas.List.{get_or_append_left, get_or_push, get_or_read, length_push}
 use Rattle.std.proofs.lemmas.List.Sums.{common_prefix_len-le}
 use Rattle.std.specs.List.{common_prefix_len}
-use Rattle.solid_model.specs.Edges.{agree}
-use Rattle.solid_model.proofs.BitChanges.{shared_taken}
+use Rattle.lemmas.specs.Truth.{agree}
+use Rattle.lemmas.proofs.BitChanges.{shared_taken}
 use Rattle.prefix_tree.specs.Alike.{IsAlike}
 use Rattle.prefix_tree.specs.Places.{prefix_at}
 use Rattle.prefix_tree.proofs.beginnings.alike.Goals as goal

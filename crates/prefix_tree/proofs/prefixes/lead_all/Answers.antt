@@ -1,8 +1,8 @@
 -- One more has its place, behind those of the others.
 use Rattle.std.proofs.Common.{◌≡◌, ◌<◌, ◌+◌, ◌-◌, ◌++◌, ◌∷◌, [], ℕ, suc, List, Bool, map, length, sym, ◌∙◌, ap, ap₂, subst, arith}
 use Rattle.std.proofs.lemmas.List.{append_assoc, map_push, take_more, get_or_read}
-use Rattle.solid_model.specs.Lists.{Each}
-use Rattle.solid_model.proofs.Lists.{each-push}
+use Rattle.lemmas.specs.Lists.{Each}
+use Rattle.lemmas.proofs.Lists.{each-push}
 use Rattle.prefix_tree.specs.Alike.{IsAlike}
 use Rattle.prefix_tree.specs.Nodes.{WayParts, IsWay}
 use Rattle.prefix_tree.specs.Places.{prefix_at}

@@ -1,6 +1,6 @@
 -- The first ones have their places; the way goes along the last of them, and along the next one where it is left.
 use Rattle.std.proofs.Common.{◌≡◌, ◌<◌, ◌≤◌, ◌+◌, ◌-◌, ◌++◌, Bool, List, map, length, take}
-use Rattle.solid_model.specs.Lists.{Each}
+use Rattle.lemmas.specs.Lists.{Each}
 use Rattle.prefix_tree.specs.Nodes.{IsWay}
 use Rattle.prefix_tree.specs.Places.{prefix_at}
 use Rattle.prefix_tree.proofs.prefixes.lead_all.Given as goal

@@ -1,7 +1,7 @@
 -- Both values are tried.
 use Rattle.std.proofs.Common.{Bool, true, false}
 use Rattle.solid_model.specs.Known.{known_bits}
-use Rattle.columns.specs.Doubted.{CanDrawWith}
+use Rattle.line_demands.specs.Doubted.{CanDrawWith}
 use Rattle.propagate.proofs.cells.forced_value.Goals as goal
 
 either_value : (P : Bool → Type 0) → P true → P false → (v : Bool) → P v

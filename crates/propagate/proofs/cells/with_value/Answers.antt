@@ -2,7 +2,7 @@
 use Rattle.std.proofs.Common.{◌<◌, ◌^◌, rules, ap, sym, ◌∙◌}
 use Rattle.solid_model.specs.Known.{known_bits}
 use Rattle.solid_model.specs.Forcing.{with_value}
-use Rattle.columns.proofs.ValueBits.{within_more, within_less, known_more, known_less}
+use Rattle.line_demands.proofs.ValueBits.{within_more, within_less, known_more, known_less}
 use Rattle.propagate.proofs.cells.with_value.Goals as goal
 
 pub returns-then-value-clause-within : goal.returns-then-value-clause-within

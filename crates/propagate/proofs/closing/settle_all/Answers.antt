@@ -1,7 +1,7 @@
 -- One line more is looked at.
 use Rattle.std.proofs.Common.{◌≡◌, ◌<◌, ◌≤◌, inl, inr, length, get_or, slice_get, Some, refl, sym, subst, ◌∙◌, arith}
 use Rattle.std.proofs.lemmas.Option.{slice_get-get_or}
-use Rattle.columns.proofs.AllLines.{lines_are_listed}
+use Rattle.column_laws.proofs.AllLines.{lines_are_listed}
 use Rattle.propagate.proofs.Steps.{no_line}
 use Rattle.propagate.specs.Closing.{IsHandled, Grows}
 use Rattle.propagate.proofs.Chains.{grows_self, grows_both, grows_length}

@@ -5,7 +5,7 @@ use Rattle.propagate.proofs.closing.settle_all.Given as goal
 use Rattle.solid_model.specs.declared.line_id.LineId.{LineId}
 use Rattle.solid_model.specs.Decisions.{decided_by}
 use Rattle.solid_model.specs.Demands.{has_line, lines_of, AllMet}
-use Rattle.solid_model.specs.Lists.{Member}
+use Rattle.lemmas.specs.Lists.{Member}
 
 abbrev pub invariant-loop-number : goal.invariant-loop-number
 invariant-loop-number l =

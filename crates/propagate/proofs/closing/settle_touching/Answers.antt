@@ -1,7 +1,7 @@
 -- One line more is looked at.
 use Rattle.std.proofs.Common.{◌%◌, ap, ◌≡◌, ◌⊎◌, ◌<◌, ◌≤◌, ◌+◌, inl, inr, length, get_or, slice_get, Some, refl, sym, subst, ◌∙◌, arith}
-use Rattle.columns.specs.Touching.{lines_touching, touching}
-use Rattle.columns.proofs.LowestLeft.{none_set}
+use Rattle.line_demands.specs.Touching.{lines_touching, touching}
+use Rattle.line_demands.proofs.LowestLeft.{none_set}
 use Rattle.std.proofs.lemmas.Option.{slice_get-get_or}
 use Rattle.propagate.proofs.Steps.{no_line}
 use Rattle.propagate.specs.Closing.{IsHandled, Grows}
@@ -11,8 +11,8 @@ use Rattle.propagate.proofs.closing.settle_touching.Goals as goal
 use Rattle.solid_model.specs.Blocks.{ProblemParts, IsBlocksOf}
 use Rattle.solid_model.specs.Decisions.{decided_by}
 use Rattle.solid_model.specs.Demands.{lines_of, AllMet, IsFirstBroken}
-use Rattle.solid_model.specs.Lists.{Member}
-use Rattle.solid_model.proofs.ListPlaces.{member-place}
+use Rattle.lemmas.specs.Lists.{Member}
+use Rattle.lemmas.proofs.ListPlaces.{member-place}
 
 pub returns-then-doubts-eq0-clause-done : goal.returns-then-doubts-eq0-clause-done
 returns-then-doubts-eq0-clause-done c = λ _ m has h.

@@ -1,13 +1,13 @@
 -- The lines that are still to be looked at are the later ones.
 use Rattle.std.proofs.Common.{◌≡◌, ◌⊎◌, ◌+◌, ◌%◌, false, ℕ, drop, slice_get, Some, IsTrue}
-use Rattle.columns.specs.Touching.{lines_touching, touching}
+use Rattle.line_demands.specs.Touching.{lines_touching, touching}
 use Rattle.propagate.specs.Closing.{IsHandled, Grows}
 use Rattle.propagate.proofs.closing.settle_touching.Given as goal
 use Rattle.solid_model.specs.declared.line_id.LineId.{LineId}
-use Rattle.solid_model.specs.Bits.{is_set}
+use Rattle.lemmas.specs.Bits.{is_set}
 use Rattle.solid_model.specs.Decisions.{decided_by}
 use Rattle.solid_model.specs.Demands.{has_line, AllMet}
-use Rattle.solid_model.specs.Lists.{Member}
+use Rattle.lemmas.specs.Lists.{Member}
 
 abbrev pub invariant-loop-place : goal.invariant-loop-place
 invariant-loop-place l =

@@ -4,10 +4,10 @@ use Rattle.std.proofs.lemmas.Nat.Bits.{bit_at-zero}
 use Rattle.propagate.specs.Beside.{ExcludesAt, ExcludesAmong}
 use Rattle.propagate.specs.Looking.{TellsLeast}
 use Rattle.propagate.proofs.Least.{Taken, told_alike, told_more}
-use Rattle.columns.proofs.LowestLeft.{rest_higher}
+use Rattle.line_demands.proofs.LowestLeft.{rest_higher}
 use Rattle.propagate.proofs.line.forced_among.Goals as goal
-use Rattle.solid_model.specs.Bits.{is_set}
-use Rattle.solid_model.proofs.WordBits.{zeros, lowest_set}
+use Rattle.lemmas.specs.Bits.{is_set}
+use Rattle.lemmas.proofs.WordBits.{zeros, lowest_set}
 
 pub forced_at-requires-clause-depth : goal.forced_at-requires-clause-depth
 forced_at-requires-clause-depth c =

@@ -4,8 +4,8 @@ use Rattle.propagate.specs.Beside.{ExcludesAt}
 use Rattle.propagate.specs.Looking.{TellsLeast}
 use Rattle.propagate.proofs.Least.{Taken}
 use Rattle.propagate.proofs.line.forced_among.Given as goal
-use Rattle.solid_model.specs.Bits.{is_set}
-use Rattle.solid_model.proofs.WordBits.{zeros}
+use Rattle.lemmas.specs.Bits.{is_set}
+use Rattle.lemmas.proofs.WordBits.{zeros}
 
 abbrev pub invariant-loop-left : goal.invariant-loop-left
 invariant-loop-left l = record {

@@ -1,7 +1,7 @@
 -- What the cell excludes, of its block if it has one.
 use Rattle.std.proofs.Common.{Option, Some, None, ℕ, not, refl, sym, subst}
-use Rattle.columns.specs.declared.known.KnownColumn.{KnownColumn}
-use Rattle.columns.specs.Seen.{known_beside}
+use Rattle.line_demands.specs.declared.known.KnownColumn.{KnownColumn}
+use Rattle.line_demands.specs.Seen.{known_beside}
 use Rattle.propagate.specs.Beside.{ExcludesAt}
 use Rattle.propagate.specs.Looking.{CellExcludes, IsLeastIn, TellsLeast}
 use Rattle.propagate.proofs.line.forced_at.Goals as goal

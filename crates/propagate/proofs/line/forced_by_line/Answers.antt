@@ -1,16 +1,16 @@
 -- The lesser of what the two columns force.
 use Rattle.std.proofs.Common.{None, true, false, ◌<◌, IsTrue, sym, subst}
 use Rattle.std.proofs.lemmas.Bool.{both_ways}
-use Rattle.columns.specs.Seen.{known_beside}
+use Rattle.line_demands.specs.Seen.{known_beside}
 use Rattle.propagate.specs.Beside.{ExcludesAmong}
 use Rattle.propagate.specs.Forced.{ExcludesOpen}
 use Rattle.propagate.specs.Looking.{TellsLeast}
-use Rattle.columns.proofs.SeenCells.{seen_draws, draws_back}
+use Rattle.line_demands.proofs.SeenCells.{seen_draws, draws_back}
 use Rattle.propagate.proofs.LineCells.{line_told, among_told, open_inside}
-use Rattle.columns.proofs.LowestLeft.{none_of_either}
+use Rattle.line_demands.proofs.LowestLeft.{none_of_either}
 use Rattle.propagate.proofs.line.forced_by_line.Goals as goal
 use Rattle.solid_model.specs.Blocks.{ProblemParts, IsBlocksOf}
-use Rattle.solid_model.specs.Bits.{is_set}
+use Rattle.lemmas.specs.Bits.{is_set}
 use Rattle.solid_model.specs.Decisions.{decided_by}
 use Rattle.solid_model.specs.Demands.{has_line}
 use Rattle.solid_model.specs.Frames.{frame_of}

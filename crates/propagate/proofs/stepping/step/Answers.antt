@@ -2,7 +2,7 @@
 use Rattle.std.proofs.Common.{◌≡◌, ◌<◌, ◌∷◌, ◌++◌, [], inl, inr, not, take, drop, length, suc, get_or, slice_get, Some, IsTrue, refl, sym, subst, ap, ◌∙◌, arith}
 use Rattle.std.proofs.lemmas.List.{take_all}
 use Rattle.std.proofs.lemmas.Option.{slice_get-get_or}
-use Rattle.columns.proofs.AllLines.{lines_are_listed}
+use Rattle.column_laws.proofs.AllLines.{lines_are_listed}
 use Rattle.propagate.specs.Forced.{ExcludesOpen, IsCalm}
 use Rattle.propagate.specs.Looking.{IsLeastIn, TellsLeast}
 use Rattle.propagate.proofs.Handled.{excluded_there}
@@ -11,7 +11,7 @@ use Rattle.propagate.proofs.stepping.step.Goals as goal
 use Rattle.solid_model.specs.Blocks.{ProblemParts, IsBlocksOf}
 use Rattle.solid_model.specs.Decisions.{decided_by, PartialParts}
 use Rattle.solid_model.specs.Demands.{has_line, lines_of, CanBeMet}
-use Rattle.solid_model.specs.Lists.{Member}
+use Rattle.lemmas.specs.Lists.{Member}
 
 pub loop-number-init : goal.loop-number-init
 loop-number-init c = record {

@@ -7,7 +7,7 @@ use Rattle.recon_run.specs.Searched.{TellsSearch}
 use Rattle.replies.specs.Writings.{EndsWriting}
 use Rattle.sink_pages.specs.Gained.{PagesState}
 use Rattle.recon_run.proofs.Paged.{all_told, failed_ends}
-use Rattle.search_end.specs.Pages.{HasAllPaged, HasPaged}
+use Rattle.page_calls.specs.Pages.{HasAllPaged, HasPaged}
 use Rattle.solid_model.specs.Panels.{GridParts, IsGrid}
 use Rattle.tv_base.specs.Faults.{Rose}
 use Rattle.recon_run.proofs.telling.told_from.Goals as goal

@@ -1,7 +1,7 @@
 -- The runs of the front view are near.
 use Rattle.std.proofs.Common.{true, false, sym, ap, subst, ◌∙◌}
 use Rattle.solid_model.specs.declared.frame.View.TheVariants.{Front}
-use Rattle.solid_model.specs.Lists.{Each}
+use Rattle.lemmas.specs.Lists.{Each}
 use Rattle.solid_model.specs.Runs.{runs_along}
 use Rattle.redraw.specs.GridRuns.{IsNearRun}
 use Rattle.redraw.proofs.dxf.place_of.Goals as goal

@@ -1,6 +1,6 @@
 -- The runs of the view are near.
 use Rattle.std.proofs.Common.{true, false, sym, subst}
-use Rattle.solid_model.specs.Lists.{Each}
+use Rattle.lemmas.specs.Lists.{Each}
 use Rattle.solid_model.specs.Runs.{ViewRuns}
 use Rattle.redraw.specs.GridRuns.{IsNearRun}
 use Rattle.redraw.proofs.dxf.push_placed.Goals as goal

@@ -1,7 +1,7 @@
 -- The grid's coordinates are near, and its segments as many as the drawing has styles for.
 use Rattle.std.proofs.Common.{◌≡◌, ◌-◌, ◌*◌, length, ◌<ℤ◌, ap, sym, subst, ◌∙◌, rules}
 use Rattle.solid_model.specs.Frames.{frame_of, along, across}
-use Rattle.solid_model.specs.Lists.{Each, Ascends}
+use Rattle.lemmas.specs.Lists.{Each, Ascends}
 use Rattle.solid_model.specs.Panels.{coordinates_of, styles_along}
 use Rattle.redraw.specs.GridRuns.{IsNearRun}
 use Rattle.redraw.proofs.DrawnRuns.{drawn_count, AreNear, near_runs, grid_near, grid_ascends}

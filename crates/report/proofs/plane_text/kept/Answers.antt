@@ -1,7 +1,7 @@
 -- The lines stand in the list.
 use Rattle.std.proofs.Common.{◌<◌, length, sym, subst, arith}
-use Rattle.solid_model.specs.Lists.{Member}
-use Rattle.solid_model.proofs.ListPlaces.{member-at}
+use Rattle.lemmas.specs.Lists.{Member}
+use Rattle.lemmas.proofs.ListPlaces.{member-at}
 use Rattle.report.specs.PlaneTexts.{PlaneLines}
 use Rattle.report.proofs.plane_text.kept.Goals as goal
 

@@ -2,7 +2,7 @@
 use Rattle.std.proofs.Common.{sym, subst}
 use Rattle.std.proofs.lemmas.Result.{IfOk-weaker}
 use Rattle.solid_model.specs.Panels.{coordinates_of}
-use Rattle.solid_model.proofs.Lists.{each-at}
+use Rattle.lemmas.proofs.Lists.{each-at}
 use Rattle.report.specs.PlaneTexts.{PlaneLines, AreLines, AreLinesOf}
 use Rattle.report.proofs.plane_text.text_of_plane.Goals as goal
 

@@ -1,6 +1,6 @@
 -- Each round is written out; each inside node stands on one.
 use Rattle.std.proofs.Common.{◌≡◌, inl, inr, ℕ, zero, suc, List, [], ◌∷◌, refl, arith, rules}
-use Rattle.solid_model.specs.Lists.{Member}
+use Rattle.lemmas.specs.Lists.{Member}
 use Rattle.rounds.specs.Succession.{IsInside, IsInsideRound}
 use Rattle.rounds.specs.SmallRounds.{small_inside, small_next, small_rounds}
 use Rattle.rounds.proofs.laws.small_succession.Goals as goal

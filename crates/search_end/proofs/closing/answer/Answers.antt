@@ -2,7 +2,7 @@
 use Rattle.std.proofs.Common.{◌≡◌, ◌≢◌, ℕ, List, Bool, length, IsPermutation, vec_len, sym, ◌∙◌, subst}
 use Rattle.std.proofs.lemmas.List.{with_items_is}
 use Rattle.std.proofs.lemmas.List.Sorted.{length_permutation}
-use Rattle.solid_model.specs.Lists.{Each, Ascends}
+use Rattle.lemmas.specs.Lists.{Each, Ascends}
 use Rattle.solid_model.specs.Panels.{IsGrid}
 use Rattle.search_end.proofs.DeskAnswers.{answer_once, answer_long, answer_covers, answer_ends}
 use Rattle.search_end.proofs.closing.answer.Goals as goal

@@ -2,7 +2,7 @@
 use Rattle.std.proofs.Common.{◌≡◌, ◌≢◌, ◌++◌, ◌-◌, List, Bool, length, take, sym, ◌∙◌, ap, subst, rules, arith, length-append, length-take}
 use Rattle.std.specs.Arc.{arc_value}
 use Rattle.solid_model.specs.Blocks.{ProblemParts, IsBlocksOf}
-use Rattle.solid_model.specs.Lists.{Ascends}
+use Rattle.lemmas.specs.Lists.{Ascends}
 use Rattle.solid_model.specs.Panels.{IsGrid}
 use Rattle.search_end.specs.Answers.{IsAnswerList, new_ones}
 use Rattle.search_end.proofs.DeskAnswers.{answer_solutions}

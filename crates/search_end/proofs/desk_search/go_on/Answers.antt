@@ -4,7 +4,7 @@ use Rattle.solid_model.specs.Blocks.{ProblemParts}
 use Rattle.solid_model.specs.Forcing.{is_live}
 use Rattle.solid_model.specs.Tree.{live_count, IsClosed}
 use Rattle.search_core.proofs.Desks.{few_opened}
-use Rattle.columns.proofs.LiveTree.{problem_tree}
+use Rattle.column_laws.proofs.LiveTree.{problem_tree}
 use Rattle.search_end.proofs.desk_search.go_on.Goals as goal
 
 pub loop-kind-smaller : goal.loop-kind-smaller

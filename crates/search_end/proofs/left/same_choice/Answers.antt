@@ -1,6 +1,6 @@
 use Rattle.std.proofs.Common.{true, false, length, refl, sym, ◌∙◌, ap}
 use Rattle.std.proofs.lemmas.Bool.{false≢true}
-use Rattle.search_end.proofs.SameChoices.{same_by}
+use Rattle.lemmas.proofs.Truth.{same_by}
 use Rattle.search_end.proofs.left.same_choice.Goals as goal
 
 pub returns-then-len : goal.returns-then-len

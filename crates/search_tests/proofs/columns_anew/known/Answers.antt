@@ -1,8 +1,8 @@
 -- What is full for certain may be full.
 use Rattle.std.proofs.Common.{sym, ◌∙◌}
 use Rattle.std.proofs.lemmas.Bool.{and_parts}
-use Rattle.solid_model.specs.Bits.{is_set}
-use Rattle.solid_model.proofs.WordBits.{set_both}
+use Rattle.lemmas.specs.Bits.{is_set}
+use Rattle.lemmas.proofs.WordBits.{set_both}
 use Rattle.search_tests.proofs.columns_anew.known.Goals as goal
 
 pub returns : goal.returns

@@ -1,6 +1,6 @@
 -- A column within the view's width and height is one of the drawing's.
 use Rattle.std.proofs.Common.{◌≡◌, ◌<◌, ap, subst, ◌∙◌}
-use Rattle.columns.specs.Touching.{view_width, view_height}
+use Rattle.line_demands.specs.Touching.{view_width, view_height}
 use Rattle.solid_model.specs.Blocks.{ProblemParts}
 use Rattle.solid_model.specs.GridBox.{grid_sizes}
 use Rattle.search_tests.proofs.masks.mask_at.Goals as goal

@@ -5,7 +5,7 @@ use Rattle.std.proofs.lemmas.Nat.{xor_lt, and_le_l, and_le_r}
 use Rattle.std.proofs.lemmas.Nat.Bits.{bit_at-trailing_zeros}
 use Rattle.std.specs.Int.{trailing_zeros, bit_at}
 use Rattle.std.specs.Int.Bits.{xor_add_and}
-use Rattle.solid_model.proofs.BitChanges.{bit_alike, bit_apart}
+use Rattle.lemmas.proofs.BitChanges.{bit_alike, bit_apart}
 use Rattle.solid_model.proofs.bits.same_bits.Goals as goal
 
 -- of words that differ, the exclusive or isn't 0

@@ -1,6 +1,6 @@
 -- The word filled so far.
 use Rattle.std.proofs.Common.{false, get_or, ◌+◌}
-use Rattle.solid_model.proofs.FilledWords.{IsFilledBy}
+use Rattle.lemmas.proofs.FilledWords.{IsFilledBy}
 use Rattle.solid_model.proofs.bits.word_of.Given as goal
 
 abbrev pub invariant-loop-bit : goal.invariant-loop-bit

@@ -1,8 +1,8 @@
 -- A bit of both numbers is a bit of one of them.
 use Rattle.std.proofs.Common.{sym, ◌∙◌}
 use Rattle.std.proofs.lemmas.Bool.{and_parts, or_left}
-use Rattle.solid_model.specs.Bits.{is_set}
-use Rattle.solid_model.proofs.WordBits.{set_both, set_either}
+use Rattle.lemmas.specs.Bits.{is_set}
+use Rattle.lemmas.proofs.WordBits.{set_both, set_either}
 use Rattle.stage_tests.proofs.columns_met.between.Goals as goal
 
 pub returns : goal.returns

@@ -1,8 +1,8 @@
 -- A bit of the first number is one of both together.
 use Rattle.std.proofs.Common.{ap, sym, ◌∙◌, bit_or}
 use Rattle.std.proofs.lemmas.Bool.{or_left, eqb-true}
-use Rattle.solid_model.specs.Bits.{is_set}
-use Rattle.solid_model.proofs.WordBits.{set_either}
+use Rattle.lemmas.specs.Bits.{is_set}
+use Rattle.lemmas.proofs.WordBits.{set_either}
 use Rattle.stage_tests.proofs.columns_met.is_within.Goals as goal
 
 pub returns : goal.returns

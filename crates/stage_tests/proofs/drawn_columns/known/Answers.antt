@@ -1,8 +1,8 @@
 -- A bit of both numbers is a bit of the second one.
 use Rattle.std.proofs.Common.{sym, ◌∙◌}
 use Rattle.std.proofs.lemmas.Bool.{and_parts}
-use Rattle.solid_model.specs.Bits.{is_set}
-use Rattle.solid_model.proofs.WordBits.{set_both}
+use Rattle.lemmas.specs.Bits.{is_set}
+use Rattle.lemmas.proofs.WordBits.{set_both}
 use Rattle.stage_tests.proofs.drawn_columns.known.Goals as goal
 
 pub returns : goal.returns

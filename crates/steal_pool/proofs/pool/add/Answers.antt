@@ -1,7 +1,7 @@
 use Rattle.std.proofs.Common.{◌≡◌, ◌<◌, ◌+◌, ◌++◌, ◌∷◌, [], List, map, drop, length, ap, sym, ◌∙◌, subst, arith}
 use Rattle.std.proofs.lemmas.List.{length-map, take_at}
 use Rattle.crossbeam_deque.specs.Handles.{stealer_deque}
-use Rattle.solid_model.specs.Lists.{Each}
+use Rattle.lemmas.specs.Lists.{Each}
 use Rattle.steal_pool.specs.Seats.{SeatState, new_seats}
 use Rattle.steal_pool.specs.declared.rule.Account.{Account}
 use Rattle.steal_pool.specs.declared.rule.Balance.{Balance}

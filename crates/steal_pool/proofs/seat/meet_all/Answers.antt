@@ -1,6 +1,6 @@
 use Rattle.std.proofs.Common.{◌≡◌, ◌<◌, ◌++◌, ◌∷◌, [], ap, ◌∙◌, sym, map, length-append, append_assoc, get_or, subst, arith}
 use Rattle.std.proofs.lemmas.List.{length-map}
-use Rattle.solid_model.specs.Lists.{Each}
+use Rattle.lemmas.specs.Lists.{Each}
 use Rattle.steal_pool.specs.Seats.{SeatState, OwnerState, grown, new_thieves, new_thief}
 use Rattle.steal_pool.specs.WorkerSeats.{state_of}
 use Rattle.steal_pool.proofs.SeatLists.{at_seam, each-middle, map-snoc, owner_next}

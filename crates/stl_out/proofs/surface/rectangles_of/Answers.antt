@@ -5,7 +5,7 @@ use Rattle.std.proofs.lemmas.Result.{IfOk-weaker}
 use Rattle.solid_model.specs.declared.cell.Cell.{Cell}
 use Rattle.face_laws.specs.GridFaces.{numbered_fullness}
 use Rattle.solid_model.specs.Choices.{cells_of_choice, is_chosen}
-use Rattle.solid_model.specs.Lists.{Each}
+use Rattle.lemmas.specs.Lists.{Each}
 use Rattle.solid_model.specs.Marks.{BoxMarks, is_marked}
 use Rattle.solid_model.specs.Panels.{coordinates_of}
 use Rattle.solid_model.specs.PerAxis.{numbers_of}

@@ -1,7 +1,7 @@
 -- The row at its place, or none.
 use Rattle.std.proofs.Common.{◌==◌, ◌<◌, length, slice_index_or, ap, sym, subst, ◌∙◌, arith}
 use Rattle.std.proofs.lemmas.Nat.Bits.{bit_at-zero}
-use Rattle.solid_model.specs.Bits.{is_set}
+use Rattle.lemmas.specs.Bits.{is_set}
 use Rattle.solid_model.specs.Marks.{BoxMarks}
 use Rattle.solid_model.specs.PerAxis.{numbers_of, numbered, AreFew}
 use Rattle.cell_rows.proofs.RowCells.{few_rows, found_row, row_there, no_row}

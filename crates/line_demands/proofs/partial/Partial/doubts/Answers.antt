@@ -1,6 +1,6 @@
 -- The state is seen as the partial is.
 use Rattle.std.proofs.Common.{◌≡◌, ◌+◌, take, slice_get, Some, subst}
-use Rattle.columns.specs.Free.{LeaveFreeBut}
+use Rattle.line_demands.specs.Free.{LeaveFreeBut}
 use Rattle.line_demands.proofs.partial.Partial.doubts.Goals as goal
 use Rattle.solid_model.specs.declared.decision.Decision.{Decision}
 use Rattle.solid_model.specs.Decisions.{decided_by, PartialParts}

@@ -1,8 +1,8 @@
 -- As many as both begin with, if it has led so far.
 use Rattle.std.proofs.Common.{take, sym, ◌∙◌, ap, arith}
 use Rattle.std.proofs.lemmas.List.Sums.{common_prefix_len-le}
-use Rattle.solid_model.specs.Edges.{agree}
-use Rattle.solid_model.proofs.BitChanges.{shared_taken}
+use Rattle.lemmas.specs.Truth.{agree}
+use Rattle.lemmas.proofs.BitChanges.{shared_taken}
 use Rattle.prefix_tree.specs.Nodes.{WayParts}
 use Rattle.prefix_tree.proofs.way.Way.shared.Goals as goal
 

@@ -1,7 +1,7 @@
 -- The lines of all sides are those of the union.
 use Rattle.std.proofs.Common.{ℕ, sym, ap, subst, ◌∙◌}
 use Rattle.solid_model.specs.Grid.{Coordinates}
-use Rattle.solid_model.specs.Lists.{Each}
+use Rattle.lemmas.specs.Lists.{Each}
 use Rattle.solid_model.specs.Panels.{coordinates_of}
 use Rattle.report.specs.PlaneTexts.{AreLines, GridLines, listed}
 use Rattle.report.proofs.PlaneLines.{other_planes, lines_of_all}

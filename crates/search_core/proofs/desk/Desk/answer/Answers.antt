@@ -1,7 +1,7 @@
 -- A report is taken, or refused.
 use Rattle.std.proofs.Common.{◌≡◌, ◌+◌, ℕ, List, Bool, None, refl, sym, ◌∙◌, ap, subst}
 use Rattle.std.specs.Arc.{arc_value}
-use Rattle.solid_model.specs.Lists.{Member}
+use Rattle.lemmas.specs.Lists.{Member}
 use Rattle.search_core.specs.Ledger.{ledger_of, history_of, desk_of}
 use Rattle.search_core.specs.Desk.{DeskParts, IsDesk, Takes, IsTaken}
 use Rattle.prefix_tree.specs.Places.{StandsAt}

@@ -1,7 +1,7 @@
 -- What was to be the first piece is it.
 use Rattle.std.proofs.Common.{◌≡◌, ◌<◌, ◌++◌, ℕ, List, length, sym, ◌∙◌, ap, subst}
-use Rattle.solid_model.specs.Lists.{Each}
-use Rattle.solid_model.proofs.Lists.{each-append}
+use Rattle.lemmas.specs.Lists.{Each}
+use Rattle.lemmas.proofs.Lists.{each-append}
 use Rattle.prefix_tree.specs.Places.{StandsAt}
 use Rattle.search_core.specs.declared.ledger.Placed.{Placed}
 use Rattle.search_core.specs.Postings.{placed_or}

@@ -1,7 +1,7 @@
 -- What is published are solutions, none of them twice.
 use Rattle.std.proofs.Common.{◌≢◌, ◌-◌, List, Bool, length, take, drop, ◌++◌, sym, ◌∙◌, ap, subst}
 use Rattle.solid_model.specs.Blocks.{ProblemParts, IsBlocksOf}
-use Rattle.solid_model.specs.Lists.{Each, Ascends}
+use Rattle.lemmas.specs.Lists.{Each, Ascends}
 use Rattle.solid_model.specs.Solutions.{IsSolutionOf}
 use Rattle.search_run.proofs.Published.{others_each, others_once, others_shared}
 use Rattle.search_run.proofs.shared.Shared.publish_new.Goals as goal

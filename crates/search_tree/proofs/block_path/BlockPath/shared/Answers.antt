@@ -2,8 +2,8 @@
 use Rattle.std.proofs.Common.{List, Bool, take, sym, ◌∙◌, ap, arith}
 use Rattle.std.proofs.lemmas.List.{take-take}
 use Rattle.std.proofs.lemmas.List.Sums.{common_prefix_len-le}
-use Rattle.solid_model.specs.Edges.{agree}
-use Rattle.solid_model.proofs.BitChanges.{shared_taken}
+use Rattle.lemmas.specs.Truth.{agree}
+use Rattle.lemmas.proofs.BitChanges.{shared_taken}
 use Rattle.search_tree.specs.BlockPaths.{PathParts}
 use Rattle.search_tree.proofs.block_path.BlockPath.shared.Goals as goal
 

@@ -2,7 +2,7 @@
 use Rattle.std.proofs.Common.{ap, subst}
 use Rattle.solid_model.specs.Forcing.{is_live}
 use Rattle.solid_model.specs.Tree.{IsTree}
-use Rattle.columns.proofs.LiveTree.{problem_tree}
+use Rattle.column_laws.proofs.LiveTree.{problem_tree}
 use Rattle.search_tree.proofs.block_path.BlockPathPath.block_count.Goals as goal
 
 pub returns-clause-tree : goal.returns-clause-tree

@@ -2,7 +2,7 @@
 use Rattle.std.proofs.Common.{◌<◌, List, Bool, length, take, ap, sym, ◌∙◌, subst, arith}
 use Rattle.std.proofs.lemmas.Bool.{eqb-true}
 use Rattle.std.proofs.lemmas.List.{length-take-le}
-use Rattle.columns.proofs.LiveTree.{problem_tree}
+use Rattle.column_laws.proofs.LiveTree.{problem_tree}
 use Rattle.solid_model.specs.Forcing.{is_live}
 use Rattle.solid_model.specs.Tree.{IsTree}
 use Rattle.search_tree.proofs.Marked.{closed_here}

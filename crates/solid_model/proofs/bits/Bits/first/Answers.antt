@@ -1,9 +1,9 @@
 -- The words that hold the first values.
 use Rattle.std.proofs.Common.{◌≤◌, List, ℕ, length, take, ◌∙◌, ap, arith}
 use Rattle.std.proofs.lemmas.List.{length-take}
-use Rattle.solid_model.specs.Bits.{first_bits}
-use Rattle.solid_model.proofs.KeptBits.{length-first_bits}
-use Rattle.solid_model.proofs.BitChanges.{values_first}
+use Rattle.lemmas.specs.Bits.{first_bits}
+use Rattle.lemmas.proofs.KeptBits.{length-first_bits}
+use Rattle.lemmas.proofs.BitChanges.{values_first}
 use Rattle.solid_model.proofs.bits.Bits.first.Goals as goal
 
 pub slice_bounds-words-end : goal.slice_bounds-words-end

@@ -1,6 +1,6 @@
 -- All words.
 use Rattle.std.proofs.Common.{◌*◌, ◌≤◌, length, arith}
-use Rattle.solid_model.proofs.KeptBits.{all_values}
+use Rattle.lemmas.proofs.KeptBits.{all_values}
 use Rattle.solid_model.proofs.bits.Bits.from_bools.Goals as goal
 
 pub returns : goal.returns

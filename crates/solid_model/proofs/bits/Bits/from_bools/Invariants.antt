@@ -1,6 +1,6 @@
 -- The words so far.
-use Rattle.solid_model.proofs.KeptBits.{IsWordAt}
-use Rattle.solid_model.proofs.Pushed.{HoldsSoFar}
+use Rattle.lemmas.proofs.KeptBits.{IsWordAt}
+use Rattle.lemmas.proofs.Pushed.{HoldsSoFar}
 use Rattle.solid_model.proofs.bits.Bits.from_bools.Given as goal
 
 abbrev pub invariant-loop-number : goal.invariant-loop-number

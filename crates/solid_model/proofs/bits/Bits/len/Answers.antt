@@ -1,6 +1,6 @@
 -- As many as are counted.
 use Rattle.std.proofs.Common.{length, sym, ap, ◌∙◌}
-use Rattle.solid_model.proofs.KeptBits.{length-first_bits}
+use Rattle.lemmas.proofs.KeptBits.{length-first_bits}
 use Rattle.solid_model.proofs.bits.Bits.len.Goals as goal
 
 pub returns : goal.returns

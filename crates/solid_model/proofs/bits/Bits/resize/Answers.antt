@@ -1,8 +1,8 @@
 -- The words that are kept hold the values that are kept.
 use Rattle.std.proofs.Common.{◌/◌, ◌%◌, ◌≤◌, length, take, ap, ◌∙◌, arith}
-use Rattle.solid_model.specs.Bits.{is_set}
-use Rattle.solid_model.proofs.KeptBits.{length-first_bits}
-use Rattle.solid_model.proofs.BitChanges.{values_same}
+use Rattle.lemmas.specs.Bits.{is_set}
+use Rattle.lemmas.proofs.KeptBits.{length-first_bits}
+use Rattle.lemmas.proofs.BitChanges.{values_same}
 use Rattle.solid_model.proofs.bits.Bits.resize.Goals as goal
 
 pub returns-clause-length : goal.returns-clause-length

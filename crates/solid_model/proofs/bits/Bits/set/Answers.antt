@@ -1,8 +1,8 @@
 -- The bit of a word.
 use Rattle.std.proofs.Common.{◌≡◌, ◌<◌, ◌/◌, ◌%◌, List, Bool, length, get_or, set, ◌∙◌, ap, arith}
 use Rattle.std.proofs.lemmas.List.{get_or_read}
-use Rattle.solid_model.proofs.KeptBits.{length-first_bits}
-use Rattle.solid_model.proofs.BitChanges.{HasBit, with_bit, without_bit, values_with}
+use Rattle.lemmas.proofs.KeptBits.{length-first_bits}
+use Rattle.lemmas.proofs.BitChanges.{HasBit, with_bit, without_bit, values_with}
 use Rattle.solid_model.proofs.bits.Bits.set.Goals as goal
 use Rattle.solid_model.proofs.bits.Bits.set.Goals.{then-value, else-value}
 

@@ -2,10 +2,10 @@
 use Rattle.std.proofs.Common.{◌≡◌, ◌<◌, ◌≤◌, ◌+◌, ◌*◌, get_or, take, min, ◌-◌, sym, ◌∙◌, ap, ap₂, arith}
 use Rattle.std.proofs.lemmas.List.{get_or_read}
 use Rattle.std.specs.List.{common_prefix_len}
-use Rattle.solid_model.specs.Edges.{agree}
-use Rattle.solid_model.specs.Bits.{first_bits, is_set}
-use Rattle.solid_model.proofs.KeptBits.{length-first_bits}
-use Rattle.solid_model.proofs.BitChanges.{shared_to_end, shared_up_to, bit_same, values_same}
+use Rattle.lemmas.specs.Truth.{agree}
+use Rattle.lemmas.specs.Bits.{first_bits, is_set}
+use Rattle.lemmas.proofs.KeptBits.{length-first_bits}
+use Rattle.lemmas.proofs.BitChanges.{shared_to_end, shared_up_to, bit_same, values_same}
 use Rattle.solid_model.proofs.bits.Bits.shared.Goals as goal
 
 pub returns-then-same-words : goal.returns-then-same-words

@@ -3,7 +3,7 @@ use Rattle.std.proofs.Common.{IsTrue, subst, ◌∙◌, arith}
 use Rattle.solid_model.specs.Marks.{AreMarksOf}
 use Rattle.solid_model.specs.PerAxis.{numbers_of, cell_of, AreFew}
 use Rattle.solid_model.proofs.MarkedCells.{IsAnswerAt, answer_at, all_marked}
-use Rattle.solid_model.proofs.Pushed.{holds_more}
+use Rattle.lemmas.proofs.Pushed.{holds_more}
 use Rattle.solid_model.proofs.marks.Marks.of.Goals as goal
 
 pub loop-place-preserved : goal.loop-place-preserved

@@ -3,7 +3,7 @@ use Rattle.std.proofs.Common.{◌≡◌, ◌<◌, ◌+◌, IsTrue}
 use Rattle.solid_model.specs.PerAxis.{numbers_of, cell_of}
 use Rattle.solid_model.specs.Rooms.{is_within, box_place}
 use Rattle.solid_model.proofs.MarkedCells.{IsAnswerAt}
-use Rattle.solid_model.proofs.Pushed.{HoldsSoFar}
+use Rattle.lemmas.proofs.Pushed.{HoldsSoFar}
 use Rattle.solid_model.proofs.marks.Marks.of.Given as goal
 
 abbrev pub invariant-loop-place : goal.invariant-loop-place

@@ -2,8 +2,8 @@ use Rattle.std.proofs.Common.{◌+◌, Bool, true, false, drop, take, sym, ◌�
 use Rattle.std.proofs.lemmas.List.{take_more}
 use Rattle.solid_model.specs.Drawings.{covering_lines}
 use Rattle.solid_model.specs.Line.{IsKept}
-use Rattle.solid_model.specs.Lists.{Each}
-use Rattle.solid_model.proofs.Lists.{each-push}
+use Rattle.lemmas.specs.Lists.{Each}
+use Rattle.lemmas.proofs.Lists.{each-push}
 use Rattle.views.proofs.CornerSteps.{lines_left, brings_first, brings_next, reached}
 use Rattle.views.proofs.corner.Corner.of_view.Goals as goal
 use Rattle.views.proofs.corner.Corner.of_view.Goals.{then-covers_in+in-None, then-covers_in+in-Some, else-covers_in}

@@ -1,7 +1,7 @@
 use Rattle.std.proofs.Common.{◌≡◌, take, drop, IfNone, IfSome}
 use Rattle.solid_model.specs.Drawings.{covering_lines}
 use Rattle.solid_model.specs.Line.{IsKept}
-use Rattle.solid_model.specs.Lists.{Each}
+use Rattle.lemmas.specs.Lists.{Each}
 use Rattle.views.proofs.CornerSteps.{Brings}
 use Rattle.views.proofs.corner.Corner.of_view.Given as goal
 

@@ -1,0 +1,4 @@
+pub mod GridColumns
+pub mod GridPanels
+pub mod DrawnDemands
+pub mod SmallForcing

@@ -1,7 +1,0 @@
--- Bit by bit.
-use Rattle.std.proofs.Common.{rules}
-use Rattle.solid_model.proofs.WordBits.{set_without}
-use Rattle.columns.proofs.known.without.Goals as goal
-
-pub returns : goal.returns
-returns c = λ k. set_without c.args.one c.args.other k (search rules) (search rules)

@@ -1,5 +1,0 @@
-use Rattle.columns.proofs.LivePrefixes.{live_keeps_matching}
-use Rattle.columns.proofs.laws.live_prefixes_end_in_matching_solids.Goals as goal
-
-pub returns : goal.returns
-returns c = live_keeps_matching

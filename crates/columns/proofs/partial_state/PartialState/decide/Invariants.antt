@@ -1,5 +1,0 @@
--- A ledger of its own.
-use Rattle.columns.proofs.partial_state.PartialState.decide.Given as goal
-
-abbrev pub ghosts-decide_with : goal.ghosts-decide_with
-ghosts-decide_with a = record { name = a.blank.name; parts = a.blank.parts }

@@ -1,0 +1,17 @@
+pub mod Truth
+pub mod Integers
+pub mod Lists
+pub mod Tests
+pub mod ListPlaces
+pub mod Ranges
+pub mod Concatenations
+pub mod Pushed
+pub mod WithoutRepeats
+pub mod KeptBits
+pub mod BitChanges
+pub mod WordBits
+pub mod NearBits
+pub mod FilledWords
+pub mod Chains
+pub mod Decisions
+pub mod Permutations

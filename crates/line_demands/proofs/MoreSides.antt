@@ -1,0 +1,89 @@
+-- Lines are listed one after another, and marked as lines that can be met.
+use Rattle.std.proofs.Common.{◌≡◌, inl, inr, Bool, true, false, ℕ, ◌+◌, ◌*◌, ◌≤◌, List, [], ◌∷◌, ◌++◌, length, map, get_or, append_assoc, refl, ap, sym, subst, ◌∙◌, arith}
+use Rattle.std.specs.Prelude.{All}
+use Rattle.std.specs.List.{flat_map, range_with_len}
+use Rattle.std.proofs.lemmas.Bool.{cases_lt}
+use Rattle.std.proofs.lemmas.Grind.{flat_map-append}
+use Rattle.std.proofs.lemmas.List.{length_push, map-append, append-nil, get_or_append_left}
+use Rattle.std.proofs.lemmas.List.Elements.{All-push}
+use Rattle.std.proofs.lemmas.List.FromFn.{map-range_with_len_more}
+use Rattle.std.proofs.lemmas.List.Sums.{sum_by_push}
+use Rattle.std.proofs.Math.Seq.{get_or-append_seam}
+use Rattle.line_demands.specs.declared.lines.Beside.{Beside}
+use Rattle.line_demands.specs.Gathered.{AreMoreSides, AreMarkedMet}
+use Rattle.line_demands.specs.KeptColumns.{IsBeside, AreSides}
+use Rattle.line_demands.specs.Lines.{one_if, times_listed}
+use Rattle.line_demands.proofs.ListParts.{range_more}
+use Rattle.solid_model.specs.declared.line_id.LineId.{LineId}
+use Rattle.solid_model.specs.Blocks.{ProblemParts}
+use Rattle.solid_model.specs.declared.frame.View.TheVariants.{Front, Top, Side}
+use Rattle.solid_model.specs.Demands.{lines_along, lines_in, lines_of}
+
+module _ (p : ProblemParts) where
+  pub no_sides : (old : List Beside) → AreMoreSides p [] 0 old old
+  no_sides old = record { listed = sym (append-nil (map (λ b. b.line) old)); each = λ all. all; few = (omega arith) }
+
+  pub sides_both : (xs ys : List LineId) (a b : ℕ) (old half new : List Beside) → AreMoreSides p xs a old half → AreMoreSides p ys b half new → AreMoreSides p (xs ++ ys) (a + b) old new
+  sides_both xs ys a b old half new first second = record {
+    listed = second.listed ∙ ap (λ ls. ls ++ ys) first.listed ∙ append_assoc (map (λ c. c.line) old) xs ys;
+    each = λ all. second.each (first.each all);
+    few = (let e = first.few in let f = second.few in omega arith);
+  }
+
+  one_side : (old : List Beside) (b : Beside) → IsBeside p b → AreMoreSides p (b.line ∷ []) 1 old (old ++ b ∷ [])
+  one_side old b is = record {
+    listed = map-append (λ c. c.line) old (b ∷ []);
+    each = λ all. All-push (IsBeside p) old b all is;
+    few = (let e = length_push old b in omega arith);
+  }
+
+  -- one line more at a position
+  pub line_more : (f : ℕ → LineId) (n : ℕ) (old half : List Beside) (b : Beside) → AreMoreSides p (map f (range_with_len 0 n)) n old half → IsBeside p b → b.line ≡ f n
+      → AreMoreSides p (map f (range_with_len 0 (n + 1))) (n + 1) old (half ++ b ∷ [])
+  line_more f n old half b so_far is same = subst (λ ls. AreMoreSides p ls (n + 1) old (half ++ b ∷ []))
+      (ap (λ l. map f (range_with_len 0 n) ++ l ∷ []) same ∙ sym (map-range_with_len_more f 0 n n (omega arith)))
+      (sides_both (map f (range_with_len 0 n)) (b.line ∷ []) n 1 old half (half ++ b ∷ []) so_far (one_side half b is))
+
+  -- one position more
+  pub lines_more : (f : ℕ → List LineId) (n : ℕ) (old half new : List Beside) → AreMoreSides p (flat_map f (range_with_len 0 n)) (n * 63) old half → AreMoreSides p (f n) 63 half new
+      → AreMoreSides p (flat_map f (range_with_len 0 (n + 1))) (n * 63 + 63) old new
+  lines_more f n old half new so_far more = subst (λ ls. AreMoreSides p ls (n * 63 + 63) old new)
+      (ap (λ ls. flat_map f (range_with_len 0 n) ++ ls) (sym (append-nil (f n))) ∙ sym (flat_map-append f (range_with_len 0 n) (n ∷ []))
+      ∙ ap (flat_map f) (sym (range_more 0 n n (omega arith))))
+      (sides_both (flat_map f (range_with_len 0 n)) (f n) (n * 63) 63 old half new so_far more)
+
+  pub fewer : (xs : List LineId) (a b : ℕ) (old new : List Beside) → a ≤ b → AreMoreSides p xs a old new → AreMoreSides p xs b old new
+  fewer xs a b old new l more = record { listed = more.listed; each = more.each; few = (let e = more.few in omega arith) }
+
+-- one mark more
+pub met_more : (n : ℕ) (met : List Bool) → AreMarkedMet n met → AreMarkedMet (n + 1) (met ++ true ∷ [])
+met_more n met so_far = (
+  (let e = length_push met true in let f = so_far.0 in omega arith),
+  record {
+    once = λ i l. elim (cases_lt i (length met)) as (λ _. times_listed i [] + one_if (get_or (met ++ true ∷ []) i false) ≡ 1) [
+      | inl m ↦ ap (λ b. times_listed i [] + one_if b) (get_or_append_left met (true ∷ []) false i m) ∙ so_far.1.once i m
+      | inr m ↦ (let e : length met ≡ i = (let f = length_push met true in omega arith) in ap (λ j. times_listed i [] + one_if (get_or (met ++ true ∷ []) j false)) (sym e) ∙ ap (λ b. times_listed i [] + one_if b) (get_or-append_seam met true [] false))
+    ];
+    below = λ k d l. absurd (omega arith);
+    counted = (let e = sum_by_push one_if met true in let f = so_far.1.counted in let g = length_push met true in omega arith);
+  },
+)
+
+pub none_met : AreMarkedMet 0 []
+none_met = (refl, record { once = λ i l. absurd (omega arith); below = λ k d l. absurd (omega arith); counted = refl })
+
+-- the six kinds of lines, one after another
+pub all_listed : (p : ProblemParts) (a b c d e f g : List Beside) → a ≡ []
+    → AreMoreSides p (lines_along p.grid Front false) 4032 a b → AreMoreSides p (lines_along p.grid Front true) 4032 b c
+    → AreMoreSides p (lines_along p.grid Top false) 4032 c d → AreMoreSides p (lines_along p.grid Top true) 4032 d e
+    → AreMoreSides p (lines_along p.grid Side false) 4032 e f → AreMoreSides p (lines_along p.grid Side true) 4032 f g → AreSides p g
+all_listed p a b c d e f g empty fl fu tl tu sl su =
+    let front = sides_both p (lines_along p.grid Front false) (lines_along p.grid Front true) 4032 4032 a b c fl fu in
+    let top = sides_both p (lines_along p.grid Top false) (lines_along p.grid Top true) 4032 4032 c d e tl tu in
+    let side = sides_both p (lines_along p.grid Side false) (lines_along p.grid Side true) 4032 4032 e f g sl su in
+    let rest = sides_both p (lines_in p.grid Top) (lines_in p.grid Side) 8064 8064 c e g top side in
+    let all = sides_both p (lines_in p.grid Front) (lines_in p.grid Top ++ lines_in p.grid Side) 8064 16128 a c g front rest in
+    record {
+      listed = all.listed ∙ ap (λ bs. map (λ x. x.line) bs ++ lines_of p.grid) empty;
+      each = all.each (subst (All (IsBeside p)) (sym empty) (λ k x l. absurd (omega arith)));
+    }
