@@ -8,7 +8,6 @@ mod gather;
 mod known;
 mod lines;
 mod partial;
-mod partial_state;
 mod places;
 mod plan;
 mod seen;

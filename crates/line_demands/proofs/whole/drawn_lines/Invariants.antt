@@ -3,4 +3,4 @@ use Rattle.line_demands.specs.WholeChoices.{ListDrawn}
 use Rattle.line_demands.proofs.whole.drawn_lines.Given as goal
 
 abbrev pub invariant-loop-number : goal.invariant-loop-number
-invariant-loop-number l = ListDrawn l.state.problem.grid l.number l.numbers.items
+invariant-loop-number l = ListDrawn l.sides l.number l.numbers.items

@@ -1,10 +1,10 @@
--- The state is seen as the partial is.
-use Rattle.std.proofs.Common.{◌≡◌, ◌↔◌, None, subst}
-use Rattle.solid_model.specs.Decisions.{decided_by, PartialParts}
+-- The first of all lines, or none.
+use Rattle.solid_model.specs.Decisions.{decided_by}
+use Rattle.line_demands.proofs.LeastBroken.{told_some, told_none}
 use Rattle.line_demands.proofs.partial.Partial.broken_line.Goals as goal
-use Rattle.solid_model.specs.Demands.{AllMet}
+
+pub returns-clause-some : goal.returns-clause-some
+returns-clause-some c = told_some c.args.self.now.problem (decided_by c.args.self.now.decisions) c.first_broken.result c.first_broken.ensures
 
 pub returns-clause-none : goal.returns-clause-none
-returns-clause-none c =
-    subst (λ (v : PartialParts). (c.broken_line.result ≡ None) ↔ AllMet v.problem (decided_by v.decisions))
-    c.self.view_is c.broken_line.ensures.none
+returns-clause-none c = told_none c.args.self.now.problem (decided_by c.args.self.now.decisions) c.first_broken.result c.first_broken.ensures

@@ -7,7 +7,7 @@ use Rattle.solid_model.specs.Decisions.{decided_by, PartialParts}
 use Rattle.line_demands.specs.KeptColumns.{column_count, column_number}
 use Rattle.line_demands.specs.Touching.{view_width, view_height, shown_cell}
 use Rattle.line_demands.specs.Spans.{no_column, known_there}
-use Rattle.line_demands.proofs.partial_state.PartialState.mask.Goals as goal
+use Rattle.line_demands.proofs.partial.Partial.mask.Goals as goal
 use Rattle.solid_model.specs.Demands.{known_cell}
 use Rattle.solid_model.specs.PerAxis.{numbers_of}
 use Rattle.solid_model.specs.Rooms.{Sizes}

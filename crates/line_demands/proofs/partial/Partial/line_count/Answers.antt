@@ -2,7 +2,7 @@
 use Rattle.std.proofs.Common.{length, ap, sym, ◌∙◌}
 use Rattle.std.proofs.lemmas.List.{length-map}
 use Rattle.solid_model.specs.Decisions.{PartialParts}
-use Rattle.line_demands.proofs.partial_state.PartialState.line_count.Goals as goal
+use Rattle.line_demands.proofs.partial.Partial.line_count.Goals as goal
 use Rattle.solid_model.specs.Demands.{lines_of}
 
 pub returns : goal.returns

@@ -3,7 +3,7 @@ use Rattle.std.proofs.Common.{◌≡◌, ◌<◌, ◌≤◌, ℕ, List, length, 
 use Rattle.solid_model.specs.Decisions.{PartialParts}
 use Rattle.line_demands.specs.Touching.{touching}
 use Rattle.line_demands.proofs.KeptState.{few_touched, touched_count}
-use Rattle.line_demands.proofs.partial_state.PartialState.touching.Goals as goal
+use Rattle.line_demands.proofs.partial.Partial.touching.Goals as goal
 
 pub overflow_cast-result : goal.overflow_cast-result
 overflow_cast-result c =

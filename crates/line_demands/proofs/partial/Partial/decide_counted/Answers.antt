@@ -11,7 +11,7 @@ use Rattle.line_demands.proofs.ToldDoubts.{doubts_more}
 use Rattle.line_demands.proofs.Deciding.{room_for_one, values_more}
 use Rattle.line_demands.specs.Touching.{touching}
 use Rattle.line_demands.proofs.KeptState.{kept_more, seen_as, sides_inside, touched_count, free_told}
-use Rattle.line_demands.proofs.partial_state.PartialState.decide_counted.Goals as goal
+use Rattle.line_demands.proofs.partial.Partial.decide_counted.Goals as goal
 
 pub push_reserved-requires : goal.push_reserved-requires
 push_reserved-requires g c =
@@ -138,7 +138,7 @@ invariant_of-self g c =
           (subst (λ ms. AreDoubts p c.push_reserved-2.new.self.items ms (vec_capacity self.doubts)) (sym c.push_reserved-3.ensures.items)
           (subst (λ (ds : List Decision). AreDoubts p ds (self.doubts.items ++ c.try_lines-doubts.result ∷ []) (vec_capacity self.doubts)) more
           (doubts_more p self.decisions.items d self.doubts.items c.try_lines-doubts.result (vec_capacity self.doubts) c.self.invariant.2
-          (subst (λ (ds : List Decision). LeaveFreeBut p (decided_by ds) c.args.block c.try_lines-doubts.result) (sym more) (told_now g c))))),
+          (subst (λ (ds : List Decision). LeaveFreeBut p (decided_by ds) c.args.block c.try_lines-doubts.result) (sym more) (told_now g c))))),      c.self.invariant.3,
     )
 
 pub returns-clause-steps : goal.returns-clause-steps

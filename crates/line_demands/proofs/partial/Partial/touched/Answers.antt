@@ -4,7 +4,7 @@ use Rattle.solid_model.specs.Decisions.{PartialParts}
 use Rattle.solid_model.specs.Demands.{lines_of}
 use Rattle.line_demands.specs.Touching.{lines_touching, touching}
 use Rattle.line_demands.proofs.KeptState.{touched_count, touched_line}
-use Rattle.line_demands.proofs.partial_state.PartialState.touched.Goals as goal
+use Rattle.line_demands.proofs.partial.Partial.touched.Goals as goal
 
 pub bounds-as_slice-at : goal.bounds-as_slice-at
 bounds-as_slice-at c =

@@ -5,7 +5,7 @@ use Rattle.line_demands.specs.Broken.{TellsBroken}
 use Rattle.solid_model.specs.Decisions.{decided_by, PartialParts}
 use Rattle.line_demands.specs.Lines.{IsLeast}
 use Rattle.line_demands.proofs.KeptState.{broken_there, first_some, first_none}
-use Rattle.line_demands.proofs.partial_state.first_broken.Goals as goal
+use Rattle.line_demands.proofs.partial.first_broken.Goals as goal
 
 pub index-requires : goal.index-requires
 index-requires c =

@@ -9,7 +9,7 @@ use Rattle.line_demands.specs.declared.seen.SeenLine.{SeenLine}
 use Rattle.line_demands.specs.Seen.{IsSeen}
 use Rattle.line_demands.specs.Spans.{column_there}
 use Rattle.line_demands.proofs.KeptState.{seen_told}
-use Rattle.line_demands.proofs.partial_state.PartialState.seen.Goals as goal
+use Rattle.line_demands.proofs.partial.Partial.seen.Goals as goal
 
 pub returns-clause-seen : goal.returns-clause-seen
 returns-clause-seen c =

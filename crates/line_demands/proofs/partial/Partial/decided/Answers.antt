@@ -3,7 +3,7 @@ use Rattle.std.proofs.Common.{◌≡◌, ◌≤◌, length, ap, subst, ◌∙◌
 use Rattle.solid_model.specs.Decisions.{PartialParts}
 use Rattle.solid_model.specs.Blocks.{BlockNumbers}
 use Rattle.line_demands.proofs.Deciding.{few_taken}
-use Rattle.line_demands.proofs.partial_state.PartialState.decided.Goals as goal
+use Rattle.line_demands.proofs.partial.Partial.decided.Goals as goal
 
 pub overflow_cast-result : goal.overflow_cast-result
 overflow_cast-result c =

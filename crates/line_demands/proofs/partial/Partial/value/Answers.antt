@@ -2,7 +2,7 @@
 use Rattle.std.proofs.Common.{◌<◌, get_or, ap, sym, ◌∙◌, arith}
 use Rattle.solid_model.specs.Decisions.{PartialParts, decided_by}
 use Rattle.line_demands.proofs.Deciding.{none_above}
-use Rattle.line_demands.proofs.partial_state.PartialState.value.Goals as goal
+use Rattle.line_demands.proofs.partial.Partial.value.Goals as goal
 
 pub returns-then-number-len : goal.returns-then-number-len
 returns-then-number-len c =
