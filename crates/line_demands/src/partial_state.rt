@@ -4,9 +4,9 @@
 //! certain and one of those that may be full. What never changes is gathered once (`gather`,
 //! `plan`, `beside`). A decision sets its block's cells in the masks and tries the lines that touch
 //! it. Masks need no trail: the cells of a block that is decided were free. It stands in this
-//! crate, and `line_demands::Partial` is a thin type over it, since a checker of a search's log,
-//! which may lean on nothing of the search, asks the same state the same questions. A table of what
-//! is decided is kept beside the list: a search asks it at every prefix.
+//! crate, below the search, since a checker of a search's log, which may lean on nothing of the
+//! search, asks the same state the same questions. A table of what is decided is kept beside the
+//! list: a search asks it at every prefix.
 
 ghost use Rattle.std.specs.Prelude.{◌≡◌, ◌<◌, ◌++◌, ◌∷◌, [], None, false};
 ghost use Rattle.line_demands.specs.Broken.{TellsBroken};
