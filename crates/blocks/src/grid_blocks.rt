@@ -1,4 +1,7 @@
 //! The blocks of a grid, from its virtual faces.
+//!
+//! The rooms from which blocks are made are numbered in 32 bits, since there may be one for each of
+//! 250,047 cells; only where there are few enough do they get the 16 bits of a block's number.
 
 ghost use Rattle.std.specs.Prelude.{◌≡◌, ◌≤◌, ℕ, IfOk, IsErrOf};
 ghost use Rattle.solid_model.specs.Blocks.{IsBlocksOf, HasTooManyBlocks};

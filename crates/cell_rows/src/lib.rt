@@ -1,4 +1,7 @@
 //! Rows of the cells of a box, as words: a bit that is set is a marked cell.
+//!
+//! A grid has at most 63 cells in a row, so a row is one word. No larger box has a `CellRows`: so
+//! the crates that count on it take this type, in place of a condition on each call.
 #![tactic(auto)]
 
 mod bit_places;

@@ -1,4 +1,5 @@
--- Whole numbers that count a unit of ten to a negative power, printed with a point.
+-- Whole numbers that count a unit of ten to a negative power, printed with a point. A number is printed by its digits; that
+-- these are the number's is a law (`printed_digits`), and so is that it is read again.
 use Rattle.std.specs.Prelude.{ℕ, zero, suc, ◌+◌, ◌/◌, ◌%◌, ◌^◌, List, [], ◌∷◌, ◌++◌, ℤ, pos, negsuc, codes, decimal}
 use Rattle.std.specs.Fmt.{signed_decimal}
 

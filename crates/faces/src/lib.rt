@@ -1,4 +1,7 @@
 //! The faces of a solid that is a union of grid cells.
+//!
+//! A plane is a table of at most 63 rows of 63 bits, the most that a grid has. So the calls take
+//! `CellRows`, which no larger box has, in place of a condition on each of them.
 #![tactic(auto)]
 
 mod border;

@@ -1,4 +1,7 @@
 //! The way from a file's bytes to its problem.
+//!
+//! A crate of its own below `recon_run`, in steps with one or two refusals each, since a body with
+//! all of them takes long to check. Tests of searches stand on it, and not on the run.
 #![tactic(auto)]
 
 mod problem;

@@ -1,4 +1,7 @@
 //! Which nodes of a finite graph a chain of steps reaches, and the rooms of a box with walls.
+//!
+//! A crate of its own, on `cell_rows` and `solid_model` alone: virtual faces, blocks and the faces
+//! of solids are floods, and none of their crates has to stand on another one for it.
 #![tactic(auto)]
 
 mod cell_bars;

@@ -1,4 +1,6 @@
 //! Whether a solid matches, once every block is decided: all drawn lines are looked at together.
+//!
+//! A search asks it at full length only where no line is broken, so that a broken one costs a look.
 
 ghost use Rattle.std.specs.Prelude.{◌≡◌, ◌↔◌, ◌<◌, false, length, IsTrue, IfOk};
 ghost use Rattle.solid_model.specs.declared.segment.Style.TheVariants.{Blank};

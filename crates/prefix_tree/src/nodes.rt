@@ -1,4 +1,9 @@
 //! The nodes of a binary tree that lists of truth values lead down.
+//!
+//! A binary tree and no hashing: as many steps as a prefix is long, with no bad case. A node takes
+//! twelve bytes, its value and the number of the node before it in one number of 32 bits, since
+//! memory that a desk touches for the first time is a large part of what an answer of it takes,
+//! under the lock too; contracts see them apart (`NodeParts`).
 
 use solid_model::Memory;
 use std::alloc::Global;

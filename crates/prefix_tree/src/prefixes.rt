@@ -1,4 +1,9 @@
 //! Prefixes, each of which is named by its place.
+//!
+//! Each worker has a way of its own. Were there one for all, each worker would find it where
+//! another one left it, in another part of the tree, and walk down to its own piece over nodes that
+//! another processor has written, under the lock. No clause speaks of the ways: each leads to the
+//! same places.
 
 ghost use Rattle.std.specs.Prelude.{◌≡◌, ◌<◌, ◌≤◌, ◌+◌, ◌++◌, ◌∷◌, [], Bool, List, length, map, take, slice_index_or, IfOk};
 ghost use Rattle.lemmas.specs.Lists.{Each};

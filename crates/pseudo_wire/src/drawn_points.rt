@@ -1,4 +1,8 @@
 //! The points at which a view shows something.
+//!
+//! They are marked first, so that each point of a view is asked once, and not once for each end of
+//! an edge that projects there. A mark for each pseudo vertex of the grid would be asked for all of
+//! its points, where an edge that isn't drawn asks for none.
 
 ghost use Rattle.std.specs.Prelude.{◌≡◌, IfOk};
 ghost use Rattle.solid_model.specs.Marks.{is_marked};

@@ -1,4 +1,7 @@
 //! The form that lists all solids: the one answer that is written text by text.
+//!
+//! Each solid's text is a call of the output of its own: so one is held at a time, and memory goes
+//! with the list of choices.
 
 ghost use Rattle.std.specs.Prelude.{◌≡◌, ◌≤◌, ℕ, List, [], ◌∷◌, length, take};
 ghost use Rattle.recon_run.specs.Answers.{BeginsAll, TellsAll, TellsSolid, TellsSolids};

@@ -1,4 +1,5 @@
 -- The written file of a solid: the runs of its drawing as lines, its three views beside one another on one sheet.
+-- Coordinates are the solid's own and aren't moved to 0 first: what is redrawn or made begins there already.
 use Rattle.std.specs.Prelude.{◌≡◌, Bool, true, false, ℕ, List, ◌++◌, map, ℤ, pos, ◌+ℤ◌, ◌<ℤ◌, IsTrue}
 use Rattle.solid_model.specs.declared.cell.Axis.{Axis}
 use Rattle.solid_model.specs.declared.cell.Axis.TheVariants.{X, Z}

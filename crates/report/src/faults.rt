@@ -1,4 +1,7 @@
 //! The text of a fault.
+//!
+//! A function of its own, with a contract: the texts of `thiserror`, with which faults are
+//! declared, have none.
 
 ghost use Rattle.std.specs.Prelude.{◌≡◌, ◌++◌, codes, IfOk, OnOk};
 ghost use Rattle.std.specs.Option.{option_map};

@@ -1,4 +1,8 @@
 //! The lines of a solid's faces, which are kept by their planes for the next solid.
+//!
+//! They keep the coordinates of their grid and the decimals with which they were printed, and are
+//! forgotten where either is another: so no condition is laid on whose lines they are, and no
+//! caller has to see to it.
 
 ghost use Rattle.std.specs.Prelude.{◌≡◌, ◌≤◌, ◌+◌, ◌++◌, ◌∷◌, [], pos, IsTrue, IfOk, OnOk};
 ghost use Rattle.faces.specs.PlaneFaces.{AreBoundary};

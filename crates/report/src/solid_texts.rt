@@ -1,4 +1,7 @@
 //! The texts of solids, one after another in one room.
+//!
+//! One solid's text is held at a time, with the lines of its planes and of the solid before it: so
+//! memory doesn't go with how many solids are told.
 
 ghost use Rattle.std.specs.Prelude.{◌≡◌, ◌≤◌, Bool, List, IfOk};
 ghost use Rattle.report.specs.Texts.{solid_text};

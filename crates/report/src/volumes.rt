@@ -1,4 +1,7 @@
 //! The volumes of solids, as sums over their blocks.
+//!
+//! The volumes of blocks stand in this crate, the one that sums them up, and not beside the volume
+//! of a grid cell in `solid_model`.
 
 ghost use Rattle.std.specs.Prelude.{◌≡◌, ◌≤◌, ◌<◌, ◌+◌, ℕ, Bool, List, false, length, replicate, slice_index_or, IfOk, IfSome, if◌then◌else◌};
 ghost use Rattle.report.specs.Volumes.{AreVolumes, chosen_sum, most_block_volume};

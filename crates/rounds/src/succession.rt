@@ -1,4 +1,7 @@
 //! Successions on finitely many nodes.
+//!
+//! `onward` passes over nodes that surely aren't inside; a type needn't pass over any, so that one
+//! without an order of its own is a succession too.
 
 ghost use Rattle.std.specs.Prelude.{◌≡◌, Bool, false, IsTrue, ℕ, ◌<◌, ◌≤◌};
 ghost use Rattle.rounds.specs.Succession.{IsInside, IsOneToOne};

@@ -1,5 +1,8 @@
--- The core of a search that several may work at: which prefixes are still to be expanded, which choices were found, and how many
--- prefixes were opened. It is told as a list of events, whoever makes them, over any test live.
+-- The core of a search that several may work at: which prefixes are still to be expanded, which choices were found, and how
+-- many prefixes were opened. It is told as a list of events, whoever makes them, over any test live. An event takes its
+-- piece out of the frontier once. The frontier is a list, and a prefix could stand in it twice, since an allowed report is
+-- asked for sums alone: then each copy has to be expanded by an event of its own, and the sums stay right with nothing asked
+-- of the frontier.
 use Rattle.std.specs.Prelude.{◌≡◌, ◌&&◌, Bool, true, false, ℕ, ◌+◌, nat_lt, List, [], ◌∷◌, ◌++◌, length, take, Option, Some, None, if◌then◌else◌}
 use Rattle.solid_model.specs.declared.ended.EndKind.{EndKind}
 use Rattle.solid_model.specs.declared.ended.EndKind.TheVariants.{Whole, CutNodes, CutSolids}

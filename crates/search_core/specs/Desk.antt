@@ -1,4 +1,5 @@
--- The desk of a search: the core as a value that keeps its history.
+-- The desk of a search: the core as a value that keeps its history. Its frontier stands in any order: the core adds a rest
+-- at the end and takes a piece out where it stands, while the desk counts by place, which has no order of its own.
 use Rattle.std.specs.Prelude.{◌≡◌, ◌≤◌, ◌+◌, Bool, ℕ, List, [], ◌∷◌, ◌++◌, take, Option, None, IsPermutation}
 use Rattle.std.specs.List.{flat_map}
 use Rattle.solid_model.specs.declared.ended.EndKind.{EndKind}

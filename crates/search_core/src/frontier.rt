@@ -1,4 +1,7 @@
 //! The frontier of a search, by places.
+//!
+//! A count takes four bytes, since memory that is touched for the first time is dear under the
+//! lock. That more would be put than 32 bits count is told as out of memory.
 
 ghost use Rattle.std.specs.Prelude.{◌≡◌, ◌<◌, ◌≤◌, ℕ, length, drop, slice_index_or, OnOk};
 ghost use Rattle.search_core.specs.Frontier.{count_of, count_without, first_or, passed};

@@ -1,4 +1,10 @@
 //! The ledger of a desk.
+//!
+//! All memory that a report needs is taken before anything of it stands in the ledger, so that a
+//! report that is handed back has changed nothing; prefixes that got places for it keep them, and
+//! no clause sees them. No prefix is kept whole but the first piece: a copy of each would take a
+//! request for memory each. It is made while memory is taken, of the one before it, since pieces
+//! that were put one after another begin alike: so `first_piece` takes no memory.
 
 ghost use Rattle.std.specs.Prelude.{◌≡◌, ◌<◌, ◌≤◌, ◌+◌, ◌++◌, ℕ, length, IfOk, IfSome, MatchOption};
 ghost use Rattle.lemmas.specs.Lists.{Each};

@@ -1,4 +1,9 @@
 //! Reports that are ready for a desk.
+//!
+//! Comparing the prefixes of a rest under the lock would take more than a fifth of an answer's
+//! instructions; so the copies of the choices, and with how many same values each prefix and the
+//! next one begin, are made before. The report may be a stranger's or a late one: then they are let
+//! go.
 
 use crate::copies::Copies;
 use solid_model::Expansion;

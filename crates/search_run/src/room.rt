@@ -4,6 +4,9 @@
 //! after each: the toolchain's lock looks a hundred times in a row and then sleeps, a report holds
 //! it for a few microseconds, and who sleeps wakes up later than that, by a call of the thread that
 //! leaves it.
+//!
+//! How many workers are idle is an atomic number beside the lock, so that a round takes the lock
+//! once while all are at work.
 
 use crate::shared::{Answered, Shared};
 use search_core::{Desk, ReadyReport};

@@ -2,6 +2,9 @@
 //!
 //! `run_search` doesn't close its pool: what is left in it is in the desk's frontier too, and the
 //! caller expands it from there.
+//!
+//! The caller makes a way down the tree to learn whether any prefix is live, and this goes to the
+//! first worker: another one for a lone worker would take as long again.
 
 ghost use Rattle.std.specs.Prelude.{◌≡◌, ◌≤◌, IfOk, MatchResult};
 ghost use Rattle.std.specs.Arc.{arc_value};

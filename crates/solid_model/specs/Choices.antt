@@ -1,4 +1,5 @@
--- Choices of items, each of which is some of the grid's cells, as blocks are.
+-- Choices of items, each of which is some of the grid's cells, as blocks are. A choice is what a search lists, and not yet a
+-- solid; so what is said of choices is said of any items.
 use Rattle.std.specs.Prelude.{◌≡◌, ◌⊎◌, Bool, true, false, ℕ, List, [], ◌∷◌, length, map, slice_index_or, Option, Some, None}
 use Rattle.solid_model.specs.declared.cell.Cell.{Cell}
 use Rattle.solid_model.specs.declared.segment.Segment.{Segment}

@@ -1,5 +1,7 @@
--- What the lines of a grid demand of its blocks. Where a line is told of, the
--- box of grid cells is counted by its own coordinates, and its columns from the nearest grid cell on, which stands at depth 0.
+-- What the lines of a grid demand of its blocks. Where a line is told of, the box of grid cells is counted by its own
+-- coordinates, and its columns from the nearest grid cell on, which stands at depth 0. Columns go over all depths: before
+-- the box and behind it all is empty, and known to be. The order of lines is that of a list (`lines_of`), so that the first
+-- one that can't be met needs no second order.
 use Rattle.std.specs.Prelude.{◌≡◌, Bool, true, false, ◌&&◌, ◌||◌, ℕ, suc, nat_lt, List, [], ◌∷◌, ◌++◌, map, slice_get, ℤ, pos, ◌-ℤ◌, Option, Some, None, IsTrue, if◌then◌else◌}
 use Rattle.std.specs.List.{flat_map, list_any, list_all, range_with_len}
 use Rattle.solid_model.specs.declared.cell.Cell.{Cell}

@@ -1,4 +1,5 @@
--- Edges of a solid: facts of a unit edge and the four cells round it, in space.
+-- Edges of a solid: facts of a unit edge and the four cells round it, in space. They look at a solid only through which of
+-- its cells are full, as sight lines and drawings do: so a union of very many cells can be spoken of without its list.
 use Rattle.std.specs.Prelude.{◌≡◌, ◌⊎◌, Bool, not, ◌&&◌, ◌||◌}
 use Rattle.lemmas.specs.Truth.{agree}
 use Rattle.solid_model.specs.declared.cell.Axis.{Axis}

@@ -1,4 +1,7 @@
--- The faces of a solid, and the list of them.
+-- The faces of a solid, and the list of them. A face is joined squares, wherever they meet: between two neighbouring
+-- boundary squares of one plane and outward side there is never an edge (`faces_end_at_edges`). Its loops follow the border
+-- of all boundary squares of the plane, which loses nothing: across a side from the face lies another of its squares or no
+-- boundary square at all.
 use Rattle.std.specs.Prelude.{◌≡◌, Bool, false, not, ◌&&◌, ◌||◌, nat_eq, nat_lt, ℕ, List, [], ◌∷◌, map, ℤ, int_lt, IsTrue, if◌then◌else◌}
 use Rattle.std.specs.Ordering.{int_eq}
 use Rattle.solid_model.specs.declared.cell.Axis.{Axis}

@@ -1,4 +1,6 @@
--- Which decisions the lines of a grid force, and which prefixes are live.
+-- Which decisions the lines of a grid force, and which prefixes are live. What lives is said of anything that is known of
+-- the blocks, and not of prefixes alone: so one lemma, that what lives under more decisions lives under fewer, carries that
+-- the tree is closed, that it reaches each matching solid, and that one chain tells it.
 use Rattle.std.specs.Prelude.{◌≡◌, ◌==◌, Bool, true, false, not, ◌&&◌, ℕ, zero, suc, ◌≤◌, nat_le, List, [], ◌∷◌, ◌++◌, length, map, ℤ, pos, negsuc, ◌-ℤ◌, Option, Some, None, IsTrue, if◌then◌else◌}
 use Rattle.std.specs.List.{flat_map, list_all, range_with_len}
 use Rattle.solid_model.specs.declared.cell.Cell.{Cell}

@@ -1,4 +1,5 @@
--- The grid of a drawing: the positions along each axis at which it shows something, and the cells between them.
+-- The grid of a drawing: the positions along each axis at which it shows something, and the cells between them. Where a
+-- solid edge goes on as a hidden one the style changes, so that this is a position too.
 use Rattle.std.specs.Prelude.{◌≡◌, ◌≢◌, ◌⊎◌, ◌↔◌, Bool, false, not, ◌&&◌, ℕ, zero, suc, ◌+◌, ◌-◌, ◌*◌, ◌<◌, List, [], ◌∷◌, length, slice_index_or, ℤ, pos, ◌-ℤ◌, ◌<ℤ◌, int_lt, int_le, IsTrue}
 use Rattle.solid_model.specs.declared.cell.Axis.{Axis}
 use Rattle.solid_model.specs.declared.cell.Axis.TheVariants.{X, Y, Z}

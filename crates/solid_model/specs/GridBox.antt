@@ -1,6 +1,7 @@
 -- A grid as a box of cells. Counted by its own coordinates, a grid is once more a box of cells from (0, 0, 0): the grid cell
--- (x, y, z) reaches from the x-th coordinate of the x axis to the next one, and so along y and z, and the grid point (x, y, z) is
--- its least corner.
+-- (x, y, z) reaches from the x-th coordinate of the x axis to the next one, and so along y and z, and the grid point
+-- (x, y, z) is its least corner. The axis of a grid edge or face is a parameter beside its number, so that edges and faces
+-- are numbered as cells are.
 use Rattle.std.specs.Prelude.{◌≡◌, Bool, false, ◌&&◌, suc, ◌+◌, ◌*◌, nat_lt, List, slice_index_or, ℤ, pos, IsTrue, if◌then◌else◌}
 use Rattle.solid_model.specs.declared.cell.Axis.{Axis}
 use Rattle.solid_model.specs.declared.cell.Cell.{Cell}

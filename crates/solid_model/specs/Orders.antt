@@ -1,4 +1,5 @@
--- The stated order of cells and of solids.
+-- The stated order of cells and of solids. In a list in order each member comes before all that follow, and not only before
+-- the next one: the orders are transitive, so it says the same, and is shorter to use.
 use Rattle.std.specs.Prelude.{◌≡◌, Bool, false, ◌&&◌, ◌||◌, List, IsTrue, int_lt}
 use Rattle.std.specs.Ordering.{int_eq}
 use Rattle.solid_model.specs.declared.cell.Cell.{Cell}

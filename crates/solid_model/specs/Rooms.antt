@@ -1,4 +1,6 @@
--- Boxes of cells with walls between them, and their rooms.
+-- Boxes of cells with walls between them, and their rooms. Cells beyond a box have numbers too, those below 0 and those from
+-- its size on: so a chain that leads out simply ends at a cell that isn't of the box. The faces across an axis are counted
+-- as the cells of a box likewise, so that what leads out is one definition for faces and cells.
 use Rattle.std.specs.Prelude.{◌≡◌, ◌⊎◌, ◌↔◌, Bool, true, false, ◌&&◌, ℕ, suc, nat_lt, ◌+◌, ◌*◌, ◌<◌, List, length, slice_index_or, Option, Some, None, ℤ, pos, negsuc, IsTrue, if◌then◌else◌}
 use Rattle.solid_model.specs.declared.cell.Axis.{Axis}
 use Rattle.solid_model.specs.declared.cell.Axis.TheVariants.{X, Y, Z}

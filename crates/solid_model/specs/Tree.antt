@@ -1,5 +1,7 @@
--- The tree of prefixes, over any test "live" that tells some lists of truth values from others. A prefix says for each of the
--- first blocks whether it is full; below it stand those that say so for one block more, the full one first.
+-- The tree of prefixes, over any test "live" that tells some lists of truth values from others. A prefix says for each of
+-- the first blocks whether it is full; below it stand those that say so for one block more, the full one first. The live
+-- ones are filtered from the list of all extensions, whose order is theirs: so no second order has to be believed, and the
+-- definition doesn't lean on the law that what a live prefix begins with is live.
 use Rattle.std.specs.Prelude.{◌≡◌, Bool, true, false, ◌&&◌, ℕ, zero, suc, ◌+◌, ◌-◌, ◌≤◌, ◌==◌, List, [], ◌∷◌, ◌++◌, length, take, drop, filter, map, sum, IsPermutation, IsTrue}
 use Rattle.std.specs.List.{flat_map, list_any}
 use Rattle.lemmas.specs.Truth.{agree}

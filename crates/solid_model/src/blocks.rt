@@ -1,4 +1,7 @@
 //! The blocks of a grid.
+//!
+//! Numbers of blocks have 16 bits, since there are at most 4,096. `of` takes a cell's three numbers
+//! as one value and asks for nothing: beyond the box there is no block.
 
 use crate::grid::Grid;
 use crate::per_axis::PerAxis;

@@ -1,4 +1,6 @@
 //! The virtual faces of a grid.
+//!
+//! As in a `Wire`, one call takes the axis, beyond the box it answers no, and `new` needs no grid.
 
 use crate::cell::Axis;
 use crate::marks::{Marks, MarksByAxis};

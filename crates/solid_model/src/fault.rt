@@ -1,4 +1,8 @@
 //! The faults of a file.
+//!
+//! The error types are declared with `thiserror`, whose texts have no contract: nothing that the
+//! program writes is taken from them. `From` is written by hand, since clauses name the error that
+//! `?` makes.
 
 use crate::cell::Axis;
 use crate::frame::View;

@@ -1,4 +1,7 @@
 //! The views, and how each stands in space.
+//!
+//! The names of the layers stand here, so that the texts of files and of faults have them from one
+//! place.
 
 ghost use Rattle.std.specs.Prelude.{◌≡◌};
 

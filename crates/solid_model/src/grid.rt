@@ -1,4 +1,7 @@
 //! Grids: the positions at which a drawing shows something.
+//!
+//! A grid keeps that it is that of a drawing, and there is one drawing alone that it can be of
+//! (`one_drawing_of_a_grid`): so what is searched by the grid is said of the drawing.
 
 ghost use Rattle.std.specs.Prelude.{◌≡◌, ◌↔◌, slice_index_or, IsTrue};
 ghost use Rattle.solid_model.specs.declared.segment.Style.TheVariants.{Blank};

@@ -1,4 +1,7 @@
 //! Marks on the cells of a box.
+//!
+//! They keep the sizes of their box, so that a wire frame and a map of faces are made of them
+//! without the grid.
 
 use crate::cell::Axis;
 use crate::memory::Memory;

@@ -1,4 +1,7 @@
 //! Choices for the first blocks.
+//!
+//! `resize` serves to make a prefix out of another one that begins alike: only what differs is
+//! told.
 
 use crate::bits::Bits;
 use crate::choice::Choice;

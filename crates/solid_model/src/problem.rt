@@ -1,4 +1,8 @@
 //! A grid and its blocks: what is searched.
+//!
+//! `cells` and `volume` take any choice: what it doesn't speak of counts as empty. `same` looks at
+//! the grids alone, so that the block numbers, of which there may be 250,047, aren't compared while
+//! a desk is locked.
 
 use crate::blocks::Blocks;
 use crate::choice::Choice;

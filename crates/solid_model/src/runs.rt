@@ -1,4 +1,7 @@
 //! Maximal runs of one style.
+//!
+//! A small type of their own keeps that they are runs; it is made from a `Vec` and gives it back
+//! for nothing. So the lists of a view are `Runs` and not `Vec<Run>`.
 
 use crate::segment::Style;
 use std::marker::Model;

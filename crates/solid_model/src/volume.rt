@@ -1,4 +1,7 @@
 //! Volumes of unions of grid cells.
+//!
+//! They are added in 128 bits, which 250,047 cells of at most 2,000,000,000 units along each axis
+//! can't overflow.
 
 ghost use Rattle.std.specs.Prelude.{◌≡◌, ◌≤◌, false, slice_index_or, IsTrue};
 ghost use Rattle.solid_model.specs.Choices.{cells_of_choice};

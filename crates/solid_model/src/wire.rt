@@ -1,4 +1,8 @@
 //! The pseudo wire frame of a grid.
+//!
+//! `has` takes the axis and the three numbers, in place of a call for each of x, y and z, and asks
+//! for nothing: beyond the box no edge is a pseudo edge. `Marks` keep the sizes of their box, so
+//! that `new` needs no grid.
 
 use crate::cell::Axis;
 use crate::marks::{Marks, MarksByAxis};

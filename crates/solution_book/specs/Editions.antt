@@ -1,4 +1,5 @@
--- The editions of a book: what is published, as it is after each publishing.
+-- The editions of a book: what is published, as it is after each publishing. The problem stands beside the list and isn't
+-- its first entry, so that the places of the list are those of the solids.
 use Rattle.std.specs.Prelude.{◌≡◌, Bool, List, ◌++◌, Option, Some, None}
 use Rattle.solid_model.specs.Blocks.{ProblemParts}
 use Rattle.solid_model.specs.Solutions.{AreSolutions}

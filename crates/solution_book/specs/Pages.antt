@@ -1,4 +1,4 @@
--- Pages of a book.
+-- Pages of a book. A page from a place that the list hasn't got is empty, and the list ends there: so no place is refused.
 use Rattle.std.specs.Prelude.{◌≡◌, ◌+◌, ◌≤◌, ◌↔◌, ℕ, Bool, List, length, take, drop, IsTrue}
 use Rattle.solution_book.specs.declared.reader.Page.{Page}
 

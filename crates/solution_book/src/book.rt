@@ -1,4 +1,6 @@
 //! A book begins.
+//!
+//! `begin` may wait, since it ends the writer where memory for the readers is wanting.
 
 use crate::edition::Edition;
 use crate::reader::BookReader;

@@ -1,4 +1,9 @@
 //! A reader of a book.
+//!
+//! A page is copied after the look, from an edition that the reader shares: so it keeps the writer
+//! waiting for a few steps and not for a page. `Memory` of a page stands also for an edition that
+//! has as many owners as can be counted. That a receipt is of this book is needed for the return of
+//! `learn` alone, and so is no condition.
 
 ghost use Rattle.std.specs.Prelude.{◌≡◌, ◌↔◌, Some, IsTrue, IfOk, IfSome};
 ghost use Rattle.std.specs.Arc.{arc_value};

@@ -1,4 +1,8 @@
 //! The list of solids of an edition.
+//!
+//! A publishing copies the pointers of the last batch, and once in 256 solids those of all full
+//! ones: so 65,536 solids that are published one by one copy some eight million pointers. Fewer in
+//! a batch would copy less of the last one, and more of the full ones.
 
 ghost use Rattle.std.specs.Prelude.{◌≡◌, ◌↔◌, ◌∷◌, [], ◌++◌, map, IsTrue, IfOk};
 ghost use Rattle.std.specs.Arc.{arc_value};

@@ -1,4 +1,8 @@
 //! The writer of a book.
+//!
+//! What left_right has taken but couldn't show is shown with the next publishing. So a shut writer
+//! answers before it asks left_right, and the type keeps that nothing waits where the mark isn't
+//! set.
 
 ghost use Rattle.std.specs.Prelude.{◌≡◌, [], drop, Some, MatchResult};
 ghost use Rattle.solution_book.specs.Editions.{Begins};

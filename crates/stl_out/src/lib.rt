@@ -1,5 +1,8 @@
 //! The boundary of a solid as triangles, and as an ASCII STL text, which viewers, slicers and CAD
 //! programs open.
+//!
+//! The boundary squares of a plane come from `faces`, which finds them for the faces of a solid; so
+//! the crate stands on that one.
 #![tactic(auto)]
 
 mod corner_parts;

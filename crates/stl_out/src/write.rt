@@ -1,4 +1,8 @@
 //! A solid's STL text, written to a sink piece by piece.
+//!
+//! That no piece is longer than 65,536 bytes is what `write_piece` asks for, so that each call
+//! keeps it. All rectangles of a solid are held, 32 bytes each; of the text one piece. `write_stl`
+//! asks for nothing: a choice that fills no cell has the text of no triangle.
 
 ghost use Rattle.std.specs.Prelude.{◌≡◌, ◌++◌, ◌≤◌, ◌<◌, ℕ, List, length, OnOk, OnErr, IsErrOf};
 ghost use Rattle.std.specs.Io.KnownBytes.{Appends};

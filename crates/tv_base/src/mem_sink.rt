@@ -1,4 +1,7 @@
 //! A sink in memory, whose calls fail where they are told to.
+//!
+//! In a call that is to fail after some bytes there may be no memory for these: then the call
+//! answers Memory and not Failed.
 
 ghost use Rattle.std.specs.Prelude.{◌≡◌, ℕ, ◌≤◌, [], ◌++◌, take, Some, None, IsErrOf, OnOk, OnErr};
 ghost use Rattle.std.specs.Io.KnownBytes.{Appends};

@@ -1,4 +1,8 @@
 //! Where bytes come from.
+//!
+//! A read that fails loses at most as many bytes as its room has: that is a clause (`lost`), since
+//! nothing else says what is left after it. So what was read can be bounded whatever `read_all`
+//! answers.
 
 ghost use Rattle.std.specs.Prelude.{◌≡◌, ℕ, ◌<◌, ◌≤◌, List, Option, length, take, IfOk, OnErr};
 ghost use Rattle.std.specs.Io.KnownBytes.{Consumes, IsAtEnd};

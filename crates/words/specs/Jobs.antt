@@ -1,4 +1,6 @@
--- The commands, and what each is asked to do.
+-- The commands, and what each is asked to do. Jobs are read from the list of commands, so that what is said of words is said
+-- once for all of them, and a further command is a further row. A command's number is one option more, which must be there
+-- and is written without a name.
 use Rattle.std.specs.Prelude.{ℕ, ◌≤◌, ◌++◌, Bool, List, [], ◌∷◌, Option, Some, None, if◌then◌else◌, codes, option_map}
 use Rattle.std.specs.Str.{bytes_eq}
 use Rattle.solid_model.specs.Limits.{most_decimals, most_node_limit, most_solid_limit}

@@ -1,4 +1,6 @@
 //! Words that are refused before the parse, since `clap` takes them.
+//!
+//! An option's empty value isn't among them: its range refuses it.
 
 ghost use Rattle.std.specs.Prelude.{◌≡◌, string_bytes, map};
 ghost use Rattle.std.specs.List.{list_any};

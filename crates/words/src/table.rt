@@ -1,4 +1,6 @@
 //! What commands take, as tables.
+//!
+//! `clap` is built from a command's table, so that what it takes is proved once, over any table.
 
 /// The numbers that a value may be.
 #[derive(Clone, Copy)]
