@@ -39,11 +39,7 @@ pub fn drawn_lines(alloc: Global, sides: &[Beside]) -> Result<Vec<usize>, Memory
 }
 
 /// The styles of lines, by their numbers, as bytes. An `Err` is out of memory.
-pub fn wanted_styles(
-    alloc: Global,
-    sides: &[Beside],
-    numbers: &[usize],
-) -> Result<Vec<u8>, Memory>
+pub fn wanted_styles(alloc: Global, sides: &[Beside], numbers: &[usize]) -> Result<Vec<u8>, Memory>
     requires { Each (λ n. n < length sides.now) numbers.now }
     ensures count { IfOk result (λ bytes. length bytes.items ≡ length numbers.now) }
     ensures styles { IfOk result (λ bytes. AreStylesOf sides.now numbers.now bytes.items) }

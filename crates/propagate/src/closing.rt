@@ -16,8 +16,7 @@ ghost use Rattle.solid_model.specs.Decisions.{decided_by};
 ghost use Rattle.solid_model.specs.Demands.{has_line, lines_of, AllMet, IsFirstBroken};
 
 use crate::line::forced_by_line;
-use line_demands::has_place;
-use line_demands::Partial;
+use line_demands::{Partial, has_place};
 use solid_model::LineId;
 
 /// How closing ended.

@@ -18,8 +18,7 @@ ghost use Rattle.solid_model.specs.Decisions.{decided_by};
 ghost use Rattle.solid_model.specs.Demands.{has_line, CanBeMet};
 
 use crate::cells::{forced_value, lesser};
-use line_demands::{KnownColumn, SeenLine, block_beside, doubted, without_lowest};
-use line_demands::Partial;
+use line_demands::{KnownColumn, Partial, SeenLine, block_beside, doubted, without_lowest};
 use solid_model::{Decision, Problem};
 
 /// The column after the line, or the one before it.

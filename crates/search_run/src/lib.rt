@@ -9,6 +9,6 @@ mod shared;
 mod worker;
 mod working;
 
-pub use running::run_search;
 pub use page_calls::{NoPages, PageOut, RunFault};
+pub use running::run_search;
 pub use search_end::{begin, search_by_desk};

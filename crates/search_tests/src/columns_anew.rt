@@ -5,8 +5,7 @@ ghost use Rattle.solid_model.specs.Known.{LiesWithin};
 ghost use Rattle.solid_model.specs.Demands.{has_line};
 
 use crate::demands::problem_in;
-use line_demands::{KnownColumn, can_draw};
-use line_demands::Partial;
+use line_demands::{KnownColumn, Partial, can_draw};
 use solid_model::{LineId, PerAxis, View};
 use std::alloc::Global;
 use std::test::Fail;

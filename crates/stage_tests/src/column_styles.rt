@@ -1,7 +1,6 @@
 //! The styles of many pairs of columns, told together.
 
-use column_lanes::{style_byte, styles};
-use column_lanes::{Column, style_of};
+use column_lanes::{Column, style_byte, style_of, styles};
 use std::alloc::Global;
 use std::test::Fail;
 use test_files::{Row, row_of};

@@ -138,7 +138,8 @@ invariant_of-self g c =
           (subst (λ ms. AreDoubts p c.push_reserved-2.new.self.items ms (vec_capacity self.doubts)) (sym c.push_reserved-3.ensures.items)
           (subst (λ (ds : List Decision). AreDoubts p ds (self.doubts.items ++ c.try_lines-doubts.result ∷ []) (vec_capacity self.doubts)) more
           (doubts_more p self.decisions.items d self.doubts.items c.try_lines-doubts.result (vec_capacity self.doubts) c.self.invariant.2
-          (subst (λ (ds : List Decision). LeaveFreeBut p (decided_by ds) c.args.block c.try_lines-doubts.result) (sym more) (told_now g c))))),      c.self.invariant.3,
+          (subst (λ (ds : List Decision). LeaveFreeBut p (decided_by ds) c.args.block c.try_lines-doubts.result) (sym more) (told_now g c))))),
+      c.self.invariant.3,
     )
 
 pub returns-clause-steps : goal.returns-clause-steps

@@ -69,7 +69,8 @@ invariant_of-result c =
       subst (λ (ds : List Decision). AreValues p.blocks.count ds c.in_ok-values.values.items) (sym c.in_ok-decisions.ensures.items) table,
       subst (λ (ds : List Decision). AreDoubts p ds c.in_ok-doubts.doubts.items (vec_capacity c.in_ok-doubts.doubts)) (sym c.in_ok-decisions.ensures.items)
           (subst (λ ms. AreDoubts p [] ms (vec_capacity c.in_ok-doubts.doubts)) (sym c.in_ok-doubts.ensures.items)
-          (no_doubts p (vec_capacity c.in_ok-doubts.doubts) (let a = c.in_ok-doubts.ensures.exact in omega (arith, a, size)))),      record {
+          (no_doubts p (vec_capacity c.in_ok-doubts.doubts) (let a = c.in_ok-doubts.ensures.exact in omega (arith, a, size)))),
+      record {
         lines_are = subst (λ (ss : List Beside). ListDrawn ss (length ss) c.in_ok-lines.lines.items) c.as_slice-5.ensures.value c.in_ok-lines.ensures;
         after_count = omega (arith, c.in_ok-after.ensures.len, c.len-drawn_count.ensures, c.in_ok-lines.lines.ok.0);
         before_count = omega (arith, c.in_ok-before.ensures.len, c.len-drawn_count.ensures, c.in_ok-lines.lines.ok.0);

@@ -46,5 +46,6 @@ invariant_of-self c =
       subst (λ n. AreDoubts p c.pop.new.self.items c.pop-in-Some.new.self.items n) (sym c.pop-in-Some.ensures.capacity)
           (doubts_popped p c.pop.new.self.items last self.doubts.items c.pop-in-Some.new.self.items c.pop-in-Some.result (vec_capacity self.doubts) c.pop-in-Some.ensures.items
           (c.pop-in-Some.ensures.variant.1 (let e = length_push c.pop.new.self.items last in let f = ap length c.in-Some.ensures.items in omega (arith, e, f, c.self.invariant.2.count, self.doubts.ok.0)))
-          (subst (λ (ds : List Decision). AreDoubts p ds self.doubts.items (vec_capacity self.doubts)) c.in-Some.ensures.items c.self.invariant.2)),      c.self.invariant.3,
+          (subst (λ (ds : List Decision). AreDoubts p ds self.doubts.items (vec_capacity self.doubts)) c.in-Some.ensures.items c.self.invariant.2)),
+      c.self.invariant.3,
     )
