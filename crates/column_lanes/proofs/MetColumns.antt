@@ -10,7 +10,7 @@ use Rattle.lemmas.specs.Bits.{is_set, near}
 use Rattle.solid_model.specs.Demands.{CanDraw}
 use Rattle.lemmas.proofs.NearBits.{near_to}
 use Rattle.lemmas.proofs.WordBits.{set_both, set_either, zeros, lowest_set, lowest_at_most}
-use Rattle.column_lanes.specs.Meets.{IsMetByte, without, must_differ, can_differ, can_begin, met_code}
+use Rattle.column_lanes.specs.Meets.{IsMetByte, bits_without, must_differ, may_differ, can_begin, met_code}
 use Rattle.column_lanes.proofs.NearBits.{set_apart, near_fits, apart_fits, some_near, some_behind}
 
 module _ (fl ml fr mr : ℕ) (a : fl < 2 ^ 64) (b : ml < 2 ^ 64) (c : fr < 2 ^ 64) (d : mr < 2 ^ 64) (l_within : LiesWithin fl ml) (r_within : LiesWithin fr mr) where
@@ -18,7 +18,7 @@ module _ (fl ml fr mr : ℕ) (a : fl < 2 ^ 64) (b : ml < 2 ^ 64) (c : fr < 2 ^ 6
   full = bit_or fl fr
 
   abbrev differ : ℕ
-  differ = can_differ fl ml fr mr
+  differ = may_differ fl ml fr mr
 
   abbrev both : ℕ
   both = bit_and ml mr
@@ -30,7 +30,7 @@ module _ (fl ml fr mr : ℕ) (a : fl < 2 ^ 64) (b : ml < 2 ^ 64) (c : fr < 2 ^ 6
   full_fits = or_lt 64 fl fr a c
 
   differ_fits : differ < 2 ^ 64
-  differ_fits = or_lt 64 (without ml fr) (without mr fl) (apart_fits ml fr b c) (apart_fits mr fl d a)
+  differ_fits = or_lt 64 (bits_without ml fr) (bits_without mr fl) (apart_fits ml fr b c) (apart_fits mr fl d a)
 
   both_fits : both < 2 ^ 64
   both_fits = and_lt 64 ml mr b d
@@ -39,12 +39,12 @@ module _ (fl ml fr mr : ℕ) (a : fl < 2 ^ 64) (b : ml < 2 ^ 64) (c : fr < 2 ^ 6
   begin_fits = and_lt 64 both (near full) both_fits (near_fits full full_fits)
 
   differ_is : (k : ℕ) → is_set differ k ≡ ((is_set ml k && not (is_set fr k)) || (is_set mr k && not (is_set fl k)))
-  differ_is k = set_either (without ml fr) (without mr fl) k ∙ ap₂ ◌||◌ (set_apart ml fr k) (set_apart mr fl k)
+  differ_is k = set_either (bits_without ml fr) (bits_without mr fl) k ∙ ap₂ ◌||◌ (set_apart ml fr k) (set_apart mr fl k)
 
   pub blank_met : (must_differ fl ml fr mr ≡ 0) ↔ CanDraw (known_bits fl ml) (known_bits fr mr) Blank
   blank_met = (
-    blank_from fl ml fr mr l_within r_within (without fl mr) (without fr ml) (set_apart fl mr) (set_apart fr ml),
-    blank_to fl ml fr mr l_within r_within (without fl mr) (without fr ml) (set_apart fl mr) (set_apart fr ml),
+    blank_from fl ml fr mr l_within r_within (bits_without fl mr) (bits_without fr ml) (set_apart fl mr) (set_apart fr ml),
+    blank_to fl ml fr mr l_within r_within (bits_without fl mr) (bits_without fr ml) (set_apart fl mr) (set_apart fr ml),
   )
 
   pub solid_met : (bit_and differ (near full) ≢ 0) ↔ CanDraw (known_bits fl ml) (known_bits fr mr) Solid
@@ -65,7 +65,7 @@ module _ (fl ml fr mr : ℕ) (a : fl < 2 ^ 64) (b : ml < 2 ^ 64) (c : fr < 2 ^ 6
       let down = lowest_at_most both both_fits (zeros begin) set in
       omega arith
 
-  pub dashed_met : (without differ (near begin) ≢ 0) ↔ CanDraw (known_bits fl ml) (known_bits fr mr) Dashed
+  pub dashed_met : (bits_without differ (near begin) ≢ 0) ↔ CanDraw (known_bits fl ml) (known_bits fr mr) Dashed
   dashed_met =
       let behind_is = some_behind differ begin differ_fits begin_fits in
       let near_is = some_near both full both_fits full_fits in (
@@ -103,9 +103,9 @@ module _ (fl ml fr mr : ℕ) (a : fl < 2 ^ 64) (b : ml < 2 ^ 64) (c : fr < 2 ^ 6
     where
       by : (s t : Bool) → (want == 0) ≡ s → (want == 1) ≡ t
           → IsMetByte (if s then (if must_differ fl ml fr mr == 0 then 1 else 0)
-          else (if t then (if without differ (near begin) == 0 then 0 else 1) else (if bit_and differ (near full) == 0 then 0 else 1))) want (known_bits fl ml) (known_bits fr mr)
+          else (if t then (if bits_without differ (near begin) == 0 then 0 else 1) else (if bit_and differ (near full) == 0 then 0 else 1))) want (known_bits fl ml) (known_bits fr mr)
       by true t e f = (Blank, eqb-true want 0 e, (one_if_none (must_differ fl ml fr mr) blank_met).0, (one_if_none (must_differ fl ml fr mr) blank_met).1)
-      by false true e f = (Dashed, eqb-true want 1 f, (one_if_some (without differ (near begin)) dashed_met).0, (one_if_some (without differ (near begin)) dashed_met).1)
+      by false true e f = (Dashed, eqb-true want 1 f, (one_if_some (bits_without differ (near begin)) dashed_met).0, (one_if_some (bits_without differ (near begin)) dashed_met).1)
       by false false e f = (
         Solid,
         (let other = eqb-false want 0 e in let another = eqb-false want 1 f in omega arith),

@@ -9,10 +9,10 @@ use Rattle.solid_model.proofs.KnownBits.{behind, some_bit}
 use Rattle.lemmas.specs.Bits.{is_set, near}
 use Rattle.lemmas.proofs.NearBits.{near_to, near_from}
 use Rattle.lemmas.proofs.WordBits.{set_both, not_zero, zeros, zeros_of_none, lowest_set, lowest_at_most}
-use Rattle.column_lanes.specs.Meets.{without}
+use Rattle.column_lanes.specs.Meets.{bits_without}
 
 -- the bits of the one without those of the other
-pub set_apart : (a b k : ℕ) → is_set (without a b) k ≡ (is_set a k && not (is_set b k))
+pub set_apart : (a b k : ℕ) → is_set (bits_without a b) k ≡ (is_set a k && not (is_set b k))
 set_apart a b k =
     ap (λ x. x == 1) (bit_at_xor a (bit_and a b) k ∙ ap (λ (y : ℕ). (bit_at a k + y) % 2) (is_one (bit_at (bit_and a b) k) (bit_at-lt (bit_and a b) k) ∙ ap (λ t. if t then 1 else 0) (set_both a b k)))
     ∙ of_two (bit_at a k) (bit_at b k) (bit_at-lt a k) (bit_at-lt b k)
@@ -26,7 +26,7 @@ set_apart a b k =
 pub near_fits : (n : ℕ) → n < 2 ^ 64 → near n < 2 ^ 64
 near_fits n fits = xor_lt 64 n ((n + (2 ^ 64 - 1)) % 2 ^ 64) fits (omega arith)
 
-pub apart_fits : (a b : ℕ) → a < 2 ^ 64 → b < 2 ^ 64 → without a b < 2 ^ 64
+pub apart_fits : (a b : ℕ) → a < 2 ^ 64 → b < 2 ^ 64 → bits_without a b < 2 ^ 64
 apart_fits a b l m = xor_lt 64 a (bit_and a b) l (and_lt 64 a b l m)
 
 module _ (d n : ℕ) (d_fits : d < 2 ^ 64) (n_fits : n < 2 ^ 64) where
@@ -45,11 +45,11 @@ module _ (d n : ℕ) (d_fits : d < 2 ^ 64) (n_fits : n < 2 ^ 64) where
   )
 
   -- some bit of d is none of them, just where n has a lowest one, and d a bit behind it
-  pub some_behind : (without d (near n) ≢ 0) ↔ ((n ≢ 0) × (d / 2 ^ zeros n / 2 ≢ 0))
+  pub some_behind : (bits_without d (near n) ≢ 0) ↔ ((n ≢ 0) × (d / 2 ^ zeros n / 2 ≢ 0))
   some_behind = (
     (λ some.
-        let k : ℕ = zeros (without d (near n)) in
-        let lowest = lowest_set (without d (near n)) (apart_fits d (near n) d_fits (near_fits n n_fits)) some in
+        let k : ℕ = zeros (bits_without d (near n)) in
+        let lowest = lowest_set (bits_without d (near n)) (apart_fits d (near n) d_fits (near_fits n n_fits)) some in
         let parts = and_parts _ _ (sym (set_apart d (near n) k) ∙ lowest.0) in
         let far : zeros n < k = past k lowest.1 (not-true _ parts.1) in
         let there : zeros n + 1 + (k - (zeros n + 1)) ≡ k = omega (arith, far) in (
@@ -60,7 +60,7 @@ module _ (d n : ℕ) (d_fits : d < 2 ^ 64) (n_fits : n < 2 ^ 64) where
         let found = some_bit (d / 2 ^ zeros n / 2) (less (d / 2 ^ zeros n) (less_by (2 ^ zeros n))) both.1 in
         let k : ℕ = zeros n + 1 + found.0 in
         let set : is_set d k ≡ true = sym (behind d (zeros n) found.0) ∙ found.1 in
-        not_zero (without d (near n)) k (set_apart d (near n) k ∙ and_from _ _ set (not_from_false _ (clear k set (omega arith))))),
+        not_zero (bits_without d (near n)) k (set_apart d (near n) k ∙ and_from _ _ set (not_from_false _ (clear k set (omega arith))))),
   )
     where
       past : (k : ℕ) → k < 64 → is_set (near n) k ≡ false → zeros n < k

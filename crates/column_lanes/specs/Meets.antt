@@ -14,16 +14,16 @@ IsMetByte byte wanted known other = (style : Style) × (wanted ≡ style_byte st
 -- ---- computed on numbers: of two columns the cells that are full for certain, and those that may be full
 
 -- the bits of a number that another one doesn't have
-abbrev pub without : ℕ → ℕ → ℕ
-without one other = bit_xor one (bit_and one other)
+abbrev pub bits_without : ℕ → ℕ → ℕ
+bits_without one other = bit_xor one (bit_and one other)
 
 -- the depths at which the columns must differ,
 abbrev pub must_differ : ℕ → ℕ → ℕ → ℕ → ℕ
-must_differ full_l may_l full_r may_r = bit_or (without full_l may_r) (without full_r may_l)
+must_differ full_l may_l full_r may_r = bit_or (bits_without full_l may_r) (bits_without full_r may_l)
 
 -- and those at which they can
-abbrev pub can_differ : ℕ → ℕ → ℕ → ℕ → ℕ
-can_differ full_l may_l full_r may_r = bit_or (without may_l full_r) (without may_r full_l)
+abbrev pub may_differ : ℕ → ℕ → ℕ → ℕ → ℕ
+may_differ full_l may_l full_r may_r = bit_or (bits_without may_l full_r) (bits_without may_r full_l)
 
 -- those at which both can begin: both may be full, and nearer none is full for certain
 abbrev pub can_begin : ℕ → ℕ → ℕ → ℕ → ℕ
@@ -33,8 +33,8 @@ can_begin full_l may_l full_r may_r = bit_and (bit_and may_l may_r) (near (bit_o
 abbrev pub met_code : ℕ → ℕ → ℕ → ℕ → ℕ → ℕ
 met_code full_l may_l full_r may_r want =
     if want == 0 then (if must_differ full_l may_l full_r may_r == 0 then 1 else 0)
-    else (if want == 1 then (if without (can_differ full_l may_l full_r may_r) (near (can_begin full_l may_l full_r may_r)) == 0 then 0 else 1)
-    else (if bit_and (can_differ full_l may_l full_r may_r) (near (bit_or full_l full_r)) == 0 then 0 else 1))
+    else (if want == 1 then (if bits_without (may_differ full_l may_l full_r may_r) (near (can_begin full_l may_l full_r may_r)) == 0 then 0 else 1)
+    else (if bit_and (may_differ full_l may_l full_r may_r) (near (bit_or full_l full_r)) == 0 then 0 else 1))
 
 -- of the two at a place
 abbrev pub met_at : List ℕ → List ℕ → List ℕ → List ℕ → List ℕ → ℕ → ℕ

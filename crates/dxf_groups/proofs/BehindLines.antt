@@ -4,7 +4,7 @@ use Rattle.std.specs.List.{after_first, starts_with}
 use Rattle.solid_model.specs.declared.fault.Fault.{Fault}
 use Rattle.solid_model.specs.declared.fault.Fault.TheVariants.{Binary}
 use Rattle.solid_model.specs.Limits.{most_text_bytes}
-use Rattle.dxf_groups.specs.Pairs.{behind_end, binary_sentinel, pairs_of, rest_of, without_mark}
+use Rattle.dxf_groups.specs.Pairs.{behind_end, binary_sentinel, pairs_of, rest_of_text, without_mark}
 use Rattle.dxf_groups.specs.ReadPairs.{StandsIn, end_line_of, left_from}
 use Rattle.dxf_groups.specs.TextLines.{behind_lines, is_feed}
 
@@ -56,8 +56,8 @@ stands_at_mark text place short within mark ending same passed = record {
 -- a reader that has read the end pair stands before the rest of its text
 pub rest_behind : (text : List ℕ) (place line end : ℕ) (ending : Option (Result ℕ Fault))
     → StandsIn text place line ending → end_line_of ending ≡ Some end
-    → rest_of text ≡ Some (drop place text)
-unfolding rest_of
+    → rest_of_text text ≡ Some (drop place text)
+unfolding rest_of_text
 rest_behind text place line end None stands is = absurd cc
 rest_behind text place line end (Some (Err fault)) stands is = absurd cc
 rest_behind text place line end (Some (Ok read)) stands is =

@@ -83,5 +83,5 @@ behind_end (Ok line) text = Some (behind_lines (line + 1) text)
 behind_end (Err fault) text = None
 
 -- what stands in a text behind the two lines of its end pair; None where its pairs end by a fault
-unfoldable pub rest_of : List ℕ → Option (List ℕ)
-rest_of text = behind_end (pairs_of text).ending (without_mark text)
+unfoldable pub rest_of_text : List ℕ → Option (List ℕ)
+rest_of_text text = behind_end (pairs_of text).ending (without_mark text)

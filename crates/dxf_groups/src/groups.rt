@@ -4,7 +4,7 @@
 
 ghost use Rattle.std.specs.Prelude.{◌≡◌, ◌↔◌, ◌≤◌, length, drop, Some, None, IfSome};
 ghost use Rattle.dxf_groups.specs.Groups.{GroupsState, Gives};
-ghost use Rattle.dxf_groups.specs.Pairs.{pairs_of, rest_of, without_mark};
+ghost use Rattle.dxf_groups.specs.Pairs.{pairs_of, rest_of_text, without_mark};
 ghost use Rattle.dxf_groups.specs.Spans.{IsSpanIn, span_of};
 ghost use Rattle.solid_model.specs.Limits.{most_text_bytes};
 
@@ -118,7 +118,7 @@ impl Groups {
     pub fn after_end(&self) -> Option<usize>
         ensures read { (result ≡ None) ↔ (self.now.end_line ≡ None) }
         ensures within { IfSome result (λ place. place ≤ length self.now.text) }
-        ensures rest { IfSome result (λ place. rest_of self.now.text
+        ensures rest { IfSome result (λ place. rest_of_text self.now.text
             ≡ Some (drop place self.now.text)) }
     {
         self.end_line()?;

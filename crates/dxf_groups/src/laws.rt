@@ -5,7 +5,7 @@ ghost use Rattle.solid_model.specs.declared.fault.Fault.TheVariants.{BadCode, Bi
 ghost use Rattle.lemmas.specs.Lists.{Each};
 ghost use Rattle.dxf_groups.specs.declared.numerals.NumeralFault.TheVariants as numeral;
 ghost use Rattle.dxf_groups.specs.Numerals.{IsNumeral, Numeral, numeral_of, scaled_of, whole_of};
-ghost use Rattle.dxf_groups.specs.Pairs.{ended, pairs_of, rest_of, utf8_mark, with_pair};
+ghost use Rattle.dxf_groups.specs.Pairs.{ended, pairs_of, rest_of_text, utf8_mark, with_pair};
 ghost use Rattle.dxf_groups.specs.SmallTexts.{pair_on, pairs_of_marked};
 ghost use Rattle.dxf_groups.specs.TextLines.{behind_lines, text_lines};
 
@@ -55,18 +55,18 @@ pub fn small_texts()
 
 /// What stands behind the end pair of small texts, written out by hand: its two lines and what stands
 /// before them are passed, and nothing else.
-#[tactic(auto, unfolding(crate::specs::Pairs::pairs_of, crate::specs::Pairs::rest_of))]
+#[tactic(auto, unfolding(crate::specs::Pairs::pairs_of, crate::specs::Pairs::rest_of_text))]
 pub fn small_rests()
-    ensures nothing { Each (λ text. rest_of text ≡ Some [])
+    ensures nothing { Each (λ text. rest_of_text text ≡ Some [])
         (codes "0\nEOF" ∷ codes "0\nEOF\r" ∷ codes "0\nEOF\n"
         ∷ codes "999\n\n 0\neof \r\n" ∷ []) }
-    ensures returns { rest_of (codes "0\r\nEOF\r\nlog 1\r\n") ≡ Some (codes "log 1\r\n") }
-    ensures no_feed_behind { rest_of (codes "1\nA\n0\nEOF\nlog 1") ≡ Some (codes "log 1") }
-    ensures empty_lines { rest_of (codes "0\nEOF\n\n \n") ≡ Some (codes "\n \n") }
-    ensures second_end { rest_of (codes "0\nEOF\n0\nEOF\nx") ≡ Some (codes "0\nEOF\nx") }
-    ensures mark { rest_of (utf8_mark ++ codes "0\nEOF\nx") ≡ Some (codes "x") }
-    ensures mark_behind { rest_of (codes "0\nEOF\n" ++ utf8_mark) ≡ Some utf8_mark }
-    ensures none { Each (λ text. rest_of text ≡ None)
+    ensures returns { rest_of_text (codes "0\r\nEOF\r\nlog 1\r\n") ≡ Some (codes "log 1\r\n") }
+    ensures no_feed_behind { rest_of_text (codes "1\nA\n0\nEOF\nlog 1") ≡ Some (codes "log 1") }
+    ensures empty_lines { rest_of_text (codes "0\nEOF\n\n \n") ≡ Some (codes "\n \n") }
+    ensures second_end { rest_of_text (codes "0\nEOF\n0\nEOF\nx") ≡ Some (codes "0\nEOF\nx") }
+    ensures mark { rest_of_text (utf8_mark ++ codes "0\nEOF\nx") ≡ Some (codes "x") }
+    ensures mark_behind { rest_of_text (codes "0\nEOF\n" ++ utf8_mark) ≡ Some utf8_mark }
+    ensures none { Each (λ text. rest_of_text text ≡ None)
         (codes "" ∷ codes "0\n" ∷ codes "0\nEOF1\n" ∷ codes "EOF\n0\nEOF\nx" ∷ []) }
 {}
 

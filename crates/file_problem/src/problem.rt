@@ -4,7 +4,7 @@
 
 ghost use Rattle.std.specs.Prelude.{◌≡◌, ◌⊎◌, ◌≤◌, ℕ, length, drop, Some, Ok, IfOk, OnOk, IsErrOf};
 ghost use Rattle.dxf_groups.specs.Groups.{IsReadThrough};
-ghost use Rattle.dxf_groups.specs.Pairs.{pairs_of, rest_of};
+ghost use Rattle.dxf_groups.specs.Pairs.{pairs_of, rest_of_text};
 ghost use Rattle.file_problem.specs.Inputs.{HasEmptyView, HasFineAxis, HasProblem, Input, IsFaultAfter, IsFileFault};
 ghost use Rattle.solid_model.specs.declared.fault.Fault.{Fault};
 ghost use Rattle.solid_model.specs.declared.fault.Fault.TheVariants.{TooLong};
@@ -111,7 +111,7 @@ pub fn problem_and_rest(alloc: Global, text: Vec<u8>) -> Result<(Problem, Vec<u8
     requires { length text.items ≤ most_text_bytes }
     ensures problem { IfOk result (λ found. HasProblem
         (record { bytes = text.items; decimals = 0; most = most_text_bytes }) found.0) }
-    ensures rest { IfOk result (λ found. rest_of text.items ≡ Some found.1.items) }
+    ensures rest { IfOk result (λ found. rest_of_text text.items ≡ Some found.1.items) }
     ensures fault { (fault : Fault) → IsErrOf result (refused.Fault fault)
         → IsFileFault (record { bytes = text.items; decimals = 0; most = most_text_bytes }) fault }
     ensures not_long { IsErrOf result (refused.Fault TooLong) → ⊥ }

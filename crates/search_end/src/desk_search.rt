@@ -8,7 +8,7 @@ ghost use Rattle.std.specs.Arc.{arc_value};
 ghost use Rattle.solid_model.specs.Forcing.{is_live};
 ghost use Rattle.search_core.specs.Desk.{IsDesk};
 ghost use Rattle.search_tree.specs.BlockPaths.{IsWayOf};
-ghost use Rattle.search_end.specs.GoingOn.{GoesOn};
+ghost use Rattle.search_end.specs.GoingOn.{DeskGoesOn};
 
 use crate::kept::keep_all;
 use search_core::{Desk, Reported};
@@ -73,7 +73,7 @@ fn try_piece(
 ) -> Result<(), Memory>
     requires way { IsWayOf desk.old.problem path.old }
     ensures way { OnOk result (IsWayOf desk.new.problem path.new) }
-    ensures goes_on { OnOk result (GoesOn desk.old desk.new) }
+    ensures goes_on { OnOk result (DeskGoesOn desk.old desk.new) }
 {
     // A look at the desk tells that it stands as its history leaves it.
     let _end = desk.end();
@@ -100,7 +100,7 @@ fn go_deep(
     requires way { IsWayOf desk.old.problem path.old }
     requires kept { IsDesk desk.old }
     ensures way { OnOk result (IsWayOf desk.new.problem path.new) }
-    ensures goes_on { OnOk result (GoesOn desk.old desk.new) }
+    ensures goes_on { OnOk result (DeskGoesOn desk.old desk.new) }
 {
     let mut kept = kept;
     for _ in 0..u64::MAX {

@@ -7,7 +7,7 @@ use Rattle.std.specs.Str.{bytes_eq}
 use Rattle.std.proofs.lemmas.Slice.Eq.{bytes_eq-Decides}
 use Rattle.clap.specs.Lexer.{long_of}
 use Rattle.words.specs.declared.table.Range.{Range}
-use Rattle.words.specs.Barred.{is_barred}
+use Rattle.words.specs.Barred.{is_barred_word}
 use Rattle.words.specs.Jobs.{Command, command_said, commands, job_said, said_among}
 use Rattle.words.specs.Words.{Field, Table, Text, Use, Word, after_word, field_word, fits_after, has_number, lies_in_range, number_word, opens, option_of, option_word, put, says, stray, suits, taken, uses, where_fit, word_as, word_of}
 use Rattle.clap.proofs.WalkLemmas.{both}
@@ -17,8 +17,8 @@ use Rattle.words.proofs.Texts.{barred_no_number, barred_value, clear_flag, eithe
 
 -- a barred word is none, or a use that no option takes
 abbrev IsUnfit : Text → Word → Type 0
-IsUnfit x (says u) = is_barred x ≡ true → suits u ≡ false
-IsUnfit x (opens f) = (is_some f.range ≡ true) × (is_barred x ≡ false)
+IsUnfit x (says u) = is_barred_word x ≡ true → suits u ≡ false
+IsUnfit x (opens f) = (is_some f.range ≡ true) × (is_barred_word x ≡ false)
 IsUnfit x stray = ⊤
 
 clash : {P : Type 0} (b : Bool) → b ≡ true → b ≡ false → P
@@ -27,7 +27,7 @@ clash b e h = absurd (true≢false (sym e ∙ h))
 field_unfit : (x : Text) (p : Text × Option Text) (v : Option Text) (name : Text) (range : Option Range) → long_of x ≡ Some p
     → p.1 ≡ v
     → IsUnfit x (field_word (record { name = name; range = range }) range v)
-field_unfit x p None name None long is = λ barred. clash (is_barred x) barred (clear_flag x p long is)
+field_unfit x p None name None long is = λ barred. clash (is_barred_word x) barred (clear_flag x p long is)
 field_unfit x p (Some v) name None long is = tt
 field_unfit x p None name (Some r) long is = (refl, clear_flag x p long is)
 field_unfit x p (Some v) name (Some r) long is = λ barred. not_within r v (barred_value x p v barred long is)
@@ -55,14 +55,14 @@ module _ (t : Table) where
   unsuited_put : (us : List Use) (u : Use) (o : Option (List Use)) → suits u ≡ false → joined us (put u o) ≡ None
   unsuited_put us u o e = joined_put us u o ∙ joined_unfit (us ++ u ∷ []) o (unsuited us u e)
 
-  value_unsuited : (f : Field) (x : Text) → is_some f.range ≡ true → is_barred x ≡ true → suits (f, x) ≡ false
+  value_unsuited : (f : Field) (x : Text) → is_some f.range ≡ true → is_barred_word x ≡ true → suits (f, x) ≡ false
   value_unsuited f x ranged barred = go f.range ranged
     where
       go : (n : Option Range) → is_some n ≡ true → option_map_or (λ r. lies_in_range r x) n true ≡ false
       go None e = absurd (true≢false (sym e))
       go (Some r) e = not_within r x (barred_no_number x barred)
 
-  here : (x : Text) (xs : List Text) → is_barred x ≡ true → Never (x ∷ xs)
+  here : (x : Text) (xs : List Text) → is_barred_word x ≡ true → Never (x ∷ xs)
   here x xs barred = (
     λ us. first us (word_of t x) (word_unfit t x),
     λ us f ranged. unsuited_put us (f, x) (uses t None xs)
@@ -72,7 +72,7 @@ module _ (t : Table) where
       first : (us : List Use) (w : Word) → IsUnfit x w → joined us (after_word w (uses t None xs) (λ f. uses t (Some f) xs))
           ≡ None
       first us (says u) unfit = unsuited_put us u (uses t None xs) (unfit barred)
-      first us (opens f) unfit = clash (is_barred x) barred unfit.1
+      first us (opens f) unfit = clash (is_barred_word x) barred unfit.1
       first us stray unfit = refl
 
   later : (x : Text) (xs : List Text) → Never xs → Never (x ∷ xs)
@@ -88,9 +88,9 @@ module _ (t : Table) where
       first us (opens f) unfit = never.1 us f unfit.0
       first us stray unfit = refl
 
-  never_joined : (words : List Text) → list_any is_barred words ≡ true → Never words
+  never_joined : (words : List Text) → list_any is_barred_word words ≡ true → Never words
   never_joined [] e = absurd (true≢false (sym e))
-  never_joined (x ∷ xs) e = either (is_barred x) (list_any is_barred xs) e (λ h. here x xs h)
+  never_joined (x ∷ xs) e = either (is_barred_word x) (list_any is_barred_word xs) e (λ h. here x xs h)
       (λ h. later x xs (never_joined xs h))
 
   unjoined : (o : Option (List Use)) → joined [] o ≡ None → where_fit t o ≡ None
@@ -101,15 +101,15 @@ module _ (t : Table) where
       go true b h = cc
       go false b h = refl
 
-  pub never_taken : (words : List Text) → list_any is_barred words ≡ true → taken t words ≡ None
+  pub never_taken : (words : List Text) → list_any is_barred_word words ≡ true → taken t words ≡ None
   never_taken words e = unjoined (uses t None words) ((never_joined words e).0 [])
 
 -- a command whose name isn't barred says no job by barred words, nor does any of such commands
-command_unsaid : (c : Command) (words : List Text) → list_any is_barred words ≡ true → command_said c words ≡ None
+command_unsaid : (c : Command) (words : List Text) → list_any is_barred_word words ≡ true → command_said c words ≡ None
 command_unsaid c words e = ap (option_map c.job) (never_taken c.table words e)
 
-unsaid_among : (cs : List Command) → list_all (λ c. not (is_barred c.name)) cs ≡ true → (name : Text) (words : List Text)
-    → list_any is_barred (name ∷ words) ≡ true → said_among cs name words ≡ None
+unsaid_among : (cs : List Command) → list_all (λ c. not (is_barred_word c.name)) cs ≡ true → (name : Text) (words : List Text)
+    → list_any is_barred_word (name ∷ words) ≡ true → said_among cs name words ≡ None
 unsaid_among [] clear name words e = refl
 unsaid_among (c ∷ cs) clear name words e =
     go (bytes_eq name c.name) refl (unsaid_among cs (both _ _ clear).1 name words e)
@@ -122,11 +122,11 @@ unsaid_among (c ∷ cs) clear name words e =
         → cond b (command_said c words) (said_among cs name words) ≡ None
     go false is later = later
     go true is later =
-        let same : is_barred name ≡ false = ap is_barred ((bytes_eq-Decides name c.name).0 is)
-        ∙ unbarred (is_barred c.name) (both _ _ clear).0 in
-        command_unsaid c words (sym (ap (λ b. b || list_any is_barred words) same) ∙ e)
+        let same : is_barred_word name ≡ false = ap is_barred_word ((bytes_eq-Decides name c.name).0 is)
+        ∙ unbarred (is_barred_word c.name) (both _ _ clear).0 in
+        command_unsaid c words (sym (ap (λ b. b || list_any is_barred_word words) same) ∙ e)
 
 -- no job is said by barred words
-pub barred_unsaid : (words : List Text) → list_any is_barred words ≡ true → job_said words ≡ None
+pub barred_unsaid : (words : List Text) → list_any is_barred_word words ≡ true → job_said words ≡ None
 barred_unsaid [] e = refl
 barred_unsaid (name ∷ words) e = unsaid_among commands refl name words e

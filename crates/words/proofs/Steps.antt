@@ -13,7 +13,7 @@ use Rattle.clap.specs.Simple.{filled}
 use Rattle.clap.specs.Walk.{Held, Row, Rule, arg_by_index, arg_by_long, idle, is_pending, option, option_word, pushed, settled, settled_rows, takes_values, to_positional}
 use Rattle.clap.proofs.WalkLemmas.{both}
 use Rattle.words.specs.declared.table.Range.{Range}
-use Rattle.words.specs.Barred.{is_barred}
+use Rattle.words.specs.Barred.{is_barred_word}
 use Rattle.words.specs.Rows.{is_range, is_sound}
 use Rattle.words.specs.Rules.{rule_by}
 use Rattle.words.specs.Words as def
@@ -93,7 +93,7 @@ module _ (t : Table) (sound : is_sound t ≡ true) where
 
   -- ---- a long word, where nothing waits
 
-  module _ (x : Text) (xs : List Text) (clear : is_barred x ≡ false) (later : Idle xs) (waiting : Waits xs) where
+  module _ (x : Text) (xs : List Text) (clear : is_barred_word x ≡ false) (later : Idle xs) (waiting : Waits xs) where
     at_option : (rows : List Row) (pending : Option (Text × List Text)) (us : List Use) (position : ℕ) (p : Text × Option Text)
         (v : Option Text) (name : Text) (range : Option Range)
         → Stands t rows pending us → Place position us → long_of x ≡ Some p → p.1 ≡ v → option_of t p.0
@@ -305,14 +305,14 @@ module _ (t : Table) (sound : is_sound t ≡ true) where
 
   -- ---- all words
 
-  all_words : (words : List Text) → list_any is_barred words ≡ false → Idle words × Waits words
+  all_words : (words : List Text) → list_any is_barred_word words ≡ false → Idle words × Waits words
   all_words [] clear = (idle_end, waits_end)
   all_words (x ∷ xs) clear =
-      let parts = neither (is_barred x) (list_any is_barred xs) clear in
+      let parts = neither (is_barred_word x) (list_any is_barred_word xs) clear in
       let later = all_words xs parts.1 in
       (idle_step x xs parts.0 later.0 later.1, waits_step x xs parts.0 later.0 later.1)
 
   -- the walk over words makes the rows of their uses, where these fit
-  pub walked_uses : (words : List Text) → list_any is_barred words ≡ false → outcome t (standing idle (held [] None) 1) words
+  pub walked_uses : (words : List Text) → list_any is_barred_word words ≡ false → outcome t (standing idle (held [] None) 1) words
       ≡ joined [] (uses t None words)
   walked_uses words clear = (all_words words clear).0 [] None [] 1 (record { fault = refl; settled = λ e. refl }) (inl refl)

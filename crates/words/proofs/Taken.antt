@@ -12,7 +12,7 @@ use Rattle.clap.specs.declared.error.kind.ErrorKind.{ErrorKind}
 use Rattle.clap.specs.declared.error.kind.ErrorKind.TheVariants.{OutOfMemory}
 use Rattle.clap.specs.declared.parser.matches.ArgMatches.{ArgMatches}
 use Rattle.clap.proofs.WalkLemmas.{both, one_text-rows}
-use Rattle.words.specs.Barred.{is_barred}
+use Rattle.words.specs.Barred.{is_barred_word}
 use Rattle.words.specs.Rows.{IsRead, is_sound}
 use Rattle.words.specs.Rules.{app_by, rules_of}
 use Rattle.words.specs.Words.{Table, Text, Use, fits_after, has_number, taken, uses, where_fit}
@@ -86,7 +86,7 @@ record IsAnswered (t : Table) (words : List Text) : Type 0 where
       × (rows_after (built_rules t) [] words ≡ fold with_default (map use_row us) (built_rules t))
   pub not_said : none (level t words) ≡ false → taken t words ≡ None
 
-answered : (t : Table) (words : List Text) → is_sound t ≡ true → list_any is_barred words ≡ false → IsAnswered t words
+answered : (t : Table) (words : List Text) → is_sound t ≡ true → list_any is_barred_word words ≡ false → IsAnswered t words
 answered t words sound clear = go (uses t None words) refl
   where
     start : outcome t (standing idle (held [] None) 1) words ≡ joined [] (uses t None words)
@@ -124,7 +124,7 @@ nothing_among : (k : ErrorKind) (kinds : Kinds) → IsAmong k kinds → none kin
 nothing_among k [] h = absurd h
 nothing_among k (x ∷ xs) h = refl
 
-pub read : (t : Table) (words : List Text) (m : ArgMatches) → is_sound t ≡ true → list_any is_barred (drop 1 words) ≡ false
+pub read : (t : Table) (words : List Text) (m : ArgMatches) → is_sound t ≡ true → list_any is_barred_word (drop 1 words) ≡ false
     → HasMatchesOf (app_by (rules_of t)) words m → fault_of (app_by (rules_of t)) words ≡ [] → IsRead t (drop 1 words) m
 read t words m sound clear matches fault =
     let got = (answered t (drop 1 words) sound clear).said (ap none (sym (fault_is t words) ∙ fault)) in
@@ -132,7 +132,7 @@ read t words m sound clear matches fault =
     ∙ rows_are t words ∙ got.2 in
     (got.0, got.1, λ name. one_text-rows (found_of m) name ∙ ap (one_of name) rows ∙ read_rows t got.0 name)
 
-pub refused : (t : Table) (words : List Text) (e : Error) → is_sound t ≡ true → list_any is_barred (drop 1 words) ≡ false
+pub refused : (t : Table) (words : List Text) (e : Error) → is_sound t ≡ true → list_any is_barred_word (drop 1 words) ≡ false
     → ((kind_of e ≡ OutOfMemory) ⊎ IsAmong (kind_of e) (fault_of (app_by (rules_of t)) words)) → (kind_of e ≡ OutOfMemory → ⊥)
     → taken t (drop 1 words) ≡ None
 refused t words e sound clear kinds other = ⊎_elim
@@ -142,6 +142,6 @@ refused t words e sound clear kinds other = ⊎_elim
     ∙ nothing_among (kind_of e) (fault_of (app_by (rules_of t)) words) h))
     kinds
 
-pub rest_clear : (words : List Text) → list_any is_barred words ≡ false → list_any is_barred (drop 1 words) ≡ false
+pub rest_clear : (words : List Text) → list_any is_barred_word words ≡ false → list_any is_barred_word (drop 1 words) ≡ false
 rest_clear [] e = refl
-rest_clear (w ∷ ws) e = (neither (is_barred w) (list_any is_barred ws) e).1
+rest_clear (w ∷ ws) e = (neither (is_barred_word w) (list_any is_barred_word ws) e).1

@@ -12,7 +12,7 @@ use Rattle.clap.specs.Lexer.{has_byte, long_of, long_of_rest, name_and_value, sh
 use Rattle.clap.specs.ValueTests.{is_numeral, is_unsigned_in}
 use Rattle.clap.proofs.WalkLemmas.{both}
 use Rattle.words.specs.declared.table.Range.{Range}
-use Rattle.words.specs.Barred.{begins_with_plus, has_equals_plus, is_barred}
+use Rattle.words.specs.Barred.{begins_with_plus, has_equals_plus, is_barred_word}
 use Rattle.words.specs.Words.{Text, is_digits, lies_in_range}
 
 -- ---- digits
@@ -108,7 +108,7 @@ plus_inside (c ∷ cs) e = either (c == 61 && begins_with_plus cs) (has_equals_p
     (λ h. or_true (c == 43) (has_byte 43 cs) (plus_first cs (both _ _ h).1))
     (λ h. or_true (c == 43) (has_byte 43 cs) (plus_inside cs h))
 
-pub barred_no_number : (w : Text) → is_barred w ≡ true → is_digits w ≡ false
+pub barred_no_number : (w : Text) → is_barred_word w ≡ true → is_digits w ≡ false
 barred_no_number w e = either (begins_with_plus w) (has_equals_plus w || bytes_eq w (codes "--")) e
     (λ h. no_number w (plus_first w h))
     (λ rest. either (has_equals_plus w) (bytes_eq w (codes "--")) rest
@@ -229,7 +229,7 @@ or_false : (b : Bool) → (b || false) ≡ b
 or_false true = refl
 or_false false = refl
 
-barred_long : (y : ℕ) (ys : Text) → is_barred (45 ∷ 45 ∷ y ∷ ys) ≡ has_equals_plus (y ∷ ys)
+barred_long : (y : ℕ) (ys : Text) → is_barred_word (45 ∷ 45 ∷ y ∷ ys) ≡ has_equals_plus (y ∷ ys)
 barred_long y ys = or_false (has_equals_plus (y ∷ ys))
 
 not_true : (b : Bool) → (b ≡ true → ⊥) → b ≡ false
@@ -241,30 +241,30 @@ neither true b e = absurd (true≢false e)
 neither false b e = (refl, e)
 
 -- the value of a word that isn't barred doesn't begin with `+`
-pub clear_value : (x : Text) (p : Text × Option Text) (v : Text) → is_barred x ≡ false → long_of x ≡ Some p → p.1 ≡ Some v
+pub clear_value : (x : Text) (p : Text × Option Text) (v : Text) → is_barred_word x ≡ false → long_of x ≡ Some p → p.1 ≡ Some v
     → begins_with_plus v ≡ false
 clear_value x p v clear e is =
     let at = given_at x p v e is in
-    let clean : has_equals_plus (at.0 ∷ at.1) ≡ false = sym (barred_long at.0 at.1) ∙ ap is_barred (sym at.2) ∙ clear in
+    let clean : has_equals_plus (at.0 ∷ at.1) ≡ false = sym (barred_long at.0 at.1) ∙ ap is_barred_word (sym at.2) ∙ clear in
     not_true (begins_with_plus v) (λ h. true≢false (sym (value_plus_first (at.0 ∷ at.1) (ap begins_with_plus at.3 ∙ h)) ∙ clean))
 
 -- and that of one that is barred has a `+`
-pub barred_value : (x : Text) (p : Text × Option Text) (v : Text) → is_barred x ≡ true → long_of x ≡ Some p → p.1 ≡ Some v
+pub barred_value : (x : Text) (p : Text × Option Text) (v : Text) → is_barred_word x ≡ true → long_of x ≡ Some p → p.1 ≡ Some v
     → is_digits v ≡ false
 barred_value x p v barred e is =
     let at = given_at x p v e is in
-    let inside : has_equals_plus (at.0 ∷ at.1) ≡ true = sym (barred_long at.0 at.1) ∙ ap is_barred (sym at.2) ∙ barred in
+    let inside : has_equals_plus (at.0 ∷ at.1) ≡ true = sym (barred_long at.0 at.1) ∙ ap is_barred_word (sym at.2) ∙ barred in
     no_number v (ap (has_byte 43) (sym at.3) ∙ (value_has_plus (at.0 ∷ at.1) inside).1)
 
 -- a long word with no value isn't barred
-pub clear_flag : (x : Text) (p : Text × Option Text) → long_of x ≡ Some p → p.1 ≡ None → is_barred x ≡ false
+pub clear_flag : (x : Text) (p : Text × Option Text) → long_of x ≡ Some p → p.1 ≡ None → is_barred_word x ≡ false
 clear_flag x p e is =
     let form = long_form x p e in
     let without = no_value (has_byte 61 (form.0 ∷ form.1)) (after_equals (form.0 ∷ form.1))
     (sym (ap (λ (q : Text × Option Text). q.1) form.3) ∙ is) in
-    ap is_barred form.2 ∙ barred_long form.0 form.1
+    ap is_barred_word form.2 ∙ barred_long form.0 form.1
     ∙ not_true (has_equals_plus (form.0 ∷ form.1)) (λ h. true≢false (sym (value_has_plus (form.0 ∷ form.1) h).0 ∙ without))
 
 -- a word that isn't barred begins with no `+` and isn't `--`
-pub clear_word : (x : Text) → is_barred x ≡ false → (begins_with_plus x ≡ false) × (bytes_eq x (codes "--") ≡ false)
+pub clear_word : (x : Text) → is_barred_word x ≡ false → (begins_with_plus x ≡ false) × (bytes_eq x (codes "--") ≡ false)
 clear_word x e = let outer = neither (begins_with_plus x) _ e in (outer.0, (neither (has_equals_plus x) _ outer.1).1)

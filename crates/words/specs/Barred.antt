@@ -14,5 +14,5 @@ has_equals_plus [] = false
 has_equals_plus (c ∷ cs) = (c == 61 && begins_with_plus cs) || has_equals_plus cs
 
 -- the word begins with `+`, has `=+` in it or is `--`
-abbrev pub is_barred : Text → Bool
-is_barred word = begins_with_plus word || (has_equals_plus word || bytes_eq word (codes "--"))
+abbrev pub is_barred_word : Text → Bool
+is_barred_word word = begins_with_plus word || (has_equals_plus word || bytes_eq word (codes "--"))

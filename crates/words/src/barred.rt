@@ -4,7 +4,7 @@
 
 ghost use Rattle.std.specs.Prelude.{◌≡◌, string_bytes, map};
 ghost use Rattle.std.specs.List.{list_any};
-ghost use Rattle.words.specs.Barred.{begins_with_plus, has_equals_plus, is_barred};
+ghost use Rattle.words.specs.Barred.{begins_with_plus, has_equals_plus, is_barred_word};
 
 /// The text begins with `+`.
 fn begins_with_plus(text: &[u8]) -> bool
@@ -26,8 +26,8 @@ fn has_equals_plus(text: &[u8]) -> bool
 }
 
 /// The word begins with `+`, has `=+` in it or is `--`.
-fn is_barred(word: &str) -> bool
-    ensures { result ≡ is_barred word.now }
+fn is_barred_word(word: &str) -> bool
+    ensures { result ≡ is_barred_word word.now }
 {
     let text = word.as_bytes();
     begins_with_plus(text) || has_equals_plus(text) || word == "--"
@@ -35,10 +35,10 @@ fn is_barred(word: &str) -> bool
 
 /// Such a word is among them.
 pub fn some_barred(words: &[String]) -> bool
-    ensures { result ≡ list_any is_barred (map string_bytes words.now) }
+    ensures { result ≡ list_any is_barred_word (map string_bytes words.now) }
 {
     for word in words {
-        if is_barred(word.as_str()) {
+        if is_barred_word(word.as_str()) {
             return true;
         }
     }

@@ -6,7 +6,7 @@ ghost use Rattle.std.specs.Str.Parse.{digits_value};
 ghost use Rattle.clap.specs.Words.{found_of, one_text};
 ghost use Rattle.words.specs.declared.job.Job.TheVariants as job;
 ghost use Rattle.words.specs.declared.job.WordFault.TheVariants as word_fault;
-ghost use Rattle.words.specs.Barred.{is_barred};
+ghost use Rattle.words.specs.Barred.{is_barred_word};
 ghost use Rattle.words.specs.Jobs.{decimals_in, job_said, limits_in, make_table, number_in, pages_in, redraw_table, solve_table, stl_table, trial_table, workers_in};
 ghost use Rattle.words.specs.Rows.{table_of};
 ghost use Rattle.words.specs.Words.{lies_in_range, number_name, taken};
@@ -225,7 +225,7 @@ fn which_of(matches: &ArgMatches<'_>) -> u32
 
 /// The job of `solve`.
 fn solve_of(alloc: Global, words: &[String]) -> Result<Job, WordFault>
-    requires { list_any is_barred (map string_bytes words.now) ≡ false }
+    requires { list_any is_barred_word (map string_bytes words.now) ≡ false }
     ensures { MatchResult result
         (λ asked. option_map
         (λ us. job.Solve (workers_in us) (limits_in us) (pages_in us) (decimals_in us))
@@ -245,7 +245,7 @@ fn solve_of(alloc: Global, words: &[String]) -> Result<Job, WordFault>
 
 /// The job of `redraw`.
 fn redraw_of(alloc: Global, words: &[String]) -> Result<Job, WordFault>
-    requires { list_any is_barred (map string_bytes words.now) ≡ false }
+    requires { list_any is_barred_word (map string_bytes words.now) ≡ false }
     ensures { MatchResult result
         (λ asked. option_map
         (λ us. job.Redraw (number_in us) (workers_in us) (limits_in us) (decimals_in us))
@@ -265,7 +265,7 @@ fn redraw_of(alloc: Global, words: &[String]) -> Result<Job, WordFault>
 
 /// The job of `stl`.
 fn stl_of(alloc: Global, words: &[String]) -> Result<Job, WordFault>
-    requires { list_any is_barred (map string_bytes words.now) ≡ false }
+    requires { list_any is_barred_word (map string_bytes words.now) ≡ false }
     ensures { MatchResult result
         (λ asked. option_map (λ us. job.Stl (number_in us) (workers_in us) (limits_in us))
         (taken stl_table (drop 1 (map string_bytes words.now))) ≡ Some asked)
@@ -293,7 +293,7 @@ fn seed_of(matches: &ArgMatches<'_>) -> u64
 
 /// The job of `make`.
 fn make_of(alloc: Global, words: &[String]) -> Result<Job, WordFault>
-    requires { list_any is_barred (map string_bytes words.now) ≡ false }
+    requires { list_any is_barred_word (map string_bytes words.now) ≡ false }
     ensures { MatchResult result
         (λ asked. option_map (λ us. job.Make (number_in us))
         (taken make_table (drop 1 (map string_bytes words.now))) ≡ Some asked)
@@ -309,7 +309,7 @@ fn make_of(alloc: Global, words: &[String]) -> Result<Job, WordFault>
 
 /// The job of `trial`.
 fn trial_of(alloc: Global, words: &[String]) -> Result<Job, WordFault>
-    requires { list_any is_barred (map string_bytes words.now) ≡ false }
+    requires { list_any is_barred_word (map string_bytes words.now) ≡ false }
     ensures { MatchResult result
         (λ asked. option_map (λ us. job.Trial (number_in us) (workers_in us))
         (taken trial_table (drop 1 (map string_bytes words.now))) ≡ Some asked)

@@ -6,7 +6,7 @@ ghost use Rattle.std.specs.Str.Parse.{digits_value};
 ghost use Rattle.clap.specs.Words.{app_of, found_of, kind_of, one_text, rule_of};
 ghost use Rattle.clap.specs.declared.error.kind.ErrorKind.TheVariants.{OutOfMemory};
 ghost use Rattle.words.specs.declared.job.WordFault.TheVariants as word_fault;
-ghost use Rattle.words.specs.Barred.{is_barred};
+ghost use Rattle.words.specs.Barred.{is_barred_word};
 ghost use Rattle.words.specs.Rows.{IsRead, field_of, is_sound, table_of};
 ghost use Rattle.words.specs.Rules.{app_by, number_rule, option_rule, rules_of};
 ghost use Rattle.words.specs.Words.{lies_in_range, taken};
@@ -85,7 +85,7 @@ pub fn parse<'a>(
     words: &'a [String],
 ) -> Result<ArgMatches<'a>, WordFault>
     requires sound { is_sound (table_of table.now) ≡ true }
-    requires clear { list_any is_barred (map string_bytes words.now) ≡ false }
+    requires clear { list_any is_barred_word (map string_bytes words.now) ≡ false }
     ensures { MatchResult result (IsRead (table_of table.now) (drop 1 (map string_bytes words.now)))
         (λ e. e ≡ word_fault.Usage
         → taken (table_of table.now) (drop 1 (map string_bytes words.now)) ≡ None) }

@@ -2,7 +2,7 @@
 use Rattle.std.proofs.Common.{ℕ, List, bit_and, bit_or}
 use Rattle.std.specs.Int.RustNames.{bit_xor}
 use Rattle.column_lanes.specs.Lanes.{AreLanes}
-use Rattle.column_lanes.specs.Meets.{without}
+use Rattle.column_lanes.specs.Meets.{bits_without}
 use Rattle.column_lanes.proofs.EightLanes.{each_two, all_are, as_they_are, where_equal}
 use Rattle.column_lanes.proofs.met_bytes.met_lanes.Goals as goal
 use lib.Lanes.{zip2}

@@ -5,7 +5,7 @@ use Rattle.std.proofs.lemmas.Option.{MatchOption-at_none}
 use Rattle.solid_model.specs.Forcing.{is_live}
 use Rattle.search_core.specs.Reported.{IsReported}
 use Rattle.search_core.proofs.Desks.{piece_waits, piece_lives, report_opens}
-use Rattle.search_end.specs.GoingOn.{GoesOn}
+use Rattle.search_end.specs.GoingOn.{DeskGoesOn}
 use Rattle.search_end.proofs.desk_search.step.Goals as goal
 
 -- what holds where there is a value tells more there
@@ -30,4 +30,4 @@ returns-in-Ok-Taken-clause-opened c =
     let after = c.report.new.self in
     let answer = subst (IsReported before c.in-Some-2.expansion after) c.in-Ok-Taken.field-0-is c.in-Ok-Taken.ensures.answer in
     let opens = report_opens before after c.in-Some-2.expansion c.end-end.ensures.kept c.report.ensures.kept answer.1 in
-    on_ok c.go_deep.result (λ (on : GoesOn after c.go_deep.new.desk). omega (arith, opens, on.opened)) c.go_deep.ensures.goes_on
+    on_ok c.go_deep.result (λ (on : DeskGoesOn after c.go_deep.new.desk). omega (arith, opens, on.opened)) c.go_deep.ensures.goes_on
