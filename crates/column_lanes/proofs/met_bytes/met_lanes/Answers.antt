@@ -7,7 +7,7 @@ use Rattle.column_lanes.proofs.EightLanes.{each_two, all_are, as_they_are, where
 use Rattle.column_lanes.proofs.met_bytes.met_lanes.Goals as goal
 use lib.Lanes.{zip2}
 
-each_without : {xs ys : List ℕ} {x y : ℕ → ℕ} → AreLanes xs x → AreLanes ys y → AreLanes (zip2 bit_xor xs (zip2 bit_and xs ys)) (λ k. without (x k) (y k))
+each_without : {xs ys : List ℕ} {x y : ℕ → ℕ} → AreLanes xs x → AreLanes ys y → AreLanes (zip2 bit_xor xs (zip2 bit_and xs ys)) (λ k. bits_without (x k) (y k))
 each_without xs_are ys_are = each_two bit_xor xs_are (each_two bit_and xs_are ys_are)
 
 pub returns : goal.returns
