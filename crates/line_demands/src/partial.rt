@@ -74,6 +74,7 @@ impl<'p> Model for Partial<'p> {
     ghost use Rattle.line_demands.specs.Free.{AreDoubts};
     ghost use Rattle.line_demands.specs.KeptColumns.{IsKeptBy, AreValues};
     ghost use Rattle.line_demands.specs.WholeChoices.{HasRoomForLines};
+    ghost use Rattle.solid_model.specs.Blocks.{IsBlocksOf};
 
     ghost view = { λ s. record { problem = s.problem.now; decisions = s.decisions.items } };
 
@@ -83,7 +84,8 @@ impl<'p> Model for Partial<'p> {
         × AreValues s.problem.now.blocks.count s.decisions.items s.values.items
         × AreDoubts s.problem.now s.decisions.items s.doubts.items (vec_capacity s.doubts)
         × HasRoomForLines s.sides.items s.lines.items s.after.items s.before.items s.drawn.items
-        s.wanted.items };
+        s.wanted.items
+        × IsBlocksOf s.problem.now.grid s.problem.now.blocks };
 }
 
 impl<'p> Partial<'p> {
@@ -159,8 +161,6 @@ impl<'p> Partial<'p> {
         requires { block < self.now.problem.blocks.count }
         ensures { result ≡ touching self.now.problem block }
     {
-        // A look at the problem tells that its blocks are those of its grid.
-        let _grid = self.problem.grid();
         self.touched[usize::from(block)].as_slice().len() as u32
     }
 
@@ -172,8 +172,6 @@ impl<'p> Partial<'p> {
         ensures line { (d : LineId) → slice_get (lines_touching self.now.problem block) at
             ≡ Some (slice_index_or (lines_of self.now.problem.grid) result d) }
     {
-        // A look at the problem tells that its blocks are those of its grid.
-        let _grid = self.problem.grid();
         self.touched[usize::from(block)].as_slice()[at as usize] as usize
     }
 
@@ -187,8 +185,6 @@ impl<'p> Partial<'p> {
         } }
         ensures steps { steps.new ≤ steps.old + touching self.old.problem block }
     {
-        // A look at the problem tells that its blocks are those of its grid.
-        let _grid = self.problem.grid();
         let number = usize::from(block);
         set_spans(
             self.columns.as_mut_slice(),
@@ -216,8 +212,6 @@ impl<'p> Partial<'p> {
             × (self.old.decisions ≡ self.new.decisions ++ last ∷ []) }
         ensures none { result ≡ false → (self.old.decisions ≡ []) × (self.new ≡ self.old) }
     {
-        // A look at the problem tells that its blocks are those of its grid.
-        let _grid = self.problem.grid();
         match self.decisions.pop() {
             Some(last) => {
                 set_spans(
@@ -268,8 +262,7 @@ impl<'p> Partial<'p> {
         ensures few { length self.now.decisions ≤ self.now.problem.blocks.count }
         ensures each { AreDecisions self.now.problem.blocks.count self.now.decisions }
     {
-        // A look at the problem tells that its blocks are those of its grid.
-        let _grid = self.problem.grid();
+        // A look at the blocks tells that their number has 16 bits.
         let _count = self.problem.blocks().count();
         self.decisions.len() as u16
     }
@@ -325,8 +318,6 @@ impl<'p> Partial<'p> {
         ensures matches { TellsMatching self.old result }
         ensures met { IsTrue result ↔ AllMet self.old.problem (decided_by self.old.decisions) }
     {
-        // A look at the problem tells that its blocks are those of its grid.
-        let _grid = self.problem.grid();
         if self.broken_line().is_some() {
             return false;
         }
@@ -375,8 +366,6 @@ impl<'p> Partial<'p> {
             → result.line ≡ slice_index_or (lines_of self.now.problem.grid) number d }
         ensures seen { IsSeen self.now.problem (decided_by self.now.decisions) result }
     {
-        // A look at the problem tells that its blocks are those of its grid.
-        let _grid = self.problem.grid();
         seen_line(self.columns.as_slice(), self.sides[number])
     }
 }
@@ -401,8 +390,6 @@ fn decide_with<L: Ledger>(state: &mut Partial, block: u16, full: bool, blank: Bl
 fn first_broken(state: &Partial) -> Option<LineId>
     ensures { TellsBroken state.now.problem (decided_by state.now.decisions) result }
 {
-    // A look at the problem tells that its blocks are those of its grid.
-    let _grid = state.problem.grid();
     match least(state.broken.as_slice()) {
         Some(number) => Some(state.sides[number as usize].line),
         None => None,

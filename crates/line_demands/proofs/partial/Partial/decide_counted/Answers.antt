@@ -53,7 +53,7 @@ try_lines-doubts-requires-clause-sides g c =
     let columns = c.set_spans.new.columns in
     let seen : c.as_slice-2.result.now ≡ columns = c.as_slice-2.ensures.value ∙ take_at columns _ self.columns.len (c.set_spans.auto.columns ∙ c.as_mut_slice.ensures.len) in
     subst (AreBeside (length c.as_slice-2.result.now)) (sym c.as_slice-3.ensures.value)
-    (sides_inside self.problem.now c.grid-grid.ensures.kept self.spans.items self.touched.items self.sides.items self.decisions.items self.columns.items c.as_slice-2.result.now self.met.items self.heights.items self.broken.items
+    (sides_inside self.problem.now c.self.invariant.4 self.spans.items self.touched.items self.sides.items self.decisions.items self.columns.items c.as_slice-2.result.now self.met.items self.heights.items self.broken.items
     _ _ _ c.self.invariant.0 (ap length seen ∙ c.set_spans.auto.columns ∙ ap length c.as_mut_slice.ensures.value))
 
 -- what is kept with the decision
@@ -80,7 +80,7 @@ kept_now g c =
     subst (λ cs. AreTried cs self.sides.items (get_or self.touched.items d.block c.index-2.result.now) self.broken.items broken) seen
     (subst (λ bs. AreTried c.as_slice-2.result.now bs (get_or self.touched.items d.block c.index-2.result.now) self.broken.items broken) c.as_slice-3.ensures.value
     (subst (λ ls. AreTried c.as_slice-2.result.now c.as_slice-3.result.now ls self.broken.items broken) of_lines c.try_lines-doubts.ensures.tried)) in
-    let kept = kept_more p c.grid-grid.ensures.kept self.spans.items self.touched.items self.sides.items self.decisions.items d self.columns.items columns self.met.items met
+    let kept = kept_more p c.self.invariant.4 self.spans.items self.touched.items self.sides.items self.decisions.items d self.columns.items columns self.met.items met
     self.heights.items self.broken.items broken (vec_capacity self.decisions) (vec_capacity self.heights) (vec_capacity self.broken) c.index.result.now c.index-2.result.now
     c.self.invariant.0 there untaken long c.set_spans.ensures.within
     (λ n k. c.set_spans.ensures.known n k ∙ (λ t. if is_on (of_block t) n k then Some c.args.full else known_there (was t) n k))
@@ -108,7 +108,7 @@ told_now g c =
     subst (λ cs. AreFreeAmong cs self.sides.items lines (length lines) broken doubts) seen
     (subst (λ bs. AreFreeAmong c.as_slice-2.result.now bs lines (length lines) broken doubts) c.as_slice-3.ensures.value
     (subst (λ ls. AreFreeAmong c.as_slice-2.result.now c.as_slice-3.result.now ls (length ls) broken doubts) of_lines c.try_lines-doubts.ensures.free)) in
-    free_told p c.grid-grid.ensures.kept self.spans.items self.touched.items self.sides.items c.push_reserved-2.new.self.items columns c.try_lines-doubts.new.met c.push_reserved.new.self.items broken _ _ _ (kept_now g c)
+    free_told p c.self.invariant.4 self.spans.items self.touched.items self.sides.items c.push_reserved-2.new.self.items columns c.try_lines-doubts.new.met c.push_reserved.new.self.items broken _ _ _ (kept_now g c)
     c.args.block c.index-2.result.now doubts there free
 
 pub invariant_of-self : goal.invariant_of-self
@@ -129,7 +129,7 @@ invariant_of-self g c =
     let all_met : take self.met.len (met ++ drop (length met) self.met.items) ≡ met = take_at met _ self.met.len (met_long ∙ sym (ap length met_was) ∙ c.as_mut_slice-2.ensures.len) in
     let more : self.decisions.items ++ d ∷ [] ≡ c.push_reserved-2.new.self.items = sym c.push_reserved-2.ensures.items in
     let table : AreValues p.blocks.count (self.decisions.items ++ d ∷ []) (set self.values.items d.block (Some d.full)) = values_more p.blocks.count self.decisions.items d self.values.items there untaken c.self.invariant.1 in (
-      seen_as p c.grid-grid.ensures.kept self.spans.items self.touched.items self.sides.items c.push_reserved-2.new.self.items columns _ met _ c.push_reserved.new.self.items broken _
+      seen_as p c.self.invariant.4 self.spans.items self.touched.items self.sides.items c.push_reserved-2.new.self.items columns _ met _ c.push_reserved.new.self.items broken _
           (vec_capacity self.decisions) _ (vec_capacity self.heights) _ (vec_capacity self.broken) _
           all_columns all_met refl c.push_reserved-2.ensures.capacity c.push_reserved.ensures.capacity c.try_lines-doubts.ensures.room (kept_now g c),
       subst (λ (ds : List Decision). AreValues p.blocks.count ds (set self.values.items c.from-number.result (Some c.args.full))) more
@@ -140,6 +140,7 @@ invariant_of-self g c =
           (doubts_more p self.decisions.items d self.doubts.items c.try_lines-doubts.result (vec_capacity self.doubts) c.self.invariant.2
           (subst (λ (ds : List Decision). LeaveFreeBut p (decided_by ds) c.args.block c.try_lines-doubts.result) (sym more) (told_now g c))))),
       c.self.invariant.3,
+      c.self.invariant.4,
     )
 
 pub returns-clause-steps : goal.returns-clause-steps
@@ -148,6 +149,6 @@ returns-clause-steps g c =
     let p = self.problem.now in
     let there : c.args.block < p.blocks.count = subst (λ (v : PartialParts). c.args.block < v.problem.blocks.count) (sym c.self.view_is) c.requires.there in
     let of_lines : c.as_slice-4.result.now ≡ get_or self.touched.items c.args.block c.index-2.result.now = c.as_slice-4.ensures ∙ c.index-2.ensures ∙ ap (λ b. get_or self.touched.items b c.index-2.result.now) c.from-number.ensures in
-    let count = ap length of_lines ∙ touched_count p c.grid-grid.ensures.kept self.spans.items self.touched.items self.sides.items self.decisions.items self.columns.items self.met.items self.heights.items self.broken.items _ _ _ c.self.invariant.0 c.args.block c.index-2.result.now there
+    let count = ap length of_lines ∙ touched_count p c.self.invariant.4 self.spans.items self.touched.items self.sides.items self.decisions.items self.columns.items self.met.items self.heights.items self.broken.items _ _ _ c.self.invariant.0 c.args.block c.index-2.result.now there
     ∙ ap (λ (v : PartialParts). touching v.problem c.args.block) c.self.view_is in
     subst (λ n. c.try_lines-doubts.new.steps ≤ c.args.steps.now + n) count c.try_lines-doubts.ensures.steps

@@ -79,6 +79,7 @@ invariant_of-result c =
         wanted_is = subst (λ (ss : List Beside). AreStylesOf ss c.in_ok-lines.lines.items c.in_ok-wanted.wanted.items) c.as_slice-6.ensures.value
             (subst (λ ls. AreStylesOf c.as_slice-6.result.now ls c.in_ok-wanted.wanted.items) c.as_slice-7.ensures.value c.in_ok-wanted.ensures.styles);
       },
+      c.grid-grid.ensures.kept,
     )
 
 pub wanted_styles-requires : goal.wanted_styles-requires

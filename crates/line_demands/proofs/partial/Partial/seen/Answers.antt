@@ -21,5 +21,5 @@ returns-clause-seen c =
     let seen : c.seen_line.result ≡ record { line = b.line; style = b.style; after = column_there self.columns.items b.after; before = column_there self.columns.items b.before } =
     subst (λ (cs : List KnownColumn). ◌≡◌ {A = SeenLine} c.seen_line.result (record { line = b.line; style = b.style; after = column_there cs b.after; before = column_there cs b.before })) c.as_slice.ensures.value c.seen_line.ensures in
     subst (λ (v : PartialParts). IsSeen v.problem (decided_by v.decisions) c.seen_line.result) c.self.view_is
-    (seen_told self.problem.now c.grid-grid.ensures.kept self.spans.items self.touched.items self.sides.items self.decisions.items self.columns.items self.met.items self.heights.items self.broken.items _ _ _ c.self.invariant.0
+    (seen_told self.problem.now c.self.invariant.4 self.spans.items self.touched.items self.sides.items self.decisions.items self.columns.items self.met.items self.heights.items self.broken.items _ _ _ c.self.invariant.0
     c.args.number b b l c.index.ensures c.seen_line.result seen)

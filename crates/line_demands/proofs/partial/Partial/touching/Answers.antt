@@ -11,7 +11,7 @@ overflow_cast-result c =
     let p = self.problem.now in
     let there : c.args.block < p.blocks.count = subst (λ (v : PartialParts). c.args.block < v.problem.blocks.count) (sym c.self.view_is) c.requires in
     let of_lines : c.as_slice.result.now ≡ get_or self.touched.items c.args.block c.index.result.now = c.as_slice.ensures ∙ c.index.ensures ∙ ap (λ b. get_or self.touched.items b c.index.result.now) c.from.ensures in
-    let few = few_touched p c.grid-grid.ensures.kept self.spans.items self.touched.items self.sides.items self.decisions.items self.columns.items self.met.items self.heights.items self.broken.items _ _ _ c.self.invariant.0 c.args.block c.index.result.now there in
+    let few = few_touched p c.self.invariant.4 self.spans.items self.touched.items self.sides.items self.decisions.items self.columns.items self.met.items self.heights.items self.broken.items _ _ _ c.self.invariant.0 c.args.block c.index.result.now there in
     let l : length c.as_slice.result.now ≤ 24192 = subst (λ (xs : List ℕ). length xs ≤ 24192) (sym of_lines) few in
     omega arith
 
@@ -22,5 +22,5 @@ returns c =
     let there : c.args.block < p.blocks.count = subst (λ (v : PartialParts). c.args.block < v.problem.blocks.count) (sym c.self.view_is) c.requires in
     let of_lines : c.as_slice.result.now ≡ get_or self.touched.items c.args.block c.index.result.now = c.as_slice.ensures ∙ c.index.ensures ∙ ap (λ b. get_or self.touched.items b c.index.result.now) c.from.ensures in
     ap length of_lines
-    ∙ touched_count p c.grid-grid.ensures.kept self.spans.items self.touched.items self.sides.items self.decisions.items self.columns.items self.met.items self.heights.items self.broken.items _ _ _ c.self.invariant.0 c.args.block c.index.result.now there
+    ∙ touched_count p c.self.invariant.4 self.spans.items self.touched.items self.sides.items self.decisions.items self.columns.items self.met.items self.heights.items self.broken.items _ _ _ c.self.invariant.0 c.args.block c.index.result.now there
     ∙ ap (λ (v : PartialParts). touching v.problem c.args.block) c.self.view_is

@@ -27,7 +27,7 @@ invariant_of-self c =
     let met_long : length met ≡ length self.met.items = c.mend_lines.auto.met ∙ ap length met_was in
     let all_columns : take self.columns.len (columns ++ drop (length columns) self.columns.items) ≡ columns = take_at columns _ self.columns.len (long ∙ sym (ap length was) ∙ c.as_mut_slice.ensures.len) in
     let all_met : take self.met.len (met ++ drop (length met) self.met.items) ≡ met = take_at met _ self.met.len (met_long ∙ sym (ap length met_was) ∙ c.as_mut_slice-in-Some-pop.ensures.len) in
-    let kept = kept_less p c.grid-grid.ensures.kept self.spans.items self.touched.items self.sides.items c.pop.new.self.items last self.columns.items columns self.met.items met
+    let kept = kept_less p c.self.invariant.4 self.spans.items self.touched.items self.sides.items c.pop.new.self.items last self.columns.items columns self.met.items met
     c.pop-in-Some-2.new.self.items height self.broken.items (vec_capacity self.decisions) (vec_capacity self.heights) (vec_capacity self.broken) c.index.result.now
     (subst (λ (ds : List Decision). IsKeptBy p ds self.spans.items self.touched.items self.sides.items self.columns.items self.met.items (c.pop-in-Some-2.new.self.items ++ height ∷ []) self.broken.items (vec_capacity self.decisions) (vec_capacity self.heights) (vec_capacity self.broken)) c.in-Some.ensures.items
     (subst (λ hs. IsKeptBy p self.decisions.items self.spans.items self.touched.items self.sides.items self.columns.items self.met.items hs self.broken.items (vec_capacity self.decisions) (vec_capacity self.heights) (vec_capacity self.broken)) c.in-Some-pop.ensures.items
@@ -39,7 +39,7 @@ invariant_of-self c =
     let table : AreValues p.blocks.count c.pop.new.self.items (set self.values.items last.block None) =
     values_less p.blocks.count c.pop.new.self.items last self.values.items (taken c.pop.new.self.items [] last refl).0 (last_untaken p.blocks.count c.pop.new.self.items last taken)
     (subst (λ (ds : List Decision). AreValues p.blocks.count ds self.values.items) c.in-Some.ensures.items c.self.invariant.1) in (
-      seen_as p c.grid-grid.ensures.kept self.spans.items self.touched.items self.sides.items c.pop.new.self.items columns _ met _ c.pop-in-Some-2.new.self.items (take height self.broken.items) _
+      seen_as p c.self.invariant.4 self.spans.items self.touched.items self.sides.items c.pop.new.self.items columns _ met _ c.pop-in-Some-2.new.self.items (take height self.broken.items) _
           (vec_capacity self.decisions) _ (vec_capacity self.heights) _ (vec_capacity self.broken) _
           all_columns all_met c.mend_lines.ensures.broken c.in-Some.ensures.capacity c.in-Some-pop.ensures.capacity c.mend_lines.ensures.room kept,
       subst (λ n. AreValues p.blocks.count c.pop.new.self.items (set self.values.items n None)) (sym c.from-in-Some.ensures) table,
@@ -48,4 +48,5 @@ invariant_of-self c =
           (c.pop-in-Some.ensures.variant.1 (let e = length_push c.pop.new.self.items last in let f = ap length c.in-Some.ensures.items in omega (arith, e, f, c.self.invariant.2.count, self.doubts.ok.0)))
           (subst (λ (ds : List Decision). AreDoubts p ds self.doubts.items (vec_capacity self.doubts)) c.in-Some.ensures.items c.self.invariant.2)),
       c.self.invariant.3,
+      c.self.invariant.4,
     )

@@ -14,7 +14,7 @@ pub columns_draw-requires-clause-columns : goal.columns_draw-requires-clause-col
 columns_draw-requires-clause-columns c =
     let self = c.self.inside in
     rw (c.as_slice.ensures.value, c.as_slice-2.ensures.value)
-    (sides_inside self.problem.now c.grid-grid.ensures.kept self.spans.items self.touched.items self.sides.items self.decisions.items self.columns.items self.columns.items
+    (sides_inside self.problem.now c.self.invariant.4 self.spans.items self.touched.items self.sides.items self.decisions.items self.columns.items self.columns.items
     self.met.items self.heights.items self.broken.items _ _ _ c.self.invariant.0 refl)
 
 pub columns_draw-requires-clause-lines : goal.columns_draw-requires-clause-lines
@@ -41,12 +41,13 @@ invariant_of-self c =
         wanted_count = room.wanted_count;
         wanted_is = room.wanted_is;
       },
+      c.self.invariant.4,
     )
 
 pub returns-then-is_some-clause-matches : goal.returns-then-is_some-clause-matches
 returns-then-is_some-clause-matches c = λ drawing is grid choice decided.
     let v = c.args.self.now in
-    let blocks = subst (λ (u : PartialParts). IsBlocksOf u.problem.grid u.problem.blocks) c.self.view_is c.grid-grid.ensures.kept in
+    let blocks = subst (λ (u : PartialParts). IsBlocksOf u.problem.grid u.problem.blocks) c.self.view_is c.self.invariant.4 in
     let matches = whole_matches drawing is v.problem grid blocks (decided_by v.decisions) choice decided.whole decided.each in (
       λ no. absurd (false≢true no),
       λ fits. absurd (false≢true (sym (ap is_some (c.broken_line.ensures.none.1 (matches.1 fits))) ∙ sym c.is_some.ensures ∙ c.if-is_some.true)),
@@ -58,7 +59,7 @@ returns-clause-met c =
     let all = subst (λ (u : PartialParts). AreOnAll u.problem.blocks.count u.decisions) (sym c.self.view_is) c.requires in (
       λ draws. c.broken_line.ensures.none.0 (none_there c.broken_line.result (sym c.is_some.ensures ∙ c.if-is_some.false)),
       λ met. c.columns_draw.ensures.1 (rw (c.as_slice.ensures.value, c.as_slice-2.ensures.value, c.as_slice-3.ensures.value)
-          (met_draw self.problem.now c.grid-grid.ensures.kept self.spans.items self.touched.items self.sides.items self.decisions.items self.columns.items
+          (met_draw self.problem.now c.self.invariant.4 self.spans.items self.touched.items self.sides.items self.decisions.items self.columns.items
           self.met.items self.heights.items self.broken.items _ _ _ c.self.invariant.0 all self.lines.items c.self.invariant.3.lines_are.there
           (subst (λ (u : PartialParts). AllMet u.problem (decided_by u.decisions)) (sym c.self.view_is) met))),
     )
@@ -66,7 +67,7 @@ returns-clause-met c =
 pub returns-clause-matches : goal.returns-clause-matches
 returns-clause-matches c = λ drawing is grid choice decided.
     let v = c.args.self.now in
-    let blocks = subst (λ (u : PartialParts). IsBlocksOf u.problem.grid u.problem.blocks) c.self.view_is c.grid-grid.ensures.kept in
+    let blocks = subst (λ (u : PartialParts). IsBlocksOf u.problem.grid u.problem.blocks) c.self.view_is c.self.invariant.4 in
     let matches = whole_matches drawing is v.problem grid blocks (decided_by v.decisions) choice decided.whole decided.each in
     let met = returns-clause-met c in
     ((λ draws. matches.0 (met.0 draws)), (λ fits. met.1 (matches.1 fits)))
