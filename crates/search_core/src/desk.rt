@@ -208,17 +208,6 @@ impl Desk {
         shown(&self.ledger.found, self.limits)
     }
 
-    /// The same, handed over.
-    pub fn into_found(self) -> Vec<Choice>
-        ensures found { result.items ≡ self.found }
-        ensures kept { IsDesk self }
-    {
-        let Desk { limits, ledger, .. } = self;
-        let Ledger { mut found, .. } = ledger;
-        found.truncate(limits.solids as usize);
-        found
-    }
-
     /// How many prefixes were opened.
     pub fn opened(&self) -> u64
         ensures opened { result ≡ self.now.opened }
