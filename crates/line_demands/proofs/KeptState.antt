@@ -28,7 +28,7 @@ use Rattle.line_demands.proofs.SeenCells.{line_free}
 use Rattle.line_demands.proofs.Trails.{all_broken, trail_more, trail_less}
 use Rattle.solid_model.specs.declared.line_id.LineId.{LineId}
 use Rattle.solid_model.specs.Blocks.{ProblemParts, IsBlocksOf}
-use Rattle.solid_model.specs.Demands.{lines_of, line_style, CanBeMet}
+use Rattle.solid_model.specs.Demands.{has_line, lines_of, line_style, CanBeMet}
 use Rattle.lemmas.specs.Lists.{Member}
 use Rattle.solid_model.specs.Panels.{GridParts}
 use Rattle.lemmas.proofs.ListPlaces.{member-at}
@@ -167,20 +167,25 @@ module _ (p : ProblemParts) (blocks : IsBlocksOf p.grid p.blocks) (spans : List 
       ∙ get_or-map (λ i. (get_or sides i no_side).line) (get_or touched b ls) k e d (let h = touched_count b ls l in omega arith)
       ∙ line_there (get_or (get_or touched b ls) k e) d no_side (touched_there b k ls e l m))
 
-  -- what is seen of a line
+  -- what is seen of a line that the grid has,
+  pub seen_at_told : (b : Beside) → IsBeside p b → IsTrue (has_line p.grid b.line) → (s : SeenLine)
+      → s ≡ record { line = b.line; style = b.style; after = column_there columns b.after; before = column_there columns b.before } → IsSeen p (decided_by decisions) s
+  seen_at_told b at has s seen = subst (IsSeen p (decided_by decisions)) (sym seen) record {
+    has = has;
+    style = at.style;
+    within_after = kept.state.known.within b.after;
+    within_before = kept.state.known.within b.before;
+    after = column_known p (sizes_same p blocks spans touched sides) (decided_by decisions) columns kept.state.known b.line (pos b.line.at) b.after at.cell at.after;
+    before = column_known p (sizes_same p blocks spans touched sides) (decided_by decisions) columns kept.state.known b.line (pos b.line.at -ℤ pos 1) b.before at.cell at.before;
+  }
+
+  -- and of the line of a number
   pub seen_told : (n : ℕ) (b : Beside) (d : Beside) → n < length sides → b ≡ get_or sides n d → (s : SeenLine)
       → s ≡ record { line = b.line; style = b.style; after = column_there columns b.after; before = column_there columns b.before } → IsSeen p (decided_by decisions) s
-  seen_told n b d l is s seen =
-      let at : IsBeside p b = subst (IsBeside p) (sym is) (kept.plan.lines.each n d l) in
-      subst (IsSeen p (decided_by decisions)) (sym seen) record {
-        has = lines_are_there p.grid b.line (subst (Member (lines_of p.grid)) (sym (line_there n b.line d l) ∙ ap (λ (x : Beside). x.line) (sym is))
-            (member-at (lines_of p.grid) n b.line (subst (λ m. n < m) (sym (length-map sides (λ (x : Beside). x.line)) ∙ ap length kept.plan.lines.listed) l)));
-        style = at.style;
-        within_after = kept.state.known.within b.after;
-        within_before = kept.state.known.within b.before;
-        after = column_known p (sizes_same p blocks spans touched sides) (decided_by decisions) columns kept.state.known b.line (pos b.line.at) b.after at.cell at.after;
-        before = column_known p (sizes_same p blocks spans touched sides) (decided_by decisions) columns kept.state.known b.line (pos b.line.at -ℤ pos 1) b.before at.cell at.before;
-      }
+  seen_told n b d l is =
+      seen_at_told b (subst (IsBeside p) (sym is) (kept.plan.lines.each n d l))
+      (lines_are_there p.grid b.line (subst (Member (lines_of p.grid)) (sym (line_there n b.line d l) ∙ ap (λ (x : Beside). x.line) (sym is))
+      (member-at (lines_of p.grid) n b.line (subst (λ m. n < m) (sym (length-map sides (λ (x : Beside). x.line)) ∙ ap length kept.plan.lines.listed) l))))
 
   -- where lines that are listed with a block leave the cells beside them free, those that touch it do
   pub free_told : (b : ℕ) (ls : List ℕ) (doubts : ℕ) → b < p.blocks.count → AreFreeAmong columns sides (get_or touched b ls) (length (get_or touched b ls)) broken doubts

@@ -20,6 +20,8 @@ pub mod MoreSides
 pub mod Planned
 pub mod Replaced
 pub mod SeenCells
+pub mod LineCells
+pub mod ExcludedCells
 pub mod SpanMarks
 pub mod ToldDoubts
 pub mod TouchedLines

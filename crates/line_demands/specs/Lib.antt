@@ -2,6 +2,7 @@ pub mod WholeChoices
 pub mod Broken
 pub mod Doubted
 pub mod Free
+pub mod Excluding
 pub mod Gathered
 pub mod KeptColumns
 pub mod Lines

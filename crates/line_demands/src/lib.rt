@@ -3,6 +3,7 @@
 
 mod beside;
 mod doubts;
+mod excluding;
 mod free;
 mod gather;
 mod known;
@@ -17,6 +18,7 @@ mod steps;
 mod whole;
 
 pub use doubts::{doubted, without_lowest};
+pub use excluding::{can_draw_with, column_of, excludes};
 pub use known::{KnownColumn, can_draw, meets};
 pub use partial::Partial;
 pub use places::has_place;

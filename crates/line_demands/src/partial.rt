@@ -359,6 +359,16 @@ impl<'p> Partial<'p> {
         self.sides.len()
     }
 
+    /// A line with what is known of the columns beside it.
+    pub fn seen_at(&self, line: LineId) -> SeenLine
+        requires { IsTrue (has_line self.now.problem.grid line) }
+        ensures line { result.line ≡ line }
+        ensures seen { IsSeen self.now.problem (decided_by self.now.decisions) result }
+    {
+        let beside = beside_of(self.problem.grid(), line);
+        seen_line(self.columns.as_slice(), beside)
+    }
+
     /// The line of a number, in the order of all lines, with what is known of the columns beside it.
     pub fn seen(&self, number: usize) -> SeenLine
         requires { number < length (lines_of self.now.problem.grid) }

@@ -12,9 +12,10 @@ use Rattle.line_demands.specs.Touching.{is_of, block_beside, touches, lines_touc
 use Rattle.column_laws.proofs.AllLines.{lines_are_listed, lines_are_there}
 use Rattle.line_demands.proofs.Gathering.{block_below}
 use Rattle.propagate.specs.Closing.{Awaits, IsHandled}
-use Rattle.propagate.specs.Forced.{ExcludesOpen, IsCalm}
+use Rattle.line_demands.specs.Excluding.{ExcludesOpen}
+use Rattle.propagate.specs.Forced.{IsCalm}
 use Rattle.propagate.proofs.Chains.{decided_push, at_before}
-use Rattle.propagate.proofs.LineCells.{none_before, none_behind}
+use Rattle.line_demands.proofs.LineCells.{none_before, none_behind}
 use Rattle.solid_model.specs.declared.decision.Decision.{Decision}
 use Rattle.solid_model.specs.declared.line_id.LineId.{LineId}
 use Rattle.solid_model.specs.Blocks.{ProblemParts, IsBlocksOf, block_at}

@@ -8,14 +8,11 @@ use Rattle.solid_model.specs.declared.line_id.LineId.{LineId}
 use Rattle.solid_model.specs.Blocks.{ProblemParts}
 use Rattle.solid_model.specs.Decisions.{decided_by}
 use Rattle.solid_model.specs.Demands.{lines_of, AllMet, IsFirstBroken}
-use Rattle.solid_model.specs.Forcing.{LineExcludes, IsExcluded}
+use Rattle.line_demands.specs.Excluding.{ExcludesOpen}
+use Rattle.solid_model.specs.Forcing.{IsExcluded}
 use Rattle.lemmas.specs.Lists.{Member}
 
--- a line excludes a value of an undecided block
-abbrev pub ExcludesOpen : ProblemParts → (ℕ → Option Bool) → LineId → ℕ → Bool → Type 0
-ExcludesOpen p known l block value = (known block ≡ None) × LineExcludes p known l block value
-
--- it excludes nothing
+-- a line excludes nothing
 abbrev pub IsCalm : ProblemParts → (ℕ → Option Bool) → LineId → Type 0
 IsCalm p known l = (block : ℕ) (value : Bool) → ExcludesOpen p known l block value → ⊥
 

@@ -1,12 +1,6 @@
--- What the cells of two columns exclude of each other.
-use Rattle.std.specs.Prelude.{◌≡◌, ◌==◌, ◌||◌, ◌≤◌, Bool, false, not, ℕ, nat_lt, ℤ, pos, Option, Some, None, if◌then◌else◌}
+-- The least of what is excluded.
+use Rattle.std.specs.Prelude.{◌≡◌, ◌==◌, ◌||◌, ◌≤◌, Bool, false, not, ℕ, nat_lt, Option, Some, None, if◌then◌else◌}
 use Rattle.solid_model.specs.declared.decision.Decision.{Decision}
-use Rattle.solid_model.specs.declared.segment.Style.{Style}
-use Rattle.line_demands.specs.Doubted.{CanDrawWith}
-
--- a cell excludes a value of its block, if it has one
-abbrev pub CellExcludes : (ℤ → Option Bool) → (ℤ → Option Bool) → Style → ℕ → Option ℕ → ℕ → Bool → Type 0
-CellExcludes known other style depth cell block value = (cell ≡ Some block) × (known (pos depth) ≡ None) × (CanDrawWith known other style depth value → ⊥)
 
 -- Of what is excluded, the least block, the opposite of a value of it that is excluded, and full where both are.
 pub record IsLeastIn (excluded : ℕ → Bool → Type 0) (d : Decision) : Type 0 where

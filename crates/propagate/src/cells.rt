@@ -3,52 +3,12 @@
 ghost use Rattle.std.specs.Prelude.{◌≡◌, ◌↔◌, ◌<◌, ℕ, ℤ, pos, Some, None, IsTrue};
 ghost use Rattle.solid_model.specs.Known.{known_bits, LiesWithin};
 ghost use Rattle.line_demands.specs.Doubted.{CanDrawWith};
-ghost use Rattle.propagate.specs.Looking.{CellExcludes, TellsLeast, decision_on, lesser_decision};
+ghost use Rattle.line_demands.specs.Excluding.{CellExcludes};
+ghost use Rattle.propagate.specs.Looking.{TellsLeast, decision_on, lesser_decision};
 ghost use Rattle.solid_model.specs.Forcing.{with_value};
 
-use line_demands::{KnownColumn, can_draw};
+use line_demands::{KnownColumn, can_draw_with};
 use solid_model::{Decision, Style};
-
-/// The column, where an undecided cell has a value.
-pub fn with_value(column: KnownColumn, depth: usize, value: bool) -> KnownColumn
-    requires depth { depth < 64 }
-    requires within { LiesWithin column.full column.may }
-    requires undecided { known_bits column.full column.may (pos depth) ≡ None }
-    ensures within { LiesWithin result.full result.may }
-    ensures known { (k : ℤ) → known_bits result.full result.may k
-        ≡ with_value depth value (known_bits column.full column.may) k }
-{
-    let cell: u64 = 1 << depth;
-    if value {
-        KnownColumn {
-            full: column.full | cell,
-            may: column.may,
-        }
-    } else {
-        KnownColumn {
-            full: column.full,
-            may: column.may & !cell,
-        }
-    }
-}
-
-/// Some pair of columns of which the first one has the value draws the style.
-fn can_draw_with(
-    style: Style,
-    column: KnownColumn,
-    beside: KnownColumn,
-    depth: usize,
-    value: bool,
-) -> bool
-    requires depth { depth < 64 }
-    requires within { LiesWithin column.full column.may }
-    requires beside { LiesWithin beside.full beside.may }
-    requires undecided { known_bits column.full column.may (pos depth) ≡ None }
-    ensures { IsTrue result ↔ CanDrawWith (known_bits column.full column.may)
-        (known_bits beside.full beside.may) style depth value }
-{
-    can_draw(style, with_value(column, depth, value), beside)
-}
 
 /// Of two decisions the one on the lesser block. Of two on one block: full, if one of them is.
 pub fn lesser(one: Option<Decision>, other: Option<Decision>) -> Option<Decision>

@@ -8,9 +8,10 @@
 ghost use Rattle.std.specs.Prelude.{◌≡◌, ◌<◌, ℕ, pos, true, None, IsTrue};
 ghost use Rattle.solid_model.specs.Known.{LiesWithin};
 ghost use Rattle.line_demands.specs.Seen.{IsSeen, column_of, known_beside};
-ghost use Rattle.propagate.specs.Forced.{ExcludesOpen};
+ghost use Rattle.line_demands.specs.Excluding.{ExcludesOpen};
 ghost use Rattle.propagate.specs.Looking.{TellsLeast};
-ghost use Rattle.propagate.specs.Beside.{ExcludesAt, ExcludesAmong};
+ghost use Rattle.line_demands.specs.Excluding.{ExcludesAt};
+ghost use Rattle.propagate.specs.Beside.{ExcludesAmong};
 ghost use Rattle.lemmas.specs.Bits.{is_set};
 ghost use Rattle.solid_model.specs.Frames.{frame_of};
 ghost use Rattle.solid_model.specs.GridBox.{grid_sizes};
@@ -18,18 +19,8 @@ ghost use Rattle.solid_model.specs.Decisions.{decided_by};
 ghost use Rattle.solid_model.specs.Demands.{has_line, CanBeMet};
 
 use crate::cells::{forced_value, lesser};
-use line_demands::{KnownColumn, Partial, SeenLine, block_beside, doubted, without_lowest};
+use line_demands::{Partial, SeenLine, block_beside, column_of, doubted, without_lowest};
 use solid_model::{Decision, Problem};
-
-/// The column after the line, or the one before it.
-fn column_of(seen: SeenLine, of_after: bool) -> KnownColumn
-    requires after { LiesWithin seen.after.full seen.after.may }
-    requires before { LiesWithin seen.before.full seen.before.may }
-    ensures column { result ≡ column_of seen of_after }
-    ensures within { LiesWithin result.full result.may }
-{
-    if of_after { seen.after } else { seen.before }
-}
 
 /// The decision that an undecided cell of the column after a line, or of the one before it, forces.
 fn forced_at(problem: &Problem, seen: SeenLine, of_after: bool, depth: usize) -> Option<Decision>

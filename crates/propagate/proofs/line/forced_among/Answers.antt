@@ -1,7 +1,8 @@
 -- The lowest cell that is left is taken.
 use Rattle.std.proofs.Common.{◌<◌, ◌-◌, ◌==◌, rules, ap, sym, subst, ◌∙◌, arith}
 use Rattle.std.proofs.lemmas.Nat.Bits.{bit_at-zero}
-use Rattle.propagate.specs.Beside.{ExcludesAt, ExcludesAmong}
+use Rattle.line_demands.specs.Excluding.{ExcludesAt}
+use Rattle.propagate.specs.Beside.{ExcludesAmong}
 use Rattle.propagate.specs.Looking.{TellsLeast}
 use Rattle.propagate.proofs.Least.{Taken, told_alike, told_more}
 use Rattle.line_demands.proofs.LowestLeft.{rest_higher}

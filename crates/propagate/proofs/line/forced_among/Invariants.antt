@@ -1,6 +1,6 @@
 -- What the cells that aren't left exclude. Those that are left are some of the cells, and the lowest of them stands higher each time.
 use Rattle.std.proofs.Common.{◌≡◌, ◌-◌, ◌<◌, ◌^◌, true, ℕ}
-use Rattle.propagate.specs.Beside.{ExcludesAt}
+use Rattle.line_demands.specs.Excluding.{ExcludesAt}
 use Rattle.propagate.specs.Looking.{TellsLeast}
 use Rattle.propagate.proofs.Least.{Taken}
 use Rattle.propagate.proofs.line.forced_among.Given as goal

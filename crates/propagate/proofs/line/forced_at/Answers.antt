@@ -2,8 +2,9 @@
 use Rattle.std.proofs.Common.{Option, Some, None, ℕ, not, refl, sym, subst}
 use Rattle.line_demands.specs.declared.known.KnownColumn.{KnownColumn}
 use Rattle.line_demands.specs.Seen.{known_beside}
-use Rattle.propagate.specs.Beside.{ExcludesAt}
-use Rattle.propagate.specs.Looking.{CellExcludes, IsLeastIn, TellsLeast}
+use Rattle.line_demands.specs.Excluding.{ExcludesAt}
+use Rattle.line_demands.specs.Excluding.{CellExcludes}
+use Rattle.propagate.specs.Looking.{IsLeastIn, TellsLeast}
 use Rattle.propagate.proofs.line.forced_at.Goals as goal
 use Rattle.solid_model.specs.declared.decision.Decision.{Decision}
 use Rattle.solid_model.specs.Known.{known_bits}

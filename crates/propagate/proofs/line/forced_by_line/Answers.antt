@@ -3,7 +3,7 @@ use Rattle.std.proofs.Common.{None, true, false, ◌<◌, IsTrue, sym, subst}
 use Rattle.std.proofs.lemmas.Bool.{both_ways}
 use Rattle.line_demands.specs.Seen.{known_beside}
 use Rattle.propagate.specs.Beside.{ExcludesAmong}
-use Rattle.propagate.specs.Forced.{ExcludesOpen}
+use Rattle.line_demands.specs.Excluding.{ExcludesOpen}
 use Rattle.propagate.specs.Looking.{TellsLeast}
 use Rattle.line_demands.proofs.SeenCells.{seen_draws, draws_back}
 use Rattle.propagate.proofs.LineCells.{line_told, among_told, open_inside}

@@ -3,7 +3,8 @@ use Rattle.std.proofs.Common.{◌≡◌, ◌<◌, ◌∷◌, ◌++◌, [], inl, 
 use Rattle.std.proofs.lemmas.List.{take_all}
 use Rattle.std.proofs.lemmas.Option.{slice_get-get_or}
 use Rattle.column_laws.proofs.AllLines.{lines_are_listed}
-use Rattle.propagate.specs.Forced.{ExcludesOpen, IsCalm}
+use Rattle.line_demands.specs.Excluding.{ExcludesOpen}
+use Rattle.propagate.specs.Forced.{IsCalm}
 use Rattle.propagate.specs.Looking.{IsLeastIn, TellsLeast}
 use Rattle.propagate.proofs.Handled.{excluded_there}
 use Rattle.propagate.proofs.Steps.{no_line, member_take, place_parts}

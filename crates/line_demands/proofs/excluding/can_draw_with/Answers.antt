@@ -1,7 +1,7 @@
 -- The column with the value is tried.
 use Rattle.solid_model.specs.Known.{known_bits}
 use Rattle.line_demands.proofs.ValueBits.{draws_with}
-use Rattle.propagate.proofs.cells.can_draw_with.Goals as goal
+use Rattle.line_demands.proofs.excluding.can_draw_with.Goals as goal
 
 pub returns : goal.returns
 returns c =

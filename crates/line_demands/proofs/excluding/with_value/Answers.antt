@@ -3,7 +3,7 @@ use Rattle.std.proofs.Common.{◌<◌, ◌^◌, rules, ap, sym, ◌∙◌}
 use Rattle.solid_model.specs.Known.{known_bits}
 use Rattle.solid_model.specs.Forcing.{with_value}
 use Rattle.line_demands.proofs.ValueBits.{within_more, within_less, known_more, known_less}
-use Rattle.propagate.proofs.cells.with_value.Goals as goal
+use Rattle.line_demands.proofs.excluding.with_value.Goals as goal
 
 pub returns-then-value-clause-within : goal.returns-then-value-clause-within
 returns-then-value-clause-within c =
