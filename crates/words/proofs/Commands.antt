@@ -8,8 +8,10 @@ use Rattle.lemmas.specs.Lists.{Each}
 use Rattle.words.specs.declared.job.Job.{Job}
 use Rattle.words.specs.Jobs.{AreWorkers, Command, IsCounted, command_said, commands, decimals_field, decimals_in, job_said, most_workers, number_in, redraw_table, said_among, solve_table, stl_table, trial_table, workers_field, workers_in}
 use Rattle.words.specs.Rows.{is_sound}
+use Rattle.words.specs.Said.{agrees}
+use Rattle.words.specs.declared.table.Range.{Range}
 use Rattle.words.specs.Words.{Table, Text, Use, number_field, number_name, number_or, taken, text_in}
-use Rattle.words.proofs.Values.{called, read_within, value_within}
+use Rattle.words.proofs.Values.{read_within, value_within}
 
 -- the first of some words is the command's name
 pub said_by_name : {S : Type 0} (bytes : S → Text) (words : List S) (first : S) (name : Text) → 1 ≤ length words
@@ -27,16 +29,10 @@ not_called name wanted other = go (bytes_eq name wanted) refl
     go true is = absurd (other ((bytes_eq-Decides name wanted).0 is))
 
 -- a name that no command has says nothing
-pub unknown_unsaid : (name : Text) (words : List Text) → (name ≡ codes "solve" → ⊥) → (name ≡ codes "redraw" → ⊥) → (name ≡ codes "stl" → ⊥)
-    → (name ≡ codes "make" → ⊥) → (name ≡ codes "trial" → ⊥) → said_among commands name words ≡ None
-unknown_unsaid name words not_solve not_redraw not_stl not_make not_trial =
-    rw (
-      not_called name (codes "solve") not_solve,
-      not_called name (codes "redraw") not_redraw,
-      not_called name (codes "stl") not_stl,
-      not_called name (codes "make") not_make,
-      not_called name (codes "trial") not_trial,
-    )
+pub unknown_unsaid : (cs : List Command) (name : Text) (words : List Text) → Each (λ c. name ≡ c.name → ⊥) cs
+    → said_among cs name words ≡ None
+unknown_unsaid [] name words others = refl
+unknown_unsaid (c ∷ cs) name words others = rw (not_called name c.name others.0) (unknown_unsaid cs name words others.1)
 
 -- ---- numbers of solids and of workers
 
@@ -61,44 +57,37 @@ counted_among (c ∷ cs) each name words j said = by (bytes_eq name c.name) (cou
     by false later e = later e
 
 -- what a command takes as the value of a name lies in its range, where what stands for nothing does
-within : (t : Table) (name : Text) (least most otherwise : ℕ) → is_sound t ≡ true
-    → called t name ≡ Some (record { name = name; range = Some (record { least = least; most = most }) })
-    → least ≤ otherwise → otherwise ≤ most → (words : List Text) (us : List Use) → taken t words ≡ Some us
-    → (least ≤ number_or us name otherwise) × (number_or us name otherwise ≤ most)
-within t name least most otherwise sound found low high words us is = read_within least most otherwise (text_in name us)
-    (value_within t sound words us name (record { least = least; most = most }) is found) low high
+within : (t : Table) (name : Text) (r : Range) (otherwise : ℕ) → is_sound t ≡ true
+    → agrees t (record { name = name; range = Some r }) ≡ true → r.least ≤ otherwise → otherwise ≤ r.most
+    → (words : List Text) (us : List Use) → taken t words ≡ Some us
+    → (r.least ≤ number_or us name otherwise) × (number_or us name otherwise ≤ r.most)
+within t name r otherwise sound agree low high words us is = read_within r.least r.most otherwise (text_in name us)
+    (value_within t sound words us (record { name = name; range = Some r }) is agree) low high
 
--- a command that takes it has as many workers as may be
-has_workers : (t : Table) → is_sound t ≡ true → called t (codes "workers") ≡ Some workers_field
-    → (words : List Text) (us : List Use) → taken t words ≡ Some us → AreWorkers (workers_in us)
-has_workers t sound found = within t (codes "workers") 1 most_workers 1 sound found (omega arith) (omega arith)
-
--- one that takes decimals has no more than may be
-has_decimals : (t : Table) → is_sound t ≡ true → called t (codes "decimals") ≡ Some decimals_field
-    → (words : List Text) (us : List Use) → taken t words ≡ Some us → decimals_in us ≤ most_decimals
-has_decimals t sound found words us is =
-    (within t (codes "decimals") 0 most_decimals 0 sound found (omega arith) (omega arith) words us is).1
+-- any command has as many workers as may be, and no more decimals than may be
+counts : (t : Table) → is_sound t ≡ true → agrees t workers_field ≡ true → agrees t decimals_field ≡ true
+    → (words : List Text) (us : List Use) → taken t words ≡ Some us → AreWorkers (workers_in us) × (decimals_in us ≤ most_decimals)
+counts t sound workers decimals words us is = (
+  within t (codes "workers") (record { least = 1; most = most_workers }) 1 sound workers (omega arith) (omega arith) words us is,
+  (within t (codes "decimals") (record { least = 0; most = most_decimals }) 0 sound decimals (omega arith) (omega arith) words us is).1,
+)
 
 -- one that takes the number of a solid has one that is 1 at least
-has_number_of_solid : (t : Table) → is_sound t ≡ true → called t number_name ≡ Some (number_field (record { least = 1; most = most_solid_limit }))
+has_number_of_solid : (t : Table) → is_sound t ≡ true → agrees t (number_field (record { least = 1; most = most_solid_limit })) ≡ true
     → (words : List Text) (us : List Use) → taken t words ≡ Some us → 1 ≤ number_in us
-has_number_of_solid t sound found words us is =
-    (within t number_name 1 most_solid_limit 1 sound found (omega arith) (omega arith) words us is).0
+has_number_of_solid t sound agree words us is =
+    (within t number_name (record { least = 1; most = most_solid_limit }) 1 sound agree (omega arith) (omega arith) words us is).0
 
 -- so the numbers of a job that words ask for can be met
 pub said_is_counted : (words : List Text) (j : Job) → job_said words ≡ Some j → IsCounted j
 said_is_counted [] j said = cc
 said_is_counted (name ∷ words) j said = counted_among commands (
-  (λ ws us is. (has_workers solve_table refl refl ws us is, has_decimals solve_table refl refl ws us is)),
+  counts solve_table refl refl refl,
   (
-    (λ ws us is. (
-      has_number_of_solid redraw_table refl refl ws us is,
-      has_workers redraw_table refl refl ws us is,
-      has_decimals redraw_table refl refl ws us is,
-    )),
+    (λ ws us is. let c = counts redraw_table refl refl refl ws us is in (has_number_of_solid redraw_table refl refl ws us is, c.0, c.1)),
     (
-      (λ ws us is. (has_number_of_solid stl_table refl refl ws us is, has_workers stl_table refl refl ws us is)),
-      ((λ ws us is. tt), (has_workers trial_table refl refl, tt)),
+      (λ ws us is. (has_number_of_solid stl_table refl refl ws us is, (counts stl_table refl refl refl ws us is).0)),
+      ((λ ws us is. tt), ((λ ws us is. (counts trial_table refl refl refl ws us is).0), tt)),
     ),
   ),
 ) name words j said

@@ -1,13 +1,15 @@
 -- The values that are read: those of uses that fit lie in their ranges, and are read as their numbers.
 use Rattle.std.proofs.Common.{◌≡◌, ◌∙◌, refl, sym, ap, ap₂, subst, ℕ, ◌<◌, ◌≤◌, ◌^◌, Bool, true, false, cond, ◌&&◌, ◌==◌, eqb-true, List, [], ◌∷◌, ◌++◌, length, Option, Some, None, IfSome, is_some, ◌||◌, Result, Ok, Err, nat_le, arith, true≢false, ltb-true, leb-true, codes}
-use Rattle.std.specs.Prelude.{⊤, if◌then◌else◌, option_map, unwrap_or}
+use Rattle.std.specs.Prelude.{⊤, option_map, unwrap_or}
 use Rattle.std.specs.List.{find, list_all}
 use Rattle.std.specs.Char.{digit_value, is_ascii_digit}
 use Rattle.std.specs.Option.{option_map_or}
 use Rattle.std.specs.Str.{bytes_eq}
 use Rattle.std.specs.Str.Parse.{AllDigits, IsNumeral, ParsesUnsigned, digits_value, without_leading_plus}
+use Rattle.std.proofs.lemmas.Bool.{not-true}
 use Rattle.std.proofs.lemmas.Slice.Eq.{bytes_eq-Decides}
 use Rattle.clap.specs.Lexer.{long_of}
+use Rattle.lemmas.specs.Lists.{Each}
 use Rattle.clap.specs.Matches.{ReadsOne}
 use Rattle.clap.proofs.WalkLemmas.{both}
 use Rattle.words.specs.declared.table.Range.{Range}
@@ -15,20 +17,28 @@ use Rattle.words.specs.Barred.{begins_with_plus}
 use Rattle.clap.specs.Words.{found_of, one_text}
 use Rattle.clap.specs.declared.parser.matches.ArgMatches.{ArgMatches}
 use Rattle.words.specs.Rows.{IsRead, has_flag, is_sound}
-use Rattle.words.specs.Words.{Field, Table, Text, Use, Word, after_word, field_word, fits_after, flag_text, has_number, is_digits, is_used, lies_in_range, number_field, number_name, number_word, opens, option_of, option_word, put, says, stray, suits, taken, text_in, uses, where_fit, word_as, word_of}
+use Rattle.words.specs.Said.{agrees, called, is_usual, range_of_number, or_number, same_range, usual_fields}
+use Rattle.words.specs.Words.{Field, Table, Text, Use, Word, after_word, field_word, fits_after, flag_text, has_number, is_digits, is_used, lies_in_range, number_name, number_or, number_word, opens, option_of, option_word, put, says, stray, suits, taken, text_in, uses, where_fit, word_as, word_of}
 use Rattle.words.proofs.Built.{no_number_option}
 use Rattle.words.proofs.Fits.{found_named}
 use Rattle.words.proofs.Texts.{digit_same, plus_kept}
 
 -- ---- each use is one of the table
 
--- the option of this name, or the number
-abbrev pub or_number : Option Field → Bool → Option Range → Option Field
-or_number (Some f) called range = Some f
-or_number None called range = if called then option_map number_field range else None
+-- a value of an option with this range
+abbrev pub IsValue : Option Range → Text → Type 0
+IsValue None text = text ≡ flag_text
+IsValue (Some r) text = lies_in_range r text ≡ true
 
-abbrev pub called : Table → Text → Option Field
-called t name = or_number (option_of t name) (bytes_eq name number_name) t.number
+value_by : (s r : Option Range) (text : Text) → same_range s r ≡ true → option_map_or (λ q. lies_in_range q text) s true ≡ true
+    → (s ≡ None → text ≡ flag_text) → IsValue r text
+value_by None None text same suit flag = flag refl
+value_by None (Some r) text same suit flag = cc
+value_by (Some s) None text same suit flag = cc
+value_by (Some s) (Some r) text same suit flag =
+    let parts = both _ _ same in
+    sym (ap₂ (λ (l m : ℕ). is_digits text && (nat_le l (digits_value 10 text) && nat_le (digits_value 10 text) m))
+    (eqb-true s.least r.least parts.0) (eqb-true s.most r.most parts.1)) ∙ suit
 
 module _ (t : Table) (sound : is_sound t ≡ true) where
   -- the use is one of the table, and one of a flag says so
@@ -94,24 +104,19 @@ module _ (t : Table) (sound : is_sound t ≡ true) where
 
   -- ---- and its value suits it
 
-  abbrev IsUseOf : Field → Use → Type 0
-  IsUseOf f u = (u.0 ≡ f) × (suits u ≡ true) × (u.0.range ≡ None → u.1 ≡ flag_text)
+  abbrev IsUseBy : Text → Use → Type 0
+  IsUseBy name u = (called t name ≡ Some u.0) × (suits u ≡ true) × (u.0.range ≡ None → u.1 ≡ flag_text)
 
-  found_use : (seen us : List Use) (name : Text) (f : Field) → called t name ≡ Some f → fits_after seen us ≡ true → AllOf us
-      → IfSome (find (λ u. bytes_eq u.0.name name) us) (IsUseOf f)
-  found_use seen [] name f found fits of = tt
-  found_use seen (u ∷ us) name f found fits of =
+  found_use : (seen us : List Use) (name : Text) → fits_after seen us ≡ true → AllOf us
+      → IfSome (find (λ u. bytes_eq u.0.name name) us) (IsUseBy name)
+  found_use seen [] name fits of = tt
+  found_use seen (u ∷ us) name fits of =
       let parts = both _ _ fits in
-      go (bytes_eq u.0.name name) refl (both _ _ parts.0).1 (found_use (seen ++ u ∷ []) us name f found parts.1 of.1)
+      go (bytes_eq u.0.name name) refl (both _ _ parts.0).1 (found_use (seen ++ u ∷ []) us name parts.1 of.1)
     where
-      same : bytes_eq u.0.name name ≡ true → u.0 ≡ f
-      same is =
-          let named : u.0.name ≡ name = (bytes_eq-Decides u.0.name name).0 is in
-          let e : Some u.0 ≡ Some f = sym of.0.0 ∙ ap (called t) named ∙ found in cc
-
-      go : (b : Bool) → bytes_eq u.0.name name ≡ b → suits u ≡ true → IfSome (find (λ v. bytes_eq v.0.name name) us) (IsUseOf f)
-          → IfSome (cond b (Some u) (find (λ v. bytes_eq v.0.name name) us)) (IsUseOf f)
-      go true is suit later = (same is, suit, of.0.1)
+      go : (b : Bool) → bytes_eq u.0.name name ≡ b → suits u ≡ true → IfSome (find (λ v. bytes_eq v.0.name name) us) (IsUseBy name)
+          → IfSome (cond b (Some u) (find (λ v. bytes_eq v.0.name name) us)) (IsUseBy name)
+      go true is suit later = (sym (ap (called t) ((bytes_eq-Decides u.0.name name).0 is)) ∙ of.0.0, suit, of.0.1)
       go false is suit later = later
 
   taken_uses : (words : List Text) (us : List Use) → taken t words ≡ Some us → AllOf us × (fits_after [] us ≡ true)
@@ -128,40 +133,52 @@ module _ (t : Table) (sound : is_sound t ≡ true) where
       go (Some vs) of h = inner vs (fits_after [] vs) (has_number t vs) refl of h
 
   -- the value of an option or of the number, where the words are taken
-  pub value_within : (words : List Text) (us : List Use) (name : Text) (r : Range) → taken t words ≡ Some us
-      → called t name ≡ Some (record { name = name; range = Some r }) → IfSome (text_in name us) (λ x. lies_in_range r x ≡ true)
-  value_within words us name r e found =
+  pub value_within : (words : List Text) (us : List Use) (f : Field) → taken t words ≡ Some us → agrees t f ≡ true
+      → IfSome (text_in f.name us) (IsValue f.range)
+  value_within words us f e agree =
       let parts = taken_uses words us e in
-      go (find (λ u. bytes_eq u.0.name name) us) (found_use [] us name (record { name = name; range = Some r }) found parts.1
-      parts.0)
+      go (find (λ u. bytes_eq u.0.name f.name) us) (found_use [] us f.name parts.1 parts.0)
     where
-      go : (o : Option Use) → IfSome o (IsUseOf (record { name = name; range = Some r }))
-          → IfSome (option_map (λ (u : Use). u.1) o) (λ x. lies_in_range r x ≡ true)
+      go : (o : Option Use) → IfSome o (IsUseBy f.name) → IfSome (option_map (λ (u : Use). u.1) o) (IsValue f.range)
       go None h = tt
-      go (Some u) h = subst (λ (f : Field). option_map_or (λ q. lies_in_range q u.1) f.range true ≡ true) h.0 h.1
+      go (Some u) h = value_by u.0.range f.range u.1
+          (sym (ap (λ o. option_map_or (λ (g : Field). same_range g.range f.range) o true) h.0) ∙ (both _ _ agree).0) h.1 h.2
 
-  -- the value of a flag
-  pub flag_within : (words : List Text) (us : List Use) (name : Text) → taken t words ≡ Some us
-      → called t name ≡ Some (record { name = name; range = None }) → IfSome (text_in name us) (λ x. x ≡ flag_text)
-  flag_within words us name e found =
-      let parts = taken_uses words us e in
-      go (find (λ u. bytes_eq u.0.name name) us) (found_use [] us name (record { name = name; range = None }) found parts.1
-      parts.0)
-    where
-      go : (o : Option Use) → IfSome o (IsUseOf (record { name = name; range = None }))
-          → IfSome (option_map (λ (u : Use). u.1) o) (λ x. x ≡ flag_text)
-      go None h = tt
-      go (Some u) h = h.2 (ap (λ (f : Field). f.range) h.0)
+-- what is known of a table whose names mean what they mean elsewhere
+pub record Usual (t : Table) : Type 0 where
+  pub sound : is_sound t ≡ true
+  pub agreed : Each (λ f. agrees t f ≡ true) (usual_fields t)
+  pub low : (range_of_number t).least ≤ 1
+  pub high : 1 ≤ (range_of_number t).most
 
--- what is read of an option of a table, or of its number, lies in the range, where the words are taken
-pub given_within : (t u : Table) (words : List Text) (m : ArgMatches) (name : Text) (r : Range) → u ≡ t → is_sound t ≡ true
-    → IsRead u words m → called t name ≡ Some (record { name = name; range = Some r }) → has_flag t.options name ≡ false
-    → IfSome (one_text (found_of m) name) (λ text. lies_in_range r text ≡ true)
-given_within t u words m name r is sound read found plain =
-    let got = subst (λ (s : Table). IsRead s words m) is read in
-    subst (λ (o : Option Text). IfSome o (λ text. lies_in_range r text ≡ true))
-    (sym (got.2 name ∙ ap (λ b. cond b (Some (unwrap_or (text_in name got.0) (codes "false"))) (text_in name got.0)) plain))
-    (value_within t sound words got.0 name r got.1 found)
+pub usual : (t : Table) → is_usual t ≡ true → Usual t
+unfolding is_usual
+usual t e =
+    let parts = both _ _ (both _ _ e).1 in
+    let ends = both _ _ parts.1 in
+    record { sound = (both _ _ e).0; agreed = each (usual_fields t) parts.0; low = leb-true _ _ ends.0; high = leb-true _ _ ends.1 }
+  where
+    each : (fs : List Field) → list_all (agrees t) fs ≡ true → Each (λ f. agrees t f ≡ true) fs
+    each [] h = tt
+    each (f ∷ fs) h = let parts = both _ _ h in (parts.0, each fs parts.1)
+
+-- ---- what is read of a name that the table calls as other commands do
+
+module _ (t : Table) (words : List Text) (m : ArgMatches) (name : Text) (r : Range) (read : IsRead t words m)
+    (agree : agrees t (record { name = name; range = Some r }) ≡ true) where
+  -- no flag is called so, so that what is read is what is said
+  pub text_read : one_text (found_of m) name ≡ text_in name read.0
+  text_read = read.2 name
+      ∙ ap (λ b. cond b (Some (unwrap_or (text_in name read.0) (codes "false"))) (text_in name read.0))
+      (not-true (has_flag t.options name) (both _ _ agree).1)
+
+  pub given_within : is_sound t ≡ true → IfSome (one_text (found_of m) name) (λ text. lies_in_range r text ≡ true)
+  given_within sound = subst (λ (o : Option Text). IfSome o (λ text. lies_in_range r text ≡ true)) (sym text_read)
+      (value_within t sound words read.0 (record { name = name; range = Some r }) read.1 agree)
+
+  pub number_said : (otherwise got : ℕ) → got ≡ unwrap_or (option_map (digits_value 10) (one_text (found_of m) name)) otherwise
+      → got ≡ number_or read.0 name otherwise
+  number_said otherwise got is = is ∙ ap (λ o. unwrap_or (option_map (digits_value 10) o) otherwise) text_read
 
 -- a name has a value where it is used
 used_text : (name : Text) (us : List Use) → is_used name us ≡ is_some (text_in name us)
@@ -173,20 +190,22 @@ used_text name (u ∷ us) = go (bytes_eq u.0.name name) (used_text name us)
     go true e = refl
     go false e = e
 
--- a flag of a table is read so, where the words are taken: whether it is used
+-- a flag is read so, where the words are taken: whether it is used
 pub flag_read : (t : Table) (words : List Text) (m : ArgMatches) (name : Text) (flag : Bool) → is_sound t ≡ true
-    → (read : IsRead t words m) → called t name ≡ Some (record { name = name; range = None }) → has_flag t.options name ≡ true
-    → (one_text (found_of m) name ≡ Some (codes "true") → flag ≡ true)
+    → (read : IsRead t words m) → agrees t (record { name = name; range = None }) ≡ true
+    → (one_text (found_of m) name ≡ None → flag ≡ false) → (one_text (found_of m) name ≡ Some (codes "true") → flag ≡ true)
     → (one_text (found_of m) name ≡ Some (codes "false") → flag ≡ false) → flag ≡ is_used name read.0
-flag_read t words m name flag sound read found is_flag on off =
-    go (text_in name read.0) (flag_within t sound words read.0 name read.1 found)
-    (read.2 name ∙ ap (λ b. cond b (Some (unwrap_or (text_in name read.0) (codes "false"))) (text_in name read.0)) is_flag)
+flag_read t words m name flag sound read agree none on off =
+    go (text_in name read.0) (has_flag t.options name)
+    (value_within t sound words read.0 (record { name = name; range = None }) read.1 agree) (read.2 name)
     ∙ sym (used_text name read.0)
   where
-    go : (o : Option Text) → IfSome o (λ x. x ≡ flag_text) → one_text (found_of m) name ≡ Some (unwrap_or o (codes "false"))
-        → flag ≡ is_some o
-    go None h is = off is
-    go (Some x) h is = on (is ∙ ap Some h)
+    go : (o : Option Text) (b : Bool) → IfSome o (λ x. x ≡ flag_text)
+        → one_text (found_of m) name ≡ cond b (Some (unwrap_or o (codes "false"))) o → flag ≡ is_some o
+    go None true h is = off is
+    go None false h is = none is
+    go (Some x) true h is = on (is ∙ ap Some h)
+    go (Some x) false h is = on (is ∙ ap Some h)
 
 -- ---- how a value is read
 

@@ -5,6 +5,7 @@ mod barred;
 mod job;
 mod laws;
 mod parse;
+mod said;
 mod table;
 
 pub use job::{Job, WordFault, job_of};
