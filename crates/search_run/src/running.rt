@@ -3,6 +3,8 @@
 //! `run_search` doesn't close its pool: what is left in it is in the desk's frontier too, and the
 //! caller expands it from there.
 //!
+//! It keeps no receipt: whatever the caller reads too late of the book, `finish` hands out by the desk.
+//!
 //! The caller makes a way down the tree to learn whether any prefix is live, and this goes to the
 //! first worker: another one for a lone worker would take as long again.
 
