@@ -34,11 +34,14 @@ use tv_base::Gate;
 const PIECES: usize = 1024;
 
 /// The seats of so many workers in a pool that holds the desk's first piece, if it has one, in the
-/// first deque. An `Err` is out of memory.
+/// first deque; none where the desk has ended, so that nobody starts. An `Err` is out of memory.
 fn seats_for(alloc: Global, workers: u32, desk: &Desk) -> Result<Vec<WorkerSeat>, Memory>
     requires some { 1 ≤ workers }
     requires few { workers ≤ 64 }
 {
+    if desk.end().is_some() {
+        return Ok(Vec::new(alloc));
+    }
     let (_, mut seats) = Pool::open(alloc, workers, PIECES)?;
     if let Some(piece) = desk.first_piece() {
         let piece = piece.try_clone()?;
