@@ -40,11 +40,11 @@ module _ (before after : ReaderParts) (seen : EditionParts) where
   pub known_before : Looked before after seen → (e : EditionParts) → Begins e after.edition → Begins e before.edition
   known_before look e begins = begins_on e seen before.edition (subst (Begins e) look.known begins) look.begins
 
-module _ (first before after : ReaderParts) (seen : EditionParts) where
-  -- a look after others is one more
-  pub looks_on : first.looks ≤ before.looks → Looked before after seen → first.looks ≤ after.looks
-  looks_on no_fewer look = omega (arith, no_fewer, look.looked)
+  -- a look after so many is one more
+  pub looks_on : (n : ℕ) → n ≤ before.looks → Looked before after seen → n ≤ after.looks
+  looks_on n no_fewer look = omega (arith, no_fewer, look.looked)
 
+module _ (first before after : ReaderParts) (seen : EditionParts) where
   -- and a look from where they began
   pub looked_since : ((e : EditionParts) → Begins e before.edition → Begins e first.edition) → first.looks ≤ before.looks → Looked before after seen → Looked first after seen
   looked_since since no_fewer look = record { known = look.known; begins = since seen look.begins; looked = omega (arith, no_fewer, look.looked); kept = look.kept }

@@ -9,4 +9,4 @@ returns-then-goes_on g c =
 pub loop-preserved : goal.loop-preserved
 loop-preserved g c =
     let look = c.look_for-back.ensures in
-    (tt, tt, (λ e begins. c.loop.invariant.2 e (known_before _ _ look.0 look.1 e begins)), looks_on _ _ _ look.0 c.loop.invariant.3 look.1)
+    (tt, tt, (λ e begins. c.loop.invariant.2 e (known_before _ _ look.0 look.1 e begins)), looks_on _ _ look.0 _ c.loop.invariant.3 look.1)
