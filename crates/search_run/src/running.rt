@@ -3,6 +3,8 @@
 //! `run_search` doesn't close its pool: what is left in it is in the desk's frontier too, and the
 //! caller expands it from there.
 //!
+//! It keeps no receipt: whatever the caller reads too late of the book, `finish` hands out by the desk.
+//!
 //! The caller makes a way down the tree to learn whether any prefix is live, and this goes to the
 //! first worker: another one for a lone worker would take as long again.
 
@@ -32,11 +34,14 @@ use tv_base::Gate;
 const PIECES: usize = 1024;
 
 /// The seats of so many workers in a pool that holds the desk's first piece, if it has one, in the
-/// first deque. An `Err` is out of memory.
+/// first deque; none where the desk has ended, so that nobody starts. An `Err` is out of memory.
 fn seats_for(alloc: Global, workers: u32, desk: &Desk) -> Result<Vec<WorkerSeat>, Memory>
     requires some { 1 ≤ workers }
     requires few { workers ≤ 64 }
 {
+    if desk.end().is_some() {
+        return Ok(Vec::new(alloc));
+    }
     let (_, mut seats) = Pool::open(alloc, workers, PIECES)?;
     if let Some(piece) = desk.first_piece() {
         let piece = piece.try_clone()?;

@@ -1,6 +1,6 @@
 -- The editions of a book: what is published, as it is after each publishing. The problem stands beside the list and isn't
 -- its first entry, so that the places of the list are those of the solids.
-use Rattle.std.specs.Prelude.{◌≡◌, Bool, List, ◌++◌, Option, Some, None}
+use Rattle.std.specs.Prelude.{◌≡◌, ◌<◌, ℕ, Bool, List, ◌++◌, Option, Some, None}
 use Rattle.solid_model.specs.Blocks.{ProblemParts}
 use Rattle.solid_model.specs.Solutions.{AreSolutions}
 
@@ -31,9 +31,19 @@ pub record BookParts : Type 0 where
   pub edition : EditionParts
   pub shut : Bool
 
+-- what one knows of a book: the last edition that was seen or learnt, if any was, and how often one has looked
+pub record ReaderParts : Type 0 where
+  pub edition : Option EditionParts
+  pub looks : ℕ
+
+-- who begins knows nothing and hasn't looked
+abbrev pub knows_nothing : ReaderParts
+knows_nothing = record { edition = None; looks = 0 }
+
 -- A reader's look at the edition that was published at one step: it goes on from what the reader knew, and is what the reader
--- knows afterwards.
-pub record Looked (before after : Option EditionParts) (e : EditionParts) : Type 0 where
-  pub known : after ≡ Some e
-  pub begins : Begins e before
+-- knows afterwards, who has looked once more at least.
+pub record Looked (before after : ReaderParts) (e : EditionParts) : Type 0 where
+  pub known : after.edition ≡ Some e
+  pub begins : Begins e before.edition
+  pub looked : before.looks < after.looks
   pub kept : IsEdition e

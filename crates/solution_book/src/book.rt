@@ -16,7 +16,8 @@ use std::sync::{Arc, Wait};
 pub struct Book;
 
 impl Book {
-    ghost use Rattle.std.specs.Prelude.{◌≡◌, ◌<◌, ◌≤◌, [], false, None, replicate, IfOk};
+    ghost use Rattle.std.specs.Prelude.{◌≡◌, ◌<◌, ◌≤◌, [], false, replicate, IfOk};
+    ghost use Rattle.solution_book.specs.Editions.{knows_nothing};
     ghost use Rattle.std.specs.Arc.{arc_value};
 
     /// A book of a problem, without a solid yet, and its readers, which know nothing yet. It may wait.
@@ -32,7 +33,7 @@ impl Book {
           edition = record { problem = arc_value problem; solids = [] };
           shut = false;
         }) }
-        ensures readers { IfOk result (λ book. book.1.items ≡ replicate readers None) }
+        ensures readers { IfOk result (λ book. book.1.items ≡ replicate readers knows_nothing) }
     {
         let edition = Arc::new(alloc, Edition::new(alloc, problem)?)?;
         let first = Shown::new(Arc::try_clone(&edition)?);

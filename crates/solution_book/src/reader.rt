@@ -5,7 +5,7 @@
 //! has as many owners as can be counted. That a receipt is of this book is needed for the return of
 //! `learn` alone, and so is no condition.
 
-ghost use Rattle.std.specs.Prelude.{◌≡◌, ◌↔◌, Some, IsTrue, IfOk, IfSome};
+ghost use Rattle.std.specs.Prelude.{◌≡◌, ◌<◌, ◌↔◌, Some, IsTrue, IfOk, IfSome};
 ghost use Rattle.std.specs.Arc.{arc_value};
 ghost use Rattle.left_right.specs.Sides.{view};
 ghost use Rattle.solution_book.specs.Editions.{EditionParts, Begins, GoesOn, Looked};
@@ -13,7 +13,7 @@ ghost use Rattle.solution_book.specs.Pages.{IsPageOf};
 
 use crate::edition::Edition;
 use crate::receipt::Receipt;
-use crate::rule::{Lens, Looks, OneList};
+use crate::rule::{Lens, Looks, OneList, Seen};
 use crate::shown::Shown;
 use core::mem::replace_with;
 use left_right::reader::Reading;
@@ -34,9 +34,10 @@ pub struct Page {
 }
 
 /// Takes what is published, as often as it is tried.
-fn entered<R: Wait>(rt: &R, lens: Lens) -> Reading<Shown, Option<Shown>, OneList>
-    ensures { (view result.place ≡ Some result.part.value)
-        × Begins result.part.value (view lens.place) }
+fn entered<R: Wait>(rt: &R, lens: Lens) -> Reading<Shown, Seen, OneList>
+    ensures edition { (view result.place).edition ≡ Some result.part.value }
+    ensures looks { (view lens.place).looks < (view result.place).looks }
+    ensures begins { Begins result.part.value (view lens.place).edition }
 {
     let mut lens = lens;
     for _ in rt.forever() {
@@ -114,7 +115,8 @@ fn page_of(alloc: Global, edition: &Edition, from: usize, most: usize) -> Result
     })
 }
 
-/// Who reads. Contracts see what it knows: the last edition that it has seen or learnt, if any.
+/// Who reads. Contracts see what it knows: the last edition that it has seen or learnt, if any, and
+/// how often it has looked.
 #[derive(Drop)]
 pub struct BookReader<R: Wait + Drop> {
     pub(crate) lens: Lens,
@@ -122,11 +124,10 @@ pub struct BookReader<R: Wait + Drop> {
 }
 
 impl<R: Wait + Drop> Model for BookReader<R> {
-    ghost use Rattle.std.specs.Prelude.{Option};
     ghost use Rattle.left_right.specs.Sides.{view as knows};
-    ghost use Rattle.solution_book.specs.Editions.{EditionParts};
+    ghost use Rattle.solution_book.specs.Editions.{ReaderParts};
 
-    ghost Value = { Option EditionParts };
+    ghost Value = { ReaderParts };
 
     ghost view = { λ s. knows s.lens.place };
 }
