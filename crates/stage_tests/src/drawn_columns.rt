@@ -8,9 +8,9 @@ ghost use Rattle.solid_model.specs.Known.{LiesWithin};
 
 use crate::cells::{cells, numbers};
 use crate::grids::grid_in;
-use columns::{
-    Column, ColumnSet, KnownColumn, can_draw, columns_in, columns_of, draw_cells, draw_in, style_of,
-};
+use column_lanes::{Column, style_of};
+use columns::{ColumnSet, columns_in, columns_of, draw_cells, draw_in};
+use line_demands::{KnownColumn, can_draw};
 use solid_model::{Grid, Panel, Panels, PerAxis, Style, View};
 use std::alloc::Global;
 use std::fmt::Write;
