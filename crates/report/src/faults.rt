@@ -3,15 +3,112 @@
 //! A function of its own, with a contract: the texts of `thiserror`, with which faults are
 //! declared, have none.
 
-ghost use Rattle.std.specs.Prelude.{◌≡◌, ◌++◌, codes, decimal, IfOk, OnOk};
-ghost use Rattle.std.specs.Fmt.{signed_decimal};
-ghost use Rattle.report.specs.FaultText.{letter_of, fault_parts, fault_text};
+ghost use Rattle.std.specs.Prelude.{◌≡◌, ◌++◌, codes, IfOk, OnOk};
+ghost use Rattle.std.specs.Option.{option_map};
+ghost use Rattle.report.specs.FaultText.{name_of, line_named, code_named, view_named, axis_named};
+ghost use Rattle.report.specs.FaultText.{count_named, letter_of};
+ghost use Rattle.report.specs.FaultText.{part_text, parts_text, fault_text};
 ghost use Rattle.solid_model.specs.Frames.{layer_name};
 
 use crate::text::push_number;
 use itoa::Integer;
 use solid_model::{Axis, Fault, Memory, View};
 use std::alloc::Global;
+
+/// A fault's number and name.
+fn name_of(fault: Fault) -> &'static str
+    ensures { result.now ≡ name_of fault }
+{
+    match fault {
+        Fault::Binary { .. } => "F1 Binary",
+        Fault::BadCode { .. } => "F2 BadCode",
+        Fault::NoValue { .. } => "F3 NoValue",
+        Fault::NoEof { .. } => "F4 NoEof",
+        Fault::BadSection { .. } => "F5 BadSection",
+        Fault::BadNumber { .. } => "F6 BadNumber",
+        Fault::NotWhole { .. } => "F7 NotWhole",
+        Fault::TooFar { .. } => "F8 TooFar",
+        Fault::Missing { .. } => "F9 Missing",
+        Fault::Repeated { .. } => "F10 Repeated",
+        Fault::Oblique { .. } => "F11 Oblique",
+        Fault::Linetype { .. } => "F12 Linetype",
+        Fault::Geometry { .. } => "F13 Geometry",
+        Fault::EmptyView { .. } => "F14 EmptyView",
+        Fault::TooManyLines { .. } => "F15 TooManyLines",
+        Fault::TooLong => "F16 TooLong",
+        Fault::TooFine { .. } => "F17 TooFine",
+        Fault::TooManyBlocks { .. } => "F18 TooManyBlocks",
+        Fault::Curved { .. } => "F19 Curved",
+    }
+}
+
+/// The line that a fault names.
+fn line_named(fault: Fault) -> Option<u32>
+    ensures { result ≡ line_named fault }
+{
+    match fault {
+        Fault::Binary { line }
+        | Fault::BadCode { line }
+        | Fault::NoValue { line }
+        | Fault::NoEof { line }
+        | Fault::BadSection { line }
+        | Fault::BadNumber { line, .. }
+        | Fault::NotWhole { line, .. }
+        | Fault::TooFar { line, .. }
+        | Fault::Missing { line, .. }
+        | Fault::Repeated { line, .. }
+        | Fault::Oblique { line }
+        | Fault::Linetype { line }
+        | Fault::Geometry { line }
+        | Fault::TooManyLines { line }
+        | Fault::Curved { line } => Some(line),
+        _ => None,
+    }
+}
+
+/// The group code that a fault names.
+fn code_named(fault: Fault) -> Option<i32>
+    ensures { result ≡ code_named fault }
+{
+    match fault {
+        Fault::BadNumber { code, .. }
+        | Fault::NotWhole { code, .. }
+        | Fault::TooFar { code, .. }
+        | Fault::Missing { code, .. }
+        | Fault::Repeated { code, .. } => Some(code),
+        _ => None,
+    }
+}
+
+/// The view that a fault names.
+fn view_named(fault: Fault) -> Option<View>
+    ensures { result ≡ view_named fault }
+{
+    match fault {
+        Fault::EmptyView { view } => Some(view),
+        _ => None,
+    }
+}
+
+/// The axis that a fault names.
+fn axis_named(fault: Fault) -> Option<Axis>
+    ensures { result ≡ axis_named fault }
+{
+    match fault {
+        Fault::TooFine { axis, .. } => Some(axis),
+        _ => None,
+    }
+}
+
+/// The number of things of which there are too many.
+fn count_named(fault: Fault) -> Option<u32>
+    ensures { result ≡ count_named fault }
+{
+    match fault {
+        Fault::TooFine { count, .. } | Fault::TooManyBlocks { count } => Some(count),
+        _ => None,
+    }
+}
 
 /// The letter of an axis.
 fn letter_of(axis: Axis) -> &'static str
@@ -24,67 +121,63 @@ fn letter_of(axis: Axis) -> &'static str
     }
 }
 
-/// Adds words, and then a number.
-fn push_numbered<I: Integer>(text: &mut Vec<u8>, words: &str, number: I) -> Result<(), Memory>
-    ensures { OnOk result (text.new.items ≡ text.old.items ++ words.now ++ I.text number) }
+/// Adds a number after a word for it, where there is one.
+fn push_number_part<I: Integer>(
+    text: &mut Vec<u8>,
+    word: &str,
+    part: Option<I>,
+) -> Result<(), Memory>
+    ensures { OnOk result (text.new.items
+        ≡ text.old.items ++ part_text word.now (option_map I.text part)) }
 {
-    text.extend_from_slice(words.as_bytes())?;
-    push_number(text, number)
-}
-
-/// Adds words, and then a line and a group code.
-fn push_line_code(text: &mut Vec<u8>, words: &str, line: u32, code: i32) -> Result<(), Memory>
-    ensures { OnOk result (text.new.items ≡ text.old.items ++ words.now ++ decimal line
-        ++ codes " code " ++ signed_decimal code) }
-{
-    push_numbered(text, words, line)?;
-    push_numbered(text, " code ", code)
-}
-
-/// Adds words, and then a view by its layer.
-fn push_view(text: &mut Vec<u8>, words: &str, view: View) -> Result<(), Memory>
-    ensures { OnOk result (text.new.items ≡ text.old.items ++ words.now ++ layer_name view) }
-{
-    text.extend_from_slice(words.as_bytes())?;
-    text.extend_from_slice(view.layer().as_bytes())?;
-    Ok(())
-}
-
-/// Adds words, and then an axis by its letter and a count.
-fn push_axis_count(text: &mut Vec<u8>, words: &str, axis: Axis, count: u32) -> Result<(), Memory>
-    ensures { OnOk result (text.new.items ≡ text.old.items ++ words.now ++ letter_of axis
-        ++ codes " count " ++ decimal count) }
-{
-    text.extend_from_slice(words.as_bytes())?;
-    text.extend_from_slice(letter_of(axis).as_bytes())?;
-    push_numbered(text, " count ", count)
-}
-
-/// Adds a fault's number and name, and what it names.
-fn push_parts(text: &mut Vec<u8>, fault: Fault) -> Result<(), Memory>
-    ensures { OnOk result (text.new.items ≡ text.old.items ++ fault_parts fault) }
-{
-    match fault {
-        Fault::Binary { line } => push_numbered(text, "F1 Binary line ", line),
-        Fault::BadCode { line } => push_numbered(text, "F2 BadCode line ", line),
-        Fault::NoValue { line } => push_numbered(text, "F3 NoValue line ", line),
-        Fault::NoEof { line } => push_numbered(text, "F4 NoEof line ", line),
-        Fault::BadSection { line } => push_numbered(text, "F5 BadSection line ", line),
-        Fault::BadNumber { line, code } => push_line_code(text, "F6 BadNumber line ", line, code),
-        Fault::NotWhole { line, code } => push_line_code(text, "F7 NotWhole line ", line, code),
-        Fault::TooFar { line, code } => push_line_code(text, "F8 TooFar line ", line, code),
-        Fault::Missing { line, code } => push_line_code(text, "F9 Missing line ", line, code),
-        Fault::Repeated { line, code } => push_line_code(text, "F10 Repeated line ", line, code),
-        Fault::Oblique { line } => push_numbered(text, "F11 Oblique line ", line),
-        Fault::Linetype { line } => push_numbered(text, "F12 Linetype line ", line),
-        Fault::Geometry { line } => push_numbered(text, "F13 Geometry line ", line),
-        Fault::EmptyView { view } => push_view(text, "F14 EmptyView view ", view),
-        Fault::TooManyLines { line } => push_numbered(text, "F15 TooManyLines line ", line),
-        Fault::TooLong => Ok(text.extend_from_slice(b"F16 TooLong")?),
-        Fault::TooFine { axis, count } => push_axis_count(text, "F17 TooFine axis ", axis, count),
-        Fault::TooManyBlocks { count } => push_numbered(text, "F18 TooManyBlocks count ", count),
-        Fault::Curved { line } => push_numbered(text, "F19 Curved line ", line),
+    match part {
+        Some(number) => {
+            text.extend_from_slice(word.as_bytes())?;
+            push_number(text, number)
+        }
+        None => Ok(()),
     }
+}
+
+/// Adds a view by its layer, where there is one.
+fn push_view(text: &mut Vec<u8>, view: Option<View>) -> Result<(), Memory>
+    ensures { OnOk result (text.new.items
+        ≡ text.old.items ++ part_text (codes " view ") (option_map layer_name view)) }
+{
+    match view {
+        Some(view) => {
+            text.extend_from_slice(b" view ")?;
+            text.extend_from_slice(view.layer().as_bytes())?;
+            Ok(())
+        }
+        None => Ok(()),
+    }
+}
+
+/// Adds an axis by its letter, where there is one.
+fn push_axis(text: &mut Vec<u8>, axis: Option<Axis>) -> Result<(), Memory>
+    ensures { OnOk result (text.new.items
+        ≡ text.old.items ++ part_text (codes " axis ") (option_map letter_of axis)) }
+{
+    match axis {
+        Some(axis) => {
+            text.extend_from_slice(b" axis ")?;
+            text.extend_from_slice(letter_of(axis).as_bytes())?;
+            Ok(())
+        }
+        None => Ok(()),
+    }
+}
+
+/// Adds what a fault names.
+fn push_parts(text: &mut Vec<u8>, fault: Fault) -> Result<(), Memory>
+    ensures { OnOk result (text.new.items ≡ text.old.items ++ parts_text fault) }
+{
+    push_number_part(text, " line ", line_named(fault))?;
+    push_number_part(text, " code ", code_named(fault))?;
+    push_view(text, view_named(fault))?;
+    push_axis(text, axis_named(fault))?;
+    push_number_part(text, " count ", count_named(fault))
 }
 
 /// What is written for a fault: `fault`, its number and name, and what it names, as in
@@ -93,6 +186,7 @@ pub fn fault_text(alloc: Global, fault: &Fault) -> Result<Vec<u8>, Memory>
     ensures { IfOk result (λ text. text.items ≡ fault_text fault.now) }
 {
     let mut text = Vec::from_slice(alloc, b"fault ")?;
+    text.extend_from_slice(name_of(*fault).as_bytes())?;
     push_parts(&mut text, *fault)?;
     text.extend_from_slice(b"\n")?;
     Ok(text)
