@@ -10,6 +10,7 @@ import itertools
 import json
 import os
 import pathlib
+import re
 import signal
 import subprocess
 import sys
@@ -32,8 +33,8 @@ HELP = "ask recon about a drawing, and tell as it goes; `draft serve` runs it"
 Event = dict[str, Any]
 Emit = Callable[[Event], None]
 
-# Of how many listed solids the volumes, and of how many the faces too, are compared with what is shown.
-COMPARED, BY_FACES = 4_096, 64
+# Of how many listed solids the volumes, and of how many the faces too, are compared with what is shown; and for how many seconds.
+COMPARED, BY_FACES, COMPARING = 4_096, 64, 5.0
 # How many solids, and how many cells of all of them, are settled.
 MOST_SETTLED, MOST_CELLS = 4_096, 40_000_000
 
@@ -112,6 +113,7 @@ class Search:
         self.decimals = 0
         self.blocks: Blocks | None = None
         self.choices: list[str] = []
+        self.rows: Iterator[str] = iter(())
 
     def stop(self) -> None:
         self.is_stopped = True
@@ -124,27 +126,39 @@ class Search:
             self.process.kill()
 
     def __call__(self, path: pathlib.Path, words: list[object], data: bytes, seconds: float) -> program.Run:
+        """Runs the program up to the line behind the pages; what it lists is left to be compared."""
         began = time.monotonic()
+        self.close()
         command = [str(path), *map(str, words), "--pages"]
         self.lines, self.decimals = lines_within(data), int(str(words[words.index("--decimals") + 1])) if "--decimals" in words else 0
-        with subprocess.Popen(command, stdin=subprocess.PIPE, stdout=subprocess.PIPE, stderr=subprocess.PIPE) as self.process:
-            timer = threading.Timer(seconds, self.late)
-            timer.start()
-            try:
-                head = self.told(self.process, data)
-            finally:
-                timer.cancel()
-                self.process.kill()
-            status = self.process.wait()
-            said = self.process.stderr.read(400) if self.process.stderr else b""
+        process = self.process = subprocess.Popen(command, stdin=subprocess.PIPE, stdout=subprocess.PIPE, stderr=subprocess.PIPE)
+        timer = threading.Timer(seconds, self.late)
+        timer.start()
+        try:
+            head = self.told(process, data)
+        finally:
+            timer.cancel()
         if self.is_late:
             raise program.TimedOut(f"recon took longer than {seconds:g} seconds")
         if self.is_stopped and not head:
             raise Stopped
         known = {"whole": program.WHOLE, "fault": program.FAULT, "cut nodes": program.CUT_NODES, "cut solids": program.CUT_SOLIDS}
-        status = next((number for word, number in known.items() if head.startswith(word)), status)
-        program.check(path, command[1:], status, said)
+        status = next((number for word, number in known.items() if head.startswith(word)), None)
+        if status is None:
+            told = process.stderr.read(400) if process.stderr else b""
+            program.check(path, command[1:], process.wait(), told)
+            raise Refused("the program wrote no answer")
         return program.Run(status, f"{head}\n", time.monotonic() - began)
+
+    def close(self) -> None:
+        """Ends the program where it still runs."""
+        if self.process:
+            self.process.kill()
+            self.process.wait()
+            for stream in (self.process.stdout, self.process.stderr):
+                if stream:
+                    stream.close()
+            self.process = None
 
     def whole(self, data: bytes, arguments: argparse.Namespace) -> None:
         """Tells all of a drawing of three layers that has no fault, as it is."""
@@ -153,6 +167,8 @@ class Search:
         head = self(program.find(arguments.program), words, data, arguments.seconds).text.strip()
         self.emit(end_event("cut" if CUT.fullmatch(head) else "whole", shown.head_told(head, len(self.choices))))
         settled(self, self.emit)
+        self.compare()
+        self.close()
 
     def told(self, process: "subprocess.Popen[bytes]", data: bytes) -> str:
         """Tells the pages, and answers the line behind them, or nothing where none came."""
@@ -162,16 +178,13 @@ class Search:
             process.stdin.close()
         except BrokenPipeError:
             pass
-        rows = (line.decode("latin-1").rstrip("\n") for line in process.stdout)
+        rows = self.rows = (line.decode("latin-1").rstrip("\n") for line in process.stdout)
         head = next(rows, "")
         if head.startswith("page ") or WHOLE.fullmatch(head) or CUT.fullmatch(head):
             self.show()
         while head.startswith("page "):
             head = self.page(int(head.split()[3]), rows)
-        if not head or self.is_stopped or not (WHOLE.fullmatch(head) or CUT.fullmatch(head) or FAULT.fullmatch(head)):
-            return head if FAULT.fullmatch(head) else ""
-        self.compare(rows)
-        return head
+        return head if WHOLE.fullmatch(head) or CUT.fullmatch(head) or FAULT.fullmatch(head) else ""
 
     def show(self) -> None:
         """The views, and the grid where the drawing has one."""
@@ -203,23 +216,36 @@ class Search:
         self.emit(solids_event(choices))
         return line
 
-    def compare(self, rows: Iterator[str]) -> None:
-        """Refuses what is shown where the program's list has it otherwise: its order, its volumes, and of the first ones the faces."""
-        if self.blocks is None:
+    def compare(self) -> None:
+        """Compares what is shown with the program's list, as far as that comes in time: its order, its volumes, and of the first ones the
+        faces. Refused where something differs."""
+        if self.blocks is None or not self.choices:
             return
-        ordered = sorted(self.choices, reverse=True)
-        volumes = self.blocks.volumes()
-        for number, line in enumerate(rows):
-            listed = SOLID.fullmatch(line)
-            if number == COMPARED or listed is None or self.is_stopped:
-                return
-            solid = solid_of(listed, [(number, face) for face in itertools.islice(rows, int(listed[4]))] if number < BY_FACES else [])
-            if number >= BY_FACES:
-                next(itertools.islice(rows, int(listed[4]), int(listed[4])), None)
-            volume = sum(volume for volume, bit in zip(volumes, solid.choice) if bit == "1")
-            alike = number < len(ordered) and solid.choice == ordered[number] and solid.volume == volume
-            if not alike or number < BY_FACES and self.blocks.grid.cells(solid) != self.blocks.full(solid.choice):
-                raise Refused(f"solid {number + 1} is listed otherwise than its blocks tell it")
+        ordered, volumes = sorted(self.choices, reverse=True), self.blocks.volumes()
+        timer = threading.Timer(COMPARING, lambda: self.process and self.process.kill())
+        timer.start()
+        count = 0
+        try:
+            for line in self.rows:
+                listed = SOLID.fullmatch(line)
+                if count == COMPARED or listed is None or not self.is_alike(listed, ordered[count:count + 1], volumes, count < BY_FACES):
+                    break
+                count += 1
+        finally:
+            timer.cancel()
+        self.emit({"kind": "compared", "count": count, "faces": min(count, BY_FACES)})
+
+    def is_alike(self, listed: "re.Match[str]", ordered: list[str], volumes: list[int], by_faces: bool) -> bool:
+        """Whether the listed solid came whole, and is as it is shown; refused where it isn't."""
+        assert self.blocks
+        faces = [(0, face) for face in itertools.islice(self.rows, int(listed[4]))]
+        if len(faces) < int(listed[4]):
+            return False
+        solid = solid_of(listed, faces if by_faces else [])
+        volume = sum(volume for volume, bit in zip(volumes, solid.choice) if bit == "1")
+        if ordered != [solid.choice] or solid.volume != volume or by_faces and self.blocks.grid.cells(solid) != self.blocks.full(solid.choice):
+            raise Refused(f"the program lists solid {listed[1]} otherwise than it is shown")
+        return True
 
 
 # ---- what is wrong, and what would settle it
@@ -276,6 +302,8 @@ def follow(arguments: argparse.Namespace, emit: Emit, search: Search) -> int:
     if WHOLE.fullmatch(head) and not search.choices:
         suggest(asked, arguments, emit)
     settled(search, emit)
+    search.compare()
+    search.close()
     return 0
 
 
@@ -316,8 +344,10 @@ def run(arguments: argparse.Namespace) -> int:
 
     search = Search(emit)
     if arguments.attended:
-        os.setpgid(0, 0) if os.getpgid(0) != os.getpid() else None
-        threading.Thread(target=listen, args=(search, sys.stdin), daemon=True).start()
+        if os.getpgid(0) != os.getpid():
+            os.setpgid(0, 0)
+        # Not by sys.stdin, which is locked while it is read, and which the processes of `trials` close.
+        threading.Thread(target=listen, args=(search, os.fdopen(os.dup(0))), daemon=True).start()
     status = follow(arguments, emit, search)
     say(f"draft follow: {many(len(search.choices), 'solid')} told")
     return status

@@ -130,7 +130,7 @@ def drawing_told(views: dict[str, list[Line]], units: Units, head: str = "") -> 
     if not any(views.values()):
         return paragraph("No line of a view can be read.")
     picture = views_told(views, units, faults.line_named(head))
-    note = paragraph(sizes_told(views, units), "muted sizes-told") + paragraph("", "muted measured")
+    note = paragraph(sizes_told(views, units), "muted sizes-told") + paragraph("Point at a line to see its length.", "muted measured")
     if 'class="marked"' in picture:
         note += paragraph("In red, the line of the drawing that the fault names.", "muted")
     if 'class="unknown"' in picture:

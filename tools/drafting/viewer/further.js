@@ -60,7 +60,7 @@ function showSuggestion(suggestion) {
 function markSuggestion(row, suggestion) {
   document.querySelector(".drawing").innerHTML = suggestion.html;
   document.querySelector(".drawing").insertAdjacentHTML("beforeend",
-    '<p class="muted measured"></p><p class="muted">Broad, in another colour: what the suggestion would have drawn otherwise.</p>');
+    '<p class="muted measured"></p><p class="muted">Broad, in another colour: what would have to be drawn otherwise.</p>');
   for (const button of document.querySelectorAll("#why .where")) {
     button.setAttribute("aria-pressed", button.parentElement === row);
   }

@@ -80,6 +80,7 @@ const TAKES = {
   suggestion: showSuggestion,
   looked: ({ first: words, rows }) => showLooking([words, ...rows].join(" ")),
   means: takeMeans,
+  compared: ({ count, faces }) => showCompared(count, faces),
 };
 
 function take(event) {
@@ -130,6 +131,14 @@ function showAlike() {
   const isAlike = new Set(shown).size < shown.length;
   document.querySelector(".alike").hidden = !isAlike;
   if (!sawThrough) document.getElementById("through").checked = isAlike;
+}
+
+/** How many solids were compared with what the program lists, by volume and by faces. */
+function showCompared(count, faces) {
+  const all = count === model.count ? (count === 1 ? "It was" : "All were") : `The first ${count.toLocaleString("en")} were`;
+  const some = faces < count ? `, the first ${faces} by their faces too` : " and faces";
+  const words = `${all} compared with the program's list, by volumes${some}.`;
+  if (count) document.querySelector(".told").append(Object.assign(document.createElement("p"), { className: "muted", textContent: words }));
 }
 
 // ---- what is due

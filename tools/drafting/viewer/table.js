@@ -119,6 +119,7 @@ const TOLD = {
   end: ({ how }) => showEnd(how),
   looking: () => showProgress("Looking for what is wrong"),
   looked: () => finish(),
+  compared: () => finish(),
   over: ({ text }) => {
     finish(text && `It ended: ${text}.`);
     table.how = "over";
