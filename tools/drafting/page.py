@@ -42,14 +42,16 @@ SUGGESTIONS = 3
 
 # ---- the page's file
 
-def scripts(names: tuple[str, ...], attributes: str = "") -> str:
-    """three.js with what draws its wide lines, and the page's own scripts."""
-    missing = [name for name in LIBRARY if not (THREE / name).is_file()]
+def scripts(names: tuple[str, ...], has_solids: bool = True, attributes: str = "") -> str:
+    """The page's own scripts; where there are solids, before them three.js with what draws its wide lines."""
+    library = [THREE / name for name in LIBRARY] if has_solids else []
+    missing = [file for file in library if not file.is_file()]
     if missing:
-        raise Refused(f"three.js isn't there, no {THREE / missing[0]}: apt-get install libjs-three")
-    files = [*(THREE / name for name in LIBRARY), *(VIEWER / f"{name}.js" for name in names)]
+        raise Refused(f"three.js isn't there, no {missing[0]}: apt-get install libjs-three")
+    files = [*library, *(VIEWER / f"{name}.js" for name in names)]
     texts = [file.read_text(encoding="utf-8").replace("</script", "<\\/script") for file in files]
-    return "\n".join([f"<!-- {LICENCE} -->", *(f"<script{attributes}>\n{text}\n</script>" for text in texts)])
+    notice = [f"<!-- {LICENCE} -->"] if library else []
+    return "\n".join([*notice, *(f"<script{attributes}>\n{text}\n</script>" for text in texts)])
 
 
 def filled(parts: dict[str, str]) -> str:
@@ -72,7 +74,7 @@ def page(name: str, events: list[Event], tiles: int) -> str:
         "told": last_html(events, "end"),
         "drawing": last_html(events, "drawing"),
         "events": json.dumps([{"kind": "tiles", "count": tiles}, *events]).replace("<", "\\u003c"),
-        "scripts": scripts(SCRIPTS),
+        "scripts": scripts(SCRIPTS, any(event["kind"] in ("grid", "suggestion") for event in events)),
     })
 
 
@@ -80,8 +82,10 @@ def page(name: str, events: list[Event], tiles: int) -> str:
 
 def checked_choices(answer: Answer, blocks: rooms.Blocks) -> list[str]:
     """The solids' choices; refused where the faces of some solid aren't those of its blocks."""
+    corners = {corner for solid in answer.solids for face in solid.faces for loop in face.loops for corner in loop}
+    are_known = all(at in ranks for corner in corners for at, ranks in zip(corner, blocks.grid.ranks))
     for solid in answer.solids:
-        if blocks.grid.cells(solid) != blocks.full(solid.choice):
+        if not are_known or blocks.grid.cells(solid) != blocks.full(solid.choice):
             raise Refused(f"the answer isn't of this drawing: the solid of choice {solid.choice[:60]} has other blocks")
     return [solid.choice for solid in answer.solids]
 

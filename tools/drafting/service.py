@@ -276,7 +276,7 @@ def routes(app: flask.Flask, desk: Desk, token: str) -> None:
         nonce = secrets.token_urlsafe(16)
         attributes = f' nonce="{nonce}"'
         text = page.filled({
-            "title": "Drafting table", "attributes": attributes, "scripts": page.scripts(SCRIPTS, attributes),
+            "title": "Drafting table", "attributes": attributes, "scripts": page.scripts(SCRIPTS, attributes=attributes),
             "table": (page.VIEWER / "table.html").read_text(encoding="utf-8"),
         })
         response = flask.Response(text, mimetype="text/html")

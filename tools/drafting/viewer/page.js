@@ -1,6 +1,6 @@
 "use strict";
 // The page: it takes what is told of a drawing, event by event, as `draft follow` writes them. In the file that `draft page` writes they
-// stand at its end; `draft serve` sends them while the program searches, and more.js asks it for them.
+// stand at its end; `draft serve` sends them while the program searches, and table.js asks it for them.
 
 let tiles = [];
 let pair = [];
