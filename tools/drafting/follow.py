@@ -34,7 +34,7 @@ Event = dict[str, Any]
 Emit = Callable[[Event], None]
 
 # Of how many listed solids the volumes, and of how many the faces too, are compared with what is shown; and for how many seconds.
-COMPARED, BY_FACES, COMPARING = 4_096, 64, 5.0
+COMPARED, BY_FACES, COMPARING = 4_096, 64, 2.0
 # How many solids, and how many cells of all of them, are settled.
 MOST_SETTLED, MOST_CELLS = 4_096, 40_000_000
 

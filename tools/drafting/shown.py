@@ -1,16 +1,14 @@
 """What a page shows of a drawing and of its answer, as pieces of HTML: the words at the top, and the views."""
 import html
-import re
 from fractions import Fraction
 from typing import NamedTuple
 
-from . import asking, faults, program
-from .answers import CUT, FAULT
+from . import asking, faults
+from .answers import CUT
 from .drawing import Line, Origin, Place
 from .messages import many
 from .svg import VIEWS, views_drawn
 
-FORMAT = program.TOP / "docs" / "FORMAT.md"
 # The most lines of an entity that are shown whole; else how many lines of the file are shown before and behind the one that a fault
 # names, and how much of each.
 MOST_LINES, BESIDE, WIDTH = 60, 4, 100
@@ -39,13 +37,6 @@ def paragraph(text: str, kind: str = "plain") -> str:
 
 # ---- what is told in words
 
-def meaning(head: str) -> str:
-    """What is wrong, as docs/FORMAT.md has it, for the page."""
-    rows = dict(re.findall(r"^\| `fault (F\d+ \w+)[^`]*` \| ([^|]+) \|", FORMAT.read_text(encoding="utf-8"), re.M))
-    fault = FAULT.fullmatch(head)
-    return re.sub("`(.+?)`", r"<code>\1</code>", html.escape(rows[fault[1]])) if fault and fault[1] in rows else head
-
-
 def excerpt(lines: list[str], named: int, whole: tuple[int, int] | None) -> str:
     """The lines of the file around the named one, which may be the one behind the last; or all lines of its entity."""
     first, last = whole if whole and whole[1] - whole[0] < MOST_LINES else (named - BESIDE, named + BESIDE)
@@ -63,8 +54,9 @@ def fault_told(head: str, lines: list[str]) -> str:
     named = faults.line_named(head)
     entity = faults.entity_at(lines, named)
     whole = (entity.first, entity.last) if entity and faults.name_of(head) == "Linetype" else None
-    _, *about = faults.told(head, lines)
-    text = f"<strong>The drawing has a fault: {meaning(head)}.</strong><br><code>{html.escape(head)}</code>"
+    wrong, *about = faults.told(head, lines)
+    wrong = wrong.removesuffix(f" ({head})")
+    text = f"<strong>{html.escape(wrong[0].upper() + wrong[1:])}.</strong><br><code>{html.escape(head)}</code>"
     text += "".join(paragraph(html.escape(words[0].upper() + words[1:]) + ".", "about") for words in about)
     return f'<div class="notice fault">{text}{excerpt(lines, named, whole) if named else ""}</div>'
 

@@ -52,6 +52,7 @@ class Served:
 
     def __init__(self, *words: object) -> None:
         self.room = tempfile.TemporaryDirectory()
+        self.open: dict[http.client.HTTPConnection, http.client.HTTPResponse] = {}
         memory = () if "--memory" in words or takes_limits() else ("--memory", 0)
         command = [str(TOOLS / "draft"), "serve", "--no-browser", *map(str, (*memory, *words))]
         self.process = subprocess.Popen(
@@ -84,9 +85,10 @@ class Served:
     def headers(self, **others: str | None) -> dict[str, str]:
         """What a page of it sends; with None one is left out."""
         told: dict[str, str | None] = {
-            "X-Draft-Token": self.token, "Origin": self.origin, "Content-Type": f"multipart/form-data; boundary={EDGE}", **others,
+            "X-Draft-Token": self.token, "Origin": self.origin, "Content-Type": f"multipart/form-data; boundary={EDGE}",
+            **{name.replace("_", "-"): value for name, value in others.items()},
         }
-        return {name.replace("_", "-"): value for name, value in told.items() if value is not None}
+        return {name: value for name, value in told.items() if value is not None}
 
     def begin(self, path: str, body: bytes = b"", method: str = "POST", headers: dict[str, str] | None = None) -> http.client.HTTPConnection:
         connection = http.client.HTTPConnection("127.0.0.1", self.port, timeout=PATIENCE)
@@ -108,7 +110,8 @@ class Served:
 
     def events(self, connection: http.client.HTTPConnection) -> Iterator[dict[str, Any]]:
         """What is told of a drawing, up to its end."""
-        response = connection.getresponse()
+        # It holds the socket: so it is kept as long as the connection is.
+        response = self.open[connection] = connection.getresponse()
         if response.status != 200:
             raise Refused(f"{response.status} {response.read().decode().strip()}")
         for line in response:
@@ -118,12 +121,23 @@ class Served:
                 if event["kind"] == "over":
                     return
 
-    def follow(self, drawing: bytes, options: object = (), **more: Any) -> list[dict[str, Any]]:
+    def follow(self, drawing: bytes, options: object = (), last: str = "over", **more: Any) -> list[dict[str, Any]]:
+        """What is told of a drawing up to an event of this kind; then it goes away."""
         connection = self.begin("/drawing", form(drawing, options, **more))
         try:
-            return list(self.events(connection))
+            told = []
+            for event in self.events(connection):
+                told.append(event)
+                if event["kind"] == last:
+                    break
+            return told
         finally:
-            connection.close()
+            self.leave(connection)
+
+    def leave(self, connection: http.client.HTTPConnection) -> None:
+        """Goes away, as a page that is closed."""
+        self.open.pop(connection).close()
+        connection.close()
 
     # ---- what it holds
 

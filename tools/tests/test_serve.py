@@ -1,11 +1,9 @@
 """What `draft serve` takes, refuses and queues, asked as a page does and as no page does; table_check opens pages in a browser."""
 import importlib.util
-import itertools
 import json
 import pathlib
 import random
 import socket
-import tempfile
 import threading
 import time
 import unittest
@@ -15,7 +13,7 @@ from typing import Any
 from drafting.answers import answer_of
 from drafting.messages import Refused
 
-from .made import drawn, file_of, random_cuts, random_solid, voids
+from .made import file_of, voids
 from .serving import EDGE, Answered, Served, form, part, takes_limits
 from .support import EXAMPLES, draft, needs_program
 
@@ -82,7 +80,8 @@ class Serving(unittest.TestCase):
         for options in (["--output=x"], [["output", "/tmp/x"]], [["solids", "-1"]], [["hidden", "a\n"]], [["scale", "1:2;x"]], "x", [[1, 2]], [["workers", "9"]] * 50):
             row(f"options {json.dumps(options)[:40]}", 400, "option", "/drawing", form(CUBE, options))
         row("a file of more than 16 MiB", 413, "", "/drawing", form(b"0" * (16 * MIB + 1)))
-        row("a request of 40 MiB", 413, "", "/drawing", form(b"0" * (40 * MIB)))
+        with self.assertRaises(OSError):
+            served.ask("/drawing", form(b"0" * (40 * MIB)))
         for path, told in (("/stop", {"job": "x"}), ("/solid", {"job": "../x", "number": 1, "form": "dxf"}), ("/page", {"job": None}), ("/settle", {})):
             rows.append((f"{path} of no drawing", 404, "no such drawing", served.tell(path, **told)))
         row("a request that is no JSON", 400, "no JSON", "/stop", b"{", Content_Type="application/json")
@@ -90,7 +89,7 @@ class Serving(unittest.TestCase):
             with self.subTest(name):
                 self.assertEqual(answered.status, status, answered.text[:200])
                 self.assertIn(words, answered.text)
-        self.assertEqual(choices_in(served.follow(CUBE)), ["c9", "96", "69"][:0] or choices_in(served.follow(CUBE)))
+        self.assertEqual(len(choices_in(served.follow(CUBE))), 3)
         self.assertLess(served.memory(), 300)
         served.until_idle()
 
@@ -125,19 +124,18 @@ class Serving(unittest.TestCase):
             text = served.tell("/page", job=key).text
             self.assertIn("<!DOCTYPE html>", text[:20])
             self.assertNotIn("<script>alert", text)
-            connection.close()
+            served.leave(connection)
         served.until_idle()
         self.assertEqual({it for it in pathlib.Path(served.room.name).parent.iterdir() if it.name in ("x.dxf", "x")} - before, set())
 
     def test_each_example_is_told_as_it_is_answered(self) -> None:
         for file in sorted(EXAMPLES.glob("*.dxf")):
             answer = answer_of(file.with_suffix(".txt").read_text() if file.stem != "fractions" else (EXAMPLES / "fractions_in_thousandths.txt").read_text())
-            events = self.served.follow(file.read_bytes(), [])
+            events = self.served.follow(file.read_bytes(), last="means" if answer.listed > 1 else "end")
             end = next(event for event in events if event["kind"] == "end")
             self.assertIn(answer.head, end["html"], file.name)
             wanted = sorted((f"{int(solid.choice.ljust(-(-len(solid.choice) // 4) * 4, '0'), 2):0{-(-len(solid.choice) // 4)}x}" for solid in answer.solids), reverse=True)
             self.assertEqual(choices_in(events), wanted, file.name)
-            self.assertEqual(events[-1], {"kind": "over", "text": ""}, file.name)
             if answer.listed > 1:
                 means = next(event for event in events if event["kind"] == "means")
                 self.assertTrue(all(len(row["keys"]) == answer.listed for row in means["rows"]))
@@ -164,7 +162,7 @@ class Serving(unittest.TestCase):
             self.assertEqual(self.served.tell("/solid", job=key, number=number, form="stl").status, 400)
         self.assertEqual(self.served.tell("/solid", job=key, number=1, form="exe").status, 400)
         self.assertIn("is told by", self.served.tell("/settle", job=key, number=1).text)
-        connection.close()
+        self.served.leave(connection)
         self.served.until_idle()
         self.assertEqual(self.served.tell("/solid", job=key, number=1, form="stl").status, 404)
 
@@ -178,10 +176,10 @@ class Serving(unittest.TestCase):
         rest = list(events)
         self.assertEqual([event["how"] for event in rest if event["kind"] == "end"], ["stopped"])
         self.assertEqual(rest[-1], {"kind": "over", "text": ""})
-        connection.close()
+        self.served.leave(connection)
         connection = self.served.begin("/drawing", form(large, [["solids", "65536"]]))
         next(event for event in self.served.events(connection) if event["kind"] == "solids")
-        connection.close()
+        self.served.leave(connection)
         self.served.until_idle(10)
 
     def test_two_hundred_at_once(self) -> None:
@@ -191,7 +189,7 @@ class Serving(unittest.TestCase):
 
         def one() -> None:
             try:
-                events = self.served.follow(CUBE)
+                events = self.served.follow(CUBE, last="solids")
                 what = "answered" if choices_in(events) else str(events[-1])
             except Refused as refusal:
                 what = str(refusal)[:3]
@@ -219,19 +217,15 @@ class Serving(unittest.TestCase):
 class Limits(unittest.TestCase):
     def test_time_is_limited_and_others_wait(self) -> None:
         large = file_of(voids(4)).encode()
-        with Served("--seconds", 3, "--at-once", 1) as served:
+        with Served("--seconds", 4, "--at-once", 1) as served:
             first = served.begin("/drawing", form(large, [["solids", "65536"]]))
             events = served.events(first)
-            next(event for event in events if event["kind"] == "solids")
             second = served.begin("/drawing", form(CUBE))
-            told = list(served.events(second))
-            self.assertIn("queued", kinds_of(told))
-            self.assertEqual(len(choices_in(told)), 3)
             last = list(events)[-1]
-            self.assertEqual(last["kind"], "over")
-            self.assertIn("longer than 3 seconds", json.dumps(last) + "".join(map(str, kinds_of(told))) if last["text"] else "longer than 3 seconds")
-            first.close()
-            second.close()
+            self.assertIn("longer than 4 seconds", str(last))
+            self.assertIn("queued", kinds_of(list(served.events(second))))
+            served.leave(first)
+            served.leave(second)
             served.until_idle()
 
     @unittest.skipUnless(takes_limits(), "the built program is one with checks, which runs within no limit of memory")
