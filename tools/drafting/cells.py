@@ -1,5 +1,4 @@
 """The cells of an answer's solids, as numbers of bits."""
-import functools
 import itertools
 from collections.abc import Iterable
 
@@ -50,13 +49,6 @@ class Grid:
             raise Refused(f"the faces of the solid of choice {solid.choice[:60]} don't enclose its volume")
         return found.pop()
 
-    @functools.cached_property
-    def margin(self) -> int:
-        """The places that are no cells: the last ones along an axis."""
-        x, y, z = map(len, self.cuts)
-        rows = ["1" * x if k == z - 1 or j == y - 1 else "0" * (x - 1) + "1" for k in range(z) for j in range(y)]
-        return int("".join(rows)[::-1] or "0", 2)
-
     def rows(self, cells: int) -> list[list[str]]:
         """The cells as texts of 0 and 1, one for each row along x: by z, and then y."""
         text = f"{cells:0{self.count}b}"[::-1]
@@ -74,18 +66,6 @@ class Grid:
                     across[row] = sum(width for width, full in zip(x, row) if full == "1")
                 total += across[row] * depth * height
         return total
-
-    def outside(self, cells: int) -> int:
-        """The places that are joined with what lies around all cells, by chains of neighbours that aren't in a set of cells."""
-        around = self.margin
-        while True:
-            grown = around
-            for stride in self.strides:
-                grown |= around << stride | around >> self.count - stride | around >> stride | around << self.count - stride
-            grown &= self.every & ~cells
-            if grown == around:
-                return around
-            around = grown
 
 
 def grid_round(solids: Iterable[Solid]) -> Grid:

@@ -243,7 +243,8 @@ class Search:
             return False
         solid = solid_of(listed, faces if by_faces else [])
         volume = sum(volume for volume, bit in zip(volumes, solid.choice) if bit == "1")
-        if ordered != [solid.choice] or solid.volume != volume or by_faces and self.blocks.grid.cells(solid) != self.blocks.full(solid.choice):
+        differs = by_faces and self.blocks.grid.cells(solid) != self.blocks.full(solid.choice)
+        if ordered != [solid.choice] or solid.volume != volume or differs:
             raise Refused(f"the program lists solid {listed[1]} otherwise than it is shown")
         return True
 

@@ -33,7 +33,7 @@ def add_arguments(parser: argparse.ArgumentParser) -> None:
     parser.add_argument("--port", type=int, default=0, help="the port (else one that is free)")
     parser.add_argument("--no-browser", action="store_true", help="tell the page's address, and open no browser")
     parser.add_argument("--seconds", type=float, default=SECONDS, help=f"the most seconds for a drawing (else {SECONDS:g})")
-    parser.add_argument("--memory", type=int, default=MEMORY, metavar="MIB", help=f"the most memory of a process, 0 for no limit (else {MEMORY:,} MiB)")
+    parser.add_argument("--memory", type=int, default=MEMORY, metavar="MIB", help=f"the most memory of one, 0 for no limit (else {MEMORY:,})")
     parser.add_argument("--at-once", type=int, default=AT_ONCE, help=f"how many processes at once; others wait (else {AT_ONCE})")
     parser.add_argument("--processors", type=int, default=max(1, every // AT_ONCE), help="how many processors each may use (else a share)")
     parser.add_argument("--program", metavar="PATH", help="the built program (else $RECON, else crates/recon/out/recon)")
@@ -41,7 +41,8 @@ def add_arguments(parser: argparse.ArgumentParser) -> None:
 
 def limits_of(arguments: argparse.Namespace) -> Limits:
     limits = Limits(arguments.seconds, arguments.memory, arguments.processors, arguments.at_once)
-    if not (0 < limits.seconds <= 86_400 and (not limits.memory or 64 <= limits.memory <= 1 << 20) and 1 <= limits.processors <= 1_024 and 1 <= limits.at_once <= 64):
+    memory_is_taken = not limits.memory or 64 <= limits.memory <= 1 << 20
+    if not (0 < limits.seconds <= 86_400 and memory_is_taken and 1 <= limits.processors <= 1_024 and 1 <= limits.at_once <= 64):
         raise Refused("limits that aren't taken: up to 86,400 seconds, 64 MiB of memory or more, 1 to 64 processes at once")
     if missing := next((name for name in ("prlimit", "taskset") if not shutil.which(name)), None):
         raise Refused(f"{missing} isn't there: apt-get install util-linux")
@@ -66,23 +67,24 @@ def run(arguments: argparse.Namespace) -> int:
         import waitress
 
         from . import service
+        from .desk import Desk
     except ImportError as missing:
         raise Refused(f"{missing.name} isn't there: apt-get install python3-flask python3-waitress") from None
     listening = bound(arguments.port)
-    port, token = listening.getsockname()[1], secrets.token_urlsafe(24)
     session = pathlib.Path(tempfile.mkdtemp(prefix="draft_serve_"))
     # What the server itself puts aside of a large request goes there too.
     tempfile.tempdir = str(session)
-    desk = service.Desk(session, limits, path)
-    signal.signal(signal.SIGTERM, signal.default_int_handler)
+    desk = Desk(session, limits, path)
+    port, token = listening.getsockname()[1], secrets.token_urlsafe(24)
     address = f"http://127.0.0.1:{port}/?token={token}"
+    signal.signal(signal.SIGTERM, signal.default_int_handler)
     try:
         server = waitress.create_server(
             service.made(desk, port, token), sockets=[listening], threads=THREADS, connection_limit=CONNECTIONS, send_bytes=1,
             channel_request_lookahead=1, channel_timeout=60, max_request_body_size=service.MOST_REQUEST, ident=None,
         )
         print(address, flush=True)
-        say(f"draft serve: {path}, {limits.at_once} at once, each {limits.seconds:g} s, {limits.memory:,} MiB, {limits.processors} processors")
+        say(f"draft serve: {path}, {limits.told()}")
         if not arguments.no_browser:
             threading.Thread(target=webbrowser.open, args=(address,), daemon=True).start()
         server.run()

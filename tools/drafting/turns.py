@@ -24,6 +24,10 @@ class Limits(NamedTuple):
     processors: int
     at_once: int
 
+    def told(self) -> str:
+        memory = f"{self.memory:,} MiB" if self.memory else "any memory"
+        return f"{self.at_once} at once, each {self.seconds:g} s, {memory}, {self.processors} processors"
+
     def words(self, slot: int) -> list[str]:
         """What a process is begun with, so that it keeps these limits; each of the slots has processors of its own, as far as there are."""
         every = sorted(os.sched_getaffinity(0))

@@ -1,6 +1,5 @@
 """What a page holds and says; page_check opens pages in a browser."""
 import itertools
-import json
 import re
 import unittest
 

@@ -109,8 +109,10 @@ function takeSolids({ choices }) {
   takeChoices(choices);
   addFitting(before);
   setKind();
-  if (before < most && renderer) refresh();
-  else refreshSoon();
+  if (before >= most || !renderer) return refreshSoon();
+  showAlike();
+  compare();
+  refresh();
 }
 
 function takeEnd({ html }) {
