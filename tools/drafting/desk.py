@@ -92,8 +92,7 @@ class Desk:
         return [sys.executable, str(DRAFT), command, *own, *words]
 
     def run(self, job: Job, turn: Turn, words: list[str]) -> Running:
-        assert turn.slot is not None
-        running = Running(words, self.limits, turn.slot, job.folder)
+        running = Running(words, self.limits, turn, job.folder)
         job.running.append(running)
         if job.is_over:
             running.end()
@@ -151,8 +150,7 @@ class Desk:
             try:
                 out = b"".join(running.pieces())
             finally:
-                if running.process.poll() is None and running.is_late:
-                    running.end()
+                running.end()
                 job.running.remove(running)
             if running.process.wait():
                 raise Unfit(422, running.complaint())

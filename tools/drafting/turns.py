@@ -5,7 +5,6 @@ import select
 import signal
 import subprocess
 import threading
-import time
 from collections.abc import Iterator
 from typing import NamedTuple
 
@@ -93,16 +92,19 @@ class Turn:
 class Running:
     """A process with its limits, in a group of its own. What it says on standard error goes into a file."""
 
-    def __init__(self, words: list[str], limits: Limits, slot: int, folder: pathlib.Path) -> None:
-        self.limits = limits
-        self.until = time.monotonic() + limits.seconds
+    def __init__(self, words: list[str], limits: Limits, turn: Turn, folder: pathlib.Path) -> None:
+        assert turn.slot is not None
+        self.limits, self.turn = limits, turn
         self.said = folder / f"said_{threading.get_ident()}"
         self.is_late = self.is_stopped = False
         with open(self.said, "wb") as said:
             self.process = subprocess.Popen(
-                [*limits.words(slot), *words], stdin=subprocess.PIPE, stdout=subprocess.PIPE, stderr=said, cwd=folder, bufsize=0,
+                [*limits.words(turn.slot), *words], stdin=subprocess.PIPE, stdout=subprocess.PIPE, stderr=said, cwd=folder, bufsize=0,
                 start_new_session=True, env={**os.environ, "TMPDIR": str(folder)},
             )
+        self.timer = threading.Timer(limits.seconds, self.late)
+        self.timer.daemon = True
+        self.timer.start()
 
     def pieces(self) -> Iterator[bytes]:
         """What it writes, as it comes; nothing after each while without a word, so that whoever reads is looked after."""
@@ -110,14 +112,12 @@ class Running:
         poll = select.poll()
         poll.register(self.process.stdout, select.POLLIN)
         while True:
-            if time.monotonic() > self.until:
-                self.is_late = True
-                self.end()
             if not poll.poll(1000 * HEARTBEAT):
                 yield b""
                 continue
             piece = os.read(self.process.stdout.fileno(), PIECE)
             if not piece:
+                self.process.wait()
                 return
             yield piece
 
@@ -130,8 +130,15 @@ class Running:
         except OSError:
             pass
 
+    def late(self) -> None:
+        """Ends it since its time is up, and gives its turn to who waits, even where nobody reads what it wrote."""
+        self.is_late = True
+        self.end()
+        self.turn.leave()
+
     def end(self) -> None:
         """Ends it and all that it began."""
+        self.timer.cancel()
         try:
             os.killpg(self.process.pid, signal.SIGKILL)
         except ProcessLookupError:

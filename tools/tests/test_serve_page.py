@@ -74,10 +74,10 @@ class Table(unittest.TestCase):
         self.browser.until(IS_OVER, PATIENCE)
         return seconds
 
-    def drop_made(self, count: int) -> float:
+    def made(self, count: int) -> pathlib.Path:
         file = self.folder / f"voids_{count}.dxf"
         file.write_text(file_of(voids(count)))
-        return self.drop(file)
+        return file
 
     def press(self, element: str) -> None:
         self.browser.mouse(element)
@@ -181,18 +181,20 @@ class Table(unittest.TestCase):
     def test_a_search_is_stopped(self) -> None:
         """Of a drawing with 1,500,625 solids, up to 65,536, those that are found are kept once it is stopped."""
         self.value("document.querySelector('.options').open = true; document.querySelector('[name=solids]').value = '65536'")
-        self.drop_made(4)
-        self.picture("searching")
-        self.press(button("Stop"))
+        self.browser.drop(self.made(4))
+        self.browser.until("model.count > 0 && !document.querySelector('.progress').hidden", PATIENCE)
+        self.value("document.querySelector('.stop').focus()")
+        self.browser.key("Enter")
         self.browser.until("/was stopped/.test(document.querySelector('.told').innerText)", PATIENCE)
         count = self.value("model.count")
         self.assertIn(f"stopped: {count:,} solids found", self.text(".told"))
         self.assertEqual(self.value("new Set(Array.from({length: model.count}, (_, number) => choiceOf(number))).size"), count)
         self.browser.until(IS_OVER, PATIENCE)
+        self.picture("stopped")
 
     @needs_long()
     def test_1225_solids(self) -> None:
-        self.drop_made(2)
+        self.drop(self.made(2))
         self.browser.until("/1,225 solids have/.test(document.querySelector('.told').innerText)", PATIENCE)
         self.assertIn("1225 solids: 1 to 64", self.text(".fixing .count"))
         began = time.monotonic()
@@ -205,7 +207,7 @@ class Table(unittest.TestCase):
     @needs_long()
     def test_65536_solids(self) -> None:
         self.value("document.querySelector('[name=solids]').value = '65536'")
-        self.drop_made(4)
+        self.drop(self.made(4))
         self.browser.until("/cut at its limit/.test(document.querySelector('.told').innerText)", 4 * PATIENCE)
         self.assertEqual(self.value("model.count"), 65_536)
         began = time.monotonic()
