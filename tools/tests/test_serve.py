@@ -219,6 +219,7 @@ class Limits(unittest.TestCase):
         with Served("--seconds", 4, "--at-once", 1) as served:
             first = served.begin("/drawing", form(large, [["solids", "65536"]]))
             events = served.events(first)
+            next(event for event in events if event["kind"] == "began")
             second = served.begin("/drawing", form(CUBE))
             last = list(events)[-1]
             self.assertIn("longer than 4 seconds", str(last))

@@ -145,7 +145,7 @@ class Table(unittest.TestCase):
         self.browser.until("!document.getElementById('settle').hidden", PATIENCE)
         rows = dict(self.value("[...document.querySelectorAll('#settle tbody tr')].map((row) => [row.cells[0].innerText, [...row.cells].slice(1, 3).map((it) => Number(it.innerText))])"))
         self.assertEqual([rows[view] for view in ("REAR", "LEFT", "BOTTOM")], [[1, 35]] * 3)
-        section = "section across x between 1 and 2"
+        section = "section x: 1 to 2"
         self.assertEqual(rows[section], [7, 7])
         self.value("document.querySelector('#settle input').focus()")
         self.browser.call("Input.insertText", text="1")
@@ -153,7 +153,7 @@ class Table(unittest.TestCase):
         self.assertEqual(self.value(f"{row}.cells[3].innerText"), "4")
         self.press(f"{row}.querySelector('button')")
         self.assertEqual(self.value("fitting.length"), 4)
-        self.assertIn(f"4 of 35 solids look like solid 1 in {section}", self.text(".fixing .count"))
+        self.assertIn("4 of 35 solids look like solid 1 in section across x between 1 and 2", self.text(".fixing .count"))
         self.press(button("What to add for it"))
         self.browser.until("document.querySelector('.added').innerText.length > 10", PATIENCE)
         self.assertIn("It would be settled by a section", self.text(".added"))

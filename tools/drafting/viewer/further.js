@@ -86,6 +86,8 @@ function showGiven(suggestion) {
 function takeMeans({ rows, text }) {
   means = rows;
   document.getElementById("settle").hidden = false;
+  // On a small screen the solids come first.
+  document.querySelector("#settle details").open = innerWidth > 820;
   document.querySelector("#settle .state").textContent = text;
   document.querySelector("#settle .meaning").hidden = !rows.length;
   showMeans();
@@ -104,7 +106,8 @@ function showMeans() {
     const row = document.createElement("tr");
     const sizes = sizesOfGroups(view.keys);
     const leaves = meant === null ? "" : String(sizes[view.keys[meant]]);
-    for (const text of [view.name, sizes.length, Math.max(...sizes), leaves]) row.insertCell().textContent = text;
+    const name = view.name.replace(/^section across (\w) between (.*) and (.*)$/, "section $1: $2 to $3");
+    for (const text of [name, sizes.length, Math.max(...sizes), leaves]) row.insertCell().textContent = text;
     const cell = row.insertCell();
     if (meant !== null) {
       const isKept = kept?.name === view.name;

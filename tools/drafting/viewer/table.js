@@ -56,6 +56,12 @@ function optionsNow() {
   return options;
 }
 
+/** Takes a drawing that is new here: what was a second export of the one before is none of this one. */
+function showNew(file) {
+  document.querySelector("[name=second]").value = "";
+  showFile(file);
+}
+
 /** Sends a drawing, and shows what is told of it. */
 function showFile(file) {
   document.querySelector(".given").hidden = true;
@@ -209,7 +215,7 @@ function listenForFiles() {
   const input = document.getElementById("file");
   document.querySelector(".choose").addEventListener("click", () => input.click());
   input.addEventListener("change", () => {
-    if (input.files[0]) showFile(input.files[0]);
+    if (input.files[0]) showNew(input.files[0]);
     input.value = "";
   });
   document.addEventListener("dragover", (event) => {
@@ -222,7 +228,7 @@ function listenForFiles() {
   document.addEventListener("drop", (event) => {
     event.preventDefault();
     document.body.classList.remove("dragged");
-    if (event.dataTransfer.files[0]) showFile(event.dataTransfer.files[0]);
+    if (event.dataTransfer.files[0]) showNew(event.dataTransfer.files[0]);
   });
 }
 
