@@ -88,7 +88,9 @@ class Desk:
 
     def words(self, job: Job, command: str, *words: str) -> list[str]:
         """The words of a command of `draft` over a job's drawing."""
-        own = [] if command == "page" else [f"--program={self.path}", f"--seconds={self.limits.seconds:g}", *job.words]
+        # The program has a little less time, so that there is some to tell what it found.
+        seconds = max(self.limits.seconds / 2, self.limits.seconds - 5)
+        own = [] if command == "page" else [f"--program={self.path}", f"--seconds={seconds:g}", *job.words]
         return [sys.executable, str(DRAFT), command, *own, *words]
 
     def run(self, job: Job, turn: Turn, words: list[str]) -> Running:

@@ -141,7 +141,7 @@ class Search:
         if self.is_late:
             raise program.TimedOut(f"recon took longer than {seconds:g} seconds")
         if self.is_stopped and not head:
-            raise Stopped
+            raise Stopped("")
         known = {"whole": program.WHOLE, "fault": program.FAULT, "cut nodes": program.CUT_NODES, "cut solids": program.CUT_SOLIDS}
         status = next((number for word, number in known.items() if head.startswith(word)), None)
         if status is None:
@@ -287,9 +287,10 @@ def follow(arguments: argparse.Namespace, emit: Emit, search: Search) -> int:
     """Tells all of one drawing, and answers the status."""
     try:
         asked = asking.ask(arguments.drawing, arguments, lambda text: emit(said(text)), runner=search)
-    except Stopped:
-        emit(end_event("stopped", shown.stopped_told(len(search.choices))))
+    except (Stopped, program.TimedOut) as cause:
+        emit(end_event("stopped", shown.stopped_told(len(search.choices), str(cause))))
         settled(search, emit)
+        search.close()
         return 0
     except Refused as refusal:
         refused(arguments, refusal, search, emit)

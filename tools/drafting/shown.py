@@ -87,9 +87,10 @@ def head_told(head: str, count: int) -> str:
     return words + paragraph(f"<code>{html.escape(head)}</code>", "muted")
 
 
-def stopped_told(count: int) -> str:
-    """That a search was stopped by hand."""
-    return f'<div class="notice cut"><strong>The search was stopped: {many(count, "solid")} found, and there may be more.</strong></div>'
+def stopped_told(count: int, why: str) -> str:
+    """That a search was stopped, by hand or for a reason."""
+    text = f"The search was stopped{why and ', since ' + html.escape(why)}: {many(count, 'solid')} found, and there may be more."
+    return f'<div class="notice cut"><strong>{text}</strong></div>'
 
 
 # ---- the views

@@ -8,11 +8,12 @@ import time
 import unittest
 
 from drafting.answers import CUT, FAULT, answer_of
+from drafting.drawing import Origin, written
 
 from .browser import Browser
-from .made import file_of, voids
+from .made import file_of, lines_of_runs, runs, voids
 from .serving import Served
-from .support import EXAMPLES, needs_command, needs_long, needs_module, needs_program
+from .support import EXAMPLES, draft, needs_command, needs_long, needs_module, needs_program
 from .test_serve import needs_packages
 
 # How long anything may take on a machine that is busy, in seconds.
@@ -66,7 +67,7 @@ class Table(unittest.TestCase):
         """Drops a drawing in, and answers after how many seconds a solid, or what is wrong, was seen."""
         began = time.monotonic()
         self.browser.drop(file)
-        self.browser.until(f"({HAS_SOLID}) || ({IS_OVER})", PATIENCE)
+        self.browser.until(f"({HAS_SOLID}) || !!document.querySelector('.told *')", PATIENCE)
         return time.monotonic() - began
 
     def drop_example(self, name: str) -> float:
@@ -171,6 +172,31 @@ class Table(unittest.TestCase):
         self.browser.open(self.saved / "eight_voids.html")
         self.assertEqual(self.value("[model.count, tiles.length]"), [35, 35])
         self.assertIn("35 solids have these views", self.text(".told"))
+
+    def test_the_file_of_draft_page_shows_what_a_suggestion_gives(self) -> None:
+        file = self.folder / "half_hidden.html"
+        ended = draft("page", EXAMPLES / "quartered_cube_half_hidden.dxf", "-o", file)
+        self.assertEqual(ended.status, 0, ended.said)
+        self.browser.close_tab()
+        self.browser.open(file)
+        self.assertIn("solid would give 3 solids", self.text("#why"))
+        self.press(button("Show what it gives", "#why"))
+        self.assertEqual(self.value("model.count"), 3)
+        self.assertIn("3 solids have these views", self.text(".told"))
+        self.press("document.querySelector('.given button')")
+        self.assertEqual(self.value("[model.count, document.querySelectorAll('#why li').length]"), [0, 2])
+
+    def test_volumes_are_in_the_unit_of_the_drawing(self) -> None:
+        """Of a drawing in tenths of a millimetre, in the captions and where two solids are compared."""
+        grid = voids(1)
+        file = self.folder / "tenths.dxf"
+        file.write_text(written(lines_of_runs(grid, runs(grid)), 1, Origin("mm")))
+        self.drop(file)
+        self.browser.until(IS_OVER, PATIENCE)
+        self.assertIn("volume 0.121 mm³", self.text(".solids figcaption"))
+        self.assertIn("0.5 mm × 0.5 mm × 0.5 mm", self.text(".solids .size"))
+        self.value("[0, 1].forEach(pick)")
+        self.assertEqual(self.text(".pair figcaption"), "Solid 1 has, and solid 2 lacks: volume 0.001 mm³")
 
     @needs_module("FreeCAD", "freecad-python3", "/usr/lib/freecad-python3/lib")
     def test_step_is_saved(self) -> None:
