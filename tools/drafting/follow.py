@@ -322,7 +322,8 @@ def refused(arguments: argparse.Namespace, refusal: Refused, search: Search, emi
         words = ["solve", "--decimals", decimals_of(lines), "--solids", 1, "--nodes", 1]
         head = program.run(program.find(arguments.program), words, data, arguments.seconds).text.partition("\n")[0]
         emit(drawing_event(lines, Units(0, origin_of(lines)), head if faults.name_of(head) else ""))
-    emit(end_event("refused", shown.refused_told(str(refusal)), str(refusal)))
+    text = str(refusal).replace(arguments.drawing, "the file")
+    emit(end_event("refused", shown.refused_told(text), text))
 
 
 def listen(search: Search, source: IO[str]) -> None:

@@ -64,8 +64,9 @@ def fault_told(head: str, lines: list[str]) -> str:
 def refused_told(text: str) -> str:
     """Why a file isn't taken."""
     first, *more = text.split("\n")
+    first = html.escape(first.rstrip("."))
     told = "".join(paragraph(html.escape(line.strip()), "about") for line in more)
-    return f'<div class="notice fault"><strong>Not taken: {html.escape(first)}.</strong>{told}</div>'
+    return f'<div class="notice fault"><strong>Not taken: {first}.</strong>{told}</div>'
 
 
 def cut_told(what: str, limit: int, count: int) -> str:

@@ -1,6 +1,7 @@
 """Processes with limits of time, memory and processors, so many at once; who comes later waits for a turn."""
 import os
 import pathlib
+import re
 import select
 import signal
 import subprocess
@@ -155,4 +156,4 @@ class Running:
             return f"it needs more than {self.limits.memory:,} MiB of memory"
         if status < 0:
             return f"it was ended by {signal.Signals(-status).name}"
-        return last[0] if last else f"it ended with status {status}"
+        return re.sub(r"^draft \w+: ", "", last[0]) if last else f"it ended with status {status}"
