@@ -222,7 +222,7 @@ class Table(unittest.TestCase):
     def test_1225_solids(self) -> None:
         self.drop(self.made(2))
         self.browser.until("/1,225 solids have/.test(document.querySelector('.told').innerText)", PATIENCE)
-        self.assertIn("1225 solids: 1 to 64", self.text(".fixing .count"))
+        self.assertIn("1,225 solids: 1 to 64", self.text(".fixing .count"))
         began = time.monotonic()
         for _ in range(4):
             self.press(button("Next"))

@@ -85,11 +85,12 @@ function showFitting() {
 /** How many solids are left, and of each block that only some have how many it would leave full and empty. */
 function showCounts() {
   const last = Math.min(first + most, fitting.length);
-  const all = `${model.count} solids`;
+  const many = (count) => count.toLocaleString("en");
+  const all = `${many(model.count)} solids`;
   const have = [fixed.size ? "have the fixed blocks so" : "", kept ? `look like solid ${kept.meant + 1} in ${kept.name}` : ""];
-  const left = fixed.size || kept ? `${fitting.length} of ${all} ${have.filter(Boolean).join(" and ")}` : all;
+  const left = fixed.size || kept ? `${many(fitting.length)} of ${all} ${have.filter(Boolean).join(" and ")}` : all;
   const box = document.querySelector(".fixing");
-  box.querySelector(".count").textContent = fitting.length > most ? `${left}: ${first + 1} to ${last} are shown` : left;
+  box.querySelector(".count").textContent = fitting.length > most ? `${left}: ${many(first + 1)} to ${many(last)} are shown` : left;
   box.querySelector(".before").disabled = first === 0;
   box.querySelector(".after").disabled = last === fitting.length;
   box.querySelector(".undo").disabled = !fixed.size && !kept;
