@@ -33,9 +33,11 @@ def add_arguments(parser: argparse.ArgumentParser) -> None:
     parser.add_argument("--port", type=int, default=0, help="the port (else one that is free)")
     parser.add_argument("--no-browser", action="store_true", help="tell the page's address, and open no browser")
     parser.add_argument("--seconds", type=float, default=SECONDS, help=f"the most seconds for a drawing (else {SECONDS:g})")
-    parser.add_argument("--memory", type=int, default=MEMORY, metavar="MIB", help=f"the most memory of one, 0 for no limit (else {MEMORY:,})")
+    parser.add_argument("--memory", type=int, default=MEMORY, metavar="MIB",
+                        help=f"the most memory of one, 0 for no limit (else {MEMORY:,})")
     parser.add_argument("--at-once", type=int, default=AT_ONCE, help=f"how many processes at once; others wait (else {AT_ONCE})")
-    parser.add_argument("--processors", type=int, default=max(1, every // AT_ONCE), help="how many processors each may use (else a share)")
+    share = max(1, every // AT_ONCE)
+    parser.add_argument("--processors", type=int, default=share, help=f"how many processors each may use (else {share})")
     parser.add_argument("--program", metavar="PATH", help="the built program (else $RECON, else crates/recon/out/recon)")
 
 

@@ -10,7 +10,8 @@ import unittest
 from collections import Counter
 from typing import Any
 
-from drafting.answers import answer_of
+from drafting.answers import Answer, answer_of
+from drafting.follow import solids_event
 from drafting.messages import Refused
 
 from .made import file_of, voids
@@ -23,11 +24,24 @@ needs_packages = unittest.skipUnless(
 )
 CUBE = (EXAMPLES / "quartered_cube.dxf").read_bytes()
 MIB = 1 << 20
+NO_OPTIONS = (
+    ["--output=x"], [["output", "/tmp/x"]], [["solids", "-1"]], [["hidden", "a\n"]], [["scale", "1:2;x"]], "x", [[1, 2]], [["workers", "9"]] * 50,
+)
+NAMES = (
+    "../../../x.dxf", "/etc/passwd", "", ".", "CON", "a" * 5_000, "-o", "--program=x", "\u00e4\u202e.dxf", "%00.dxf", "\x07",
+    "<script>alert(1)</script>.dxf",
+)
 
 
 def choices_in(events: list[dict[str, Any]]) -> list[str]:
     """The choices of all events, in the stated order, as hexadecimal digits."""
     return sorted((choice for event in events if event["kind"] == "solids" for choice in event["choices"]), reverse=True)
+
+
+def answer_of_example(file: pathlib.Path) -> Answer:
+    """What the program answers to an example, with the decimals that it needs."""
+    text = EXAMPLES / "fractions_in_thousandths.txt" if file.stem == "fractions" else file.with_suffix(".txt")
+    return answer_of(text.read_text())
 
 
 def kinds_of(events: list[dict[str, Any]]) -> list[str]:
@@ -77,12 +91,13 @@ class Serving(unittest.TestCase):
         row("a form of noise", 400, "no drawing", "/drawing", random.Random(1).randbytes(10_000))
         row("no file", 400, "no drawing", "/drawing", part("drawing", CUBE) + f"--{EDGE}--\r\n".encode())
         row("options that are no JSON", 400, "no JSON", "/drawing", part("options", b"{") + body)
-        for options in (["--output=x"], [["output", "/tmp/x"]], [["solids", "-1"]], [["hidden", "a\n"]], [["scale", "1:2;x"]], "x", [[1, 2]], [["workers", "9"]] * 50):
+        for options in NO_OPTIONS:
             row(f"options {json.dumps(options)[:40]}", 400, "option", "/drawing", form(CUBE, options))
         row("a file of more than 16 MiB", 413, "", "/drawing", form(b"0" * (16 * MIB + 1)))
         with self.assertRaises(OSError):
             served.ask("/drawing", form(b"0" * (40 * MIB)))
-        for path, told in (("/stop", {"job": "x"}), ("/solid", {"job": "../x", "number": 1, "form": "dxf"}), ("/page", {"job": None}), ("/settle", {})):
+        solid = {"job": "../x", "number": 1, "form": "dxf"}
+        for path, told in (("/stop", {"job": "x"}), ("/solid", solid), ("/page", {"job": None}), ("/settle", {})):
             rows.append((f"{path} of no drawing", 404, "no such drawing", served.tell(path, **told)))
         row("a request that is no JSON", 400, "no JSON", "/stop", b"{", Content_Type="application/json")
         for name, status, words, answered in rows:
@@ -113,15 +128,14 @@ class Serving(unittest.TestCase):
 
     def test_odd_names_are_no_paths(self) -> None:
         served = self.served
-        names = ("../../../x.dxf", "/etc/passwd", "", ".", "CON", "a" * 5_000, "-o", "--program=x", "\u00e4\u202e.dxf", "%00.dxf", "\x07", "<script>alert(1)</script>.dxf")
-        for name in names:
+        for name in NAMES:
             connection = served.begin("/drawing", form(CUBE, name=name))
             events = served.events(connection)
             key = next(events)["key"]
             self.assertIn("whole 3 ", next(event for event in events if event["kind"] == "end")["html"], name[:40])
             files = {pathlib.Path(file).name for file in served.kept()}
             self.assertLessEqual({file for file in files if not file.startswith("said_")}, {"given.dxf", "events"}, name[:40])
-            if name in names[-2:]:
+            if name in NAMES[-2:]:
                 text = served.tell("/page", job=key).text
                 self.assertEqual((text[:15], "<script>alert" in text), ("<!DOCTYPE html>", False))
             served.leave(connection)
@@ -129,12 +143,11 @@ class Serving(unittest.TestCase):
 
     def test_each_example_is_told_as_it_is_answered(self) -> None:
         for file in sorted(EXAMPLES.glob("*.dxf")):
-            answer = answer_of(file.with_suffix(".txt").read_text() if file.stem != "fractions" else (EXAMPLES / "fractions_in_thousandths.txt").read_text())
+            answer = answer_of_example(file)
             events = self.served.follow(file.read_bytes(), last="means" if answer.listed > 1 else "end")
             end = next(event for event in events if event["kind"] == "end")
             self.assertIn(answer.head, end["html"], file.name)
-            wanted = sorted((f"{int(solid.choice.ljust(-(-len(solid.choice) // 4) * 4, '0'), 2):0{-(-len(solid.choice) // 4)}x}" for solid in answer.solids), reverse=True)
-            self.assertEqual(choices_in(events), wanted, file.name)
+            self.assertEqual(choices_in(events), solids_event([solid.choice for solid in answer.solids])["choices"], file.name)
             if answer.listed > 1:
                 means = next(event for event in events if event["kind"] == "means")
                 self.assertTrue(all(len(row["keys"]) == answer.listed for row in means["rows"]))
@@ -222,7 +235,8 @@ class Limits(unittest.TestCase):
             next(event for event in events if event["kind"] == "began")
             second = served.begin("/drawing", form(CUBE))
             told = list(events)
-            self.assertRegex(str([event.get("html", event.get("text")) for event in told if event["kind"] in ("end", "over")]), "longer than [24] seconds")
+            ends = [event for event in told if event["kind"] in ("end", "over")]
+            self.assertRegex(str(ends), "longer than [24] seconds")
             self.assertIn("queued", kinds_of(list(served.events(second))))
             served.leave(first)
             served.leave(second)
@@ -235,9 +249,9 @@ class Limits(unittest.TestCase):
             self.assertEqual(last["kind"], "over")
 
     def test_limits_that_are_not_taken(self) -> None:
-        for words in (["--seconds", "0"], ["--memory", "1"], ["--at-once", "0"], ["--processors", "0"], ["--port", "70000"], ["--program", "/dev/null"]):
-            ended = draft("serve", "--no-browser", *words, seconds=30)
-            self.assertEqual((ended.status, ended.out), (1, ""), words)
+        for name, value in (("seconds", 0), ("memory", 1), ("at-once", 0), ("processors", 0), ("port", 70_000), ("program", "/dev/null")):
+            ended = draft("serve", "--no-browser", f"--{name}", value)
+            self.assertEqual((ended.status, ended.out), (1, ""), name)
 
     def test_the_server_ends_with_all_that_it_began(self) -> None:
         served = Served()
@@ -248,5 +262,5 @@ class Limits(unittest.TestCase):
         began = time.monotonic()
         self.assertEqual(served.close(), 0)
         self.assertLess(time.monotonic() - began, 10)
-        self.assertFalse([pid for pid in below if pathlib.Path(f"/proc/{pid}/cmdline").exists() and pathlib.Path(f"/proc/{pid}/cmdline").read_bytes()])
+        self.assertEqual([pid for pid in below if pathlib.Path(f"/proc/{pid}").exists()], [])
         connection.close()

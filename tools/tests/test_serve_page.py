@@ -7,20 +7,26 @@ import tempfile
 import time
 import unittest
 
-from drafting.answers import CUT, FAULT, answer_of
+from drafting.answers import CUT, FAULT
 from drafting.drawing import Origin, written
 
 from .browser import Browser
 from .made import file_of, lines_of_runs, runs, voids
 from .serving import Served
 from .support import EXAMPLES, draft, needs_command, needs_long, needs_module, needs_program
-from .test_serve import needs_packages
+from .test_serve import answer_of_example, needs_packages
 
 # How long anything may take on a machine that is busy, in seconds.
 PATIENCE = 240
 PICTURES = os.environ.get("DRAFT_PICTURES")
 COUNT = "document.querySelector('.told').innerText"
-IS_OVER = "document.querySelector('.progress').hidden && [...document.querySelectorAll('.told, .failed')].some((it) => it.textContent.trim())"
+IS_OVER = (
+    "document.querySelector('.progress').hidden && [...document.querySelectorAll('.told, .failed')].some((it) => it.textContent.trim())"
+)
+ROWS = (
+    "[...document.querySelectorAll('#settle tbody tr')]"
+    ".map((row) => [row.cells[0].innerText, [...row.cells].slice(1, 3).map((it) => Number(it.innerText))])"
+)
 HAS_SOLID = "!!document.querySelector('.solids figure:not([hidden])') && tiles[0].scene !== null"
 
 
@@ -58,7 +64,8 @@ class Table(unittest.TestCase):
 
     def tearDown(self) -> None:
         own = ("drawing", "stop", "solid", "settle", "page")
-        odd = [said for said in self.browser.said() if not any(f"{self.served.origin}/{path}" in said for path in own) and "blob:" not in said]
+        asked = [f"{self.served.origin}/{path}" for path in own] + ["blob:"]
+        odd = [said for said in self.browser.said() if not any(it in said for it in asked)]
         self.assertEqual(odd, [])
 
     # ---- what a person does
@@ -115,7 +122,7 @@ class Table(unittest.TestCase):
     def test_each_example(self) -> None:
         times = {}
         for file in sorted(EXAMPLES.glob("*.dxf")):
-            answer = answer_of(file.with_suffix(".txt").read_text() if file.stem != "fractions" else (EXAMPLES / "fractions_in_thousandths.txt").read_text())
+            answer = answer_of_example(file)
             times[file.stem] = self.drop_example(file.stem)
             words = self.text(".told")
             self.assertIn(answer.head, words, file.name)
@@ -144,7 +151,7 @@ class Table(unittest.TestCase):
         self.drop_example("eight_voids")
         self.assertIn("35 solids have these views", self.text(".told"))
         self.browser.until("!document.getElementById('settle').hidden", PATIENCE)
-        rows = dict(self.value("[...document.querySelectorAll('#settle tbody tr')].map((row) => [row.cells[0].innerText, [...row.cells].slice(1, 3).map((it) => Number(it.innerText))])"))
+        rows = dict(self.value(ROWS))
         self.assertEqual([rows[view] for view in ("REAR", "LEFT", "BOTTOM")], [[1, 35]] * 3)
         section = "section x: 1 to 2"
         self.assertEqual(rows[section], [7, 7])
@@ -267,10 +274,12 @@ class Table(unittest.TestCase):
             self.browser.events = [event for event in self.browser.events if served.origin not in str(event)]
 
     def test_what_is_no_drawing(self) -> None:
-        for name, data in (("empty.dxf", b""), ("noise.dxf", os.urandom(5_000)), ("text.dxf", b"hello\n" * 1_000), ("large.dxf", b"0" * (17 << 20))):
+        texts = {"empty.dxf": b"", "noise.dxf": os.urandom(5_000), "text.dxf": b"hello\n" * 1_000, "large.dxf": b"0" * (17 << 20)}
+        for name, data in texts.items():
             (self.folder / name).write_bytes(data)
             self.browser.drop(self.folder / name)
-            self.browser.until("/Not taken|has a fault/.test(document.querySelector('.told').innerText + document.querySelector('.failed').innerText)", PATIENCE)
+            words = "document.querySelector('.told').innerText + document.querySelector('.failed').innerText"
+            self.browser.until(f"/Not taken|has a fault/.test({words})", PATIENCE)
             self.browser.until("document.querySelector('.progress').hidden", PATIENCE)
         self.drop_example("unit_cube")
         self.assertIn("One solid has", self.text(".told"))
