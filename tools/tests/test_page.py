@@ -5,11 +5,12 @@ import unittest
 
 from drafting import page, rooms
 from drafting.answers import answer_of
-from drafting.drawing import decimals_of, lines_of, lines_within, passed_over, views_of
+from drafting.drawing import Origin, decimals_of, lines_of, lines_within, origin_of, passed_over, views_of, written
 from drafting.follow import Event, solids_event
 from drafting.messages import Refused
 from drafting.panels import sheet_of
 
+from .made import lines_of_runs, runs, voids
 from .support import EXAMPLES
 
 LINE = "0\nLINE\n8\n{}\n6\n{}\n10\n{}\n20\n{}\n11\n{}\n21\n{}\n"
@@ -75,6 +76,11 @@ class Pages(unittest.TestCase):
             "whole 3 nodes 2 blocks 3", "whole 1 nodes 2 blocks 1").replace("solid 3 choice 3 volume 3 faces 6", "solid 1 choice 1 volume 27 faces 6"))
         self.assertIn("FRONT 3 mm × 3 mm; TOP 3 mm × 3 mm; SIDE 3 mm × 3 mm", told)
         self.assertIn('"units": {"per": ["1", "1"], "unit": "mm"}', told)
+
+    def test_the_unit_is_that_of_the_header(self) -> None:
+        grid = voids(1)
+        text = written(lines_of_runs(grid, runs(grid)), 1, Origin("mm"))
+        self.assertEqual(origin_of(lines_within(text.encode())), Origin("mm"))
 
     def test_what_lies_within_the_views_and_is_not_read(self) -> None:
         lines = drawing(*CUBE, rectangle("HIDDEN", 1, 1, 1), rectangle("HIDDEN", 40, 40, 1), "0\nCIRCLE\n8\nHOLES\n10\n5\n20\n1\n40\n2.5\n",
