@@ -14,7 +14,7 @@ from typing import Any, NamedTuple
 from drafting import program
 from drafting.messages import Refused
 
-from .support import TOOLS
+from .support import TOOLS, is_built
 
 PATIENCE = 60
 EDGE = "edge-of-the-parts"
@@ -43,6 +43,8 @@ def form(drawing: bytes, options: object = (), name: str = "part.dxf", second: b
 
 def takes_limits() -> bool:
     """Whether the built program runs within a limit of memory; one that `rt try` built, with checks, doesn't."""
+    if not is_built():
+        return True
     words = ["prlimit", f"--as={1 << 31}", str(program.find()), "make", "1"]
     return subprocess.run(words, capture_output=True).returncode == 0
 
