@@ -11,6 +11,8 @@ from .drawing import Origin, decimals_of, lines_within, origin_of, passed_over
 from .messages import Refused
 
 Tell = Callable[[str], None]
+# What runs the program, by its path, words, input and limit of seconds.
+Runner = Callable[[pathlib.Path, list[object], bytes, float], program.Run]
 # Faults which `draft sheet` may get round.
 SHEETS = ("Binary", "NotWhole", "Linetype", "Geometry", "EmptyView", "TooManyLines", "TooLong")
 
@@ -79,7 +81,9 @@ def words_of(arguments: argparse.Namespace) -> list[object]:
     return words
 
 
-def ask(path: str, arguments: argparse.Namespace, tell: Tell, command: tuple[object, ...] = ("solve",)) -> Asked:
+def ask(
+    path: str, arguments: argparse.Namespace, tell: Tell, command: tuple[object, ...] = ("solve",), runner: Runner = program.run
+) -> Asked:
     """Asks the program about a file: as it is, where that is a drawing of three layers and nothing in its views is passed over, or it is
     said so; else about what `draft sheet` draws."""
     data = pathlib.Path(path).read_bytes()
@@ -89,13 +93,16 @@ def ask(path: str, arguments: argparse.Namespace, tell: Tell, command: tuple[obj
     as_is = arguments.as_is or faults.is_of_the_three_layers(lines) and not passed_over(lines) and arguments.scale == "1:1"
     words = [*decimals_words(command, decimals), *words_of(arguments)]
     # Where it isn't asked as it is, the least search tells whether the file is broken.
-    asked = [*command, *words] if as_is and not said_of_sheet else ["solve", "--nodes", 1, "--solids", 1]
-    run = program.run(program.find(arguments.program), asked, data, arguments.seconds)
+    found = program.find(arguments.program)
+    if as_is and not said_of_sheet:
+        run = runner(found, [*command, *words], data, arguments.seconds)
+    else:
+        run = program.run(found, ["solve", "--nodes", 1, "--solids", 1], data, arguments.seconds)
     fault = faults.name_of(run.text.strip())
     if not arguments.as_is and (not as_is or said_of_sheet or fault) and fault in ("", *SHEETS):
         if fault and as_is:
             tell(f"found: recon doesn't take the file as it is: {run.text.strip()}")
-        return of_sheet(path, arguments, tell, command)
+        return of_sheet(path, arguments, tell, command, runner)
     for text in passed_over_told(lines):
         tell(f"warning: {text}")
     if not fault:
@@ -113,7 +120,7 @@ def passed_over_told(lines: list[str]) -> list[str]:
             for (layer, kind), count in passed_over(lines).items()]
 
 
-def of_sheet(path: str, arguments: argparse.Namespace, tell: Tell, command: tuple[object, ...]) -> Asked:
+def of_sheet(path: str, arguments: argparse.Namespace, tell: Tell, command: tuple[object, ...], runner: Runner) -> Asked:
     """Asks the program about what a sheet is drawn as."""
     try:
         drawn = sheet.draw(path, arguments, tell)
@@ -121,5 +128,5 @@ def of_sheet(path: str, arguments: argparse.Namespace, tell: Tell, command: tupl
         raise Refused(f"{refusal}\n  (--as-is has recon read the file as it is)") from None
     data = drawn.text.encode()
     words = [*command, *decimals_words(command, drawn.decimals), *words_of(arguments)]
-    run = program.run(program.find(arguments.program), words, data, arguments.seconds)
+    run = runner(program.find(arguments.program), words, data, arguments.seconds)
     return Asked(data, lines_within(data), drawn.decimals, drawn.origin, run)

@@ -1,5 +1,4 @@
 """The cells of an answer's solids, as numbers of bits."""
-import functools
 import itertools
 from collections.abc import Iterable
 
@@ -8,15 +7,14 @@ from .messages import Refused
 
 
 class Grid:
-    """The cells between the coordinates of all corners of some solids.
+    """The cells between some coordinates of each axis.
 
     A set of cells is a number, with a bit for each cell: x runs fastest, then y, then z. Along each axis there is one place
     more than there are cells. It stands for what lies around them, behind the last cell and before the next row's first one.
     """
 
-    def __init__(self, solids: Iterable[Solid]) -> None:
-        corners = {corner for solid in solids for face in solid.faces for loop in face.loops for corner in loop}
-        self.cuts = [sorted({corner[axis] for corner in corners}) for axis in range(3)]
+    def __init__(self, cuts: list[list[int]]) -> None:
+        self.cuts = cuts
         self.ranks = [{at: rank for rank, at in enumerate(cut)} for cut in self.cuts]
         x, y, z = map(len, self.cuts)
         self.strides = 1, x, x * y
@@ -51,13 +49,6 @@ class Grid:
             raise Refused(f"the faces of the solid of choice {solid.choice[:60]} don't enclose its volume")
         return found.pop()
 
-    @functools.cached_property
-    def margin(self) -> int:
-        """The places that are no cells: the last ones along an axis."""
-        x, y, z = map(len, self.cuts)
-        rows = ["1" * x if k == z - 1 or j == y - 1 else "0" * (x - 1) + "1" for k in range(z) for j in range(y)]
-        return int("".join(rows)[::-1] or "0", 2)
-
     def rows(self, cells: int) -> list[list[str]]:
         """The cells as texts of 0 and 1, one for each row along x: by z, and then y."""
         text = f"{cells:0{self.count}b}"[::-1]
@@ -76,65 +67,8 @@ class Grid:
                 total += across[row] * depth * height
         return total
 
-    def outside(self, cells: int) -> int:
-        """The places that are joined with what lies around all cells, by chains of neighbours that aren't in a set of cells."""
-        around = self.margin
-        while True:
-            grown = around
-            for stride in self.strides:
-                grown |= around << stride | around >> self.count - stride | around >> stride | around << self.count - stride
-            grown &= self.every & ~cells
-            if grown == around:
-                return around
-            around = grown
 
-
-class Blocks:
-    """The blocks of an answer's solids, in groups that are alike in all of them, and the cells of each group."""
-
-    def __init__(self, solids: list[Solid]) -> None:
-        self.solids = solids
-        self.grid = Grid(solids)
-        columns: dict[str, list[int]] = {}
-        for block, column in enumerate(map("".join, zip(*(solid.choice for solid in solids))), 1):
-            if "1" in column:
-                columns.setdefault(column, []).append(block)
-        self.columns = list(columns)
-        self.groups = list(columns.values())
-        self.cells = self.parted()
-
-    def parted(self) -> list[int]:
-        """The cells of each group: what the solids that have it have, and those that lack it lack, as far as is needed to part them."""
-        parts = [(self.grid.every & ~self.grid.margin, list(range(len(self.groups))))] if self.solids else []
-        for number, solid in enumerate(self.solids):
-            if number and all(len({self.columns[group][number] for group in groups}) == 1 for _, groups in parts):
-                continue
-            full = self.grid.cells(solid)
-            halves = [(cells & (full if bit == "1" else ~full), [group for group in groups if self.columns[group][number] == bit])
-                      for cells, groups in parts for bit in "10"]
-            parts = [(cells, groups) for cells, groups in halves if groups]
-        cells = [0] * len(self.groups)
-        for found, (group,) in parts:
-            cells[group] = found
-        self.check(cells)
-        return cells
-
-    def check(self, cells: list[int]) -> None:
-        """Refuses groups by whose cells some solid hasn't the volume that is told."""
-        volumes = list(map(self.grid.volume, cells))
-        for number, solid in enumerate(self.solids):
-            if sum(volume for volume, column in zip(volumes, self.columns) if column[number] == "1") != solid.volume:
-                raise Refused(f"the blocks of the solid of choice {solid.choice[:60]} don't make its volume")
-
-    def told(self) -> dict[str, object]:
-        """For the page: the grid; of each place its group of blocks, or -1, in runs; the groups' blocks, and for each solid which groups
-        it has."""
-        at = [-1] * self.grid.count
-        for group, cells in enumerate(self.cells):
-            for place, bit in enumerate(reversed(f"{cells:b}")):
-                if bit == "1":
-                    at[place] = group
-        runs = [(group, len(list(run))) for group, run in itertools.groupby(at)]
-        choices = ["".join(bits) for bits in zip(*self.columns)]
-        return {"cuts": self.grid.cuts, "cells": runs, "groups": self.groups, "choices": choices,
-                "blocks": len(self.solids[0].choice) if self.solids else 0}
+def grid_round(solids: Iterable[Solid]) -> Grid:
+    """The cells between the coordinates of all corners of some solids."""
+    corners = {corner for solid in solids for face in solid.faces for loop in face.loops for corner in loop}
+    return Grid([sorted({corner[axis] for corner in corners}) for axis in range(3)])

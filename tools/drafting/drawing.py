@@ -197,6 +197,7 @@ def origin_of(lines: list[str]) -> Origin:
             variable = value
         elif code == 70 and variable == "$INSUNITS" and value.isdigit():
             origin = origin._replace(unit=UNITS.get(int(value), ""))
+            variable = ""
         elif code == 999 and (told := re.fullmatch(r"draft times (\d{1,9}(?:/[1-9]\d{0,8})?)", value)) and Fraction(told[1]):
             origin = origin._replace(times=Fraction(told[1]))
         elif code == 999 and value == "draft mirrored":

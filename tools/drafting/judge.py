@@ -13,7 +13,7 @@ from collections.abc import Iterator
 
 from . import asking, solver
 from .answers import CUT, FAULT, Answer, answer_of, text_of
-from .cells import Grid as Cells
+from .cells import Grid as Cells, grid_round
 from .drawing import VIEWS, decimals_of, lines_of, views_of
 from .messages import Progress, Refused, many, say, write_result
 from .panels import Cell, Grid, grid_of, panels_of, sheet_of
@@ -61,7 +61,7 @@ def solids_of(answer: Answer, grid: Grid) -> Iterator[tuple[int, Solid | Refused
     for number, told in enumerate(answer.solids, 1):
         Progress.show(f"solid {number:,} of {len(answer.solids):,}")
         try:
-            cells = Cells([told])
+            cells = grid_round([told])
             yield number, solid_cells(cells, cells.cells(told), grid)
         except Refused as refusal:
             yield number, refusal

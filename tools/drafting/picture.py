@@ -9,7 +9,7 @@ import math
 from collections.abc import Iterator
 
 from .answers import CUT, FAULT, Point, Solid, answer_of, text_of
-from .cells import Grid
+from .cells import Grid, grid_round
 from .drawing import Line, Place, lines_of, views_of
 from .messages import Refused, write_result
 from .svg import VIEWS, label, path, views_drawn
@@ -88,7 +88,7 @@ def faces_of(grid: Grid, solid: Solid) -> Iterator[tuple[str, list[Point], list[
 
 def solids_drawn(solids: list[Solid], left: float, top: float, size: float) -> Iterator[str]:
     """The solids in rows from there, each in a square of this size, in one scale and place."""
-    grid = Grid(solids)
+    grid = grid_round(solids)
     seen = [flat(point) for point in itertools.product(*((cut[0], cut[-1]) for cut in grid.cuts))]
     least = [min(point[axis] for point in seen) for axis in (0, 1)]
     extent = [max(point[axis] for point in seen) - least[axis] for axis in (0, 1)]

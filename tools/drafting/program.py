@@ -55,13 +55,18 @@ def run(program: pathlib.Path, words: list[object], data: bytes, seconds: float 
         ended = subprocess.run(command, input=data, capture_output=True, timeout=seconds)
     except subprocess.TimeoutExpired:
         raise TimedOut(f"recon {' '.join(command[1:])} took longer than {seconds:g} seconds") from None
-    if ended.returncode < 0:
-        raise Refused(f"recon was ended by {signal.Signals(-ended.returncode).name}")
-    if ended.stderr or ended.returncode > NO_SUCH_SOLID:
-        told = ended.stderr.decode(errors="replace").strip()[:200]
-        raise Refused(f"{program} isn't recon, or not as it is known here: status {ended.returncode} {told}")
-    if ended.returncode in (USAGE, NO_INPUT, NO_OUTPUT, NO_MEMORY):
-        why = {USAGE: "doesn't take the arguments " + " ".join(command[1:]), NO_INPUT: "couldn't read its input",
-               NO_OUTPUT: "couldn't write its output", NO_MEMORY: "ran out of memory"}[ended.returncode]
-        raise Refused(f"recon {why}")
+    check(program, command[1:], ended.returncode, ended.stderr)
     return Run(ended.returncode, ended.stdout.decode("latin-1"), time.monotonic() - began)
+
+
+def check(program: pathlib.Path, words: list[str], status: int, said: bytes) -> None:
+    """Refuses a run that was ended by a signal, that says what the program never says, or that has no answer."""
+    if status < 0:
+        raise Refused(f"recon was ended by {signal.Signals(-status).name}")
+    if said or status > NO_SUCH_SOLID:
+        told = said.decode(errors="replace").strip()[:200]
+        raise Refused(f"{program} isn't recon, or not as it is known here: status {status} {told}")
+    if status in (USAGE, NO_INPUT, NO_OUTPUT, NO_MEMORY):
+        why = {USAGE: "doesn't take the arguments " + " ".join(words), NO_INPUT: "couldn't read its input",
+               NO_OUTPUT: "couldn't write its output", NO_MEMORY: "ran out of memory"}[status]
+        raise Refused(f"recon {why}")

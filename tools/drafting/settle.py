@@ -16,7 +16,7 @@ from typing import NamedTuple
 
 from . import asking, faults, program
 from .answers import CUT, FAULT, Answer, answer_of, text_of
-from .cells import Grid as Cells
+from .cells import Grid as Cells, grid_round
 from .drawing import lines_of, number, pairs_of, views_of
 from .messages import Progress, Refused, many, say, write_result
 from .panels import (
@@ -110,6 +110,12 @@ def section_keys(solids: Solids, sheet: Sheet, varying: list[Cell]) -> list[Mean
 
 def place_of(solids: Solids, cell: Cell) -> int:
     return sum(at * stride for at, stride in zip(cell, solids.cells.strides))
+
+
+def all_means(solids: Solids, sheet: Sheet) -> tuple[list[Means], list[Means]]:
+    """What each further view and each section shows of the solids; of the sections the best ones first."""
+    varying = solids.cells_in(solids.varying())
+    return [view_keys(solids, view, varying) for view in FURTHER], best_first(section_keys(solids, sheet, varying))
 
 
 def best_first(means: list[Means]) -> list[Means]:
@@ -300,11 +306,9 @@ def run(arguments: argparse.Namespace) -> int:
     if arguments.meant is not None and not 1 <= arguments.meant <= len(answer.solids):
         raise Refused(f"there is no solid {arguments.meant}: {many(len(answer.solids), 'solid')} listed")
     sheet = sheet_of(views_of(case.lines), case.decimals)
-    cells = Cells(answer.solids)
+    cells = grid_round(answer.solids)
     solids = Solids(cells, [cells.cells(told) for told in answer.solids])
-    varying = solids.cells_in(solids.varying())
-    views = [view_keys(solids, view, varying) for view in FURTHER]
-    sections = best_first(section_keys(solids, sheet, varying))
+    views, sections = all_means(solids, sheet)
     Progress.clear()
     shown = sections if arguments.all else sections[:SHOWN]
     rows = [f"{many(len(answer.solids), 'solid')} have these views.", *table(best_first([*views, *shown]))]

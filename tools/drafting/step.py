@@ -12,7 +12,7 @@ from fractions import Fraction
 from . import asking, faults, program
 from .answers import FAULT, Answer, answer_of, text_of, turned_back
 from .drawing import lines_of, origin_of
-from .messages import Refused, say, write_result
+from .messages import Refused, many, say, write_result
 
 NAME = "step"
 HELP = "save the solids of a drawing or a sheet as STEP or BREP files, by FreeCAD"
@@ -21,6 +21,7 @@ HELP = "save the solids of a drawing or a sheet as STEP or BREP files, by FreeCA
 def add_arguments(parser: argparse.ArgumentParser) -> None:
     parser.add_argument("drawing", metavar="FILE.dxf")
     parser.add_argument("shape", metavar="SHAPE.step", help="the name of which the files' names are made, .step or .brep")
+    parser.add_argument("--only", type=int, metavar="K", help="the solid that is saved, alone")
     parser.add_argument("--answer", metavar="ANSWER", help="what recon solve wrote for it as it is; - for standard input")
     asking.add_arguments(parser)
 
@@ -49,18 +50,21 @@ def run(arguments: argparse.Namespace) -> int:
     if not is_shape_file(arguments.shape):
         raise Refused(f"{arguments.shape} ends neither in .step nor in .brep")
     answer, per_unit = answered(arguments)
-    shapes = []
-    for number, told in enumerate(answer.solids, 1):
+    solids = dict(enumerate(answer.solids, 1))
+    if arguments.only is not None and arguments.only not in solids:
+        raise Refused(f"there is no solid {arguments.only}: {many(len(solids), 'solid')} of this drawing")
+    shapes = {}
+    for number in [arguments.only] if arguments.only else solids:
         try:
-            shapes.append(shape_of(told))
+            shapes[number] = shape_of(solids[number])
         except (Refused, Part.OCCError) as refusal:
             raise Refused(f"solid {number}: {refusal}") from None
     rows = [answer.head]
     path = pathlib.Path(arguments.shape)
-    for number, (told, shape) in enumerate(zip(answer.solids, shapes), 1):
+    for number, shape in shapes.items():
         file = str(path.with_name(f"{path.stem}_{number}{path.suffix}"))
         save(shape.scale(float(1 / per_unit)) if per_unit != 1 else shape, file)
-        volume = asking.measure(told.volume / per_unit**3, "").replace(",", "")
+        volume = asking.measure(solids[number].volume / per_unit**3, "").replace(",", "")
         parts = len(shape.Solids)
         rows.append(f"{file} volume {volume} parts {parts} voids {len(shape.Shells) - parts}")
     write_result("".join(f"{row}\n" for row in rows), None)

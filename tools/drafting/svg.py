@@ -1,7 +1,8 @@
 """The three views of a drawing as parts of an SVG picture, for `picture` and `page`."""
+import functools
 import html
 import itertools
-from collections.abc import Iterable, Iterator
+from collections.abc import Callable, Iterable, Iterator
 
 from .drawing import Line, Place
 
@@ -9,10 +10,13 @@ from .drawing import Line, Place
 VIEWS, GAP = 290, 36
 
 Stroke = tuple[bool, Place, Place]
+# What is told of a stroke: by its view, its kind, and its ends from the view's least corner on.
+Told = Callable[[str, str, Place, Place], str]
 
 
-def path(points: Iterable[Place], kind: str, closed: bool = False) -> str:
-    return f'<path class="{kind}" d="M{" L".join(f"{x:.2f},{y:.2f}" for x, y in points)}{"Z" if closed else ""}"/>'
+def path(points: Iterable[Place], kind: str, closed: bool = False, told: str = "") -> str:
+    more = f' data-told="{html.escape(told)}"' if told else ""
+    return f'<path class="{kind}" d="M{" L".join(f"{x:.2f},{y:.2f}" for x, y in points)}{"Z" if closed else ""}"{more}/>'
 
 
 def label(x: float, y: float, text: str, kind: str = "plain") -> str:
@@ -55,15 +59,18 @@ class View:
         self.unknown = [(line.start, line.end) for line in lines if not line.known]
         self.marked = [(line.start, line.end) for line in lines if marked and line.told[0] <= marked <= line.told[1]]
 
-    def drawn(self, left: float, bottom: float, scale: float) -> Iterator[str]:
-        """The view with its lower left corner there."""
+    def drawn(self, left: float, bottom: float, scale: float, told: Callable[[str, Place, Place], str] | None = None) -> Iterator[str]:
+        """The view with its lower left corner there; where something is told of strokes, each has it."""
         kinds = [("dashed" if dashed else "solid", ends) for dashed, *ends in self.strokes]
         others = [*(("unknown", ends) for ends in self.unknown), *(("marked", ends) for ends in self.marked)]
         for kind, ends in itertools.chain(kinds, others):
-            yield path([(left + scale * (x - self.left), bottom - scale * (y - self.low)) for x, y in ends], kind)
+            start, end = ((x - self.left, y - self.low) for x, y in ends)
+            yield path([(left + scale * x, bottom - scale * y) for x, y in (start, end)], kind, told=told(kind, start, end) if told else "")
 
 
-def views_drawn(views: dict[str, list[Line]], left: float, top: float, marked: int | None = None) -> Iterator[str]:
+def views_drawn(
+    views: dict[str, list[Line]], left: float, top: float, marked: int | None = None, told: Told | None = None
+) -> Iterator[str]:
     """The three views in a square from there, TOP above FRONT and SIDE to its right, with the lines that join them."""
     front, above, side = (View(views[name], marked) for name in ("FRONT", "TOP", "SIDE"))
     width, depth = max(front.width, above.width), max(above.height, side.width)
@@ -75,9 +82,8 @@ def views_drawn(views: dict[str, list[Line]], left: float, top: float, marked: i
         yield path([(left + scale * x, top), (left + scale * x, bottom)], "guide")
     for y in (0, front.height):
         yield path([(left, bottom - scale * y), (right + scale * depth, bottom - scale * y)], "guide")
-    yield from above.drawn(left, top + scale * depth, scale)
-    yield from front.drawn(left, bottom, scale)
-    yield from side.drawn(right, bottom, scale)
+    for name, view, x, y in (("TOP", above, left, top + scale * depth), ("FRONT", front, left, bottom), ("SIDE", side, right, bottom)):
+        yield from view.drawn(x, y, scale, functools.partial(told, name) if told else None)
     yield label(left + scale * above.width / 2, top - 10, "TOP", "small")
     yield label(left + scale * front.width / 2, bottom + 22, "FRONT", "small")
     yield label(right + scale * side.width / 2, bottom + 22, "SIDE", "small")

@@ -11,7 +11,7 @@ Each view may be taken to begin outside what is drawn of it, where another view 
 import argparse
 import itertools
 import pathlib
-from collections.abc import Iterator
+from collections.abc import Callable, Iterator
 from typing import NamedTuple
 
 from . import asking, changes, faults, least, picture, program, trials
@@ -151,8 +151,17 @@ def segments_told(placed: Placed, row: Row, styles: bytes) -> Iterator[str]:
 
 # ---- single changes
 
-def single_changes(path: pathlib.Path, all_placed: list[Placed], limits: Limits) -> tuple[list[Suggestion], int, int]:
-    """The single changes that give solids, how many runs it took, and how many changes weren't tried."""
+Found = Callable[[Suggestion], None]
+
+
+def said_found(suggestion: Suggestion) -> None:
+    say(f"draft why: found: {suggestion.words[0]}")
+
+
+def single_changes(
+    path: pathlib.Path, all_placed: list[Placed], limits: Limits, tell: Found = said_found
+) -> tuple[list[Suggestion], int, int]:
+    """The single changes that give solids, each told as it is found; how many runs it took, and how many changes weren't tried."""
     items = [
         (number, change) for number, placed in enumerate(all_placed) for change in changes.single_changes(placed.judged)
     ]
@@ -173,7 +182,7 @@ def single_changes(path: pathlib.Path, all_placed: list[Placed], limits: Limits)
                 number, change = items[at - 1]
                 words = [f"{change_told(all_placed[number], change)} would give {outcome.words}"]
                 found.append(Suggestion(all_placed[number], change.rows, words, change.length, outcome))
-                say(f"draft why: found: {words[0]}")
+                tell(found[-1])
             Progress.show(f"{at:,} of {len(items):,} changes, {many(runs, 'run')}, {len(found)} found")
             if runs >= limits.runs:
                 break
@@ -240,8 +249,8 @@ def lines_of_run(placed: Placed, row: Row, run: tuple[int, int, int], told: int)
     return Line(style == DASHED, start, end, (told, told))
 
 
-def picture_of(path: pathlib.Path, suggestion: Suggestion) -> str:
-    """The drawing with the place of a suggestion marked, and the first solids that it gives. What is to be drawn where there is
+def marked_views(suggestion: Suggestion) -> dict[str, list[Line]]:
+    """The drawing's views with the place of a suggestion as lines that line 1 of the file tells. What is to be drawn where there is
     nothing yet is there already."""
     placed = suggestion.placed
     views: dict[str, list[Line]] = {view: [] for view in VIEWS}
@@ -251,12 +260,19 @@ def picture_of(path: pathlib.Path, suggestion: Suggestion) -> str:
         before = placed.grid.panels[row]
         changed = bytes((was or will) if was != will else BLANK for was, will in zip(before, after))
         views[row.view] += [lines_of_run(placed, row, run, 1) for run in runs_of(changed)]
+    return views
+
+
+def picture_of(path: pathlib.Path, suggestion: Suggestion) -> str:
+    """The drawing with the place of a suggestion marked, and the first solids that it gives."""
     words = ["solve", "--nodes", trials.NODES, "--solids", trials.SOLIDS]
-    text = program.run(path, words, placed.tried.changed(suggestion.rows)).text
-    return "".join(f"{line}\n" for line in picture.picture(views, text, 1))
+    text = program.run(path, words, suggestion.placed.tried.changed(suggestion.rows)).text
+    return "".join(f"{line}\n" for line in picture.picture(marked_views(suggestion), text, 1))
 
 
-def looked_at(path: pathlib.Path, sheet: Sheet, head: str, limits: Limits) -> tuple[list[str], list[Suggestion]]:
+def looked_at(
+    path: pathlib.Path, sheet: Sheet, head: str, limits: Limits, tell: Found = said_found
+) -> tuple[list[str], list[Suggestion]]:
     """What is told of a drawing that no solid has, and the suggestions in its order. The head is what the program says of it."""
     all_placed = list(placed_views(sheet))
     grid = all_placed[0].grid
@@ -265,7 +281,7 @@ def looked_at(path: pathlib.Path, sheet: Sheet, head: str, limits: Limits) -> tu
         return [f"No solid has these views: they have no extent along {' and '.join(flat)}."], []
     if program.run(path, ["solve"], all_placed[0].tried.changed(())).text.partition("\n")[0] != head:
         raise Refused("the program reads this drawing otherwise than it is read here")
-    found, runs, untried = single_changes(path, all_placed, limits)
+    found, runs, untried = single_changes(path, all_placed, limits, tell)
     rows = [f"No solid has these views. {many(runs, 'run')} of the program over changed drawings."]
     if untried:
         rows.append(f"Stopped at this limit: {many(untried, 'less likely change')} weren't tried.")

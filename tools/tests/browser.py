@@ -1,4 +1,5 @@
-"""A browser for page_check: Chromium without a window. It opens pages, takes keys, mouse and touch, and tells what a page does."""
+"""A browser for page_check and table_check: Chromium without a window. It opens pages, takes keys, mouse, touch and files, and tells
+what a page does."""
 import base64
 import json
 import os
@@ -87,23 +88,58 @@ class Browser:
 
     def open(self, path: pathlib.Path) -> None:
         """Opens a file in a tab of its own, in place of the one before."""
+        self.close_tab()
+        self.visit(path.as_uri())
+
+    def close_tab(self) -> None:
         self.session = ""
         if self.target:
             self.call("Target.closeTarget", targetId=self.target)
+        self.target = ""
+
+    def turn_to(self, tab: tuple[str, str, str]) -> None:
+        """Turns to another tab, as `visit` answered it."""
+        self.target, self.session, self.url = tab
+        self.call("Page.bringToFront")
+
+    def visit(self, url: str) -> tuple[str, str, str]:
+        """Opens a page in a further tab."""
+        self.session = ""
         self.target = self.call("Target.createTarget", url="about:blank")["targetId"]
         self.session = self.call("Target.attachToTarget", targetId=self.target, flatten=True)["sessionId"]
         self.events = []
         for domain in ("Page", "Runtime", "Log", "Network"):
             self.call(f"{domain}.enable")
         self.size()
-        self.url = path.as_uri()
+        self.url = url
         self.call("Page.navigate", url=self.url)
         until = time.monotonic() + PATIENCE
         while self.value("[location.href, document.readyState]") != [self.url, "complete"]:
             if time.monotonic() > until:
-                raise Refused(f"chromium doesn't open {path}")
+                raise Refused(f"chromium doesn't open {url}")
             time.sleep(0.05)
         self.settle()
+        return self.target, self.session, self.url
+
+    def until(self, script: str, seconds: float = 60) -> float:
+        """Waits until a script in the page is true, and answers for how many seconds."""
+        began = time.monotonic()
+        while not self.value(script):
+            if time.monotonic() - began > seconds:
+                raise Refused(f"not so within {seconds:g} seconds: {script[:100]}")
+            time.sleep(0.01)
+        return time.monotonic() - began
+
+    def drop(self, *files: pathlib.Path) -> None:
+        """Drops files into the middle of the page, as from a desktop."""
+        data = {"items": [], "files": list(map(str, files)), "dragOperationsMask": 1}
+        for kind in ("dragEnter", "dragOver", "drop"):
+            self.call("Input.dispatchDragEvent", type=kind, x=400, y=300, data=data)
+
+    def give(self, element: str, file: pathlib.Path) -> None:
+        """Gives a file to an input of files."""
+        given = self.call("Runtime.evaluate", expression=element)["result"]["objectId"]
+        self.call("DOM.setFileInputFiles", files=[str(file)], objectId=given)
 
     def size(self, width: int = 1280, mobile: bool = False) -> None:
         self.call("Emulation.setDeviceMetricsOverride", width=width, height=900, deviceScaleFactor=1, mobile=mobile)

@@ -67,6 +67,15 @@ def file_of(grid: Grid, told: Iterable[Run] | None = None) -> str:
     return written(lines_of_runs(grid, runs(grid) if told is None else told), 0)
 
 
+def voids(count: int) -> Grid:
+    """A row of cubes along the diagonal, each with eight voids, of whose drawing there are 35 to the power of their number solids."""
+    cells = {
+        (x + 6 * number, y + 6 * number, z + 6 * number)
+        for number in range(count) for x, y, z in itertools.product(range(5), repeat=3) if not {x, y, z} <= {1, 3}
+    }
+    return drawn(cells, [list(range(6 * count)) for _ in range(3)])
+
+
 # ---- mistakes
 
 def dropped(rng: random.Random, grid: Grid, told: list[Run]) -> list[Run]:

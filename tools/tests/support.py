@@ -1,5 +1,6 @@
 """What the tests share: running `draft`, and what they need of packages and of the built program."""
 import importlib.util
+import os
 import pathlib
 import shutil
 import subprocess
@@ -12,6 +13,8 @@ from drafting.messages import Refused
 
 TOOLS = pathlib.Path(__file__).resolve().parent.parent
 EXAMPLES = TOOLS.parent / "examples"
+# Why tests that take minutes are left out.
+LONG = "takes minutes: tools/check --long"
 
 
 class Ended(NamedTuple):
@@ -42,8 +45,14 @@ def needs_program() -> Decorated:
     return unittest.skipUnless(is_built(), "the program isn't built: (cd crates/recon && rt run -- solve < ../../examples/unit_cube.dxf)")
 
 
-def needs_module(module: str, package: str) -> Decorated:
-    return unittest.skipUnless(importlib.util.find_spec(module), f"apt-get install {package}")
+def needs_module(module: str, package: str, folder: str = "") -> Decorated:
+    """A module of Python, on its path or in a folder beside it."""
+    is_there = importlib.util.find_spec(module) or folder and (pathlib.Path(folder) / f"{module}.so").exists()
+    return unittest.skipUnless(is_there, f"apt-get install {package}")
+
+
+def needs_long() -> Decorated:
+    return unittest.skipUnless(os.environ.get("DRAFT_LONG"), LONG)
 
 
 def needs_command(command: str, package: str) -> Decorated:

@@ -1,21 +1,24 @@
 """What a page holds and says; page_check opens pages in a browser."""
 import itertools
-import json
 import re
 import unittest
 
-from drafting import page
+from drafting import page, rooms
 from drafting.answers import answer_of
-from drafting.cells import Blocks
-from drafting.drawing import Origin, lines_within, passed_over
+from drafting.drawing import Origin, decimals_of, lines_of, lines_within, origin_of, passed_over, views_of, written
+from drafting.follow import Event, solids_event
+from drafting.messages import Refused
+from drafting.panels import sheet_of
 
+from .made import lines_of_runs, runs, voids
 from .support import EXAMPLES
 
 LINE = "0\nLINE\n8\n{}\n6\n{}\n10\n{}\n20\n{}\n11\n{}\n21\n{}\n"
 
 
-def drawing(*lines: str) -> list[str]:
-    return lines_within(("0\nSECTION\n2\nENTITIES\n" + "".join(lines) + "0\nENDSEC\n0\nEOF\n").encode())
+def drawing(*lines: str, header: str = "") -> list[str]:
+    head = f"0\nSECTION\n2\nHEADER\n{header}0\nENDSEC\n" if header else ""
+    return lines_within((head + "0\nSECTION\n2\nENTITIES\n" + "".join(lines) + "0\nENDSEC\n0\nEOF\n").encode())
 
 
 def rectangle(layer: str, x: int, y: int, size: int, linetype: str = "CONTINUOUS") -> str:
@@ -27,31 +30,39 @@ CUBE = [rectangle("FRONT", 0, 0, 3), rectangle("TOP", 0, 9, 3), rectangle("SIDE"
 
 
 class Pages(unittest.TestCase):
-    def made(self, lines: list[str], text: str, decimals: int = 0) -> str:
-        return page.page("part.dxf", lines, answer_of(text), page.Units(decimals, Origin("mm")), [], 64)
+    def told(self, lines: list[str], text: str) -> list[Event]:
+        events: list[Event] = []
+        page.tell_answer(lines, answer_of(text), events.append)
+        return events
 
-    def test_all_solids_are_there_by_their_blocks(self) -> None:
-        for name in ("quartered_cube", "eight_voids", "bracket", "row_of_three_pieces"):
+    def made(self, lines: list[str], text: str) -> str:
+        return page.page("part.dxf", self.told(lines, text), 64)
+
+    def test_blocks_are_those_of_the_program(self) -> None:
+        for name in ("quartered_cube", "eight_voids", "bracket", "row_of_three_pieces", "clevis", "pierced_plate", "two_cubes_along_an_edge"):
+            lines = lines_of(str(EXAMPLES / f"{name}.dxf"))
             answer = answer_of((EXAMPLES / f"{name}.txt").read_text())
-            blocks = Blocks(answer.solids)
-            told = json.loads(json.dumps(blocks.told()))
-            at = [group for group, count in told["cells"] for _ in range(count)]
-            self.assertEqual(len(told["choices"]), answer.listed)
-            for solid, choice in zip(answer.solids, told["choices"]):
-                cells = sum(1 << place for place, group in enumerate(at) if group >= 0 and choice[group] == "1")
-                self.assertEqual(cells, blocks.grid.cells(solid), (name, solid.choice))
-                bits = ["0"] * told["blocks"]
-                for numbers, bit in zip(told["groups"], choice):
-                    for block in numbers:
-                        bits[block - 1] = bit
-                self.assertEqual("".join(bits), solid.choice)
+            blocks = rooms.blocks_of(sheet_of(views_of(lines), decimals_of(lines)))
+            self.assertEqual(len(blocks.cells), int(answer.head.split()[-1]), name)
+            self.assertEqual([solid.choice for solid in answer.solids], sorted((solid.choice for solid in answer.solids), reverse=True))
+            for solid in answer.solids:
+                self.assertEqual(blocks.full(solid.choice), blocks.grid.cells(solid), (name, solid.choice))
+                self.assertEqual(sum(it for it, bit in zip(blocks.volumes(), solid.choice) if bit == "1"), solid.volume)
+
+    def test_an_answer_of_another_drawing_is_refused(self) -> None:
+        lines = lines_of(str(EXAMPLES / "quartered_cube.dxf"))
+        with self.assertRaisesRegex(Refused, "drawing"):
+            self.told(lines, (EXAMPLES / "eight_voids.txt").read_text())
+
+    def test_choices_are_told_by_four_blocks(self) -> None:
+        self.assertEqual(solids_event(["10010", "00001"])["choices"], ["90", "08"])
 
     def test_a_linetype_without_a_meaning(self) -> None:
         odd = LINE.format("FRONT", "ZIGZAG", 1, 0, 1, 3)
         lines = drawing(odd, *CUBE)
         text = self.made(lines, "fault F12 Linetype line 5\n")
         self.assertIn("of linetype ZIGZAG", text)
-        named = re.search(r"<pre>(.*)</pre>", text, re.S)[1]  # type: ignore[index]
+        named = re.search(r"<pre>(.*?)</pre>", text, re.S)[1]  # type: ignore[index]
         self.assertEqual([row.split()[0] for row in re.sub("<[^>]*>", "", named).splitlines()], [str(it) for it in range(5, 19)])
         self.assertEqual(text.count('class="unknown"'), 1)
 
@@ -60,11 +71,16 @@ class Pages(unittest.TestCase):
         self.assertIn("lines are on A (4), B (4)", self.made(lines, "fault F14 EmptyView view FRONT\n"))
 
     @unittest.skipUnless((page.THREE / "three.min.js").exists(), "apt-get install libjs-three")
-    def test_sizes_and_volumes_have_units(self) -> None:
-        cube = (EXAMPLES / "unit_cube.txt").read_text()
-        text = self.made(drawing(*CUBE), cube, 1)
-        self.assertIn("FRONT 3 mm × 3 mm; TOP 3 mm × 3 mm; SIDE 3 mm × 3 mm", text)
-        self.assertIn("<b>Solid 1</b> volume 0.001 mm³", text)
+    def test_sizes_have_units(self) -> None:
+        told = self.made(drawing(*CUBE, header="9\n$INSUNITS\n70\n4\n"), (EXAMPLES / "unit_cube.txt").read_text().replace("1", "3").replace(
+            "whole 3 nodes 2 blocks 3", "whole 1 nodes 2 blocks 1").replace("solid 3 choice 3 volume 3 faces 6", "solid 1 choice 1 volume 27 faces 6"))
+        self.assertIn("FRONT 3 mm × 3 mm; TOP 3 mm × 3 mm; SIDE 3 mm × 3 mm", told)
+        self.assertIn('"units": {"per": ["1", "1"], "unit": "mm"}', told)
+
+    def test_the_unit_is_that_of_the_header(self) -> None:
+        grid = voids(1)
+        text = written(lines_of_runs(grid, runs(grid)), 1, Origin("mm"))
+        self.assertEqual(origin_of(lines_within(text.encode())), Origin("mm"))
 
     def test_what_lies_within_the_views_and_is_not_read(self) -> None:
         lines = drawing(*CUBE, rectangle("HIDDEN", 1, 1, 1), rectangle("HIDDEN", 40, 40, 1), "0\nCIRCLE\n8\nHOLES\n10\n5\n20\n1\n40\n2.5\n",

@@ -1,0 +1,132 @@
+"""What a page shows of a drawing and of its answer, as pieces of HTML: the words at the top, and the views."""
+import html
+from fractions import Fraction
+from typing import NamedTuple
+
+from . import asking, faults
+from .answers import CUT
+from .drawing import Line, Origin, Place
+from .messages import many
+from .svg import VIEWS, views_drawn
+
+# The most lines of an entity that are shown whole; else how many lines of the file are shown before and behind the one that a fault
+# names, and how much of each.
+MOST_LINES, BESIDE, WIDTH = 60, 4, 100
+MARGIN = 26
+
+
+class Units(NamedTuple):
+    """How lengths are told: how many decimals coordinates of the answer have, and how the drawing stands for its sheet."""
+
+    decimals: int
+    origin: Origin
+
+    def told(self, value: Fraction | int) -> str:
+        """A length in units of the answer's last decimal."""
+        return asking.measure(Fraction(value) / (self.origin.times * 10**self.decimals), self.origin.unit).replace(",", "")
+
+    def for_script(self) -> dict[str, object]:
+        """The same for the page's scripts: how many of the answer's units one of the sheet's has, as a fraction, and the unit."""
+        per_unit = self.origin.times * 10**self.decimals
+        return {"per": [str(per_unit.numerator), str(per_unit.denominator)], "unit": self.origin.unit}
+
+
+def paragraph(text: str, kind: str = "plain") -> str:
+    return f'<p class="{kind}">{text}</p>'
+
+
+# ---- what is told in words
+
+def excerpt(lines: list[str], named: int, whole: tuple[int, int] | None) -> str:
+    """The lines of the file around the named one, which may be the one behind the last; or all lines of its entity."""
+    first, last = whole if whole and whole[1] - whole[0] < MOST_LINES else (named - BESIDE, named + BESIDE)
+    shown = []
+    for number in range(max(1, first), last + 1):
+        text = lines[number - 1][:WIDTH] if number <= len(lines) else "the end of the file" if number == named else None
+        if text is not None:
+            row = html.escape(f"{number:>8}  {text}")
+            shown.append(f'<span class="named">{row}</span>' if number == named else row)
+    return "<pre>" + "\n".join(shown) + "</pre>"
+
+
+def fault_told(head: str, lines: list[str]) -> str:
+    """What is wrong, what it is about and what to change; of a linetype without a meaning the whole entity."""
+    named = faults.line_named(head)
+    entity = faults.entity_at(lines, named)
+    whole = (entity.first, entity.last) if entity and faults.name_of(head) == "Linetype" else None
+    wrong, *about = faults.told(head, lines)
+    wrong = wrong.removesuffix(f" ({head})")
+    text = f"<strong>{html.escape(wrong[0].upper() + wrong[1:])}.</strong><br><code>{html.escape(head)}</code>"
+    text += "".join(paragraph(html.escape(words[0].upper() + words[1:]) + ".", "about") for words in about)
+    return f'<div class="notice fault">{text}{excerpt(lines, named, whole) if named else ""}</div>'
+
+
+def refused_told(text: str) -> str:
+    """Why a file isn't taken."""
+    first, *more = text.split("\n")
+    first = html.escape(first.rstrip("."))
+    told = "".join(paragraph(html.escape(line.strip()), "about") for line in more)
+    return f'<div class="notice fault"><strong>Not taken: {first}.</strong>{told}</div>'
+
+
+def cut_told(what: str, limit: int, count: int) -> str:
+    """That the search was cut."""
+    found = f"than the {count:,} that are listed" if count else "though none is listed"
+    more = "there are more solids" if what == "solids" else "there may be more solids"
+    text = f"The search was cut at its limit of {limit:,} {what}: {more} {found}."
+    return f'<div class="notice cut"><strong>{text}</strong></div>'
+
+
+def head_told(head: str, count: int) -> str:
+    """How a search ended, with so many solids."""
+    cut = CUT.fullmatch(head)
+    if cut:
+        words = cut_told(cut[1], int(cut[2]), count)
+    else:
+        found = {0: "No solid has", 1: "One solid has"}.get(count, f"{count:,} solids have")
+        words = paragraph(f"{found} these views.", "count")
+    return words + paragraph(f"<code>{html.escape(head)}</code>", "muted")
+
+
+def stopped_told(count: int, why: str) -> str:
+    """That a search was stopped, by hand or for a reason."""
+    text = f"The search was stopped{why and ', since ' + html.escape(why)}: {many(count, 'solid')} found, and there may be more."
+    return f'<div class="notice cut"><strong>{text}</strong></div>'
+
+
+# ---- the views
+
+def sizes_told(views: dict[str, list[Line]], units: Units) -> str:
+    """How far each view reaches to the right and upwards."""
+    rows = []
+    for view, lines in views.items():
+        points = [point for line in lines for point in (line.start, line.end)]
+        if points:
+            sizes = [max(along) - min(along) for along in zip(*points)]
+            rows.append(view + " " + " × ".join(units.told(round(size * 10**units.decimals)) for size in sizes))
+    return html.escape("; ".join(rows))
+
+
+def views_told(views: dict[str, list[Line]], units: Units, marked: int | None = None) -> str:
+    """The three views as a picture, in which each line tells its place and length."""
+    def measured(view: str, kind: str, low: Place, high: Place) -> str:
+        ends = [", ".join(units.told(round(at * 10**units.decimals)) for at in end) for end in (low, high)]
+        length = units.told(round(abs(high[0] - low[0] + high[1] - low[1]) * 10**units.decimals))
+        return f"{view}, {ends[0]} to {ends[1]}: {length} long, {kind}"
+
+    size = VIEWS + 2 * MARGIN
+    parts = "".join(views_drawn(views, MARGIN, MARGIN, marked, measured))
+    return f'<svg viewBox="0 0 {size} {size}" role="img" aria-label="The three views">{parts}</svg>'
+
+
+def drawing_told(views: dict[str, list[Line]], units: Units, head: str = "") -> str:
+    """The views with what is to be said of them; where the answer's first line is a fault, with the line that it names."""
+    if not any(views.values()):
+        return paragraph("No line of a view can be read.")
+    picture = views_told(views, units, faults.line_named(head))
+    note = paragraph(sizes_told(views, units), "muted sizes-told") + paragraph("Point at a line to see its length.", "muted measured")
+    if 'class="marked"' in picture:
+        note += paragraph("In red, the line of the drawing that the fault names.", "muted")
+    if 'class="unknown"' in picture:
+        note += paragraph("Dotted, lines of a linetype that tells no style.", "muted")
+    return picture + note

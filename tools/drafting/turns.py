@@ -1,0 +1,159 @@
+"""Processes with limits of time, memory and processors, so many at once; who comes later waits for a turn."""
+import os
+import pathlib
+import re
+import select
+import signal
+import subprocess
+import threading
+from collections.abc import Iterator
+from typing import NamedTuple
+
+from .messages import Refused
+
+# How many may wait for a turn, and after how many seconds without a word one is looked after.
+MOST_WAITING, HEARTBEAT = 64, 0.25
+PIECE = 1 << 16
+
+
+class Limits(NamedTuple):
+    """What a process may take: seconds, MiB of memory (0 for as much as there is), processors; and how many run at once."""
+
+    seconds: float
+    memory: int
+    processors: int
+    at_once: int
+
+    def told(self) -> str:
+        memory = f"{self.memory:,} MiB" if self.memory else "any memory"
+        return f"{self.at_once} at once, each {self.seconds:g} s, {memory}, {self.processors} processors"
+
+    def words(self, slot: int) -> list[str]:
+        """What a process is begun with, so that it keeps these limits; each of the slots has processors of its own, as far as there are."""
+        every = sorted(os.sched_getaffinity(0))
+        mine = [every[(slot * self.processors + at) % len(every)] for at in range(min(self.processors, len(every)))]
+        spent = max(1, round(self.seconds * self.processors))
+        memory = self.memory << 20 if self.memory else "unlimited"
+        return ["prlimit", f"--as={memory}", f"--cpu={spent}", "--core=0", "taskset", "--cpu-list", ",".join(map(str, mine))]
+
+
+class Turns:
+    """The slots for processes, and who waits for one, in the order in which they came."""
+
+    def __init__(self, at_once: int) -> None:
+        self.free = set(range(at_once))
+        self.waiting: list["Turn"] = []
+        self.changed = threading.Condition()
+
+    def enter(self) -> "Turn":
+        """A place in the queue; refused where too many wait."""
+        with self.changed:
+            if len(self.waiting) >= MOST_WAITING:
+                raise Refused(f"{MOST_WAITING} wait for their turn: try again later")
+            turn = Turn(self)
+            self.waiting.append(turn)
+            return turn
+
+
+class Turn:
+    """A place in the queue, and then a slot."""
+
+    def __init__(self, turns: Turns) -> None:
+        self.turns = turns
+        self.slot: int | None = None
+
+    def before(self) -> int:
+        """How many wait before this one."""
+        with self.turns.changed:
+            return self.turns.waiting.index(self) if self in self.turns.waiting else 0
+
+    def has_come(self, seconds: float = HEARTBEAT) -> bool:
+        """Whether it is this one's turn, or becomes it within so many seconds."""
+        def is_next() -> bool:
+            return bool(self.turns.free) and bool(self.turns.waiting) and self.turns.waiting[0] is self
+
+        with self.turns.changed:
+            if self.slot is None and self.turns.changed.wait_for(is_next, seconds):
+                self.turns.waiting.remove(self)
+                self.slot = min(self.turns.free)
+                self.turns.free.remove(self.slot)
+                self.turns.changed.notify_all()
+            return self.slot is not None
+
+    def leave(self) -> None:
+        with self.turns.changed:
+            if self in self.turns.waiting:
+                self.turns.waiting.remove(self)
+            if self.slot is not None:
+                self.turns.free.add(self.slot)
+                self.slot = None
+            self.turns.changed.notify_all()
+
+
+class Running:
+    """A process with its limits, in a group of its own. What it says on standard error goes into a file."""
+
+    def __init__(self, words: list[str], limits: Limits, turn: Turn, folder: pathlib.Path) -> None:
+        assert turn.slot is not None
+        self.limits, self.turn = limits, turn
+        self.said = folder / f"said_{threading.get_ident()}"
+        self.is_late = self.is_stopped = False
+        with open(self.said, "wb") as said:
+            self.process = subprocess.Popen(
+                [*limits.words(turn.slot), *words], stdin=subprocess.PIPE, stdout=subprocess.PIPE, stderr=said, cwd=folder, bufsize=0,
+                start_new_session=True, env={**os.environ, "TMPDIR": str(folder)},
+            )
+        self.timer = threading.Timer(limits.seconds, self.late)
+        self.timer.daemon = True
+        self.timer.start()
+
+    def pieces(self) -> Iterator[bytes]:
+        """What it writes, as it comes; nothing after each while without a word, so that whoever reads is looked after."""
+        assert self.process.stdout
+        poll = select.poll()
+        poll.register(self.process.stdout, select.POLLIN)
+        while True:
+            if not poll.poll(1000 * HEARTBEAT):
+                yield b""
+                continue
+            piece = os.read(self.process.stdout.fileno(), PIECE)
+            if not piece:
+                self.process.wait()
+                return
+            yield piece
+
+    def stop(self) -> None:
+        """Asks it to end its search."""
+        self.is_stopped = True
+        try:
+            assert self.process.stdin
+            self.process.stdin.write(b"stop\n")
+        except OSError:
+            pass
+
+    def late(self) -> None:
+        """Ends it since its time is up, and gives its turn to who waits, even where nobody reads what it wrote."""
+        self.is_late = True
+        self.end()
+        self.turn.leave()
+
+    def end(self) -> None:
+        """Ends it and all that it began."""
+        self.timer.cancel()
+        try:
+            os.killpg(self.process.pid, signal.SIGKILL)
+        except ProcessLookupError:
+            pass
+        self.process.wait()
+
+    def complaint(self) -> str:
+        """Why it ended without what was asked for, in words."""
+        status = self.process.wait()
+        last = self.said.read_text(errors="replace").strip().splitlines()[-1:] if self.said.exists() else []
+        if self.is_late or status == -signal.SIGXCPU:
+            return f"it took longer than {self.limits.seconds:g} seconds"
+        if last and "MemoryError" in last[0] or status == -signal.SIGSEGV:
+            return f"it needs more than {self.limits.memory:,} MiB of memory"
+        if status < 0:
+            return f"it was ended by {signal.Signals(-status).name}"
+        return re.sub(r"^draft \w+: ", "", last[0]) if last else f"it ended with status {status}"

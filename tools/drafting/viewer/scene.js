@@ -1,0 +1,204 @@
+"use strict";
+// The solids in three dimensions. One renderer draws them all, one after another, seen from the same side, and each picture is copied
+// to the canvas of its solid.
+
+// The colours of the three kinds of cells, as the page's style names them, and of the six outward directions how light each is.
+const KINDS = ["--plain", "--most", "--few"];
+const SHADES = [0.72, 0.8, 0.88, 0.78, 0.6, 1];
+
+// ---- what is drawn of them
+
+/** The point at a cell's corner, which is told by a 0 or 1 along each axis. */
+function cornerOf(place, corner) {
+  return corner.map((beyond, axis) => model.cuts[axis][rankOf(place, axis) + beyond]);
+}
+
+/** The corners of a cell's side in the order in which they run to the left, seen from outside. */
+function sideOf(place, axis, side) {
+  const around = [[0, 0], [1, 0], [1, 1], [0, 1]].map(([u, v]) => {
+    const corner = [0, 0, 0];
+    corner[axis] = side;
+    corner[(axis + 1) % 3] = u;
+    corner[(axis + 2) % 3] = v;
+    return cornerOf(place, corner);
+  });
+  return side ? around : around.reverse();
+}
+
+/** The surface of a set of cells, in groups: by the cells' kinds, and of each by outward direction, -x, +x, -y and so on. */
+function surfaceOf(cells, kinds) {
+  const points = [];
+  const groups = Array.from({ length: 6 * KINDS.length }, () => []);
+  cells.forEach((full, place) => {
+    for (let way = 0; full && way < 6; way++) {
+      const [axis, side] = [way >> 1, way & 1];
+      if (cells[place + (side ? 1 : -1) * model.strides[axis]]) continue;
+      const first = points.length / 3;
+      points.push(...sideOf(place, axis, side).flat());
+      groups[way + 6 * kinds[place]].push(first, first + 1, first + 2, first, first + 2, first + 3);
+    }
+  });
+  const geometry = new THREE.BufferGeometry();
+  geometry.setAttribute("position", new THREE.Float32BufferAttribute(points, 3));
+  let start = 0;
+  groups.forEach((group, number) => {
+    geometry.addGroup(start, group.length, number);
+    start += group.length;
+  });
+  geometry.setIndex(groups.flat());
+  return geometry;
+}
+
+/** Whether the stretch from a place on along an axis is an edge: not all four cells around it alike, nor two beside two. */
+function isEdge(cells, place, axis) {
+  const u = model.strides[(axis + 1) % 3];
+  const v = model.strides[(axis + 2) % 3];
+  const a = cells[place] | 0;
+  const b = cells[place - u] | 0;
+  const c = cells[place - u - v] | 0;
+  const d = cells[place - v] | 0;
+  return !(a === b && c === d) && !(a === d && b === c);
+}
+
+/** The edges of a set of cells, stretch by stretch. */
+function edgesOf(cells) {
+  const ends = [];
+  for (let place = 0; place < model.places; place++) {
+    for (let axis = 0; axis < 3; axis++) {
+      if (!isEdge(cells, place, axis)) continue;
+      const far = [0, 0, 0];
+      far[axis] = 1;
+      ends.push(...cornerOf(place, [0, 0, 0]), ...cornerOf(place, far));
+    }
+  }
+  return new THREE.LineSegmentsGeometry().setPositions(ends);
+}
+
+// ---- colours
+
+function faceMaterials(options) {
+  return Array.from({ length: 6 * KINDS.length }, () => new THREE.MeshBasicMaterial(options));
+}
+
+let solidFaces, plainFaces, clearFaces, edgeLines, faintLines, camera;
+let renderer = null;
+
+/** Makes what draws, once there is something to be drawn; answers whether the browser can. */
+function startDrawing() {
+  if (renderer) return true;
+  try {
+    renderer = new THREE.WebGLRenderer({ antialias: true, alpha: true });
+  } catch (_) {
+    return false;
+  }
+  solidFaces = faceMaterials({ polygonOffset: true, polygonOffsetFactor: 1, polygonOffsetUnits: 1 });
+  plainFaces = solidFaces.map((_, number) => solidFaces[number % 6]);
+  clearFaces = faceMaterials({ transparent: true, opacity: 0.16, depthWrite: false });
+  edgeLines = new THREE.LineMaterial();
+  // Behind the edges of marked cells where both are at the same place.
+  faintLines = new THREE.LineMaterial({ polygonOffset: true, polygonOffsetFactor: 2, polygonOffsetUnits: 2 });
+  camera = new THREE.OrthographicCamera();
+  takeColours();
+  return true;
+}
+
+/** Takes the colours from the page's style, which has them for light and dark. */
+function takeColours() {
+  const style = getComputedStyle(document.documentElement);
+  const colour = (name) => new THREE.Color(style.getPropertyValue(name).trim());
+  solidFaces.forEach((material, number) => {
+    material.color = colour(KINDS[Math.floor(number / 6)]).multiplyScalar(SHADES[number % 6]);
+    clearFaces[number].color = colour("--faint").multiplyScalar(SHADES[number % 6]);
+  });
+  edgeLines.color = colour("--edge");
+  faintLines.color = colour("--faint");
+}
+
+// ---- tiles
+
+let middle = [0, 0, 0];
+let radius = 1;
+
+/** Has the camera see all of the grid, from any side. */
+function frameGrid() {
+  middle = model.cuts.map((cut) => (cut[0] + cut[cut.length - 1]) / 2);
+  radius = Math.hypot(...model.cuts.map((cut) => cut[cut.length - 1] - cut[0])) / 2;
+  Object.assign(camera, { left: -radius, right: radius, top: radius, bottom: -radius, near: radius / 2, far: 4 * radius });
+  camera.updateProjectionMatrix();
+}
+
+/** A canvas that shows a solid, whose cells are of several kinds. */
+class Tile {
+  constructor(canvas) {
+    this.canvas = canvas;
+    this.cells = this.kinds = null;
+    this.scene = null;
+    this.isSeen = false;
+    this.through = false;
+    this.coloured = true;
+  }
+
+  show(cells, kinds) {
+    this.scene?.traverse((part) => part.geometry?.dispose());
+    this.scene = null;
+    [this.cells, this.kinds] = [cells, kinds];
+  }
+
+  /** Makes what is drawn: the solid's surface and edges, and those of its cells of other kinds than the first. */
+  build() {
+    const marked = this.cells.map((full, place) => full & (this.kinds[place] > 0));
+    this.skin = new THREE.Mesh(surfaceOf(this.cells, this.kinds));
+    this.lines = new THREE.LineSegments2(edgesOf(this.cells));
+    this.marks = new THREE.Mesh(surfaceOf(marked, this.kinds), solidFaces);
+    this.markLines = new THREE.LineSegments2(edgesOf(marked), edgeLines);
+    this.scene = new THREE.Scene();
+    this.scene.add(this.skin, this.lines, this.marks, this.markLines);
+  }
+
+  /** Shows the cells of other kinds within, through clear faces, or the solid as it looks from outside. */
+  dress() {
+    this.skin.material = this.through ? clearFaces : this.coloured ? solidFaces : plainFaces;
+    this.lines.material = this.through ? faintLines : edgeLines;
+    const isMarked = this.marks.geometry.index.count > 0;
+    this.marks.visible = this.markLines.visible = isMarked && this.through && this.coloured;
+  }
+
+  draw() {
+    const scale = window.devicePixelRatio || 1;
+    const size = Math.round(this.canvas.clientWidth * scale);
+    if (!size || !this.cells) return;
+    if (!this.scene) this.build();
+    this.dress();
+    if (this.canvas.width !== size) this.canvas.width = this.canvas.height = size;
+    if (Math.min(renderer.domElement.width, renderer.domElement.height) < size) renderer.setSize(size, size, false);
+    for (const [lines, width] of [[edgeLines, 1.6], [faintLines, 1]]) {
+      lines.resolution.set(size, size);
+      lines.linewidth = width * scale;
+    }
+    renderer.setViewport(0, 0, size, size);
+    renderer.render(this.scene, camera);
+    const flat = this.canvas.getContext("2d");
+    flat.clearRect(0, 0, size, size);
+    flat.drawImage(renderer.domElement, 0, renderer.domElement.height - size, size, size, 0, 0, size, size);
+    if (this.canvas.clientWidth >= 200) drawAxes(flat, scale, size);
+  }
+}
+
+/** The directions of the three axes, in the lower left corner. */
+function drawAxes(flat, scale, size) {
+  const [length, x, y] = [15 * scale, 24 * scale, size - 24 * scale];
+  flat.strokeStyle = flat.fillStyle = getComputedStyle(document.documentElement).getPropertyValue("--muted");
+  flat.lineWidth = 1.2 * scale;
+  flat.font = `${10 * scale}px system-ui, Helvetica, Arial, sans-serif`;
+  flat.textAlign = "center";
+  flat.textBaseline = "middle";
+  ["x", "y", "z"].forEach((name, axis) => {
+    const [right, up] = [0, 1].map((row) => camera.matrixWorld.elements[4 * row + axis]);
+    if (Math.hypot(right, up) < 0.2) return;
+    flat.beginPath();
+    flat.moveTo(x, y);
+    flat.lineTo(x + length * right, y - length * up);
+    flat.stroke();
+    flat.fillText(name, x + 1.5 * length * right, y - 1.5 * length * up);
+  });
+}

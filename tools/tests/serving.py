@@ -1,0 +1,174 @@
+"""A `draft serve` for tests, and what is asked of it as a page does, or as no page does."""
+import http.client
+import json
+import os
+import pathlib
+import signal
+import subprocess
+import tempfile
+import time
+import urllib.parse
+from collections.abc import Iterator
+from typing import Any, NamedTuple
+
+from drafting import program
+from drafting.messages import Refused
+
+from .support import TOOLS, is_built
+
+PATIENCE = 60
+EDGE = "edge-of-the-parts"
+
+
+class Answered(NamedTuple):
+    """A status, and what came with it."""
+
+    status: int
+    text: str
+
+
+def part(name: str, data: bytes, file: str | None = None) -> bytes:
+    """A part of a form as a browser sends it."""
+    more = f'; filename="{file}"' if file is not None else ""
+    head = f'--{EDGE}\r\nContent-Disposition: form-data; name="{name}"{more}\r\n'
+    return head.encode("utf-8", "surrogateescape") + b"\r\n" + data + b"\r\n"
+
+
+def form(drawing: bytes, options: object = (), name: str = "part.dxf", second: bytes | None = None) -> bytes:
+    """The body of a request with a drawing."""
+    parts = [part("options", json.dumps(options).encode()), part("drawing", drawing, name)]
+    parts += [part("visible", second, "visible.dxf")] if second is not None else []
+    return b"".join(parts) + f"--{EDGE}--\r\n".encode()
+
+
+def takes_limits() -> bool:
+    """Whether the built program runs within a limit of memory; one that `rt try` built, with checks, doesn't."""
+    if not is_built():
+        return True
+    words = ["prlimit", f"--as={1 << 31}", str(program.find()), "make", "1"]
+    return subprocess.run(words, capture_output=True).returncode == 0
+
+
+class Served:
+    """A server that runs until it is closed."""
+
+    def __init__(self, *words: object) -> None:
+        self.room = tempfile.TemporaryDirectory()
+        self.open: dict[http.client.HTTPConnection, http.client.HTTPResponse] = {}
+        memory = () if "--memory" in words or takes_limits() else ("--memory", 0)
+        command = [str(TOOLS / "draft"), "serve", "--no-browser", *map(str, (*memory, *words))]
+        self.process = subprocess.Popen(
+            command, stdout=subprocess.PIPE, stderr=subprocess.DEVNULL, text=True, env={**os.environ, "TMPDIR": self.room.name},
+        )
+        assert self.process.stdout
+        self.address = self.process.stdout.readline().strip()
+        url = urllib.parse.urlsplit(self.address)
+        if not url.port:
+            raise Refused("draft serve doesn't start")
+        self.port, self.host = url.port, url.netloc
+        self.token = urllib.parse.parse_qs(url.query)["token"][0]
+        self.origin = f"http://{self.host}"
+
+    def __enter__(self) -> "Served":
+        return self
+
+    def __exit__(self, *_: object) -> None:
+        self.close()
+
+    def close(self) -> int:
+        """Ends it, and answers how it ended."""
+        self.process.send_signal(signal.SIGTERM)
+        status = self.process.wait(PATIENCE)
+        if self.process.stdout:
+            self.process.stdout.close()
+        self.room.cleanup()
+        return status
+
+    def headers(self, **others: str | None) -> dict[str, str]:
+        """What a page of it sends; with None one is left out."""
+        told: dict[str, str | None] = {
+            "X-Draft-Token": self.token, "Origin": self.origin, "Content-Type": f"multipart/form-data; boundary={EDGE}",
+            **{name.replace("_", "-"): value for name, value in others.items()},
+        }
+        return {name: value for name, value in told.items() if value is not None}
+
+    def begin(self, path: str, body: bytes = b"", method: str = "POST", headers: dict[str, str] | None = None) -> http.client.HTTPConnection:
+        connection = http.client.HTTPConnection("127.0.0.1", self.port, timeout=PATIENCE)
+        connection.request(method, path, body, self.headers() if headers is None else headers)
+        return connection
+
+    def ask(self, path: str, body: bytes = b"", method: str = "POST", headers: dict[str, str] | None = None) -> Answered:
+        """A whole answer."""
+        connection = self.begin(path, body, method, headers)
+        try:
+            response = connection.getresponse()
+            return Answered(response.status, response.read().decode(errors="replace"))
+        finally:
+            connection.close()
+
+    def tell(self, path: str, **told: Any) -> Answered:
+        """A request in JSON."""
+        return self.ask(path, json.dumps(told).encode(), headers=self.headers(Content_Type="application/json"))
+
+    def events(self, connection: http.client.HTTPConnection) -> Iterator[dict[str, Any]]:
+        """What is told of a drawing, up to its end."""
+        # It holds the socket: so it is kept as long as the connection is.
+        response = self.open[connection] = connection.getresponse()
+        if response.status != 200:
+            raise Refused(f"{response.status} {response.read().decode().strip()}")
+        for line in response:
+            if line.strip():
+                event = json.loads(line)
+                yield event
+                if event["kind"] == "over":
+                    return
+
+    def follow(self, drawing: bytes, options: object = (), last: str = "over", **more: Any) -> list[dict[str, Any]]:
+        """What is told of a drawing up to an event of this kind; then it goes away."""
+        connection = self.begin("/drawing", form(drawing, options, **more))
+        try:
+            told = []
+            for event in self.events(connection):
+                told.append(event)
+                if event["kind"] == last:
+                    break
+            return told
+        finally:
+            self.leave(connection)
+
+    def leave(self, connection: http.client.HTTPConnection) -> None:
+        """Goes away, as a page that is closed."""
+        self.open.pop(connection).close()
+        connection.close()
+
+    # ---- what it holds
+
+    def memory(self) -> int:
+        """How many MiB of memory the server itself holds."""
+        status = pathlib.Path(f"/proc/{self.process.pid}/status").read_text()
+        return int(next(line.split()[1] for line in status.splitlines() if line.startswith("VmRSS"))) >> 10
+
+    def below(self) -> list[int]:
+        """The processes that it began and that still run."""
+        found = []
+        for stat in pathlib.Path("/proc").glob("[0-9]*/stat"):
+            try:
+                fields = stat.read_text().rpartition(")")[2].split()
+            except OSError:
+                continue
+            if int(fields[1]) == self.process.pid and fields[0] != "Z":
+                found.append(int(stat.parent.name))
+        return found
+
+    def kept(self) -> list[str]:
+        """The files that it keeps."""
+        room = pathlib.Path(self.room.name)
+        return sorted(str(file.relative_to(room)) for file in room.rglob("*") if file.is_file())
+
+    def until_idle(self, seconds: float = 20) -> None:
+        """Waits until nothing runs for a page, and no file is kept; refused where that takes longer."""
+        until = time.monotonic() + seconds
+        while self.below() or self.kept():
+            if time.monotonic() > until:
+                raise Refused(f"still there: {self.below()} {self.kept()}")
+            time.sleep(0.05)

@@ -1,0 +1,266 @@
+"""What `draft serve` takes, refuses and queues, asked as a page does and as no page does; table_check opens pages in a browser."""
+import importlib.util
+import json
+import pathlib
+import random
+import socket
+import threading
+import time
+import unittest
+from collections import Counter
+from typing import Any
+
+from drafting.answers import Answer, answer_of
+from drafting.follow import solids_event
+from drafting.messages import Refused
+
+from .made import file_of, voids
+from .serving import EDGE, Answered, Served, form, part, takes_limits
+from .support import EXAMPLES, draft, needs_program
+
+needs_packages = unittest.skipUnless(
+    all(map(importlib.util.find_spec, ("flask", "waitress"))) and pathlib.Path("/usr/share/javascript/three/three.min.js").exists(),
+    "apt-get install python3-flask python3-waitress libjs-three",
+)
+CUBE = (EXAMPLES / "quartered_cube.dxf").read_bytes()
+MIB = 1 << 20
+NO_OPTIONS = (
+    ["--output=x"], [["output", "/tmp/x"]], [["solids", "-1"]], [["hidden", "a\n"]], [["scale", "1:2;x"]], "x", [[1, 2]], [["workers", "9"]] * 50,
+)
+NAMES = (
+    "../../../x.dxf", "/etc/passwd", "", ".", "CON", "a" * 5_000, "-o", "--program=x", "\u00e4\u202e.dxf", "%00.dxf", "\x07",
+    "<script>alert(1)</script>.dxf",
+)
+
+
+def choices_in(events: list[dict[str, Any]]) -> list[str]:
+    """The choices of all events, in the stated order, as hexadecimal digits."""
+    return sorted((choice for event in events if event["kind"] == "solids" for choice in event["choices"]), reverse=True)
+
+
+def answer_of_example(file: pathlib.Path) -> Answer:
+    """What the program answers to an example, with the decimals that it needs."""
+    text = EXAMPLES / "fractions_in_thousandths.txt" if file.stem == "fractions" else file.with_suffix(".txt")
+    return answer_of(text.read_text())
+
+
+def kinds_of(events: list[dict[str, Any]]) -> list[str]:
+    return [event["kind"] for event in events]
+
+
+@needs_packages
+@needs_program()
+class Serving(unittest.TestCase):
+    served: Served
+
+    @classmethod
+    def setUpClass(cls) -> None:
+        cls.served = Served()
+
+    @classmethod
+    def tearDownClass(cls) -> None:
+        cls.served.close()
+
+    def test_requests_that_are_refused(self) -> None:
+        """Each is refused in words, and the server answers as before."""
+        served, body = self.served, form(CUBE)
+        headers = served.headers
+        rows: list[tuple[str, int, str, Answered]] = []
+
+        def row(name: str, status: int, words: str, path: str, data: bytes = body, method: str = "POST", **others: str | None) -> None:
+            rows.append((name, status, words, served.ask(path, data, method, headers(**others))))
+
+        row("a foreign host", 403, "alone", "/drawing", Host="example.org")
+        row("a host with another port", 403, "alone", "/drawing", Host="127.0.0.1:1")
+        row("a page of another origin", 403, "pages of its own", "/drawing", Origin="http://example.org")
+        row("an origin of another port", 403, "pages of its own", "/drawing", Origin="http://127.0.0.1:1")
+        row("the origin null", 403, "pages of its own", "/drawing", Origin="null")
+        row("no origin", 403, "pages of its own", "/drawing", Origin=None)
+        row("fetched across sites", 403, "pages of its own", "/drawing", Sec_Fetch_Site="cross-site")
+        row("no token", 403, "token", "/drawing", X_Draft_Token=None)
+        row("another token", 403, "token", "/drawing", X_Draft_Token="A" * 32)
+        row("the token in the address alone", 403, "token", f"/drawing?token={served.token}", X_Draft_Token=None)
+        row("the page without token", 403, "token", "/", b"", "GET", X_Draft_Token=None)
+        row("a path upwards", 404, "Not Found", "/../../etc/passwd", b"", "GET")
+        row("a script's path", 404, "Not Found", "/viewer/page.js", b"", "GET")
+        row("a drawing got", 405, "Not Allowed", "/drawing", b"", "GET")
+        row("another site's question", 403, "pages of its own", "/drawing", b"", "OPTIONS", Origin="http://example.org")
+        row("no form", 400, "no drawing", "/drawing", CUBE, Content_Type="application/octet-stream")
+        row("a form without edge", 400, "no drawing", "/drawing", body, Content_Type="multipart/form-data")
+        row("a form cut in two", 400, "", "/drawing", body[: len(body) // 2])
+        row("a form of noise", 400, "no drawing", "/drawing", random.Random(1).randbytes(10_000))
+        row("no file", 400, "no drawing", "/drawing", part("drawing", CUBE) + f"--{EDGE}--\r\n".encode())
+        row("options that are no JSON", 400, "no JSON", "/drawing", part("options", b"{") + body)
+        for options in NO_OPTIONS:
+            row(f"options {json.dumps(options)[:40]}", 400, "option", "/drawing", form(CUBE, options))
+        row("a file of more than 16 MiB", 413, "", "/drawing", form(b"0" * (16 * MIB + 1)))
+        with self.assertRaises(OSError):
+            served.ask("/drawing", form(b"0" * (40 * MIB)))
+        solid = {"job": "../x", "number": 1, "form": "dxf"}
+        for path, told in (("/stop", {"job": "x"}), ("/solid", solid), ("/page", {"job": None}), ("/settle", {})):
+            rows.append((f"{path} of no drawing", 404, "no such drawing", served.tell(path, **told)))
+        row("a request that is no JSON", 400, "no JSON", "/stop", b"{", Content_Type="application/json")
+        for name, status, words, answered in rows:
+            with self.subTest(name):
+                self.assertEqual(answered.status, status, answered.text[:200])
+                self.assertIn(words, answered.text)
+        self.assertEqual(len(choices_in(served.follow(CUBE))), 3)
+        self.assertLess(served.memory(), 300)
+        served.until_idle(60)
+
+    def test_bodies_that_never_come_whole(self) -> None:
+        """Connections with headers that are broken, too long, or whose body doesn't come, are dropped or wait; others are answered."""
+        served = self.served
+        begun = []
+        for text in (b"\r\n\r\n", b"POST", b"POST /drawing HTTP/9\r\n\r\n", b"GET / HTTP/1.1\r\nHost: " + b"x" * 300_000 + b"\r\n\r\n",
+                     b"POST /drawing HTTP/1.1\r\nContent-Length: -5\r\n\r\n", b"POST /drawing HTTP/1.1\r\nContent-Length: 1000\r\n\r\nabc",
+                     b"POST /drawing HTTP/1.1\r\nTransfer-Encoding: chunked\r\n\r\nzzz\r\n", bytes(range(256)) * 100):
+            connection = socket.create_connection(("127.0.0.1", served.port), timeout=20)
+            try:
+                connection.sendall(text)
+            except OSError:
+                pass
+            begun.append(connection)
+        self.assertEqual(kinds_of(served.follow(CUBE))[-1], "over")
+        for connection in begun:
+            connection.close()
+        served.until_idle(60)
+
+    def test_odd_names_are_no_paths(self) -> None:
+        served = self.served
+        for name in NAMES:
+            connection = served.begin("/drawing", form(CUBE, name=name))
+            events = served.events(connection)
+            key = next(events)["key"]
+            self.assertIn("whole 3 ", next(event for event in events if event["kind"] == "end")["html"], name[:40])
+            files = {pathlib.Path(file).name for file in served.kept()}
+            self.assertLessEqual({file for file in files if not file.startswith("said_")}, {"given.dxf", "events"}, name[:40])
+            if name in NAMES[-2:]:
+                text = served.tell("/page", job=key).text
+                self.assertEqual((text[:15], "<script>alert" in text), ("<!DOCTYPE html>", False))
+            served.leave(connection)
+        served.until_idle(60)
+
+    def test_each_example_is_told_as_it_is_answered(self) -> None:
+        for file in sorted(EXAMPLES.glob("*.dxf")):
+            answer = answer_of_example(file)
+            events = self.served.follow(file.read_bytes(), last="means" if answer.listed > 1 else "end")
+            end = next(event for event in events if event["kind"] == "end")
+            self.assertIn(answer.head, end["html"], file.name)
+            self.assertEqual(choices_in(events), solids_event([solid.choice for solid in answer.solids])["choices"], file.name)
+            if answer.listed > 1:
+                means = next(event for event in events if event["kind"] == "means")
+                self.assertTrue(all(len(row["keys"]) == answer.listed for row in means["rows"]))
+        self.served.until_idle(60)
+
+    def test_what_is_wrong_is_suggested(self) -> None:
+        events = self.served.follow((EXAMPLES / "quartered_cube_half_hidden.dxf").read_bytes())
+        suggestions = [event for event in events if event["kind"] == "suggestion"]
+        self.assertIn("TOP (1, 1) to (1, 2) (line 221 of the file): drawn dashed; solid would give 3 solids", suggestions[0]["words"])
+        self.assertIn('class="suggested"', suggestions[0]["html"])
+        self.assertEqual(len(choices_in(self.served.follow(suggestions[0]["dxf"].encode()))), 3)
+
+    def test_solids_are_saved_as_the_commands_write_them(self) -> None:
+        connection = self.served.begin("/drawing", form(CUBE))
+        events = self.served.events(connection)
+        key = next(events)["key"]
+        list(events)
+        for kind, command in (("dxf", "clean"), ("stl", "stl")):
+            wanted = draft(command, EXAMPLES / "quartered_cube.dxf", 2).out
+            self.assertEqual(self.served.tell("/solid", job=key, number=2, form=kind), (200, wanted))
+        refused = self.served.tell("/solid", job=key, number=4, form="stl")
+        self.assertEqual((refused.status, "there is no solid 4" in refused.text), (422, True), refused.text)
+        for number in (0, 65_537, "1", True, None):
+            self.assertEqual(self.served.tell("/solid", job=key, number=number, form="stl").status, 400)
+        self.assertEqual(self.served.tell("/solid", job=key, number=1, form="exe").status, 400)
+        self.assertIn("is told by", self.served.tell("/settle", job=key, number=1).text)
+        self.served.leave(connection)
+        self.served.until_idle(60)
+        self.assertEqual(self.served.tell("/solid", job=key, number=1, form="stl").status, 404)
+
+    def test_a_search_is_stopped_and_a_page_that_goes_away_ends_it(self) -> None:
+        large = file_of(voids(4)).encode()
+        connection = self.served.begin("/drawing", form(large, [["solids", "65536"]]))
+        events = self.served.events(connection)
+        key = next(events)["key"]
+        next(event for event in events if event["kind"] == "solids")
+        self.assertEqual(self.served.tell("/stop", job=key).status, 200)
+        rest = list(events)
+        self.assertEqual([event["how"] for event in rest if event["kind"] == "end"], ["stopped"])
+        self.assertEqual(rest[-1], {"kind": "over", "text": ""})
+        self.served.leave(connection)
+        connection = self.served.begin("/drawing", form(large, [["solids", "65536"]]))
+        next(event for event in self.served.events(connection) if event["kind"] == "solids")
+        self.served.leave(connection)
+        self.served.until_idle(10)
+
+    def test_two_hundred_at_once(self) -> None:
+        """Each is answered or refused in words; the server stays, and holds little."""
+        came: Counter[str] = Counter()
+        lock = threading.Lock()
+
+        def one() -> None:
+            try:
+                events = self.served.follow(CUBE, last="solids")
+                what = "answered" if choices_in(events) else str(events[-1])
+            except Refused as refusal:
+                what = str(refusal)[:3]
+            except OSError as failure:
+                what = type(failure).__name__
+            with lock:
+                came[what] += 1
+
+        threads = [threading.Thread(target=one) for _ in range(200)]
+        for thread in threads:
+            thread.start()
+        most = 0
+        while any(thread.is_alive() for thread in threads):
+            most = max(most, self.served.memory())
+            time.sleep(0.1)
+        self.assertEqual(set(came) - {"answered", "503"}, set(), came)
+        self.assertGreater(came["answered"], 20)
+        self.assertLess(most, 400)
+        self.assertEqual(len(choices_in(self.served.follow(CUBE))), 3)
+        self.served.until_idle(60)
+
+
+@needs_packages
+@needs_program()
+class Limits(unittest.TestCase):
+    def test_time_is_limited_and_others_wait(self) -> None:
+        large = file_of(voids(4)).encode()
+        with Served("--seconds", 4, "--at-once", 1) as served:
+            first = served.begin("/drawing", form(large, [["solids", "65536"]]))
+            events = served.events(first)
+            next(event for event in events if event["kind"] == "began")
+            second = served.begin("/drawing", form(CUBE))
+            told = list(events)
+            ends = [event for event in told if event["kind"] in ("end", "over")]
+            self.assertRegex(str(ends), "longer than [24] seconds")
+            self.assertIn("queued", kinds_of(list(served.events(second))))
+            served.leave(first)
+            served.leave(second)
+            served.until_idle(60)
+
+    @unittest.skipUnless(takes_limits(), "the built program is one with checks, which runs within no limit of memory")
+    def test_memory_is_limited(self) -> None:
+        with Served("--memory", 64) as served:
+            last = served.follow(file_of(voids(4)).encode())[-1]
+            self.assertEqual(last["kind"], "over")
+
+    def test_limits_that_are_not_taken(self) -> None:
+        for name, value in (("seconds", 0), ("memory", 1), ("at-once", 0), ("processors", 0), ("port", 70_000), ("program", "/dev/null")):
+            ended = draft("serve", "--no-browser", f"--{name}", value)
+            self.assertEqual((ended.status, ended.out), (1, ""), name)
+
+    def test_the_server_ends_with_all_that_it_began(self) -> None:
+        served = Served()
+        connection = served.begin("/drawing", form(file_of(voids(4)).encode(), [["solids", "65536"]]))
+        next(event for event in served.events(connection) if event["kind"] == "solids")
+        below = served.below()
+        self.assertTrue(below)
+        began = time.monotonic()
+        self.assertEqual(served.close(), 0)
+        self.assertLess(time.monotonic() - began, 10)
+        self.assertEqual([pid for pid in below if pathlib.Path(f"/proc/{pid}").exists()], [])
+        connection.close()

@@ -1,0 +1,302 @@
+"""The page of `draft serve` in Chromium, used as a person does: drawings dropped in, looked at, stopped, compared and saved. With
+--pictures=FOLDER what is seen is saved there. Long ones run with --long."""
+import os
+import pathlib
+import re
+import tempfile
+import time
+import unittest
+
+from drafting.answers import CUT, FAULT
+from drafting.drawing import Origin, written
+
+from .browser import Browser
+from .made import file_of, lines_of_runs, runs, voids
+from .serving import Served
+from .support import EXAMPLES, draft, needs_command, needs_long, needs_module, needs_program
+from .test_serve import answer_of_example, needs_packages
+
+# How long anything may take on a machine that is busy, in seconds.
+PATIENCE = 240
+PICTURES = os.environ.get("DRAFT_PICTURES")
+COUNT = "document.querySelector('.told').innerText"
+IS_OVER = (
+    "document.querySelector('.progress').hidden && [...document.querySelectorAll('.told, .failed')].some((it) => it.textContent.trim())"
+)
+ROWS = (
+    "[...document.querySelectorAll('#settle tbody tr')]"
+    ".map((row) => [row.cells[0].innerText, [...row.cells].slice(1, 3).map((it) => Number(it.innerText))])"
+)
+HAS_SOLID = "!!document.querySelector('.solids figure:not([hidden])') && tiles[0].scene !== null"
+
+
+def button(text: str, within: str = "body") -> str:
+    return f"[...document.querySelectorAll('{within} button')].find((it) => it.innerText === '{text}' && !it.closest('[hidden]'))"
+
+
+@needs_packages
+@needs_program()
+@needs_command("chromium", "chromium")
+class Table(unittest.TestCase):
+    served: Served
+    browser: Browser
+
+    @classmethod
+    def setUpClass(cls) -> None:
+        cls.room = tempfile.TemporaryDirectory()
+        cls.folder = pathlib.Path(cls.room.name)
+        cls.served = Served()
+        cls.browser = Browser(str(cls.folder / "browser"))
+        cls.saved = cls.folder / "saved"
+        cls.saved.mkdir()
+        cls.browser.call("Browser.setDownloadBehavior", behavior="allow", downloadPath=str(cls.saved))
+
+    @classmethod
+    def tearDownClass(cls) -> None:
+        cls.browser.close()
+        cls.served.close()
+        cls.room.cleanup()
+
+    def setUp(self) -> None:
+        self.browser.close_tab()
+        self.browser.visit(self.served.address)
+        self.value = self.browser.value
+
+    def tearDown(self) -> None:
+        own = ("drawing", "stop", "solid", "settle", "page")
+        asked = [f"{self.served.origin}/{path}" for path in own] + ["blob:"]
+        odd = [said for said in self.browser.said() if not any(it in said for it in asked)]
+        self.assertEqual(odd, [])
+
+    # ---- what a person does
+
+    def drop(self, file: pathlib.Path) -> float:
+        """Drops a drawing in, and answers after how many seconds a solid, or what is wrong, was seen."""
+        began = time.monotonic()
+        self.browser.drop(file)
+        self.browser.until(f"({HAS_SOLID}) || !!document.querySelector('.told *')", PATIENCE)
+        return time.monotonic() - began
+
+    def drop_example(self, name: str) -> float:
+        seconds = self.drop(EXAMPLES / f"{name}.dxf")
+        self.browser.until(IS_OVER, PATIENCE)
+        return seconds
+
+    def made(self, count: int) -> pathlib.Path:
+        file = self.folder / f"voids_{count}.dxf"
+        file.write_text(file_of(voids(count)))
+        return file
+
+    def press(self, element: str) -> None:
+        self.browser.mouse(element)
+
+    def text(self, place: str) -> str:
+        return str(self.value(f"document.querySelector('{place}').innerText"))
+
+    def picture(self, name: str) -> None:
+        """What is seen, wide, dark and on a small screen, in which nothing may be wider than the screen."""
+        for dress, dark, width in (("wide", False, 1280), ("dark", True, 1280), ("small", False, 390)):
+            self.browser.dark(dark)
+            self.browser.size(width, mobile=width < 800)
+            self.browser.settle()
+            self.value("scrollTo(0, 0)")
+            self.assertLessEqual(self.value("document.documentElement.scrollWidth"), width, (name, dress))
+            if PICTURES:
+                self.browser.picture(pathlib.Path(PICTURES) / f"table_{name}_{dress}.png")
+        self.browser.dark(False)
+        self.browser.size()
+
+    def file_saved(self, name: str) -> bytes:
+        until = time.monotonic() + PATIENCE
+        while not (self.saved / name).exists():
+            self.assertLess(time.monotonic(), until, f"{name} isn't saved; {self.text('.failed')}")
+            time.sleep(0.05)
+        return (self.saved / name).read_bytes()
+
+    # ---- what is seen
+
+    def test_nothing_yet(self) -> None:
+        self.assertIn("drop a DXF file", self.text(".drop"))
+        self.picture("empty")
+
+    def test_each_example(self) -> None:
+        times = {}
+        for file in sorted(EXAMPLES.glob("*.dxf")):
+            answer = answer_of_example(file)
+            times[file.stem] = self.drop_example(file.stem)
+            words = self.text(".told")
+            self.assertIn(answer.head, words, file.name)
+            if answer.solids and not FAULT.fullmatch(answer.head) and not CUT.fullmatch(answer.head):
+                self.assertIn(f"choice {answer.solids[0].choice}", self.text(".solids figcaption"), file.name)
+        print("from drop to first solid, or to what is wrong:", *(f"{name} {seconds:.2f} s" for name, seconds in times.items()), sep="\n  ")
+
+    def test_a_fault_names_its_line(self) -> None:
+        self.drop_example("bracket_cut")
+        self.assertEqual(self.value("document.querySelector('.named').innerText.trim()").split()[0], "305")
+        self.picture("fault")
+
+    def test_no_solid_and_what_would_give_one(self) -> None:
+        self.drop_example("quartered_cube_half_hidden")
+        self.assertIn("solid would give 3 solids", self.text("#why"))
+        self.assertEqual(self.value("document.querySelectorAll('.drawing .suggested').length"), 1)
+        self.picture("none")
+        self.press(button("Show what it gives", "#why"))
+        self.browser.until(f"({IS_OVER}) && model.count === 3", PATIENCE)
+        self.picture("given")
+        self.press("document.querySelector('.given button')")
+        self.browser.until(f"({IS_OVER}) && model.count === 0 && !!document.querySelector('#why li')", PATIENCE)
+
+    def test_thirty_five_solids(self) -> None:
+        """They are fixed, compared, told apart by further views, and saved."""
+        self.drop_example("eight_voids")
+        self.assertIn("35 solids have these views", self.text(".told"))
+        self.browser.until("!document.getElementById('settle').hidden", PATIENCE)
+        rows = dict(self.value(ROWS))
+        self.assertEqual([rows[view] for view in ("REAR", "LEFT", "BOTTOM")], [[1, 35]] * 3)
+        section = "section x: 1 to 2"
+        self.assertEqual(rows[section], [7, 7])
+        self.value("document.querySelector('#settle input').focus()")
+        self.browser.call("Input.insertText", text="1")
+        row = f"[...document.querySelectorAll('#settle tbody tr')].find((row) => row.cells[0].innerText === '{section}')"
+        self.assertEqual(self.value(f"{row}.cells[3].innerText"), "4")
+        self.press(f"{row}.querySelector('button')")
+        self.assertEqual(self.value("fitting.length"), 4)
+        self.assertIn("4 of 35 solids look like solid 1 in section across x between 1 and 2", self.text(".fixing .count"))
+        self.press(button("What to add for it"))
+        self.browser.until("document.querySelector('.added').innerText.length > 10", PATIENCE)
+        self.assertIn("It would be settled by a section", self.text(".added"))
+        self.press(button("Undo"))
+        self.assertEqual(self.value("fitting.length"), 35)
+        self.value("[0, 1].forEach(pick)")
+        self.assertRegex(self.text(".pair figcaption"), r"^Solid 1 has, and solid 2 lacks: volume 1$")
+        self.picture("several")
+        for kind in ("DXF", "STL"):
+            self.press(button(kind, ".solids figure:nth-child(2)"))
+            self.assertIn({"DXF": b"SECTION", "STL": b"solid recon"}[kind], self.file_saved(f"eight_voids_2.{kind.lower()}")[:60])
+        self.press(button("Save this page as one file"))
+        self.file_saved("eight_voids.html")
+        self.browser.close_tab()
+        self.browser.open(self.saved / "eight_voids.html")
+        self.assertEqual(self.value("[model.count, tiles.length]"), [35, 35])
+        self.assertIn("35 solids have these views", self.text(".told"))
+
+    def test_the_file_of_draft_page_shows_what_a_suggestion_gives(self) -> None:
+        file = self.folder / "half_hidden.html"
+        ended = draft("page", EXAMPLES / "quartered_cube_half_hidden.dxf", "-o", file)
+        self.assertEqual(ended.status, 0, ended.said)
+        self.browser.close_tab()
+        self.browser.open(file)
+        self.assertIn("solid would give 3 solids", self.text("#why"))
+        self.press(button("Show what it gives", "#why"))
+        self.assertEqual(self.value("model.count"), 3)
+        self.assertIn("3 solids have these views", self.text(".told"))
+        self.press("document.querySelector('.given button')")
+        self.assertEqual(self.value("[model.count, document.querySelectorAll('#why li').length]"), [0, 2])
+
+    def test_volumes_are_in_the_unit_of_the_drawing(self) -> None:
+        """Of a drawing in tenths of a millimetre, in the captions and where two solids are compared."""
+        grid = voids(1)
+        file = self.folder / "tenths.dxf"
+        file.write_text(written(lines_of_runs(grid, runs(grid)), 1, Origin("mm")))
+        self.drop(file)
+        self.browser.until(IS_OVER, PATIENCE)
+        self.assertIn("volume 0.121 mm³", self.text(".solids figcaption"))
+        self.assertIn("0.5 mm × 0.5 mm × 0.5 mm", self.text(".solids .size"))
+        self.value("[0, 1].forEach(pick)")
+        self.assertEqual(self.text(".pair figcaption"), "Solid 1 has, and solid 2 lacks: volume 0.001 mm³")
+
+    @needs_module("FreeCAD", "freecad-python3", "/usr/lib/freecad-python3/lib")
+    def test_step_is_saved(self) -> None:
+        self.drop_example("clevis")
+        self.press(button("STEP"))
+        self.assertIn(b"ISO-10303-21", self.file_saved("clevis_1.step")[:40])
+
+    def test_a_search_is_stopped(self) -> None:
+        """Of a drawing with 1,500,625 solids, up to 65,536, those that are found are kept once it is stopped."""
+        self.value("document.querySelector('.options').open = true; document.querySelector('[name=solids]').value = '65536'")
+        self.browser.drop(self.made(4))
+        self.browser.until("model.count > 0 && !document.querySelector('.progress').hidden", PATIENCE)
+        self.value("document.querySelector('.stop').focus()")
+        self.browser.key("Enter")
+        self.browser.until("/was stopped/.test(document.querySelector('.told').innerText)", PATIENCE)
+        count = self.value("model.count")
+        self.assertIn(f"stopped: {count:,} solids found", self.text(".told"))
+        self.assertEqual(self.value("new Set(Array.from({length: model.count}, (_, number) => choiceOf(number))).size"), count)
+        self.browser.until(IS_OVER, PATIENCE)
+        self.picture("stopped")
+
+    @needs_long()
+    def test_1225_solids(self) -> None:
+        self.drop(self.made(2))
+        self.browser.until("/1,225 solids have/.test(document.querySelector('.told').innerText)", PATIENCE)
+        self.assertIn("1,225 solids: 1 to 64", self.text(".fixing .count"))
+        began = time.monotonic()
+        for _ in range(4):
+            self.press(button("Next"))
+            self.browser.settle()
+        self.assertLess(time.monotonic() - began, 20)
+        self.assertEqual(self.text(".solids b"), "Solid 257")
+
+    @needs_long()
+    def test_65536_solids(self) -> None:
+        self.value("document.querySelector('[name=solids]').value = '65536'")
+        self.drop(self.made(4))
+        self.browser.until("/cut at its limit/.test(document.querySelector('.told').innerText)", 4 * PATIENCE)
+        self.assertEqual(self.value("model.count"), 65_536)
+        began = time.monotonic()
+        self.press(button("Next"))
+        self.browser.settle()
+        self.assertLess(time.monotonic() - began, 10)
+
+    def test_two_pages_at_once(self) -> None:
+        first = self.browser.target, self.browser.session, self.browser.url
+        self.browser.drop(EXAMPLES / "eight_voids.dxf")
+        second = self.browser.visit(self.served.address)
+        self.drop_example("clevis")
+        self.assertIn("One solid has", self.text(".told"))
+        self.browser.turn_to(first)
+        self.browser.until(IS_OVER, PATIENCE)
+        self.assertIn("35 solids have", self.text(".told"))
+        self.browser.close_tab()
+        self.browser.turn_to(second)
+        self.assertEqual(self.value("model.count"), 1)
+
+    def test_the_server_ends_meanwhile(self) -> None:
+        with Served() as served:
+            self.browser.close_tab()
+            self.browser.visit(served.address)
+            self.drop_example("quartered_cube")
+            served.process.kill()
+            self.browser.until("/server has ended/.test(document.querySelector('.failed').innerText)", PATIENCE)
+            self.assertEqual(self.value("model.count"), 3)
+            self.picture("gone")
+            self.browser.events = [event for event in self.browser.events if event["method"] != "Log.entryAdded"]
+            self.browser.events = [event for event in self.browser.events if served.origin not in str(event)]
+
+    def test_what_is_no_drawing(self) -> None:
+        texts = {"empty.dxf": b"", "noise.dxf": os.urandom(5_000), "text.dxf": b"hello\n" * 1_000, "large.dxf": b"0" * (17 << 20)}
+        for name, data in texts.items():
+            (self.folder / name).write_bytes(data)
+            self.browser.drop(self.folder / name)
+            words = "document.querySelector('.told').innerText + document.querySelector('.failed').innerText"
+            self.browser.until(f"/Not taken|has a fault/.test({words})", PATIENCE)
+            self.browser.until("document.querySelector('.progress').hidden", PATIENCE)
+        self.drop_example("unit_cube")
+        self.assertIn("One solid has", self.text(".told"))
+
+    @needs_module("ezdxf", "python3-ezdxf")
+    def test_a_sheet_of_freecad(self) -> None:
+        from .test_techdraw import exported, missing, shape_of
+        if missing:
+            self.skipTest(missing)
+        whole, visible = exported(shape_of([("add", (0, 0, 0), (3, 2, 1)), ("add", (0, 1, 1), (1, 2, 2))]), self.folder)
+        self.drop(whole)
+        self.browser.until(IS_OVER, PATIENCE)
+        self.assertIn("Not taken", self.text(".told"))
+        self.value("document.querySelector('.options').open = true")
+        self.browser.give("document.querySelector('[name=second]')", visible)
+        self.press(button("Read it so"))
+        self.browser.until(f"({IS_OVER}) && model.count > 0", PATIENCE)
+        self.assertRegex(self.text(".told"), "solids? ha(s|ve) these views")
+        self.assertTrue(re.search("mm", self.text(".drawing")) or self.text(".said"))
+        self.picture("freecad")
