@@ -16,7 +16,6 @@ use Rattle.completeness_logs.specs.Logs.{listed_choices, nothing_known}
 use Rattle.completeness_logs.specs.LogTexts.{IsLog}
 use Rattle.completeness_logs.proofs.Listed.{AreUnder, listed_under}
 
-
 module _ (p : ProblemParts) (text : List ℕ) (choices : List (List Bool)) (log : IsLog p text choices) where
   -- where nothing is known, nothing is said against a choice
   under : AreUnder p nothing_known choices

@@ -12,9 +12,11 @@ module _ (p : ProblemParts) where
   tree_follows (fails l) known rest entries is f = (is, f)
   tree_follows whole known rest entries is f = (is, f)
   tree_follows (forces block full l t) known rest entries (open_, shows, is) f = ((open_, shows), tree_follows t (with_block known block full) rest entries is f)
-  tree_follows (splits block t u) known rest entries (open_, is, too) f =
-      (open_, subst (λ xs. AreTreesUnder p (with_block known block true ∷ with_block known block false ∷ rest) xs) (sym (append_assoc (tree_entries t) (tree_entries u) entries))
-      (tree_follows t (with_block known block true) (with_block known block false ∷ rest) (tree_entries u ++ entries) is (tree_follows u (with_block known block false) rest entries too f)))
+  tree_follows (splits block t u) known rest entries (open_, is, too) f = (
+    open_,
+    subst (λ xs. AreTreesUnder p (with_block known block true ∷ with_block known block false ∷ rest) xs) (sym (append_assoc (tree_entries t) (tree_entries u) entries))
+        (tree_follows t (with_block known block true) (with_block known block false ∷ rest) (tree_entries u ++ entries) is (tree_follows u (with_block known block false) rest entries too f)),
+  )
 
   pub tree_listed : (t : LogTree) (known : KnownBlocks) (rest : List KnownBlocks) (entries : List LogEntry) → listed_along p (known ∷ rest) (tree_entries t ++ entries) ≡ listed_choices p known t ++ listed_along p rest entries
   tree_listed (fails l) known rest entries = refl
