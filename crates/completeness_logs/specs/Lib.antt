@@ -1,0 +1,4 @@
+pub mod Logs
+pub mod LogTexts
+pub mod SplitMarks
+pub mod SmallLogs

@@ -1,0 +1,12 @@
+//! Completeness logs: what they say, how they are spelled, and that they are complete.
+//!
+//! Whoever is shown an answer can go through a log and see that no solid is missing: it is a tree of
+//! decisions on the blocks of a grid, and each of its branches ends at a line of the grid that can't
+//! be met, or at a solid. Nothing here says who wrote it, or how.
+#![tactic(auto)]
+
+mod entry;
+mod laws;
+
+pub use entry::{LinePlace, LogEntry};
+pub use laws::{lines_are_trees, log_of_notched_bar, logs_list_all_matching_choices};

@@ -1,0 +1,3 @@
+pub mod NumberWords
+pub mod Cuts
+pub mod FirstLines
