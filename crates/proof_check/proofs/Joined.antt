@@ -1,10 +1,9 @@
 -- What the check takes is just the lines of a log.
-use Rattle.std.proofs.Common.{◌≡◌, ◌≢◌, ◌⊎◌, Bool, true, false, ℕ, zero, suc, ◌+◌, ◌≤◌, List, [], ◌∷◌, ◌++◌, length, map, Option, Some, None, IsTrue, if◌then◌else◌, inl, inr, refl, ap, ap₂, sym, subst, ◌∙◌, arith, length-append}
+use Rattle.std.proofs.Common.{◌≡◌, Bool, ℕ, ◌+◌, ◌≤◌, List, [], ◌∷◌, length, Some, IsTrue, refl, ap, ap₂, sym, subst, ◌∙◌, arith, length-append}
 use Rattle.solid_model.specs.Blocks.{ProblemParts}
 use Rattle.lemmas.specs.Lists.{Each}
 use Rattle.completeness_logs.specs.declared.entry.LogEntry.{LogEntry}
 use Rattle.completeness_logs.specs.Logs.{KnownBlocks, IsRightEntry, after_entry, AreTreesUnder, listed_along, listed_at}
-use Rattle.dxf_groups.specs.TextLines.{text_lines}
 use Rattle.completeness_logs.specs.LogTexts.{most_listed}
 use Rattle.proof_check.specs.Checks.{IsRestOfLog, Reads, AreLogLines, log_lines}
 use Rattle.proof_check.specs.Refusals.{listed_count_of}

@@ -1,5 +1,5 @@
 -- What is refused of texts that begin as the log of the bar with a notch does.
-use Rattle.std.proofs.Common.{◌≡◌, ◌≢◌, ◌++◌, inl, inr, true, false, ℕ, ◌≤◌, List, [], ◌∷◌, Some, refl, ap, sym, ◌∙◌, codes, arith}
+use Rattle.std.proofs.Common.{◌≡◌, ◌≢◌, ◌++◌, inr, false, ℕ, List, [], ◌∷◌, refl, ap, sym, ◌∙◌, codes, arith}
 use Rattle.std.proofs.lemmas.Bool.{false≢true}
 use Rattle.std.proofs.lemmas.Fmt.{decimal_digit}
 use Rattle.std.proofs.lemmas.Slice.Eq.{bytes_eq-Decides}

@@ -1,5 +1,5 @@
 -- Lines are read as they are spelled.
-use Rattle.std.proofs.Common.{◌≡◌, ◌==◌, ◌&&◌, Bool, true, false, ℕ, zero, suc, ◌<◌, ◌≤◌, nat_lt, List, [], ◌∷◌, ◌++◌, length, get_or, Option, Some, None, option_map, if◌then◌else◌, refl, ap, ap₂, sym, subst, ◌∙◌, codes, arith}
+use Rattle.std.proofs.Common.{◌≡◌, ◌==◌, Bool, true, false, ℕ, zero, suc, ◌<◌, ◌≤◌, nat_lt, List, [], ◌∷◌, ◌++◌, length, get_or, Option, Some, None, option_map, if◌then◌else◌, refl, ap, ap₂, subst, ◌∙◌, codes, arith}
 use Rattle.std.specs.Char.{is_ascii_digit}
 use Rattle.std.specs.Fmt.{decimal}
 use Rattle.std.specs.Str.{all_ascii_digits, bytes_eq}
@@ -13,7 +13,7 @@ use Rattle.completeness_logs.specs.declared.entry.LogEntry.{LogEntry}
 use Rattle.completeness_logs.specs.declared.entry.LogEntry.TheVariants.{Fail, Whole, Force, Split}
 use Rattle.completeness_logs.specs.declared.entry.LinePlace.{LinePlace}
 use Rattle.text_lines.specs.Words.{joined_behind, joined}
-use Rattle.completeness_logs.specs.LogTexts.{view_word, upright_word, full_word, place_words, entry_words, entry_line, closing_line, has_short_numbers, is_short_entry, most_listed}
+use Rattle.completeness_logs.specs.LogTexts.{view_word, upright_word, full_word, place_words, entry_line, closing_line, has_short_numbers, is_short_entry, most_listed}
 use Rattle.text_lines.specs.Numbers.{number_of_word}
 use Rattle.text_lines.specs.Words.{Cut, cut, of_both, either_word}
 use Rattle.proof_check.specs.Reading.{view_of_word, place_with, place_along, place_seen_in, place_named, force_with, force_on, force_of, fail_of, split_of, entry_behind, entry_of_cut, entry_of_line, closing_count_of_cut, closing_count}

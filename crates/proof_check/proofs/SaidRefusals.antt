@@ -1,5 +1,5 @@
 -- What is refused as lines are read is what is refused by what they say, and the other way round.
-use Rattle.std.proofs.Common.{◌≡◌, ◌≢◌, ◌⊎◌, inl, inr, Bool, true, false, ℕ, suc, ◌+◌, List, [], ◌∷◌, length, Option, Some, None, refl, ap, sym, subst, ◌∙◌, arith}
+use Rattle.std.proofs.Common.{◌≡◌, ◌⊎◌, inl, inr, Bool, ℕ, suc, ◌+◌, List, [], ◌∷◌, length, Option, Some, None, refl, ap, sym, subst, ◌∙◌, arith}
 use Rattle.std.proofs.lemmas.Bool.{lt-ltb, ltb-true}
 use Rattle.std.proofs.lemmas.Option.{none-some}
 use Rattle.solid_model.specs.Blocks.{ProblemParts}
@@ -11,7 +11,7 @@ use Rattle.proof_check.specs.declared.fault.LogKind.{LogKind}
 use Rattle.proof_check.specs.declared.fault.LogKind.TheVariants.{BadLine, Short}
 use Rattle.proof_check.specs.declared.fault.LogRefused.{LogRefused}
 use Rattle.proof_check.specs.declared.fault.LogRefused.TheVariants.{Fault, Memory}
-use Rattle.proof_check.specs.Checks.{IsRefusedFrom, IsWrongEnd, AreReadRefused, IsReadRefused}
+use Rattle.proof_check.specs.Checks.{IsRefusedFrom, IsWrongEnd, AreReadRefused}
 use Rattle.proof_check.specs.Reading.{log_reading, entry_of_line, closing_count}
 use Rattle.proof_check.specs.Refusals.{SaysEntry, SaysEnd, IsWrongCount, IsFirstRefused, AreRefused, IsLogRefused, TellsRefusal, listed_count_of}
 use Rattle.proof_check.proofs.ReadBack.{entry_read, entry_spelled, end_read_short, end_as}

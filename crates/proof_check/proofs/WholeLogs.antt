@@ -1,22 +1,21 @@
 -- Whole logs: what the check of their lines tells.
-use Rattle.std.proofs.Common.{◌≡◌, ◌≢◌, ◌⊎◌, inl, inr, Bool, true, false, ℕ, zero, suc, ◌+◌, ◌<◌, ◌≤◌, List, [], ◌∷◌, ◌++◌, length, map, take, drop, Option, Some, None, IsTrue, ◌↔◌, if◌then◌else◌, refl, ap, ap₂, sym, subst, ◌∙◌, codes, arith, take-append-drop}
+use Rattle.std.proofs.Common.{◌≡◌, inl, inr, Bool, true, false, ℕ, ◌+◌, ◌<◌, ◌≤◌, List, [], ◌∷◌, ◌++◌, length, map, take, drop, Some, None, IsTrue, if◌then◌else◌, refl, ap, ap₂, sym, subst, ◌∙◌, codes, arith, take-append-drop}
 use Rattle.std.specs.Fmt.{decimal}
 use Rattle.std.specs.Str.{bytes_eq}
 use Rattle.std.proofs.lemmas.List.{append-nil}
-use Rattle.std.proofs.lemmas.Option.{none-some, same_Some}
+use Rattle.std.proofs.lemmas.Option.{none-some}
 use Rattle.std.proofs.lemmas.Slice.Eq.{bytes_eq-Decides}
 use Rattle.solid_model.specs.Blocks.{ProblemParts}
 use Rattle.lemmas.specs.Lists.{Each}
 use Rattle.completeness_logs.specs.declared.entry.LogEntry.{LogEntry}
-use Rattle.completeness_logs.specs.Logs.{KnownBlocks, LogTree, AreTreesUnder, after_entry, tree_entries, listed_choices, listed_along, listed_at, nothing_known, IsTreeUnder}
+use Rattle.completeness_logs.specs.Logs.{KnownBlocks, AreTreesUnder, after_entry, tree_entries, listed_choices, listed_along, listed_at, nothing_known}
 use Rattle.dxf_groups.specs.TextLines.{text_lines}
 use Rattle.completeness_logs.specs.LogTexts.{opening_line, closing_line, entry_line, is_short_entry, most_listed, IsLog}
 use Rattle.completeness_logs.proofs.Trees.{follows_tree, tree_follows, tree_listed}
 use Rattle.proof_check.specs.declared.fault.LogKind.{LogKind}
-use Rattle.proof_check.specs.declared.fault.LogKind.TheVariants.{BadLine, Short}
-use Rattle.proof_check.specs.Checks.{IsRestOfLog, IsRefusedFrom, Reads, AreLogLines, log_lines, found_along, found_at, states_after, AreReadRefused, IsReadRefused}
+use Rattle.proof_check.specs.Checks.{IsRestOfLog, Reads, log_lines, found_along, found_at, states_after, AreReadRefused, IsReadRefused}
 use Rattle.text_lines.specs.Numbers.{number_of_word}
-use Rattle.proof_check.specs.Reading.{LogReading, log_reading, opening_count}
+use Rattle.proof_check.specs.Reading.{log_reading, opening_count}
 use Rattle.proof_check.proofs.Joined.{rest_of_log, log_of_rest}
 use Rattle.text_lines.proofs.NumberWords.{number_read, number_written}
 use Rattle.proof_check.proofs.OneVerdict.{refused_or_right, one_refusal}

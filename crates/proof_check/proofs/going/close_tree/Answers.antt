@@ -1,10 +1,10 @@
 -- The last split's block was undecided before it, and is so again.
-use Rattle.std.proofs.Common.{◌≡◌, ◌<◌, ◌∷◌, ◌++◌, [], ℕ, List, None, subst, sym, ap, ap₂, ◌∙◌, true, false, reverse, length, take, get_or}
+use Rattle.std.proofs.Common.{◌<◌, ◌∷◌, ◌++◌, [], ℕ, List, subst, sym, ap, ap₂, ◌∙◌, true, false, reverse}
 use Rattle.solid_model.specs.declared.decision.Decision.{Decision}
 use Rattle.solid_model.specs.Blocks.{ProblemParts}
 use Rattle.solid_model.specs.Decisions.{PartialParts, decided_by}
-use Rattle.completeness_logs.specs.SplitMarks.{AreSplitMarks, sides_to_come, all_to_come, no_decision}
-use Rattle.completeness_logs.proofs.SplitMarks.{newest_within, newest_open, newest_marks, newest_standing}
+use Rattle.completeness_logs.specs.SplitMarks.{AreSplitMarks, all_to_come}
+use Rattle.completeness_logs.proofs.SplitMarks.{newest_open, newest_marks, newest_standing}
 use Rattle.proof_check.proofs.going.close_tree.Goals as goal
 
 pub decide-requires-clause-there : goal.decide-requires-clause-there

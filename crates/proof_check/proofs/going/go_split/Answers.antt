@@ -1,9 +1,8 @@
-use Rattle.std.proofs.Common.{◌≡◌, ◌∷◌, ◌++◌, [], subst, sym, ap, ap₂, ◌∙◌, true, false, reverse, length}
+use Rattle.std.proofs.Common.{◌∷◌, ◌++◌, [], ap, ap₂, ◌∙◌, true, reverse, length}
 use Rattle.std.proofs.lemmas.List.{reverse-append}
-use Rattle.solid_model.specs.Decisions.{PartialParts, decided_by}
-use Rattle.completeness_logs.specs.Logs.{with_block}
-use Rattle.completeness_logs.specs.SplitMarks.{AreSplitMarks, sides_to_come, all_to_come}
-use Rattle.completeness_logs.proofs.SplitMarks.{marks_split, standing_split}
+use Rattle.solid_model.specs.Decisions.{PartialParts}
+use Rattle.completeness_logs.specs.SplitMarks.{all_to_come}
+use Rattle.completeness_logs.proofs.SplitMarks.{standing_split}
 use Rattle.proof_check.proofs.going.go_split.Goals as goal
 
 pub returns-clause-coming : goal.returns-clause-coming

@@ -1,5 +1,5 @@
 -- Each text is right up to the line that is refused.
-use Rattle.std.proofs.Common.{◌≡◌, inl, inr, true, false, [], ◌∷◌, Some, refl, sym, codes, arith}
+use Rattle.std.proofs.Common.{inl, inr, true, false, [], ◌∷◌, refl, sym, codes, arith}
 use Rattle.std.proofs.lemmas.Option.{none-some}
 use Rattle.completeness_logs.specs.declared.entry.LogEntry.TheVariants.{Fail, Whole, Force}
 use Rattle.completeness_logs.proofs.NotchedBar.{stroke}

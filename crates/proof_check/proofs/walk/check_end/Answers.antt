@@ -1,4 +1,4 @@
-use Rattle.std.proofs.Common.{◌≡◌, ◌<◌, ◌+◌, inl, inr, refl, sym, ◌∙◌, ap, arith, Some}
+use Rattle.std.proofs.Common.{◌+◌, inl, inr, refl, sym, ◌∙◌, ap, arith, Some}
 use Rattle.text_lines.proofs.FirstLines.{some_lines}
 use Rattle.proof_check.specs.declared.fault.LogKind.TheVariants.{BadLine, BadCount, Long}
 use Rattle.proof_check.specs.Reading.{log_reading}

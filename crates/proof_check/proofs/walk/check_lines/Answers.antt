@@ -1,4 +1,4 @@
-use Rattle.std.proofs.Common.{◌≡◌, true, false, ◌<◌, ◌≤◌, ◌+◌, ◌⊎◌, inl, inr, ◌∷◌, [], length, take, reverse, refl, sym, subst, ◌∙◌, ap, arith, suc, Some}
+use Rattle.std.proofs.Common.{true, ◌≤◌, ◌+◌, ◌∷◌, [], length, reverse, refl, sym, subst, ◌∙◌, ap, arith}
 use Rattle.std.proofs.lemmas.List.{length-append}
 use Rattle.solid_model.specs.Decisions.{decided_by}
 use Rattle.completeness_logs.specs.Logs.{nothing_known}

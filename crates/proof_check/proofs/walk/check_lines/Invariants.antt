@@ -4,7 +4,7 @@ use Rattle.completeness_logs.specs.Logs.{nothing_known}
 use Rattle.completeness_logs.specs.LogTexts.{most_listed}
 use Rattle.completeness_logs.specs.SplitMarks.{AreSplitMarks, all_to_come}
 use Rattle.proof_check.specs.Reading.{log_reading}
-use Rattle.proof_check.specs.Walks.{LogPlace, LeadsTo}
+use Rattle.proof_check.specs.Walks.{LeadsTo}
 use Rattle.proof_check.proofs.walk.check_lines.Given as goal
 
 abbrev pub invariant-loop-open : goal.invariant-loop-open

@@ -1,5 +1,5 @@
 -- A log whose first line is right is what its other lines say.
-use Rattle.std.proofs.Common.{◌≡◌, ap, ◌∙◌}
+use Rattle.std.proofs.Common.{ap, ◌∙◌}
 use Rattle.completeness_logs.specs.LogTexts.{opening_line}
 use Rattle.proof_check.proofs.SaidRefusals.{rest_told}
 use Rattle.proof_check.proofs.WholeLogs.{log_from}
