@@ -1,5 +1,5 @@
 -- The listed choices of a log are the matching ones.
-use Rattle.std.proofs.Common.{◌≡◌, ◌≢◌, ◌⊎◌, ◌==◌, Bool, true, false, not, ℕ, zero, suc, ◌+◌, ◌<◌, ◌≤◌, List, [], ◌∷◌, ◌++◌, length, map, ℤ, Option, Some, None, if◌then◌else◌, inl, inr, refl, ap, sym, subst, ◌∙◌, arith}
+use Rattle.std.proofs.Common.{◌≡◌, ◌≢◌, ◌⊎◌, ◌==◌, Bool, true, false, not, ℕ, zero, suc, ◌+◌, ◌<◌, List, [], ◌∷◌, ◌++◌, length, map, Option, Some, None, if◌then◌else◌, inl, inr, refl, ap, sym, subst, ◌∙◌, arith}
 use Rattle.std.specs.List.{range_with_len}
 use Rattle.std.proofs.lemmas.Bool.{eqb-true}
 use Rattle.std.proofs.lemmas.Option.{none-some}
@@ -8,9 +8,9 @@ use Rattle.solid_model.specs.Demands.{said_by}
 use Rattle.lemmas.specs.Lists.{Member, Each, Ascends}
 use Rattle.lemmas.proofs.Lists.{member-append, member-append_left, member-append_right, each-from, ascends-append}
 use Rattle.solid_model.specs.Demands.{AllMet}
-use Rattle.solid_model.specs.Forcing.{known_with, IsLess}
+use Rattle.solid_model.specs.Forcing.{IsLess}
 use Rattle.solid_model.proofs.Lives.{met_less, with_less, known_new, less_with, not_excluded}
-use Rattle.completeness_logs.specs.Logs.{line_placed, KnownBlocks, with_block, LogTree, IsTreeUnder, listed_choices, known_full, choice_known, ShowsSolid, nothing_known}
+use Rattle.completeness_logs.specs.Logs.{line_placed, KnownBlocks, with_block, LogTree, IsTreeUnder, listed_choices, known_full, choice_known, ShowsSolid}
 use Rattle.completeness_logs.specs.Logs.LogTree.{fails, whole, forces, splits}
 
 -- two lists without repeats, no member of the one being one of the other

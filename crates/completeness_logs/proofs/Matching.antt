@@ -3,7 +3,7 @@ use Rattle.std.proofs.Common.{◌≡◌, ◌≢◌, Bool, ℕ, List, length, IsP
 use Rattle.std.proofs.lemmas.List.Sorted.{IsPermutation-sym}
 use Rattle.std.proofs.lemmas.Option.{none-some}
 use Rattle.lemmas.specs.Lists.{Member, Each, Ascends}
-use Rattle.lemmas.proofs.Lists.{each-at, each-from}
+use Rattle.lemmas.proofs.Lists.{each-from}
 use Rattle.lemmas.proofs.Permutations.{member-permutation}
 use Rattle.column_laws.proofs.LivePrefixes.{matching_met, met_matching}
 use Rattle.solid_model.specs.declared.segment.Segment.{Segment}
@@ -12,7 +12,7 @@ use Rattle.solid_model.specs.Blocks.{ProblemParts, IsBlocksOf}
 use Rattle.solid_model.specs.Choices.{AreChoicesThat, ChoicePrecedes, IsMatchingChoice}
 use Rattle.solid_model.specs.Panels.{coordinates_of, IsGridOf}
 use Rattle.solid_model.specs.Runs.{IsDrawing}
-use Rattle.completeness_logs.specs.Logs.{listed_choices, nothing_known}
+use Rattle.completeness_logs.specs.Logs.{nothing_known}
 use Rattle.completeness_logs.specs.LogTexts.{IsLog}
 use Rattle.completeness_logs.proofs.Listed.{AreUnder, listed_under}
 

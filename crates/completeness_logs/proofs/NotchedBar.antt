@@ -1,5 +1,5 @@
 -- The log of a bar with a notch. Each claim of the log is told by a test of one line, and the solid by tests of all lines.
-use Rattle.std.proofs.Common.{◌≡◌, ◌≢◌, Bool, true, false, ℕ, zero, suc, ◌+◌, ◌<◌, ◌≤◌, List, [], ◌∷◌, ◌++◌, length, map, Some, None, refl, ap, sym, ◌∙◌, codes, arith}
+use Rattle.std.proofs.Common.{◌≡◌, ◌≢◌, true, false, ℕ, zero, suc, ◌<◌, ◌≤◌, List, [], ◌∷◌, ◌++◌, map, None, refl, ap, sym, ◌∙◌, codes, arith}
 use Rattle.std.specs.Fmt.{decimal}
 use Rattle.std.proofs.lemmas.Bool.{false≢true}
 use Rattle.std.proofs.lemmas.Fmt.{decimal_digit}
@@ -13,7 +13,7 @@ use Rattle.column_laws.proofs.AllLines.{lines_are_listed}
 use Rattle.column_laws.proofs.ForcedDecisions.{out_with}
 use Rattle.column_laws.proofs.MetLines.{AreSized, met_computed}
 use Rattle.completeness_logs.specs.declared.entry.LinePlace.{LinePlace}
-use Rattle.completeness_logs.specs.Logs.{KnownBlocks, LogTree, IsTreeUnder, ShowsFail, ShowsForce, ShowsSolid, line_placed, listed_choices, nothing_known, tree_entries, with_block}
+use Rattle.completeness_logs.specs.Logs.{KnownBlocks, LogTree, IsTreeUnder, ShowsFail, ShowsForce, line_placed, nothing_known, tree_entries, with_block}
 use Rattle.completeness_logs.specs.Logs.LogTree.{fails, whole, forces, splits}
 use Rattle.completeness_logs.specs.LogTexts.{IsLog, closing_line, entry_line, most_listed, opening_line}
 use Rattle.completeness_logs.specs.SmallLogs.{notched_bar}

@@ -1,12 +1,11 @@
 -- What a checker keeps, and what is to come.
-use Rattle.std.proofs.Common.{◌≡◌, Bool, true, false, ℕ, zero, suc, ◌<◌, ◌≤◌, List, [], ◌∷◌, ◌++◌, length, take, drop, reverse, get_or, Option, Some, None, refl, ap, ap₂, sym, subst, ◌∙◌, arith, length-append}
+use Rattle.std.proofs.Common.{◌≡◌, true, false, ℕ, zero, suc, ◌<◌, ◌≤◌, List, [], ◌∷◌, ◌++◌, length, take, drop, reverse, get_or, None, refl, ap, ap₂, sym, subst, ◌∙◌, arith, length-append}
 use Rattle.std.proofs.lemmas.List.{reverse-append}
 use Rattle.solid_model.specs.declared.decision.Decision.{Decision}
 use Rattle.solid_model.specs.Decisions.{decided_by, AreDecisions}
-use Rattle.solid_model.specs.Forcing.{known_with}
 use Rattle.completeness_logs.proofs.DecidedMore.{decided_push}
-use Rattle.completeness_logs.specs.Logs.{KnownBlocks, with_block}
-use Rattle.completeness_logs.specs.SplitMarks.{no_decision, empty_side, sides_to_come, AreSplitMarks, all_to_come}
+use Rattle.completeness_logs.specs.Logs.{with_block}
+use Rattle.completeness_logs.specs.SplitMarks.{no_decision, sides_to_come, AreSplitMarks, all_to_come}
 
 pub take_long : {A : Type 0} (xs ys : List A) (n : ℕ) → n ≤ length xs → take n (xs ++ ys) ≡ take n xs
 take_long xs ys zero l = refl

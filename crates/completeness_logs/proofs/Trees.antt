@@ -1,7 +1,7 @@
 -- Lines that follow are the lines of trees.
 use Rattle.std.proofs.Common.{◌≡◌, Bool, true, false, ℕ, List, [], ◌∷◌, ◌++◌, append_assoc, append-nil, refl, ap, sym, ◌∙◌, subst}
 use Rattle.solid_model.specs.Blocks.{ProblemParts}
-use Rattle.completeness_logs.specs.Logs.{KnownBlocks, with_block, LogTree, tree_entries, IsTreeUnder, listed_choices, after_entry, IsRightEntry, listed_at, AreTreesUnder, listed_along, ShowsFail}
+use Rattle.completeness_logs.specs.Logs.{KnownBlocks, with_block, LogTree, tree_entries, IsTreeUnder, listed_choices, IsRightEntry, AreTreesUnder, listed_along}
 use Rattle.completeness_logs.specs.declared.entry.LogEntry.{LogEntry}
 use Rattle.completeness_logs.specs.declared.entry.LogEntry.TheVariants.{Fail, Whole, Force, Split}
 use Rattle.completeness_logs.specs.Logs.LogTree.{fails, whole, forces, splits}

@@ -1,5 +1,5 @@
 -- A small problem, written out, to check a log by hand.
-use Rattle.std.specs.Prelude.{Bool, true, false, ℕ, List, [], ◌∷◌, ◌++◌, pos, Some, codes}
+use Rattle.std.specs.Prelude.{ℕ, List, [], ◌∷◌, pos, Some, codes}
 use Rattle.solid_model.specs.declared.segment.Style.TheVariants.{Blank, Dashed, Solid}
 use Rattle.solid_model.specs.Blocks.{ProblemParts}
 use Rattle.solid_model.specs.Panels.{PanelStyles}

@@ -1,4 +1,4 @@
-use Rattle.std.proofs.Common.{subst, ap, sym, ◌∙◌, ◌++◌, [], ◌∷◌}
+use Rattle.std.proofs.Common.{subst, ap, sym, ◌∙◌, [], ◌∷◌}
 use Rattle.std.proofs.lemmas.List.{append-nil}
 use Rattle.completeness_logs.specs.Logs.{AreTreesUnder, listed_along, tree_entries, listed_choices}
 use Rattle.completeness_logs.proofs.Trees.{follows_tree, tree_follows, tree_listed}

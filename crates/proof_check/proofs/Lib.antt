@@ -1,0 +1,10 @@
+pub mod Asked
+pub mod Judged
+pub mod LastLines
+pub mod LineOn
+pub mod OneVerdict
+pub mod ReadBack
+pub mod Joined
+pub mod WholeLogs
+pub mod NotchedRefusals
+pub mod SaidRefusals
