@@ -1,9 +1,8 @@
 //! Solids whose faces were found by hand.
 
-use crate::cells::{cells, numbers, rows_of};
-use crate::grids::grid_in;
-use faces::{counted_faces, faces_of_rows, faces_of_solid};
-use solid_model::{Face, Grid, Loop, Out};
+use crate::cells::{numbers, rows_of};
+use faces::counted_faces;
+use solid_model::{Face, Loop, Out};
 use std::alloc::Global;
 use std::fmt::Write;
 use std::test::Fail;
@@ -59,10 +58,12 @@ fn tell_face(face: &Face, told: &mut String) -> Result<(), Fail> {
     Ok(())
 }
 
-/// All faces, as a row has them.
-fn told_list(alloc: Global, faces: &[Face]) -> Result<String, Fail> {
+/// All faces of a row's cells, as the row has them.
+fn told_faces(alloc: Global, row: Row<'_>) -> Result<String, Fail> {
+    let [sizes, cells, ..] = row.parts;
+    let cells = rows_of(alloc, numbers(sizes), cells)?;
     let mut told = String::new(alloc);
-    for face in faces {
+    for face in &counted_faces(alloc, &cells)? {
         if !told.is_empty() {
             told.push_str(", ")?;
         }
@@ -71,73 +72,11 @@ fn told_list(alloc: Global, faces: &[Face]) -> Result<String, Fail> {
     Ok(told)
 }
 
-/// All faces of a row's cells, as the row has them.
-fn told_faces(alloc: Global, row: Row<'_>) -> Result<String, Fail> {
-    let [sizes, cells, ..] = row.parts;
-    let cells = rows_of(alloc, numbers(sizes), cells)?;
-    told_list(alloc, counted_faces(alloc, &cells)?.as_slice())
-}
-
 #[test]
 fn faces_are_those_found_by_hand(rt: HostRuntime) -> Result<(), Fail> {
     for line in SOLIDS.lines() {
         let row = row_of(line);
         assert_eq!(rt; told_faces(rt.alloc(), row)?.as_str(), row.wanted, "{line}");
-    }
-    Ok(())
-}
-
-/// A row a drawing, by its strokes in front, from the top and from the side, the chosen cells of
-/// its grid, and how they are handed over, as a list or as rows; and then the faces, as above.
-/// They are those of a hollow cube.
-const ON_GRIDS: &str = "\
-rect S 0 0 3 3, rect D 1 1 2 2; rect S 0 0 3 3, rect D 1 1 2 2; rect S 0 0 3 3, rect D 1 1 2 2; \
-    #########/####.####/#########; list -> \
-    -x0 000 003 033 030, -x2 211 212 222 221, +x1 111 121 122 112, +x3 300 330 333 303, \
-    -y0 000 300 303 003, -y2 121 221 222 122, +y1 111 112 212 211, +y3 030 033 333 330, \
-    -z0 000 030 330 300, -z2 112 122 222 212, +z1 111 211 221 121, +z3 003 303 333 033
-rect S 0 0 3 3, rect D 1 1 2 2; rect S 0 0 3 3, rect D 1 1 2 2; rect S 0 0 3 3, rect D 1 1 2 2; \
-    #########/####.####/#########; rows -> \
-    -x0 000 003 033 030, -x2 211 212 222 221, +x1 111 121 122 112, +x3 300 330 333 303, \
-    -y0 000 300 303 003, -y2 121 221 222 122, +y1 111 112 212 211, +y3 030 033 333 330, \
-    -z0 000 030 330 300, -z2 112 122 222 212, +z1 111 211 221 121, +z3 003 303 333 033";
-
-/// The faces of a grid's chosen cells, handed over as a list.
-fn faces_by_list(alloc: Global, grid: &Grid, told: &str) -> Result<Vec<Face>, Fail> {
-    let chosen = cells(alloc, told)?;
-    if chosen.len() != grid.sizes().count() {
-        return Err(Fail::new("as many cells as the grid has"));
-    }
-    Ok(faces_of_solid(alloc, grid, chosen.as_slice())?)
-}
-
-/// The faces of a grid's chosen cells, handed over as rows.
-fn faces_by_rows(alloc: Global, grid: &Grid, told: &str) -> Result<Vec<Face>, Fail> {
-    let rows = rows_of(alloc, grid.sizes(), told)?;
-    Ok(faces_of_rows(alloc, grid, &rows)?)
-}
-
-/// All faces of a row's solid, as the row has them.
-fn told_on_grid(alloc: Global, row: Row<'_>) -> Result<String, Fail> {
-    let [_, _, _, cells, form] = row.parts;
-    let grid = grid_in(alloc, row)?;
-    let faces = if form == "rows" {
-        faces_by_rows(alloc, &grid, cells)?
-    } else {
-        faces_by_list(alloc, &grid, cells)?
-    };
-    told_list(alloc, faces.as_slice())
-}
-
-#[test]
-fn faces_on_grids_are_those_found_by_hand(rt: HostRuntime) -> Result<(), Fail> {
-    for line in ON_GRIDS.lines() {
-        let row = row_of(line);
-        assert_eq!(rt;
-            told_on_grid(rt.alloc(), row)?.as_str(),
-            row.wanted,
-            "{line}"
-        );
     }
     Ok(())
 }

@@ -15,9 +15,16 @@ use tv_base::{Gate, Point};
 /// After so many turns a gate gives up. A turn is one yield.
 const TURNS: u32 = 20_000_000;
 
-/// Waits until a count has reached a number. False: it gave up.
-fn wait_for(count: &AtomicU64, number: u64) -> bool {
-    for _ in 0..TURNS {
+/// After so many the one of a meeting does: a worker that starts late may find that the other one keeps
+/// all pieces, and then they don't meet in that search.
+const MEETING_TURNS: u32 = 200_000;
+
+/// In so many searches two workers that work at once have met.
+const SEARCHES: u32 = 40;
+
+/// Waits so many turns until a count has reached a number. False: it gave up.
+fn wait_for(count: &AtomicU64, number: u64, turns: u32) -> bool {
+    for _ in 0..turns {
         if count.load(Ordering::SeqCst) >= number {
             return true;
         }
@@ -46,7 +53,7 @@ impl Gate for Meeting {
             (&self.second, &self.first)
         };
         let before = own.fetch_add(1, Ordering::SeqCst);
-        if before == 1 && wait_for(other, 2) {
+        if before == 1 && wait_for(other, 2, MEETING_TURNS) {
             self.met.fetch_add(1, Ordering::SeqCst);
         }
     }
@@ -75,7 +82,7 @@ impl Gate for PageFirst {
                 let before = own.fetch_add(1, Ordering::SeqCst);
                 if before == 2 {
                     self.held.fetch_add(1, Ordering::SeqCst);
-                    if !wait_for(&self.pages, 1) {
+                    if !wait_for(&self.pages, 1, TURNS) {
                         self.given_up.fetch_add(1, Ordering::SeqCst);
                     }
                 }
@@ -101,18 +108,28 @@ fn found_by_two<R: Threads + Wait + Sync, G: Gate>(
     }
 }
 
-/// How many solids a search with a meeting finds, if both workers met there.
-fn found_at_meeting<R: Threads + Wait + Sync>(rt: &R, alloc: Global) -> Result<usize, Fail> {
+/// How many solids a search finds at a gate that both workers meet at; `None`: they didn't.
+fn found_if_met<R: Threads + Wait + Sync>(rt: &R, alloc: Global) -> Result<Option<usize>, Fail> {
     let gate = Meeting {
         first: AtomicU64::new(0),
         second: AtomicU64::new(0),
         met: AtomicU64::new(0),
     };
     let found = found_by_two(rt, alloc, &gate)?;
-    if gate.met.load(Ordering::SeqCst) != 2 {
-        return Err(Fail::from("no meeting"));
+    if gate.met.load(Ordering::SeqCst) == 2 {
+        return Ok(Some(found));
     }
-    Ok(found)
+    Ok(None)
+}
+
+/// How many solids a search with a meeting finds, if in one of some searches both workers met.
+fn found_at_meeting<R: Threads + Wait + Sync>(rt: &R, alloc: Global) -> Result<usize, Fail> {
+    for _ in 0..SEARCHES {
+        if let Some(found) = found_if_met(rt, alloc)? {
+            return Ok(found);
+        }
+    }
+    Err(Fail::from("no meeting"))
 }
 
 /// How many solids a search finds whose workers wait for a page, if some worker was held for one and
