@@ -49,6 +49,25 @@ def takes_limits() -> bool:
     return subprocess.run(words, capture_output=True).returncode == 0
 
 
+SLOWED = """#!/usr/bin/python3
+import subprocess, sys, time
+run = subprocess.Popen([{program!r}, *sys.argv[1:]], stdout=subprocess.PIPE)
+for line in run.stdout:
+    time.sleep(0.1 if line.startswith(b"page ") else 0)
+    sys.stdout.buffer.write(line)
+    sys.stdout.buffer.flush()
+sys.exit(run.wait())
+"""
+
+
+def slowed(folder: pathlib.Path) -> pathlib.Path:
+    """A program that writes what the built one does, and takes a tenth of a second for each page, so that a search can be stopped."""
+    path = folder / "slowed"
+    path.write_text(SLOWED.format(program=str(program.find())))
+    path.chmod(0o755)
+    return path
+
+
 class Served:
     """A server that runs until it is closed."""
 
@@ -162,8 +181,7 @@ class Served:
 
     def kept(self) -> list[str]:
         """The files that it keeps."""
-        room = pathlib.Path(self.room.name)
-        return sorted(str(file.relative_to(room)) for file in room.rglob("*") if file.is_file())
+        return sorted(file for _, _, files in os.walk(self.room.name) for file in files)
 
     def until_idle(self, seconds: float = 20) -> None:
         """Waits until nothing runs for a page, and no file is kept; refused where that takes longer."""

@@ -4,6 +4,7 @@ import json
 import pathlib
 import random
 import socket
+import tempfile
 import threading
 import time
 import unittest
@@ -15,7 +16,7 @@ from drafting.follow import solids_event
 from drafting.messages import Refused
 
 from .made import file_of, voids
-from .serving import EDGE, Answered, Served, form, part, takes_limits
+from .serving import EDGE, Answered, Served, form, part, slowed, takes_limits
 from .support import EXAMPLES, draft, needs_program
 
 needs_packages = unittest.skipUnless(
@@ -229,7 +230,10 @@ class Serving(unittest.TestCase):
 class Limits(unittest.TestCase):
     def test_time_is_limited_and_others_wait(self) -> None:
         large = file_of(voids(4)).encode()
-        with Served("--seconds", 4, "--at-once", 1) as served:
+        room = tempfile.TemporaryDirectory()
+        self.addCleanup(room.cleanup)
+        program = slowed(pathlib.Path(room.name))
+        with Served("--seconds", 4, "--at-once", 1, "--program", program) as served:
             first = served.begin("/drawing", form(large, [["solids", "65536"]]))
             events = served.events(first)
             next(event for event in events if event["kind"] == "began")

@@ -12,7 +12,7 @@ from drafting.drawing import Origin, written
 
 from .browser import Browser
 from .made import file_of, lines_of_runs, runs, voids
-from .serving import Served
+from .serving import Served, slowed
 from .support import EXAMPLES, draft, needs_command, needs_long, needs_module, needs_program
 from .test_serve import answer_of_example, needs_packages
 
@@ -213,17 +213,21 @@ class Table(unittest.TestCase):
 
     def test_a_search_is_stopped(self) -> None:
         """Of a drawing with 1,500,625 solids, up to 65,536, those that are found are kept once it is stopped."""
-        self.value("document.querySelector('.options').open = true; document.querySelector('[name=solids]').value = '65536'")
-        self.browser.drop(self.made(4))
-        self.browser.until("model.count > 0 && !document.querySelector('.progress').hidden", PATIENCE)
-        self.value("document.querySelector('.stop').focus()")
-        self.browser.key("Enter")
-        self.browser.until("/was stopped/.test(document.querySelector('.told').innerText)", PATIENCE)
-        count = self.value("model.count")
-        self.assertIn(f"stopped: {count:,} solids found", self.text(".told"))
-        self.assertEqual(self.value("new Set(Array.from({length: model.count}, (_, number) => choiceOf(number))).size"), count)
-        self.browser.until(IS_OVER, PATIENCE)
-        self.picture("stopped")
+        with Served("--program", slowed(self.folder)) as served:
+            self.browser.close_tab()
+            self.browser.visit(served.address)
+            self.value("document.querySelector('.options').open = true; document.querySelector('[name=solids]').value = '65536'")
+            self.browser.drop(self.made(4))
+            self.browser.until("model.count > 0 && !document.querySelector('.progress').hidden", PATIENCE)
+            self.value("document.querySelector('.stop').focus()")
+            self.browser.key("Enter")
+            self.browser.until("/was stopped/.test(document.querySelector('.told').innerText)", PATIENCE)
+            count = self.value("model.count")
+            self.assertIn(f"stopped: {count:,} solids found", self.text(".told"))
+            self.assertEqual(self.value("new Set(Array.from({length: model.count}, (_, number) => choiceOf(number))).size"), count)
+            self.browser.until(IS_OVER, PATIENCE)
+            self.picture("stopped")
+            self.browser.close_tab()
 
     @needs_long()
     def test_1225_solids(self) -> None:
