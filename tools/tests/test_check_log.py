@@ -2,7 +2,6 @@
 recon does, and says what the proved program says."""
 import functools
 import itertools
-import os
 import random
 import re
 import subprocess
@@ -335,17 +334,19 @@ class Logs(unittest.TestCase):
                         *(random_drawing(chance) for _ in range(60))):
             kept, place = check_log.read(drawing)
             if all(check_log.grid_of(kept)[0]):
-                pool.append((logs.plain_of(drawing), functools.partial(check_log.State, *check_log.grid_of(kept))))
+                plain = logs.plain_of(drawing)
+                right = [logs.log_of(plain, by_chance).encode() for by_chance in (None, chance, chance)]
+                pool.append((plain, logs.choices_of(plain), right, functools.partial(check_log.State, *check_log.grid_of(kept))))
         taken = 0
         for _ in range(MUTATIONS):
-            plain, state = chance.choice(pool)
-            log = logs.log_of(plain, chance.choice((None, chance))).encode()
+            plain, choices, right, state = chance.choice(pool)
+            log = chance.choice(right)
             for _ in range(chance.choice((1, 1, 1, 2, 3))):
                 log = spoiled(chance, log or b"\n1")
             try:
                 found = check_log.listed(state(), log, 0)
                 text = "".join([f"yes {len(found)}\n", *(f"choice {choice.decode()}\n" for choice in found)])
-                self.assertEqual([choice.decode() for choice in found], logs.choices_of(plain), log)
+                self.assertEqual([choice.decode() for choice in found], choices, log)
                 taken += 1
             except check_log.Wrong as wrong:
                 text = f"log {wrong}\n"
@@ -372,12 +373,8 @@ class Streams(unittest.TestCase):
         status, out, told = self.run_it(CUBE, "--help")
         self.assertEqual((status, out, told[:6]), (2, b"", b"usage:"))
         self.assertEqual(self.run_it(CUBE + RIGHT_CUBE, out="/dev/full"), (6, b"", b""))
-        folder = os.open(EXAMPLES, os.O_RDONLY)
-        try:
-            ended = subprocess.run([sys.executable, str(TOOLS / "check_log.py")], stdin=folder, capture_output=True)
-        finally:
-            os.close(folder)
-        self.assertEqual((ended.returncode, ended.stdout, ended.stderr), (5, b"", b""))
+        closed = subprocess.run(["sh", "-c", 'exec "$0" "$1" <&-', sys.executable, str(TOOLS / "check_log.py")], capture_output=True)
+        self.assertEqual((closed.returncode, closed.stdout, closed.stderr), (5, b"", b""))
 
     def test_inputs_of_no_sense(self) -> None:
         chance = random.Random(5)
