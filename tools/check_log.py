@@ -1,16 +1,12 @@
 #!/usr/bin/env python3
 """Checks a completeness log without recon, of which it uses nothing. A drawing and then its log stand on standard input; what
 `recon check` says of them is written, with its statuses:
-
     recon prove < drawing.dxf > log; cat drawing.dxf log | tools/check_log.py
-
 Behind `yes S` stand the choices of all solids that have these views, whoever wrote the log. To believe that, one has to believe
 what nothing here shows: that such a solid lies in the grid between the drawing's coordinates, and fills each block of it whole
 or not at all and nothing of the outside (Wesley and Markowsky 1981); and what `can_draw` says of two columns, which tools/check
-tries on all short ones. All else is done below by the definitions, in the words of docs/DEFINITIONS.md and docs/FORMAT.md.
-"""
+tries on all short ones. All else is done below by the definitions, in the words of docs/DEFINITIONS.md and docs/FORMAT.md."""
 import itertools
-import os
 import re
 import sys
 from collections.abc import Iterable, Iterator
@@ -26,8 +22,8 @@ GEOMETRY = b"ARC CIRCLE ELLIPSE SPLINE POLYLINE INSERT SOLID 3DFACE".split()
 CODE, NUMERAL = re.compile(rb"-?[0-9]{1,4}"), re.compile(rb"([+-]?)(?=\.?[0-9])([0-9]*)(?:\.([0-9]*))?(?:[Ee]([+-]?)([0-9]+))?")
 NUMBER, PLACE = rb"(0|[1-9][0-9]{0,9})", rb"((?:front|top|side) [lu] (?:0|[1-9][0-9]{0,9}) (?:0|[1-9][0-9]{0,9}))"
 ENTRY, END = re.compile(rb"solid|fail %b|split %b|force %b ([01]) %b" % (PLACE, NUMBER, NUMBER, PLACE)), re.compile(rb"end " + NUMBER)
-Pair = tuple[int, int, bytes, int]  # the number of the code's line, the code, the value, and the place behind it
-Side = tuple[int, int, int, int]  # a straight line of a drawing: from (x, y) to (x, y)
+Pair = tuple[int, int, bytes]  # the number of the code's line, the code, the value
+Side = tuple[int, int, int, int]  # a straight line of a drawing, from (x, y) to (x, y)
 Line = tuple[int, int, int, int]  # a line of the grid: its view, 0 or 1 for level or upright, its position's index, its cell's
 
 class Wrong(Exception):
@@ -39,37 +35,29 @@ def need(holds: object, kind: str, line: int | None = None, code: int | None = N
 
 # ---- the file
 
-def line_at(text: bytes, place: int) -> tuple[bytes, int]:
-    """The line at a place, and the place behind its line feed, which the last line may lack."""
-    end = text.find(b"\n", place) % (len(text) + 1)
-    return text[place:end], end + 1
+def pairs_from(lines: list[bytes], start: int) -> Iterator[Pair]:
+    """The pairs from a place on, without comments. It ends by being left, or at a fault."""
+    for at in range(start, len(lines), 2):
+        pair = [line.removesuffix(b"\r").strip(b" \t") for line in lines[at:at + 2]]
+        need(CODE.fullmatch(pair[0]), "F2 BadCode", at + 1)
+        need(len(pair) == 2, "F3 NoValue", at + 1)
+        if int(pair[0]) != 999:
+            yield at + 1, int(pair[0]), pair[1]
+    need(False, "F4 NoEof", len(lines) + 1)
 
-def pairs_from(text: bytes, place: int, line: int) -> Iterator[Pair]:
-    """The pairs from a place on, at which a line of this number begins; without comments. It ends by being left, or at a fault."""
-    while place < len(text):
-        code, behind = line_at(text, place)
-        code = code.removesuffix(b"\r").strip(b" \t")
-        need(CODE.fullmatch(code), "F2 BadCode", line)
-        need(behind < len(text), "F3 NoValue", line)
-        value, place = line_at(text, behind)
-        if int(code) != 999:
-            yield line, int(code), value.removesuffix(b"\r").strip(b" \t"), place
-        line += 2
-    need(False, "F4 NoEof", line)
-
-def own_pairs(text: bytes, entry: Pair) -> Iterator[Pair]:
+def own_pairs(lines: list[bytes], entry: Pair) -> Iterator[Pair]:
     """The pairs of an entry, without those that belong to an application."""
     inside = False
-    for pair in pairs_from(text, entry[3], entry[0] + 2):
-        if pair[1] == 0:
+    for line, code, value in pairs_from(lines, entry[0] + 1):
+        if code == 0:
             return
-        if inside or pair[1] == 102 and pair[2].startswith(b"{"):
-            inside = not inside or pair[1:3] != (102, b"}")
+        if inside or code == 102 and value.startswith(b"{"):
+            inside = not inside or code != 102 or value != b"}"
         else:
-            yield pair
+            yield line, code, value
 
 def whole(line: int, code: int, value: bytes) -> int:
-    """A whole number, exactly; digits and exponents may be as long as they like."""
+    """A whole number, exactly; its digits and its exponent may be as long as they like."""
     found = NUMERAL.fullmatch(value)
     need(found, "F6 BadNumber", line + 1, code)
     digits, exponent = (found[2] + (found[3] or b"")).lstrip(b"0"), (found[5] or b"").lstrip(b"0") or b"0"
@@ -79,9 +67,9 @@ def whole(line: int, code: int, value: bytes) -> int:
     need(len(short) + power <= 10 and int(short) * 10 ** power <= FARTHEST, "F8 TooFar", line + 1, code)
     return int(found[1] + short) * 10 ** power
 
-def sides_of_line(text: bytes, entry: Pair) -> Iterator[Side]:
+def sides_of_line(lines: list[bytes], entry: Pair) -> Iterator[Side]:
     ends: dict[int, int] = {}
-    for line, code, value, _ in own_pairs(text, entry):
+    for line, code, value in own_pairs(lines, entry):
         if code in (10, 20, 11, 21):
             need(code not in ends, "F10 Repeated", line, code)
             ends[code] = whole(line, code, value)
@@ -89,33 +77,30 @@ def sides_of_line(text: bytes, entry: Pair) -> Iterator[Side]:
         need(code in ends, "F9 Missing", entry[0], code)
     yield ends[10], ends[20], ends[11], ends[21]
 
-def sides_of_polyline(text: bytes, entry: Pair) -> Iterator[Side]:
+def sides_of_polyline(lines: list[bytes], entry: Pair) -> Iterator[Side]:
     first = last = right = flags = None
-    count = 0
-    for line, code, value, _ in own_pairs(text, entry):
+    for line, code, value in own_pairs(lines, entry):
         if code == 10:
             need(right is None, "F9 Missing", entry[0], 20)
             right = whole(line, code, value)
         elif code == 20:
-            need(count or right is not None, "F9 Missing", entry[0], 10)
+            need(last or right is not None, "F9 Missing", entry[0], 10)
             need(right is not None, "F10 Repeated", line, code)
-            before, last, right, count = last, (right, whole(line, code, value)), None, count + 1
+            before, last, right = last, (right, whole(line, code, value)), None
             first = first or last
-            if before:
-                yield *before, *last
+            yield from [(*before, *last)] if before else []
         elif code == 42:
             need(NUMERAL.fullmatch(value), "F6 BadNumber", line + 1, code)
             need(not re.match(rb"[^1-9Ee]*[1-9]", value), "F19 Curved", entry[0])
         elif code == 70 and flags is None:
             flags = whole(line, code, value)
     need(right is None, "F9 Missing", entry[0], 20)
-    if count > 1 and flags and flags % 2:
-        yield *last, *first
+    yield from [(*last, *first)] if first is not last and flags and flags % 2 else []
 
-def judge(text: bytes, section: bytes, entry: Pair, layers: dict[bytes, bytes], kept: list[tuple[int, int, Side]]) -> None:
+def judge(lines: list[bytes], section: bytes, entry: Pair, layers: dict[bytes, bytes], kept: list[tuple[int, int, Side]]) -> None:
     """What an entry that has ended tells: the linetype of a layer, or lines, each with its view and style."""
     first: dict[int, bytes] = {}
-    for _, code, value, _ in own_pairs(text, entry):
+    for _, code, value in own_pairs(lines, entry):
         first.setdefault(code, value)
     kind, layer, linetype = entry[2].upper(), first.get(8, b"").lower(), first.get(6, b"BYLAYER").upper()
     if section == b"TABLES" and kind == b"LAYER" and 2 in first:
@@ -123,31 +108,25 @@ def judge(text: bytes, section: bytes, entry: Pair, layers: dict[bytes, bytes], 
     if section == b"TABLES" or layer not in VIEWS or first.get(67) == b"1":
         return
     need(kind not in GEOMETRY, "F13 Geometry", entry[0])
-    if kind not in (b"LINE", b"LWPOLYLINE"):
-        return
+    sides, oblique = {b"LINE": sides_of_line, b"LWPOLYLINE": sides_of_polyline}.get(kind), False
     style = LINETYPES.get(layers.get(layer, b"CONTINUOUS") if linetype == b"BYLAYER" else linetype)
-    need(style is not None, "F12 Linetype", entry[0])
-    oblique = False
-    for side in () if style == CENTRE else sides_of_line(text, entry) if kind == b"LINE" else sides_of_polyline(text, entry):
+    need(not sides or style is not None, "F12 Linetype", entry[0])
+    for side in sides(lines, entry) if sides and style != CENTRE else []:
         oblique |= side[0] != side[2] and side[1] != side[3]
-        if len(kept) <= MOST_LINES:
-            kept.append((VIEWS.index(layer), style, side))
+        kept += [(VIEWS.index(layer), style, side)] if len(kept) <= MOST_LINES else []
     need(not oblique, "F11 Oblique", entry[0])
     need(len(kept) <= MOST_LINES, "F15 TooManyLines", entry[0])
 
-def read(text: bytes) -> tuple[list[tuple[int, int, Side]], int]:
-    """The lines that a drawing's file keeps, and the place behind its end pair."""
-    start, naming = 3 if text.startswith(b"\xef\xbb\xbf") else 0, b"\n"
-    need(not text.startswith(b"AutoCAD Binary DXF", start), "F1 Binary", 1)
-    section, entry, layers, kept = None, None, {}, []
-    for pair in pairs_from(text, start, 1):
-        line, code, value, place = pair
+def read(lines: list[bytes]) -> tuple[list[tuple[int, int, Side]], int]:
+    """The lines that a drawing's file keeps, and the number of its lines up to its end pair."""
+    section, naming, entry, layers, kept = None, b"\n", None, {}, []
+    for line, code, value in pairs_from(lines, 0):
         word = value.upper() if code == 0 else b""
         if entry and code == 0:
-            judge(text, section, entry, layers, kept)
+            judge(lines, section, entry, layers, kept)
             entry = None
         if section is None and word == b"EOF":
-            return kept, place
+            return kept, line + 1
         may_stand = word == b"SECTION" if section is None else code == 2 if section == naming else word not in (b"SECTION", b"EOF")
         need(may_stand, "F5 BadSection", line)
         if section is None or section == naming:
@@ -155,7 +134,7 @@ def read(text: bytes) -> tuple[list[tuple[int, int, Side]], int]:
         elif word == b"ENDSEC":
             section = None
         elif code == 0 and section in (b"TABLES", b"ENTITIES"):
-            entry = pair
+            entry = line, code, value
 
 # ---- the grid and its blocks
 
@@ -212,7 +191,7 @@ def flood(found: list[int], fresh: bytearray, steps: list[tuple[int, bytearray]]
 def blocks_of(sizes: list[int], strides: list[int], styles: dict[Line, int]) -> tuple[list[int | None], int]:
     """The block of each cell of the grid, and how many there are: by pseudo edges, virtual faces, and what is joined past these."""
     points = [at[::-1] for at in itertools.product(*(range(size + 1) for size in reversed(sizes)))]
-    drawn, edges, walls, number = [set(), set(), set()], [bytearray(len(points)) for _ in sizes], [], 0
+    drawn, edges, walls, block = [set(), set(), set()], [bytearray(len(points)) for _ in sizes], [], [None] * len(points)
     for (view, way, at, cell), style in styles.items():
         if style:
             drawn[view] |= {(at, cell), (at, cell + 1)} if way else {(cell, at), (cell + 1, at)}
@@ -222,20 +201,18 @@ def blocks_of(sizes: list[int], strides: list[int], styles: dict[Line, int]) -> 
         edges[axis][place] = at[axis] < sizes[axis] and vertex[place + strides[axis]] and all(
             styles[(view, 0, at[up], at[right]) if axis == right else (view, 1, at[right], at[up])]
             for view, (right, up, _, _) in enumerate(FRAMES) if axis in (right, up))
-    for axis in range(3):
-        one, other = (it for it in range(3) if it != axis)
+    for one, other in (1, 2), (0, 2), (0, 1):
         faces = bytearray(at[one] < sizes[one] and at[other] < sizes[other] for at in points)
         flood([place for place, face in enumerate(faces) if not face], faces, [(strides[one], edges[other]), (strides[other], edges[one])])
-        walls.append(faces)  # the virtual ones: those that no way out of the box was found from
+        walls.append(faces)  # the virtual ones: those that no way out of the box leads from
     cells = bytearray(all(at[axis] < sizes[axis] for axis in range(3)) for at in points)
-    steps, block = list(zip(strides, walls)), [None] * len(points)
-    flood([place for place, cell in enumerate(cells) if not cell], cells, steps)
+    flood([place for place, cell in enumerate(cells) if not cell], cells, list(zip(strides, walls)))
     for number in itertools.count():
         least = cells.find(1)
         if least < 0:
             return block, number
         cells[least] = 0
-        for place in flood([least], cells, steps):
+        for place in flood([least], cells, list(zip(strides, walls))):
             block[place] = number
 
 # ---- the log
@@ -251,8 +228,9 @@ def can_draw(style: int, full: int, may: int, full2: int, may2: int) -> bool:
     return both != 0 and not sure & (both & -both) - 1 and differ // (both & -both) > 1
 
 class State:
-    """What is decided of the blocks. A line demands its style of the columns of blocks at its two sides, and lines that demand the
-    same are one demand; of each column it is known which cells are full, and which may be, and the demands that can't be met are lost."""
+    """What is decided of the blocks. A line demands a style of the columns of blocks at its two sides, and lines that demand the
+    same are one demand. Of each column it is known which cells are full, and which may be; demands that can't be met are lost."""
+
     def __init__(self, sizes: list[int], styles: dict[Line, int]) -> None:
         strides = [1, sizes[0] + 1, (sizes[0] + 1) * (sizes[1] + 1)]
         block, count = blocks_of(sizes, strides, styles)
@@ -267,102 +245,85 @@ class State:
             sides = (places.get((view, it, cell) if way else (view, cell, it), 0) for it in (at, at - 1))
             name = b"%b %c %d %d" % (VIEWS[view], b"lu"[way], at, cell)
             self.lines[name] = demands.setdefault((style, *sides), len(demands))
-        self.demands, self.value, self.trail, self.lost = list(demands), [None] * count, [], set()
-        self.full, self.may, self.cells, self.touched = [0] * len(columns), [0] * len(columns), [{} for _ in self.value], []
-        for column, number in columns.items():
-            for depth, at in enumerate(column):
-                if at is not None:
-                    self.may[number] |= 1 << depth
-                    self.cells[at][number] = self.cells[at].get(number, 0) | 1 << depth
-        beside: list[list[int]] = [[] for _ in columns]
-        for number, (_, one, other) in enumerate(self.demands):
-            beside[one].append(number)
-            beside[other].append(number)
-        self.touched = [{number for column in cells for number in beside[column]} for cells in self.cells]
-        self.lost = {number for number in range(len(demands)) if not self.is_met(number)}
+        self.demands, self.value, self.lost = list(demands), [None] * count, set()
+        self.cells, self.beside, self.full, self.may = [{} for _ in self.value], [[] for _ in columns], [0] * len(columns), []
+        for number, column in enumerate(columns):
+            self.may.append(sum(1 << depth for depth, at in enumerate(column) if at is not None))
+            for at in set(column) - {None}:
+                self.cells[at][number] = sum(1 << depth for depth, it in enumerate(column) if it == at)
+        for number, (_, *sides) in enumerate(self.demands):
+            for column in sides:
+                self.beside[column].append(number)
+        self.look(range(len(demands)))
 
-    def is_met(self, demand: int) -> bool:
-        style, one, other = self.demands[demand]
-        return can_draw(style, self.full[one], self.may[one], self.full[other], self.may[other])
+    def look(self, demands: Iterable[int]) -> None:
+        for demand in demands:
+            style, one, other = self.demands[demand]
+            is_met = can_draw(style, self.full[one], self.may[one], self.full[other], self.may[other])
+            (self.lost.discard if is_met else self.lost.add)(demand)
 
-    def flip(self, block: int, full: bool) -> None:
+    def turn(self, block: int, full: bool, value: bool | None) -> None:
+        """Decides a block as full or empty, or takes back that it is so decided."""
+        self.value[block] = value
         for column, cells in self.cells[block].items():
             (self.full if full else self.may)[column] ^= cells
+        self.look({demand for column in self.cells[block] for demand in self.beside[column]})
 
-    def decide(self, block: int, full: bool) -> None:
-        self.flip(block, full)
-        lost = {demand for demand in self.touched[block] if demand not in self.lost and not self.is_met(demand)}
-        self.value[block], self.lost = full, self.lost | lost
-        self.trail.append((block, full, lost))
-
-    def undo(self) -> int:
-        block, full, lost = self.trail.pop()
-        self.flip(block, full)
-        self.value[block], self.lost = None, self.lost - lost
-        return block
-
-    def excludes(self, demand: int, block: int, full: bool) -> bool:
+    def excludes(self, place: bytes, block: int, full: bool) -> bool:
         """In some cell of the undecided block beside the line, this value leaves no columns that draw its style."""
-        style, one, other = self.demands[demand]
-        for here, there in (one, other), (other, one):
-            for depth in range(self.cells[block].get(here, 0).bit_length()):
-                cell = self.cells[block][here] & 1 << depth
-                masks = self.full[here] | cell * full, self.may[here] & ~(cell * (not full)), self.full[there], self.may[there]
-                if cell and not can_draw(style, *masks):
-                    return True
-        return False
+        style, one, other = self.demands[self.lines[place]]
+        return any(
+            not can_draw(style, self.full[here] | cell * full, self.may[here] & ~(cell * (not full)), self.full[there], self.may[there])
+            for here, there in ((one, other), (other, one)) for depth in range(self.cells[block].get(here, 0).bit_length())
+            if (cell := self.cells[block][here] & 1 << depth))
 
-def line_of_log(text: bytes, place: int, number: int) -> tuple[bytes, int]:
-    need(place < len(text), "G7 Short", number)
-    return line_at(text, place)
-
-def listed(state: State, text: bytes, place: int) -> list[bytes]:
-    """The choices that a log lists, in the stated order."""
-    (line, place), number, splits, found, is_open = line_of_log(text, place, 1), 1, [], [], True
-    need(line == b"log 1 blocks %d" % len(state.value), "G1 BadLine", number)
-    while is_open:
-        number += 1
-        line, place = line_of_log(text, place, number)
-        entry = ENTRY.fullmatch(line)
+def listed(state: State, log: list[bytes]) -> list[bytes]:
+    """The choices that the lines of a log list, in the stated order."""
+    decided, splits, found, is_open = [], [], [], True
+    for number, line in enumerate(log, 1):
+        if number == 1:
+            need(line == b"log 1 blocks %d" % len(state.value), "G1 BadLine", 1)
+            continue
+        entry = (ENTRY if is_open else END).fullmatch(line)
         need(entry, "G1 BadLine", number)
+        if not is_open:
+            need(int(entry[1]) == len(found), "G6 BadCount", number)
+            need(number == len(log), "G8 Long", number + 1)
+            return sorted(found, reverse=True)
         fails, split, forced, value, by = entry.groups()
         if split or forced:
             block, full = int(split or forced), value != b"0"
             need(block < len(state.value) and state.value[block] is None, "G2 BadBlock", number)
-            need(split or by in state.lines and state.excludes(state.lines[by], block, not full), "G3 Unproved", number)
-            splits += [len(state.trail)] if split else []
-            state.decide(block, full)
-            continue
-        need(not fails or state.lines.get(fails) in state.lost, "G3 Unproved", number)
-        if not fails:
-            need(None not in state.value and not state.lost, "G4 Unsolid", number)
-            need(len(found) < MOST_LISTED, "G5 TooMany", number)
-            found.append(bytes(48 + full for full in state.value))
-        is_open = bool(splits)
-        while splits and len(state.trail) > splits[-1]:
-            block = state.undo()
-        if splits:  # the other side of the newest one
-            splits.pop()
-            state.decide(block, False)
-    line, place = line_of_log(text, place, number + 1)
-    end = END.fullmatch(line)
-    need(end, "G1 BadLine", number + 1)
-    need(int(end[1]) == len(found), "G6 BadCount", number + 1)
-    need(place >= len(text), "G8 Long", number + 2)
-    return sorted(found, reverse=True)
+            need(split or by in state.lines and state.excludes(by, block, not full), "G3 Unproved", number)
+            splits += [len(decided)] if split else []
+        else:
+            need(not fails or state.lines.get(fails) in state.lost, "G3 Unproved", number)
+            need(fails or None not in state.value and not state.lost, "G4 Unsolid", number)
+            need(fails or len(found) < MOST_LISTED, "G5 TooMany", number)
+            found += [] if fails else [bytes(48 + full for full in state.value)]
+            is_open, full = len(splits) > 0, False  # on to the other side of the newest split
+            while splits and len(decided) > splits[-1]:
+                block, was = decided.pop()
+                state.turn(block, was, None)
+            splits = splits[:-1]
+        if is_open:
+            decided.append((block, full))
+            state.turn(block, full, full)
+    need(False, "G7 Short", len(log) + 1)
 
 def answer(text: bytes) -> tuple[int, Iterable[bytes]]:
     """The status for a drawing and its log, and what is written."""
+    status, word = FAULT, "fault"
     try:
         need(len(text) <= MOST_BYTES, "F16 TooLong")
-        kept, place = read(text)
-        state = State(*grid_of(kept))
-    except Wrong as fault:
-        return FAULT, [b"fault %b\n" % str(fault).encode()]
-    try:
-        choices = listed(state, text, place)
-    except Wrong as refusal:
-        return NO_LOG, [b"log %b\n" % str(refusal).encode()]
+        lines = text.removeprefix(b"\xef\xbb\xbf").split(b"\n")
+        need(not lines[0].startswith(b"AutoCAD Binary DXF"), "F1 Binary", 1)
+        lines = lines if lines[-1] else lines[:-1]
+        kept, place = read(lines)
+        state, status, word = State(*grid_of(kept)), NO_LOG, "log"
+        choices = listed(state, lines[place:])
+    except Wrong as wrong:
+        return status, [f"{word} {wrong}\n".encode()]
     return YES, itertools.chain([b"yes %d\n" % len(choices)], (b"choice %b\n" % choice for choice in choices))
 
 def main(words: list[str]) -> int:
@@ -372,12 +333,11 @@ def main(words: list[str]) -> int:
     try:
         with open(0, "rb", closefd=False) as source:
             status, told = answer(source.read(MOST_BYTES + 1))
-    except (MemoryError, OSError) as fault:
-        return NO_MEMORY if isinstance(fault, MemoryError) else NO_INPUT
+    except (MemoryError, OSError) as failed:
+        return NO_MEMORY if isinstance(failed, MemoryError) else NO_INPUT
     try:
-        for piece in told:
-            while piece:
-                piece = piece[os.write(1, piece):]
+        with open(1, "wb", closefd=False) as sink:
+            sink.writelines(told)
     except OSError:
         return NO_OUTPUT
     return status
