@@ -9,7 +9,7 @@ tries on all short ones. All else is done below by the definitions, in the words
 import itertools
 import re
 import sys
-from collections.abc import Iterable, Iterator
+from collections.abc import Iterable, Iterator, Sequence
 
 MOST_BYTES, MOST_LINES, MOST_PLACES, MOST_BLOCKS, MOST_LISTED, FARTHEST = 134_217_728, 100_000, 64, 4_096, 65_536, 1_000_000_000
 YES, FAULT, USAGE, NO_INPUT, NO_OUTPUT, NO_MEMORY, NO_LOG = 0, 1, 2, 5, 6, 7, 9
@@ -127,8 +127,7 @@ def read(lines: list[bytes]) -> tuple[list[tuple[int, int, Side]], int]:
             entry = None
         if section is None and word == b"EOF":
             return kept, line + 1
-        may_stand = word == b"SECTION" if section is None else code == 2 if section == naming else word not in (b"SECTION", b"EOF")
-        need(may_stand, "F5 BadSection", line)
+        need(word == b"SECTION" if section is None else code == 2 if section == naming else word not in (b"SECTION", b"EOF"), "F5 BadSection", line)
         if section is None or section == naming:
             section = value.upper() if section else naming
         elif word == b"ENDSEC":
@@ -174,46 +173,42 @@ def grid_of(kept: list[tuple[int, int, Side]]) -> tuple[list[int], dict[Line, in
             styles[view, way, number, cell] = next(here, BLANK)
     return [len(ends) - 1 for ends in marks], styles
 
-def flood(found: list[int], fresh: bytearray, steps: list[tuple[int, bytearray]]) -> list[int]:
-    """The found places and all fresh ones that are joined to them, which are fresh no more. A step passes no wall: that where it leads,
-    or, backwards, that where it starts. One place more than a row has cells stands for what lies round it, at both its ends."""
-    for at in found:
-        for step, wall in steps:
-            there, back = (at + step) % len(fresh), (at - step) % len(fresh)
-            if fresh[there] and not wall[there]:
-                fresh[there] = 0
-                found.append(there)
-            if fresh[back] and not wall[at]:
-                fresh[back] = 0
-                found.append(back)
-    return found
+def parts_of(inside: bytearray, steps: list[tuple[int, Sequence[int]]]) -> list[int]:
+    """For each place 0 where it is joined to the outside, else the number of its part, from 1 on by their first places. A step passes no
+    wall: that where it leads, or, backwards, that where it starts. One place more than a row has cells lies round it, at both ends."""
+    parts, found, number = [0] * len(inside), [at for at, it in enumerate(inside) if not it], 0
+    while found:
+        for at in found:
+            parts[at] = number
+            for step, wall in steps:
+                there, back = (at + step) % len(parts), (at - step) % len(parts)
+                if inside[there] and not wall[there]:
+                    inside[there] = 0
+                    found.append(there)
+                if inside[back] and not wall[at]:
+                    inside[back] = 0
+                    found.append(back)
+        number, found = number + 1, [inside.find(1)] if any(inside) else []
+        inside[found[0] if found else 0] = 0
+    return parts
 
-def blocks_of(sizes: list[int], strides: list[int], styles: dict[Line, int]) -> tuple[list[int | None], int]:
-    """The block of each cell of the grid, and how many there are: by pseudo edges, virtual faces, and what is joined past these."""
+def blocks_of(sizes: list[int], strides: list[int], styles: dict[Line, int]) -> list[int]:
+    """For each cell 0 outside, else the number of its block, from 1: by pseudo edges, virtual faces, and what is joined past these."""
     points = [at[::-1] for at in itertools.product(*(range(size + 1) for size in reversed(sizes)))]
-    drawn, edges, walls, block = [set(), set(), set()], [bytearray(len(points)) for _ in sizes], [], [None] * len(points)
-    for (view, way, at, cell), style in styles.items():
-        if style:
-            drawn[view] |= {(at, cell), (at, cell + 1)} if way else {(cell, at), (cell + 1, at)}
+    drawn, edges, walls = [set(), set(), set()], [bytearray(len(points)) for _ in sizes], []
+    for view, way, at, cell in (line for line, style in styles.items() if style):
+        drawn[view] |= {(at, cell), (at, cell + 1)} if way else {(cell, at), (cell + 1, at)}
     vertex = [all((at[right], at[up]) in drawn[view] for view, (right, up, _, _) in enumerate(FRAMES)) for at in points]
     for place, axis in itertools.product(itertools.compress(range(len(points)), vertex), range(3)):
         at = points[place]
         edges[axis][place] = at[axis] < sizes[axis] and vertex[place + strides[axis]] and all(
             styles[(view, 0, at[up], at[right]) if axis == right else (view, 1, at[right], at[up])]
             for view, (right, up, _, _) in enumerate(FRAMES) if axis in (right, up))
-    for one, other in (1, 2), (0, 2), (0, 1):
+    for one, other in (1, 2), (0, 2), (0, 1):  # across the third axis
         faces = bytearray(at[one] < sizes[one] and at[other] < sizes[other] for at in points)
-        flood([place for place, face in enumerate(faces) if not face], faces, [(strides[one], edges[other]), (strides[other], edges[one])])
-        walls.append(faces)  # the virtual ones: those that no way out of the box leads from
+        walls.append(parts_of(faces, [(strides[one], edges[other]), (strides[other], edges[one])]))
     cells = bytearray(all(at[axis] < sizes[axis] for axis in range(3)) for at in points)
-    flood([place for place, cell in enumerate(cells) if not cell], cells, list(zip(strides, walls)))
-    for number in itertools.count():
-        least = cells.find(1)
-        if least < 0:
-            return block, number
-        cells[least] = 0
-        for place in flood([least], cells, list(zip(strides, walls))):
-            block[place] = number
+    return parts_of(cells, list(zip(strides, walls)))
 
 # ---- the log
 
@@ -233,9 +228,9 @@ class State:
 
     def __init__(self, sizes: list[int], styles: dict[Line, int]) -> None:
         strides = [1, sizes[0] + 1, (sizes[0] + 1) * (sizes[1] + 1)]
-        block, count = blocks_of(sizes, strides, styles)
-        need(count <= MOST_BLOCKS, f"F18 TooManyBlocks count {count}")
-        columns, demands, places, self.lines = {(): 0}, {}, {}, {}
+        block = blocks_of(sizes, strides, styles)
+        need(max(block) <= MOST_BLOCKS, f"F18 TooManyBlocks count {max(block)}")
+        columns, demands, places, self.lines, self.value = {(): 0}, {}, {}, {}, [None] * max(block)
         for view, (right, up, sight, forward) in enumerate(FRAMES):
             for one, other in itertools.product(range(sizes[right]), range(sizes[up])):
                 start = one * strides[right] + other * strides[up]
@@ -245,12 +240,11 @@ class State:
             sides = (places.get((view, it, cell) if way else (view, cell, it), 0) for it in (at, at - 1))
             name = b"%b %c %d %d" % (VIEWS[view], b"lu"[way], at, cell)
             self.lines[name] = demands.setdefault((style, *sides), len(demands))
-        self.demands, self.value, self.lost = list(demands), [None] * count, set()
-        self.cells, self.beside, self.full, self.may = [{} for _ in self.value], [[] for _ in columns], [0] * len(columns), []
+        self.demands, self.lost, self.cells, self.beside = list(demands), set(), [{} for _ in self.value], [[] for _ in columns]
+        self.full, self.may = [0] * len(columns), [sum(1 << depth for depth, at in enumerate(column) if at) for column in columns]
         for number, column in enumerate(columns):
-            self.may.append(sum(1 << depth for depth, at in enumerate(column) if at is not None))
-            for at in set(column) - {None}:
-                self.cells[at][number] = sum(1 << depth for depth, it in enumerate(column) if it == at)
+            for at in set(column) - {0}:
+                self.cells[at - 1][number] = sum(1 << depth for depth, it in enumerate(column) if it == at)
         for number, (_, *sides) in enumerate(self.demands):
             for column in sides:
                 self.beside[column].append(number)

@@ -332,7 +332,7 @@ class Logs(unittest.TestCase):
         pool = []
         for drawing in (CUBE, HOLLOW, *((EXAMPLES / f"{name}.dxf").read_bytes() for name in ("quartered_cube", "eight_voids", "clevis", "pierced_plate")),
                         *(random_drawing(chance) for _ in range(60))):
-            kept, place = check_log.read(drawing)
+            kept, _ = check_log.read(drawing.removesuffix(b"\n").split(b"\n"))
             if all(check_log.grid_of(kept)[0]):
                 plain = logs.plain_of(drawing)
                 right = [logs.log_of(plain, by_chance).encode() for by_chance in (None, chance, chance)]
@@ -343,8 +343,9 @@ class Logs(unittest.TestCase):
             log = chance.choice(right)
             for _ in range(chance.choice((1, 1, 1, 2, 3))):
                 log = spoiled(chance, log or b"\n1")
+            lines = log.split(b"\n")
             try:
-                found = check_log.listed(state(), log, 0)
+                found = check_log.listed(state(), lines if lines[-1] else lines[:-1])
                 text = "".join([f"yes {len(found)}\n", *(f"choice {choice.decode()}\n" for choice in found)])
                 self.assertEqual([choice.decode() for choice in found], choices, log)
                 taken += 1
@@ -415,7 +416,7 @@ class BesideTheProgram(unittest.TestCase):
                 if status == 0 and not said(drawing, log.encode())[1].startswith("yes"):
                     self.fail((drawing, log))
                 tried = [log.encode(), *(spoiled(chance, log.encode() or b"\n1") for _ in range(3))]
-                if status == 0 and all(check_log.grid_of(check_log.read(drawing)[0])[0]):
+                if status == 0 and all(check_log.grid_of(check_log.read(drawing.removesuffix(b"\n").split(b"\n"))[0])[0]):
                     plain = logs.plain_of(drawing)
                     self.assertEqual(log, logs.log_of(plain))
                     tried += [other := logs.log_of(plain, chance).encode(), spoiled(chance, other)]
