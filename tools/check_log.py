@@ -1,11 +1,10 @@
 #!/usr/bin/env python3
-"""Checks a completeness log without recon, of which it uses nothing. A drawing and then its log stand on standard input; what
-`recon check` says of them is written, with its statuses:
-    recon prove < drawing.dxf > log; cat drawing.dxf log | tools/check_log.py
-Behind `yes S` stand the choices of all solids that have these views, whoever wrote the log. To believe that, one has to believe
-what nothing here shows: that such a solid lies in the grid between the drawing's coordinates, and fills each block of it whole
-or not at all and nothing of the outside (Wesley and Markowsky 1981); and what `can_draw` says of two columns, which tools/check
-tries on all short ones. All else is done below by the definitions, in the words of docs/DEFINITIONS.md and docs/FORMAT.md."""
+"""Checks a completeness log without recon, of which it uses nothing: a drawing and behind it its log stand on standard input, and
+what `recon check` says of them is written, with its statuses: `cat drawing.dxf log | tools/check_log.py`. Behind `yes S` stand the
+choices of all solids that have these views, whoever wrote the log. To believe that, one has to believe what nothing here shows:
+that such a solid lies in the grid between the drawing's coordinates, and fills each block of it whole or not at all and nothing of
+the outside (Wesley and Markowsky 1981); and what `can_draw` says of two columns, which tools/check tries on all short ones. All
+else is done below by the definitions, in the words of docs/DEFINITIONS.md and docs/FORMAT.md, and all of it in 300 lines."""
 import itertools
 import re
 import sys
@@ -22,9 +21,9 @@ GEOMETRY = b"ARC CIRCLE ELLIPSE SPLINE POLYLINE INSERT SOLID 3DFACE".split()
 CODE, NUMERAL = re.compile(rb"-?[0-9]{1,4}"), re.compile(rb"([+-]?)(?=\.?[0-9])([0-9]*)(?:\.([0-9]*))?(?:[Ee]([+-]?)([0-9]+))?")
 NUMBER, PLACE = rb"(0|[1-9][0-9]{0,9})", rb"((?:front|top|side) [lu] (?:0|[1-9][0-9]{0,9}) (?:0|[1-9][0-9]{0,9}))"
 ENTRY, END = re.compile(rb"solid|fail %b|split %b|force %b ([01]) %b" % (PLACE, NUMBER, NUMBER, PLACE)), re.compile(rb"end " + NUMBER)
-Pair = tuple[int, int, bytes]  # the number of the code's line, the code, the value
-Side = tuple[int, int, int, int]  # a straight line of a drawing, from (x, y) to (x, y)
-Line = tuple[int, int, int, int]  # a line of the grid: its view, 0 or 1 for level or upright, its position's index, its cell's
+# A pair: its code's line, code and value. A straight line of a file: its view, its style, and its ends as x, y, x, y. A line of the
+# grid: its view, 0 or 1 for level or upright, its position's index and its cell's.
+Pair, Kept, Line = tuple[int, int, bytes], tuple[int, int, tuple[int, int, int, int]], tuple[int, int, int, int]
 
 class Wrong(Exception):
     """A fault of the drawing, or what is wrong with the log: its text."""
@@ -67,7 +66,7 @@ def whole(line: int, code: int, value: bytes) -> int:
     need(len(short) + power <= 10 and int(short) * 10 ** power <= FARTHEST, "F8 TooFar", line + 1, code)
     return int(found[1] + short) * 10 ** power
 
-def sides_of_line(lines: list[bytes], entry: Pair) -> Iterator[Side]:
+def sides_of_line(lines: list[bytes], entry: Pair) -> Iterator[tuple[int, int, int, int]]:
     ends: dict[int, int] = {}
     for line, code, value in own_pairs(lines, entry):
         if code in (10, 20, 11, 21):
@@ -77,7 +76,7 @@ def sides_of_line(lines: list[bytes], entry: Pair) -> Iterator[Side]:
         need(code in ends, "F9 Missing", entry[0], code)
     yield ends[10], ends[20], ends[11], ends[21]
 
-def sides_of_polyline(lines: list[bytes], entry: Pair) -> Iterator[Side]:
+def sides_of_polyline(lines: list[bytes], entry: Pair) -> Iterator[tuple[int, int, int, int]]:
     first = last = right = flags = None
     for line, code, value in own_pairs(lines, entry):
         if code == 10:
@@ -97,7 +96,7 @@ def sides_of_polyline(lines: list[bytes], entry: Pair) -> Iterator[Side]:
     need(right is None, "F9 Missing", entry[0], 20)
     yield from [(*last, *first)] if first is not last and flags and flags % 2 else []
 
-def judge(lines: list[bytes], section: bytes, entry: Pair, layers: dict[bytes, bytes], kept: list[tuple[int, int, Side]]) -> None:
+def judge(lines: list[bytes], section: bytes, entry: Pair, layers: dict[bytes, bytes], kept: list[Kept]) -> None:
     """What an entry that has ended tells: the linetype of a layer, or lines, each with its view and style."""
     first: dict[int, bytes] = {}
     for _, code, value in own_pairs(lines, entry):
@@ -117,14 +116,13 @@ def judge(lines: list[bytes], section: bytes, entry: Pair, layers: dict[bytes, b
     need(not oblique, "F11 Oblique", entry[0])
     need(len(kept) <= MOST_LINES, "F15 TooManyLines", entry[0])
 
-def read(lines: list[bytes]) -> tuple[list[tuple[int, int, Side]], int]:
+def read(lines: list[bytes]) -> tuple[list[Kept], int]:
     """The lines that a drawing's file keeps, and the number of its lines up to its end pair."""
     section, naming, entry, layers, kept = None, b"\n", None, {}, []
     for line, code, value in pairs_from(lines, 0):
         word = value.upper() if code == 0 else b""
         if entry and code == 0:
-            judge(lines, section, entry, layers, kept)
-            entry = None
+            entry = judge(lines, section, entry, layers, kept)
         if section is None and word == b"EOF":
             return kept, line + 1
         need(word == b"SECTION" if section is None else code == 2 if section == naming else word not in (b"SECTION", b"EOF"), "F5 BadSection", line)
@@ -150,7 +148,7 @@ def runs(stretches: list[tuple[int, int, int]]) -> list[tuple[int, int, int]]:
             start, now = at, style
     return found
 
-def grid_of(kept: list[tuple[int, int, Side]]) -> tuple[list[int], dict[Line, int]]:
+def grid_of(kept: list[Kept]) -> tuple[list[int], dict[Line, int]]:
     """How many cells each axis has, and the style of each line of the grid."""
     rows, marks, styles = {}, [set(), set(), set()], {}
     for view, name in enumerate(VIEWS):
@@ -169,27 +167,25 @@ def grid_of(kept: list[tuple[int, int, Side]]) -> tuple[list[int], dict[Line, in
     for view, way in itertools.product(range(3), range(2)):
         across, along = (sorted(marks[FRAMES[view][it]]) for it in (1 - way, way))
         for (number, at), cell in itertools.product(enumerate(across), range(len(along) - 1)):
-            here = (style for low, high, style in rows.get((view, way, at), ()) if low <= along[cell] < high)
-            styles[view, way, number, cell] = next(here, BLANK)
+            styles[view, way, number, cell] = next((it for low, high, it in rows.get((view, way, at), ()) if low <= along[cell] < high), BLANK)
     return [len(ends) - 1 for ends in marks], styles
 
 def parts_of(inside: bytearray, steps: list[tuple[int, Sequence[int]]]) -> list[int]:
     """For each place 0 where it is joined to the outside, else the number of its part, from 1 on by their first places. A step passes no
     wall: that where it leads, or, backwards, that where it starts. One place more than a row has cells lies round it, at both ends."""
-    parts, found, number = [0] * len(inside), [at for at, it in enumerate(inside) if not it], 0
+    steps = [*steps, *((-step, wall[step:] + wall[:step]) for step, wall in steps)]
+    parts, found, number, least = [0] * len(inside), [at for at, it in enumerate(inside) if not it], 0, 0
     while found:
         for at in found:
             parts[at] = number
             for step, wall in steps:
-                there, back = (at + step) % len(parts), (at - step) % len(parts)
+                there = (at + step) % len(parts)
                 if inside[there] and not wall[there]:
                     inside[there] = 0
                     found.append(there)
-                if inside[back] and not wall[at]:
-                    inside[back] = 0
-                    found.append(back)
-        number, found = number + 1, [inside.find(1)] if any(inside) else []
-        inside[found[0] if found else 0] = 0
+        number, least = number + 1, inside.find(1, least)
+        found = [least] if least >= 0 else []
+        inside[least] = 0
     return parts
 
 def blocks_of(sizes: list[int], strides: list[int], styles: dict[Line, int]) -> list[int]:
@@ -238,8 +234,7 @@ class State:
                 places[view, one, other] = columns.setdefault(column, len(columns))
         for (view, way, at, cell), style in styles.items():
             sides = (places.get((view, it, cell) if way else (view, cell, it), 0) for it in (at, at - 1))
-            name = b"%b %c %d %d" % (VIEWS[view], b"lu"[way], at, cell)
-            self.lines[name] = demands.setdefault((style, *sides), len(demands))
+            self.lines[b"%b %c %d %d" % (VIEWS[view], b"lu"[way], at, cell)] = demands.setdefault((style, *sides), len(demands))
         self.demands, self.lost, self.cells, self.beside = list(demands), set(), [{} for _ in self.value], [[] for _ in columns]
         self.full, self.may = [0] * len(columns), [sum(1 << depth for depth, at in enumerate(column) if at) for column in columns]
         for number, column in enumerate(columns):
@@ -273,13 +268,12 @@ class State:
 
 def listed(state: State, log: list[bytes]) -> list[bytes]:
     """The choices that the lines of a log list, in the stated order."""
-    decided, splits, found, is_open = [], [], [], True
+    decided, splits, found, is_open, first = [], [], [], True, re.compile(b"log 1 blocks %d" % len(state.value))
     for number, line in enumerate(log, 1):
-        if number == 1:
-            need(line == b"log 1 blocks %d" % len(state.value), "G1 BadLine", 1)
-            continue
-        entry = (ENTRY if is_open else END).fullmatch(line)
+        entry = (first if number == 1 else ENTRY if is_open else END).fullmatch(line)
         need(entry, "G1 BadLine", number)
+        if number == 1:
+            continue
         if not is_open:
             need(int(entry[1]) == len(found), "G6 BadCount", number)
             need(number == len(log), "G8 Long", number + 1)
