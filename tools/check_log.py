@@ -1,10 +1,10 @@
 #!/usr/bin/env python3
 """Checks a completeness log without recon, of which it uses nothing: a drawing and behind it its log stand on standard input, and
 what `recon check` says of them is written, with its statuses: `cat drawing.dxf log | tools/check_log.py`. Behind `yes S` stand the
-choices of all solids that have these views, whoever wrote the log. To believe that, one has to believe what nothing here shows:
-that such a solid lies in the grid between the drawing's coordinates, and fills each block of it whole or not at all and nothing of
-the outside (Wesley and Markowsky 1981); and what `can_draw` says of two columns, which tools/check tries on all short ones. All
-else is done below by the definitions, in the words of docs/DEFINITIONS.md and docs/FORMAT.md, and all of it in 300 lines."""
+choices of all solids that have these views, whoever wrote the log. To believe that, one has to believe what nothing here shows: that
+such a solid lies in the grid between the drawing's coordinates, and fills each block of it whole or not at all and nothing of the
+outside (Wesley and Markowsky 1981); and what `can_draw` says of two columns, which tools/check tries on all of up to four cells.
+All else is done below by the definitions, in the words of docs/DEFINITIONS.md and docs/FORMAT.md, and in 300 lines."""
 import itertools
 import re
 import sys
@@ -15,24 +15,19 @@ YES, FAULT, USAGE, NO_INPUT, NO_OUTPUT, NO_MEMORY, NO_LOG = 0, 1, 2, 5, 6, 7, 9
 # Of each view the axes to the right, upwards and away from the viewer, and whether depth grows with the coordinate.
 VIEWS, FRAMES = (b"front", b"top", b"side"), ((0, 2, 1, True), (0, 1, 2, False), (1, 2, 0, False))
 BLANK, DASHED, SOLID, CENTRE = range(4)
-LINETYPES = {b"CONTINUOUS": SOLID, b"BYBLOCK": SOLID} | {name + size: style for size in (b"", b"2", b"X2") for name, style in (
-    (b"HIDDEN", DASHED), (b"DASHED", DASHED), (b"CENTER", CENTRE))}
+LINETYPE = re.compile(rb"((?:HIDDEN|DASHED)(?:2|X2)?)|(CONTINUOUS|BYBLOCK)|(CENTER(?:2|X2)?)")  # dashed, solid, centre
 GEOMETRY = b"ARC CIRCLE ELLIPSE SPLINE POLYLINE INSERT SOLID 3DFACE".split()
 CODE, NUMERAL = re.compile(rb"-?[0-9]{1,4}"), re.compile(rb"([+-]?)(?=\.?[0-9])([0-9]*)(?:\.([0-9]*))?(?:[Ee]([+-]?)([0-9]+))?")
 NUMBER, PLACE = rb"(0|[1-9][0-9]{0,9})", rb"((?:front|top|side) [lu] (?:0|[1-9][0-9]{0,9}) (?:0|[1-9][0-9]{0,9}))"
 ENTRY, END = re.compile(rb"solid|fail %b|split %b|force %b ([01]) %b" % (PLACE, NUMBER, NUMBER, PLACE)), re.compile(rb"end " + NUMBER)
-# A pair: its code's line, code and value. A straight line of a file: its view, its style, and its ends as x, y, x, y. A line of the
-# grid: its view, 0 or 1 for level or upright, its position's index and its cell's.
+# A pair (its code's line, code, value), a line of a file (view, style, x, y, x, y), one of the grid (view, 0 level or 1 upright, at, cell).
 Pair, Kept, Line = tuple[int, int, bytes], tuple[int, int, tuple[int, int, int, int]], tuple[int, int, int, int]
 
 class Wrong(Exception):
     """A fault of the drawing, or what is wrong with the log: its text."""
 
 def need(holds: object, kind: str, line: int | None = None, code: int | None = None) -> None:
-    if not holds:
-        raise Wrong(kind + ("" if line is None else f" line {line}") + ("" if code is None else f" code {code}"))
-
-# ---- the file
+    if not holds: raise Wrong(kind + ("" if line is None else f" line {line}") + ("" if code is None else f" code {code}"))
 
 def pairs_from(lines: list[bytes], start: int) -> Iterator[Pair]:
     """The pairs from a place on, without comments. It ends by being left, or at a fault."""
@@ -40,20 +35,16 @@ def pairs_from(lines: list[bytes], start: int) -> Iterator[Pair]:
         pair = [line.removesuffix(b"\r").strip(b" \t") for line in lines[at:at + 2]]
         need(CODE.fullmatch(pair[0]), "F2 BadCode", at + 1)
         need(len(pair) == 2, "F3 NoValue", at + 1)
-        if int(pair[0]) != 999:
-            yield at + 1, int(pair[0]), pair[1]
+        yield from [] if int(pair[0]) == 999 else [(at + 1, int(pair[0]), pair[1])]
     need(False, "F4 NoEof", len(lines) + 1)
 
 def own_pairs(lines: list[bytes], entry: Pair) -> Iterator[Pair]:
     """The pairs of an entry, without those that belong to an application."""
     inside = False
-    for line, code, value in pairs_from(lines, entry[0] + 1):
-        if code == 0:
-            return
-        if inside or code == 102 and value.startswith(b"{"):
-            inside = not inside or code != 102 or value != b"}"
-        else:
-            yield line, code, value
+    for line, code, value in itertools.takewhile(lambda pair: pair[1] != 0, pairs_from(lines, entry[0] + 1)):
+        foreign = inside or code == 102 and value.startswith(b"{")
+        inside = foreign and (not inside or code != 102 or value != b"}")
+        yield from [] if foreign else [(line, code, value)]
 
 def whole(line: int, code: int, value: bytes) -> int:
     """A whole number, exactly; its digits and its exponent may be as long as they like."""
@@ -72,8 +63,7 @@ def sides_of_line(lines: list[bytes], entry: Pair) -> Iterator[tuple[int, int, i
         if code in (10, 20, 11, 21):
             need(code not in ends, "F10 Repeated", line, code)
             ends[code] = whole(line, code, value)
-    for code in (10, 20, 11, 21):
-        need(code in ends, "F9 Missing", entry[0], code)
+    for code in (10, 20, 11, 21): need(code in ends, "F9 Missing", entry[0], code)
     yield ends[10], ends[20], ends[11], ends[21]
 
 def sides_of_polyline(lines: list[bytes], entry: Pair) -> Iterator[tuple[int, int, int, int]]:
@@ -99,20 +89,18 @@ def sides_of_polyline(lines: list[bytes], entry: Pair) -> Iterator[tuple[int, in
 def judge(lines: list[bytes], section: bytes, entry: Pair, layers: dict[bytes, bytes], kept: list[Kept]) -> None:
     """What an entry that has ended tells: the linetype of a layer, or lines, each with its view and style."""
     first: dict[int, bytes] = {}
-    for _, code, value in own_pairs(lines, entry):
-        first.setdefault(code, value)
+    for _, code, value in own_pairs(lines, entry): first.setdefault(code, value)
     kind, layer, linetype = entry[2].upper(), first.get(8, b"").lower(), first.get(6, b"BYLAYER").upper()
     if section == b"TABLES" and kind == b"LAYER" and 2 in first:
         layers.setdefault(first[2].lower(), b"CONTINUOUS" if linetype == b"BYLAYER" else linetype)
-    if section == b"TABLES" or layer not in VIEWS or first.get(67) == b"1":
-        return
+    if section == b"TABLES" or layer not in VIEWS or first.get(67) == b"1": return
     need(kind not in GEOMETRY, "F13 Geometry", entry[0])
     sides, oblique = {b"LINE": sides_of_line, b"LWPOLYLINE": sides_of_polyline}.get(kind), False
-    style = LINETYPES.get(layers.get(layer, b"CONTINUOUS") if linetype == b"BYLAYER" else linetype)
-    need(not sides or style is not None, "F12 Linetype", entry[0])
-    for side in sides(lines, entry) if sides and style != CENTRE else []:
+    found = LINETYPE.fullmatch(layers.get(layer, b"CONTINUOUS") if linetype == b"BYLAYER" else linetype)
+    need(not sides or found, "F12 Linetype", entry[0])
+    for side in sides(lines, entry) if sides and found.lastindex != CENTRE else []:
         oblique |= side[0] != side[2] and side[1] != side[3]
-        kept += [(VIEWS.index(layer), style, side)] if len(kept) <= MOST_LINES else []
+        kept += [(VIEWS.index(layer), found.lastindex, side)] if len(kept) <= MOST_LINES else []
     need(not oblique, "F11 Oblique", entry[0])
     need(len(kept) <= MOST_LINES, "F15 TooManyLines", entry[0])
 
@@ -123,25 +111,20 @@ def read(lines: list[bytes]) -> tuple[list[Kept], int]:
         word = value.upper() if code == 0 else b""
         if entry and code == 0:
             entry = judge(lines, section, entry, layers, kept)
-        if section is None and word == b"EOF":
-            return kept, line + 1
+        if section is None and word == b"EOF": return kept, line + 1
         need(word == b"SECTION" if section is None else code == 2 if section == naming else word not in (b"SECTION", b"EOF"), "F5 BadSection", line)
         if section is None or section == naming:
             section = value.upper() if section else naming
-        elif word == b"ENDSEC":
-            section = None
-        elif code == 0 and section in (b"TABLES", b"ENTITIES"):
-            entry = line, code, value
-
-# ---- the grid and its blocks
+        elif code == 0:
+            section = None if word == b"ENDSEC" else section
+            entry = (line, code, value) if section in (b"TABLES", b"ENTITIES") else None
 
 def runs(stretches: list[tuple[int, int, int]]) -> list[tuple[int, int, int]]:
     """The longest stretches of one style that some stretches of one straight line make; solid hides dashed."""
     ends = sorted((at, style, step) for low, high, style in stretches for at, step in ((low, 1), (high, -1)))
     found, over, start, now = [], [0, 0, 0], 0, BLANK
     for at, here in itertools.groupby(ends, lambda end: end[0]):
-        for _, style, step in here:
-            over[style] += step
+        for _, style, step in here: over[style] += step
         style = SOLID if over[SOLID] else DASHED if over[DASHED] else BLANK
         if style != now:
             found += [(start, at, now)] if now else []
@@ -162,8 +145,7 @@ def grid_of(kept: list[Kept]) -> tuple[list[int], dict[Line, int]]:
     for (view, way, at), stretches in rows.items():
         marks[FRAMES[view][1 - way]].add(at)
         marks[FRAMES[view][way]] |= {end for stretch in stretches for end in stretch[:2]}
-    for name, ends in zip("xyz", marks):
-        need(len(ends) <= MOST_PLACES, f"F17 TooFine axis {name} count {len(ends)}")
+    for name, ends in zip("xyz", marks): need(len(ends) <= MOST_PLACES, f"F17 TooFine axis {name} count {len(ends)}")
     for view, way in itertools.product(range(3), range(2)):
         across, along = (sorted(marks[FRAMES[view][it]]) for it in (1 - way, way))
         for (number, at), cell in itertools.product(enumerate(across), range(len(along) - 1)):
@@ -206,22 +188,17 @@ def blocks_of(sizes: list[int], strides: list[int], styles: dict[Line, int]) -> 
     cells = bytearray(all(at[axis] < sizes[axis] for axis in range(3)) for at in points)
     return parts_of(cells, list(zip(strides, walls)))
 
-# ---- the log
-
 def can_draw(style: int, full: int, may: int, full2: int, may2: int) -> bool:
     """Some column between full and may and some one between the other two draw the style; the lowest bit is nearest to the viewer.
     Equal ones draw nothing; others a solid line where their first full cells differ in depth, and a dashed one where they don't."""
     differ, sure, both = may & ~full2 | may2 & ~full, full | full2, may & may2
-    if style == BLANK:
-        return not sure & ~both
-    if style == SOLID:
-        return differ != 0 and (not sure or differ & -differ <= sure & -sure)
+    if style == BLANK: return not sure & ~both
+    if style == SOLID: return differ != 0 and (not sure or differ & -differ <= sure & -sure)
     return both != 0 and not sure & (both & -both) - 1 and differ // (both & -both) > 1
 
 class State:
     """What is decided of the blocks. A line demands a style of the columns of blocks at its two sides, and lines that demand the
     same are one demand. Of each column it is known which cells are full, and which may be; demands that can't be met are lost."""
-
     def __init__(self, sizes: list[int], styles: dict[Line, int]) -> None:
         strides = [1, sizes[0] + 1, (sizes[0] + 1) * (sizes[1] + 1)]
         block = blocks_of(sizes, strides, styles)
@@ -230,8 +207,8 @@ class State:
         for view, (right, up, sight, forward) in enumerate(FRAMES):
             for one, other in itertools.product(range(sizes[right]), range(sizes[up])):
                 start = one * strides[right] + other * strides[up]
-                column = tuple(block[start:start + sizes[sight] * strides[sight]:strides[sight]])[::1 if forward else -1]
-                places[view, one, other] = columns.setdefault(column, len(columns))
+                column = block[start:start + sizes[sight] * strides[sight]:strides[sight]][::1 if forward else -1]
+                places[view, one, other] = columns.setdefault(tuple(column), len(columns))
         for (view, way, at, cell), style in styles.items():
             sides = (places.get((view, it, cell) if way else (view, cell, it), 0) for it in (at, at - 1))
             self.lines[b"%b %c %d %d" % (VIEWS[view], b"lu"[way], at, cell)] = demands.setdefault((style, *sides), len(demands))
@@ -240,24 +217,20 @@ class State:
         for number, column in enumerate(columns):
             for at in set(column) - {0}:
                 self.cells[at - 1][number] = sum(1 << depth for depth, it in enumerate(column) if it == at)
-        for number, (_, *sides) in enumerate(self.demands):
-            for column in sides:
-                self.beside[column].append(number)
+        for number, column in ((number, column) for number, (_, *sides) in enumerate(self.demands) for column in sides):
+            self.beside[column].append(number)
         self.look(range(len(demands)))
-
     def look(self, demands: Iterable[int]) -> None:
         for demand in demands:
             style, one, other = self.demands[demand]
-            is_met = can_draw(style, self.full[one], self.may[one], self.full[other], self.may[other])
-            (self.lost.discard if is_met else self.lost.add)(demand)
-
+            masks = self.full[one], self.may[one], self.full[other], self.may[other]
+            (self.lost.discard if can_draw(style, *masks) else self.lost.add)(demand)
     def turn(self, block: int, full: bool, value: bool | None) -> None:
         """Decides a block as full or empty, or takes back that it is so decided."""
         self.value[block] = value
         for column, cells in self.cells[block].items():
             (self.full if full else self.may)[column] ^= cells
         self.look({demand for column in self.cells[block] for demand in self.beside[column]})
-
     def excludes(self, place: bytes, block: int, full: bool) -> bool:
         """In some cell of the undecided block beside the line, this value leaves no columns that draw its style."""
         style, one, other = self.demands[self.lines[place]]
@@ -268,12 +241,11 @@ class State:
 
 def listed(state: State, log: list[bytes]) -> list[bytes]:
     """The choices that the lines of a log list, in the stated order."""
-    decided, splits, found, is_open, first = [], [], [], True, re.compile(b"log 1 blocks %d" % len(state.value))
-    for number, line in enumerate(log, 1):
-        entry = (first if number == 1 else ENTRY if is_open else END).fullmatch(line)
+    decided, splits, found, is_open = [], [], [], True
+    need(not log or log[0] == b"log 1 blocks %d" % len(state.value), "G1 BadLine", 1)
+    for number, line in enumerate(log[1:], 2):
+        entry = (ENTRY if is_open else END).fullmatch(line)
         need(entry, "G1 BadLine", number)
-        if number == 1:
-            continue
         if not is_open:
             need(int(entry[1]) == len(found), "G6 BadCount", number)
             need(number == len(log), "G8 Long", number + 1)
@@ -316,19 +288,13 @@ def answer(text: bytes) -> tuple[int, Iterable[bytes]]:
 
 def main(words: list[str]) -> int:
     if words:
-        print("usage: check_log.py < DRAWING_AND_LOG", file=sys.stderr)
-        return USAGE
+        return print("usage: check_log.py < DRAWING_AND_LOG", file=sys.stderr) or USAGE
+    failed = NO_INPUT
     try:
-        with open(0, "rb", closefd=False) as source:
-            status, told = answer(source.read(MOST_BYTES + 1))
-    except (MemoryError, OSError) as failed:
-        return NO_MEMORY if isinstance(failed, MemoryError) else NO_INPUT
-    try:
-        with open(1, "wb", closefd=False) as sink:
-            sink.writelines(told)
-    except OSError:
-        return NO_OUTPUT
+        with open(0, "rb", closefd=False) as source: text = source.read(MOST_BYTES + 1)
+        failed, (status, told) = NO_OUTPUT, answer(text)
+        with open(1, "wb", closefd=False) as sink: sink.writelines(told)
+    except (MemoryError, OSError) as why:
+        return NO_MEMORY if isinstance(why, MemoryError) else failed
     return status
-
-if __name__ == "__main__":
-    sys.exit(main(sys.argv[1:]))
+if __name__ == "__main__": sys.exit(main(sys.argv[1:]))
