@@ -156,10 +156,6 @@ def choices_of(plain: Plain) -> list[str]:
 
 # ---- judging
 
-class Refusal(Exception):
-    """Why a text is no log, and at which of its lines."""
-
-
 def number_of(word: bytes) -> int:
     if not word.isdigit() or len(word) > 10 or str(int(word)).encode() != word:
         raise ValueError
@@ -229,5 +225,7 @@ def verdict(plain: Plain, log: bytes) -> str:
                 return f"log G1 BadLine line {at}\n"
             if word != b"end" or told != len(found):
                 return f"log {'G1 BadLine' if word != b'end' else 'G6 BadCount'} line {at}\n"
-            return "".join([f"yes {told}\n", *(f"choice {it}\n" for it in sorted(found, reverse=True))]) if at == len(lines) else f"log G8 Long line {at + 1}\n"
+            if at < len(lines):
+                return f"log G8 Long line {at + 1}\n"
+            return "".join([f"yes {told}\n", *(f"choice {it}\n" for it in sorted(found, reverse=True))])
     return f"log G7 Short line {len(lines) + 1}\n"

@@ -78,7 +78,7 @@ class Rules(unittest.TestCase):
         """All that can be known of two columns of up to four cells, beside what their edges are by the definitions."""
         for depth in range(5):
             columns = list(itertools.product((0, 1, None), repeat=depth))
-            masks = [(sum(1 << at for at, it in enumerate(column) if it == 1), sum(1 << at for at, it in enumerate(column) if it != 0)) for column in columns]
+            masks = [tuple(sum(1 << at for at, it in enumerate(column) if it in wanted) for wanted in ((1,), (1, None))) for column in columns]
             for (one, ones), (other, others) in itertools.product(zip(columns, masks), repeat=2):
                 found = {style for style in range(3) if check_log.can_draw(style, *ones, *others)}
                 self.assertEqual(found, logs.styles_of(one, other), (one, other))
@@ -137,10 +137,14 @@ class Reading(unittest.TestCase):
         top = (0, "LINE", 8, "TOP", 6, "PHANTOM")
         for drawing, fault in (
             (self.changed(l20="1"), "F11 Oblique line 5"), (self.entity(*top, 10, 0), "F12 Linetype line 5"),
-            (self.entity(0, "line", 8, "Top", 6, "centerX2", 10, 0.5, 20, 0, 11, 3, 21, 9), ""), (self.entity(0, "ARC", 8, "TOP"), "F13 Geometry line 5"),
-            (self.entity(0, "ARC", 8, "TOP", 67, 1), ""), (self.entity(0, "ARC", 8, "TOP", 67, "01"), "F13 Geometry line 5"), (self.entity(0, "TEXT", 8, "TOP"), ""),
-            (self.entity(0, "ARC", 8, "NOTES"), ""), (self.changed(l17="12"), "F9 Missing line 5 code 11"), (self.changed(l22="0\n10\n0"), "F10 Repeated line 23 code 10"),
-            (self.entity(0, "LINE", 8, "TOP"), "F9 Missing line 5 code 10"), (self.entity(0, "LINE", 8, "SIDE", 21, "x"), "F6 BadNumber line 10 code 21"),
+            (self.entity(0, "line", 8, "Top", 6, "centerX2", 10, 0.5, 20, 0, 11, 3, 21, 9), ""),
+            (self.entity(0, "ARC", 8, "TOP"), "F13 Geometry line 5"),
+            (self.entity(0, "ARC", 8, "TOP", 67, 1), ""), (self.entity(0, "ARC", 8, "TOP", 67, "01"), "F13 Geometry line 5"),
+            (self.entity(0, "TEXT", 8, "TOP"), ""),
+            (self.entity(0, "ARC", 8, "NOTES"), ""), (self.changed(l17="12"), "F9 Missing line 5 code 11"),
+            (self.changed(l22="0\n10\n0"), "F10 Repeated line 23 code 10"),
+            (self.entity(0, "LINE", 8, "TOP"), "F9 Missing line 5 code 10"),
+            (self.entity(0, "LINE", 8, "SIDE", 21, "x"), "F6 BadNumber line 10 code 21"),
             (self.changed(l6="ENDSEC", l7="0", l8="EOF"), "F14 EmptyView view FRONT"), (CUBE.replace(b"SIDE", b"NOTES"), "F14 EmptyView view SIDE"),
         ):
             self.check(drawing, fault)
@@ -163,10 +167,14 @@ class Reading(unittest.TestCase):
             return front.sub("".join(f"{it}\n" for it in (0, "LWPOLYLINE", 8, "FRONT", *pairs)).encode(), CUBE, count=1)
         corners = (10, 0, 20, 0, 10, 1, 20, 0, 10, 1, 20, 1, 10, 0, 20, 1)
         for pairs, fault in (
-            ((70, 1, *corners), ""), ((*corners, 70, "129.0"), ""), ((70, 1, 70, "x", *corners), ""), ((70, 1, 42, "0.0", *corners), ""), ((70, 1, 42, "0e5", *corners), ""),
-            ((70, 1, 42, "5e-99", *corners), "F19 Curved line 5"), ((42, "x", 10, "y"), "F6 BadNumber line 10 code 42"), ((70, 0.5), "F7 NotWhole line 10 code 70"),
-            ((20, 0), "F9 Missing line 5 code 10"), ((10, 0, 10, "x"), "F9 Missing line 5 code 20"), ((10, 0, 20, 0, 20, "x"), "F10 Repeated line 13 code 20"),
-            ((10, 0), "F9 Missing line 5 code 20"), ((10, 0, 20, 0, 10, 1, 20, 1), "F11 Oblique line 5"), ((10, 0, 20, 0, 70, 1), "F14 EmptyView view FRONT"),
+            ((70, 1, *corners), ""), ((*corners, 70, "129.0"), ""), ((70, 1, 70, "x", *corners), ""), ((70, 1, 42, "0.0", *corners), ""),
+            ((70, 1, 42, "0e5", *corners), ""),
+            ((70, 1, 42, "5e-99", *corners), "F19 Curved line 5"), ((42, "x", 10, "y"), "F6 BadNumber line 10 code 42"),
+            ((70, 0.5), "F7 NotWhole line 10 code 70"),
+            ((20, 0), "F9 Missing line 5 code 10"), ((10, 0, 10, "x"), "F9 Missing line 5 code 20"),
+            ((10, 0, 20, 0, 20, "x"), "F10 Repeated line 13 code 20"),
+            ((10, 0), "F9 Missing line 5 code 20"), ((10, 0, 20, 0, 10, 1, 20, 1), "F11 Oblique line 5"),
+            ((10, 0, 20, 0, 70, 1), "F14 EmptyView view FRONT"),
         ):
             self.check(with_front(*pairs), fault)
         self.assertEqual(said(with_front(70, 0, *corners), b"log 1 blocks 0\nfail front l 0 0\nend 0\n"), (0, "yes 0\n"))
@@ -211,7 +219,7 @@ def broken(chance: random.Random, drawing: bytes) -> bytes:
         elif kind == 1:
             lines[at:at] = lines[other:other + chance.choice((1, 2, 2, 18))]
         elif kind == 2:
-            lines[at] = chance.choice((b"0", b"10", b"70", b"42", b"1.5", b"1e3", b"HIDDEN", b"LINE", b"LWPOLYLINE", b"ENDSEC", b"SECTION", b"x", b"", b"102", b"{", b"999"))
+            lines[at] = chance.choice(b"0 10 70 42 1.5 1e3 HIDDEN LINE LWPOLYLINE ENDSEC SECTION x 102 { 999".split() + [b""])
         elif kind == 3:
             lines[at] = lines[other]
         lines = lines or [b""]
@@ -260,7 +268,8 @@ class Logs(unittest.TestCase):
             if not answer.startswith("fault"):
                 choices = [line.split()[3] for line in answer.splitlines() if line.startswith("solid ")]
                 log = logs.log_of(logs.plain_of(drawing.read_bytes())).encode()
-                self.assertEqual(said(drawing.read_bytes(), log)[1].splitlines(), [f"yes {len(choices)}", *(f"choice {it}" for it in choices)], drawing)
+                told = [f"yes {len(choices)}", *(f"choice {it}" for it in choices)]
+                self.assertEqual(said(drawing.read_bytes(), log)[1].splitlines(), told, drawing)
 
     def test_each_kind_at_several_lines(self) -> None:
         drawing = (EXAMPLES / "eight_voids.dxf").read_bytes()
@@ -272,10 +281,12 @@ class Logs(unittest.TestCase):
             return [found[0], found[len(found) // 2], found[-1]] if found else []
         beyond = [b"front l 6 0", b"front l 0 5", b"top u 9999999999 0", b"side u 0 9999999999"]
         cases = [(at, b"solids", "G1 BadLine") for at in (0, len(right) // 2, len(right) - 1)]
-        cases += [(at, line, "G2 BadBlock") for at in some(b"split", b"force") for line in (b"split 9", b"split 9999999999", b"force 9 1 front l 0 0")]
+        blocks = (b"split 9", b"split 9999999999", b"force 9 1 front l 0 0")
+        cases += [(at, line, "G2 BadBlock") for at in some(b"split", b"force") for line in blocks]
         cases += [(at, line, "G2 BadBlock") for at in some(b"force")[1:] + some(b"split")[1:] for line in (b"split 0", b"force 0 1 front l 6 0")]
         cases += [(at, b"fail " + place, "G3 Unproved") for at in some(b"split", b"force", b"solid") for place in (*beyond, b"front l 2 2")]
-        cases += [(at, right[at].rsplit(b" ", 4)[0] + b" " + place, "G3 Unproved") for at in some(b"force", b"fail") for place in (*beyond, b"top u 2 2")]
+        places_of_no_use = (*beyond, b"top u 2 2")
+        cases += [(at, right[at].rsplit(b" ", 4)[0] + b" " + place, "G3 Unproved") for at in some(b"force", b"fail") for place in places_of_no_use]
         cases += [(at, right[at][:-1] + b"9", "G3 Unproved") for at in some(b"force", b"fail")]
         cases += [(at, b"solid", "G4 Unsolid") for at in some(b"split", b"force", b"fail")]
         cases += [(len(right) - 1, b"end %d" % count, "G6 BadCount") for count in (0, 34, 36, 9999999999)]
@@ -296,12 +307,18 @@ class Logs(unittest.TestCase):
         plain = logs.plain_of(HOLLOW)
         lines = RIGHT_HOLLOW.splitlines()
         for at, wrong in (
-            (1, b"log 1 blocks 02"), (1, b"log 2 blocks 2"), (1, b"log 1 blocks 2 "), (1, b"log 1 blocks 2\r"), (1, b"log 1 blocks 3"), (1, b""), (1, b"\xef\xbb\xbflog 1 blocks 2"),
-            (2, b"split 00"), (2, b"split  0"), (2, b" split 0"), (2, b"split 0 "), (2, b"split\t0"), (2, b"split 0\r"), (2, b"split 0\0"), (2, b"split"), (2, b""), (2, b"split +0"),
-            (2, b"split 00000000000"), (2, b"split 10000000000"), (2, b"split \xd9\xa0"), (2, b"Split 0"), (2, b"split -0"), (2, b"split 0 0"), (2, b"end 0"),
-            (3, b"force 1 00 front l 1 1"), (3, b"force 1 2 front l 1 1"), (3, b"force 01 0 front l 1 1"), (3, b"force 1 0 front l 01 1"), (3, b"force 1 0 front l 1 10000000000"),
-            (3, b"force 1 0 left l 1 1"), (3, b"force 1 0 FRONT l 1 1"), (3, b"force 1 0 front x 1 1"), (3, b"force 1 0 front l 1"), (3, b"force 1 0 front l 1 1 1"), (3, b"force 1 0"),
-            (4, b"solid "), (4, b"solid 1"), (4, b"solid\r"), (5, b"fail front l 0 0 0"), (5, b"fail"), (6, b"end 01"), (6, b"end  1"), (6, b"end 1\r"), (6, b"end 1 "), (6, b"end"),
+            (1, b"log 1 blocks 02"), (1, b"log 2 blocks 2"), (1, b"log 1 blocks 2 "), (1, b"log 1 blocks 2\r"), (1, b"log 1 blocks 3"),
+            (1, b""), (1, b"\xef\xbb\xbflog 1 blocks 2"),
+            (2, b"split 00"), (2, b"split  0"), (2, b" split 0"), (2, b"split 0 "), (2, b"split\t0"), (2, b"split 0\r"),
+            (2, b"split 0\0"), (2, b"split"), (2, b""), (2, b"split +0"),
+            (2, b"split 00000000000"), (2, b"split 10000000000"), (2, b"split \xd9\xa0"), (2, b"Split 0"), (2, b"split -0"),
+            (2, b"split 0 0"), (2, b"end 0"),
+            (3, b"force 1 00 front l 1 1"), (3, b"force 1 2 front l 1 1"), (3, b"force 01 0 front l 1 1"), (3, b"force 1 0 front l 01 1"),
+            (3, b"force 1 0 front l 1 10000000000"),
+            (3, b"force 1 0 left l 1 1"), (3, b"force 1 0 FRONT l 1 1"), (3, b"force 1 0 front x 1 1"), (3, b"force 1 0 front l 1"),
+            (3, b"force 1 0 front l 1 1 1"), (3, b"force 1 0"),
+            (4, b"solid "), (4, b"solid 1"), (4, b"solid\r"), (5, b"fail front l 0 0 0"), (5, b"fail"), (6, b"end 01"), (6, b"end  1"),
+            (6, b"end 1\r"), (6, b"end 1 "), (6, b"end"),
             (6, b"end 10000000000"), (6, b"solid"), (6, b"end -1"), (6, b"end 1\0"),
         ):
             log = b"\n".join([*lines[:at - 1], wrong, *lines[at:]])
@@ -321,17 +338,18 @@ class Logs(unittest.TestCase):
 
     def test_logs_of_other_drawings(self) -> None:
         known = [(drawing, logs.plain_of(drawing)) for drawing in drawings()]
-        for drawing, plain in known:
-            for other, of_other in known:
-                text = self.check(plain, drawing, logs.log_of(of_other).encode())
-                if text.startswith("yes"):
-                    self.assertEqual(text.split()[3::2], logs.choices_of(plain))
+        right = [logs.log_of(plain).encode() for _, plain in known]
+        for (drawing, plain), log in itertools.product(known, right):
+            text = self.check(plain, drawing, log)
+            if text.startswith("yes"):
+                self.assertEqual(text.split()[3::2], logs.choices_of(plain))
 
     def test_random_changes(self) -> None:
         chance = random.Random(17)
         pool = []
-        for drawing in (CUBE, HOLLOW, *((EXAMPLES / f"{name}.dxf").read_bytes() for name in ("quartered_cube", "eight_voids", "clevis", "pierced_plate")),
-                        *(random_drawing(chance) for _ in range(60))):
+        names = ("quartered_cube", "eight_voids", "clevis", "pierced_plate")
+        known = [CUBE, HOLLOW, *((EXAMPLES / f"{name}.dxf").read_bytes() for name in names), *(random_drawing(chance) for _ in range(60))]
+        for drawing in known:
             kept, _ = check_log.read(drawing.removesuffix(b"\n").split(b"\n"))
             if all(check_log.grid_of(kept)[0]):
                 plain = logs.plain_of(drawing)
@@ -392,7 +410,10 @@ class Streams(unittest.TestCase):
 @functools.cache
 def has_logs() -> bool:
     """The built program knows the commands `prove` and `check`."""
-    return is_built() and all(subprocess.run([program.find(), word], stdin=subprocess.DEVNULL, capture_output=True).returncode != program.USAGE for word in ("prove", "check"))
+    def is_taken(word: str) -> bool:
+        ended = subprocess.run([program.find(), word], stdin=subprocess.DEVNULL, capture_output=True)
+        return ended.returncode != program.USAGE
+    return is_built() and is_taken("prove") and is_taken("check")
 
 
 def needs_logs() -> Decorated:
@@ -412,9 +433,11 @@ class BesideTheProgram(unittest.TestCase):
             drawing = random_drawing(chance)
             status, log = self.recon("prove", drawing)
             with self.subTest(number=number):
-                self.assertEqual((said(drawing)[0] == check_log.FAULT, said(drawing)[1] if status else ""), (status == 1, log if status else ""), drawing)
-                if status == 0 and not said(drawing, log.encode())[1].startswith("yes"):
-                    self.fail((drawing, log))
+                self.assertIn(status, (0, 1), drawing)
+                if status == 1:
+                    self.assertEqual(said(drawing), (1, log), drawing)
+                else:
+                    self.assertEqual(said(drawing, log.encode())[0], check_log.YES, (drawing, log))
                 tried = [log.encode(), *(spoiled(chance, log.encode() or b"\n1") for _ in range(3))]
                 if status == 0 and all(check_log.grid_of(check_log.read(drawing.removesuffix(b"\n").split(b"\n"))[0])[0]):
                     plain = logs.plain_of(drawing)
