@@ -186,7 +186,8 @@ class Reading(unittest.TestCase):
             ((10, 0, 20, 0, 70, 1), "F14 EmptyView view FRONT"),
         ):
             self.check(with_front(*pairs), fault)
-        self.assertEqual(said(with_front(70, 0, *corners), b"log 1 blocks 0\nfail front l 0 0\nend 0\n"), (0, "yes 0\n"))
+        for flags in (0, 128):
+            self.assertEqual(said(with_front(70, flags, *corners), b"log 1 blocks 0\nfail front l 0 0\nend 0\n"), (0, "yes 0\n"))
 
     def test_limits(self) -> None:
         line = b"".join(CUBE.splitlines(keepends=True)[4:22])
