@@ -22,8 +22,8 @@ impl Model for Panel {
     ghost view = { λ s. record { level = s.level.items; upright = s.upright.items } };
 }
 
-/// The styles are the same. Two lists of one length are looked at to their end, so that no look waits
-/// for the one before.
+/// The styles are the same. Two lists of one length are looked at to their end, so that no look
+/// waits for the one before.
 fn same_styles(styles: &[Style], others: &[Style]) -> bool
     ensures { IsTrue result ↔ (styles.now ≡ others.now) }
 {
@@ -78,11 +78,11 @@ impl Model for Panels {
 
 impl Panels {
     ghost use Rattle.std.specs.Prelude.{◌≡◌, ◌↔◌, IsTrue};
-    ghost use Rattle.solid_model.specs.Panels.{panel_of};
+    ghost use Rattle.solid_model.specs.PerView.{of_view};
 
     /// The styles of a view's segments.
     pub fn view(&self, view: View) -> &Panel
-        ensures { result.now ≡ panel_of view self.now }
+        ensures { result.now ≡ of_view view self.now }
     {
         match view {
             View::Front => &self.front,
