@@ -14,7 +14,8 @@ use test_files::{Row, row_of};
 /// lines force, each block with its value and the line, and how they end; and how closing ends,
 /// with what is then known of each block where it is stable. The drawings show one cell, the
 /// quartered cube, that cube with half of a stroke hidden from above, two cubes along an edge, and
-/// three that no solid shows.
+/// six that no solid shows. In each of the last four a part of two borders is hidden, and the one
+/// of the lesser position is named.
 const FORCED: &str = "\
 rect S 0 0 1 1; rect S 0 0 1 1; rect S 0 0 1 1 -> 0+ FRONT false 0 0, stable; stable 1
 rect S 0 0 2 2, line S 0 1 2 1, line S 1 0 1 2; rect S 0 0 2 2, line S 0 1 2 1, line S 1 0 1 2; \
@@ -42,7 +43,13 @@ rect S 0 0 2 1, line D 1 0 1 1; \
     line S 1 3 2 3; rect S 0 0 3 1, line D 1 0 1 1, line D 2 0 2 1 -> \
     1+ FRONT false 0 0, 0+ FRONT true 1 0, conflict FRONT true 1 0; conflict
 line S 0 0 2 0, line S 0 2 2 2, line S 0 0 0 1, line D 0 1 0 2, line D 2 0 2 1, line S 2 1 2 2; \
-    rect S 0 0 2 2; rect S 0 0 2 2 -> conflict FRONT true 0 1; conflict";
+    rect S 0 0 2 2; rect S 0 0 2 2 -> conflict FRONT true 0 1; conflict
+rect S 0 0 2 2; line S 0 0 2 0, line S 0 2 2 2, line S 0 0 0 1, line D 0 1 0 2, line D 2 0 2 1, \
+    line S 2 1 2 2; rect S 0 0 2 2 -> conflict TOP true 0 1; conflict
+rect S 0 0 2 2; rect S 0 0 2 2; line S 0 0 2 0, line S 0 2 2 2, line S 0 0 0 1, line D 0 1 0 2, \
+    line D 2 0 2 1, line S 2 1 2 2 -> conflict SIDE true 0 1; conflict
+rect S 0 0 2 2; rect S 0 0 2 2; line S 0 0 0 2, line S 2 0 2 2, line S 0 0 1 0, line D 1 0 2 0, \
+    line D 0 2 1 2, line S 1 2 2 2 -> conflict SIDE false 0 1; conflict";
 
 /// Decides the first blocks.
 fn decide_first(partial: &mut Partial<'_>, values: &str) -> Result<(), Fail> {

@@ -22,6 +22,14 @@ const SLAB: [&str; 3] = [
     "rect S 0 0 5 3, line S 0 4 1 4, line S 0 3 0 4, line S 1 3 1 4",
 ];
 
+/// Three cubes round a corner, of which none stands behind on the left. They are one block.
+const CORNER: [&str; 3] = [
+    "rect S 0 0 2 1, line D 1 0 1 1",
+    "line S 0 0 2 0, line S 2 0 2 2, line S 1 2 2 2, \
+        line S 1 1 1 2, line S 0 1 1 1, line S 0 0 0 1",
+    "rect S 0 0 2 1, line D 1 0 1 1",
+];
+
 /// A row a drawing of these; which of its first blocks are decided; and a column, by its view and
 /// its places to the right and upwards. Wanted are its cells that are full for certain, and those
 /// that may be, where the nearest counts 1, the next one 2 and so on.
@@ -34,7 +42,9 @@ slab; 1; TOP 0 0 -> 2 3
 slab; 1; TOP 1 0 -> 2 2
 slab; 1; SIDE 0 1 -> 0 2
 slab; 1; SIDE 1 0 -> 3 3
-slab; ; FRONT 0 1 -> 0 1";
+slab; ; FRONT 0 1 -> 0 1
+corner; 1; TOP 1 0 -> 1 1
+corner; 1; TOP 0 1 -> 0 0";
 
 /// How many columns a view of a grid shows in a row, and how many rows.
 fn width_and_height(sizes: PerAxis, view: View) -> (usize, usize)
@@ -46,6 +56,15 @@ fn width_and_height(sizes: PerAxis, view: View) -> (usize, usize)
         View::Front => (x, z),
         View::Top => (x, y),
         View::Side => (y, z),
+    }
+}
+
+/// The views of the drawing of a name.
+fn views_of(name: &str) -> [&'static str; 3] {
+    match name {
+        "slab" => SLAB,
+        "corner" => CORNER,
+        _ => HOLLOW_CUBE,
     }
 }
 
@@ -81,7 +100,7 @@ fn told_column(alloc: Global, partial: &Partial<'_>, told: &str) -> Result<Strin
 /// What is known of a row's column, as the row has it.
 fn told_mask(alloc: Global, row: Row<'_>) -> Result<String, Fail> {
     let [name, values, column, ..] = row.parts;
-    let problem = problem(alloc, if name == "slab" { SLAB } else { HOLLOW_CUBE })?;
+    let problem = problem(alloc, views_of(name))?;
     let partial = begun(alloc, &problem, values)?;
     told_column(alloc, &partial, column)
 }
