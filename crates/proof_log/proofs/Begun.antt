@@ -1,5 +1,5 @@
 -- A log that is begun.
-use Rattle.std.proofs.Common.{◌≡◌, ◌≢◌, Bool, ℕ, ◌+◌, ◌≤◌, ◌<◌, nat_lt, List, [], ◌∷◌, ◌++◌, length, map, IsTrue, refl, ap, ap₂, sym, subst, ◌∙◌, arith, append_assoc, append-nil}
+use Rattle.std.proofs.Common.{◌≡◌, ◌≢◌, Bool, ℕ, ◌+◌, ◌≤◌, ◌<◌, nat_lt, List, [], ◌∷◌, ◌++◌, length, map, Option, IsTrue, refl, ap, ap₂, sym, subst, ◌∙◌, arith, append_assoc, append-nil}
 use Rattle.std.proofs.lemmas.Bool.{lt-ltb}
 use Rattle.std.proofs.lemmas.List.{length-append}
 use Rattle.std.proofs.lemmas.Option.{none-some}
@@ -16,7 +16,7 @@ use Rattle.lemmas.proofs.Lists.{each-append, each-from}
 use Rattle.proof_log.specs.Few.{HasFewMatching}
 use Rattle.proof_log.specs.Lines.{fed, text_of_lines}
 use Rattle.proof_log.specs.Weights.{undecided}
-use Rattle.proof_log.specs.Writing.{listed_by}
+use Rattle.proof_log.specs.Writing.{Counts, WritesLog, listed_by}
 use Rattle.proof_log.proofs.LineTexts.{log_lines_read}
 use Rattle.proof_log.proofs.SomeTrees.{some_tree}
 use Rattle.solid_model.specs.declared.cell.Axis.{Axis}
@@ -24,6 +24,8 @@ use Rattle.solid_model.specs.Blocks.{ProblemParts, IsBlocksOf}
 use Rattle.solid_model.specs.Choices.{IsMatchingChoice}
 use Rattle.solid_model.specs.GridBox.{grid_sizes}
 use Rattle.solid_model.specs.Panels.{IsGrid, coordinates_of}
+use Rattle.text_pieces.proofs.WrittenPieces.{no_prefix, prefix_longer}
+use Rattle.tv_base.specs.Pieces.{AppendsPrefix}
 
 -- the text of a log's first line, and of some entries
 abbrev pub begun_text : ProblemParts → List LogEntry → List ℕ
@@ -55,7 +57,7 @@ module _ (p : ProblemParts) where
     entries = [];
     short = tt;
     follow = λ rest f. f;
-    found = λ rest. refl;
+    found = λ rest. omega arith;
     is = sym (append-nil (fed (opening_line p.blocks.count)));
   }
 
@@ -101,7 +103,7 @@ module _ (p : ProblemParts) where
 
     -- what is begun, and has nothing to come, is a log with its last line
     pub begun_log : (text : List ℕ) (listed : ℕ) → IsBegun p [] text listed
-        → (listed ≤ most_listed) × ((choices : List (List Bool)) × IsLog p (text ++ fed (closing_line listed)) choices)
+        → (listed ≤ most_listed) × (choices : List (List Bool)) × IsLog p (text ++ fed (closing_line listed)) choices
     begun_log text listed b =
         let (tree, under, same) = follows_tree p nothing_known b.entries (subst (AreTreesUnder p (nothing_known ∷ [])) (append-nil b.entries) (b.follow [] tt)) in
         let all : listed_along p (nothing_known ∷ []) b.entries ≡ listed_choices p nothing_known tree =
@@ -138,9 +140,32 @@ module _ (p : ProblemParts) where
 
     -- so what is begun begins a log
     pub begins_log : (coming : List KnownBlocks) (text : List ℕ) (listed : ℕ) → IsBegun p coming text listed
-        → (more : List ℕ) (choices : List (List Bool)) × IsLog p (text ++ more) choices
+        → (more : List ℕ) × (choices : List (List Bool)) × IsLog p (text ++ more) choices
     begins_log coming text listed b =
         let (rest, short, f) = some_follow coming in
         let (more, all, done) = begun_more rest coming text listed short f b in
         let (within, choices, log) = begun_log (text ++ more) all done in
         (more ++ fed (closing_line all), choices, subst (λ t. IsLog p t choices) (append_assoc text more (fed (closing_line all))) log)
+
+    -- and there is one
+    pub some_log : (text : List ℕ) × (choices : List (List Bool)) × IsLog p text choices
+    some_log =
+        let (more, choices, log) = begins_log (nothing_known ∷ []) (fed (opening_line p.blocks.count)) 0 begun_first in
+        (fed (opening_line p.blocks.count) ++ more, choices, log)
+
+    -- so a prefix of what is begun is one of a log
+    pub begun_prefix : (coming : List KnownBlocks) (text : List ℕ) (listed : ℕ) → IsBegun p coming text listed → (held now : Option (List ℕ))
+        → AppendsPrefix held now text → WritesLog p held now
+    begun_prefix coming text listed b held now prefix =
+        let (more, choices, log) = begins_log coming text listed b in (text ++ more, choices, log, prefix_longer held now text more prefix)
+
+    -- and what is begun and has nothing to come is one with its last line, whose number counts what is listed
+    pub counted_log : (text : List ℕ) (listed count : ℕ) → IsBegun p [] text listed → Counts count listed
+        → (choices : List (List Bool)) × IsLog p (text ++ fed (closing_line count)) choices
+    counted_log text listed count b counts =
+        let (within, choices, log) = begun_log text listed b in
+        (choices, subst (λ n. IsLog p (text ++ fed (closing_line n)) choices) (sym (counts within)) log)
+
+    -- where nothing is written, nothing is a prefix of one
+    pub nothing_of_log : (held : Option (List ℕ)) → WritesLog p held held
+    nothing_of_log held = let (text, choices, log) = some_log in (text, choices, log, no_prefix held text)

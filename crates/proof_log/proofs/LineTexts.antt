@@ -91,18 +91,18 @@ full_no_feed false = refl
 
 place_no_feed : (s : LinePlace) → has_short_numbers s ≡ true → AreUnfed (place_words s)
 place_no_feed s h =
-    let (a, c) = and_parts (nat_lt s.at 10000000000) _ h in (view_no_feed s.view, upright_no_feed s.upright, decimal_no_feed s.at a, decimal_no_feed s.cell c, tt)
+    let (a, c) = and_parts (nat_lt s.at 10000000000) _ h in (view_no_feed s.view, (upright_no_feed s.upright, (decimal_no_feed s.at a, (decimal_no_feed s.cell c, tt))))
 
 entry_no_feed : (e : LogEntry) → is_short_entry e ≡ true → has_no_feed (entry_line e) ≡ true
 entry_no_feed (Fail s) h = joined_no_feed (codes "fail") (place_words s) refl (place_no_feed s h)
 entry_no_feed Whole h = refl
 entry_no_feed (Force block full s) h =
     let (b, r) = and_parts (nat_lt block 10000000000) _ h in
-    joined_no_feed (codes "force") (decimal block ∷ full_word full ∷ place_words s) refl (decimal_no_feed block b, full_no_feed full, place_no_feed s r)
+    joined_no_feed (codes "force") (decimal block ∷ full_word full ∷ place_words s) refl (decimal_no_feed block b, (full_no_feed full, place_no_feed s r))
 entry_no_feed (Split block) h = joined_no_feed (codes "split") (decimal block ∷ []) refl (decimal_no_feed block h, tt)
 
 opening_no_feed : (n : ℕ) → nat_lt n 10000000000 ≡ true → has_no_feed (opening_line n) ≡ true
-opening_no_feed n h = joined_no_feed (codes "log") (codes "1" ∷ codes "blocks" ∷ decimal n ∷ []) refl (refl, refl, decimal_no_feed n h, tt)
+opening_no_feed n h = joined_no_feed (codes "log") (codes "1" ∷ codes "blocks" ∷ decimal n ∷ []) refl (refl, (refl, (decimal_no_feed n h, tt)))
 
 closing_no_feed : (n : ℕ) → nat_lt n 10000000000 ≡ true → has_no_feed (closing_line n) ≡ true
 closing_no_feed n h = joined_no_feed (codes "end") (decimal n ∷ []) refl (decimal_no_feed n h, tt)

@@ -1,13 +1,15 @@
 //! Laws of logs that are written.
 
-ghost use Rattle.std.specs.Prelude.{Bool, List, ℕ};
+ghost use Rattle.std.specs.Prelude.{◌≤◌, Bool, List, ℕ};
 ghost use Rattle.completeness_logs.specs.LogTexts.{IsLog};
-ghost use Rattle.completeness_logs.specs.Logs.{KnownBlocks, LogTree, IsTreeUnder};
+ghost use Rattle.proof_log.specs.Few.{HasFewMatching};
 ghost use Rattle.solid_model.specs.Blocks.{ProblemParts, IsBlocksOf};
+ghost use Rattle.solid_model.specs.Panels.{IsGrid};
 
-/// Whatever is known of a problem's blocks, there is a tree for it: so every problem has a log, as
-/// far as its solids are few enough.
-pub fn some_tree_goes_on()
-    ensures { (p : ProblemParts) → IsBlocksOf p.grid p.blocks → (known : KnownBlocks)
-        → (t : LogTree) × IsTreeUnder p known t }
+/// Every problem has a log, as far as its solids are few enough: so what is asked of the writing can
+/// be given.
+pub fn every_problem_has_a_log()
+    ensures { (p : ProblemParts) → IsGrid p.grid → IsBlocksOf p.grid p.blocks
+        → p.blocks.count ≤ 65535 → HasFewMatching p
+        → (text : List ℕ) × (choices : List (List Bool)) × IsLog p text choices }
 {}

@@ -10,5 +10,5 @@ mod line;
 mod next;
 mod prove;
 
-pub use laws::some_tree_goes_on;
+pub use laws::every_problem_has_a_log;
 pub use prove::prove_log;

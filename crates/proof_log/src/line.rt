@@ -98,13 +98,14 @@ pub fn push_entry(text: &mut Vec<u8>, entry: LogEntry) -> Result<(), AllocError>
 }
 
 /// Adds the first line of a log, for a problem of so many blocks.
-pub fn push_opening(text: &mut Vec<u8>, blocks: u16) -> Result<(), AllocError>
+pub fn push_opening(text: &mut Vec<u8>, blocks: u64) -> Result<(), AllocError>
     ensures text { OnOk result (text.new.items ≡ text.old.items ++ fed (opening_line blocks)) }
     ensures few { OnOk result (length text.new.items ≤ length text.old.items + 54) }
 {
     text.extend_from_slice(b"log 1 blocks ")?;
-    push_number(text, u64::from(blocks))?;
-    text.extend_from_slice(b"\n")
+    push_number(text, blocks)?;
+    text.extend_from_slice(b"\n")?;
+    Ok(())
 }
 
 /// Adds the last line of a log that lists so many solids.

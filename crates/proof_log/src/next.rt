@@ -16,7 +16,7 @@ use solid_model::{LineId, Memory};
 #[derive(Clone, Copy, Debug)]
 pub struct NextEntry {
     pub entry: LogEntry,
-    pub open: bool,
+    pub goes_on: bool,
 }
 
 /// Where a line stands.
@@ -56,7 +56,7 @@ pub fn next_entry(partial: &mut Partial<'_>, marks: &mut Vec<u16>) -> Result<Nex
         (decided_by partial.old.decisions) next.entry) }
     ensures short { IfOk result (λ next. IsTrue (is_short_entry next.entry)) }
     ensures coming { IfOk result
-        (λ next. all_to_come next.open partial.new.decisions (reverse marks.new.items)
+        (λ next. all_to_come next.goes_on partial.new.decisions (reverse marks.new.items)
         ≡ after_entry next.entry (decided_by partial.old.decisions)
         (sides_to_come partial.old.decisions (reverse marks.old.items))) }
 {
@@ -66,23 +66,23 @@ pub fn next_entry(partial: &mut Partial<'_>, marks: &mut Vec<u16>) -> Result<Nex
             let _count = partial.decided();
             Ok(NextEntry {
                 entry: LogEntry::Force(u64::from(block), full, place_of(line)),
-                open: true,
+                goes_on: true,
             })
         }
         Forcing::Conflict { line } => Ok(NextEntry {
             entry: LogEntry::Fail(place_of(line)),
-            open: close_tree(partial, marks),
+            goes_on: close_tree(partial, marks),
         }),
         Forcing::Stable => match least_undecided(partial) {
             None => Ok(NextEntry {
                 entry: LogEntry::Whole,
-                open: close_tree(partial, marks),
+                goes_on: close_tree(partial, marks),
             }),
             Some(block) => {
                 go_split(partial, block, marks)?;
                 Ok(NextEntry {
                     entry: LogEntry::Split(u64::from(block)),
-                    open: true,
+                    goes_on: true,
                 })
             }
         },

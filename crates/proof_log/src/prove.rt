@@ -21,12 +21,16 @@ use std::alloc::Global;
 use text_pieces::{PIECE, make_room, write_piece};
 use tv_base::{Sink, SinkError};
 
+/// How many blocks a problem has: their number has 16 bits.
+fn block_count(problem: &Problem) -> u16
+    ensures count { result ≡ problem.now.blocks.count }
+    ensures few { problem.now.blocks.count ≤ 65535 }
+{
+    problem.blocks().count()
+}
+
 /// Adds the line of an entry to the piece, after it was written where it was full.
-fn write_entry<K: Sink>(
-    piece: &mut Vec<u8>,
-    entry: LogEntry,
-    sink: &mut K,
-) -> Result<(), SinkError>
+fn write_entry<K: Sink>(piece: &mut Vec<u8>, entry: LogEntry, sink: &mut K) -> Result<(), SinkError>
     requires { length piece.old.items ≤ 65536 }
     ensures later { K.faults sink.old ≤ K.faults sink.new }
     ensures ok { OnOk result (WritesOn (K.held sink.old) (K.held sink.new)
@@ -48,13 +52,7 @@ fn count_listed(solids: u64, entry: LogEntry) -> u64
     ensures { (before : ℕ) → Counts solids before → Counts result (before + listed_by entry) }
 {
     match entry {
-        LogEntry::Whole => {
-            if solids < 65_536 {
-                solids + 1
-            } else {
-                solids
-            }
-        }
+        LogEntry::Whole => { if solids < 65_536 { solids + 1 } else { solids } }
         LogEntry::Fail(_) | LogEntry::Force(..) | LogEntry::Split(_) => solids,
     }
 }
@@ -73,7 +71,8 @@ fn write_entries<K: Sink>(
     requires blocks { IsBlocksOf partial.old.problem.grid partial.old.problem.blocks }
     requires few { HasFewMatching partial.old.problem }
     ensures later { K.faults sink.old ≤ K.faults sink.new }
-    ensures ok { IfOk result (λ solids. (text : List ℕ) (choices : List (List Bool))
+    ensures ok { IfOk result (λ solids. (text : List ℕ)
+        × (choices : List (List Bool))
         × IsLog partial.old.problem (text ++ fed (closing_line solids)) choices
         × WritesOn (K.held sink.old) (K.held sink.new) text piece.new.items) }
     ensures room { OnOk result (length piece.new.items ≤ 64201) }
@@ -82,6 +81,8 @@ fn write_entries<K: Sink>(
     ensures failed { IsErrOf result SinkError.Failed →
         Rose (K.faults sink.old) (K.faults sink.new) }
 {
+    // A look at the blocks tells that their number has 16 bits.
+    let _count = block_count(partial.problem());
     let mut marks = Vec::new(alloc);
     let mut solids = 0;
     let mut open = true;
@@ -91,7 +92,7 @@ fn write_entries<K: Sink>(
         };
         write_entry(piece, next.entry, sink)?;
         solids = count_listed(solids, next.entry);
-        open = next.open;
+        open = next.goes_on;
     }
     Ok(solids)
 }
@@ -107,14 +108,15 @@ fn write_log<K: Sink>(
     requires blocks { IsBlocksOf partial.old.problem.grid partial.old.problem.blocks }
     requires few { HasFewMatching partial.old.problem }
     ensures later { K.faults sink.old ≤ K.faults sink.new }
-    ensures ok { OnOk result ((text : List ℕ) (choices : List (List Bool))
+    ensures ok { OnOk result ((text : List ℕ)
+        × (choices : List (List Bool))
         × IsLog partial.old.problem text choices × Appends (K.held sink.old) (K.held sink.new) text) }
     ensures err { OnErr result
         (WritesLog partial.old.problem (K.held sink.old) (K.held sink.new)) }
     ensures failed { IsErrOf result SinkError.Failed →
         Rose (K.faults sink.old) (K.faults sink.new) }
 {
-    let blocks = partial.problem().blocks().count();
+    let blocks = u64::from(block_count(partial.problem()));
     let mut piece = Vec::with_capacity(alloc, PIECE)?;
     push_opening(&mut piece, blocks)?;
     let solids = write_entries(alloc, partial, &mut piece, sink)?;
@@ -133,16 +135,20 @@ fn write_log<K: Sink>(
 pub fn prove_log<K: Sink>(alloc: Global, problem: &Problem, sink: &mut K) -> Result<(), SinkError>
     requires { HasFewMatching problem.now }
     ensures later { K.faults sink.old ≤ K.faults sink.new }
-    ensures ok { OnOk result ((text : List ℕ) (choices : List (List Bool))
+    ensures ok { OnOk result ((text : List ℕ)
+        × (choices : List (List Bool))
         × IsLog problem.now text choices × Appends (K.held sink.old) (K.held sink.new) text) }
-    ensures err { OnErr result ((text : List ℕ) (choices : List (List Bool))
+    ensures err { OnErr result ((text : List ℕ)
+        × (choices : List (List Bool))
         × IsLog problem.now text choices
         × AppendsPrefix (K.held sink.old) (K.held sink.new) text) }
     ensures failed { IsErrOf result SinkError.Failed →
         Rose (K.faults sink.old) (K.faults sink.new) }
 {
-    // Looks at the problem tell that its blocks are those of its grid, and its grid a drawing's.
+    // Looks at the problem tell that its blocks are those of its grid, that its grid is a drawing's,
+    // and that the number of its blocks has 16 bits.
     let _coordinates = problem.grid().coordinates(Axis::X);
+    let _count = block_count(problem);
     match Partial::new(alloc, problem) {
         Ok(partial) => {
             let mut partial = partial;
