@@ -1,5 +1,5 @@
 -- The lines of the text of some lines are these.
-use Rattle.std.proofs.Common.{◌≡◌, ◌==◌, ◌&&◌, not, Bool, true, false, cond, ℕ, ◌<◌, List, [], ◌∷◌, ◌++◌, length, map, nat_lt, IsTrue, refl, ap, ap₂, sym, subst, ◌∙◌, arith, append_assoc, append-nil, codes}
+use Rattle.std.proofs.Common.{◌≡◌, ◌==◌, ◌&&◌, not, Bool, true, false, cond, ℕ, List, [], ◌∷◌, ◌++◌, map, nat_lt, IsTrue, refl, ap, sym, subst, ◌∙◌, arith, append_assoc, append-nil, codes}
 use Rattle.std.specs.Char.{is_ascii_digit}
 use Rattle.std.specs.Fmt.{decimal}
 use Rattle.std.specs.List.{onto_first}
@@ -9,14 +9,14 @@ use Rattle.std.proofs.lemmas.Fmt.{digits_decimal}
 use Rattle.completeness_logs.specs.declared.entry.LinePlace.{LinePlace}
 use Rattle.completeness_logs.specs.declared.entry.LogEntry.{LogEntry}
 use Rattle.completeness_logs.specs.declared.entry.LogEntry.TheVariants.{Fail, Whole, Force, Split}
-use Rattle.completeness_logs.specs.LogTexts.{closing_line, entry_line, entry_words, full_word, has_short_numbers, is_short_entry, opening_line, place_words, upright_word, view_word}
+use Rattle.completeness_logs.specs.LogTexts.{closing_line, entry_line, full_word, has_short_numbers, is_short_entry, opening_line, place_words, upright_word, view_word}
 use Rattle.dxf_groups.specs.TextLines.{is_feed, text_lines}
 use Rattle.lemmas.specs.Lists.{Each}
 use Rattle.proof_log.specs.Lines.{fed, text_of_lines}
 use Rattle.solid_model.specs.declared.frame.View.{View}
 use Rattle.solid_model.specs.declared.frame.View.TheVariants.{Front, Top, Side}
 use Rattle.text_lines.proofs.NumberWords.{own}
-use Rattle.text_lines.specs.Words.{joined, joined_behind}
+use Rattle.text_lines.specs.Words.{joined_behind}
 
 -- ---- bytes without a line feed
 

@@ -1,5 +1,5 @@
 -- What a step tells is right in a log.
-use Rattle.std.proofs.Common.{◌≡◌, Bool, true, not, ℕ, ◌<◌, List, ◌∷◌, ◌++◌, None, IsTrue, inl, inr, refl, sym, subst}
+use Rattle.std.proofs.Common.{◌≡◌, not, ◌<◌, List, ◌∷◌, ◌++◌, IsTrue, inl, refl, sym, subst}
 use Rattle.column_laws.proofs.AllLines.{lines_are_there}
 use Rattle.completeness_logs.specs.declared.entry.LogEntry.TheVariants.{Fail, Force}
 use Rattle.completeness_logs.specs.declared.entry.LinePlace.{LinePlace}

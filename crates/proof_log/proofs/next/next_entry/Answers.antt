@@ -1,5 +1,5 @@
-use Rattle.std.proofs.Common.{◌≡◌, ◌∷◌, ◌++◌, ◌<◌, [], reverse, refl, sym, subst, ap, ◌∙◌, true}
-use Rattle.completeness_logs.specs.declared.entry.LogEntry.TheVariants.{Fail, Force}
+use Rattle.std.proofs.Common.{◌∷◌, ◌++◌, [], reverse, refl, sym, subst, ap, ◌∙◌, true}
+use Rattle.completeness_logs.specs.declared.entry.LogEntry.TheVariants.{Force}
 use Rattle.completeness_logs.specs.Logs.{IsRightEntry, with_block}
 use Rattle.completeness_logs.specs.SplitMarks.{AreSplitMarks, all_to_come, sides_to_come}
 use Rattle.completeness_logs.proofs.SplitMarks.{marks_more, standing_decided}

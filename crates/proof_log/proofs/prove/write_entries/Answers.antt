@@ -1,5 +1,5 @@
 -- One entry more.
-use Rattle.std.proofs.Common.{◌≡◌, ◌∷◌, ◌++◌, ◌+◌, ◌≤◌, [], Bool, ℕ, List, reverse, refl, sym, subst, ap, ◌∙◌, true, arith}
+use Rattle.std.proofs.Common.{◌++◌, ◌+◌, ◌≤◌, [], Bool, List, reverse, refl, sym, subst, ap, ◌∙◌, true, arith}
 use Rattle.completeness_logs.specs.Logs.{IsRightEntry, KnownBlocks}
 use Rattle.completeness_logs.specs.LogTexts.{entry_line, opening_line}
 use Rattle.completeness_logs.specs.SplitMarks.{AreSplitMarks, all_to_come, sides_to_come}

@@ -1,9 +1,8 @@
 -- The first line, the entries, and the last line.
-use Rattle.std.proofs.Common.{◌≡◌, ◌++◌, ◌≤◌, ◌∙◌, ℕ, List, sym, subst}
+use Rattle.std.proofs.Common.{◌≡◌, ◌++◌, ◌≤◌, ◌∙◌, subst}
 use Rattle.std.proofs.lemmas.Result.{on_err_weaker}
 use Rattle.completeness_logs.specs.LogTexts.{closing_line}
 use Rattle.proof_log.specs.Lines.{fed}
-use Rattle.proof_log.specs.Writing.{WritesLog}
 use Rattle.proof_log.proofs.Begun.{nothing_of_log}
 use Rattle.solid_model.specs.Blocks.{ProblemParts}
 use Rattle.text_pieces.proofs.WrittenPieces.{written_more, prefix_written, prefix_longer, left_over, at_error}
