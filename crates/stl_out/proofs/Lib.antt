@@ -6,7 +6,6 @@ pub mod Covering
 pub mod Walked
 pub mod OnGrid
 pub mod Corners
-pub mod WrittenPieces
 pub mod Texts
 pub mod SomeRectangles
 pub mod SolidTexts

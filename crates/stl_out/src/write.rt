@@ -1,7 +1,6 @@
 //! A solid's STL text, written to a sink piece by piece.
 //!
-//! That no piece is longer than 65,536 bytes is what `write_piece` asks for, so that each call
-//! keeps it. All rectangles of a solid are held, 32 bytes each; of the text one piece. `write_stl`
+//! All rectangles of a solid are held, 32 bytes each; of the text one piece. `write_stl`
 //! asks for nothing: a choice that fills no cell has the text of no triangle.
 
 ghost use Rattle.std.specs.Prelude.{◌≡◌, ◌++◌, ◌≤◌, ◌<◌, ℕ, List, length, OnOk, OnErr, IsErrOf};
@@ -12,9 +11,10 @@ ghost use Rattle.solid_model.specs.Choices.{cells_of_choice};
 ghost use Rattle.lemmas.specs.Lists.{Each};
 ghost use Rattle.solid_model.specs.Panels.{coordinates_of};
 ghost use Rattle.stl_out.specs.Numbered.{AreShort, IsOfGrid};
-ghost use Rattle.stl_out.specs.Pieces.{WritesOn, rectangle_text};
+ghost use Rattle.stl_out.specs.Pieces.{rectangle_text};
 ghost use Rattle.stl_out.specs.Rectangles.{all_triangles};
 ghost use Rattle.stl_out.specs.StlText.{stl_text, IsStlOf};
+ghost use Rattle.text_pieces.specs.Pieces.{WritesOn};
 ghost use Rattle.tv_base.specs.Faults.{Rose};
 ghost use Rattle.tv_base.specs.Pieces.{AppendsPrefix};
 
@@ -24,45 +24,8 @@ use crate::surface::rectangles_of;
 use crate::text::push_rectangle;
 use solid_model::{Choice, Grid, Problem};
 use std::alloc::Global;
+use text_pieces::{PIECE, make_room, write_piece};
 use tv_base::{Sink, SinkError};
-
-/// The most bytes that are written at once.
-const PIECE: usize = 65_536;
-
-/// With so many bytes a piece may have no room for a rectangle's two triangles, and for the end.
-const FULL: usize = 64_000;
-
-/// Writes a piece.
-fn write_piece<K: Sink>(sink: &mut K, piece: &[u8]) -> Result<(), SinkError>
-    requires { length piece.now ≤ 65536 }
-    ensures later { K.faults sink.old ≤ K.faults sink.new }
-    ensures ok { OnOk result (Appends (K.held sink.old) (K.held sink.new) piece.now) }
-    ensures err { OnErr result (AppendsPrefix (K.held sink.old) (K.held sink.new) piece.now) }
-    ensures failed { IsErrOf result SinkError.Failed →
-        Rose (K.faults sink.old) (K.faults sink.new) }
-{
-    sink.write_all(piece)
-}
-
-/// Makes room for a rectangle's two triangles: writes the piece where it is full, and begins
-/// another one.
-fn make_room<K: Sink>(piece: &mut Vec<u8>, sink: &mut K) -> Result<(), SinkError>
-    requires { length piece.old.items ≤ 65536 }
-    ensures later { K.faults sink.old ≤ K.faults sink.new }
-    ensures ok { OnOk result (WritesOn (K.held sink.old) (K.held sink.new)
-        piece.old.items piece.new.items) }
-    ensures room { OnOk result (length piece.new.items ≤ 64000) }
-    ensures err { OnErr result
-        (AppendsPrefix (K.held sink.old) (K.held sink.new) piece.old.items) }
-    ensures failed { IsErrOf result SinkError.Failed →
-        Rose (K.faults sink.old) (K.faults sink.new) }
-{
-    if piece.len() > FULL {
-        write_piece(sink, piece)?;
-        piece.clear();
-    }
-    Ok(())
-}
 
 /// Adds a rectangle's two triangles to the piece, after it was written where it was full.
 fn write_rectangle<K: Sink>(

@@ -5,9 +5,10 @@ use Rattle.std.specs.List.{flat_map}
 use Rattle.std.proofs.lemmas.Result.{on_ok_weaker, on_err_weaker}
 use Rattle.face_laws.specs.GridFaces.{Planes, grid_planes}
 use Rattle.solid_model.specs.Panels.{GridParts, coordinates_of}
-use Rattle.stl_out.specs.Pieces.{WritesOn, rectangle_text}
+use Rattle.stl_out.specs.Pieces.{rectangle_text}
+use Rattle.text_pieces.specs.Pieces.{WritesOn}
 use Rattle.stl_out.proofs.Texts.{whole_text}
-use Rattle.stl_out.proofs.WrittenPieces.{written_more, prefix_written, prefix_longer, last_written, left_over, at_error}
+use Rattle.text_pieces.proofs.WrittenPieces.{written_more, prefix_written, prefix_longer, last_written, left_over, at_error}
 use Rattle.tv_base.specs.Pieces.{AppendsPrefix}
 use Rattle.stl_out.proofs.write.write_text.Goals as goal
 

@@ -1,0 +1,5 @@
+pub mod Lighter
+pub mod SomeTrees
+pub mod LineTexts
+pub mod Begun
+pub mod NextEntries

@@ -1,0 +1,4 @@
+pub mod Few
+pub mod Lines
+pub mod Weights
+pub mod Writing
