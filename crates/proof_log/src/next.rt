@@ -46,8 +46,9 @@ fn least_undecided(partial: &Partial<'_>) -> Option<u16>
     None
 }
 
-/// Goes on by one entry: what the lines force next, the first line that can't be met, or, where they
-/// force nothing, a solid where all blocks are decided, and else a split on the least undecided one.
+/// Goes on by one entry: what the lines force next, the first line that can't be met, or, where
+/// they force nothing, a solid where all blocks are decided, and else a split on the least
+/// undecided one.
 pub fn next_entry(partial: &mut Partial<'_>, marks: &mut Vec<u16>) -> Result<NextEntry, Memory>
     requires marks { AreSplitMarks partial.old.decisions (reverse marks.old.items) }
     ensures problem { partial.new.problem ≡ partial.old.problem }

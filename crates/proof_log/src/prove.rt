@@ -57,7 +57,8 @@ fn count_listed(solids: u64, entry: LogEntry) -> u64
     }
 }
 
-/// Writes the entries of a log behind its first line, which the piece has. How many solids are listed.
+/// Writes the entries of a log behind its first line, which the piece has. How many solids are
+/// listed.
 fn write_entries<K: Sink>(
     alloc: Global,
     partial: &mut Partial<'_>,
@@ -110,7 +111,8 @@ fn write_log<K: Sink>(
     ensures later { K.faults sink.old ≤ K.faults sink.new }
     ensures ok { OnOk result ((text : List ℕ)
         × (choices : List (List Bool))
-        × IsLog partial.old.problem text choices × Appends (K.held sink.old) (K.held sink.new) text) }
+        × IsLog partial.old.problem text choices
+        × Appends (K.held sink.old) (K.held sink.new) text) }
     ensures err { OnErr result
         (WritesLog partial.old.problem (K.held sink.old) (K.held sink.new)) }
     ensures failed { IsErrOf result SinkError.Failed →
@@ -127,11 +129,11 @@ fn write_log<K: Sink>(
 /// Writes a log that shows that no other solid matches the drawing of a problem, of which at most
 /// 65,536 match. At each place of its tree the lines of the grid are asked first: a line that can't
 /// be met ends it, and a decision that they force comes before anything else; where they force
-/// nothing, all blocks are decided, which is a solid, or the least undecided block is split. The text
-/// goes to the sink in pieces of at most 65,536 bytes, and no more of it is held.
+/// nothing, all blocks are decided, which is a solid, or the least undecided block is split. The
+/// text goes to the sink in pieces of at most 65,536 bytes, and no more of it is held.
 ///
-/// At an `Err` the sink has a prefix of such a log: `Failed` comes only where the sink failed in this
-/// call, `Memory` is out of memory.
+/// At an `Err` the sink has a prefix of such a log: `Failed` comes only where the sink failed in
+/// this call, `Memory` is out of memory.
 pub fn prove_log<K: Sink>(alloc: Global, problem: &Problem, sink: &mut K) -> Result<(), SinkError>
     requires { HasFewMatching problem.now }
     ensures later { K.faults sink.old ≤ K.faults sink.new }
@@ -145,8 +147,8 @@ pub fn prove_log<K: Sink>(alloc: Global, problem: &Problem, sink: &mut K) -> Res
     ensures failed { IsErrOf result SinkError.Failed →
         Rose (K.faults sink.old) (K.faults sink.new) }
 {
-    // Looks at the problem tell that its blocks are those of its grid, that its grid is a drawing's,
-    // and that the number of its blocks has 16 bits.
+    // Looks at the problem tell that its blocks are those of its grid, that its grid is a
+    // drawing's, and that the number of its blocks has 16 bits.
     let _coordinates = problem.grid().coordinates(Axis::X);
     let _count = block_count(problem);
     match Partial::new(alloc, problem) {
