@@ -1,0 +1,4 @@
+mod Taken
+mod Seen
+mod Spelled
+mod LineByLine

@@ -1,0 +1,4 @@
+pub mod Askings
+pub mod Reading
+pub mod Sessions
+pub mod Tales
