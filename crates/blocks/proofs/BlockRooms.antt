@@ -1,12 +1,12 @@
 -- The rooms between the faces that are marked are the blocks.
 use Rattle.std.proofs.Common.{◌≤◌, ℕ, List, Option, Some, None, IsTrue, arith}
 use Rattle.solid_model.specs.Blocks.{AreBlocksOf}
-use Rattle.solid_model.specs.Kept.{IsBelow, IsFaceMapOf}
+use Rattle.solid_model.specs.Kept.{IsFaceMapOf}
 use Rattle.solid_model.specs.Limits.{most_blocks}
 use Rattle.lemmas.specs.Lists.{Each}
 use Rattle.solid_model.specs.Marks.{AxisMarks, marks_along, is_marked}
 use Rattle.solid_model.specs.Panels.{GridParts}
-use Rattle.solid_model.specs.Rooms.{face_sizes, AreRooms}
+use Rattle.solid_model.specs.Rooms.{face_sizes, AreRooms, IsEarlier}
 use Rattle.solid_model.specs.VirtualFaces.{IsVirtual}
 use Rattle.solid_model.specs.GridBox.{grid_sizes}
 use Rattle.lemmas.proofs.Lists.{each-weaker}
@@ -21,10 +21,10 @@ rooms_blocks g faces is = rooms_between_same (grid_sizes g) (λ a n. IsTrue (is_
 
 -- the numbers of few blocks are below the most that there may be
 pub block_numbers-few : (g : GridParts) (numbers : List (Option ℕ)) (count : ℕ) → AreBlocksOf g numbers count → count ≤ most_blocks
-    → Each (IsBelow most_blocks) numbers
+    → Each (IsEarlier most_blocks) numbers
 block_numbers-few g numbers count are few =
-    each-weaker (IsBelow count) (IsBelow most_blocks) numbers below (room_numbers-below (grid_sizes g) (IsVirtual g) numbers count are)
+    each-weaker (IsEarlier count) (IsEarlier most_blocks) numbers below (room_numbers-below (grid_sizes g) (IsVirtual g) numbers count are)
   where
-    below : (x : Option ℕ) → IsBelow count x → IsBelow most_blocks x
+    below : (x : Option ℕ) → IsEarlier count x → IsEarlier most_blocks x
     below None h = tt
     below (Some k) h = omega (arith, h, few)

@@ -5,7 +5,8 @@
 
 ghost use Rattle.std.specs.Prelude.{◌≡◌, ◌≤◌, ℕ, IfOk, IsErrOf};
 ghost use Rattle.solid_model.specs.Blocks.{IsBlocksOf, HasTooManyBlocks};
-ghost use Rattle.solid_model.specs.Kept.{IsBelow, IsFaceMapOf};
+ghost use Rattle.solid_model.specs.Kept.{IsFaceMapOf};
+ghost use Rattle.solid_model.specs.Rooms.{IsEarlier};
 ghost use Rattle.solid_model.specs.declared.fault.Fault.{Fault};
 ghost use Rattle.solid_model.specs.Limits.{most_blocks};
 ghost use Rattle.lemmas.specs.Lists.{Each};
@@ -43,7 +44,7 @@ impl Walls for FaceWalls<'_> {
 
 /// A block's number, kept in less room.
 fn short_number(number: Option<u32>) -> Option<u16>
-    requires { IsBelow most_blocks number }
+    requires { IsEarlier most_blocks number }
     ensures { result ≡ number }
 {
     match number {
@@ -54,7 +55,7 @@ fn short_number(number: Option<u32>) -> Option<u16>
 
 /// The numbers of the blocks, kept in less room.
 fn short_numbers(alloc: Global, numbers: &[Option<u32>]) -> Result<Vec<Option<u16>>, Memory>
-    requires { Each (IsBelow most_blocks) numbers.now }
+    requires { Each (IsEarlier most_blocks) numbers.now }
     ensures { IfOk result (λ short. short.items ≡ numbers.now) }
 {
     let mut short = Vec::with_capacity(alloc, numbers.len())?;

@@ -38,8 +38,8 @@ fn next_from_word(words: &[u64], from: usize) -> usize
     words.len() * 64
 }
 
-/// The first place from a place on whose bit is set, where bit k % 64 of word k / 64 stands at place
-/// k; where none is, the end of the words.
+/// The first place from a place on whose bit is set, where bit k % 64 of word k / 64 stands at
+/// place k; where none is, the end of the words.
 pub fn next_place(words: &[u64], from: usize) -> usize
     requires few { length words.now ≤ 2 ^ 32 }
     requires from { from ≤ length words.now * 64 }

@@ -12,8 +12,8 @@ use solid_model::{Axis, Choice, Marks, Memory, PerAxis, Problem};
 use std::alloc::Global;
 use std::marker::Model;
 
-/// The rows along each axis of a box of marked cells, at most 63 along each axis, as words: bit k is
-/// the cell of number k. Contracts see the marks.
+/// The rows along each axis of a box of marked cells, at most 63 along each axis, as words: bit k
+/// is the cell of number k. Contracts see the marks.
 #[derive(Debug, Drop)]
 pub struct CellRows {
     sizes: PerAxis,

@@ -1,5 +1,5 @@
-//! Columns of cells and the styles that two of them draw: of one pair, and by lanes, of eight pairs at
-//! once and one by one of those that are left over.
+//! Columns of cells and the styles that two of them draw: of one pair, and by lanes, of eight pairs
+//! at once and one by one of those that are left over.
 #![tactic(auto)]
 
 mod column;

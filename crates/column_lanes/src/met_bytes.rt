@@ -131,8 +131,9 @@ fn put_met_rest(
 }
 
 /// Of each pair of columns beside a segment whether some columns between what is full for certain
-/// and what may be full draw the wanted style on it, by place: 1 where some do, else 0. A bit that is
-/// set is a cell, and bit 0 is the nearest; wanted are 0 for Blank, 1 for Dashed and 2 for Solid.
+/// and what may be full draw the wanted style on it, by place: 1 where some do, else 0. A bit that
+/// is set is a cell, and bit 0 is the nearest; wanted are 0 for Blank, 1 for Dashed and 2 for
+/// Solid.
 pub fn still_meets(
     full_l: &[u64],
     may_l: &[u64],

@@ -6,8 +6,9 @@ use Rattle.solid_model.specs.declared.frame.Frame.{Frame}
 use Rattle.solid_model.specs.Frames.{across}
 use Rattle.lemmas.specs.Bits.{bits}
 use Rattle.solid_model.specs.GridPlaces.{place_in, grid_cell_in}
+use Rattle.solid_model.specs.Segments.{across_of, along_of}
 use Rattle.column_laws.specs.GridColumns.{column_to}
-use Rattle.column_laws.specs.GridPanels.{place_right, place_up, IsColumnBeside, AreColumnsBeside}
+use Rattle.column_laws.specs.GridPanels.{IsColumnBeside, AreColumnsBeside}
 use Rattle.column_laws.proofs.GridColumns.{full_depth, empty_depth}
 use Rattle.column_laws.proofs.GridSegments.{empty_bits}
 
@@ -44,7 +45,7 @@ module _ (f : Frame) (sizes : Axis → ℕ) (chosen : List Bool) where
     beside : (line : ℕ) → (n : ℕ) × IsColumnBeside f sizes chosen upright start line n
     beside line = elim (cases_lt line (sizes (across f upright).axis)) as (λ _. (n : ℕ) × IsColumnBeside f sizes chosen upright start line n) [
       | inl l ↦
-          let n = number_to (place_right upright start line) (place_up upright start line) (sizes f.away.axis) few in
+          let n = number_to (across_of upright line start) (along_of upright line start) (sizes f.away.axis) few in
           (n.0, record { inside = λ _. n.1; outside = λ beyond. absurd (omega arith) })
       | inr beyond ↦ (0, beyond_lines f sizes chosen upright start line beyond)
     ]

@@ -18,7 +18,7 @@ use Rattle.solid_model.specs.Edges.{second_axis, third_axis, AreAcross}
 use Rattle.solid_model.specs.Frames.{IsFrame, frame_of, along, across, cell_on}
 use Rattle.solid_model.specs.Grid.{Coordinates, GridCell, is_in_gap, LiesInGridCell, gaps_along, grid_cell_place, IsUnionOf}
 use Rattle.lemmas.specs.Lists.{Ascends}
-use Rattle.solid_model.specs.Segments.{segment_at}
+use Rattle.solid_model.specs.Segments.{segment_at, across_of, along_of}
 use Rattle.solid_model.proofs.ColumnRule.{columns_drawn}
 use Rattle.solid_model.proofs.InGrid.{gap_or_none}
 use Rattle.solid_model.proofs.Styles.{one_style, drawn_style_drawn}
@@ -27,7 +27,7 @@ use Rattle.solid_model.specs.PerAxis.{by_axis, numbered}
 use Rattle.lemmas.specs.Bits.{bits}
 use Rattle.solid_model.specs.GridPlaces.{number_on, grid_cell_in}
 use Rattle.column_laws.specs.GridColumns.{grid_column}
-use Rattle.column_laws.specs.GridPanels.{place_right, place_up, IsColumnBeside, AreColumnsBeside}
+use Rattle.column_laws.specs.GridPanels.{IsColumnBeside, AreColumnsBeside}
 use Rattle.solid_model.proofs.Gaps.{member, lies_in, gaps_keep_order, begins_gap, ends_gap, last_in_none, before_first_in_none}
 use Rattle.column_laws.proofs.Stretched.{KeepsOrder, IsStretched, stretched_draw}
 
@@ -116,12 +116,12 @@ module _ (f : Frame) (is : IsFrame f) (sizes : Axis → ℕ) where
   cell_numbers i j k = numbers_at _ _ _ f.right.axis f.up.axis f.away.axis (across_turned _ _ _ (across_next _ _ _ is))
 
   number_along : (upright : Bool) → (along f upright).forward ≡ true → (start line k : ℕ)
-      → grid_cell_in f sizes (place_right upright start line) (place_up upright start line) k (along f upright).axis ≡ start
+      → grid_cell_in f sizes (across_of upright line start) (along_of upright line start) k (along f upright).axis ≡ start
   number_along true runs start line k = (cell_numbers line start k).second ∙ forward_number sizes f.up start runs
   number_along false runs start line k = (cell_numbers start line k).first ∙ forward_number sizes f.right start runs
 
   number_across : (upright : Bool) → (across f upright).forward ≡ true → (start line k : ℕ)
-      → grid_cell_in f sizes (place_right upright start line) (place_up upright start line) k (across f upright).axis ≡ line
+      → grid_cell_in f sizes (across_of upright line start) (along_of upright line start) k (across f upright).axis ≡ line
   number_across true stands start line k = (cell_numbers line start k).first ∙ forward_number sizes f.right line stands
   number_across false stands start line k = (cell_numbers start line k).second ∙ forward_number sizes f.up line stands
 
@@ -152,10 +152,10 @@ module _ (coordinates : Coordinates) (ordered : (a : Axis) → Ascends ◌<ℤ�
 
   module _ (start line : ℕ) (i j : ℤ) (on_stretch : is_in_gap (coordinates (along f upright).axis) start i ≡ true) where
     abbrev right : ℕ
-    right = place_right upright start line
+    right = across_of upright line start
 
     abbrev up : ℕ
-    up = place_up upright start line
+    up = along_of upright line start
 
     -- the unit column at j
     abbrev unit_column : ℤ → Bool

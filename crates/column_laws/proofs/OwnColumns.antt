@@ -21,8 +21,8 @@ use Rattle.solid_model.proofs.BoxPlaces.{within_box, place_there}
 use Rattle.column_laws.proofs.MetLines.{outside_at_depth}
 use Rattle.solid_model.proofs.Views.{views_are_frames, stands_forward, across_along, coordinates_at}
 use Rattle.solid_model.specs.GridPlaces.{grid_cell_in}
+use Rattle.solid_model.specs.Segments.{across_of, along_of}
 use Rattle.column_laws.specs.GridColumns.{grid_column}
-use Rattle.column_laws.specs.GridPanels.{place_right, place_up}
 use Rattle.column_laws.proofs.Prefixes.{is_filled, block_on_grid}
 
 -- ---- one cell, told in both ways
@@ -33,7 +33,7 @@ number_back size k l = omega (arith, ints)
 
 -- the grid cell that stands at places along and across the lines of a kind
 abbrev numbers_in : View → Bool → Sizes → ℕ → ℕ → ℕ → GridCell
-numbers_in v upright sizes i j k = grid_cell_in (frame_of v) sizes (place_right upright i j) (place_up upright i j) k
+numbers_in v upright sizes i j k = grid_cell_in (frame_of v) sizes (across_of upright j i) (along_of upright j i) k
 
 abbrev cell_with : GridCell → Cell
 cell_with n = cell_at (n X) (n Y) (n Z)
@@ -108,10 +108,10 @@ module _ (g : GridParts) (b : BlockNumbers) (is : IsBlocksOf g b) (choice : List
 
   -- at a place of the grid it is the column of grid cells there
   pub own_is_grid_column : (j : ℕ) → i < grid_sizes g (axis_along v upright) → j < grid_sizes g (axis_across v upright) → (k : ℤ)
-      → own_column (pos j) k ≡ grid_column (frame_of v) (grid_sizes g) chosen (place_right upright i j) (place_up upright i j) k
+      → own_column (pos j) k ≡ grid_column (frame_of v) (grid_sizes g) chosen (across_of upright j i) (along_of upright j i) k
   own_is_grid_column j l m (negsuc k) = own_off (pos j) (negsuc k) (λ r. let low = r.0 in omega (arith, ints))
   own_is_grid_column j l m (pos k) = elim (cases_lt k (grid_sizes g (frame_of v).away.axis))
-      as (λ _. own_column (pos j) (pos k) ≡ grid_column (frame_of v) (grid_sizes g) chosen (place_right upright i j) (place_up upright i j) (pos k)) [
+      as (λ _. own_column (pos j) (pos k) ≡ grid_column (frame_of v) (grid_sizes g) chosen (across_of upright j i) (along_of upright j i) (pos k)) [
         | inl h ↦ ap (is_filled b choice) (one_cell_of v upright (grid_sizes g) i j k h)
             ∙ filled_at (numbers_in v upright (grid_sizes g) i j k) (in_box v upright (grid_sizes g) i j k l m h)
             ∙ ap (λ w. w && chosen_at (numbers_in v upright (grid_sizes g) i j k)) (sym (lt-ltb k (grid_sizes g (frame_of v).away.axis) h))

@@ -1,5 +1,5 @@
 -- What the unions of chosen grid cells draw on the segments of a grid.
-use Rattle.std.specs.Prelude.{◌≡◌, ◌<◌, ◌≤◌, Bool, ℕ, suc, List, length, ℤ, ◌<ℤ◌, if◌then◌else◌}
+use Rattle.std.specs.Prelude.{◌≡◌, ◌<◌, ◌≤◌, Bool, ℕ, suc, List, length, ℤ, ◌<ℤ◌}
 use Rattle.solid_model.specs.declared.cell.Axis.{Axis}
 use Rattle.solid_model.specs.declared.cell.Cell.{Cell}
 use Rattle.solid_model.specs.declared.frame.Frame.{Frame}
@@ -12,6 +12,7 @@ use Rattle.solid_model.specs.Frames.{across}
 use Rattle.solid_model.specs.Grid.{Coordinates, IsUnionOf}
 use Rattle.lemmas.specs.Lists.{Ascends}
 use Rattle.solid_model.specs.Panels.{PanelsStyles, AreGridStyles, grid_styles}
+use Rattle.solid_model.specs.Segments.{across_of, along_of}
 use Rattle.lemmas.specs.Bits.{bits}
 use Rattle.column_laws.specs.GridColumns.{grid_column}
 
@@ -20,17 +21,9 @@ pub record HasCounts (counts : Axis → ℕ) (coordinates : Coordinates) : Type 
   pub ordered : (a : Axis) → Ascends ◌<ℤ◌ (coordinates a)
   pub count : (a : Axis) → length (coordinates a) ≡ counts a
 
--- the place to the right of what stands at two places along and across the level, or the upright, segments
-abbrev pub place_right : Bool → ℕ → ℕ → ℕ
-place_right upright start line = if upright then line else start
-
--- and its place upwards
-abbrev pub place_up : Bool → ℕ → ℕ → ℕ
-place_up upright start line = if upright then start else line
-
 -- the column beside a line: that of the grid cells there, and empty beyond the last line
 pub record IsColumnBeside (f : Frame) (sizes : Axis → ℕ) (chosen : List Bool) (upright : Bool) (start line n : ℕ) : Type 0 where
-  pub inside : line < sizes (across f upright).axis → (k : ℤ) → bits n k ≡ grid_column f sizes chosen (place_right upright start line) (place_up upright start line) k
+  pub inside : line < sizes (across f upright).axis → (k : ℤ) → bits n k ≡ grid_column f sizes chosen (across_of upright line start) (along_of upright line start) k
   pub outside : sizes (across f upright).axis ≤ line → n ≡ 0
 
 -- the columns after and before a line

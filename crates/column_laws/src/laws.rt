@@ -28,8 +28,8 @@ pub fn demands_are_computed()
 {}
 
 /// The lines of a grid of two cells along x and one along y and z, in their order: by view, the
-/// level ones before the upright ones, then by position and by cell. And those of the side view, of a
-/// grid of one cell along x and two along y and z.
+/// level ones before the upright ones, then by position and by cell. And those of the side view, of
+/// a grid of one cell along x and two along y and z.
 pub fn lines_in_order()
     ensures all { lines_of two_cells ≡
         line Front false 0 0 ∷ line Front false 0 1 ∷ line Front false 1 0 ∷ line Front false 1 1
@@ -54,8 +54,8 @@ pub fn lines_are_met_by_drawings()
 {}
 
 /// Live prefixes are closed downwards and end in matching solids: what a live prefix begins with is
-/// live; so is whatever the choice of a matching solid begins with; and a live prefix of full length
-/// is the choice of a matching solid.
+/// live; so is whatever the choice of a matching solid begins with; and a live prefix of full
+/// length is the choice of a matching solid.
 pub fn live_prefixes_end_in_matching_solids()
     ensures { (drawing : Segment → Style) → IsDrawing drawing
         → (p : ProblemParts) → IsGridOf drawing p.grid → IsBlocksOf p.grid p.blocks

@@ -13,11 +13,11 @@ use Rattle.solid_model.specs.DrawnStyle.{solid_drawing}
 use Rattle.solid_model.specs.Frames.{frame_of, along, across}
 use Rattle.solid_model.specs.Grid.{gaps_along}
 use Rattle.solid_model.specs.Panels.{starts_of}
-use Rattle.solid_model.specs.Segments.{segment_at}
+use Rattle.solid_model.specs.Segments.{segment_at, across_of, along_of}
 use Rattle.solid_model.specs.PerAxis.{gaps_of}
 use Rattle.column_lanes.specs.declared.column.Column.{Column}
 use Rattle.columns.specs.ColumnLists.{AreColumns}
-use Rattle.column_laws.specs.GridPanels.{place_right, place_up, IsColumnBeside, IsStyleBetween, AreStylesAlong}
+use Rattle.column_laws.specs.GridPanels.{IsColumnBeside, IsStyleBetween, AreStylesAlong}
 use Rattle.column_laws.proofs.GridSegments.{segment_drawn}
 use Rattle.lemmas.proofs.Pushed.{HoldsSoFar}
 
@@ -25,27 +25,27 @@ use Rattle.lemmas.proofs.Pushed.{HoldsSoFar}
 
 -- places along and across are places to the right and upwards
 places_within : (f : Frame) (sizes : Axis → ℕ) (upright : Bool) (start line : ℕ) → start < sizes (along f upright).axis → line < sizes (across f upright).axis
-    → (place_right upright start line < sizes f.right.axis) × (place_up upright start line < sizes f.up.axis)
+    → (across_of upright line start < sizes f.right.axis) × (along_of upright line start < sizes f.up.axis)
 places_within f sizes true start line l m = (m, l)
 places_within f sizes false start line l m = (l, m)
 
 -- the column there stands in the list
 pub column_within : (f : Frame) (sizes : Axis → ℕ) (upright : Bool) (start line : ℕ) → start < sizes (along f upright).axis → line < sizes (across f upright).axis
-    → place_up upright start line * sizes f.right.axis + place_right upright start line < sizes f.up.axis * sizes f.right.axis
+    → along_of upright line start * sizes f.right.axis + across_of upright line start < sizes f.up.axis * sizes f.right.axis
 column_within f sizes upright start line l m =
     let p = places_within f sizes upright start line l m in
-    let within = mul-add-lt (place_up upright start line) (sizes f.right.axis) (place_right upright start line) (sizes f.up.axis) p.1 p.0 in
+    let within = mul-add-lt (along_of upright line start) (sizes f.right.axis) (across_of upright line start) (sizes f.up.axis) p.1 p.0 in
     omega (arith, mul_comm (sizes f.right.axis) (sizes f.up.axis))
 
 -- it is the one beside the line
 pub beside_line : (f : Frame) (sizes : Axis → ℕ) (chosen : List Bool) (upright : Bool) (start line : ℕ) (columns : List Column) (column : Column) → AreColumns f sizes chosen columns
     → start < sizes (along f upright).axis → line < sizes (across f upright).axis
-    → column ≡ get_or columns (place_up upright start line * sizes f.right.axis + place_right upright start line) record { 0 = 0 }
+    → column ≡ get_or columns (along_of upright line start * sizes f.right.axis + across_of upright line start) record { 0 = 0 }
     → IsColumnBeside f sizes chosen upright start line column.0
 beside_line f sizes chosen upright start line columns column are l m e =
     let p = places_within f sizes upright start line l m in
     subst (λ (c : Column). IsColumnBeside f sizes chosen upright start line c.0) (sym e)
-    (record { inside = λ within k. are.each (place_right upright start line) (place_up upright start line) p.0 p.1 k; outside = λ beyond. absurd (omega arith) })
+    (record { inside = λ within k. are.each (across_of upright line start) (along_of upright line start) p.0 p.1 k; outside = λ beyond. absurd (omega arith) })
 
 -- ---- styles, line by line
 

@@ -1,5 +1,5 @@
-//! Drawing of grid cells: the columns of a set of grid cells in the three views, and the styles that
-//! they draw on the segments of a grid.
+//! Drawing of grid cells: the columns of a set of grid cells in the three views, and the styles
+//! that they draw on the segments of a grid.
 #![tactic(auto)]
 
 mod draw;

@@ -5,8 +5,9 @@ ghost use Rattle.solid_model.specs.declared.cell.Axis.{Axis};
 ghost use Rattle.solid_model.specs.Frames.{frame_of, along, across};
 ghost use Rattle.solid_model.specs.Limits.{most_grid_coordinates};
 ghost use Rattle.solid_model.specs.PerAxis.{numbers_of, gaps_of};
+ghost use Rattle.solid_model.specs.Segments.{across_of, along_of};
 ghost use Rattle.columns.specs.ColumnLists.{AreColumns};
-ghost use Rattle.column_laws.specs.GridPanels.{place_right, place_up, IsColumnBeside, IsStyleBetween, AreStylesAlong};
+ghost use Rattle.column_laws.specs.GridPanels.{IsColumnBeside, IsStyleBetween, AreStylesAlong};
 
 use column_lanes::{Column, style_of};
 use solid_model::{Frame, Memory, PerAxis, Style, View};
@@ -15,8 +16,8 @@ use std::alloc::Global;
 /// The places to the right and upwards of what stands at two places along and across the level, or
 /// the upright, segments.
 fn places(upright: bool, start: usize, line: usize) -> (usize, usize)
-    ensures right { result.0 ≡ place_right upright start line }
-    ensures up { result.1 ≡ place_up upright start line }
+    ensures right { result.0 ≡ across_of upright line start }
+    ensures up { result.1 ≡ along_of upright line start }
 {
     if upright {
         (line, start)

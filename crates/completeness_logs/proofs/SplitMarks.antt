@@ -3,7 +3,7 @@ use Rattle.std.proofs.Common.{◌≡◌, true, false, ℕ, zero, suc, ◌<◌, �
 use Rattle.std.proofs.lemmas.List.{reverse-append}
 use Rattle.solid_model.specs.declared.decision.Decision.{Decision}
 use Rattle.solid_model.specs.Decisions.{decided_by, AreDecisions}
-use Rattle.completeness_logs.proofs.DecidedMore.{decided_push}
+use Rattle.solid_model.proofs.DecidedMore.{decided_push}
 use Rattle.completeness_logs.specs.Logs.{with_block}
 use Rattle.completeness_logs.specs.SplitMarks.{no_decision, sides_to_come, AreSplitMarks, all_to_come}
 

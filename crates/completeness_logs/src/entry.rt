@@ -2,8 +2,8 @@
 
 use solid_model::View;
 
-/// Where a line of a grid is said to stand: its view, whether it is upright, its position's index and
-/// its cell's. No grid need have it.
+/// Where a line of a grid is said to stand: its view, whether it is upright, its position's index
+/// and its cell's. No grid need have it.
 #[derive(Clone, Copy, Debug)]
 pub struct LinePlace {
     pub view: View,

@@ -49,8 +49,8 @@ pub fn lines_are_trees()
         → listed_along p (known ∷ []) (tree_entries t) ≡ listed_choices p known t }
 {}
 
-/// A log of a bar with a notch, written out by hand, with each kind of entry. It lists one solid: the
-/// bar without the notch. Its last line may end with a line feed.
+/// A log of a bar with a notch, written out by hand, with each kind of entry. It lists one solid:
+/// the bar without the notch. Its last line may end with a line feed.
 pub fn log_of_notched_bar()
     ensures log { IsLog notched_bar bar_log ((true ∷ false ∷ []) ∷ []) }
     ensures feed { IsLog notched_bar (bar_log ++ 10 ∷ []) ((true ∷ false ∷ []) ∷ []) }

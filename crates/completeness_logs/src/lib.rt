@@ -1,8 +1,8 @@
 //! Completeness logs: what they say, how they are spelled, and that they are complete.
 //!
-//! Whoever is shown an answer can go through a log and see that no solid is missing: it is a tree of
-//! decisions on the blocks of a grid, and each of its branches ends at a line of the grid that can't
-//! be met, or at a solid. Nothing here says who wrote it, or how.
+//! Whoever is shown an answer can go through a log and see that no solid is missing: it is a tree
+//! of decisions on the blocks of a grid, and each of its branches ends at a line of the grid that
+//! can't be met, or at a solid. Nothing here says who wrote it, or how.
 #![tactic(auto)]
 
 mod entry;

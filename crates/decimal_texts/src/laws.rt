@@ -4,8 +4,8 @@ ghost use Rattle.std.specs.Prelude.{◌≡◌, ◌/◌, ◌^◌, ◌<◌, ◌++�
 ghost use Rattle.std.specs.Str.Parse.{AllDigits, digits_value};
 ghost use Rattle.decimal_texts.specs.Decimals.{last_digits, decimal_text};
 
-/// Behind the point stand exactly as many digits as there are decimals, and the digits before it and
-/// behind it, as one whole number, are the number.
+/// Behind the point stand exactly as many digits as there are decimals, and the digits before it
+/// and behind it, as one whole number, are the number.
 pub fn printed_digits()
     ensures exact { (decimals n : ℕ) → length (last_digits decimals n) ≡ decimals }
     ensures digits { (decimals n : ℕ) → AllDigits 10 (last_digits decimals n) }

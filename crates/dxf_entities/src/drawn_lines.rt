@@ -36,7 +36,8 @@ fn push_lines(
 ) -> Result<(), Memory>
     requires drawn { pen.style ≢ Blank }
     requires straight { are_straight_from first rest.now ≡ true }
-    ensures { OnOk result (lines.new.items ≡ lines.old.items ++ lines_from line pen first rest.now) }
+    ensures { OnOk result (lines.new.items ≡ lines.old.items
+        ++ lines_from line pen first rest.now) }
 {
     let mut from = first;
     for to in rest {

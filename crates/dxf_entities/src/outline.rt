@@ -139,7 +139,8 @@ impl Outline {
     /// Takes a pair with code 10, which begins a vertex.
     fn begin(&mut self, line: u32, pair: &Pair, value: &[u8], decimals: u8) -> Result<(), Refused>
         requires { decimals ≤ most_decimals }
-        ensures { ComesTo (with_x decimals line (text_pair pair.now value.now) self.old) self.new result }
+        ensures { ComesTo (with_x decimals line (text_pair pair.now value.now) self.old) self.new
+            result }
     {
         match first_x(line, pair, value, decimals, self.begun) {
             Ok(x) => {
@@ -153,7 +154,8 @@ impl Outline {
     /// Takes a pair with code 20, which ends a vertex.
     fn end(&mut self, line: u32, pair: &Pair, value: &[u8], decimals: u8) -> Result<(), Refused>
         requires { decimals ≤ most_decimals }
-        ensures { ComesTo (with_y decimals line (text_pair pair.now value.now) self.old) self.new result }
+        ensures { ComesTo (with_y decimals line (text_pair pair.now value.now) self.old) self.new
+            result }
     {
         let vertices = self.vertices.as_slice();
         match ended_vertex(line, pair, value, decimals, self.begun, vertices) {
@@ -176,7 +178,8 @@ impl Outline {
         decimals: u8,
     ) -> Result<(), Refused>
         requires { decimals ≤ most_decimals }
-        ensures { ComesTo (with_vertex decimals line (text_pair pair.now value.now) self.old) self.new
+        ensures { ComesTo (with_vertex decimals line (text_pair pair.now value.now) self.old)
+            self.new
             result }
     {
         match pair.code {

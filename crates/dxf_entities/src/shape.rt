@@ -46,7 +46,8 @@ impl Shape {
     /// Takes one more pair, which has this value, of the entity that begins at this line.
     fn take(&mut self, line: u32, pair: &Pair, value: &[u8], decimals: u8) -> Result<(), Refused>
         requires { decimals ≤ most_decimals }
-        ensures { ComesTo (with_shape decimals line (text_pair pair.now value.now) self.old) self.new
+        ensures { ComesTo (with_shape decimals line (text_pair pair.now value.now) self.old)
+            self.new
             result }
     {
         match self {
@@ -85,7 +86,8 @@ impl Shape {
     }
 }
 
-/// Takes one more pair, which has this value, of the entity that begins at this line; a fault stays.
+/// Takes one more pair, which has this value, of the entity that begins at this line; a fault
+/// stays.
 pub fn take_more(
     shape: &mut Result<Shape, Fault>,
     line: u32,

@@ -53,8 +53,8 @@ pub fn small_texts()
         (with_pair (pair_on 3 (pos 0) (codes "EOF1")) (ended (Err (NoEof 5)))) }
 {}
 
-/// What stands behind the end pair of small texts, written out by hand: its two lines and what stands
-/// before them are passed, and nothing else.
+/// What stands behind the end pair of small texts, written out by hand: its two lines and what
+/// stands before them are passed, and nothing else.
 #[tactic(auto, unfolding(crate::specs::Pairs::pairs_of, crate::specs::Pairs::rest_of_text))]
 pub fn small_rests()
     ensures nothing { Each (λ text. rest_of_text text ≡ Some [])
@@ -105,7 +105,8 @@ pub fn small_numerals()
 #[tactic(auto, unfolding(crate::specs::Numerals::numeral_of, crate::specs::Numerals::scaled_of))]
 pub fn small_decimals()
     ensures three { Each (λ text. scaled_of 3 text ≡ Ok (pos 12500))
-        (codes "12.5" ∷ codes "12.500000" ∷ codes "1.25E+01" ∷ codes "12500e-3" ∷ codes "12500000E-6"
+        (codes "12.5" ∷ codes "12.500000" ∷ codes "1.25E+01" ∷ codes "12500e-3"
+        ∷ codes "12500000E-6"
         ∷ codes ".125e2" ∷ []) }
     ensures one { scaled_of 1 (codes "0.5") ≡ Ok (pos 5) }
     ensures six { scaled_of 6 (codes "-1e-6") ≡ Ok (neg_ℤ (pos 1)) }

@@ -18,3 +18,4 @@ pub use laws::{
 pub use numerals::{NumeralFault, scaled, whole};
 pub use pair::Pair;
 pub use span::Span;
+pub use text_lines::feed_place;

@@ -6,6 +6,7 @@ ghost use Rattle.dxf_groups.specs.Spans.{IsSpanIn, span_of};
 ghost use Rattle.dxf_groups.specs.TextLines.{content_of, contents_of, is_blank, is_feed, without_return};
 
 use crate::span::Span;
+use memchr::memchr;
 
 /// A line of a text: where that stands which counts of it, and where the next line begins.
 #[derive(Clone, Copy)]
@@ -15,16 +16,14 @@ pub struct TextLine {
 }
 
 /// How many bytes stand before the first line feed.
-fn feed_place(text: &[u8]) -> usize
+pub fn feed_place(text: &[u8]) -> usize
     ensures within { result ≤ length text.now }
     ensures place { result ≡ position_or_len is_feed text.now }
 {
-    for (place, byte) in text.iter().enumerate() {
-        if *byte == b'\n' {
-            return place;
-        }
+    match memchr(b'\n', text) {
+        None => text.len(),
+        Some(place) => place,
     }
-    text.len()
 }
 
 /// The line without the carriage return at its end, if one stands there.

@@ -18,9 +18,9 @@ ghost use Rattle.face_laws.specs.SmallFaces.{faces_apart, first_square, unit_cub
 ghost use Rattle.solid_model.specs.SmallSolids.{unit_cube};
 
 /// A face goes on across its squares' sides exactly where no edge of the solid is, whichever of the
-/// two squares at a side is known to be a boundary square: the one above it or the one below it, the
-/// one on its right or the one on its left. So the loops of faces run along edges, and no edge lies
-/// within a face.
+/// two squares at a side is known to be a boundary square: the one above it or the one below it,
+/// the one on its right or the one on its left. So the loops of faces run along edges, and no edge
+/// lies within a face.
 pub fn faces_end_at_edges()
     ensures above { (full : Cell → Bool) (at : ℤ) (q : Spot) (out : Out)
         → IsTrue (is_boundary full out at q)
@@ -57,8 +57,8 @@ pub fn one_list_of_faces()
         → AreFacesOf full gs → fs ≡ gs }
 {}
 
-/// It can't be that a solid has no list of faces, with all loops of each, in their order. So what is
-/// asked of a program that lists them can be given.
+/// It can't be that a solid has no list of faces, with all loops of each, in their order. So what
+/// is asked of a program that lists them can be given.
 pub fn no_solid_lacks_faces()
     ensures { (s : List Cell)
         → ((faces : List FaceParts) → AreFacesOf (is_full s) faces → ⊥) → ⊥ }
@@ -114,10 +114,11 @@ pub fn corners_are_grid_points()
         × Member (coordinates (up_axis out)) (end_of s).v }
 {}
 
-/// Grid squares are squares of a plane too, counted by number. Where unit squares make them up, each
-/// round of the grid squares' border is a round of the unit squares' border, from the last unit side
-/// of its first side on, with the same corners; and each unit side of the border that ends where two
-/// lines cross is the last one of a side of the grid squares' border, and turns as that does.
+/// Grid squares are squares of a plane too, counted by number. Where unit squares make them up,
+/// each round of the grid squares' border is a round of the unit squares' border, from the last
+/// unit side of its first side on, with the same corners; and each unit side of the border that
+/// ends where two lines cross is the last one of a side of the grid squares' border, and turns as
+/// that does.
 pub fn grid_rounds_are_unit_rounds()
     ensures rounds { (cells squares : Spot → Bool) (across up : ℤ → ℤ) → Rises across → Rises up
         → AreSquaresOf across up cells squares → (s : Side) (n : ℕ) → IsRound cells s n
@@ -134,8 +135,9 @@ pub fn grid_rounds_are_unit_rounds()
 {}
 
 /// Counted by number, grid cells are unit cells once more, and those that are full make a solid of
-/// their own. Its faces, as they stand in space, are the faces of the solid that the grid cells make
-/// up. So it is enough to look at grid cells: for a union of grid cells, at those that are chosen.
+/// their own. Its faces, as they stand in space, are the faces of the solid that the grid cells
+/// make up. So it is enough to look at grid cells: for a union of grid cells, at those that are
+/// chosen.
 pub fn faces_of_grid_cells()
     ensures cells { (planes : Planes) → ((a : Axis) → Rises (planes a))
         → (numbered full : Cell → Bool) → AreCellsOf planes numbered full
@@ -150,8 +152,8 @@ pub fn faces_of_grid_cells()
 
 /// Small face lists, written out by hand. The unit cube has six faces of one square each, gone
 /// round to the left as seen from outside. Of two cubes in a row those of one side come by their
-/// planes, and those of one plane by their first corners. A void has faces too, seen from within it.
-/// From above, a plate with a square hole shows its outline and, the other way round, its hole.
+/// planes, and those of one plane by their first corners. A void has faces too, seen from within
+/// it. From above, a plate with a square hole shows its outline and, the other way round, its hole.
 /// Where two holes touch at a corner, two ways go on, and the loop turns left: so both holes are in
 /// one loop, which passes that corner twice.
 pub fn small_faces()

@@ -11,7 +11,8 @@ use Rattle.lemmas.proofs.Chains.{reaches-map, reaches-step}
 use Rattle.face_laws.proofs.JoinedSides.{neighbours-back}
 use Rattle.flood.specs.Graph.{Leads, GoesBack, AreComponentsOf}
 use Rattle.faces.specs.PlaneSquares.{SquareTable, square_place, is_there}
-use Rattle.faces.specs.SquareSteps.{square_count, square_at_place, IsSquareStep, numbered_heading, next_square, AreSquareComponents}
+use Rattle.faces.specs.Ways.{heading_at}
+use Rattle.faces.specs.SquareSteps.{square_count, square_at_place, IsSquareStep, next_square, AreSquareComponents}
 use Rattle.faces.proofs.SquarePlaces.{in_table-numbers, there-parts, square_there, square_own, place_own}
 
 -- the way that leads in a heading
@@ -21,7 +22,7 @@ way_to North = 1
 way_to West = 2
 way_to South = 3
 
-way_leads : (h : Heading) → (way_to h < 4) × (numbered_heading (way_to h) ≡ h)
+way_leads : (h : Heading) → (way_to h < 4) × (heading_at (way_to h) ≡ h)
 way_leads East = (omega arith, refl)
 way_leads North = (omega arith, refl)
 way_leads West = (omega arith, refl)
@@ -53,18 +54,18 @@ module _ (t : SquareTable) where
       leads step =
           let (here_there, b_there, (h, e)) = step.neighbours in
           let (few, is) = way_leads h in
-          let next : spot_after (numbered_heading (way_to h)) here ≡ square_at_place b = ap (λ k. spot_after k here) is ∙ sym e in
-          let both : (is_there t here && is_there t (spot_after (numbered_heading (way_to h)) here)) ≡ true =
-          and_from (is_there t here) (is_there t (spot_after (numbered_heading (way_to h)) here)) here_there (ap (is_there t) next ∙ b_there) in (
+          let next : spot_after (heading_at (way_to h)) here ≡ square_at_place b = ap (λ k. spot_after k here) is ∙ sym e in
+          let both : (is_there t here && is_there t (spot_after (heading_at (way_to h)) here)) ≡ true =
+          and_from (is_there t here) (is_there t (spot_after (heading_at (way_to h)) here)) here_there (ap (is_there t) next ∙ b_there) in (
             way_to h,
             few,
-            some_if (is_there t here && is_there t (spot_after (numbered_heading (way_to h)) here)) (square_place (spot_after (numbered_heading (way_to h)) here)) both
+            some_if (is_there t here && is_there t (spot_after (heading_at (way_to h)) here)) (square_place (spot_after (heading_at (way_to h)) here)) both
                 ∙ ap Some (ap (square_place) next ∙ place_own b),
           )
 
       comes : Leads 4 (next_square t) a b → IsSquareStep t a b
       comes (way, few, e) =
-          let next : Spot = spot_after (numbered_heading way) here in
+          let next : Spot = spot_after (heading_at way) here in
           let (place, both) = from_if (is_there t here && is_there t next) (square_place next) b e in
           let (here_there, next_there) = and_parts (is_there t here) (is_there t next) both in
           let own = there-place next next_there in
@@ -72,7 +73,7 @@ module _ (t : SquareTable) where
           record {
             from = within;
             to = subst (λ n. n < square_count) place own.0;
-            neighbours = (here_there, ap (is_there t) same ∙ next_there, (numbered_heading way, same));
+            neighbours = (here_there, ap (is_there t) same ∙ next_there, (heading_at way, same));
           }
 
   -- and go back

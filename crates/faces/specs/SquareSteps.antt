@@ -1,6 +1,7 @@
 -- The squares of a table by their places, and the steps between neighbours.
-use Rattle.std.specs.Prelude.{◌≡◌, ◌↔◌, ◌&&◌, ℕ, zero, suc, ◌/◌, ◌%◌, ◌<◌, List, length, slice_index_or, Option, Some, None, pos, IsTrue, if◌then◌else◌}
-use Rattle.solid_model.specs.Rounds.{Spot, Heading, East, North, West, South, spot_after, AreNeighbours, AreJoined}
+use Rattle.std.specs.Prelude.{◌≡◌, ◌↔◌, ◌&&◌, ℕ, ◌/◌, ◌%◌, ◌<◌, List, length, slice_index_or, Option, Some, None, pos, IsTrue, if◌then◌else◌}
+use Rattle.solid_model.specs.Rounds.{Spot, spot_after, AreNeighbours, AreJoined}
+use Rattle.faces.specs.Ways.{heading_at}
 use Rattle.faces.specs.PlaneSquares.{SquareTable, square_place, is_there}
 
 -- how many places there are
@@ -17,18 +18,11 @@ pub record IsSquareStep (t : SquareTable) (a b : ℕ) : Type 0 where
   pub to : b < square_count
   pub neighbours : AreNeighbours (is_there t) (square_at_place a) (square_at_place b)
 
--- four ways lead from each square
-abbrev pub numbered_heading : ℕ → Heading
-numbered_heading zero = East
-numbered_heading (suc zero) = North
-numbered_heading (suc (suc zero)) = West
-numbered_heading (suc (suc (suc way))) = South
-
--- the place of the neighbour to which a way leads, where both are there
+-- four ways lead from each square: the place of the neighbour to which one leads, where both are there
 abbrev pub next_square : SquareTable → ℕ → ℕ → Option ℕ
 next_square t a way =
-    if is_there t (square_at_place a) && is_there t (spot_after (numbered_heading way) (square_at_place a))
-    then Some (square_place (spot_after (numbered_heading way) (square_at_place a))) else None
+    if is_there t (square_at_place a) && is_there t (spot_after (heading_at way) (square_at_place a))
+    then Some (square_place (spot_after (heading_at way) (square_at_place a))) else None
 
 -- the number that a list has for a square
 abbrev pub number_of : List ℕ → Spot → ℕ

@@ -19,7 +19,8 @@ fn row_ends(above: u64, below: u64) -> u64
 
 /// The same, row by row: those of a row lie between the squares of this row and of the one before.
 fn ends_by_rows(alloc: Global, squares: &Squares) -> Result<Vec<u64>, Memory>
-    ensures { IfOk result (λ ends. (length ends.items ≡ 64) × TellEnds squares.now true ends.items) }
+    ensures { IfOk result (λ ends. (length ends.items ≡ 64)
+        × TellEnds squares.now true ends.items) }
 {
     // A look at the rows tells that they are a table.
     let _ = squares.rows();

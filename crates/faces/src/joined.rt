@@ -3,7 +3,8 @@
 ghost use Rattle.std.specs.Prelude.{◌≡◌, ◌≤◌, ◌<◌, None, false, IfSome, IfOk};
 ghost use Rattle.faces.specs.PlaneSquares.{SquareTable, is_there};
 ghost use Rattle.faces.specs.Points.{spot_of};
-ghost use Rattle.faces.specs.SquareSteps.{square_count, square_at_place, numbered_heading, IsSquareStep, next_square, AreSquareComponents};
+ghost use Rattle.faces.specs.Ways.{heading_at};
+ghost use Rattle.faces.specs.SquareSteps.{square_count, square_at_place, IsSquareStep, next_square, AreSquareComponents};
 ghost use Rattle.solid_model.specs.Rounds.{spot_after};
 
 use crate::point::Point;
@@ -17,9 +18,9 @@ fn next(square: Point, way: usize) -> Option<Point>
     requires u { square.u ≤ 1024 }
     requires v { square.v ≤ 1024 }
     ensures some { IfSome result (λ p.
-        spot_of p ≡ spot_after (numbered_heading way) (spot_of square)) }
+        spot_of p ≡ spot_after (heading_at way) (spot_of square)) }
     ensures none { result ≡ None → (t : SquareTable)
-        → is_there t (spot_after (numbered_heading way) (spot_of square)) ≡ false }
+        → is_there t (spot_after (heading_at way) (spot_of square)) ≡ false }
 {
     match way {
         0 => Some(Point {

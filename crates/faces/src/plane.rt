@@ -53,8 +53,8 @@ fn boundary_row(cells: &CellRows, out: Out, at: usize, v: usize) -> u64
     }
 }
 
-/// The boundary squares of the marked cells in the plane at a whole coordinate, for whoever looks at
-/// it from outside. An `Err` is out of memory.
+/// The boundary squares of the marked cells in the plane at a whole coordinate, for whoever looks
+/// at it from outside. An `Err` is out of memory.
 pub fn plane_squares(
     alloc: Global,
     cells: &CellRows,

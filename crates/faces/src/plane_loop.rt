@@ -3,8 +3,8 @@
 use crate::point::Point;
 use std::marker::Model;
 
-/// A loop round squares: one of the squares, which lies on its left, and its corners, from the first
-/// one on.
+/// A loop round squares: one of the squares, which lies on its left, and its corners, from the
+/// first one on.
 #[derive(Debug, Drop)]
 pub struct PlaneLoop {
     pub square: Point,

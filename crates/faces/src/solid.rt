@@ -14,8 +14,8 @@ use cell_rows::CellRows;
 use solid_model::{Axis, Face, Grid, Marks, Memory};
 use std::alloc::Global;
 
-/// The faces of the union of the marked cells of a grid, in order: by outward side, then plane, then
-/// the first corner of their first loop. An `Err` is out of memory.
+/// The faces of the union of the marked cells of a grid, in order: by outward side, then plane,
+/// then the first corner of their first loop. An `Err` is out of memory.
 pub fn faces_of_rows(alloc: Global, grid: &Grid, rows: &CellRows) -> Result<Vec<Face>, Memory>
     requires { numbers_of rows.now.sizes ≡ grid_sizes grid.now }
     ensures { IfOk result (λ faces. (full : Cell → Bool)

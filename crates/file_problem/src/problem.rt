@@ -61,12 +61,13 @@ fn problem_of_lines(alloc: Global, lines: &[SheetLine]) -> Result<Problem, Refus
     Ok(Problem::new(grid, blocks))
 }
 
-/// The grid and the blocks of the drawing of a reader's text, whose coordinates have so many decimals;
-/// or the text's first fault.
+/// The grid and the blocks of the drawing of a reader's text, whose coordinates have so many
+/// decimals; or the text's first fault.
 fn read(alloc: Global, groups: &mut Groups, decimals: u8) -> Result<Problem, Refused>
     requires fresh { groups.old.left ≡ pairs_of groups.old.text }
     requires decimals { decimals ≤ most_decimals }
-    ensures problem { (most : ℕ) → length groups.old.text ≤ most → IfOk result (λ problem. HasProblem
+    ensures problem { (most : ℕ) → length groups.old.text ≤ most
+        → IfOk result (λ problem. HasProblem
         (record { bytes = groups.old.text; decimals = decimals; most = most }) problem) }
     ensures fault { (most : ℕ) → length groups.old.text ≤ most
         → (fault : Fault) → IsErrOf result (refused.Fault fault)
@@ -104,9 +105,9 @@ fn bytes_from(text: Vec<u8>, place: usize) -> Vec<u8>
     bytes
 }
 
-/// The grid and the blocks of the drawing of a text whose coordinates have no decimals, and the bytes
-/// behind the line of its end pair's value; or the text's first fault, which is never that it is too
-/// long. The text has at most 134,217,728 bytes. Memory comes when out of memory.
+/// The grid and the blocks of the drawing of a text whose coordinates have no decimals, and the
+/// bytes behind the line of its end pair's value; or the text's first fault, which is never that it
+/// is too long. The text has at most 134,217,728 bytes. Memory comes when out of memory.
 pub fn problem_and_rest(alloc: Global, text: Vec<u8>) -> Result<(Problem, Vec<u8>), Refused>
     requires { length text.items ≤ most_text_bytes }
     ensures problem { IfOk result (λ found. HasProblem

@@ -55,8 +55,8 @@ pub fn components<G: Graph>(alloc: Global, graph: &G) -> Result<Numbering, Memor
     Ok(Numbering { numbers, count })
 }
 
-/// Marks each node that is asked for with the number of its component, and tells how many there are.
-/// The stack is room for the nodes.
+/// Marks each node that is asked for with the number of its component, and tells how many there
+/// are. The stack is room for the nodes.
 fn number_some<G: Graph>(graph: &G, nodes: &[u64], marks: &mut [u32], stack: &mut Vec<usize>) -> u32
     requires back { GoesBack (G.nodes graph.now) (G.steps graph.now) }
     requires few { G.nodes graph.now < no_mark }
@@ -79,9 +79,9 @@ fn number_some<G: Graph>(graph: &G, nodes: &[u64], marks: &mut [u32], stack: &mu
     count
 }
 
-/// The components of a graph whose steps go back, for those nodes alone whose bits are set, where bit
-/// k % 64 of word k / 64 stands for node k. The time grows with what chains of steps lead to from
-/// them; memory is taken once, at the beginning. An `Err` is out of memory.
+/// The components of a graph whose steps go back, for those nodes alone whose bits are set, where
+/// bit k % 64 of word k / 64 stands for node k. The time grows with what chains of steps lead to
+/// from them; memory is taken once, at the beginning. An `Err` is out of memory.
 pub fn components_of<G: Graph>(alloc: Global, graph: &G, nodes: &[u64]) -> Result<Numbering, Memory>
     requires back { GoesBack (G.nodes graph.now) (G.steps graph.now) }
     requires few { G.nodes graph.now < 2 ^ 32 - 1 }

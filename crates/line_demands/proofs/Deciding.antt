@@ -7,32 +7,8 @@ use Rattle.std.proofs.lemmas.Map.Steps.{length-le_from_distinct_below}
 use Rattle.std.proofs.lemmas.Option.{none-some}
 use Rattle.solid_model.specs.declared.decision.Decision.{Decision}
 use Rattle.line_demands.specs.KeptColumns.{AreValues}
+use Rattle.solid_model.proofs.DecidedMore.{other_first, decided_more}
 use Rattle.solid_model.specs.Decisions.{decided_by, AreDecisions}
-
--- ---- what decisions say
-
--- one of two tests that don't both hold comes first, or the other one does
-either_first : {A : Type 0} (x y : Bool) (a b c : A) → (x ≡ true → y ≡ true → ⊥)
-    → (if x then a else (if y then b else c)) ≡ (if y then b else (if x then a else c))
-either_first true true a b c both = absurd (both refl refl)
-either_first true false a b c both = refl
-either_first false true a b c both = refl
-either_first false false a b c both = refl
-
--- one test failed
-other_first : {A : Type 0} (x : Bool) (a : A) (b : Option A) → (if x then Some a else b) ≡ None → (x ≡ false) × (b ≡ None)
-other_first true a b e = absurd (none-some a (sym e))
-other_first false a b e = (refl, e)
-
--- a decision more on a block on which there is none
-pub decided_more : (decisions : List Decision) (d : Decision) (b : ℕ) → decided_by decisions d.block ≡ None
-    → decided_by (decisions ++ d ∷ []) b ≡ (if d.block == b then Some d.full else decided_by decisions b)
-decided_more [] d b untaken = refl
-decided_more (e ∷ decisions) d b untaken =
-    let others = other_first (e.block == d.block) e.full (decided_by decisions d.block) untaken in
-    ap (λ o. if e.block == b then Some e.full else o) (decided_more decisions d b others.1)
-    ∙ either_first (e.block == b) (d.block == b) (Some e.full) (Some d.full) (decided_by decisions b)
-    (λ at last. let x = eqb-true e.block b at in let y = eqb-true d.block b last in eqb-false e.block d.block others.0 (x ∙ sym y))
 
 -- ---- which decisions there are
 

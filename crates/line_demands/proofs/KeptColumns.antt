@@ -15,7 +15,8 @@ use Rattle.line_demands.specs.Lines.{times_listed, IsMetBy, AreTried}
 use Rattle.line_demands.specs.Spans.{is_on, is_in_span, column_there, known_there, AreWithin}
 use Rattle.line_demands.specs.KeptColumns.{column_count, column_number, AreKnownColumns, AreSpans, IsColumnOf, IsBeside, IsPlanOf}
 use Rattle.line_demands.proofs.BoxSight.{shown_within}
-use Rattle.line_demands.proofs.Deciding.{decided_more, same_test}
+use Rattle.solid_model.proofs.DecidedMore.{decided_more}
+use Rattle.line_demands.proofs.Deciding.{same_test}
 use Rattle.solid_model.specs.declared.frame.View.{View}
 use Rattle.solid_model.specs.declared.frame.View.TheVariants.{Front, Top, Side}
 use Rattle.solid_model.specs.declared.line_id.LineId.{LineId}

@@ -1,6 +1,5 @@
 -- Lines, where every block is decided: what their columns draw, and whether the solid matches.
 use Rattle.std.proofs.Common.{◌≡◌, ◌↔◌, Bool, ℕ, ◌<◌, ℤ, List, length, Option, Some, None, refl, sym, ◌∙◌}
-use Rattle.std.proofs.lemmas.Option.{same_Some}
 use Rattle.line_demands.proofs.KeptColumns.{draw_from}
 use Rattle.column_laws.proofs.LivePrefixes.{matching_met, met_matching}
 use Rattle.column_laws.proofs.Prefixes.{block_below}
@@ -45,9 +44,6 @@ module _ (p : ProblemParts) (known : ℕ → Option Bool) (l : LineId) (after be
   pub met_drawn : CanBeMet p known l → ColumnsDraw after before (line_style p.grid l)
   met_drawn can = decided_draw after before (line_style p.grid l)
       (draw_from _ (λ k. Some (after k)) _ (λ k. Some (before k)) (line_style p.grid l) (line_style p.grid l) after_is before_is refl can)
-
-  pub drawn_met : ColumnsDraw after before (line_style p.grid l) → CanBeMet p known l
-  drawn_met draws = (after, before, (λ k value e. same_Some (after k) value (sym (after_is k) ∙ e)), (λ k value e. same_Some (before k) value (sym (before_is k) ∙ e)), draws)
 
 -- ---- solids
 

@@ -15,7 +15,8 @@ use solid_model::{Grid, LineId, PerAxis, View};
 /// How many columns a view has.
 fn columns_in(sizes: PerAxis, view: View) -> usize
     requires few { (a : Axis) → numbers_of sizes a ≤ 63 }
-    ensures same { result ≡ view_height (numbers_of sizes) view * view_width (numbers_of sizes) view }
+    ensures same { result ≡ view_height (numbers_of sizes) view * view_width (numbers_of sizes)
+        view }
     ensures few { result ≤ 3969 }
 {
     let frame = view.frame();

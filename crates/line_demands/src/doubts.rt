@@ -43,20 +43,22 @@ pub fn without_lowest(number: u64) -> u64
 fn doubted_equal(column: KnownColumn, beside: KnownColumn) -> u64
     requires column { LiesWithin column.full column.may }
     requires beside { LiesWithin beside.full beside.may }
-    requires met { CanDraw (known_bits column.full column.may) (known_bits beside.full beside.may) Blank }
+    requires met { CanDraw (known_bits column.full column.may) (known_bits beside.full beside.may)
+        Blank }
     ensures { IsDoubted (known_bits column.full column.may) (known_bits beside.full beside.may)
         Blank result }
 {
     without(undecided(column), undecided(beside))
 }
 
-/// Beside a column that can begin at two depths another one can begin elsewhere, whatever one of its
-/// cells is. Beside one that begins at a certain depth, or is empty for certain, it can where that cell
-/// isn't the first one that may be full.
+/// Beside a column that can begin at two depths another one can begin elsewhere, whatever one of
+/// its cells is. Beside one that begins at a certain depth, or is empty for certain, it can where
+/// that cell isn't the first one that may be full.
 fn doubted_apart(column: KnownColumn, beside: KnownColumn) -> u64
     requires column { LiesWithin column.full column.may }
     requires beside { LiesWithin beside.full beside.may }
-    requires met { CanDraw (known_bits column.full column.may) (known_bits beside.full beside.may) Solid }
+    requires met { CanDraw (known_bits column.full column.may) (known_bits beside.full beside.may)
+        Solid }
     ensures { IsDoubted (known_bits column.full column.may) (known_bits beside.full beside.may)
         Solid result }
 {
@@ -66,13 +68,14 @@ fn doubted_apart(column: KnownColumn, beside: KnownColumn) -> u64
     without(undecided(column), without_lowest(column.may))
 }
 
-/// Columns that can begin at one depth and differ behind it can do so at the first depth at which both
-/// may be full. There they can with either value in a cell behind it, unless that is the only one at
-/// which they can differ, and is decided in the column beside.
+/// Columns that can begin at one depth and differ behind it can do so at the first depth at which
+/// both may be full. There they can with either value in a cell behind it, unless that is the only
+/// one at which they can differ, and is decided in the column beside.
 fn doubted_behind(column: KnownColumn, beside: KnownColumn) -> u64
     requires column { LiesWithin column.full column.may }
     requires beside { LiesWithin beside.full beside.may }
-    requires met { CanDraw (known_bits column.full column.may) (known_bits beside.full beside.may) Dashed }
+    requires met { CanDraw (known_bits column.full column.may) (known_bits beside.full beside.may)
+        Dashed }
     ensures { IsDoubted (known_bits column.full column.may) (known_bits beside.full beside.may)
         Dashed result }
 {
@@ -88,7 +91,8 @@ fn doubted_behind(column: KnownColumn, beside: KnownColumn) -> u64
 pub fn doubted(style: Style, column: KnownColumn, beside: KnownColumn) -> u64
     requires column { LiesWithin column.full column.may }
     requires beside { LiesWithin beside.full beside.may }
-    requires met { CanDraw (known_bits column.full column.may) (known_bits beside.full beside.may) style }
+    requires met { CanDraw (known_bits column.full column.may) (known_bits beside.full beside.may)
+        style }
     ensures { IsDoubted (known_bits column.full column.may) (known_bits beside.full beside.may)
         style result }
 {

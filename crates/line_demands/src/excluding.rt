@@ -1,7 +1,7 @@
 //! Whether a line excludes a value of a block.
 //!
-//! A search looks at all values that a line excludes (`propagate`), a checker of its log at one that
-//! is claimed: so this asks each cell of the block beside the line, and no more.
+//! A search looks at all values that a line excludes (`propagate`), a checker of its log at one
+//! that is claimed: so this asks each cell of the block beside the line, and no more.
 
 ghost use Rattle.std.specs.Prelude.{◌≡◌, ◌↔◌, ◌<◌, pos, ℤ, None, IsTrue};
 ghost use Rattle.line_demands.specs.Doubted.{CanDrawWith};
@@ -135,8 +135,8 @@ fn column_excludes(
     false
 }
 
-/// Whether a line excludes a value of an undecided block: with it no pair of columns beside the line
-/// that agrees with every decided cell draws the line's style.
+/// Whether a line excludes a value of an undecided block: with it no pair of columns beside the
+/// line that agrees with every decided cell draws the line's style.
 pub fn excludes(partial: &Partial<'_>, line: LineId, block: u16, value: bool) -> bool
     requires has { IsTrue (has_line partial.now.problem.grid line) }
     requires undecided { decided_by partial.now.decisions block ≡ None }

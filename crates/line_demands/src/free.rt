@@ -44,7 +44,8 @@ fn can_part_beyond(after: KnownColumn, before: KnownColumn, cells: u64) -> bool
 fn are_free_equal(after: KnownColumn, before: KnownColumn) -> bool
     requires after { LiesWithin after.full after.may }
     requires before { LiesWithin before.full before.may }
-    requires met { CanDraw (known_bits after.full after.may) (known_bits before.full before.may) Blank }
+    requires met { CanDraw (known_bits after.full after.may) (known_bits before.full before.may)
+        Blank }
     ensures { result ≡ true → AreFree (known_bits after.full after.may)
         (known_bits before.full before.may) Blank }
 {
@@ -70,13 +71,14 @@ fn are_free_apart(after: KnownColumn, before: KnownColumn) -> bool
     nearest != nearest_before && farthest != farthest_before
 }
 
-/// Columns that can begin at one depth and differ behind it leave each other's cells free down to the
-/// first depth at which both may be full, where of these cells none but those at that depth are
+/// Columns that can begin at one depth and differ behind it leave each other's cells free down to
+/// the first depth at which both may be full, where of these cells none but those at that depth are
 /// undecided, and the columns can do so farther away as well.
 fn are_free_down(after: KnownColumn, before: KnownColumn) -> bool
     requires after { LiesWithin after.full after.may }
     requires before { LiesWithin before.full before.may }
-    requires met { CanDraw (known_bits after.full after.may) (known_bits before.full before.may) Dashed }
+    requires met { CanDraw (known_bits after.full after.may) (known_bits before.full before.may)
+        Dashed }
     ensures { result ≡ true → AreFreeAt (known_bits after.full after.may)
         (known_bits before.full before.may) Dashed (near (bit_and after.may before.may)) }
 {
@@ -89,12 +91,13 @@ fn are_free_down(after: KnownColumn, before: KnownColumn) -> bool
     without(open, both) == 0 && can_part_beyond(after, before, begin)
 }
 
-/// They leave the other cells free where they can differ at two depths behind that one, or no cell at
-/// such a depth is undecided in one of them alone.
+/// They leave the other cells free where they can differ at two depths behind that one, or no cell
+/// at such a depth is undecided in one of them alone.
 fn are_free_beyond(after: KnownColumn, before: KnownColumn) -> bool
     requires after { LiesWithin after.full after.may }
     requires before { LiesWithin before.full before.may }
-    requires met { CanDraw (known_bits after.full after.may) (known_bits before.full before.may) Dashed }
+    requires met { CanDraw (known_bits after.full after.may) (known_bits before.full before.may)
+        Dashed }
     ensures { result ≡ true → AreFreeBut (known_bits after.full after.may)
         (known_bits before.full before.may) Dashed (near (bit_and after.may before.may)) }
 {
@@ -111,7 +114,8 @@ fn are_free_beyond(after: KnownColumn, before: KnownColumn) -> bool
 pub fn are_free(style: Style, after: KnownColumn, before: KnownColumn) -> bool
     requires after { LiesWithin after.full after.may }
     requires before { LiesWithin before.full before.may }
-    requires met { CanDraw (known_bits after.full after.may) (known_bits before.full before.may) style }
+    requires met { CanDraw (known_bits after.full after.may) (known_bits before.full before.may)
+        style }
     ensures { result ≡ true → AreFree (known_bits after.full after.may)
         (known_bits before.full before.may) style }
 {

@@ -133,7 +133,8 @@ fn add_column(
     requires count { length spans.old ≡ problem.now.blocks.count }
     requires none { on.old ≡ [] }
     requires few { number < 65536 }
-    ensures { IfOk result (λ column. IsGathered problem.now number spans.old spans.new on.new column) }
+    ensures { IfOk result (λ column. IsGathered problem.now number spans.old spans.new on.new
+        column) }
 {
     let sizes = problem.grid().sizes();
     let place = place_of_column(sizes, number);
@@ -156,7 +157,8 @@ pub fn gather_columns(
     requires count { length spans.old ≡ problem.now.blocks.count }
     requires none { All (λ ss. ss ≡ []) spans.old }
     requires empty { on.old.items ≡ [] }
-    ensures { IfOk result (λ columns. AreGatheredTo problem.now (column_count (grid_sizes problem.now.grid))
+    ensures { IfOk result (λ columns. AreGatheredTo problem.now
+        (column_count (grid_sizes problem.now.grid))
         spans.new columns.items on.new.items) }
 {
     // A look at the problem tells that its blocks are those of its grid.
@@ -203,7 +205,8 @@ fn add_lines_at(
 ) -> Result<(), Memory>
     requires there { at ≤ grid_sizes problem.now.grid (axis_across view upright) }
     requires few { at ≤ 63 }
-    ensures { IfOk result (λ _. AreMoreSides problem.now (lines_at problem.now.grid view upright at) 63 sides.old.items sides.new.items) }
+    ensures { IfOk result (λ _. AreMoreSides problem.now (lines_at problem.now.grid view upright at)
+        63 sides.old.items sides.new.items) }
 {
     for cell in 0..problem.grid().cells_along(view, upright) {
         let line = LineId {
@@ -233,7 +236,8 @@ fn add_lines(
     upright: bool,
     sides: &mut Vec<Beside>,
 ) -> Result<(), Memory>
-    ensures { IfOk result (λ _. AreMoreSides problem.now (lines_along problem.now.grid view upright) 4032 sides.old.items sides.new.items) }
+    ensures { IfOk result (λ _. AreMoreSides problem.now (lines_along problem.now.grid view upright)
+        4032 sides.old.items sides.new.items) }
 {
     for at in 0..problem.grid().cells_across(view, upright) + 1 {
         add_lines_at(problem, view, upright, at, sides)?;
@@ -273,7 +277,8 @@ pub fn touch_all(on: &[LineList], sides: &[Beside], touched: &mut [LineList]) ->
     requires sides { AreBeside (length on.now) sides.now }
     requires none { All (λ ls. ls ≡ []) touched.old }
     requires few { length sides.now < 4294967296 }
-    ensures { IfOk result (λ _. AreTouchedTo sides.now on.now (length touched.old) (length sides.now) touched.new) }
+    ensures { IfOk result (λ _. AreTouchedTo sides.now on.now (length touched.old)
+        (length sides.now) touched.new) }
 {
     for line in 0..sides.len() {
         let beside = sides[line];

@@ -10,8 +10,8 @@ use crate::steps::Steps;
 use solid_model::Style;
 use std::sync::ledger::Ledger;
 
-/// What is known of the cells that stand one behind another in a view. Bit 0 is the nearest. What is
-/// full for certain may be full.
+/// What is known of the cells that stand one behind another in a view. Bit 0 is the nearest. What
+/// is full for certain may be full.
 #[derive(Clone, Copy, Debug)]
 pub struct KnownColumn {
     /// The cells that are full for certain.
@@ -102,7 +102,8 @@ pub fn meets<L: Ledger>(
 ) -> bool
     requires after { LiesWithin full_l may_l }
     requires before { LiesWithin full_r may_r }
-    ensures meets { IsTrue result ↔ CanDraw (known_bits full_l may_l) (known_bits full_r may_r) want }
+    ensures meets { IsTrue result ↔ CanDraw (known_bits full_l may_l) (known_bits full_r may_r)
+        want }
     ensures steps { steps.new ≡ steps.old + 1 }
 {
     steps.tick();

@@ -105,9 +105,11 @@ fn try_line<L: Ledger>(
     ensures marked { AreMarked met.new broken.new.items }
     ensures room { vec_capacity broken.new ≡ vec_capacity broken.old }
     ensures begins { BeginsWith broken.old.items broken.new.items }
-    ensures others { (i : ℕ) → (line == i) ≡ false → times_listed i broken.new.items ≡ times_listed i broken.old.items }
+    ensures others { (i : ℕ) → (line == i) ≡ false
+        → times_listed i broken.new.items ≡ times_listed i broken.old.items }
     ensures tried { (d : Beside) → (times_listed line broken.new.items ≡ 0)
-        ↔ ((times_listed line broken.old.items ≡ 0) × IsMetBy columns.now (slice_index_or sides.now line d)) }
+        ↔ ((times_listed line broken.old.items ≡ 0)
+        × IsMetBy columns.now (slice_index_or sides.now line d)) }
     ensures free { result ≡ false → (d : Beside) → times_listed line broken.new.items ≡ 0
         → AreFreeBeside columns.now (slice_index_or sides.now line d) }
     ensures steps { steps.new ≤ steps.old + 1 }
@@ -121,8 +123,8 @@ fn try_line<L: Ledger>(
     false
 }
 
-/// Tries lines, and marks those that can't be met. The answer has a bit for each place of a line that
-/// may force something: the others that can be met force nothing.
+/// Tries lines, and marks those that can't be met. The answer has a bit for each place of a line
+/// that may force something: the others that can be met force nothing.
 pub fn try_lines<L: Ledger>(
     columns: &[KnownColumn],
     sides: &[Beside],
@@ -140,7 +142,8 @@ pub fn try_lines<L: Ledger>(
     ensures marked { AreMarked met.new broken.new.items }
     ensures room { vec_capacity broken.new ≡ vec_capacity broken.old }
     ensures tried { AreTried columns.now sides.now lines.now broken.old.items broken.new.items }
-    ensures free { AreFreeAmong columns.now sides.now lines.now (length lines.now) broken.new.items result }
+    ensures free { AreFreeAmong columns.now sides.now lines.now (length lines.now) broken.new.items
+        result }
     ensures steps { steps.new ≤ steps.old + length lines.now }
 {
     let mut doubts = 0;

@@ -4,8 +4,8 @@
 //! certain and one of those that may be full. What never changes is gathered once (`gather`,
 //! `plan`, `beside`). A decision sets its block's cells in the masks and tries the lines that touch
 //! it. Masks need no trail: the cells of a block that is decided were free. A table of what is
-//! decided is kept beside the list: a search asks it at every prefix. The crate knows nothing of the
-//! search, so a checker of a search's log may ask the same state the same questions.
+//! decided is kept beside the list: a search asks it at every prefix. The crate knows nothing of
+//! the search, so a checker of a search's log may ask the same state the same questions.
 
 ghost use Rattle.std.specs.Prelude.{◌≡◌, ◌<◌, ◌++◌, ◌∷◌, [], None, false};
 ghost use Rattle.line_demands.specs.Broken.{TellsBroken};
@@ -27,9 +27,9 @@ use std::alloc::Global;
 use std::marker::{Brand, Model};
 use std::sync::ledger::{Blank, Ledger};
 
-/// A problem, some of whose blocks are decided: what is known of the columns of its cells, and which
-/// lines can't be met. All memory is taken at the beginning. A decision looks at the columns of its
-/// block and tries the lines beside them, and no others; taking it back tries none.
+/// A problem, some of whose blocks are decided: what is known of the columns of its cells, and
+/// which lines can't be met. All memory is taken at the beginning. A decision looks at the columns
+/// of its block and tries the lines beside them, and no others; taking it back tries none.
 #[derive(Debug, Drop)]
 pub struct Partial<'p> {
     problem: &'p Problem,
@@ -47,8 +47,8 @@ pub struct Partial<'p> {
     columns: Vec<KnownColumn>,
     /// For each line whether it can be met.
     met: Vec<bool>,
-    /// The lines that can't be met, in the order in which they were found. More decisions never mend
-    /// a line, so those of the first decisions are the first ones.
+    /// The lines that can't be met, in the order in which they were found. More decisions never
+    /// mend a line, so those of the first decisions are the first ones.
     broken: Vec<u32>,
     /// For each decision how many lines couldn't be met before it.
     heights: Vec<usize>,
@@ -267,9 +267,9 @@ impl<'p> Partial<'p> {
         self.decisions.len() as u16
     }
 
-    /// The places, among the lines that touch the block of a decision, of those that may force something,
-    /// as it was when it was taken: each other one that could be met then could be so with either value
-    /// in each cell beside it that was undecided. `has_place` reads them.
+    /// The places, among the lines that touch the block of a decision, of those that may force
+    /// something, as it was when it was taken: each other one that could be met then could be so
+    /// with either value in each cell beside it that was undecided. `has_place` reads them.
     pub fn doubts(&self, at: u16) -> u64
         requires { at < length self.now.decisions }
         ensures { (d : Decision) → slice_get self.now.decisions at ≡ Some d → LeaveFreeBut
@@ -310,8 +310,9 @@ impl<'p> Partial<'p> {
         first_broken(self)
     }
 
-    /// Whether the decided solid matches the drawing: what the columns beside each drawn line draw is
-    /// looked at anew, and of blank lines what is known. The condition is that every block is decided.
+    /// Whether the decided solid matches the drawing: what the columns beside each drawn line draw
+    /// is looked at anew, and of blank lines what is known. The condition is that every block is
+    /// decided.
     pub fn whole_fits(&mut self) -> bool
         requires { AreOnAll self.old.problem.blocks.count self.old.decisions }
         ensures same { self.new ≡ self.old }
@@ -369,7 +370,8 @@ impl<'p> Partial<'p> {
         seen_line(self.columns.as_slice(), beside)
     }
 
-    /// The line of a number, in the order of all lines, with what is known of the columns beside it.
+    /// The line of a number, in the order of all lines, with what is known of the columns beside
+    /// it.
     pub fn seen(&self, number: usize) -> SeenLine
         requires { number < length (lines_of self.now.problem.grid) }
         ensures line { (d : LineId)

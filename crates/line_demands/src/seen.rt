@@ -50,7 +50,8 @@ fn place_beside(sizes: PerAxis, line: LineId, of_after: bool) -> Option<usize>
     ensures some { IfSome result (λ at. (pos at ≡ place_beside line of_after)
         × (at < numbers_of sizes (axis_across line.view line.upright))) }
     ensures none { result ≡ None → line.at ≤ numbers_of sizes (axis_across line.view line.upright)
-        → is_below (numbers_of sizes (axis_across line.view line.upright)) (place_beside line of_after) ≡ false }
+        → is_below (numbers_of sizes (axis_across line.view line.upright))
+        (place_beside line of_after) ≡ false }
 {
     let at = usize::from(line.at);
     let place = if of_after { at } else { at.checked_sub(1)? };

@@ -15,8 +15,8 @@ pub struct ColumnCells {
     pub step: usize,
 }
 
-/// Where the cells of the column stand that has these places to the right and upwards, both of which
-/// are counted as their axes go.
+/// Where the cells of the column stand that has these places to the right and upwards, both of
+/// which are counted as their axes go.
 pub fn cells_of_column(sizes: PerAxis, frame: Frame, right: usize, up: usize) -> ColumnCells
     requires few { (a : Axis) → numbers_of sizes a ≤ 63 }
     requires right { right ≤ 64 }

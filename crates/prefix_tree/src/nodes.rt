@@ -12,9 +12,9 @@ use std::marker::Model;
 /// The greatest number of a node.
 const MOST: usize = 0x7fff_ffff;
 
-/// A node that another one, before it, leads to for a value, and where it leads for a full block and
-/// for an empty one: to node 0 it leads nowhere, since that is the root. That the one before it leads to
-/// it for a full block adds one to twice the number of that one.
+/// A node that another one, before it, leads to for a value, and where it leads for a full block
+/// and for an empty one: to node 0 it leads nowhere, since that is the root. That the one before it
+/// leads to it for a full block adds one to twice the number of that one.
 #[derive(Drop)]
 pub struct Node {
     led: u32,

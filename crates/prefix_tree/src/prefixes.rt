@@ -18,20 +18,20 @@ use solid_model::{Memory, Prefix};
 use std::alloc::Global;
 use std::marker::Model;
 
-/// Prefixes, no two of them equal: those that lead to the nodes of a binary tree, value by value, with
-/// the empty one first. The place of one is the number of its node, which is found in as many steps as
-/// the prefix is long, however many there are. Ways are kept as they were led last: a prefix that begins
-/// as such a way does is led from there, where it leaves it, and its values until then are compared by
-/// words. Who asks names a way by a number, so that those who ask by turns, of different parts of the
-/// tree, don't lose each other's.
+/// Prefixes, no two of them equal: those that lead to the nodes of a binary tree, value by value,
+/// with the empty one first. The place of one is the number of its node, which is found in as many
+/// steps as the prefix is long, however many there are. Ways are kept as they were led last: a
+/// prefix that begins as such a way does is led from there, where it leaves it, and its values
+/// until then are compared by words. Who asks names a way by a number, so that those who ask by
+/// turns, of different parts of the tree, don't lose each other's.
 #[derive(Drop)]
 pub struct Prefixes {
     nodes: Nodes,
     ways: Vec<Way>,
 }
 
-/// How many ways are kept: one for each worker that there may be. Greater numbers begin anew with the
-/// first.
+/// How many ways are kept: one for each worker that there may be. Greater numbers begin anew with
+/// the first.
 const WAYS: usize = 64;
 
 /// So many ways that stand at the root. An `Err` is out of memory.
@@ -46,8 +46,8 @@ fn ways_at_root(alloc: Global, count: usize) -> Result<Vec<Way>, Memory>
     Ok(ways)
 }
 
-/// Leads a way on along a prefix, from where its first values lead, so many: there the way is left. An
-/// `Err` is out of memory, or of 31-bit numbers for nodes.
+/// Leads a way on along a prefix, from where its first values lead, so many: there the way is left.
+/// An `Err` is out of memory, or of 31-bit numbers for nodes.
 fn lead(nodes: &mut Nodes, way: &mut Way, prefix: &Prefix, led: usize) -> Result<u32, Memory>
     requires led { led < length way.old.nodes }
     requires within { led ≤ length prefix.now }
@@ -69,8 +69,8 @@ fn lead(nodes: &mut Nodes, way: &mut Way, prefix: &Prefix, led: usize) -> Result
 }
 
 /// Leads a way on along prefixes, one after another, the first of them from where its first values
-/// lead, so many, and puts their places into a list that is empty yet. An `Err` is out of memory, or of
-/// 31-bit numbers for nodes.
+/// lead, so many, and puts their places into a list that is empty yet. An `Err` is out of memory,
+/// or of 31-bit numbers for nodes.
 fn lead_all(
     nodes: &mut Nodes,
     way: &mut Way,
@@ -104,8 +104,8 @@ fn lead_all(
     Ok(places)
 }
 
-/// Leads a way along prefixes, one after another, and puts their places into a list that is empty yet.
-/// An `Err` is out of memory, or of 31-bit numbers for nodes, and leaves the way at the root.
+/// Leads a way along prefixes, one after another, and puts their places into a list that is empty
+/// yet. An `Err` is out of memory, or of 31-bit numbers for nodes, and leaves the way at the root.
 fn lead_along(
     nodes: &mut Nodes,
     way: &mut Way,
@@ -187,9 +187,9 @@ impl Prefixes {
     }
 
     /// The places of prefixes, in a list that is empty yet. A prefix that has none comes behind the
-    /// others, after those that it begins with and that have none. It is told with how many same values
-    /// each prefix and the next one begin, at least. They are led to by the way of this number. An `Err` is
-    /// out of memory, or of 31-bit numbers for places.
+    /// others, after those that it begins with and that have none. It is told with how many same
+    /// values each prefix and the next one begin, at least. They are led to by the way of this
+    /// number. An `Err` is out of memory, or of 31-bit numbers for places.
     pub fn keep_all(
         &mut self,
         prefixes: &[Prefix],
@@ -242,8 +242,8 @@ impl Prefixes {
         (shared, more)
     }
 
-    /// The prefix at a place, made of that at another one, which it may begin like. An `Err` is out of
-    /// memory.
+    /// The prefix at a place, made of that at another one, which it may begin like. An `Err` is out
+    /// of memory.
     pub fn led(&self, prefix: &Prefix, from: u32, to: u32) -> Result<Prefix, Memory>
         requires from { StandsAt self.now prefix.now from }
         requires to { to < length self.now }

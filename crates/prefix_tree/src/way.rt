@@ -53,7 +53,8 @@ impl Way {
         self.nodes[count]
     }
 
-    /// Its values are those of a prefix from now on. An `Err` is out of memory, and leaves it as it is.
+    /// Its values are those of a prefix from now on. An `Err` is out of memory, and leaves it as it
+    /// is.
     pub fn say(&mut self, prefix: &Prefix) -> Result<(), Memory>
         ensures { MatchResult result
             (λ _. self.new ≡ record { values = prefix.now; nodes = self.old.nodes })

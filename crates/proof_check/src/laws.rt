@@ -30,8 +30,8 @@ pub fn lines_are_read_as_spelled()
         → line ≡ closing_line n }
 {}
 
-/// Texts that differ from the log of the bar with a notch in one thing each, and so are none: which of
-/// their lines is refused, and why.
+/// Texts that differ from the log of the bar with a notch in one thing each, and so are none: which
+/// of their lines is refused, and why.
 pub fn refusals_of_notched_bar()
     ensures exchanged { IsLogRefused notched_bar
         (codes "log 1 blocks 2\nsplit 0\nforce 1 0 front u 2 1\n"

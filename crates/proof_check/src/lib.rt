@@ -1,9 +1,9 @@
 //! The check of a completeness log, which tells that an answer is complete without a search.
 //!
-//! It goes through the log once, line by line. It keeps the decisions that stand (`Partial` knows what
-//! the lines of the grid demand under them), the places of the splits whose other side is to come, and
-//! the choices that are listed; nothing grows with the log but these choices. It trusts nothing that
-//! the log says, and knows nothing of a search.
+//! It goes through the log once, line by line. It keeps the decisions that stand (`Partial` knows
+//! what the lines of the grid demand under them), the places of the splits whose other side is to
+//! come, and the choices that are listed; nothing grows with the log but these choices. It trusts
+//! nothing that the log says, and knows nothing of a search.
 #![tactic(auto)]
 
 mod asking;

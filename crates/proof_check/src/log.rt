@@ -12,9 +12,10 @@ use line_demands::Partial;
 use solid_model::{Choice, Problem, sort_choices};
 use std::alloc::Global;
 
-/// Checks a log of at most 4,000,000,000 bytes for a problem. `Ok` has the choices that it lists, in
-/// the stated order, and comes exactly where the bytes are a log for the problem, unless memory runs
-/// out; else the first line that is refused comes, and why: at one line the kinds come in their order.
+/// Checks a log of at most 4,000,000,000 bytes for a problem. `Ok` has the choices that it lists,
+/// in the stated order, and comes exactly where the bytes are a log for the problem, unless memory
+/// runs out; else the first line that is refused comes, and why: at one line the kinds come in
+/// their order.
 pub fn check_log(alloc: Global, problem: &Problem, log: &[u8]) -> Result<Vec<Choice>, LogRefused>
     requires { length log.now ≤ 4000000000 }
     ensures ok { IfOk result (λ cs. (listed : List (List Bool))

@@ -130,7 +130,8 @@ fn is_opening(line: &[u8], blocks: u16) -> bool
     }
 }
 
-/// Checks a log, while no block is decided: the choices that it lists, in its order, or what is wrong.
+/// Checks a log, while no block is decided: the choices that it lists, in its order, or what is
+/// wrong.
 pub fn check_text(
     alloc: Global,
     partial: &mut Partial<'_>,

@@ -3,7 +3,6 @@ use Rattle.std.proofs.Common.{◌≡◌, Bool, not, ℕ, ◌≤◌, List, [], �
 use Rattle.std.proofs.lemmas.List.{append-nil, length-append}
 use Rattle.std.proofs.lemmas.Option.{none-some}
 use Rattle.column_laws.proofs.AllLines.{lines_are_there}
-use Rattle.line_demands.proofs.Deciding.{decided_more}
 use Rattle.propagate.specs.declared.closing.Closed.TheVariants.{Stable, Conflict}
 use Rattle.propagate.specs.Closing.{Grows, TellsClosed}
 use Rattle.propagate.specs.Forced.{IsCalm}
@@ -16,11 +15,8 @@ use Rattle.solid_model.specs.Demands.{has_line, AllMet, CanBeMet, IsFirstBroken}
 use Rattle.solid_model.specs.Forcing.{known_with, known_by, IsLess, IsExcluded, IsForced, IsStable}
 use Rattle.lemmas.specs.Lists.{Member}
 use Rattle.lemmas.proofs.Lists.{member-append_right}
+use Rattle.solid_model.proofs.DecidedMore.{decided_push}
 use Rattle.solid_model.proofs.Lives.{less_chain, lives_less, stable_lives}
-
--- one decision more says what it says of its block
-pub decided_push : (ds : List Decision) (d : Decision) → decided_by ds d.block ≡ None → decided_by (ds ++ d ∷ []) ≡ known_with (decided_by ds) d
-decided_push ds d undecided t k = decided_more ds d k undecided t
 
 pub at_before : {A : Type 0} (xs ys : List A) (k : ℕ) (x : A) → slice_get xs k ≡ Some x → slice_get (xs ++ ys) k ≡ Some x
 at_before [] ys k x e = absurd (none-some x e)

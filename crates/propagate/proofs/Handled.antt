@@ -14,7 +14,8 @@ use Rattle.line_demands.proofs.Gathering.{block_below}
 use Rattle.propagate.specs.Closing.{Awaits, IsHandled}
 use Rattle.line_demands.specs.Excluding.{ExcludesOpen}
 use Rattle.propagate.specs.Forced.{IsCalm}
-use Rattle.propagate.proofs.Chains.{decided_push, at_before}
+use Rattle.solid_model.proofs.DecidedMore.{decided_push}
+use Rattle.propagate.proofs.Chains.{at_before}
 use Rattle.line_demands.proofs.LineCells.{none_before, none_behind}
 use Rattle.solid_model.specs.declared.decision.Decision.{Decision}
 use Rattle.solid_model.specs.declared.line_id.LineId.{LineId}

@@ -35,7 +35,8 @@ fn settle_line(partial: &mut Partial<'_>, number: usize) -> Option<LineId>
     requires met { AllMet partial.old.problem (decided_by partial.old.decisions) }
     ensures problem { partial.new.problem ≡ partial.old.problem }
     ensures grows { Grows partial.old.problem partial.old.decisions partial.new.decisions }
-    ensures lost { IfSome result (IsFirstBroken partial.old.problem (decided_by partial.new.decisions)) }
+    ensures lost { IfSome result (IsFirstBroken partial.old.problem
+        (decided_by partial.new.decisions)) }
     ensures met { result ≡ None → AllMet partial.old.problem (decided_by partial.new.decisions) }
     ensures done { (from : ℕ) (d : LineId) → from ≤ length partial.old.decisions
         → IsHandled partial.old.problem partial.new.decisions from
@@ -70,7 +71,8 @@ fn settle_touching(partial: &mut Partial<'_>, at: u16) -> Option<LineId>
     requires met { AllMet partial.old.problem (decided_by partial.old.decisions) }
     ensures problem { partial.new.problem ≡ partial.old.problem }
     ensures grows { Grows partial.old.problem partial.old.decisions partial.new.decisions }
-    ensures lost { IfSome result (IsFirstBroken partial.old.problem (decided_by partial.new.decisions)) }
+    ensures lost { IfSome result (IsFirstBroken partial.old.problem
+        (decided_by partial.new.decisions)) }
     ensures met { result ≡ None → AllMet partial.old.problem (decided_by partial.new.decisions) }
     ensures done { result ≡ None → (l : LineId) → IsTrue (has_line partial.old.problem.grid l)
         → IsHandled partial.old.problem partial.old.decisions at l
@@ -102,7 +104,8 @@ fn settle_all(partial: &mut Partial<'_>) -> Option<LineId>
     requires met { AllMet partial.old.problem (decided_by partial.old.decisions) }
     ensures problem { partial.new.problem ≡ partial.old.problem }
     ensures grows { Grows partial.old.problem partial.old.decisions partial.new.decisions }
-    ensures lost { IfSome result (IsFirstBroken partial.old.problem (decided_by partial.new.decisions)) }
+    ensures lost { IfSome result (IsFirstBroken partial.old.problem
+        (decided_by partial.new.decisions)) }
     ensures met { result ≡ None → AllMet partial.old.problem (decided_by partial.new.decisions) }
     ensures done { result ≡ None → (l : LineId) → IsTrue (has_line partial.old.problem.grid l)
         → IsHandled partial.old.problem partial.new.decisions (length partial.old.decisions) l }
@@ -123,7 +126,8 @@ fn settle_from(partial: &mut Partial<'_>, from: u16) -> Option<LineId>
     requires met { AllMet partial.old.problem (decided_by partial.old.decisions) }
     ensures problem { partial.new.problem ≡ partial.old.problem }
     ensures grows { Grows partial.old.problem partial.old.decisions partial.new.decisions }
-    ensures lost { IfSome result (IsFirstBroken partial.old.problem (decided_by partial.new.decisions)) }
+    ensures lost { IfSome result (IsFirstBroken partial.old.problem
+        (decided_by partial.new.decisions)) }
     ensures met { result ≡ None → AllMet partial.old.problem (decided_by partial.new.decisions) }
     ensures done { result ≡ None → (l : LineId) → IsTrue (has_line partial.old.problem.grid l)
         → IsCalm partial.old.problem (decided_by partial.new.decisions) l }
@@ -145,7 +149,8 @@ fn settle_from(partial: &mut Partial<'_>, from: u16) -> Option<LineId>
 pub fn close(partial: &mut Partial<'_>) -> Closed
     ensures problem { partial.new.problem ≡ partial.old.problem }
     ensures grows { Grows partial.old.problem partial.old.decisions partial.new.decisions }
-    ensures closed { TellsClosed partial.old.problem partial.old.decisions partial.new.decisions result }
+    ensures closed { TellsClosed partial.old.problem partial.old.decisions partial.new.decisions
+        result }
 {
     let from = partial.decided();
     if let Some(line) = partial.broken_line() {

@@ -39,8 +39,8 @@ fn forced_at(problem: &Problem, seen: SeenLine, of_after: bool, depth: usize) ->
     Some(Decision { block, full })
 }
 
-/// The decision that some cells of the column after a line force, or some of the one before it, all of
-/// them undecided: on the least block, full if one of them is.
+/// The decision that some cells of the column after a line force, or some of the one before it, all
+/// of them undecided: on the least block, full if one of them is.
 fn forced_among(problem: &Problem, seen: SeenLine, of_after: bool, cells: u64) -> Option<Decision>
     requires line { IsTrue (has_line problem.now.grid seen.line) }
     requires after { LiesWithin seen.after.full seen.after.may }
@@ -60,12 +60,13 @@ fn forced_among(problem: &Problem, seen: SeenLine, of_after: bool, cells: u64) -
     least
 }
 
-/// The decision that a line forces which can be met, if it excludes a value of an undecided block: on
-/// the least of these blocks, and full where it excludes both values.
+/// The decision that a line forces which can be met, if it excludes a value of an undecided block:
+/// on the least of these blocks, and full where it excludes both values.
 pub fn forced_by_line(partial: &Partial<'_>, seen: SeenLine) -> Option<Decision>
     requires seen { IsSeen partial.now.problem (decided_by partial.now.decisions) seen }
     requires met { CanBeMet partial.now.problem (decided_by partial.now.decisions) seen.line }
-    ensures { TellsLeast (ExcludesOpen partial.now.problem (decided_by partial.now.decisions) seen.line)
+    ensures { TellsLeast (ExcludesOpen partial.now.problem (decided_by partial.now.decisions)
+        seen.line)
         result }
 {
     let problem = partial.problem();

@@ -24,10 +24,10 @@ pub enum Forcing {
     },
 }
 
-/// Takes one decision that the lines force. Where a line can't be met, it names the least such line.
-/// Else, where a value of an undecided block is excluded, the least line that excludes one decides:
-/// of the blocks of which it excludes a value the least, full if it excludes both values. Else it is
-/// stable. Unless it is forced the partial is left as it was.
+/// Takes one decision that the lines force. Where a line can't be met, it names the least such
+/// line. Else, where a value of an undecided block is excluded, the least line that excludes one
+/// decides: of the blocks of which it excludes a value the least, full if it excludes both values.
+/// Else it is stable. Unless it is forced the partial is left as it was.
 pub fn step(partial: &mut Partial<'_>) -> Forcing
     ensures problem { partial.new.problem ≡ partial.old.problem }
     ensures step { IsStep partial.old.problem partial.old.decisions partial.new.decisions result }

@@ -58,8 +58,8 @@ fn is_marked_in(marks: &Marks, view: View, point: PerAxis) -> bool
     marks.has(point.numbered(view.frame().away.axis, 0))
 }
 
-/// For each view marks on its points at which it shows something. The points of a view are a box that
-/// is one point deep, along the axis away from the viewer.
+/// For each view marks on its points at which it shows something. The points of a view are a box
+/// that is one point deep, along the axis away from the viewer.
 #[derive(Drop)]
 pub struct DrawnPoints {
     front: Marks,

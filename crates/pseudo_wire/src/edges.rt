@@ -48,8 +48,8 @@ fn is_drawn_or_point(grid: &Grid, axis: Axis, point: PerAxis, view: View) -> boo
         && (frame.along(true).axis != axis || is_drawn_from(grid, view, true, point))
 }
 
-/// The edge along an axis from a point is drawn in each of the two views that show it as a segment, and
-/// its ends have marks wherever they project.
+/// The edge along an axis from a point is drawn in each of the two views that show it as a segment,
+/// and its ends have marks wherever they project.
 pub fn is_marked_edge(grid: &Grid, points: &DrawnPoints, axis: Axis, point: PerAxis) -> bool
     requires { numbers_of point axis ≤ 1024 }
     ensures { result ≡ is_marked_edge grid.now points.now axis (cell_of point) }

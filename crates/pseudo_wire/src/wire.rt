@@ -38,8 +38,8 @@ impl CellTest for EdgesAlong<'_> {
     }
 }
 
-/// The pseudo edges along an axis of a grid in whose views something is shown at these points. An `Err`
-/// is out of memory.
+/// The pseudo edges along an axis of a grid in whose views something is shown at these points. An
+/// `Err` is out of memory.
 fn edges_along(
     alloc: Global,
     grid: &Grid,

@@ -25,8 +25,8 @@ pub fn printed_numbers_are_read()
         → scaled_of decimals (decimal_text decimals z) ≡ Ok z }
 {}
 
-/// The plain form of lines with so many decimals is read, with as many, as just these lines, in their
-/// order, where each may be kept and they aren't too many.
+/// The plain form of lines with so many decimals is read, with as many, as just these lines, in
+/// their order, where each may be kept and they aren't too many.
 pub fn plain_files_are_read()
     ensures { (decimals : ℕ) (lines : List Line) → Each IsKept lines → length lines ≤ most_lines
         → read_of decimals (plain_file decimals lines) ≡ Ok (numbered_from 5 lines) }
@@ -39,12 +39,13 @@ pub fn plain_files_are_short()
         → length (plain_file decimals lines) ≤ 40 + 104 * length lines }
 {}
 
-/// The written file of a union of grid cells reads back with as many decimals, where no coordinate of
-/// its lines is above 1,000,000,000 before it is divided: it isn't longer than a file may be, it reads
-/// as lines that show something in each view, and their drawing is the solid's own, moved to least
-/// coordinates 0.
+/// The written file of a union of grid cells reads back with as many decimals, where no coordinate
+/// of its lines is above 1,000,000,000 before it is divided: it isn't longer than a file may be, it
+/// reads as lines that show something in each view, and their drawing is the solid's own, moved to
+/// least coordinates 0.
 pub fn written_files_read_back()
-    ensures { (decimals : ℕ) → decimals ≤ most_decimals → (g : GridParts) → IsGrid g → (chosen : List Bool) (s : List Cell) → IsSolid s
+    ensures { (decimals : ℕ) → decimals ≤ most_decimals → (g : GridParts) → IsGrid g
+        → (chosen : List Bool) (s : List Cell) → IsSolid s
         → IsUnionOf (coordinates_of g) chosen (is_full s)
         → (far_x far_z : ℤ) (d : DrawingRuns) → IsSheetOf s far_x far_z d
         → Each IsInReach (sheet_lines far_x far_z d)

@@ -46,8 +46,8 @@ fn write_solid<K: Sink>(
     write_text(sink, room.text.as_slice())
 }
 
-/// Writes the text of each solid that choices of a problem's blocks fill, numbered from 1, one after
-/// another in the same room.
+/// Writes the text of each solid that choices of a problem's blocks fill, numbered from 1, one
+/// after another in the same room.
 fn write_solids<K: Sink>(
     alloc: Global,
     texts: &SolidTexts<'_>,
@@ -89,7 +89,8 @@ fn write_none<K: Sink>(
     write_text(sink, head.as_slice())
 }
 
-/// Writes how a search within limits ended, and its solids, whose coordinates have so many decimals.
+/// Writes how a search within limits ended, and its solids, whose coordinates have so many
+/// decimals.
 fn write_all<K: Sink>(
     alloc: Global,
     searched: &Searched,

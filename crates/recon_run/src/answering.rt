@@ -25,8 +25,8 @@ use std::sync::Wait;
 use std::thread::Threads;
 use tv_base::{Gate, Sink, Source};
 
-/// Writes what is answered in a form to an input that is read so and has this problem; the crew works
-/// at what is searched.
+/// Writes what is answered in a form to an input that is read so and has this problem; the crew
+/// works at what is searched.
 fn answer_problem<R: Threads + Wait + Sync, G: Gate, K: Sink>(
     alloc: Global,
     crew: &Crew<'_, R, G>,

@@ -45,7 +45,8 @@ fn do_job<R: Threads + Wait + Sync, S: Source, K: Sink, G: Gate>(
         (K.held sink.new) (Rose (S.faults source.old) (S.faults source.new))
         (Rose (K.faults sink.old) (K.faults sink.new)) result }
     ensures unread { reads_source (owed_for job) ≡ false → source.new ≡ source.old }
-    ensures within { ReadsWithin (S.left source.old) (S.left source.new) (most_read (owed_for job)) }
+    ensures within { ReadsWithin (S.left source.old) (S.left source.new)
+        (most_read (owed_for job)) }
     ensures unwritten { result ≡ Err ReadFault → sink.new ≡ sink.old }
 {
     match job {
@@ -128,19 +129,19 @@ fn answer<R: Threads + Wait + Sync, S: Source, K: Sink, G: Gate>(
 
 /// Runs the command that the arguments give, the program's `words`.
 ///
-/// `solve` writes all solids of the drawing that the source's bytes show, within the limits that the
-/// options `--nodes` and `--solids` give, and with `--pages` pages of them while it finds them;
+/// `solve` writes all solids of the drawing that the source's bytes show, within the limits that
+/// the options `--nodes` and `--solids` give, and with `--pages` pages of them while it finds them;
 /// `redraw` writes the drawing of one of them, by its number, and `stl` its boundary as triangles;
 /// `make` writes a drawing that is made from a number, and `trial` what a search of that drawing
 /// finds. As many work at a search as `--workers` says, and they pass the gate at their points; the
-/// run waits for them, and what it answers doesn't depend on their number. Other words give the usage
-/// line.
+/// run waits for them, and what it answers doesn't depend on their number. Other words give the
+/// usage line.
 ///
 /// The status is 0 where a search was whole and lists all matching solids, or a drawing is written;
 /// 1 where what is searched has a fault, 2 where the arguments aren't taken, 3 or 4 where there are
-/// more live prefixes, or more solids, than their limit, 5 or 6 where the source or the sink failed,
-/// 7 where it ran out of memory, and 8 where there is no solid of the number that `redraw` or `stl` is
-/// given.
+/// more live prefixes, or more solids, than their limit, 5 or 6 where the source or the sink
+/// failed, 7 where it ran out of memory, and 8 where there is no solid of the number that `redraw`
+/// or `stl` is given.
 pub fn run<R: Threads + Wait + Sync, S: Source, K: Sink, G: Gate>(
     rt: &R,
     alloc: Global,

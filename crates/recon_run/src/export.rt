@@ -25,7 +25,8 @@ pub enum Export {
     Triangles,
 }
 
-/// Writes the drawing, with so many decimals, of the solid that a choice of a problem's blocks fills.
+/// Writes the drawing, with so many decimals, of the solid that a choice of a problem's blocks
+/// fills.
 fn write_drawing<K: Sink>(
     alloc: Global,
     decimals: u8,

@@ -11,7 +11,8 @@ ghost use Rattle.words.specs.declared.job.Job.TheVariants as job;
 /// What `make` owes has no fault: whatever is made from a number can be searched.
 pub fn made_files_have_no_fault()
     ensures { (n : ℕ) (left rest : Option (List ℕ)) (answer : Answer) (text : List ℕ)
-        → AnswersOwed (owed_for (job.Make n)) left rest answer text → HasNoFault (input_of (drawing_profile 0) text) }
+        → AnswersOwed (owed_for (job.Make n)) left rest answer text
+        → HasNoFault (input_of (drawing_profile 0) text) }
 {}
 
 /// An input has at most one first fault.
@@ -46,8 +47,10 @@ pub fn some_answer()
 /// A text that begins a right answer goes on to one: it can't be that nothing that follows makes it
 /// the text of a right answer. So what is written where writing stops is a prefix of such a text.
 pub fn begun_texts_go_on()
-    ensures { (words : List (List ℕ)) (left rest : Option (List ℕ)) (answer : Answer) (text : List ℕ)
+    ensures { (words : List (List ℕ)) (left rest : Option (List ℕ)) (answer : Answer)
+        (text : List ℕ)
         → BeginsOwed (owed_to words) left rest answer text
-        → ((other : Answer) (more : List ℕ) → AnswersOwed (owed_to words) left rest other (text ++ more)
+        → ((other : Answer) (more : List ℕ) → AnswersOwed (owed_to words) left rest other
+        (text ++ more)
         → ⊥) → ⊥ }
 {}

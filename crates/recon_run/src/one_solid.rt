@@ -49,8 +49,8 @@ fn write_numbered<K: Sink>(
     }
 }
 
-/// Searches a problem for its solids, and writes the one that is asked for; of a search that was cut,
-/// how it ended.
+/// Searches a problem for its solids, and writes the one that is asked for; of a search that was
+/// cut, how it ended.
 pub fn answer_one<R: Threads + Wait + Sync, G: Gate, K: Sink>(
     alloc: Global,
     crew: &Crew<'_, R, G>,

@@ -29,8 +29,8 @@ fn failure_of(fault: RunFault) -> Failure
     }
 }
 
-/// Searches a problem within limits, tells pages to a sink, and gives it back. What the sink held is
-/// that of `B`.
+/// Searches a problem within limits, tells pages to a sink, and gives it back. What the sink held
+/// is that of `B`.
 fn told_from<R: Threads + Wait + Sync, K: Sink, G: Gate, B: Begun>(
     alloc: Global,
     problem: Problem,

@@ -64,8 +64,8 @@ fn push_placed(text: &mut Vec<u8>, sheet: &Sheet, view: View, decimals: u8) -> R
     Ok(())
 }
 
-/// Room for the text of a sheet: 100 bytes for each line, which is more than it can take, and 40 for
-/// what stands around them.
+/// Room for the text of a sheet: 100 bytes for each line, which is more than it can take, and 40
+/// for what stands around them.
 fn room_for(sheet: &Sheet) -> usize {
     let mut lines: usize = 0;
     for view in [View::Front, View::Top, View::Side] {
@@ -104,9 +104,10 @@ fn sheet_text(alloc: Global, sheet: &Sheet, decimals: u8) -> Result<Vec<u8>, Mem
 /// one. The front view has the solid's own coordinates, x to the right and z upwards; the top view
 /// stands 10 units above all of the solid, the side view 10 units to the right of it.
 ///
-/// The unit is one divided by ten to the power of `decimals`, which are at most 6: each coordinate is
-/// divided by that power, and has so many digits behind the point. Cells are listed with z slowest
-/// and x fastest; one that isn't in the list counts as not chosen. An `Err` is out of memory.
+/// The unit is one divided by ten to the power of `decimals`, which are at most 6: each coordinate
+/// is divided by that power, and has so many digits behind the point. Cells are listed with z
+/// slowest and x fastest; one that isn't in the list counts as not chosen. An `Err` is out of
+/// memory.
 pub fn dxf_of(alloc: Global, grid: &Grid, cells: &[bool], decimals: u8) -> Result<Vec<u8>, Memory>
     requires { decimals ≤ most_decimals }
     ensures { IfOk result (λ text. (s : List Cell) → IsSolid s

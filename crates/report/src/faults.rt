@@ -5,108 +5,116 @@
 
 ghost use Rattle.std.specs.Prelude.{◌≡◌, ◌++◌, codes, IfOk, OnOk};
 ghost use Rattle.std.specs.Option.{option_map};
-ghost use Rattle.report.specs.FaultText.{name_of, line_named, code_named, view_named, axis_named};
-ghost use Rattle.report.specs.FaultText.{count_named, letter_of};
-ghost use Rattle.report.specs.FaultText.{part_text, parts_text, fault_text};
+ghost use Rattle.report.specs.FaultText.{plain, at_line, at_code, in_view, too_many, names_of};
+ghost use Rattle.report.specs.FaultText.{letter_of, part_text, parts_text, fault_text};
 ghost use Rattle.solid_model.specs.Frames.{layer_name};
 
 use crate::text::push_number;
 use itoa::Integer;
 use solid_model::{Axis, Fault, Memory, View};
 use std::alloc::Global;
+use std::marker::Model;
 
-/// A fault's number and name.
-fn name_of(fault: Fault) -> &'static str
-    ensures { result.now ≡ name_of fault }
+/// What the text of a fault tells: its number and name, and what it names.
+struct FaultNames {
+    name: &'static str,
+    line: Option<u32>,
+    code: Option<i32>,
+    view: Option<View>,
+    axis: Option<Axis>,
+    count: Option<u32>,
+}
+
+impl Model for FaultNames {
+    ghost use Rattle.report.specs.FaultText.{FaultNames};
+
+    ghost Value = { FaultNames };
+
+    ghost view = { λ s. record {
+      name = s.name.now;
+      line = s.line;
+      code = s.code;
+      view = s.view;
+      axis = s.axis;
+      count = s.count;
+    } };
+}
+
+/// It names nothing.
+fn plain(name: &'static str) -> FaultNames
+    ensures { result ≡ plain name.now }
 {
-    match fault {
-        Fault::Binary { .. } => "F1 Binary",
-        Fault::BadCode { .. } => "F2 BadCode",
-        Fault::NoValue { .. } => "F3 NoValue",
-        Fault::NoEof { .. } => "F4 NoEof",
-        Fault::BadSection { .. } => "F5 BadSection",
-        Fault::BadNumber { .. } => "F6 BadNumber",
-        Fault::NotWhole { .. } => "F7 NotWhole",
-        Fault::TooFar { .. } => "F8 TooFar",
-        Fault::Missing { .. } => "F9 Missing",
-        Fault::Repeated { .. } => "F10 Repeated",
-        Fault::Oblique { .. } => "F11 Oblique",
-        Fault::Linetype { .. } => "F12 Linetype",
-        Fault::Geometry { .. } => "F13 Geometry",
-        Fault::EmptyView { .. } => "F14 EmptyView",
-        Fault::TooManyLines { .. } => "F15 TooManyLines",
-        Fault::TooLong => "F16 TooLong",
-        Fault::TooFine { .. } => "F17 TooFine",
-        Fault::TooManyBlocks { .. } => "F18 TooManyBlocks",
-        Fault::Curved { .. } => "F19 Curved",
+    FaultNames {
+        name,
+        line: None,
+        code: None,
+        view: None,
+        axis: None,
+        count: None,
     }
 }
 
-/// The line that a fault names.
-fn line_named(fault: Fault) -> Option<u32>
-    ensures { result ≡ line_named fault }
+/// It names a line.
+fn at_line(name: &'static str, line: u32) -> FaultNames
+    ensures { result ≡ at_line name.now line }
 {
-    match fault {
-        Fault::Binary { line }
-        | Fault::BadCode { line }
-        | Fault::NoValue { line }
-        | Fault::NoEof { line }
-        | Fault::BadSection { line }
-        | Fault::BadNumber { line, .. }
-        | Fault::NotWhole { line, .. }
-        | Fault::TooFar { line, .. }
-        | Fault::Missing { line, .. }
-        | Fault::Repeated { line, .. }
-        | Fault::Oblique { line }
-        | Fault::Linetype { line }
-        | Fault::Geometry { line }
-        | Fault::TooManyLines { line }
-        | Fault::Curved { line } => Some(line),
-        _ => None,
-    }
+    let mut names = plain(name);
+    names.line = Some(line);
+    names
 }
 
-/// The group code that a fault names.
-fn code_named(fault: Fault) -> Option<i32>
-    ensures { result ≡ code_named fault }
+/// It names the line of a coordinate, and its group code.
+fn at_code(name: &'static str, line: u32, code: i32) -> FaultNames
+    ensures { result ≡ at_code name.now line code }
 {
-    match fault {
-        Fault::BadNumber { code, .. }
-        | Fault::NotWhole { code, .. }
-        | Fault::TooFar { code, .. }
-        | Fault::Missing { code, .. }
-        | Fault::Repeated { code, .. } => Some(code),
-        _ => None,
-    }
+    let mut names = at_line(name, line);
+    names.code = Some(code);
+    names
 }
 
-/// The view that a fault names.
-fn view_named(fault: Fault) -> Option<View>
-    ensures { result ≡ view_named fault }
+/// It names an empty view.
+fn in_view(name: &'static str, view: View) -> FaultNames
+    ensures { result ≡ in_view name.now view }
 {
-    match fault {
-        Fault::EmptyView { view } => Some(view),
-        _ => None,
-    }
+    let mut names = plain(name);
+    names.view = Some(view);
+    names
 }
 
-/// The axis that a fault names.
-fn axis_named(fault: Fault) -> Option<Axis>
-    ensures { result ≡ axis_named fault }
+/// It names how many there are, along an axis where it is one.
+fn too_many(name: &'static str, axis: Option<Axis>, count: u32) -> FaultNames
+    ensures { result ≡ too_many name.now axis count }
 {
-    match fault {
-        Fault::TooFine { axis, .. } => Some(axis),
-        _ => None,
-    }
+    let mut names = plain(name);
+    names.axis = axis;
+    names.count = Some(count);
+    names
 }
 
-/// The number of things of which there are too many.
-fn count_named(fault: Fault) -> Option<u32>
-    ensures { result ≡ count_named fault }
+/// What each fault tells.
+fn names_of(fault: Fault) -> FaultNames
+    ensures { result ≡ names_of fault }
 {
     match fault {
-        Fault::TooFine { count, .. } | Fault::TooManyBlocks { count } => Some(count),
-        _ => None,
+        Fault::Binary { line } => at_line("F1 Binary", line),
+        Fault::BadCode { line } => at_line("F2 BadCode", line),
+        Fault::NoValue { line } => at_line("F3 NoValue", line),
+        Fault::NoEof { line } => at_line("F4 NoEof", line),
+        Fault::BadSection { line } => at_line("F5 BadSection", line),
+        Fault::BadNumber { line, code } => at_code("F6 BadNumber", line, code),
+        Fault::NotWhole { line, code } => at_code("F7 NotWhole", line, code),
+        Fault::TooFar { line, code } => at_code("F8 TooFar", line, code),
+        Fault::Missing { line, code } => at_code("F9 Missing", line, code),
+        Fault::Repeated { line, code } => at_code("F10 Repeated", line, code),
+        Fault::Oblique { line } => at_line("F11 Oblique", line),
+        Fault::Linetype { line } => at_line("F12 Linetype", line),
+        Fault::Geometry { line } => at_line("F13 Geometry", line),
+        Fault::EmptyView { view } => in_view("F14 EmptyView", view),
+        Fault::TooManyLines { line } => at_line("F15 TooManyLines", line),
+        Fault::TooLong => plain("F16 TooLong"),
+        Fault::TooFine { axis, count } => too_many("F17 TooFine", Some(axis), count),
+        Fault::TooManyBlocks { count } => too_many("F18 TooManyBlocks", None, count),
+        Fault::Curved { line } => at_line("F19 Curved", line),
     }
 }
 
@@ -169,15 +177,15 @@ fn push_axis(text: &mut Vec<u8>, axis: Option<Axis>) -> Result<(), Memory>
     }
 }
 
-/// Adds what a fault names.
-fn push_parts(text: &mut Vec<u8>, fault: Fault) -> Result<(), Memory>
-    ensures { OnOk result (text.new.items ≡ text.old.items ++ parts_text fault) }
+/// Adds what is named.
+fn push_parts(text: &mut Vec<u8>, names: &FaultNames) -> Result<(), Memory>
+    ensures { OnOk result (text.new.items ≡ text.old.items ++ parts_text names.now) }
 {
-    push_number_part(text, " line ", line_named(fault))?;
-    push_number_part(text, " code ", code_named(fault))?;
-    push_view(text, view_named(fault))?;
-    push_axis(text, axis_named(fault))?;
-    push_number_part(text, " count ", count_named(fault))
+    push_number_part(text, " line ", names.line)?;
+    push_number_part(text, " code ", names.code)?;
+    push_view(text, names.view)?;
+    push_axis(text, names.axis)?;
+    push_number_part(text, " count ", names.count)
 }
 
 /// What is written for a fault: `fault`, its number and name, and what it names, as in
@@ -185,9 +193,10 @@ fn push_parts(text: &mut Vec<u8>, fault: Fault) -> Result<(), Memory>
 pub fn fault_text(alloc: Global, fault: &Fault) -> Result<Vec<u8>, Memory>
     ensures { IfOk result (λ text. text.items ≡ fault_text fault.now) }
 {
+    let names = names_of(*fault);
     let mut text = Vec::from_slice(alloc, b"fault ")?;
-    text.extend_from_slice(name_of(*fault).as_bytes())?;
-    push_parts(&mut text, *fault)?;
+    text.extend_from_slice(names.name.as_bytes())?;
+    push_parts(&mut text, &names)?;
     text.extend_from_slice(b"\n")?;
     Ok(text)
 }

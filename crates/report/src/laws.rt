@@ -60,10 +60,11 @@ pub fn small_search_texts()
     ensures none { no_solid_text 3 2 ≡ codes "none 3 of 2\n" }
 {}
 
-/// The lines of faults, written out by hand: with a line and a code, a line alone, a view, nothing, and
-/// an axis with a count.
+/// The lines of faults, written out by hand: with a line and a code, a line alone, a view, nothing,
+/// and an axis with a count.
 pub fn small_fault_texts()
-    ensures code { fault_text (fault.NotWhole 12 (pos 10)) ≡ codes "fault F7 NotWhole line 12 code 10\n" }
+    ensures code { fault_text (fault.NotWhole 12 (pos 10))
+        ≡ codes "fault F7 NotWhole line 12 code 10\n" }
     ensures line { fault_text (fault.TooManyLines 1800005)
         ≡ codes "fault F15 TooManyLines line 1800005\n" }
     ensures view { fault_text (fault.EmptyView Side) ≡ codes "fault F14 EmptyView view SIDE\n" }

@@ -133,8 +133,8 @@ fn kept<'a>(
 }
 
 /// The lines of the faces of these squares in a plane of a grid: the earlier ones at a place of a
-/// list, if they are of the same squares, or else new ones. Their coordinates have so many decimals.
-/// An `Err` is out of memory.
+/// list, if they are of the same squares, or else new ones. Their coordinates have so many
+/// decimals. An `Err` is out of memory.
 pub fn text_of_plane(
     alloc: Global,
     grid: &Grid,

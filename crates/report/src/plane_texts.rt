@@ -39,7 +39,8 @@ fn add_plane(
     requires sizes { numbers_of cells.now.sizes ≡ grid_sizes grid.now }
     requires decimals { decimals ≤ most_decimals }
     requires earlier { Each (AreLines decimals (coordinates_of grid.now)) earlier.now }
-    ensures { IfOk result (λ done. (p : PlaneLines) × (planes.new.items ≡ planes.old.items ++ p ∷ [])
+    ensures { IfOk result (λ done. (p : PlaneLines)
+        × (planes.new.items ≡ planes.old.items ++ p ∷ [])
         × (p.out ≡ out) × (p.at ≡ at) × AreLines decimals (coordinates_of grid.now) p
         × AreBoundary (is_marked cells.now) out (pos at) p.squares) }
 {
@@ -63,9 +64,11 @@ fn add_side(
     requires sizes { numbers_of cells.now.sizes ≡ grid_sizes grid.now }
     requires decimals { decimals ≤ most_decimals }
     requires earlier { Each (AreLines decimals (coordinates_of grid.now)) earlier.now }
-    requires before { AreLinesBefore decimals (coordinates_of grid.now) (is_marked cells.now) (out_number out)
+    requires before { AreLinesBefore decimals (coordinates_of grid.now) (is_marked cells.now)
+        (out_number out)
         0 planes.old.items }
-    ensures { IfOk result (λ done. AreLinesBefore decimals (coordinates_of grid.now) (is_marked cells.now)
+    ensures { IfOk result (λ done. AreLinesBefore decimals (coordinates_of grid.now)
+        (is_marked cells.now)
         (out_number out + 1) 0 planes.new.items) }
 {
     let count = cells.sizes().along(out.direction().axis) + 1;
@@ -86,7 +89,8 @@ fn all_planes(
     requires sizes { numbers_of cells.now.sizes ≡ grid_sizes grid.now }
     requires decimals { decimals ≤ most_decimals }
     requires earlier { Each (AreLines decimals (coordinates_of grid.now)) earlier.now }
-    ensures { IfOk result (λ planes. AreLinesBefore decimals (coordinates_of grid.now) (is_marked cells.now)
+    ensures { IfOk result (λ planes. AreLinesBefore decimals (coordinates_of grid.now)
+        (is_marked cells.now)
         6 0 planes.items) }
 {
     let mut planes = Vec::new(alloc);

@@ -21,8 +21,8 @@ use solid_model::{Choice, Memory, Problem};
 use std::alloc::Global;
 use std::marker::Model;
 
-/// What the texts of all solids of a problem need, made once. Contracts see the problem, and how many
-/// decimals coordinates have.
+/// What the texts of all solids of a problem need, made once. Contracts see the problem, and how
+/// many decimals coordinates have.
 #[derive(Debug, Drop)]
 pub struct SolidTexts<'a> {
     problem: &'a Problem,
@@ -117,7 +117,8 @@ impl SolidTexts<'_> {
         ensures sizes { room.new.rows.sizes ≡ self.now.problem.blocks.sizes }
         ensures text { OnOk result ((faces : List FaceParts)
             × ((full : Cell → Bool) → IsUnionOf (coordinates_of self.now.problem.grid)
-            (cells_of_choice self.now.problem.blocks.numbers choice.now) full → AreFacesOf full faces)
+            (cells_of_choice self.now.problem.blocks.numbers choice.now) full
+            → AreFacesOf full faces)
             × (room.new.text.items ≡ solid_text self.now.decimals number choice.now
             (volume_of (coordinates_of self.now.problem.grid)
             (cells_of_choice self.now.problem.blocks.numbers choice.now)) faces)) }

@@ -103,8 +103,8 @@ pub fn page_text(
 }
 
 /// The line that is told of the search of the drawing that is made from a number, which was whole,
-/// by the volume of its first solid: `trial N pieces 14 blocks B solids S nodes O volume V`. An `Err`
-/// is out of memory.
+/// by the volume of its first solid: `trial N pieces 14 blocks B solids S nodes O volume V`. An
+/// `Err` is out of memory.
 pub fn trial_text(
     alloc: Global,
     n: u64,
@@ -129,8 +129,8 @@ pub fn trial_text(
     Ok(text)
 }
 
-/// The line that tells that there is no solid of a number, but only so many: `none K of S`. An `Err`
-/// is out of memory.
+/// The line that tells that there is no solid of a number, but only so many: `none K of S`. An
+/// `Err` is out of memory.
 pub fn no_solid_text(alloc: Global, which: u32, solids: usize) -> Result<Vec<u8>, Memory>
     ensures { IfOk result (λ text. text.items ≡ no_solid_text which solids) }
 {

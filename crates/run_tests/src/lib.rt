@@ -1,5 +1,5 @@
-//! Tests of whole runs: the very bytes that come out, that memory is found, and that the definitions
-//! mean what they say.
+//! Tests of whole runs: the very bytes that come out, that memory is found, and that the
+//! definitions mean what they say.
 #![tactic(auto)]
 
 #[cfg(test)]

@@ -5,9 +5,9 @@ use std::alloc::AllocError;
 use std::test::Fail;
 use test_files::{Row, drawing_file, row_of};
 
-/// A row a run, by the strokes in each view, the words, with `|` behind each, and then the status and
-/// the first line, and how many solids are told, where that is given: of a search that is cut at nodes
-/// it depends on how the search goes.
+/// A row a run, by the strokes in each view, the words, with `|` behind each, and then the status
+/// and the first line, and how many solids are told, where that is given: of a search that is cut
+/// at nodes it depends on how the search goes.
 const RUNS: &str = "\
 rect S 0 0 3 3, rect D 1 1 2 2; solve|--nodes|3| -> 0 whole 1 nodes 3 blocks 2; 1
 rect S 0 0 3 3, rect D 1 1 2 2; solve|--nodes=2| -> 3 cut nodes 2;

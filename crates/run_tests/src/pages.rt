@@ -22,8 +22,8 @@ fn page_total(alloc: Global, line: &str, number: u32) -> Result<usize, AllocErro
     })
 }
 
-/// The choices that pages tell, if they are numbered from 1 on, each has some choices and 256 at most,
-/// and tells how many choices it and those before it have.
+/// The choices that pages tell, if they are numbered from 1 on, each has some choices and 256 at
+/// most, and tells how many choices it and those before it have.
 fn paged_choices<'a>(alloc: Global, pages: &'a str) -> Result<Option<Vec<&'a str>>, AllocError> {
     let mut choices = Vec::new(alloc);
     let (mut number, mut total) = (0u32, 0usize);
@@ -58,8 +58,8 @@ fn listed_choices<'a>(alloc: Global, answer: &'a str) -> Result<Vec<&'a str>, Al
     Ok(choices)
 }
 
-/// Whether pages tell the very choices that an answer lists, each once. The choices of an answer are
-/// different ones.
+/// Whether pages tell the very choices that an answer lists, each once. The choices of an answer
+/// are different ones.
 fn tell_the_same(alloc: Global, pages: &str, answer: &str) -> Result<bool, AllocError> {
     let Some(mut paged) = paged_choices(alloc, pages)? else {
         return Ok(false);
@@ -70,9 +70,9 @@ fn tell_the_same(alloc: Global, pages: &str, answer: &str) -> Result<bool, Alloc
     Ok(paged.as_slice() == listed.as_slice())
 }
 
-/// Whether a run ends with the status that is wanted, and its text begins with pages of what it lists,
-/// and goes on as it should: with the first line that is wanted, and where that tells of a whole
-/// search, as without pages.
+/// Whether a run ends with the status that is wanted, and its text begins with pages of what it
+/// lists, and goes on as it should: with the first line that is wanted, and where that tells of a
+/// whole search, as without pages.
 fn is_paged<R: Runtime>(rt: &R, words: &str, wanted: &str) -> Result<bool, AllocError> {
     let (status, first) = wanted.split_once(' ').unwrap_or((wanted, ""));
     let wrote = told(rt, EIGHT_VOIDS, words)?;

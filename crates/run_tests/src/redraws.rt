@@ -10,9 +10,9 @@ use std::alloc::{AllocError, Global};
 use std::test::Fail;
 use test_files::{Row, drawing_file, file_bytes, row_of};
 
-/// A row a run: the strokes in front, from the top and from the side, and the words; and then what is
-/// written, in one piece: after `0 drawing ` the strokes of a file in front, from the top and from the
-/// side.
+/// A row a run: the strokes in front, from the top and from the side, and the words; and then what
+/// is written, in one piece: after `0 drawing ` the strokes of a file in front, from the top and
+/// from the side.
 const REDRAWS: &str = "\
 rect S 100 200 101 201; line S 101 350 100 350, rect D 100 350 101 351, rect S 100 350 101 351; \
     rect S 250 200 251 201; redraw|1| -> \
@@ -140,16 +140,17 @@ fn made_blocks<R: Runtime>(rt: &R, words: &str) -> Result<u16, Fail> {
     Ok(problem_of(rt.alloc(), file, 0)?.blocks().count())
 }
 
-/// The drawing of 7 has two cubes with eight voids, four with one, and eight full ones: 2 times 9, 4
-/// times 2 and 8 blocks.
+/// The drawing of 7 has two cubes with eight voids, four with one, and eight full ones: 2 times 9,
+/// 4 times 2 and 8 blocks.
 #[test]
 fn a_made_drawing_has_its_blocks(rt: HostRuntime) -> Result<(), Fail> {
     assert_eq!(rt; made_blocks(&rt, "make|7|")?, 34);
     Ok(())
 }
 
-/// A row a number: where the last piece of its made solid ends; how many cells its grid has; and how many
-/// of them are full: 117 of each cube with eight voids, 26 of each hollow cube, and 1 of each unit cube.
+/// A row a number: where the last piece of its made solid ends; how many cells its grid has; and
+/// how many of them are full: 117 of each cube with eight voids, 26 of each hollow cube, and 1 of
+/// each unit cube.
 const MADE: &str = "\
 3 -> 174 117649 421
 11 -> 171 68921 255";
@@ -175,8 +176,8 @@ fn numbers_make_grids_of_so_many_cells(rt: HostRuntime) -> Result<(), Fail> {
     Ok(())
 }
 
-/// A row a trial: its words, and the status and the line that it writes, with the figures that another
-/// program found.
+/// A row a trial: its words, and the status and the line that it writes, with the figures that
+/// another program found.
 const TRIALS: &str = "\
 trial|11| -> 0 trial 11 pieces 14 blocks 27 solids 35 nodes 739 volume 108471
 trial|11|--workers=1| -> 0 trial 11 pieces 14 blocks 27 solids 35 nodes 739 volume 108471

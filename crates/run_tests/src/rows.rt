@@ -2,11 +2,11 @@
 //!
 //! A table begins with a remark, which is a line after `-- `. Each other line is a remark too, a
 //! frame after `= `, or a row: what is told of a file, ` -> `, and the status and the text that are
-//! wanted, with `|` for the end of a line; ` .. ` in it stands for whatever is between. The parts of
-//! what is told, `; ` between two of them, stand for `#1`, `#2` and `#3` in the steps of the frame
-//! above. In the frame `text` what is told is the
-//! file itself, with `|` for the end of a line. Where a frame begins with `padded: ` or
-//! `padded CR LF: `, the codes of the file are right in three places.
+//! wanted, with `|` for the end of a line; ` .. ` in it stands for whatever is between. The parts
+//! of what is told, `; ` between two of them, stand for `#1`, `#2` and `#3` in the steps of the
+//! frame above. In the frame `text` what is told is the file itself, with `|` for the end of a
+//! line. Where a frame begins with `padded: ` or `padded CR LF: `, the codes of the file are right
+//! in three places.
 
 use crate::decimals::DECIMALS;
 use crate::drawings::DRAWINGS;
@@ -50,8 +50,9 @@ fn wanted_text(alloc: Global, told: &str) -> Result<String, AllocError> {
     text.replace(alloc, "|", "\n")
 }
 
-/// Whether what was written, without its last line end, is what is wanted: that, or where ` .. ` stands
-/// in it, a text that begins with the first part, ends with the last and has each other one in it.
+/// Whether what was written, without its last line end, is what is wanted: that, or where ` .. `
+/// stands in it, a text that begins with the first part, ends with the last and has each other one
+/// in it.
 fn is_wanted(wrote: &str, wanted: &str) -> bool {
     let (first, others) = match wanted.split_once(" .. ") {
         Some(parts) => parts,

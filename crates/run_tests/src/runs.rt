@@ -84,8 +84,8 @@ fn cube_source(alloc: Global, read: u32) -> Result<MemSource, AllocError> {
     Ok(MemSource::new(file, vec![in alloc; read]?))
 }
 
-/// What a run over a source writes whose sink fails in its call of this number, after ten bytes; they
-/// count from 1.
+/// What a run over a source writes whose sink fails in its call of this number, after ten bytes;
+/// they count from 1.
 fn wrote<R: Runtime>(
     rt: &R,
     words: &str,
@@ -96,8 +96,9 @@ fn wrote<R: Runtime>(
     run_over(rt, words, source, faults)
 }
 
-/// Whether this is what a run over the unit cube's file writes, and then `solve` for what is left of
-/// the source. The source's call of the number `read` fails, and the sink's of the number `write`.
+/// Whether this is what a run over the unit cube's file writes, and then `solve` for what is left
+/// of the source. The source's call of the number `read` fails, and the sink's of the number
+/// `write`.
 fn writes<R: Runtime>(
     rt: &R,
     words: &str,
@@ -170,10 +171,10 @@ fn other_words_are_not_taken(rt: HostRuntime) -> Result<(), Fail> {
     Ok(())
 }
 
-/// A row a run in which a call fails, or would fail if it were made: the number of the source's call,
-/// or else of the sink's; the words; whether all of the source is left; and the status and the text, with
-/// `|` for the end of a line. After a read that fails nothing is read; and an answer in one piece goes to
-/// the sink in one call.
+/// A row a run in which a call fails, or would fail if it were made: the number of the source's
+/// call, or else of the sink's; the words; whether all of the source is left; and the status and
+/// the text, with `|` for the end of a line. After a read that fails nothing is read; and an answer
+/// in one piece goes to the sink in one call.
 const FAULTS: &str = "\
 1; 0; solve|; all -> 5 \n\
 2; 0; solve| -> 5 \n\

@@ -1,30 +1,19 @@
 //! What a ledger keeps of a report.
 
-ghost use Rattle.std.specs.Prelude.{◌≡◌, IfOk};
+ghost use Rattle.std.specs.Prelude.{IfOk};
 ghost use Rattle.search_core.specs.Copies.{AreCopies};
 
 use prefix_tree::alike;
-use solid_model::{Choice, Memory, Prefix};
+use solid_model::{Choice, Memory, Prefix, copy_choices};
 use std::alloc::Global;
 
-/// Copies of a report's choices, which a ledger keeps, a list with room for the places of its rest, and
-/// with how many same values each prefix of the rest and the next one begin.
+/// Copies of a report's choices, which a ledger keeps, a list with room for the places of its rest,
+/// and with how many same values each prefix of the rest and the next one begin.
 #[derive(Drop)]
 pub struct Copies {
     pub found: Vec<Choice>,
     pub places: Vec<u32>,
     pub alike: Vec<usize>,
-}
-
-/// Copies of choices. An `Err` is out of memory.
-fn copy_choices(alloc: Global, found: &[Choice]) -> Result<Vec<Choice>, Memory>
-    ensures { IfOk result (λ copies. copies.items ≡ found.now) }
-{
-    let mut copies = Vec::with_capacity(alloc, found.len())?;
-    for choice in found {
-        copies.push(choice.try_clone()?)?;
-    }
-    Ok(copies)
 }
 
 impl Copies {

@@ -119,8 +119,8 @@ impl Desk {
         })
     }
 
-    /// Answers a report, of which copies may be ready, as [`Desk::report`] does. Its prefixes are led to
-    /// by the way of this number.
+    /// Answers a report, of which copies may be ready, as [`Desk::report`] does. Its prefixes are
+    /// led to by the way of this number.
     fn answer(
         &mut self,
         expansion: Expansion,

@@ -36,8 +36,8 @@ fn count_without(counts: &[u32], piece: u32, place: u32) -> u32
     }
 }
 
-/// Where the first place from here on stands that is counted once this piece is taken, of those that
-/// were put.
+/// Where the first place from here on stands that is counted once this piece is taken, of those
+/// that were put.
 fn first_without(put: &[u32], counts: &[u32], piece: u32, from: usize) -> usize
     requires { from ≤ length put.now }
     ensures from { from ≤ result }
@@ -109,8 +109,8 @@ impl Frontier {
         }
     }
 
-    /// Makes room for so many places, and for putting so many more. An `Err` is out of memory, or of
-    /// 32-bit numbers for how often a place stands in it.
+    /// Makes room for so many places, and for putting so many more. An `Err` is out of memory, or
+    /// of 32-bit numbers for how often a place stands in it.
     pub fn reserve(&mut self, places: usize, more: usize) -> Result<(), Memory>
         ensures put { self.new.put ≡ self.old.put }
         ensures counts { (k : ℕ) → count_of self.new.counts k ≡ count_of self.old.counts k }
@@ -183,8 +183,10 @@ impl Frontier {
     pub fn take(&mut self, place: u32)
         requires { 0 < count_of self.old.counts place }
         ensures put { self.new.put ≡ self.old.put }
-        ensures ahead { self.new.ahead ≡ passed (count_without self.old.counts place) self.old.ahead }
-        ensures counts { (k : ℕ) → count_of self.new.counts k ≡ count_without self.old.counts place k }
+        ensures ahead { self.new.ahead ≡ passed (count_without self.old.counts place)
+            self.old.ahead }
+        ensures counts { (k : ℕ) → count_of self.new.counts k
+            ≡ count_without self.old.counts place k }
         ensures places { length self.new.counts ≡ length self.old.counts }
         ensures room { self.new.room ≡ self.old.room }
     {

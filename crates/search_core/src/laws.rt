@@ -14,8 +14,8 @@ ghost use Rattle.search_core.specs.Core.{Event, IsCoreRun, core_start, after_eve
 ghost use Rattle.search_core.specs.SmallCore.{roomy, few_nodes, few_solids, few_of_both, first_event, second_event, short_event, third_event, at_start, after_first, after_second, after_short, after_third, cut_at_nodes, cut_at_solids, nothing_live, whole_at_start};
 
 /// Whatever is reported, in whatever order, the core loses no live prefix and no choice and counts
-/// none twice, up to its end; while it goes on something live is left to be expanded, and at a whole
-/// search nothing is (`states`). No run has more events than there are live prefixes
+/// none twice, up to its end; while it goes on something live is left to be expanded, and at a
+/// whole search nothing is (`states`). No run has more events than there are live prefixes
 /// (`short`). A whole search has found all matching choices, each once (`whole`), which are the
 /// matching solids (`the_tree_is_complete`).
 pub fn the_core_conserves()

@@ -41,8 +41,8 @@ pub struct Ledger {
     pub found: Vec<Choice>,
 }
 
-/// What a report puts into the ledger: its choices, the places of its rest, and what will be the first
-/// piece, if that is another one.
+/// What a report puts into the ledger: its choices, the places of its rest, and what will be the
+/// first piece, if that is another one.
 #[derive(Drop)]
 pub struct Posting {
     pub found: Vec<Choice>,
@@ -90,8 +90,8 @@ fn put_all(frontier: &mut Frontier, rest: &[u32])
 }
 
 impl Ledger {
-    /// A ledger in which nothing is noted; the empty prefix is in the frontier if it is live. An `Err` is out of
-    /// memory.
+    /// A ledger in which nothing is noted; the empty prefix is in the frontier if it is live. An
+    /// `Err` is out of memory.
     pub fn new(alloc: Global, live: bool) -> Result<Ledger, Memory>
         ensures begun { IfOk result (λ ledger. IsBegun (ledger_of ledger) live) }
         ensures first { IfOk result KnowsFirst }
@@ -142,8 +142,8 @@ impl Ledger {
         self.frontier.next(piece, first_of(rest, self.first.place))
     }
 
-    /// What will be the first piece once this one is taken and this rest put, if that is another one than
-    /// now. An `Err` is out of memory.
+    /// What will be the first piece once this one is taken and this rest put, if that is another
+    /// one than now. An `Err` is out of memory.
     fn placed_first(&self, piece: u32, rest: &[u32]) -> Result<Option<Placed>, Memory>
         requires first { KnowsFirst self.now }
         requires rest { Each (λ k. k < length self.now.prefixes) rest.now }
@@ -162,9 +162,9 @@ impl Ledger {
         Ok(Some(Placed { prefix, place }))
     }
 
-    /// Takes all the memory that a report of this piece needs, and keeps copies of its choices: those
-    /// that are ready, or else new ones. Its rest is led to by the way of this number. An `Err` is out of
-    /// memory. What the ledger tells stays the same.
+    /// Takes all the memory that a report of this piece needs, and keeps copies of its choices:
+    /// those that are ready, or else new ones. Its rest is led to by the way of this number. An
+    /// `Err` is out of memory. What the ledger tells stays the same.
     pub fn prepare(
         &mut self,
         piece: u32,

@@ -10,9 +10,9 @@ use solid_model::Expansion;
 use std::alloc::Global;
 use std::marker::Model;
 
-/// A report with what a desk keeps of it, or needs to keep it, and the number of the worker whose it is:
-/// a desk knows for each worker where it reported last. Who makes this before the desk is locked holds
-/// the lock for less time. Contracts see it as the report.
+/// A report with what a desk keeps of it, or needs to keep it, and the number of the worker whose
+/// it is: a desk knows for each worker where it reported last. Who makes this before the desk is
+/// locked holds the lock for less time. Contracts see it as the report.
 #[derive(Drop)]
 pub struct ReadyReport {
     pub(crate) expansion: Expansion,
@@ -34,7 +34,8 @@ impl Model for ReadyReport {
 impl ReadyReport {
     ghost use Rattle.std.specs.Prelude.{◌≡◌, MatchResult};
 
-    /// The report, ready, of the worker of this number. An `Err` is out of memory, and hands it back.
+    /// The report, ready, of the worker of this number. An `Err` is out of memory, and hands it
+    /// back.
     pub fn new(alloc: Global, expansion: Expansion, by: usize) -> Result<ReadyReport, Expansion>
         ensures { MatchResult result (λ ready. ready ≡ expansion) (λ back. back ≡ expansion) }
     {

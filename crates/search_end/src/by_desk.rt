@@ -21,8 +21,8 @@ use solid_model::{Ended, Limits, Memory, Problem};
 use std::alloc::Global;
 use std::sync::Arc;
 
-/// A way down the tree of a problem's prefixes, and the desk of a search of it that begins. An `Err`
-/// is out of memory.
+/// A way down the tree of a problem's prefixes, and the desk of a search of it that begins. An
+/// `Err` is out of memory.
 pub fn set_up<'a>(
     alloc: Global,
     problem: &'a Arc<Problem>,
@@ -43,8 +43,8 @@ fn search_whole(alloc: Global, problem: &Arc<Problem>, limits: Limits) -> Result
     Ok(desk)
 }
 
-/// The search of all prefixes of a problem within limits, and how it ended, by a desk on the calling
-/// thread. Hands the choices out in pages.
+/// The search of all prefixes of a problem within limits, and how it ended, by a desk on the
+/// calling thread. Hands the choices out in pages.
 fn search_alone<P: PageOut>(
     alloc: Global,
     problem: &Arc<Problem>,
@@ -55,7 +55,8 @@ fn search_alone<P: PageOut>(
         (arc_value problem.now).blocks.count limits r.0) }
     ensures desk { IfOk result (λ r. IsAnswer (arc_value problem.now) limits r.0 r.1) }
     ensures paged { MatchResult result
-        (λ r. HasAllPaged (arc_value problem.now) (P.calls pages.old) (P.calls pages.new) r.0.solids)
+        (λ r. HasAllPaged (arc_value problem.now) (P.calls pages.old) (P.calls pages.new)
+        r.0.solids)
         (λ _. HasPaged (arc_value problem.now) limits.solids (P.calls pages.old)
         (P.calls pages.new)) }
     ensures faults { CountsFaults (P.faults pages.old) (P.faults pages.new) result
@@ -70,8 +71,8 @@ fn search_alone<P: PageOut>(
     }
 }
 
-/// The search of all prefixes of a problem within limits, and how it ended, by a desk on the calling
-/// thread. An `Err` is out of memory.
+/// The search of all prefixes of a problem within limits, and how it ended, by a desk on the
+/// calling thread. An `Err` is out of memory.
 pub fn search_by_desk(
     alloc: Global,
     problem: &Arc<Problem>,

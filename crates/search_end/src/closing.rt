@@ -68,8 +68,9 @@ fn own_desk(
     }
 }
 
-/// A desk of this search that has ended, and how: this one, or a new one where it is of another search.
-/// The events that are missing are made, by a way down the tree of their own. An `Err` is out of memory.
+/// A desk of this search that has ended, and how: this one, or a new one where it is of another
+/// search. The events that are missing are made, by a way down the tree of their own. An `Err` is
+/// out of memory.
 fn ended_desk(
     alloc: Global,
     problem: &Arc<Problem>,
@@ -178,8 +179,8 @@ fn answer(
 
 /// Ends a search by its desk, or by a new one where that is of another problem or within other
 /// limits: makes the events that are missing, by a way of its own, and hands out what was found and
-/// not yet handed out, as far as the limit of solids has room. The answer lists what was handed out.
-/// An `Err` is that of a page, or out of memory.
+/// not yet handed out, as far as the limit of solids has room. The answer lists what was handed
+/// out. An `Err` is that of a page, or out of memory.
 pub fn finish<P: PageOut>(
     alloc: Global,
     problem: &Arc<Problem>,

@@ -62,8 +62,8 @@ pub fn begin(alloc: Global, problem: &Arc<Problem>, limits: Limits) -> Result<De
     begin_from(alloc, &mut path, problem, limits)
 }
 
-/// Expands a piece by a way down the tree of the desk's problem and reports it. Its rest is kept where
-/// the report is taken. An `Err` is out of memory.
+/// Expands a piece by a way down the tree of the desk's problem and reports it. Its rest is kept
+/// where the report is taken. An `Err` is out of memory.
 fn try_piece(
     alloc: Global,
     path: &mut BlockPath,
@@ -90,7 +90,8 @@ fn try_piece(
     }
 }
 
-/// Goes on deep first below what is kept, until none is or the desk has ended. An `Err` is out of memory.
+/// Goes on deep first below what is kept, until none is or the desk has ended. An `Err` is out of
+/// memory.
 fn go_deep(
     alloc: Global,
     path: &mut BlockPath,
@@ -115,8 +116,8 @@ fn go_deep(
     Ok(())
 }
 
-/// Expands the first piece of the frontier by a way down the tree of the desk's problem, reports it, and
-/// goes on deep first below it. An `Err` is out of memory.
+/// Expands the first piece of the frontier by a way down the tree of the desk's problem, reports
+/// it, and goes on deep first below it. An `Err` is out of memory.
 fn step(alloc: Global, path: &mut BlockPath, desk: &mut Desk) -> Result<(), Memory>
     requires way { IsWayOf desk.old.problem path.old }
     requires going { desk.old.end ≡ None }

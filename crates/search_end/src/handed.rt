@@ -58,8 +58,9 @@ impl Handed {
         self.choices
     }
 
-    /// Hands out a page. An `Err` is that of the call, or out of memory. Since whatever list of calls
-    /// all earlier pages were added, there is one page more then, or the last one was refused.
+    /// Hands out a page. An `Err` is that of the call, or out of memory. Since whatever list of
+    /// calls all earlier pages were added, there is one page more then, or the last one was
+    /// refused.
     pub fn hand_out<P: PageOut>(&mut self, pages: &mut P, more: Vec<Choice>) -> Result<(), RunFault>
         requires some { 1 ≤ length more.items }
         requires few { length more.items ≤ most_page_choices }

@@ -10,7 +10,7 @@ ghost use Rattle.lemmas.specs.Lists.{Ascends};
 ghost use Rattle.lemmas.specs.Truth.{same_values};
 ghost use Rattle.search_end.specs.Answers.{new_ones};
 
-use solid_model::{Choice, Memory, compare};
+use solid_model::{Choice, Memory, compare, copy_choices};
 use std::alloc::Global;
 use std::cmp::Ordering;
 
@@ -61,19 +61,8 @@ fn begins_with(choices: &[Choice], first: &[Choice]) -> bool
     true
 }
 
-/// Copies of choices. An `Err` is out of memory.
-fn copies_of(alloc: Global, choices: &[Choice]) -> Result<Vec<Choice>, Memory>
-    ensures { IfOk result (λ copies. copies.items ≡ choices.now) }
-{
-    let mut copies = Vec::new(alloc);
-    for choice in choices {
-        copies.push(choice.try_clone()?)?;
-    }
-    Ok(copies)
-}
-
-/// Copies of those that aren't among those that were handed out, which takes a look at each of these
-/// for each. An `Err` is out of memory.
+/// Copies of those that aren't among those that were handed out, which takes a look at each of
+/// these for each. An `Err` is out of memory.
 fn new_copies(alloc: Global, handed: &[Choice], found: &[Choice]) -> Result<Vec<Choice>, Memory>
     ensures { IfOk result (λ copies. copies.items ≡ new_ones handed.now found.now) }
 {
@@ -86,21 +75,22 @@ fn new_copies(alloc: Global, handed: &[Choice], found: &[Choice]) -> Result<Vec<
     Ok(copies)
 }
 
-/// Copies of those that were found and not handed out. What was handed out of the desk's own book is
-/// the beginning of what the desk has found, and then what follows is left. An `Err` is out of memory.
+/// Copies of those that were found and not handed out. What was handed out of the desk's own book
+/// is the beginning of what the desk has found, and then what follows is left. An `Err` is out of
+/// memory.
 fn all_left(alloc: Global, handed: &[Choice], found: &[Choice]) -> Result<Vec<Choice>, Memory>
     requires once { Ascends ◌≢◌ found.now }
     ensures { IfOk result (λ left. left.items ≡ new_ones handed.now found.now) }
 {
     if begins_with(found, handed) {
-        let left = copies_of(alloc, &found[handed.len()..])?;
+        let left = copy_choices(alloc, &found[handed.len()..])?;
         return Ok(left);
     }
     new_copies(alloc, handed, found)
 }
 
-/// Copies of those that were found and not handed out, as many as there is room for. An `Err` is out
-/// of memory.
+/// Copies of those that were found and not handed out, as many as there is room for. An `Err` is
+/// out of memory.
 pub fn left_over(
     alloc: Global,
     handed: &[Choice],

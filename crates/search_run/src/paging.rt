@@ -126,7 +126,8 @@ fn page_all<B: Wait + Drop, R: Wait, G: Gate, P: PageOut>(
 
 /// Starts a worker at each seat, of which the first goes by this way down the tree of the problem's
 /// prefixes, and hands out pages until all have returned. A worker whose start is refused stops
-/// counting; its work is done by others. Where a page is refused, or memory runs out, all are to stop.
+/// counting; its work is done by others. Where a page is refused, or memory runs out, all are to
+/// stop.
 pub fn search_together<'a, 's, R: Threads + Wait + Sync, G: Gate, P: PageOut>(
     rt: &'a R,
     alloc: Global,

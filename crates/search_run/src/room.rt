@@ -16,7 +16,8 @@ use std::sync::atomic::{AtomicU32, Ordering};
 use std::sync::{Condvar, Mutex, MutexGuard, Wait};
 use std::thread;
 
-/// How often a thread tries the lock, and lets another one run after each try, before it sleeps for it.
+/// How often a thread tries the lock, and lets another one run after each try, before it sleeps for
+/// it.
 const TRIES: u32 = 1000;
 
 /// What the workers share, under its lock; where they wait for a change; and where the caller waits
@@ -49,9 +50,9 @@ impl<B: Wait + Drop> Room<B> {
         }
     }
 
-    /// Takes the lock. It is held for some microseconds at a time, longer where memory is touched for
-    /// the first time, and who sleeps for it is woken by the one who leaves it, and later than that: so
-    /// it is tried for about a millisecond before.
+    /// Takes the lock. It is held for some microseconds at a time, longer where memory is touched
+    /// for the first time, and who sleeps for it is woken by the one who leaves it, and later than
+    /// that: so it is tried for about a millisecond before.
     fn enter<R: Wait>(&self, rt: &R) -> MutexGuard<'_, Shared<B>> {
         for _ in 0..TRIES {
             if let Some(shared) = self.shared.try_lock() {
@@ -82,9 +83,9 @@ impl<B: Wait + Drop> Room<B> {
         self.idle.load(Ordering::SeqCst) as usize
     }
 
-    /// A worker has put so many pieces: signals a change and wakes as many of those that wait. Nobody
-    /// misses a piece: each puts before it signals, and who is idle asks for the number of changes before
-    /// it looks.
+    /// A worker has put so many pieces: signals a change and wakes as many of those that wait.
+    /// Nobody misses a piece: each puts before it signals, and who is idle asks for the number of
+    /// changes before it looks.
     pub fn signal<R: Wait>(&self, rt: &R, pieces: usize) {
         self.enter(rt).change();
         for _ in 0..pieces {
@@ -92,9 +93,9 @@ impl<B: Wait + Drop> Room<B> {
         }
     }
 
-    /// An idle worker stops counting, and waits while no more changes are signalled than it has seen.
-    /// It is told how many were signalled then. `None`: nothing is left to be done or nobody is at work,
-    /// and it leaves.
+    /// An idle worker stops counting, and waits while no more changes are signalled than it has
+    /// seen. It is told how many were signalled then. `None`: nothing is left to be done or nobody
+    /// is at work, and it leaves.
     pub fn wait<R: Wait>(&self, rt: &R, seen: u64) -> Option<u64> {
         let mut shared = self.enter(rt);
         if shared.rest() {

@@ -3,7 +3,8 @@
 //! `run_search` doesn't close its pool: what is left in it is in the desk's frontier too, and the
 //! caller expands it from there.
 //!
-//! It keeps no receipt: whatever the caller reads too late of the book, `finish` hands out by the desk.
+//! It keeps no receipt: whatever the caller reads too late of the book, `finish` hands out by the
+//! desk.
 //!
 //! The caller makes a way down the tree to learn whether any prefix is live, and this goes to the
 //! first worker: another one for a lone worker would take as long again.
@@ -71,9 +72,9 @@ fn room_for<'a, R: Wait>(
 }
 
 /// The search of all prefixes of a problem within limits by so many workers, which pass the gate at
-/// their points. Hands the choices out in pages as it goes on, each choice once, and answers how the
-/// search ended, with all choices in the stated order, and the desk at which it did. `PageFault` comes
-/// only where the count of faults of `pages` rose in this call.
+/// their points. Hands the choices out in pages as it goes on, each choice once, and answers how
+/// the search ended, with all choices in the stated order, and the desk at which it did.
+/// `PageFault` comes only where the count of faults of `pages` rose in this call.
 pub fn run_search<R: Threads + Wait + Sync, G: Gate, P: PageOut>(
     rt: &R,
     alloc: Global,

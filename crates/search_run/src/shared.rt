@@ -12,24 +12,25 @@ use std::alloc::Global;
 use std::marker::Model;
 use std::sync::Wait;
 
-/// The caller, who hands out solids, is told of new ones after so many reports in which it wasn't: to
-/// wake it takes as long as some of them.
+/// The caller, who hands out solids, is told of new ones after so many reports in which it wasn't:
+/// to wake it takes as long as some of them.
 const QUIET: u32 = 64;
 
 /// What a report comes to.
 #[derive(Drop)]
 pub struct Answered {
-    /// The rest, of a report that is taken. `None`: the worker is to leave, since the desk has ended or
-    /// all are to stop, as they are where memory runs out; it signals that change when it leaves.
+    /// The rest, of a report that is taken. `None`: the worker is to leave, since the desk has
+    /// ended or all are to stop, as they are where memory runs out; it signals that change when it
+    /// leaves.
     pub rest: Option<Vec<Prefix>>,
     /// Whether the caller is to be told of solids now.
     pub news: bool,
 }
 
-/// The value under the lock: the desk, the writer of its book, how many workers are at work, whether
-/// all are to stop, and how many changes were signalled, which goes on from 0 after the greatest
-/// `u64`. One hold of the lock makes one report at most. Contracts see it as the desk and the edition
-/// that is published.
+/// The value under the lock: the desk, the writer of its book, how many workers are at work,
+/// whether all are to stop, and how many changes were signalled, which goes on from 0 after the
+/// greatest `u64`. One hold of the lock makes one report at most. Contracts see it as the desk and
+/// the edition that is published.
 #[derive(Drop)]
 pub struct Shared<B: Wait + Drop> {
     desk: Desk,
@@ -94,13 +95,14 @@ impl<B: Wait + Drop> Shared<B> {
         self.stop || self.desk.end().is_some()
     }
 
-    /// Whether nothing more will be published: it is over, or nobody is at work, who could find some.
+    /// Whether nothing more will be published: it is over, or nobody is at work, who could find
+    /// some.
     pub fn is_still(&self) -> bool {
         self.at_work == 0 || self.is_over()
     }
 
-    /// A worker that has found no piece stops counting. Says whether it is to leave, since nothing more
-    /// will come: that is a change then.
+    /// A worker that has found no piece stops counting. Says whether it is to leave, since nothing
+    /// more will come: that is a change then.
     pub fn rest(&mut self) -> bool {
         self.at_work = self.at_work.saturating_sub(1);
         let still = self.is_still();
@@ -151,8 +153,8 @@ impl<B: Wait + Drop> Shared<B> {
         Ok(())
     }
 
-    /// Takes a report and publishes what is new. The rest is handed over, of a report that is taken.
-    /// An `Err` is out of memory.
+    /// Takes a report and publishes what is new. The rest is handed over, of a report that is
+    /// taken. An `Err` is out of memory.
     fn take_in(&mut self, alloc: Global, report: ReadyReport) -> Result<Vec<Prefix>, Memory> {
         let answer = self.note(report)?;
         self.publish_new(alloc)?;
@@ -175,7 +177,8 @@ impl<B: Wait + Drop> Shared<B> {
         true
     }
 
-    /// Takes a report and publishes what is new. The rest is handed over, unless the worker is to leave.
+    /// Takes a report and publishes what is new. The rest is handed over, unless the worker is to
+    /// leave.
     fn rest_of(&mut self, alloc: Global, report: ReadyReport) -> Option<Vec<Prefix>> {
         match self.take_in(alloc, report) {
             Ok(_) if self.is_over() => None,

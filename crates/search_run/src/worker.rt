@@ -8,8 +8,8 @@ use std::collections::VecDeque;
 use std::sync::Wait;
 use steal_pool::WorkerSeat;
 
-/// A worker: its number, its seats in the pool, and the pieces that it keeps, the last put at the end.
-/// These stand in the desk's frontier too, so that none is lost with it.
+/// A worker: its number, its seats in the pool, and the pieces that it keeps, the last put at the
+/// end. These stand in the desk's frontier too, so that none is lost with it.
 #[derive(Drop)]
 pub struct Worker {
     pub number: u32,
@@ -30,8 +30,8 @@ fn find<R: Wait>(rt: &R, seat: &mut WorkerSeat) -> Option<Prefix> {
     None
 }
 
-/// A piece, once there is one: an idle worker waits. It is told how many changes were signalled before it
-/// looks. `None`: nothing is left to be done or nobody is at work, and it leaves.
+/// A piece, once there is one: an idle worker waits. It is told how many changes were signalled
+/// before it looks. `None`: nothing is left to be done or nobody is at work, and it leaves.
 fn find_or_wait<B: Wait + Drop, R: Wait>(
     rt: &R,
     room: &Room<B>,
@@ -62,8 +62,8 @@ fn find_or_idle<B: Wait + Drop, R: Wait>(
     piece
 }
 
-/// Puts so many of the pieces that are kept into the deque, the shallowest ones first, until one comes
-/// back. Tells how many were put.
+/// Puts so many of the pieces that are kept into the deque, the shallowest ones first, until one
+/// comes back. Tells how many were put.
 fn give(seat: &mut WorkerSeat, kept: &mut VecDeque<Prefix>, count: usize) -> usize {
     for given in 0..count {
         let Some(piece) = kept.pop_front() else {
@@ -79,8 +79,8 @@ fn give(seat: &mut WorkerSeat, kept: &mut VecDeque<Prefix>, count: usize) -> usi
 }
 
 impl Worker {
-    /// The worker of this number at its seats, which keeps no piece. It steals behind its own number
-    /// first, so that not all begin at the same deque.
+    /// The worker of this number at its seats, which keeps no piece. It steals behind its own
+    /// number first, so that not all begin at the same deque.
     pub fn new(alloc: Global, number: u32, seat: WorkerSeat) -> Worker {
         let mut seat = seat;
         let behind = (number as usize).min(seat.thieves.len());
@@ -92,8 +92,8 @@ impl Worker {
         }
     }
 
-    /// The piece with which it goes on: the last one that it keeps, or else one of the pool. `None`:
-    /// nothing is left to be done or nobody is at work, and it leaves.
+    /// The piece with which it goes on: the last one that it keeps, or else one of the pool.
+    /// `None`: nothing is left to be done or nobody is at work, and it leaves.
     pub fn next_piece<B: Wait + Drop, R: Wait>(
         &mut self,
         rt: &R,
@@ -115,8 +115,8 @@ impl Worker {
         keep_all(&mut self.kept, rest);
     }
 
-    /// Gives a piece to each idle worker, as long as it keeps as many itself: the shallowest ones, which
-    /// have most below them.
+    /// Gives a piece to each idle worker, as long as it keeps as many itself: the shallowest ones,
+    /// which have most below them.
     pub fn share<B: Wait + Drop, R: Wait>(&mut self, rt: &R, room: &Room<B>) {
         let wanted = room.idle().min(self.kept.len() / 2);
         let given = give(&mut self.seat, &mut self.kept, wanted);

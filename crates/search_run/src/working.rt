@@ -16,8 +16,8 @@ use std::alloc::Global;
 use std::sync::{Arc, Wait};
 use tv_base::{Gate, Point};
 
-/// The report of a piece, if it is live, ready for the desk before its lock is taken. An `Err` is out
-/// of memory.
+/// The report of a piece, if it is live, ready for the desk before its lock is taken. An `Err` is
+/// out of memory.
 fn report_of(
     alloc: Global,
     path: &mut BlockPath,
@@ -37,8 +37,8 @@ fn report_of(
     }
 }
 
-/// Expands a piece and reports it. The rest is handed over; `None`: the worker is to leave. An `Err` is
-/// out of memory before the report.
+/// Expands a piece and reports it. The rest is handed over; `None`: the worker is to leave. An
+/// `Err` is out of memory before the report.
 fn work_at<B: Wait + Drop, R: Wait, G: Gate>(
     rt: &R,
     alloc: Global,
@@ -61,8 +61,8 @@ fn work_at<B: Wait + Drop, R: Wait, G: Gate>(
     }
 }
 
-/// The rounds of a worker, by a way down the tree of the problem's prefixes, until it leaves. What it is
-/// refused memory for it leaves to the others.
+/// The rounds of a worker, by a way down the tree of the problem's prefixes, until it leaves. What
+/// it is refused memory for it leaves to the others.
 fn go_round<B: Wait + Drop, R: Wait, G: Gate>(
     rt: &R,
     alloc: Global,
@@ -102,9 +102,9 @@ fn own_path<'a>(
     }
 }
 
-/// The work of one worker from its first piece on, by this way down the tree of the problem's prefixes,
-/// or else by one that it makes: where it is refused memory for that, it has done nothing, and leaves the
-/// piece to the others.
+/// The work of one worker from its first piece on, by this way down the tree of the problem's
+/// prefixes, or else by one that it makes: where it is refused memory for that, it has done
+/// nothing, and leaves the piece to the others.
 fn work_from<'a, B: Wait + Drop, R: Wait, G: Gate>(
     rt: &R,
     alloc: Global,
@@ -124,8 +124,8 @@ fn work_from<'a, B: Wait + Drop, R: Wait, G: Gate>(
     }
 }
 
-/// The work of one worker, from its start until it leaves, by this way down the tree of the problem's
-/// prefixes, or else by one that it makes at its first piece.
+/// The work of one worker, from its start until it leaves, by this way down the tree of the
+/// problem's prefixes, or else by one that it makes at its first piece.
 pub fn work<'a, B: Wait + Drop, R: Wait, G: Gate>(
     rt: &R,
     alloc: Global,

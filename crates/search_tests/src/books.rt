@@ -1,5 +1,5 @@
-//! The book of a search: its pages while it grows, and readers in threads. They show too how a caller
-//! proves that it publishes solutions alone, each once.
+//! The book of a search: its pages while it grows, and readers in threads. They show too how a
+//! caller proves that it publishes solutions alone, each once.
 
 mod author;
 mod pages;

@@ -169,8 +169,8 @@ fn met_on_the_way(partial: &mut Partial<'_>) -> Option<u32> {
     Some(met)
 }
 
-/// With how many prefixes of the cube every line can be met, where each line stands as its columns tell after each
-/// decision and after each that is taken back.
+/// With how many prefixes of the cube every line can be met, where each line stands as its columns
+/// tell after each decision and after each that is taken back.
 fn met_prefixes(alloc: Global) -> Result<Option<u32>, Fail> {
     let problem = problem_in(alloc, row_of(EIGHT_VOIDS))?;
     let mut partial = Partial::new(alloc, &problem)?;

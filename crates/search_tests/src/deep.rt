@@ -9,7 +9,8 @@ use std::test::Fail;
 /// A cube with 512 voids: 513 blocks.
 const VOIDS: [&str; 3] = ["lattice 8 8"; 3];
 
-/// How a search of it by a desk ends, where one solid may be listed: level by level, at its limit of nodes.
+/// How a search of it by a desk ends, where one solid may be listed: level by level, at its limit
+/// of nodes.
 fn end_of_voids(alloc: Global) -> Result<EndKind, Fail> {
     let problem = problem(alloc, VOIDS)?;
     let ended = search_by_desk(alloc, &problem, limits("1000000", "1")?)?;

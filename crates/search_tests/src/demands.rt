@@ -8,10 +8,11 @@ use std::fmt::Write;
 use std::test::Fail;
 use test_files::{Row, drawing_file, file_bytes, layer_of, row_of};
 
-/// A row a drawing, by its strokes in front, from the top and from the side; how many lines touch each
-/// of its blocks; and the first line that can't be met where the first block is empty: its view,
-/// whether it is upright, its position and its cell. The drawings show one cell; two on one line of
-/// sight, with a gap between them; three of four, side by side in front; and a cube with eight voids.
+/// A row a drawing, by its strokes in front, from the top and from the side; how many lines touch
+/// each of its blocks; and the first line that can't be met where the first block is empty: its
+/// view, whether it is upright, its position and its cell. The drawings show one cell; two on one
+/// line of sight, with a gap between them; three of four, side by side in front; and a cube with
+/// eight voids.
 const DEMANDS: &str = "\
 rect S 0 0 1 1; rect S 0 0 1 1; rect S 0 0 1 1 -> 12, FRONT false 0 0
 rect S 0 0 1 1; rect S 0 0 1 1, rect S 0 2 1 3; rect S 0 0 1 1, rect S 2 0 3 1 -> \

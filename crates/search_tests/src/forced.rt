@@ -11,10 +11,10 @@ use test_files::{Row, row_of};
 
 /// A row a drawing, by its strokes in front, from the top and from the side, and which of its first
 /// blocks are decided: a `1` for a full one, a `0` for an empty one. Wanted are the steps that its
-/// lines force, each block with its value and the line, and how they end; and how closing ends, with
-/// what is then known of each block where it is stable. The drawings show one cell, the quartered cube,
-/// that cube with half of a stroke hidden from above, two cubes along an edge, and three that no solid
-/// shows.
+/// lines force, each block with its value and the line, and how they end; and how closing ends,
+/// with what is then known of each block where it is stable. The drawings show one cell, the
+/// quartered cube, that cube with half of a stroke hidden from above, two cubes along an edge, and
+/// three that no solid shows.
 const FORCED: &str = "\
 rect S 0 0 1 1; rect S 0 0 1 1; rect S 0 0 1 1 -> 0+ FRONT false 0 0, stable; stable 1
 rect S 0 0 2 2, line S 0 1 2 1, line S 1 0 1 2; rect S 0 0 2 2, line S 0 1 2 1, line S 1 0 1 2; \

@@ -22,9 +22,9 @@ const SLAB: [&str; 3] = [
     "rect S 0 0 5 3, line S 0 4 1 4, line S 0 3 0 4, line S 1 3 1 4",
 ];
 
-/// A row a drawing of these; which of its first blocks are decided; and a column, by its view and its
-/// places to the right and upwards. Wanted are its cells that are full for certain, and those that may
-/// be, where the nearest counts 1, the next one 2 and so on.
+/// A row a drawing of these; which of its first blocks are decided; and a column, by its view and
+/// its places to the right and upwards. Wanted are its cells that are full for certain, and those
+/// that may be, where the nearest counts 1, the next one 2 and so on.
 const MASKS: &str = "\
 hollow; ; TOP 1 1 -> 0 7
 hollow; 1; TOP 1 1 -> 5 7

@@ -53,8 +53,8 @@ fn told_end(alloc: Global, ended: &Ended) -> Result<String, Fail> {
     Ok(format!(in alloc; "{kind} {} {}", ended.opened, ended.solids.len())?)
 }
 
-/// The kind of an end, and of a whole search all that is told: how many prefixes a cut search opens,
-/// and which solids it finds, depends on how it goes.
+/// The kind of an end, and of a whole search all that is told: how many prefixes a cut search
+/// opens, and which solids it finds, depends on how it goes.
 fn wanted_kind(wanted: &str) -> &str {
     match wanted.split_once(' ') {
         Some((kind, _)) if kind != "whole" => kind,
@@ -171,10 +171,11 @@ fn pieces_expand_so(rt: HostRuntime) -> Result<(), Fail> {
     Ok(())
 }
 
-/// A row a desk of the hollow cube, or of the cube with eight voids: for each report to it the problem,
-/// the piece (`-` for the empty one) and the quantum with which it was expanded; and what the desk says
-/// to it, and how it stands then: how many prefixes are opened, how many choices are found, the piece
-/// that is next, and the end. In the last row the pieces that were told first come first.
+/// A row a desk of the hollow cube, or of the cube with eight voids: for each report to it the
+/// problem, the piece (`-` for the empty one) and the quantum with which it was expanded; and what
+/// the desk says to it, and how it stands then: how many prefixes are opened, how many choices are
+/// found, the piece that is next, and the end. In the last row the pieces that were told first come
+/// first.
 const REPORTS: &str = "\
 hollow - 64; hollow - 64 -> taken, 3 opened, 1 found, nothing, Some(Whole); \
     stop, 3 opened, 1 found, nothing, Some(Whole)

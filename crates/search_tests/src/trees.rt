@@ -11,10 +11,10 @@ use std::fmt::Write;
 use std::test::Fail;
 use test_files::{Row, row_of};
 
-/// A row a tree: the number of blocks, and a `#` for each live prefix, level by level, in each level in
-/// the stated order; and then the live prefixes in the stated order, a `1` for full and a `0` for
-/// empty; and the expansions of the empty prefix with each quantum: how many were opened, the choices
-/// among them, and the rest.
+/// A row a tree: the number of blocks, and a `#` for each live prefix, level by level, in each
+/// level in the stated order; and then the live prefixes in the stated order, a `1` for full and a
+/// `0` for empty; and the expansions of the empty prefix with each quantum: how many were opened,
+/// the choices among them, and the rest.
 const TREES: &str = "\
 3; ###.###.##..##. -> - 1 10 101 0 01 010 00 001|1:; 1 0|2:; 10 0|4: 101; 0|6: 101; 010 00|9: 101 010 001;
 1; ### -> - 1 0|1:; 1 0|2: 1; 0|3: 1 0;|3: 1 0;|3: 1 0;

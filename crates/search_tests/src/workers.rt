@@ -1,5 +1,5 @@
-//! Searches by workers: that they work at one time, that pages come meanwhile, and that there is one
-//! answer for every number of workers.
+//! Searches by workers: that they work at one time, that pages come meanwhile, and that there is
+//! one answer for every number of workers.
 
 ghost use Rattle.std.specs.Prelude.{◌≤◌};
 

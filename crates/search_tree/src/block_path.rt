@@ -8,16 +8,16 @@ use solid_model::{Memory, Prefix, Problem};
 use std::alloc::Global;
 use std::marker::Model;
 
-/// A way down the tree of a problem's prefixes, which decides its blocks one after another, and with
-/// each live prefix what follows from it. All memory is taken at the beginning. Contracts see it as the
-/// problem and the values of its first blocks: of what is said of all blocks, the first so many; what is
-/// said of the others is left over.
+/// A way down the tree of a problem's prefixes, which decides its blocks one after another, and
+/// with each live prefix what follows from it. All memory is taken at the beginning. Contracts see
+/// it as the problem and the values of its first blocks: of what is said of all blocks, the first
+/// so many; what is said of the others is left over.
 #[derive(Debug, Drop)]
 pub struct BlockPath<'a> {
     /// What the last live prefix on the way says, and what follows from it.
     partial: Partial<'a>,
-    /// For each live prefix on the way, from the empty one on, how many decisions there were before its
-    /// last value.
+    /// For each live prefix on the way, from the empty one on, how many decisions there were before
+    /// its last value.
     marks: Vec<u16>,
     blocks: u16,
     said: Prefix,

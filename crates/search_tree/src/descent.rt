@@ -1,5 +1,5 @@
-//! Steps down the tree of a problem's prefixes, and back: with each live prefix what follows from it is
-//! decided.
+//! Steps down the tree of a problem's prefixes, and back: with each live prefix what follows from
+//! it is decided.
 //!
 //! A value that is decided already tells at once whether the next prefix is live; another one is
 //! decided and closed; where that ends in a conflict the prefix is dead, and all is taken back. For
@@ -31,8 +31,8 @@ fn undo_to(partial: &mut Partial<'_>, mark: u16)
     }
 }
 
-/// Begins at the empty prefix, where no block is decided and nothing is marked: takes all decisions that
-/// follow from it, unless it isn't live.
+/// Begins at the empty prefix, where no block is decided and nothing is marked: takes all decisions
+/// that follow from it, unless it isn't live.
 pub fn begin(partial: &mut Partial<'_>, marks: &mut Vec<u16>)
     requires none { partial.old.decisions ≡ [] }
     requires unmarked { marks.old.items ≡ [] }
@@ -47,8 +47,9 @@ pub fn begin(partial: &mut Partial<'_>, marks: &mut Vec<u16>)
     }
 }
 
-/// Goes on from a live prefix, which is closed, to the one with a value more: takes it and all decisions
-/// that follow, unless they were taken before. False: that prefix isn't live, and no decision is taken.
+/// Goes on from a live prefix, which is closed, to the one with a value more: takes it and all
+/// decisions that follow, unless they were taken before. False: that prefix isn't live, and no
+/// decision is taken.
 fn close_next(partial: &mut Partial<'_>, block: u16, full: bool) -> bool
     requires there { block < partial.old.problem.blocks.count }
     requires stable { IsStable partial.old.problem (decided_by partial.old.decisions) }
@@ -76,8 +77,8 @@ fn close_next(partial: &mut Partial<'_>, block: u16, full: bool) -> bool
     }
 }
 
-/// Goes on from a prefix, that of the first values that are said, so many, to the one with a value more.
-/// Below a prefix that isn't live nothing is decided.
+/// Goes on from a prefix, that of the first values that are said, so many, to the one with a value
+/// more. Below a prefix that isn't live nothing is decided.
 pub fn step_down(
     partial: &mut Partial<'_>,
     marks: &mut Vec<u16>,
@@ -103,8 +104,8 @@ pub fn step_down(
     }
 }
 
-/// Goes back from a prefix, that of the first values that are said, so many, to the one without the last
-/// of them: takes back what was decided for it.
+/// Goes back from a prefix, that of the first values that are said, so many, to the one without the
+/// last of them: takes back what was decided for it.
 pub fn step_up(partial: &mut Partial<'_>, marks: &mut Vec<u16>, said: &Prefix, depth: u16)
     requires some { 0 < depth }
     requires said { depth ≤ length said.now }

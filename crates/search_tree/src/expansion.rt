@@ -28,8 +28,8 @@ pub struct Expanded {
     pub rest: Vec<Prefix>,
 }
 
-/// Opens the first live prefixes that begin with the present one, a live one: as many as the quantum
-/// says, or all if they are fewer. An `Err` is out of memory.
+/// Opens the first live prefixes that begin with the present one, a live one: as many as the
+/// quantum says, or all if they are fewer. An `Err` is out of memory.
 pub fn expand_path<P: Path>(alloc: Global, path: &mut P, quantum: u32) -> Result<Expanded, Memory>
     requires live { IsTrue (P.live path.old (P.prefix path.old)) }
     requires tree { IsTree (P.live path.old) (P.blocks path.old) }
@@ -62,8 +62,8 @@ pub fn expand_path<P: Path>(alloc: Global, path: &mut P, quantum: u32) -> Result
 }
 
 /// The report of a piece of a problem, as [`expand`] gives it, by a way down the tree of the
-/// problem's prefixes, wherever it stands: it goes to the piece from there. At an `Err`, which is out
-/// of memory, the way stands somewhere else.
+/// problem's prefixes, wherever it stands: it goes to the piece from there. At an `Err`, which is
+/// out of memory, the way stands somewhere else.
 pub fn expand_from(
     alloc: Global,
     path: &mut BlockPath,
@@ -104,8 +104,8 @@ pub fn expand_from(
 
 /// The report of a piece of a problem: opens the first live prefixes that begin with the piece, in
 /// the stated order (a prefix before its extensions, and a full block before an empty one), as many
-/// as the quantum says, or all if they are fewer. The rest are the live prefixes behind them that are
-/// one of them with one value more. `None`: the piece isn't live. An `Err` is out of memory.
+/// as the quantum says, or all if they are fewer. The rest are the live prefixes behind them that
+/// are one of them with one value more. `None`: the piece isn't live. An `Err` is out of memory.
 pub fn expand(
     alloc: Global,
     problem: &Arc<Problem>,

@@ -26,9 +26,9 @@ pub fn keep_whole<P: Path>(path: &P, found: &mut Vec<Choice>) -> Result<(), Memo
     Ok(())
 }
 
-/// Opens the first live prefixes that begin with the present one, a live one: as many as the quantum
-/// says, or all if they are fewer. Those of full length are added to those found. Says how many were
-/// opened, and stands at the last of them if they are as many as the quantum.
+/// Opens the first live prefixes that begin with the present one, a live one: as many as the
+/// quantum says, or all if they are fewer. Those of full length are added to those found. Says how
+/// many were opened, and stands at the last of them if they are as many as the quantum.
 pub fn open_first<P: Path>(
     path: &mut P,
     quantum: u32,

@@ -8,8 +8,8 @@ ghost use Rattle.solid_model.specs.Tree.{IsTree};
 
 use solid_model::{Memory, Prefix};
 
-/// A way down the tree of prefixes: it stands at one prefix, goes down to one with a value more, and
-/// up again. Which prefixes are live, and how many blocks there are, stays the same on the way.
+/// A way down the tree of prefixes: it stands at one prefix, goes down to one with a value more,
+/// and up again. Which prefixes are live, and how many blocks there are, stays the same on the way.
 pub trait Path {
     /// Which prefixes are live.
     ghost live: { Self → List Bool → Bool };
@@ -33,8 +33,8 @@ pub trait Path {
         ensures count { result ≡ blocks self.now }
         ensures tree { IsTree (live self.now) (blocks self.now) };
 
-    /// Whether the present prefix is live. What a live prefix begins with is live. The way stays where
-    /// it is, but may note what it finds out.
+    /// Whether the present prefix is live. What a live prefix begins with is live. The way stays
+    /// where it is, but may note what it finds out.
     fn is_live(&mut self) -> bool
         ensures asked { result ≡ live self.old (prefix self.old) }
         ensures tree { IsTree (live self.old) (blocks self.old) }

@@ -6,8 +6,8 @@ ghost use Rattle.search_tree.specs.Walk.{later, coming, StandsAtFirst};
 
 use crate::path::Path;
 
-/// Goes to the prefix with one value more if that is live, else stays; then nothing that begins with
-/// it is live.
+/// Goes to the prefix with one value more if that is live, else stays; then nothing that begins
+/// with it is live.
 pub fn enter<P: Path>(path: &mut P, full: bool) -> bool
     requires { length (P.prefix path.old) < P.blocks path.old }
     ensures live { P.live path.new ≡ P.live path.old }
@@ -26,7 +26,8 @@ pub fn enter<P: Path>(path: &mut P, full: bool) -> bool
     false
 }
 
-/// Goes from a live prefix to the first live one that begins with it and is longer, if there is one.
+/// Goes from a live prefix to the first live one that begins with it and is longer, if there is
+/// one.
 fn go_below<P: Path>(path: &mut P, floor: usize) -> bool
     requires live { IsTrue (P.live path.old (P.prefix path.old)) }
     requires floor { floor ≤ length (P.prefix path.old) }
@@ -53,7 +54,8 @@ fn step_back<P: Path>(path: &mut P, floor: usize) -> bool
         (later (P.live path.old) (P.blocks path.old) floor (P.prefix path.old))
         (P.prefix path.new) }
     ensures shorter { result ≡ false → length (P.prefix path.old) ≡ length (P.prefix path.new) + 1 }
-    ensures left { result ≡ false → later (P.live path.old) (P.blocks path.old) floor (P.prefix path.old)
+    ensures left { result ≡ false → later (P.live path.old) (P.blocks path.old) floor
+        (P.prefix path.old)
         ≡ later (P.live path.old) (P.blocks path.old) floor (P.prefix path.new) }
 {
     match path.go_up() {
@@ -84,8 +86,8 @@ fn leave<P: Path>(path: &mut P, floor: usize) -> bool
     false
 }
 
-/// Goes from a live prefix to the next live one in the stated order, among those that begin with its
-/// first `floor` values. Where none is left it says so.
+/// Goes from a live prefix to the next live one in the stated order, among those that begin with
+/// its first `floor` values. Where none is left it says so.
 pub fn go_on<P: Path>(path: &mut P, floor: usize) -> bool
     requires live { IsTrue (P.live path.old (P.prefix path.old)) }
     requires floor { floor ≤ length (P.prefix path.old) }

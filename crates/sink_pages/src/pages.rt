@@ -6,7 +6,7 @@ ghost use Rattle.sink_pages.specs.Gained.{HasGained};
 
 use page_calls::PageOut;
 use report::page_text;
-use solid_model::{Choice, Memory};
+use solid_model::{Choice, Memory, copy_choices};
 use std::alloc::Global;
 use std::marker::{Brand, Model, PhantomData};
 use tv_base::{Sink, SinkError};
@@ -90,17 +90,6 @@ impl<K: Sink, B: Begun> SinkPages<K, B> {
     }
 }
 
-/// Choices, copied.
-fn copies(alloc: Global, choices: &[Choice]) -> Result<Vec<Choice>, Memory>
-    ensures { IfOk result (λ copies. copies.items ≡ choices.now) }
-{
-    let mut copies = Vec::new(alloc);
-    for choice in choices {
-        copies.push(choice.try_clone()?)?;
-    }
-    Ok(copies)
-}
-
 impl<K: Sink, B: Begun> PageOut for SinkPages<K, B> {
     ghost calls = { λ s. Some s.calls };
 
@@ -110,7 +99,7 @@ impl<K: Sink, B: Begun> PageOut for SinkPages<K, B> {
         if self.refused {
             return Err(SinkError::Memory);
         }
-        let Ok(choices) = copies(self.alloc, more) else {
+        let Ok(choices) = copy_choices(self.alloc, more) else {
             return Err(SinkError::Memory);
         };
         let Ok(text) = page_text(self.alloc, number, total, more) else {

@@ -1,4 +1,5 @@
 pub mod Lives
+pub mod DecidedMore
 pub mod Gaps
 pub mod GridFillings
 pub mod BoxCells

@@ -1,11 +1,10 @@
 -- The rooms of a box: of walls that stand in the same places, and their numbers.
 use Rattle.std.proofs.Common.{◌≡◌, ◌↔◌, ℕ, ◌<◌, List, get_or, Option, Some, None, IsTrue, ap, subst, ◌∙◌}
-use Rattle.solid_model.specs.Kept.{IsBelow}
 use Rattle.solid_model.specs.declared.cell.Axis.{Axis}
 use Rattle.solid_model.specs.declared.cell.Cell.{Cell}
 use Rattle.lemmas.specs.Chains.{Reaches}
 use Rattle.lemmas.specs.Lists.{Each}
-use Rattle.solid_model.specs.Rooms.{Sizes, is_within, Walls, Passes, LeadsOut, number_at, AreRooms}
+use Rattle.solid_model.specs.Rooms.{Sizes, is_within, Walls, Passes, LeadsOut, number_at, AreRooms, IsEarlier}
 use Rattle.solid_model.proofs.BoxPlaces.{cell_of_place, cell_of_place-within, cell_of_place-there}
 use Rattle.lemmas.proofs.Chains.{same_chains}
 use Rattle.lemmas.proofs.ListPlaces.{member-place}
@@ -41,13 +40,13 @@ module _ (sizes : Sizes) (v w : Walls) (same : (a : Axis) (n : Cell) → v a n �
 
 -- all numbers are below their count
 pub room_numbers-below : (sizes : Sizes) (wall : Walls) (numbers : List (Option ℕ)) (count : ℕ) → AreRooms sizes wall numbers count
-    → Each (IsBelow count) numbers
-room_numbers-below sizes wall numbers count are = each-from (IsBelow count) numbers (λ x member.
+    → Each (IsEarlier count) numbers
+room_numbers-below sizes wall numbers count are = each-from (IsEarlier count) numbers (λ x member.
     let (p, p_in, there) = member-place numbers x member in
     at p (cell_of_place-within sizes p (subst (λ c. p < c) are.listed p_in)) x
     (ap (λ q. get_or numbers q None) (cell_of_place-there sizes p) ∙ there None))
   where
     at : (p : ℕ) → IsTrue (is_within sizes (cell_of_place sizes p)) → (x : Option ℕ)
-        → number_at sizes numbers (cell_of_place sizes p) ≡ x → IsBelow count x
+        → number_at sizes numbers (cell_of_place sizes p) ≡ x → IsEarlier count x
     at p within None e = tt
     at p within (Some k) e = are.below (cell_of_place sizes p) k within e

@@ -1,9 +1,9 @@
 -- What the stages from a grid to its blocks hand on to each other.
-use Rattle.std.specs.Prelude.{◌≡◌, suc, IsTrue, if◌then◌else◌, ◌<◌, ℕ, length, Option, Some, None}
+use Rattle.std.specs.Prelude.{◌≡◌, suc, IsTrue, if◌then◌else◌, ℕ, length}
 use Rattle.solid_model.specs.declared.cell.Axis.{Axis}
 use Rattle.solid_model.specs.Panels.{GridParts}
 use Rattle.solid_model.specs.Marks.{AxisMarks, marks_along, AreMarksOf}
-use Rattle.solid_model.specs.Rooms.{Sizes, same_axis, face_sizes, box_count}
+use Rattle.solid_model.specs.Rooms.{Sizes, same_axis, face_sizes, box_count, IsEarlier}
 use Rattle.solid_model.specs.GridBox.{grid_sizes}
 use Rattle.solid_model.specs.Wire.{is_pseudo_edge}
 use Rattle.solid_model.specs.VirtualFaces.{IsVirtual}
@@ -24,13 +24,8 @@ IsWireOf g wire = (a : Axis) → AreMarksOf (edge_sizes (grid_sizes g) a) (λ n.
 abbrev pub IsFaceMapOf : GridParts → AxisMarks → Type 0
 IsFaceMapOf g faces = (a : Axis) → AreMarksOf (face_sizes (grid_sizes g) a) (IsVirtual g a) (marks_along a faces)
 
--- a cell's number, if it has one, is below this
-abbrev pub IsBelow : ℕ → Option ℕ → Type 0
-IsBelow n None = Unit {0}
-IsBelow n (Some k) = k < n
-
 -- each cell has a number or none, and the numbers are below the count
 pub record AreNumbers (b : BlockNumbers) : Type 0 where
   pub few : AreFew (numbers_of b.sizes)
   pub listed : length b.numbers ≡ box_count (numbers_of b.sizes)
-  pub below : Each (IsBelow b.count) b.numbers
+  pub below : Each (IsEarlier b.count) b.numbers

@@ -70,7 +70,7 @@ LeadsOut sizes wall n = (m : Cell) × Reaches (Passes wall) n m × (is_within si
 abbrev pub number_at : Sizes → List (Option ℕ) → Cell → Option ℕ
 number_at sizes numbers n = slice_index_or numbers (box_place sizes n) None
 
--- a cell is in no room, or in an earlier one
+-- a cell has no number, or one below this: it is in no room, or in an earlier one
 abbrev pub IsEarlier : ℕ → Option ℕ → Type 0
 IsEarlier k None = Unit {0}
 IsEarlier k (Some l) = l < k

@@ -3,12 +3,13 @@ use Rattle.std.specs.Prelude.{Bool, ℤ, pos, ◌+ℤ◌, if◌then◌else◌}
 use Rattle.solid_model.specs.declared.frame.View.{View}
 use Rattle.solid_model.specs.declared.segment.Segment.{Segment}
 
--- the coordinate of the point (x, y) of a view along its level, or its upright, segments
-abbrev pub along_of : Bool → ℤ → ℤ → ℤ
+-- of what goes to the right and what goes upwards in a view, say a point's coordinates: what goes along its level, or its
+-- upright, segments
+abbrev pub along_of : {A : Type 0} → Bool → A → A → A
 along_of upright x y = if upright then y else x
 
--- and its coordinate across them
-abbrev pub across_of : Bool → ℤ → ℤ → ℤ
+-- and what goes across them
+abbrev pub across_of : {A : Type 0} → Bool → A → A → A
 across_of upright x y = if upright then x else y
 
 -- where a segment begins along the way it runs

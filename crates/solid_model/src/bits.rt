@@ -113,10 +113,11 @@ impl Bits {
         Ok(())
     }
 
-    /// Has so many values. Those that it had are the same, as far as they are left; nothing is said of
-    /// more. An `Err` is out of memory, and leaves it as it is.
+    /// Has so many values. Those that it had are the same, as far as they are left; nothing is said
+    /// of more. An `Err` is out of memory, and leaves it as it is.
     pub fn resize(&mut self, count: usize) -> Result<(), Memory>
-        ensures length { MatchResult result (λ _. length self.new ≡ count) (λ _. self.new ≡ self.old) }
+        ensures length { MatchResult result (λ _. length self.new ≡ count)
+            (λ _. self.new ≡ self.old) }
         ensures kept { (k : ℕ) → k ≤ length self.old → k ≤ length self.new
             → take k self.new ≡ take k self.old }
     {

@@ -34,16 +34,15 @@ impl Model for Blocks {
 impl Blocks {
     ghost use Rattle.std.specs.Prelude.{◌≡◌, length};
     ghost use Rattle.solid_model.specs.Blocks.{block_at};
-    ghost use Rattle.solid_model.specs.Kept.{IsBelow};
     ghost use Rattle.lemmas.specs.Lists.{Each};
     ghost use Rattle.solid_model.specs.PerAxis.{numbers_of, cell_of};
-    ghost use Rattle.solid_model.specs.Rooms.{box_count};
+    ghost use Rattle.solid_model.specs.Rooms.{box_count, IsEarlier};
     ghost use Rattle.solid_model.specs.GridBox.{grid_sizes};
 
     /// The blocks of a grid: so many, one number or none for each grid cell.
     pub fn new(grid: &Grid, of: Vec<Option<u16>>, count: u16) -> Blocks
         requires listed { length of.items ≡ box_count (grid_sizes grid.now) }
-        requires below { Each (IsBelow count) of.items }
+        requires below { Each (IsEarlier count) of.items }
         ensures sizes { numbers_of result.sizes ≡ grid_sizes grid.now }
         ensures numbers { result.numbers ≡ of.items }
         ensures count { result.count ≡ count }

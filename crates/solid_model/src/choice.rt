@@ -1,5 +1,7 @@
 //! Choices of which blocks are full.
 
+ghost use Rattle.std.specs.Prelude.{◌≡◌, IfOk};
+
 use crate::bits::Bits;
 use crate::memory::Memory;
 use std::alloc::Global;
@@ -22,6 +24,8 @@ impl Model for Choice {
 
 impl Choice {
     ghost use Rattle.std.specs.Prelude.{◌≡◌, ◌<◌, false, length, slice_index_or, IfOk};
+    ghost use Rattle.std.specs.List.{common_prefix_len};
+    ghost use Rattle.lemmas.specs.Truth.{agree};
     ghost use Rattle.solid_model.specs.Choices.{is_chosen};
 
     /// The choice with these values, block by block. An `Err` is out of memory.
@@ -54,6 +58,13 @@ impl Choice {
         self.full.len()
     }
 
+    /// How many of the first blocks it has full or empty as the other does.
+    pub(crate) fn shared(&self, other: &Choice) -> usize
+        ensures { result ≡ common_prefix_len agree self.now other.now }
+    {
+        self.full.shared(&other.full)
+    }
+
     /// Whether the block of this number is full.
     pub fn get(&self, at: usize) -> bool
         requires { at < length self.now }
@@ -71,4 +82,15 @@ impl Choice {
             None => false,
         }
     }
+}
+
+/// These choices once more. An `Err` is out of memory.
+pub fn copy_choices(alloc: Global, choices: &[Choice]) -> Result<Vec<Choice>, Memory>
+    ensures { IfOk result (λ copies. copies.items ≡ choices.now) }
+{
+    let mut copies = Vec::with_capacity(alloc, choices.len())?;
+    for choice in choices {
+        copies.push(choice.try_clone()?)?;
+    }
+    Ok(copies)
 }

@@ -1,4 +1,7 @@
 //! The stated order of choices.
+//!
+//! Words of blocks are compared, and not block by block: an answer of several workers is sorted,
+//! and neighbours in it begin alike.
 
 ghost use Rattle.std.specs.Prelude.{◌≡◌, ◌↔◌, length};
 ghost use Rattle.std.specs.declared.cmp.Ordering.TheVariants.{Less, Equal, Greater};
@@ -15,15 +18,13 @@ pub fn compare(a: &Choice, b: &Choice) -> Ordering
     ensures equal { (result ≡ Equal) ↔ (a.now ≡ b.now) }
     ensures greater { (result ≡ Greater) ↔ ChoicePrecedes b.now a.now }
 {
-    for place in 0..a.len() {
-        let full = a.get(place);
-        if full != b.get(place) {
-            return if full {
-                Ordering::Less
-            } else {
-                Ordering::Greater
-            };
-        }
+    let same = a.shared(b);
+    if same == a.len() {
+        return Ordering::Equal;
     }
-    Ordering::Equal
+    if a.get(same) {
+        Ordering::Less
+    } else {
+        Ordering::Greater
+    }
 }

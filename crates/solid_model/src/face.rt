@@ -67,7 +67,8 @@ impl Out {
 }
 
 /// A loop of a face: the points where it turns, the least one first, with the face on the left of
-/// whoever goes along it and looks from outside. A `Cell` stands for the point with its coordinates.
+/// whoever goes along it and looks from outside. A `Cell` stands for the point with its
+/// coordinates.
 #[derive(Debug, Drop)]
 pub struct Loop {
     pub corners: Vec<Cell>,

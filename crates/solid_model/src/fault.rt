@@ -36,15 +36,16 @@ pub enum Fault {
     /// The value of a coordinate or of flags isn't whole; `line` is that of the value.
     #[error("line {line}: the value of group code {code} isn't whole")]
     NotWhole { line: u32, code: i32 },
-    /// The absolute value of a coordinate or of flags is above 1,000,000,000; `line` is that of the value.
+    /// The absolute value of a coordinate or of flags is above 1,000,000,000; `line` is that of the
+    /// value.
     #[error("line {line}: the value of group code {code} is too far out")]
     TooFar { line: u32, code: i32 },
-    /// A line, or a vertex of a polyline, has no such coordinate; `line` is that at which its entity
-    /// begins.
+    /// A line, or a vertex of a polyline, has no such coordinate; `line` is that at which its
+    /// entity begins.
     #[error("line {line}: group code {code} is missing here")]
     Missing { line: u32, code: i32 },
-    /// A line, or a vertex of a polyline, has such a coordinate already; `line` is that of the second
-    /// code.
+    /// A line, or a vertex of a polyline, has such a coordinate already; `line` is that of the
+    /// second code.
     #[error("line {line}: group code {code} stands here again")]
     Repeated { line: u32, code: i32 },
     /// A line of the entity is neither level nor upright; `line` is that at which it begins.
@@ -60,8 +61,8 @@ pub enum Fault {
     /// No line covers anything in the view.
     #[error("the view {view:?} is empty")]
     EmptyView { view: View },
-    /// More than 100,000 lines would be kept; `line` is that at which the entity of the first one above
-    /// these begins.
+    /// More than 100,000 lines would be kept; `line` is that at which the entity of the first one
+    /// above these begins.
     #[error("line {line}: there are too many lines")]
     TooManyLines { line: u32 },
     /// The file has more than 16,777,216 bytes.

@@ -24,7 +24,8 @@ pub fn number_on(sizes: PerAxis, direction: Direction, place: usize) -> usize
     }
 }
 
-/// The grid cell at a place to the right, upwards and away, where there are so many along each axis.
+/// The grid cell at a place to the right, upwards and away, where there are so many along each
+/// axis.
 pub fn cell_in(frame: Frame, sizes: PerAxis, right: usize, up: usize, depth: usize) -> PerAxis
     requires sizes { (a : Axis) → numbers_of sizes a ≤ most_grid_coordinates }
     requires right { right ≤ most_grid_coordinates }

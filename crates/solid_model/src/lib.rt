@@ -35,7 +35,7 @@ mod wire;
 
 pub use blocks::Blocks;
 pub use cell::{Axis, Cell};
-pub use choice::Choice;
+pub use choice::{Choice, copy_choices};
 pub use choice_order::compare;
 pub use decision::Decision;
 pub use drawing::{Drawing, ViewLines};

@@ -2,8 +2,8 @@
 
 use crate::frame::View;
 
-/// A line of a grid: a grid segment of a view, which lies on the `at`-th coordinate across it and is
-/// the `cell`-th along it, both counted from 0. A blank one is a line too.
+/// A line of a grid: a grid segment of a view, which lies on the `at`-th coordinate across it and
+/// is the `cell`-th along it, both counted from 0. A blank one is a line too.
 #[derive(Clone, Copy, Debug, PartialEq, Eq)]
 pub struct LineId {
     pub view: View,

@@ -22,8 +22,8 @@ impl Model for Panel {
     ghost view = { λ s. record { level = s.level.items; upright = s.upright.items } };
 }
 
-/// The styles are the same. Two lists of one length are looked at to their end, so that no look waits
-/// for the one before.
+/// The styles are the same. Two lists of one length are looked at to their end, so that no look
+/// waits for the one before.
 fn same_styles(styles: &[Style], others: &[Style]) -> bool
     ensures { IsTrue result ↔ (styles.now ≡ others.now) }
 {

@@ -130,7 +130,8 @@ impl PerAxis {
         }
     }
 
-    /// The same, found from the cell at the place before, if there is one: mostly without a division.
+    /// The same, found from the cell at the place before, if there is one: mostly without a
+    /// division.
     pub fn next_cell(self, before: PerAxis, place: usize) -> PerAxis
         requires place { place < box_count (numbers_of self) }
         requires before { 0 < place → IsTrue (is_within (numbers_of self) (cell_of before))

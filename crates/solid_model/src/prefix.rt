@@ -52,10 +52,11 @@ impl Prefix {
         self.full.try_clone_from(&other.full)
     }
 
-    /// Says something of so many of the first blocks: the same as it said, as far as it is left, and
-    /// nothing is known of more. An `Err` is out of memory, and leaves it as it is.
+    /// Says something of so many of the first blocks: the same as it said, as far as it is left,
+    /// and nothing is known of more. An `Err` is out of memory, and leaves it as it is.
     pub fn resize(&mut self, count: usize) -> Result<(), Memory>
-        ensures length { MatchResult result (λ _. length self.new ≡ count) (λ _. self.new ≡ self.old) }
+        ensures length { MatchResult result (λ _. length self.new ≡ count)
+            (λ _. self.new ≡ self.old) }
         ensures kept { (k : ℕ) → k ≤ length self.old → k ≤ length self.new
             → take k self.new ≡ take k self.old }
     {

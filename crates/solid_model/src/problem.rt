@@ -59,8 +59,8 @@ impl Problem {
         &self.blocks
     }
 
-    /// Both have the same grid, and so the same blocks, which aren't looked at: the blocks of a grid
-    /// are numbered in one way.
+    /// Both have the same grid, and so the same blocks, which aren't looked at: the blocks of a
+    /// grid are numbered in one way.
     pub fn same(&self, other: &Problem) -> bool
         ensures { IsTrue result ↔ (self.now ≡ other.now) }
     {

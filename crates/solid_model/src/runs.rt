@@ -54,12 +54,4 @@ impl Runs {
     {
         self.items.as_slice()
     }
-
-    /// The runs, for nothing.
-    pub fn into_vec(self) -> Vec<Run>
-        ensures same { result.items ≡ self }
-        ensures kept { AreRuns self }
-    {
-        self.items
-    }
 }

@@ -12,8 +12,8 @@ use crate::choice::Choice;
 use crate::choice_order::compare;
 use std::cmp::Ordering;
 
-/// Which of two choices comes first: the shorter one, and of two of the same blocks that which comes
-/// first in the stated order.
+/// Which of two choices comes first: the shorter one, and of two of the same blocks that which
+/// comes first in the stated order.
 fn by_length(a: &Choice, b: &Choice) -> Ordering
     ensures { result ≡ order_of a.now b.now }
 {

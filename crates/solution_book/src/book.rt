@@ -20,8 +20,8 @@ impl Book {
     ghost use Rattle.solution_book.specs.Editions.{knows_nothing};
     ghost use Rattle.std.specs.Arc.{arc_value};
 
-    /// A book of a problem, without a solid yet, and its readers, which know nothing yet. It may wait.
-    /// An `Err` is out of memory.
+    /// A book of a problem, without a solid yet, and its readers, which know nothing yet. It may
+    /// wait. An `Err` is out of memory.
     pub fn begin<'a, R: Wait>(
         rt: &'a R,
         alloc: Global,

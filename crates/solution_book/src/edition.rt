@@ -22,7 +22,8 @@ impl Model for Edition {
 
     ghost view = { λ s. record { problem = arc_value s.problem; solids = s.solids } };
 
-    ghost invariant = { λ s. IsEdition record { problem = arc_value s.problem; solids = s.solids } };
+    ghost invariant = { λ s. IsEdition record
+        { problem = arc_value s.problem; solids = s.solids } };
 }
 
 impl Edition {

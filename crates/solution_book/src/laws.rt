@@ -5,8 +5,8 @@ ghost use Rattle.solution_book.specs.declared.reader.Page.{Page};
 ghost use Rattle.solution_book.specs.Editions.{StartsWith};
 ghost use Rattle.solution_book.specs.Pages.{IsPageOf};
 
-/// A page is shorter than was asked for exactly where some place was asked for and the list has fewer
-/// places.
+/// A page is shorter than was asked for exactly where some place was asked for and the list has
+/// fewer places.
 pub fn pages_are_short_at_the_end()
     ensures { (from most : ℕ) (list : List (List Bool)) (page : Page) → IsPageOf from most list page
         → (length page.solids.items < most) ↔ ((0 < most) × (length list < from + most)) }
@@ -19,8 +19,8 @@ pub fn pages_only_grow()
         → StartsWith again.solids.items page.solids.items }
 {}
 
-/// What was read of a list, and the next page of a list that goes on from it, are again a beginning of
-/// that list.
+/// What was read of a list, and the next page of a list that goes on from it, are again a beginning
+/// of that list.
 pub fn pages_are_one_list()
     ensures { (read list later : List (List Bool)) (most : ℕ) (page : Page)
         → StartsWith list read → StartsWith later list → IsPageOf (length read) most later page

@@ -1,9 +1,9 @@
-//! A book of the solids of a problem: one writer publishes them, and up to 16 readers read them, page
-//! by page, without a lock.
+//! A book of the solids of a problem: one writer publishes them, and up to 16 readers read them,
+//! page by page, without a lock.
 //!
-//! What is published at a moment is an edition: the problem, and the list of the solids so far. Each
-//! publishing shows a new one at one step, and its list begins with that of the one before. A reader
-//! that looks sees one edition, whose list begins with each one that it has seen or learnt.
+//! What is published at a moment is an edition: the problem, and the list of the solids so far.
+//! Each publishing shows a new one at one step, and its list begins with that of the one before. A
+//! reader that looks sees one edition, whose list begins with each one that it has seen or learnt.
 #![tactic(auto)]
 
 mod batch;

@@ -49,8 +49,8 @@ fn entered<R: Wait>(rt: &R, lens: Lens) -> Reading<Shown, Seen, OneList>
     unreachable!()
 }
 
-/// Looks at what is published, and shares it, so that the writer waits for no more than that. `None`
-/// where no more owners can be counted.
+/// Looks at what is published, and shares it, so that the writer waits for no more than that.
+/// `None` where no more owners can be counted.
 fn look<R: Wait>(rt: &R, lens: Lens) -> (Lens, Option<Arc<Edition>>)
     ensures { (e : EditionParts) × Looked (view lens.place) (view result.0.place) e
         × IfSome result.1 (λ edition. arc_value edition ≡ e) }
@@ -160,8 +160,8 @@ impl<R: Wait + Drop> BookReader<R> {
         })
     }
 
-    /// The part of the published list from a place on, at most so long. It may wait. An `Err` is out
-    /// of memory; the reader keeps all the same what it knows.
+    /// The part of the published list from a place on, at most so long. It may wait. An `Err` is
+    /// out of memory; the reader keeps all the same what it knows.
     pub fn page(&mut self, alloc: Global, from: usize, most: usize) -> Result<Page, Memory>
         ensures { (e : EditionParts) × Looked self.old self.new e
             × IfOk result (IsPageOf from most e.solids) }

@@ -19,8 +19,8 @@ use std::sync::Arc;
 const FULL: usize = 256;
 
 /// A list of choices in full batches and a last one, so that a list that goes on with another one
-/// shares all that is full, and copies no more than the pointers of the last batch. Contracts see it
-/// as the list.
+/// shares all that is full, and copies no more than the pointers of the last batch. Contracts see
+/// it as the list.
 #[derive(Drop)]
 pub struct Solids {
     full: Arc<Vec<Arc<Batch>>>,

@@ -16,8 +16,8 @@ use std::alloc::{AllocError, Global};
 use std::marker::Model;
 use std::sync::{Arc, Wait};
 
-/// Publishes an edition. At an `Err` what is published is as before, and this edition may wait to be
-/// published with the next one.
+/// Publishes an edition. At an `Err` what is published is as before, and this edition may wait to
+/// be published with the next one.
 fn publish_one<R: Wait>(rt: &R, pen: Pen, next: Shown) -> (Pen, Result<(), AllocError>)
     requires none { drop pen.behind pen.log.items ≡ [] }
     requires longer { Begins next (Some pen.desk.shown.value) }
@@ -67,14 +67,15 @@ impl<R: Wait + Drop> BookWriter<R> {
     ghost use Rattle.solid_model.specs.Solutions.{IsSolutionOf};
     ghost use Rattle.solution_book.specs.Editions.{IsEdition};
 
-    /// Publishes more solids, all at one step, in their order. It may wait for readers. At an `Err`,
-    /// which is out of memory, nothing is published, and the writer is shut: it publishes nothing
-    /// any more.
+    /// Publishes more solids, all at one step, in their order. It may wait for readers. At an
+    /// `Err`, which is out of memory, nothing is published, and the writer is shut: it publishes
+    /// nothing any more.
     pub fn publish(&mut self, alloc: Global, more: &[Choice]) -> Result<Receipt, Memory>
         requires each { Each (IsSolutionOf self.old.edition.problem) more.now }
         requires once { Ascends ◌≢◌ (self.old.edition.solids ++ more.now) }
         ensures { MatchResult result
-            (λ receipt. (self.old.shut ≡ false) × (receipt ≡ self.new.edition) × (self.new ≡ record {
+            (λ receipt. (self.old.shut ≡ false) × (receipt ≡ self.new.edition)
+            × (self.new ≡ record {
               edition = record {
                 problem = self.old.edition.problem;
                 solids = self.old.edition.solids ++ more.now;

@@ -31,8 +31,8 @@ pub fn told_digits(alloc: Global, bytes: &[u8]) -> Result<String, Fail> {
     Ok(told)
 }
 
-/// The bytes of the styles of pairs, told by the columns after the segments, and behind them as many
-/// before these; each 9 where none is told.
+/// The bytes of the styles of pairs, told by the columns after the segments, and behind them as
+/// many before these; each 9 where none is told.
 fn bytes(alloc: Global, columns: &[u64]) -> Result<Vec<u8>, Fail> {
     let (after, before) = columns.split_at(columns.len() / 2);
     let mut bytes = vec![in alloc; 9; after.len()]?;

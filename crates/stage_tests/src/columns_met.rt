@@ -11,11 +11,11 @@ use std::alloc::Global;
 use std::test::Fail;
 use test_files::{Row, row_of};
 
-/// A row some pairs: of the columns after the segments the cells that are full for certain and those
-/// that may be full, the same of the columns before them, the wanted styles, 0 for Blank, 1 for
-/// Dashed and 2 for Solid, and for each pair 1 where it can draw its style, else 0. The great number
-/// of the fourth row is the nearest cell and the farthest one, and of the last row two pairs are left
-/// over by eights.
+/// A row some pairs: of the columns after the segments the cells that are full for certain and
+/// those that may be full, the same of the columns before them, the wanted styles, 0 for Blank, 1
+/// for Dashed and 2 for Solid, and for each pair 1 where it can draw its style, else 0. The great
+/// number of the fourth row is the nearest cell and the farthest one, and of the last row two pairs
+/// are left over by eights.
 const MET: &str = "\
 0 0 0; 1 1 1; 0 0 0; 0 0 0; 0 1 2 -> 101
 1 1 1; 1 1 1; 1 1 1; 3 3 3; 0 1 2 -> 110
@@ -56,8 +56,8 @@ fn are_styles(want: &[u8]) -> bool
     true
 }
 
-/// Tells which pairs can draw their styles, if there are as many masks of each kind, and they and the
-/// styles are some.
+/// Tells which pairs can draw their styles, if there are as many masks of each kind, and they and
+/// the styles are some.
 fn tell_met(
     full_l: &[u64],
     may_l: &[u64],
@@ -81,8 +81,8 @@ fn tell_met(
     }
 }
 
-/// The bytes of pairs, told by their masks, list by list, and their wanted styles; each 9 where none
-/// is told.
+/// The bytes of pairs, told by their masks, list by list, and their wanted styles; each 9 where
+/// none is told.
 fn bytes(alloc: Global, masks: &[u64], want: &[u8]) -> Result<Vec<u8>, Fail> {
     let (left, right) = masks.split_at(masks.len() / 2);
     let (full_l, may_l) = left.split_at(left.len() / 2);

@@ -30,8 +30,8 @@ const DRAWINGS: &str = "\
 111 -> ;;;;;;;;;";
 
 /// A row a pair of columns: what is known of the two, from the nearest cell on, with `#` for a cell
-/// that is full, `.` for an empty one and `?` for one that is free; and the styles that they can draw,
-/// of Blank, Dashed and Solid.
+/// that is full, `.` for an empty one and `?` for one that is free; and the styles that they can
+/// draw, of Blank, Dashed and Solid.
 const KNOWN: &str = "\
 #.; #. -> B--
 #.; .. -> --S
@@ -135,9 +135,9 @@ fn chosen_cells_draw_what_was_found_by_hand(rt: HostRuntime) -> Result<(), Fail>
     Ok(())
 }
 
-/// A row a solid: its drawing, by its strokes in front, from the top and from the side; its cells, as
-/// above; and its columns in the three views, nearest bit first. The hollow cube, and a slab of 5 by 5
-/// by 3 with a block of 2 by 1 by 1 on its corner.
+/// A row a solid: its drawing, by its strokes in front, from the top and from the side; its cells,
+/// as above; and its columns in the three views, nearest bit first. The hollow cube, and a slab of
+/// 5 by 5 by 3 with a block of 2 by 1 by 1 on its corner.
 const SOLIDS: &str = "\
 rect S 0 0 3 3, rect D 1 1 2 2; rect S 0 0 3 3, rect D 1 1 2 2; rect S 0 0 3 3, rect D 1 1 2 2; \
     ######### ####.#### ######### -> \

@@ -8,9 +8,9 @@ use std::fmt::Write;
 use std::test::Fail;
 use test_files::{Row, row_of};
 
-/// How many cells there are along each axis, the cells, x fastest and z slowest, and the faces: each
-/// is told by its outward side, the coordinate of its plane, and its loops, a digit a coordinate.
-/// They are a cube, two cubes that touch along an edge, and a plate with a hole.
+/// How many cells there are along each axis, the cells, x fastest and z slowest, and the faces:
+/// each is told by its outward side, the coordinate of its plane, and its loops, a digit a
+/// coordinate. They are a cube, two cubes that touch along an edge, and a plate with a hole.
 const SOLIDS: &str = "\
 000
 111; .

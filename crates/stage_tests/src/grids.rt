@@ -12,11 +12,11 @@ use views::drawing;
 use virtual_faces::faces_of;
 
 /// A row a drawing, by its strokes in front, from the top and from the side, and then its grid: the
-/// coordinates along each axis, and view by view the styles of the level and the upright segments (`=`
-/// solid, `-` dashed, `.` blank). First the unit cube; then a step, with unequal cells along each axis:
-/// on a slab of 5 by 5 by 3, at its corner in front on the left, a block of 2 by 1 by 1, behind which
-/// an edge is hidden; then strokes that are flat along z, where x is read from two views and a style
-/// changes at 1.
+/// coordinates along each axis, and view by view the styles of the level and the upright segments
+/// (`=` solid, `-` dashed, `.` blank). First the unit cube; then a step, with unequal cells along
+/// each axis: on a slab of 5 by 5 by 3, at its corner in front on the left, a block of 2 by 1 by 1,
+/// behind which an edge is hidden; then strokes that are flat along z, where x is read from two
+/// views and a style changes at 1.
 const GRIDS: &str = "\
 rect S 0 0 1 1; rect S 0 0 1 1; rect S 0 0 1 1 -> [0, 1] [0, 1] [0, 1] front ==/== top ==/== side ==/==
 line S 0 0 5 0, line D 0 3 2 3, line S 2 3 5 3, line S 0 4 2 4, line S 0 0 0 4, line S 2 3 2 4, \
@@ -88,8 +88,8 @@ fn drawings_have_their_grids(rt: HostRuntime) -> Result<(), Fail> {
     Ok(())
 }
 
-/// A row a drawing, by its strokes in front, from the top and from the side; and how many pseudo edges
-/// and then how many virtual faces its grid has along, or across, x, y and z.
+/// A row a drawing, by its strokes in front, from the top and from the side; and how many pseudo
+/// edges and then how many virtual faces its grid has along, or across, x, y and z.
 const COUNTS: &str = "\
 rect S 0 0 1 1; rect S 0 0 1 1; rect S 0 0 1 1 -> 4 4 4 2 2 2
 rect S 0 0 3 3, rect D 1 1 2 2; rect S 0 0 3 3, rect D 1 1 2 2; rect S 0 0 3 3, rect D 1 1 2 2 -> \
@@ -111,8 +111,8 @@ lattice 2 2, rect S 6 6 9 9, rect D 7 7 8 8, rect S 10 10 11 11; \
     lattice 2 2, rect S 6 6 9 9, rect D 7 7 8 8, rect S 10 10 11 11; \
     lattice 2 2, rect S 6 6 9 9, rect D 7 7 8 8, rect S 10 10 11 11 -> 112 112 112 88 88 88";
 
-/// How many edges along an axis are pseudo edges, and how many faces across it are virtual: of those
-/// whose numbers are below 64, as all of a grid's are.
+/// How many edges along an axis are pseudo edges, and how many faces across it are virtual: of
+/// those whose numbers are below 64, as all of a grid's are.
 fn counted(wire: &Wire, faces: &FaceMap, axis: Axis) -> (u32, u32) {
     let (mut edges, mut virtual_faces) = (0u32, 0u32);
     for place in 0..262_144 {

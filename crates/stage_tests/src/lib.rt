@@ -1,4 +1,5 @@
-//! Tests of the stages by their public calls: what no clause says. Expected values were found by hand.
+//! Tests of the stages by their public calls: what no clause says. Expected values were found by
+//! hand.
 #![tactic(auto)]
 
 #[cfg(test)]

@@ -8,9 +8,9 @@ use std::fmt::Write;
 use std::test::Fail;
 use test_files::{Row, row_of};
 
-/// The sizes of a plate, a digit each; its squares, row by row from the lowest one up; whether points
-/// come by v, then u (`up`), or by u, then v (`right`); and the loops. Each loop is told by its square
-/// and its corners, two digits each.
+/// The sizes of a plate, a digit each; its squares, row by row from the lowest one up; whether
+/// points come by v, then u (`up`), or by u, then v (`right`); and the loops. Each loop is told by
+/// its square and its corners, two digits each.
 const PLANES: &str = "\
 111; .; up
 111; #; up -> 00: 00 10 11 01

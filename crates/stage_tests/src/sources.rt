@@ -16,7 +16,8 @@ fn what_a_reader_gives_comes_to_a_sink(rt: HostRuntime) -> Result<(), Fail> {
     Ok(())
 }
 
-/// A writer that takes at most two bytes a call while it has room, and can be flushed so many times.
+/// A writer that takes at most two bytes a call while it has room, and can be flushed so many
+/// times.
 #[derive(Drop)]
 struct Choppy {
     taken: Vec<u8>,

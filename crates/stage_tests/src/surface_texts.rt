@@ -7,9 +7,9 @@ use stl_out::write_stl;
 use test_files::{Row, row_of};
 use tv_base::{MemSink, SinkError};
 
-/// A row a text: the strokes in front, from the top and from the side, and which blocks are full; and
-/// then how many lines it has, and which are the first. They are a cube, a hollow cube, and two cubes
-/// that touch along an edge.
+/// A row a text: the strokes in front, from the top and from the side, and which blocks are full;
+/// and then how many lines it has, and which are the first. They are a cube, a hollow cube, and two
+/// cubes that touch along an edge.
 const TEXTS: &str = "\
 rect S 0 0 1 1; rect S 0 0 1 1; rect S 0 0 1 1; 1 -> 86 solid recon|\
     facet normal -1 0 0|outer loop|vertex 0 0 0|vertex 0 0 1|vertex 0 1 1|endloop|endfacet|\
@@ -60,8 +60,9 @@ fn texts_have_so_many_lines(rt: HostRuntime) -> Result<(), Fail> {
     Ok(())
 }
 
-/// A row a text, as above, which call of the sink fails, and after how many bytes: and then how many
-/// bytes the sink has. The second solid's text has 84,105 bytes: 64,068 when its first piece is full.
+/// A row a text, as above, which call of the sink fails, and after how many bytes: and then how
+/// many bytes the sink has. The second solid's text has 84,105 bytes: 64,068 when its first piece
+/// is full.
 const FAILURES: &str = "\
 rect S 0 0 1 1; rect S 0 0 1 1; rect S 0 0 1 1; 1; 1 -> failed 5
 rect S 0 0 1 1; rect S 0 0 1 1; rect S 0 0 1 1; 1; 2 -> written 1065

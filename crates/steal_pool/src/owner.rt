@@ -67,8 +67,8 @@ impl OwnerSeat {
     }
 
     /// Puts a piece at the end of the deque. The piece comes back only where this seat has already
-    /// put as many as the pool's room; the deque is then unchanged. There it does so where 16,384 pieces
-    /// wait, or the deque can't grow: no clause says that.
+    /// put as many as the pool's room; the deque is then unchanged. There it does so where 16,384
+    /// pieces wait, or the deque can't grow: no clause says that.
     pub fn put(&mut self, piece: Prefix) -> Result<(), Prefix>
         ensures put { MatchResult result
             (λ _. self.new ≡ record self.old { put = self.old.put ++ piece ∷ [] })
@@ -92,8 +92,9 @@ impl OwnerSeat {
         }
     }
 
-    /// Takes the deque's first piece. `None` only where the deque was empty at a step of the call: the
-    /// clause tells that of a seat with all parts, at whose deque nobody else is; of others tests do.
+    /// Takes the deque's first piece. `None` only where the deque was empty at a step of the call:
+    /// the clause tells that of a seat with all parts, at whose deque nobody else is; of others
+    /// tests do.
     pub fn take(&mut self) -> Option<Prefix>
         ensures taken { MatchOption result
             ((self.new ≡ self.old) × Held [] (owner_account self.old))

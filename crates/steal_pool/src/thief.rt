@@ -41,9 +41,9 @@ impl Model for ThiefSeat {
 }
 
 impl ThiefSeat {
-    /// Steals the deque's first piece. `None` only where the deque was empty at a step of the call: the
-    /// clause can't tell that of a seat that has a part of 64, and tests do. Where others were quicker
-    /// it tries again, so it may wait.
+    /// Steals the deque's first piece. `None` only where the deque was empty at a step of the call:
+    /// the clause can't tell that of a seat that has a part of 64, and tests do. Where others were
+    /// quicker it tries again, so it may wait.
     pub fn steal<R: Wait>(&mut self, rt: &R) -> Option<Prefix>
         ensures stolen { MatchOption result
             ((self.new ≡ self.old) × Held [] (thief_account self.old))

@@ -36,8 +36,8 @@ impl LinePart {
     }
 }
 
-/// The beginning and the end of the line of each point of a grid: the coordinates along x and y, and
-/// that along z. Contracts see the grid.
+/// The beginning and the end of the line of each point of a grid: the coordinates along x and y,
+/// and that along z. Contracts see the grid.
 #[derive(Drop)]
 pub struct CornerParts<'a> {
     grid: &'a Grid,

@@ -35,8 +35,8 @@ pub fn rectangles_cover_the_boundary()
         → (rs : List Rectangle) → AreRectanglesOf numbered rs → CoverBoundary planes full rs }
 {}
 
-/// What is called the text of a solid is that of the triangles of rectangles: the triangles close, and the
-/// rectangles cover just the solid's boundary. Each matching solid is one.
+/// What is called the text of a solid is that of the triangles of rectangles: the triangles close,
+/// and the rectangles cover just the solid's boundary. Each matching solid is one.
 pub fn stl_texts_close_and_cover()
     ensures { (s : List Cell) → IsSolid s → (text : List ℕ) → IsSolidStl s text
         → (planes : Planes) × (rs : List Rectangle) × (text ≡ stl_text (all_triangles planes rs))
@@ -58,8 +58,9 @@ pub fn small_stl()
         ++ codes "vertex -1 0 0\nvertex -1 0 5\nvertex -1 2 5\nendloop\nendfacet\n" }
 {}
 
-/// A solid has one STL text: that between the grid coordinates of its own drawing. And the text of the
-/// grid cells that a matching solid fills, on the drawing's grid, is that text, so it isn't lacking.
+/// A solid has one STL text: that between the grid coordinates of its own drawing. And the text of
+/// the grid cells that a matching solid fills, on the drawing's grid, is that text, so it isn't
+/// lacking.
 pub fn one_stl_of_a_solid()
     ensures one { (s : List Cell) (text other : List ℕ) → IsSolidStl s text → IsSolidStl s other
         → text ≡ other }

@@ -2,8 +2,9 @@
 
 use std::str::Split;
 
-/// A row of a table: what is told, and after ` -> ` what is wanted of it. What is told has up to five
-/// parts, `; ` between two of them; a part that isn't told is empty, and so is what isn't wanted.
+/// A row of a table: what is told, and after ` -> ` what is wanted of it. What is told has up to
+/// five parts, `; ` between two of them; a part that isn't told is empty, and so is what isn't
+/// wanted.
 #[derive(Clone, Copy)]
 pub struct Row<'a> {
     pub told: &'a str,
@@ -12,7 +13,8 @@ pub struct Row<'a> {
 }
 
 impl<'a> Row<'a> {
-    /// The strokes in front, from the top and from the side, of a row whose first three parts they are.
+    /// The strokes in front, from the top and from the side, of a row whose first three parts they
+    /// are.
     pub fn views(self) -> [&'a str; 3] {
         let [front, top, side, ..] = self.parts;
         [front, top, side]

@@ -1,7 +1,7 @@
 //! Lines of words in a text, read without a list for each line.
 //!
-//! A line is cut at its first space, the rest of it again, and the last word of a form is all that is
-//! left: so a space too many is part of a word, which no form has.
+//! A line is cut at its first space, the rest of it again, and the last word of a form is all that
+//! is left: so a space too many is part of a word, which no form has.
 #![tactic(auto)]
 
 mod laws;

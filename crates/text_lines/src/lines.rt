@@ -1,21 +1,9 @@
 //! The lines of a text, one after another. A line ends with a line feed, which the last may lack.
 
-ghost use Rattle.std.specs.Prelude.{◌≡◌, ◌≤◌, ◌<◌, ◌∷◌, length};
-ghost use Rattle.std.specs.List.{position_or_len};
-ghost use Rattle.dxf_groups.specs.TextLines.{is_feed, text_lines};
+ghost use Rattle.std.specs.Prelude.{◌≡◌, ◌<◌, ◌∷◌, length};
+ghost use Rattle.dxf_groups.specs.TextLines.{text_lines};
 
-/// How many bytes stand before the first line feed.
-fn feed_place(text: &[u8]) -> usize
-    ensures within { result ≤ length text.now }
-    ensures place { result ≡ position_or_len is_feed text.now }
-{
-    for (place, byte) in text.iter().enumerate() {
-        if *byte == b'\n' {
-            return place;
-        }
-    }
-    text.len()
-}
+use dxf_groups::feed_place;
 
 /// The first line of what is left of a text, and what stands behind it.
 pub fn first_line(rest: &[u8]) -> (&[u8], &[u8])

@@ -37,9 +37,9 @@ impl Model for MemSource {
 }
 
 impl MemSource {
-    /// A source of these bytes, whose calls of the numbers in `fail` fail. A call gives as many bytes
-    /// as are left and its room can have. A number of a call is a `u64` that stays at its greatest
-    /// value.
+    /// A source of these bytes, whose calls of the numbers in `fail` fail. A call gives as many
+    /// bytes as are left and its room can have. A number of a call is a `u64` that stays at its
+    /// greatest value.
     pub fn new(bytes: Vec<u8>, fail: Vec<u32>) -> Self
         ensures { result ≡ record {
           left = bytes.items;

@@ -170,13 +170,13 @@ fn job_by(alloc: Global, command: &str, words: &[String]) -> Result<Job, WordFau
 /// The job that the words ask for: the program's arguments, the first of which is the command.
 ///
 /// `solve` takes `--workers` from 1 to 64, by default 1, `--nodes` from 1 to 4,000,000, by default
-/// 1,000,000, `--solids` from 1 to 65,536, by default 4,096, `--decimals` from 0 to 6, by default 0,
-/// and `--pages`, which has no value. `redraw` takes these but `--pages`, `stl` the first three, and
-/// both a number from 1 to 65,536, which must be there. `make` and `trial` take a number below 2 to
-/// the power 64, which must be there, and `trial` takes `--workers`. Options and the number stand in
-/// any order, each at most once; an option is written as `--name value` or as `--name=value`. A value
-/// is one or more digits; leading zeros count for nothing. `Usage` comes exactly where the words
-/// aren't taken.
+/// 1,000,000, `--solids` from 1 to 65,536, by default 4,096, `--decimals` from 0 to 6, by default
+/// 0, and `--pages`, which has no value. `redraw` takes these but `--pages`, `stl` the first three,
+/// and both a number from 1 to 65,536, which must be there. `make` and `trial` take a number below
+/// 2 to the power 64, which must be there, and `trial` takes `--workers`. Options and the number
+/// stand in any order, each at most once; an option is written as `--name value` or as
+/// `--name=value`. A value is one or more digits; leading zeros count for nothing. `Usage` comes
+/// exactly where the words aren't taken.
 pub fn job_of(alloc: Global, words: &[String]) -> Result<Job, WordFault>
     ensures { MatchResult result
         (λ job. job_said (map string_bytes words.now) ≡ Some job)

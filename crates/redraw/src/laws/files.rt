@@ -28,13 +28,15 @@ pub fn matching_solids_have_one_file()
 {}
 
 /// A small file, written out by hand: that of a brick whose sides differ. Its top view stands 10
-/// above its front view, and its side view 10 to the right. And two lines: a hidden one, which begins
-/// to the left of 0, and one with a decimal, the lower side of the top view of a cube of 5 units.
+/// above its front view, and its side view 10 to the right. And two lines: a hidden one, which
+/// begins to the left of 0, and one with a decimal, the lower side of the top view of a cube of 5
+/// units.
 pub fn small_file()
     ensures brick { IsFileOf 0 brick brick_file }
     ensures hidden { line_text 0 hidden_line
         ≡ codes "0\nLINE\n8\nTOP\n6\nHIDDEN\n10\n-3\n20\n12\n30\n0\n11\n25\n21\n12\n31\n0\n" }
     ensures half { line_text 1 (run_line Top false (right_on_sheet (pos 5) Top)
         (up_on_sheet (pos 5) Top) lower_side)
-        ≡ codes "0\nLINE\n8\nTOP\n6\nCONTINUOUS\n10\n0.0\n20\n1.5\n30\n0\n11\n0.5\n21\n1.5\n31\n0\n" }
+        ≡ codes
+        "0\nLINE\n8\nTOP\n6\nCONTINUOUS\n10\n0.0\n20\n1.5\n30\n0\n11\n0.5\n21\n1.5\n31\n0\n" }
 {}

@@ -12,7 +12,8 @@ fn is_inside(file: &str, word: &str, cut: usize) -> bool {
     }
 }
 
-/// The fault of a file after a cut, and its line, by the lines that are left and the word that was cut.
+/// The fault of a file after a cut, and its line, by the lines that are left and the word that was
+/// cut.
 fn cut_fault(file: &str, cut: usize) -> (&'static str, usize) {
     let lines = file.get(..cut).unwrap_or("").lines().count();
     if lines % 2 == 1 {

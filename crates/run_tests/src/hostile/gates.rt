@@ -47,8 +47,8 @@ impl Gate for Holding {
     }
 }
 
-/// The file of the drawing 11, and what `solve` writes for it. The search opens 739 prefixes, so it has
-/// 12 reports at least.
+/// The file of the drawing 11, and what `solve` writes for it. The search opens 739 prefixes, so it
+/// has 12 reports at least.
 fn made_and_solved<R: Runtime>(rt: &R) -> Result<(String, String), AllocError> {
     let made = run_words(rt, "make|11|", String::new(rt.alloc()))?;
     let file = String::from_str(rt.alloc(), made.strip_prefix("0 ").unwrap_or("no file"))?;
@@ -56,8 +56,8 @@ fn made_and_solved<R: Runtime>(rt: &R) -> Result<(String, String), AllocError> {
     Ok((file, alone))
 }
 
-/// What three workers write for a file, one of whom is held up at a visit to a point, if there was this
-/// visit.
+/// What three workers write for a file, one of whom is held up at a visit to a point, if there was
+/// this visit.
 fn told<R: Runtime>(rt: &R, file: &str, point: Point, visit: u64) -> Result<String, Fail> {
     let gate = Holding {
         point,

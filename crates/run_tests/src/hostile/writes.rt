@@ -6,9 +6,9 @@ use std::test::Fail;
 use test_files::{Row, row_of};
 use tv_base::{MemSink, MemSource, OpenGate};
 
-/// A row a run of `solve` over the unit cube's file: the number of the sink's call that fails, and how
-/// many bytes that call takes; and then the status, and how many bytes of the text the sink has. The
-/// first call takes a line of 25 bytes, the second one the solid, and there is no third.
+/// A row a run of `solve` over the unit cube's file: the number of the sink's call that fails, and
+/// how many bytes that call takes; and then the status, and how many bytes of the text the sink
+/// has. The first call takes a line of 25 bytes, the second one the solid, and there is no third.
 const WRITES: &str = "\
 1; 0 -> 6 0
 1; 1 -> 6 1

@@ -7,8 +7,8 @@ use std::sync::Wait;
 use std::test::Fail;
 use test_files::{Row, row_of};
 
-/// A row two drawings of a cube's views, by the strokes of each: the book's, and one whose problem is
-/// asked for; and whether the book is of that, as its writer says and as its reader says. Of the
+/// A row two drawings of a cube's views, by the strokes of each: the book's, and one whose problem
+/// is asked for; and whether the book is of that, as its writer says and as its reader says. Of the
 /// cubes of one block the second is twice as large; the others differ in how a square is drawn.
 const ASKED: &str = "\
 rect S 0 0 1 1; rect S 0 0 1 1 -> true true

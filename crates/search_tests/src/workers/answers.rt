@@ -11,9 +11,9 @@ use std::thread::Threads;
 use test_files::{Row, row_of};
 use tv_base::OpenGate;
 
-/// A row a drawing of a cube's views, by the strokes of each; a number of workers; the limits of nodes
-/// and of solids; and how the search ends: its kind; of a whole one how many live prefixes it opened,
-/// and of one that isn't cut at nodes how many solids it found.
+/// A row a drawing of a cube's views, by the strokes of each; a number of workers; the limits of
+/// nodes and of solids; and how the search ends: its kind; of a whole one how many live prefixes it
+/// opened, and of one that isn't cut at nodes how many solids it found.
 const ENDS: &str = "\
 rect S 0 0 1 1; 1; 9999; 99 -> whole 2 1
 rect S 0 0 1 1; 64; 9999; 99 -> whole 2 1

@@ -15,8 +15,8 @@ use tv_base::{Gate, Point};
 /// After so many turns a gate gives up. A turn is one yield.
 const TURNS: u32 = 20_000_000;
 
-/// After so many the one of a meeting does: a worker that starts late may find that the other one keeps
-/// all pieces, and then they don't meet in that search.
+/// After so many the one of a meeting does: a worker that starts late may find that the other one
+/// keeps all pieces, and then they don't meet in that search.
 const MEETING_TURNS: u32 = 200_000;
 
 /// In so many searches two workers that work at once have met.
@@ -59,8 +59,8 @@ impl Gate for Meeting {
     }
 }
 
-/// Holds each of two workers at its third expansion's beginning until a page was written, and counts
-/// those that were held and those that gave up.
+/// Holds each of two workers at its third expansion's beginning until a page was written, and
+/// counts those that were held and those that gave up.
 #[derive(Drop)]
 struct PageFirst {
     first: AtomicU64,
@@ -132,8 +132,8 @@ fn found_at_meeting<R: Threads + Wait + Sync>(rt: &R, alloc: Global) -> Result<u
     Err(Fail::from("no meeting"))
 }
 
-/// How many solids a search finds whose workers wait for a page, if some worker was held for one and
-/// none gave up: so a page was written while a third expansion was still to come.
+/// How many solids a search finds whose workers wait for a page, if some worker was held for one
+/// and none gave up: so a page was written while a third expansion was still to come.
 fn found_with_page<R: Threads + Wait + Sync>(rt: &R, alloc: Global) -> Result<usize, Fail> {
     let gate = PageFirst {
         first: AtomicU64::new(0),

@@ -37,8 +37,8 @@ impl PageOut for Refusing {
     }
 }
 
-/// Whether the search of the cubes with eight voids by a row's workers ends with the page that comes
-/// after as many as the row has.
+/// Whether the search of the cubes with eight voids by a row's workers ends with the page that
+/// comes after as many as the row has.
 fn ends_so<R: Threads + Wait + Sync>(rt: &R, alloc: Global, row: Row<'_>) -> Result<bool, Fail> {
     let [workers, most, ..] = row.parts;
     let most = most.parse().unwrap_or(0);

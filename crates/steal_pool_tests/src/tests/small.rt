@@ -64,8 +64,8 @@ fn played_and_closed<R: Wait>(rt: &R, alloc: Global) -> Option<Answers> {
     })
 }
 
-/// How many pieces the only deque of a pool with room for two takes in before one comes back, where at
-/// most so many are put. `None` where none comes back, or memory was lacking.
+/// How many pieces the only deque of a pool with room for two takes in before one comes back, where
+/// at most so many are put. `None` where none comes back, or memory was lacking.
 fn taken_in(alloc: Global, most: u32) -> Option<u32> {
     let Ok((_, mut seats)) = Pool::open(alloc, 1, 2) else {
         return None;

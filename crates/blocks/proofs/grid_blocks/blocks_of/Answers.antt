@@ -2,7 +2,7 @@
 use Rattle.std.proofs.Common.{◌≡◌, sym, subst, subst₂, ◌∙◌}
 use Rattle.solid_model.specs.declared.fault.Fault.TheVariants.{TooManyBlocks}
 use Rattle.solid_model.specs.Blocks.{AreBlocksOf}
-use Rattle.solid_model.specs.Kept.{IsBelow}
+use Rattle.solid_model.specs.Rooms.{IsEarlier}
 use Rattle.solid_model.specs.Limits.{most_blocks}
 use Rattle.lemmas.specs.Lists.{Each}
 use Rattle.solid_model.specs.VirtualFaces.{IsVirtual}
@@ -23,14 +23,14 @@ pub short_numbers-requires : goal.short_numbers-requires
 short_numbers-requires c =
     let rooms = c.in_ok-rooms.rooms in
     let are = rooms_blocks c.args.grid.now c.args.faces.now c.requires rooms.numbers.items rooms.count c.in_ok-rooms.ensures in
-    subst (λ numbers. Each (IsBelow most_blocks) numbers) (sym c.as_slice.ensures.value)
+    subst (λ numbers. Each (IsEarlier most_blocks) numbers) (sym c.as_slice.ensures.value)
     (block_numbers-few c.args.grid.now rooms.numbers.items rooms.count are c.if-rooms-gt-MOST_BLOCKS.false)
 
 pub new-requires-clause-below : goal.new-requires-clause-below
 new-requires-clause-below c =
     let rooms = c.in_ok-rooms.rooms in
     let are = rooms_blocks c.args.grid.now c.args.faces.now c.requires rooms.numbers.items rooms.count c.in_ok-rooms.ensures in
-    subst (λ numbers. Each (IsBelow rooms.count) numbers) (sym (c.in_ok-numbers.ensures ∙ c.as_slice.ensures.value))
+    subst (λ numbers. Each (IsEarlier rooms.count) numbers) (sym (c.in_ok-numbers.ensures ∙ c.as_slice.ensures.value))
     (room_numbers-below (grid_sizes c.args.grid.now) (IsVirtual c.args.grid.now) rooms.numbers.items rooms.count are)
 
 pub returns-clause-blocks : goal.returns-clause-blocks

@@ -1,6 +1,6 @@
 -- The first ones are copied.
 use Rattle.std.proofs.Common.{◌≡◌, take}
-use Rattle.search_core.proofs.copies.copy_choices.Given as goal
+use Rattle.solid_model.proofs.choice.copy_choices.Given as goal
 
 abbrev pub invariant-loop-choice : goal.invariant-loop-choice
-invariant-loop-choice l = l.copies.items ≡ take l.choice-index l.found
+invariant-loop-choice l = l.copies.items ≡ take l.choice-index l.choices

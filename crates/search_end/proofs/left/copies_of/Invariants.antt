@@ -1,6 +1,0 @@
--- The copies so far.
-use Rattle.std.proofs.Common.{◌≡◌, take}
-use Rattle.search_end.proofs.left.copies_of.Given as goal
-
-abbrev pub invariant-loop-choice : goal.invariant-loop-choice
-invariant-loop-choice l = l.copies.items ≡ take l.choice-index l.choices
