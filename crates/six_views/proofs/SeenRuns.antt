@@ -26,7 +26,7 @@ use Rattle.redraw.proofs.DrawnRuns.{drawn_count, show_drawing}
 use Rattle.six_views.specs.declared.extra.Extra.{Extra}
 use Rattle.six_views.specs.FurtherFrames.{further_frame, seen_as}
 use Rattle.six_views.specs.MovedRuns.{view_style}
-use Rattle.six_views.specs.Turned.{turn_axis, turned_cells, turned_coordinates, AreTurned}
+use Rattle.six_views.specs.Turned.{turn_axis, turned_cells, turned_coordinates, AreTurnedCells}
 use Rattle.six_views.proofs.SeenTurned.{some_turned, same_sizes, seen_styles, seen_on_grid}
 use Rattle.six_views.proofs.TurnedColumns.{columns_turned}
 use Rattle.six_views.proofs.TurnedGrid.{counts-turned}
@@ -103,7 +103,7 @@ module _ (x : Extra) (counts : Axis → ℕ) (coordinates : Coordinates) (has : 
     abbrev turned : List Bool
     turned = (some_turned (turn_axis x) (gaps_of counts) chosen).0
 
-    are_turned : AreTurned (turn_axis x) (gaps_of counts) chosen turned
+    are_turned : AreTurnedCells (turn_axis x) (gaps_of counts) chosen turned
     are_turned = (some_turned (turn_axis x) (gaps_of counts) chosen).1
 
     sizes : gaps_along coordinates ≡ gaps_of counts

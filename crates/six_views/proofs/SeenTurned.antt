@@ -19,7 +19,7 @@ use Rattle.solid_model.specs.GridPlaces.{place_in}
 use Rattle.column_laws.specs.GridPanels.{HasCounts, AreStylesAlong}
 use Rattle.six_views.specs.declared.extra.Extra.{Extra}
 use Rattle.six_views.specs.FurtherFrames.{seen_as}
-use Rattle.six_views.specs.Turned.{turn_axis, turned_cells, turned_coordinates, turned_numbers, AreTurned}
+use Rattle.six_views.specs.Turned.{turn_axis, turned_cells, turned_coordinates, turned_numbers, AreTurnedCells}
 use Rattle.six_views.proofs.Turned.{full_turned}
 use Rattle.six_views.proofs.TurnedGrid.{counts-turned, union_turned}
 
@@ -42,7 +42,7 @@ module _ (sizes : Axis → ℕ) (n : GridCell) (within : (b : Axis) → n b < si
   place_within = mul-add-lt (n Z * sizes Y + n Y) (sizes X) (n X) (sizes Y * sizes Z) (mul-add-lt (n Z) (sizes Y) (n Y) (sizes Z) (within Z) (within Y)) (within X)
 
 -- there is such a list
-pub some_turned : (a : Axis) (sizes : Axis → ℕ) (chosen : List Bool) → (turned : List Bool) × AreTurned a sizes chosen turned
+pub some_turned : (a : Axis) (sizes : Axis → ℕ) (chosen : List Bool) → (turned : List Bool) × AreTurnedCells a sizes chosen turned
 some_turned a sizes chosen = (
   map value (range_with_len 0 count),
   λ n within.
@@ -65,7 +65,7 @@ some_turned a sizes chosen = (
 -- ---- the drawing of what is turned
 
 module _ (x : Extra) (counts : Axis → ℕ) (coordinates : Coordinates) (has : HasCounts counts coordinates) (chosen turned : List Bool)
-    (are : AreTurned (turn_axis x) (gaps_of counts) chosen turned) (s : List Cell) (union : IsUnionOf coordinates chosen (is_full s)) where
+    (are : AreTurnedCells (turn_axis x) (gaps_of counts) chosen turned) (s : List Cell) (union : IsUnionOf coordinates chosen (is_full s)) where
   abbrev a : Axis
   a = turn_axis x
 
@@ -77,7 +77,7 @@ module _ (x : Extra) (counts : Axis → ℕ) (coordinates : Coordinates) (has : 
 
   pub turned_union : IsUnionOf grid turned (is_full (turned_cells x s))
   turned_union = subst (IsUnionOf grid turned) (λ t c. sym (full_turned x s c) t)
-      (union_turned a coordinates chosen turned (is_full s) union (subst (λ (sizes : Axis → ℕ). AreTurned a sizes chosen turned) same_sizes are))
+      (union_turned a coordinates chosen turned (is_full s) union (subst (λ (sizes : Axis → ℕ). AreTurnedCells a sizes chosen turned) same_sizes are))
 
   -- the styles that are computed of the columns are those of the turned solid,
   pub seen_styles : (upright : Bool) (styles : List Style) → AreStylesAlong counts turned (seen_as x) upright styles

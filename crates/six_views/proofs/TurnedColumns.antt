@@ -14,7 +14,7 @@ use Rattle.columns.specs.ColumnLists.{listed_column, AreColumns}
 use Rattle.six_views.specs.declared.extra.Extra.{Extra}
 use Rattle.six_views.specs.declared.extra.Extra.TheVariants.{Left, Rear, Bottom}
 use Rattle.six_views.specs.FurtherFrames.{further_frame, seen_as}
-use Rattle.six_views.specs.Turned.{turn_axis, turned_numbers, AreTurned}
+use Rattle.six_views.specs.Turned.{turn_axis, turned_numbers, AreTurnedCells}
 
 -- along an axis from the other end, twice
 twice : (size k : ℕ) → k < size → size - ((size - (k + 1)) + 1) ≡ k
@@ -62,7 +62,7 @@ same_away Left = refl
 same_away Rear = refl
 same_away Bottom = refl
 
-module _ (x : Extra) (sizes : Axis → ℕ) (chosen turned : List Bool) (are : AreTurned (turn_axis x) sizes chosen turned) where
+module _ (x : Extra) (sizes : Axis → ℕ) (chosen turned : List Bool) (are : AreTurnedCells (turn_axis x) sizes chosen turned) where
   abbrev f : Frame
   f = further_frame x
 

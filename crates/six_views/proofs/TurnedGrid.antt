@@ -14,7 +14,7 @@ use Rattle.solid_model.proofs.Gaps.{member, lies_in, in_gap}
 use Rattle.lemmas.proofs.Lists.{each-append, ascends-append}
 use Rattle.solid_model.specs.GridPlaces.{place_in}
 use Rattle.column_laws.specs.GridPanels.{HasCounts}
-use Rattle.six_views.specs.Turned.{half_turned, mirrored_places, turned_coordinates, turned_numbers, AreTurned}
+use Rattle.six_views.specs.Turned.{half_turned, mirrored_places, turned_coordinates, turned_numbers, AreTurnedCells}
 use Rattle.six_views.proofs.Turned.{mirrored_twice}
 
 -- ---- mirrored lists
@@ -133,7 +133,7 @@ module _ (a : Axis) (coordinates : Coordinates) where
 
   -- the union of the turned cells is the union, turned
   pub union_turned : (chosen chosen_too : List Bool) (full : Cell → Bool) → IsUnionOf coordinates chosen full
-      → AreTurned a (gaps_along coordinates) chosen chosen_too → IsUnionOf turned chosen_too (λ c. full (half_turned a c))
+      → AreTurnedCells a (gaps_along coordinates) chosen chosen_too → IsUnionOf turned chosen_too (λ c. full (half_turned a c))
   union_turned chosen chosen_too full union are = record {
     inside = λ n c lies. union.inside (turned_numbers a (gaps_along coordinates) n) (half_turned a c) (lies_turned n c lies)
         ∙ sym (are n (λ b. few_gap b (n b) (coordinate b c) (lies b)))

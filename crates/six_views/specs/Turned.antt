@@ -5,10 +5,13 @@ use Rattle.solid_model.specs.declared.cell.Axis.TheVariants.{X, Z}
 use Rattle.solid_model.specs.declared.cell.Cell.{Cell}
 use Rattle.solid_model.specs.Cells.{coordinate, placed}
 use Rattle.solid_model.specs.Edges.{second_axis, third_axis}
-use Rattle.solid_model.specs.Grid.{Coordinates, GridCell}
+use Rattle.solid_model.specs.Grid.{Coordinates, GridCell, gaps_along}
 use Rattle.solid_model.specs.Rooms.{same_axis}
 use Rattle.solid_model.specs.GridPlaces.{place_in}
+use Rattle.column_lanes.specs.declared.column.Column.{Column}
+use Rattle.columns.specs.ColumnLists.{AreColumns}
 use Rattle.six_views.specs.declared.extra.Extra.{Extra}
+use Rattle.six_views.specs.FurtherFrames.{further_frame}
 use Rattle.six_views.specs.declared.extra.Extra.TheVariants.{Left, Rear, Bottom}
 
 -- the mirror image of a cell, which fills k to k + 1 along an axis, in the plane at 0 across it: it fills -(k + 1) to -k
@@ -46,6 +49,10 @@ abbrev pub turned_numbers : Axis → (Axis → ℕ) → GridCell → GridCell
 turned_numbers a sizes n b = if same_axis a b then n b else (sizes b - (n b + 1))
 
 -- the second list chooses the grid cells that the first one chooses, turned
-abbrev pub AreTurned : Axis → (Axis → ℕ) → List Bool → List Bool → Type 0
-AreTurned a sizes chosen turned = (n : GridCell) → ((b : Axis) → n b < sizes b)
+abbrev pub AreTurnedCells : Axis → (Axis → ℕ) → List Bool → List Bool → Type 0
+AreTurnedCells a sizes chosen turned = (n : GridCell) → ((b : Axis) → n b < sizes b)
     → slice_index_or turned (place_in sizes n) false ≡ slice_index_or chosen (place_in sizes (turned_numbers a sizes n)) false
+
+-- these are the columns of a further view's grid cells, of which these are chosen
+abbrev pub AreFurtherColumns : Extra → Coordinates → List Bool → List Column → Type 0
+AreFurtherColumns x coordinates chosen columns = AreColumns (further_frame x) (gaps_along coordinates) chosen columns

@@ -17,13 +17,12 @@ ghost use Rattle.solid_model.specs.Frames.{IsFrame, frame_of};
 ghost use Rattle.solid_model.specs.Line.{Line};
 ghost use Rattle.solid_model.specs.Matching.{Matches, AreSolidsOf};
 ghost use Rattle.solid_model.specs.Panels.{coordinates_of};
-ghost use Rattle.solid_model.specs.Segments.{segment_at};
 ghost use Rattle.six_views.specs.declared.extra.Extra.{Extra};
 ghost use Rattle.six_views.specs.declared.extra.Extra.TheVariants.{Left, Rear, Bottom};
 ghost use Rattle.six_views.specs.Fits.{Fits, AreSolidsThat, AreFittingSolids};
 ghost use Rattle.six_views.specs.Further.{FurtherRuns, AreFurtherOf, FitsRuns, FitsChoice};
 ghost use Rattle.six_views.specs.FurtherFrames.{further_frame, seen_as};
-ghost use Rattle.six_views.specs.SmallViews.{bar_with_two};
+ghost use Rattle.six_views.specs.SmallViews.{bar_from, bar_in};
 ghost use Rattle.six_views.specs.Those.{AreThose};
 ghost use Rattle.six_views.specs.Turned.{half_turned, turn_axis, turned_cells};
 
@@ -41,25 +40,17 @@ pub fn further_views_are_views_of_the_turned_solid()
 /// What a small solid without symmetry shows from both sides, by hand: what is hidden from one side
 /// is seen from the other.
 pub fn small_further_views()
-    ensures rear { (drawn_style (further_frame Rear) bar_with_two (segment_at Front false (negsuc 0) (pos 1))
-        ≡ Solid)
-        × (drawn_style (further_frame Rear) bar_with_two (segment_at Front true (pos 0) (negsuc 0))
-        ≡ Solid)
-        × (drawn_style (further_frame Rear) bar_with_two (segment_at Front true (pos 0) (negsuc 1))
-        ≡ Blank) }
-    ensures front { solid_drawing bar_with_two (segment_at Front false (pos 0) (pos 1)) ≡ Dashed }
-    ensures left { (drawn_style (further_frame Left) bar_with_two (segment_at Side false (negsuc 0) (pos 1))
-        ≡ Dashed)
-        × (drawn_style (further_frame Left) bar_with_two (segment_at Side true (pos 0) (negsuc 0))
-        ≡ Dashed)
-        × (drawn_style (further_frame Left) bar_with_two (segment_at Side false (negsuc 1) (pos 1))
-        ≡ Solid) }
-    ensures side { solid_drawing bar_with_two (segment_at Side false (pos 0) (pos 1)) ≡ Solid }
-    ensures bottom { (drawn_style (further_frame Bottom) bar_with_two (segment_at Top true (negsuc 0) (pos 1))
-        ≡ Dashed)
-        × (drawn_style (further_frame Bottom) bar_with_two (segment_at Top true (negsuc 1) (pos 1))
-        ≡ Solid) }
-    ensures top { solid_drawing bar_with_two (segment_at Top true (pos 0) (pos 1)) ≡ Solid }
+    ensures rear { (bar_from Rear false (negsuc 0) (pos 1) ≡ Solid)
+        × (bar_from Rear true (pos 0) (negsuc 0) ≡ Solid)
+        × (bar_from Rear true (pos 0) (negsuc 1) ≡ Blank) }
+    ensures front { bar_in Front false (pos 0) (pos 1) ≡ Dashed }
+    ensures left { (bar_from Left false (negsuc 0) (pos 1) ≡ Dashed)
+        × (bar_from Left true (pos 0) (negsuc 0) ≡ Dashed)
+        × (bar_from Left false (negsuc 1) (pos 1) ≡ Solid) }
+    ensures side { bar_in Side false (pos 0) (pos 1) ≡ Solid }
+    ensures bottom { (bar_from Bottom true (negsuc 0) (pos 1) ≡ Dashed)
+        × (bar_from Bottom true (negsuc 1) (pos 1) ≡ Solid) }
+    ensures top { bar_in Top true (pos 0) (pos 1) ≡ Solid }
 {}
 
 /// A drawing owes what it owes by its three views alone where no further view is asked for; and all

@@ -6,14 +6,13 @@ ghost use Rattle.solid_model.specs.declared.cell.Cell.{Cell};
 ghost use Rattle.solid_model.specs.declared.segment.Segment.{Segment};
 ghost use Rattle.solid_model.specs.Cells.{is_full};
 ghost use Rattle.solid_model.specs.DrawnStyle.{solid_drawing};
-ghost use Rattle.solid_model.specs.Grid.{gaps_along, IsUnionOf};
+ghost use Rattle.solid_model.specs.Grid.{IsUnionOf};
 ghost use Rattle.solid_model.specs.Panels.{coordinates_of};
 ghost use Rattle.solid_model.specs.Runs.{run_style};
 ghost use Rattle.solid_model.specs.Segments.{segment_at};
-ghost use Rattle.columns.specs.ColumnLists.{AreColumns};
-ghost use Rattle.six_views.specs.FurtherFrames.{further_frame, seen_as};
+ghost use Rattle.six_views.specs.FurtherFrames.{seen_as};
 ghost use Rattle.six_views.specs.MovedRuns.{view_style};
-ghost use Rattle.six_views.specs.Turned.{turn_axis, turned_cells, mirrored_places, turned_coordinates};
+ghost use Rattle.six_views.specs.Turned.{AreFurtherColumns, turn_axis, turned_cells, mirrored_places, turned_coordinates};
 
 use crate::extra::{Extra, frame_of, seen_as};
 use column_lanes::Column;
@@ -66,9 +65,9 @@ fn runs_along(
     upright: bool,
 ) -> Result<Runs, Memory>
     requires { (chosen : List Bool)
-        × AreColumns (further_frame extra) (gaps_along (coordinates_of grid.now)) chosen columns.now }
+        × AreFurtherColumns extra (coordinates_of grid.now) chosen columns.now }
     ensures { IfOk result (λ runs. (chosen : List Bool) (s : List Cell)
-        → AreColumns (further_frame extra) (gaps_along (coordinates_of grid.now)) chosen columns.now
+        → AreFurtherColumns extra (coordinates_of grid.now) chosen columns.now
         → IsUnionOf (coordinates_of grid.now) chosen (is_full s) → (j z : ℤ)
         → run_style runs j z
         ≡ solid_drawing (turned_cells extra s) (segment_at (seen_as extra) upright z j)) }
