@@ -2,8 +2,7 @@
 use Rattle.std.specs.Prelude.{◌≡◌, ◌+◌, ◌*◌, ◌<◌, Bool, ℕ, List, length, slice_index_or, ℤ}
 use Rattle.solid_model.specs.declared.cell.Axis.{Axis}
 use Rattle.solid_model.specs.declared.frame.Frame.{Frame}
-use Rattle.solid_model.specs.declared.frame.View.{View}
-use Rattle.solid_model.specs.declared.frame.View.TheVariants.{Front, Top, Side}
+use Rattle.solid_model.specs.declared.per_view.PerView.{PerView}
 use Rattle.column_lanes.specs.declared.column.Column.{Column}
 use Rattle.column_laws.specs.GridColumns.{grid_column}
 use Rattle.lemmas.specs.Bits.{bits}
@@ -20,13 +19,5 @@ pub record AreColumns (f : Frame) (sizes : Axis → ℕ) (chosen : List Bool) (c
       → (k : ℤ) → listed_column f sizes columns i j k ≡ grid_column f sizes chosen i j k
 
 -- the columns of three views
-pub record ColumnLists : Type 0 where
-  pub front : List Column
-  pub top : List Column
-  pub side : List Column
-
--- those of a view
-abbrev pub columns_in : View → ColumnLists → List Column
-columns_in Front c = c.front
-columns_in Top c = c.top
-columns_in Side c = c.side
+abbrev pub ColumnLists : Type 0
+ColumnLists = PerView (List Column)

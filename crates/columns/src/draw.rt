@@ -9,9 +9,10 @@ ghost use Rattle.solid_model.specs.DrawnStyle.{solid_drawing};
 ghost use Rattle.solid_model.specs.Frames.{frame_of};
 ghost use Rattle.solid_model.specs.Grid.{gaps_along, IsUnionOf};
 ghost use Rattle.solid_model.specs.Limits.{most_grid_coordinates};
-ghost use Rattle.solid_model.specs.Panels.{coordinates_of, AreGridStyles, panel_of, styles_along};
+ghost use Rattle.solid_model.specs.Panels.{coordinates_of, AreGridStyles, styles_along};
+ghost use Rattle.solid_model.specs.PerView.{of_view};
 ghost use Rattle.solid_model.specs.PerAxis.{numbers_of, gaps_of};
-ghost use Rattle.columns.specs.ColumnLists.{AreColumns, columns_in};
+ghost use Rattle.columns.specs.ColumnLists.{AreColumns};
 ghost use Rattle.column_laws.specs.GridPanels.{HasCounts, ArePanels, AreStylesAlong};
 
 use crate::grid_columns::view_columns;
@@ -40,11 +41,11 @@ impl Model for ColumnSet {
 
 impl ColumnSet {
     ghost use Rattle.std.specs.Prelude.{◌≡◌};
-    ghost use Rattle.columns.specs.ColumnLists.{columns_in};
+    ghost use Rattle.solid_model.specs.PerView.{of_view};
 
     /// The columns of a view.
     pub fn view(&self, view: View) -> &[Column]
-        ensures { result.now ≡ columns_in view self.now }
+        ensures { result.now ≡ of_view view self.now }
     {
         match view {
             View::Front => self.front.as_slice(),
@@ -70,7 +71,7 @@ pub fn counts_of(grid: &Grid) -> PerAxis
 pub fn columns_in(alloc: Global, counts: PerAxis, cells: &[bool]) -> Result<ColumnSet, Memory>
     requires { (a : Axis) → numbers_of counts a ≤ most_grid_coordinates }
     ensures { IfOk result (λ columns. (v : View)
-        → AreColumns (frame_of v) (gaps_of (numbers_of counts)) cells.now (columns_in v columns)) }
+        → AreColumns (frame_of v) (gaps_of (numbers_of counts)) cells.now (of_view v columns)) }
 {
     let sizes = counts.gaps();
     Ok(ColumnSet {
@@ -116,7 +117,7 @@ pub fn draw_in(alloc: Global, counts: PerAxis, cells: &[bool]) -> Result<Panels,
 pub fn columns_of(alloc: Global, grid: &Grid, cells: &[bool]) -> Result<ColumnSet, Memory>
     ensures { IfOk result (λ columns. (v : View)
         → AreColumns (frame_of v) (gaps_along (coordinates_of grid.now)) cells.now
-        (columns_in v columns)) }
+        (of_view v columns)) }
 {
     columns_in(alloc, counts_of(grid), cells)
 }

@@ -8,7 +8,8 @@ use Rattle.solid_model.specs.declared.segment.Segment.{Segment}
 use Rattle.solid_model.specs.declared.segment.Style.{Style}
 use Rattle.solid_model.specs.Grid.{Coordinates, AreGridCoordinates, IsTooFine, IsFineEnough, IsFirstTooFine}
 use Rattle.solid_model.specs.Limits.{most_grid_coordinates}
-use Rattle.solid_model.specs.Panels.{GridParts, coordinates_of, panel_of, styles_along, grid_styles, IsGridOf}
+use Rattle.solid_model.specs.Panels.{GridParts, coordinates_of, styles_along, grid_styles, IsGridOf}
+use Rattle.solid_model.specs.PerView.{of_view}
 use Rattle.solid_model.proofs.InGrid.{one_coordinates}
 
 -- the coordinates of a drawing's grid, few enough along each axis
@@ -63,7 +64,7 @@ module _ (drawing : Segment → Style) where
       along : (a : Axis) → coordinates_of g a ≡ coordinates_of h a
       along a = one_coordinates drawing a (coordinates_of g a) (coordinates_of h a) (is.coordinates a) (is_too.coordinates a)
 
-      shown : (v : View) (upright : Bool) → styles_along upright (panel_of v g.panels) ≡ styles_along upright (panel_of v h.panels)
+      shown : (v : View) (upright : Bool) → styles_along upright (of_view v g.panels) ≡ styles_along upright (of_view v h.panels)
       shown v upright = is.styles v upright ∙ (λ t. grid_styles drawing (λ a. along a t) v upright) ∙ sym (is_too.styles v upright)
 
   -- a grid has a drawing's coordinates

@@ -13,7 +13,8 @@ use Rattle.solid_model.specs.Drawings.{same_style}
 use Rattle.solid_model.specs.Frames.{frame_of, along}
 use Rattle.solid_model.specs.Grid.{IsDrawnAcross, ChangesAt, IsGridCoordinate}
 use Rattle.lemmas.specs.Lists.{Member}
-use Rattle.solid_model.specs.Runs.{run_covers, run_style, IsRun, AreRuns, DrawingRuns, view_runs, runs_along, style_in}
+use Rattle.solid_model.specs.Runs.{run_covers, run_style, IsRun, AreRuns, DrawingRuns, runs_along, style_in}
+use Rattle.solid_model.specs.PerView.{of_view}
 use Rattle.solid_model.specs.Segments.{segment_at}
 use Rattle.solid_model.proofs.InGrid.{blank_or_drawn}
 use Rattle.lemmas.proofs.Lists.{each-at, member-append, member-append_left, member-append_right, member-push, member-push_last, member-map, member-from_map}
@@ -94,13 +95,13 @@ module _ (rs : List Run) (runs : AreRuns rs) where
 
 -- ---- what a view shows
 
-module _ (d : DrawingRuns) (v : View) (upright : Bool) (own : AreRuns (runs_along upright (view_runs v d))) (other : AreRuns (runs_along (not upright) (view_runs v d))) where
+module _ (d : DrawingRuns) (v : View) (upright : Bool) (own : AreRuns (runs_along upright (of_view v d))) (other : AreRuns (runs_along (not upright) (of_view v d))) where
   -- the runs that run along, and those across
   abbrev rs : List Run
-  rs = runs_along upright (view_runs v d)
+  rs = runs_along upright (of_view v d)
 
   abbrev ss : List Run
-  ss = runs_along (not upright) (view_runs v d)
+  ss = runs_along (not upright) (of_view v d)
 
   -- what the view shows at z
   abbrev Shows : ℤ → Type 0
@@ -140,7 +141,7 @@ module _ (d : DrawingRuns) (v : View) (upright : Bool) (own : AreRuns (runs_alon
 
   -- positions, with those that the view shows along segments that run along the axis
   pub with_shown : (a : Axis) → (along (frame_of v) upright).axis ≡ a → (before more : List ℤ)
-      → more ≡ (before ++ ends_of (runs_along upright (view_runs v d))) ++ run_lines (runs_along (not upright) (view_runs v d))
+      → more ≡ (before ++ ends_of (runs_along upright (of_view v d))) ++ run_lines (runs_along (not upright) (of_view v d))
       → (z : ℤ) → Member more z ↔ (Member before z ⊎ ShowsByKind (style_in d) a v upright z)
   with_shown a on before more e z =
       let same = e ∙ append_assoc before (ends_of rs) (run_lines ss) in (

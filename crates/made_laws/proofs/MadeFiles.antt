@@ -17,7 +17,8 @@ use Rattle.solid_model.specs.Grid.{Coordinates, IsInSomeGap, IsUnionOf}
 use Rattle.lemmas.specs.Lists.{Member, Each, Ascends}
 use Rattle.solid_model.specs.Panels.{GridParts, coordinates_of, IsGrid}
 use Rattle.solid_model.proofs.OnGrid.{StaysOnGrid}
-use Rattle.solid_model.specs.Runs.{IsRun, IsDrawing, DrawingRuns, view_runs, runs_along, run_style}
+use Rattle.solid_model.specs.Runs.{IsRun, IsDrawing, DrawingRuns, runs_along, run_style}
+use Rattle.solid_model.specs.PerView.{of_view}
 use Rattle.solid_model.specs.Segments.{segment_at}
 use Rattle.solid_model.proofs.InGrid.{between_members, gap_or_none}
 use Rattle.lemmas.proofs.Lists.{each-at, each-from}
@@ -74,7 +75,7 @@ module _ (coordinates : Coordinates) (ascends : (a : Axis) → Ascends ◌<ℤ�
 
     module _ (v : View) (upright : Bool) where
       abbrev rs : List Run
-      rs = runs_along upright (view_runs v d)
+      rs = runs_along upright (of_view v d)
 
       -- the runs show what the solid draws
       shows : (j z : ℤ) → run_style rs j z ≡ solid_drawing s (segment_at v upright z j)

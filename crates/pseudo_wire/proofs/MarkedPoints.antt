@@ -6,6 +6,7 @@ use Rattle.solid_model.specs.declared.cell.Axis.TheVariants.{X, Y, Z}
 use Rattle.solid_model.specs.declared.cell.Cell.{Cell}
 use Rattle.solid_model.specs.declared.frame.View.{View}
 use Rattle.solid_model.specs.declared.frame.View.TheVariants.{Front, Top, Side}
+use Rattle.solid_model.specs.declared.per_view.PerView.{PerView}
 use Rattle.solid_model.specs.Cells.{coordinate, cell_after}
 use Rattle.solid_model.specs.GridBox.{grid_sizes}
 use Rattle.solid_model.specs.Kept.{edge_sizes}
@@ -15,7 +16,6 @@ use Rattle.solid_model.specs.PerAxis.{AreFew}
 use Rattle.solid_model.specs.Rooms.{Sizes, is_below, is_within}
 use Rattle.solid_model.specs.Wire.{is_on_drawn, is_pseudo_vertex, is_drawn_or_point, is_pseudo_edge}
 use Rattle.solid_model.proofs.BoxCells.{below-more, within-below, below-within}
-use Rattle.pseudo_wire.specs.declared.drawn_points.DrawnPoints.{DrawnPoints}
 use Rattle.pseudo_wire.specs.DrawnPoints.{point_sizes, view_sizes, projected, AreDrawnIn, AreDrawnPoints, is_marked_point, is_marked_edge}
 
 -- a view's points are few
@@ -106,13 +106,13 @@ marked_in g v marks are n within =
     same_truth (is_marked marks (projected v n)) (is_on_drawn g (projected v n) v) (are.exact (projected v n) (projects_within (grid_sizes g) v n within)) ∙ shown_projected g v n
 
 -- and has one in each where it is a pseudo vertex
-point_marked : (g : GridParts) (points : DrawnPoints) → AreDrawnPoints g points → (n : Cell) → is_within (point_sizes (grid_sizes g)) n ≡ true
+point_marked : (g : GridParts) (points : PerView BoxMarks) → AreDrawnPoints g points → (n : Cell) → is_within (point_sizes (grid_sizes g)) n ≡ true
     → is_marked_point points n ≡ is_pseudo_vertex g n
 point_marked g points are n within =
-    ap₂ ◌&&◌ (marked_in g Front points.front are.front n within) (ap₂ ◌&&◌ (marked_in g Top points.top are.top n within) (marked_in g Side points.side are.side n within))
+    ap₂ ◌&&◌ (marked_in g Front points.front (are Front) n within) (ap₂ ◌&&◌ (marked_in g Top points.top (are Top) n within) (marked_in g Side points.side (are Side) n within))
 
 -- so the edges between marks are the pseudo edges
-pub edges_of_marked : (g : GridParts) (points : DrawnPoints) (a : Axis) (edges : BoxMarks) → AreDrawnPoints g points
+pub edges_of_marked : (g : GridParts) (points : PerView BoxMarks) (a : Axis) (edges : BoxMarks) → AreDrawnPoints g points
     → AreMarksOf (edge_sizes (grid_sizes g) a) (λ n. IsTrue (is_marked_edge g points a n)) edges
     → AreMarksOf (edge_sizes (grid_sizes g) a) (λ n. IsTrue (is_pseudo_edge g a n)) edges
 edges_of_marked g points a edges are marked = record {

@@ -5,12 +5,11 @@
 //! its points, where an edge that isn't drawn asks for none.
 
 ghost use Rattle.std.specs.Prelude.{◌≡◌, IfOk};
-ghost use Rattle.solid_model.specs.Marks.{is_marked};
 ghost use Rattle.solid_model.specs.PerAxis.{cell_of};
-ghost use Rattle.pseudo_wire.specs.DrawnPoints.{projected, is_marked_point, AreDrawnIn, AreDrawnPoints};
+ghost use Rattle.pseudo_wire.specs.DrawnPoints.{is_marked_in, is_marked_point, AreDrawnIn, AreDrawnPoints};
 
 use crate::edges::is_on_drawn;
-use solid_model::{CellTest, Grid, Marks, Memory, PerAxis, View};
+use solid_model::{CellTest, Grid, Marks, Memory, PerAxis, PerView, View};
 use std::alloc::Global;
 
 /// The points of a view of a grid, asked whether the view shows something there.
@@ -51,40 +50,32 @@ fn drawn_in(alloc: Global, grid: &Grid, view: View) -> Result<Marks, Memory>
     Marks::of(alloc, &ViewPoints { grid, view })
 }
 
-/// The point of a view on which a point projects has a mark.
-fn is_marked_in(marks: &Marks, view: View, point: PerAxis) -> bool
-    ensures { result ≡ is_marked marks.now (projected view (cell_of point)) }
-{
-    marks.has(point.numbered(view.frame().away.axis, 0))
-}
-
 /// For each view marks on its points at which it shows something. The points of a view are a box
-/// that is one point deep, along the axis away from the viewer.
-#[derive(Drop)]
-pub struct DrawnPoints {
-    front: Marks,
-    top: Marks,
-    side: Marks,
+/// that is one point deep, along the axis away from the viewer. An `Err` is out of memory.
+pub fn drawn_points(alloc: Global, grid: &Grid) -> Result<PerView<Marks>, Memory>
+    ensures { IfOk result (AreDrawnPoints grid.now) }
+{
+    Ok(PerView {
+        front: drawn_in(alloc, grid, View::Front)?,
+        top: drawn_in(alloc, grid, View::Top)?,
+        side: drawn_in(alloc, grid, View::Side)?,
+    })
 }
 
-impl DrawnPoints {
-    /// Those of a grid. An `Err` is out of memory.
-    pub fn of(alloc: Global, grid: &Grid) -> Result<DrawnPoints, Memory>
-        ensures { IfOk result (AreDrawnPoints grid.now) }
-    {
-        Ok(DrawnPoints {
-            front: drawn_in(alloc, grid, View::Front)?,
-            top: drawn_in(alloc, grid, View::Top)?,
-            side: drawn_in(alloc, grid, View::Side)?,
-        })
-    }
+/// The point of a view on which a point projects has a mark.
+fn is_marked_in(points: &PerView<Marks>, view: View, point: PerAxis) -> bool
+    ensures { result ≡ is_marked_in points.now view (cell_of point) }
+{
+    points
+        .view(view)
+        .has(point.numbered(view.frame().away.axis, 0))
+}
 
-    /// Each of the points on which a point projects has a mark.
-    pub fn has(&self, point: PerAxis) -> bool
-        ensures { result ≡ is_marked_point self.now (cell_of point) }
-    {
-        is_marked_in(&self.front, View::Front, point)
-            && is_marked_in(&self.top, View::Top, point)
-            && is_marked_in(&self.side, View::Side, point)
-    }
+/// Each of the points on which a point projects has a mark.
+pub fn is_marked_point(points: &PerView<Marks>, point: PerAxis) -> bool
+    ensures { result ≡ is_marked_point points.now (cell_of point) }
+{
+    is_marked_in(points, View::Front, point)
+        && is_marked_in(points, View::Top, point)
+        && is_marked_in(points, View::Side, point)
 }

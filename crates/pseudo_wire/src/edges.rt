@@ -5,8 +5,8 @@ ghost use Rattle.solid_model.specs.PerAxis.{numbers_of, cell_of};
 ghost use Rattle.solid_model.specs.Wire.{is_drawn_from, is_end_of_drawn, is_on_drawn, is_drawn_or_point};
 ghost use Rattle.pseudo_wire.specs.DrawnPoints.{is_marked_edge};
 
-use crate::drawn_points::DrawnPoints;
-use solid_model::{Axis, Grid, PerAxis, Style, View};
+use crate::drawn_points::is_marked_point;
+use solid_model::{Axis, Grid, Marks, PerAxis, PerView, Style, View};
 
 /// The view shows something on the level, or the upright, segment that begins where the point
 /// projects.
@@ -50,13 +50,13 @@ fn is_drawn_or_point(grid: &Grid, axis: Axis, point: PerAxis, view: View) -> boo
 
 /// The edge along an axis from a point is drawn in each of the two views that show it as a segment,
 /// and its ends have marks wherever they project.
-pub fn is_marked_edge(grid: &Grid, points: &DrawnPoints, axis: Axis, point: PerAxis) -> bool
+pub fn is_marked_edge(grid: &Grid, points: &PerView<Marks>, axis: Axis, point: PerAxis) -> bool
     requires { numbers_of point axis ≤ 1024 }
     ensures { result ≡ is_marked_edge grid.now points.now axis (cell_of point) }
 {
     is_drawn_or_point(grid, axis, point, View::Front)
         && is_drawn_or_point(grid, axis, point, View::Top)
         && is_drawn_or_point(grid, axis, point, View::Side)
-        && points.has(point)
-        && points.has(point.after(axis))
+        && is_marked_point(points, point)
+        && is_marked_point(points, point.after(axis))
 }

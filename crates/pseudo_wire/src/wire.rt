@@ -7,16 +7,16 @@ ghost use Rattle.solid_model.specs.Wire.{is_pseudo_edge};
 ghost use Rattle.solid_model.specs.GridBox.{grid_sizes};
 ghost use Rattle.pseudo_wire.specs.DrawnPoints.{AreDrawnPoints};
 
-use crate::drawn_points::DrawnPoints;
+use crate::drawn_points::drawn_points;
 use crate::edges::is_marked_edge;
-use solid_model::{Axis, CellTest, Grid, Marks, Memory, PerAxis, Wire};
+use solid_model::{Axis, CellTest, Grid, Marks, Memory, PerAxis, PerView, Wire};
 use std::alloc::Global;
 
 /// The edges of a grid along an axis, asked whether they are drawn and their ends have marks.
 #[derive(Clone, Copy)]
 struct EdgesAlong<'a> {
     grid: &'a Grid,
-    points: &'a DrawnPoints,
+    points: &'a PerView<Marks>,
     axis: Axis,
 }
 
@@ -43,7 +43,7 @@ impl CellTest for EdgesAlong<'_> {
 fn edges_along(
     alloc: Global,
     grid: &Grid,
-    points: &DrawnPoints,
+    points: &PerView<Marks>,
     axis: Axis,
 ) -> Result<Marks, Memory>
     requires { AreDrawnPoints grid.now points.now }
@@ -60,7 +60,7 @@ fn edges_along(
 pub fn wire_of(alloc: Global, grid: &Grid) -> Result<Wire, Memory>
     ensures { IfOk result (λ wire. IsWireOf grid.now wire) }
 {
-    let points = DrawnPoints::of(alloc, grid)?;
+    let points = drawn_points(alloc, grid)?;
     Ok(Wire::new(
         edges_along(alloc, grid, &points, Axis::X)?,
         edges_along(alloc, grid, &points, Axis::Y)?,

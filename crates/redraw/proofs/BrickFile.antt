@@ -14,8 +14,9 @@ use Rattle.solid_model.specs.Cells.{coordinate, cell_at, is_full}
 use Rattle.solid_model.specs.DrawnStyle.{solid_drawing}
 use Rattle.solid_model.specs.Grid.{Coordinates, is_in_gap, IsUnionOf}
 use Rattle.lemmas.specs.Lists.{Member, Ascends}
-use Rattle.solid_model.specs.Panels.{PanelStyles, PanelsStyles, panel_of, styles_along, AreGridStyles}
-use Rattle.solid_model.specs.Runs.{run_style, AreRuns, ViewRuns, DrawingRuns, view_runs, runs_along}
+use Rattle.solid_model.specs.Panels.{PanelStyles, PanelsStyles, styles_along, AreGridStyles}
+use Rattle.solid_model.specs.PerView.{of_view}
+use Rattle.solid_model.specs.Runs.{run_style, AreRuns, ViewRuns, DrawingRuns, runs_along}
 use Rattle.solid_model.specs.GridBox.{axis_along, axis_across}
 use Rattle.solid_model.proofs.Fullness.{is_full-member, member-is_full}
 use Rattle.solid_model.proofs.Gaps.{member, lies_in, in_gap as in_gap_of}
@@ -191,7 +192,7 @@ runs_of_brick = runs_shown coordinates (λ a. ascends (far a) (some a)) panels (
     (union_on_grid coordinates (λ a. ascends (far a) (some a)) (true ∷ []) brick union) drawn rectangles along_all
   where
     along_all : (v : View) (upright : Bool)
-        → AreRunsOn (coordinates (axis_across v upright)) (coordinates (axis_along v upright)) (styles_along upright (panel_of v panels)) (runs_along upright (view_runs v rectangles))
+        → AreRunsOn (coordinates (axis_across v upright)) (coordinates (axis_along v upright)) (styles_along upright (of_view v panels)) (runs_along upright (of_view v rectangles))
     along_all Front true = on_grid 3 1 (some Z) (some X)
     along_all Front false = on_grid 1 3 (some X) (some Z)
     along_all Top true = on_grid 2 1 (some Y) (some X)

@@ -16,9 +16,10 @@ use Rattle.solid_model.specs.Frames.{frame_of, along, across}
 use Rattle.solid_model.specs.Grid.{Coordinates, is_in_gap, IsUnionOf}
 use Rattle.solid_model.specs.Limits.{farthest_in_view}
 use Rattle.lemmas.specs.Lists.{Member, Each, Ascends}
-use Rattle.solid_model.specs.Panels.{starts_of, PanelsStyles, panel_of, styles_along, AreGridStyles, GridParts, coordinates_of, IsGrid}
+use Rattle.solid_model.specs.Panels.{starts_of, PanelsStyles, styles_along, AreGridStyles, GridParts, coordinates_of, IsGrid}
+use Rattle.solid_model.specs.PerView.{of_view}
 use Rattle.solid_model.proofs.OnGrid.{StaysOnGrid}
-use Rattle.solid_model.specs.Runs.{run_style, IsRun, DrawingRuns, view_runs, runs_along, style_in}
+use Rattle.solid_model.specs.Runs.{run_style, IsRun, DrawingRuns, runs_along, style_in}
 use Rattle.solid_model.specs.Segments.{segment_at}
 use Rattle.solid_model.proofs.Corners.{length-starts_of}
 use Rattle.solid_model.proofs.Fullness.{full_cell_of}
@@ -41,7 +42,7 @@ use Rattle.redraw.proofs.LastRuns.{run_style-drawn}
 
 -- a grid's segments of a view and kind: so many in each line
 pub drawn_count : (drawing : Segment → Style) (coordinates : Coordinates) (panels : PanelsStyles) → AreGridStyles drawing coordinates panels → (v : View) (upright : Bool)
-    → length (styles_along upright (panel_of v panels))
+    → length (styles_along upright (of_view v panels))
     ≡ length (coordinates (across (frame_of v) upright).axis) * (length (coordinates (along (frame_of v) upright).axis) - 1)
 drawn_count drawing coordinates panels styles v upright =
     let starts = starts_of (coordinates (along (frame_of v) upright).axis) in
@@ -105,7 +106,7 @@ near_last (r ∷ q ∷ rs) near = near_last (q ∷ rs) near.1
 -- the style of a cell of a line is what is drawn from its beginning
 abbrev IsStyleOfCell : (Segment → Style) → Coordinates → PanelsStyles → View → Bool → ℕ → ℕ → Type 0
 IsStyleOfCell drawing coordinates panels v upright line cell =
-    cell_style (styles_along upright (panel_of v panels)) (line * (length (coordinates (along (frame_of v) upright).axis) - 1) + cell)
+    cell_style (styles_along upright (of_view v panels)) (line * (length (coordinates (along (frame_of v) upright).axis) - 1) + cell)
     ≡ drawing (segment_at v upright (member (coordinates (along (frame_of v) upright).axis) cell) (member (coordinates (across (frame_of v) upright).axis) line))
 
 abbrev IsCell : Coordinates → View → Bool → ℕ → ℕ → Type 0
@@ -142,7 +143,7 @@ module _ (coordinates : Coordinates) (ascends : (a : Axis) → Ascends ◌<ℤ�
   abbrev ends : List ℤ
   ends = coordinates (along (frame_of v) upright).axis
 
-  module _ (rs : List Run) (on : AreRunsOn lines ends (styles_along upright (panel_of v panels)) rs) where
+  module _ (rs : List Run) (on : AreRunsOn lines ends (styles_along upright (of_view v panels)) rs) where
     -- in a cell of a line
     show_in_cell : (line cell : ℕ) (z : ℤ) → line < length lines → IsTrue (is_in_gap ends cell z) → run_style rs (member lines line) z ≡ drawing (segment_at v upright z (member lines line))
     show_in_cell line cell z within gap =
@@ -168,9 +169,9 @@ module _ (coordinates : Coordinates) (ascends : (a : Axis) → Ascends ◌<ℤ�
 module _ (coordinates : Coordinates) (ascends : (a : Axis) → Ascends ◌<ℤ◌ (coordinates a)) (panels : PanelsStyles) (drawing : Segment → Style)
     (stays : StaysOnGrid coordinates drawing) (styles : AreGridStyles drawing coordinates panels) (d : DrawingRuns)
     (on : (v : View) (upright : Bool) → AreRunsOn (coordinates (across (frame_of v) upright).axis) (coordinates (along (frame_of v) upright).axis)
-    (styles_along upright (panel_of v panels)) (runs_along upright (view_runs v d))) where
+    (styles_along upright (of_view v panels)) (runs_along upright (of_view v d))) where
   -- in all views
-  pub show_in_views : (v : View) (upright : Bool) (j z : ℤ) → run_style (runs_along upright (view_runs v d)) j z ≡ drawing (segment_at v upright z j)
+  pub show_in_views : (v : View) (upright : Bool) (j z : ℤ) → run_style (runs_along upright (of_view v d)) j z ≡ drawing (segment_at v upright z j)
   show_in_views v upright = show_drawing coordinates ascends panels drawing stays styles v upright _ (on v upright)
 
   pub runs_shown : AreRunsOf drawing d
@@ -188,7 +189,7 @@ module _ (coordinates : Coordinates) (ascends : (a : Axis) → Ascends ◌<ℤ�
 
 module _ (g : GridParts) (panels : PanelsStyles) (chosen : List Bool) (s : List Cell) (union : IsUnionOf (coordinates_of g) chosen (is_full s))
     (styles : AreGridStyles (solid_drawing s) (coordinates_of g) panels) (d : DrawingRuns)
-    (along_all : (v : View) (upright : Bool) → AreRunsAlong g panels v upright (runs_along upright (view_runs v d))) where
+    (along_all : (v : View) (upright : Bool) → AreRunsAlong g panels v upright (runs_along upright (of_view v d))) where
   ascends : (a : Axis) → Ascends ◌<ℤ◌ (coordinates_of g a)
   ascends = grid_ascends g (along_all Front true).grid
 
@@ -196,7 +197,7 @@ module _ (g : GridParts) (panels : PanelsStyles) (chosen : List Bool) (s : List 
   stays = union_on_grid (coordinates_of g) ascends chosen s union
 
   -- how far it reaches across the segments of a kind
-  far_end_of_solid : IsSolid s → (v : View) (upright : Bool) → IsFarEnd (is_full s) (across (frame_of v) upright).axis (last_line (runs_along upright (view_runs v d)))
+  far_end_of_solid : IsSolid s → (v : View) (upright : Bool) → IsFarEnd (is_full s) (across (frame_of v) upright).axis (last_line (runs_along upright (of_view v d)))
   far_end_of_solid solid v upright =
       let full = full_cell_of s solid in
       let drawn = some_drawn v upright s full.0 full.1 in

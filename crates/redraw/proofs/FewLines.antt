@@ -15,7 +15,8 @@ use Rattle.solid_model.specs.Grid.{Coordinates, IsUnionOf}
 use Rattle.solid_model.specs.Line.{Line}
 use Rattle.lemmas.specs.Lists.{Member, Each, Ascends}
 use Rattle.solid_model.specs.Panels.{GridParts, coordinates_of, IsGrid}
-use Rattle.solid_model.specs.Runs.{IsRun, DrawingRuns, view_runs, runs_along, run_style}
+use Rattle.solid_model.specs.Runs.{IsRun, DrawingRuns, runs_along, run_style}
+use Rattle.solid_model.specs.PerView.{of_view}
 use Rattle.solid_model.specs.Segments.{segment_at}
 use Rattle.solid_model.proofs.InGrid.{between_members}
 use Rattle.lemmas.proofs.Lists.{each-at, each-from}
@@ -35,7 +36,7 @@ run_line_drawn v false right up r is = record { straight = inr refl; drawn = is.
 
 -- what holds of the line of each run holds of each line of the sheet
 each_line : (P : Line → Type 0) (far_x far_z : ℤ) (d : DrawingRuns)
-    → ((v : View) (upright : Bool) (r : Run) → Member (runs_along upright (view_runs v d)) r → P (run_line v upright (right_on_sheet far_x v) (up_on_sheet far_z v) r))
+    → ((v : View) (upright : Bool) (r : Run) → Member (runs_along upright (of_view v d)) r → P (run_line v upright (right_on_sheet far_x v) (up_on_sheet far_z v) r))
     → Each P (sheet_lines far_x far_z d)
 each_line P far_x far_z d holds = each-from P (sheet_lines far_x far_z d) (λ l k.
     let of_run = run_of_line far_x far_z d l k in
@@ -79,12 +80,12 @@ grid_coordinates g (drawing, is, grid) = record {
 module _ (coordinates : Coordinates) (are : AreFewCoordinates coordinates) (chosen : List Bool) (s : List Cell) (union : IsUnionOf coordinates chosen (is_full s))
     (far_x far_z : ℤ) (d : DrawingRuns) (sheet : IsSheetOf s far_x far_z d) where
   -- a list of runs shows what the solid draws
-  shows : (v : View) (upright : Bool) (j z : ℤ) → run_style (runs_along upright (view_runs v d)) j z ≡ solid_drawing s (segment_at v upright z j)
+  shows : (v : View) (upright : Bool) (j z : ℤ) → run_style (runs_along upright (of_view v d)) j z ≡ solid_drawing s (segment_at v upright z j)
   shows v upright j z = sym (in_runs d v upright z j) ∙ sheet.runs.show (segment_at v upright z j)
 
-  few_along : (v : View) (upright : Bool) → length (runs_along upright (view_runs v d)) ≤ 4096
+  few_along : (v : View) (upright : Bool) → length (runs_along upright (of_view v d)) ≤ 4096
   few_along v upright = few_runs coordinates are.ascends (solid_drawing s) (union_on_grid coordinates are.ascends chosen s union)
-      v upright (runs_along upright (view_runs v d)) (sheet.runs.runs v upright) (shows v upright) are.few
+      v upright (runs_along upright (of_view v d)) (sheet.runs.runs v upright) (shows v upright) are.few
 
   few_in_view : (v : View) → length (placed_lines far_x far_z d v) ≤ 8192
   few_in_view v =
@@ -93,9 +94,9 @@ module _ (coordinates : Coordinates) (are : AreFewCoordinates coordinates) (chos
       let upright = few_along v true in
       omega (
         arith,
-        length-append (map (line false) (view_runs v d).level) (map (line true) (view_runs v d).upright),
-        length-map (view_runs v d).level (line false),
-        length-map (view_runs v d).upright (line true),
+        length-append (map (line false) (of_view v d).level) (map (line true) (of_view v d).upright),
+        length-map (of_view v d).level (line false),
+        length-map (of_view v d).upright (line true),
         level,
         upright,
       )
@@ -131,7 +132,7 @@ module _ (coordinates : Coordinates) (are : AreFewCoordinates coordinates) (chos
   lines_not_negative = each_line IsNotNegative far_x far_z d (λ v upright r k.
       let place = place_not_negative far_x far_z v (far_not_negative X far_x sheet.right) (far_not_negative Z far_z sheet.up) in
       let on = begins_on_grid coordinates are.ascends (solid_drawing s) (union_on_grid coordinates are.ascends chosen s union)
-      v upright (runs_along upright (view_runs v d)) (sheet.runs.runs v upright) (shows v upright) r k in
+      v upright (runs_along upright (of_view v d)) (sheet.runs.runs v upright) (shows v upright) r k in
       run_line_not_negative v upright (right_on_sheet far_x v) (up_on_sheet far_z v) r (each-at IsRun _ r (sheet.runs.runs v upright).0 k)
       place.0 place.1 (are.not_negative _ r.from on.0) (are.not_negative _ r.at on.1))
 

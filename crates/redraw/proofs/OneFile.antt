@@ -9,7 +9,8 @@ use Rattle.solid_model.specs.Cells.{is_full, SameCells}
 use Rattle.solid_model.specs.DrawnStyle.{solid_drawing}
 use Rattle.solid_model.specs.Frames.{frame_of}
 use Rattle.solid_model.specs.Matching.{Matches}
-use Rattle.solid_model.specs.Runs.{DrawingRuns, view_runs, runs_along}
+use Rattle.solid_model.specs.Runs.{DrawingRuns, runs_along}
+use Rattle.solid_model.specs.PerView.{of_view}
 use Rattle.solid_model.proofs.GridMatching.{matching_draws_it}
 use Rattle.solid_model.proofs.RunStyles.{same_styles_one_list, in_runs}
 use Rattle.solid_model.proofs.Styles.{one_style, same_drawing, drawn_style_drawn}
@@ -26,7 +27,7 @@ one_drawing_runs drawing other same d e h k = λ t. record {
   side = record { level = one Side false t; upright = one Side true t };
 }
   where
-    one : (v : View) (upright : Bool) → runs_along upright (view_runs v d) ≡ runs_along upright (view_runs v e)
+    one : (v : View) (upright : Bool) → runs_along upright (of_view v d) ≡ runs_along upright (of_view v e)
     one v upright = same_styles_one_list _ _ (h.runs v upright) (k.runs v upright) (λ j z.
         sym (in_runs d v upright z j) ∙ h.show _ ∙ same _ ∙ sym (k.show _) ∙ in_runs e v upright z j)
 

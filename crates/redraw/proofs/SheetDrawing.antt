@@ -12,7 +12,8 @@ use Rattle.solid_model.specs.Drawings.{same_view, has_length, covering_lines, ex
 use Rattle.solid_model.specs.Line.{Line}
 use Rattle.lemmas.specs.Lists.{Member}
 use Rattle.solid_model.specs.Moved.{BeginsAt, IsMovedToZero}
-use Rattle.solid_model.specs.Runs.{DrawingRuns, view_runs, runs_along}
+use Rattle.solid_model.specs.Runs.{DrawingRuns, runs_along}
+use Rattle.solid_model.specs.PerView.{of_view}
 use Rattle.solid_model.specs.Segments.{segment_at, along_of, across_of, farther}
 use Rattle.lemmas.proofs.Lists.{each-at, member-map, member-from_map, member-from_filter}
 use Rattle.solid_model.proofs.RunStyles.{covers_from, in_runs}
@@ -45,11 +46,11 @@ module _ (far_x far_z : ℤ) (d : DrawingRuns) (drawing : Segment → Style) (ar
   shown_on_sheet g drawn = covered_from_style _ _ (λ blank. drawn (sym (shows_drawing g) ∙ blank))
 
   -- a run begins at a segment that is drawn
-  pub run_drawn : (v : View) (upright : Bool) (r : Run) → Member (runs_along upright (view_runs v d)) r → drawing (segment_at v upright r.from r.at) ≡ r.style
+  pub run_drawn : (v : View) (upright : Bool) (r : Run) → Member (runs_along upright (of_view v d)) r → drawing (segment_at v upright r.from r.at) ≡ r.style
   run_drawn v upright r k =
       let is_run = each-at _ _ r (are.runs v upright).0 k in
       sym (are.show (segment_at v upright r.from r.at)) ∙ in_runs d v upright r.from r.at
-      ∙ sym (style_of_run (runs_along upright (view_runs v d)) (are.runs v upright) r k r.at r.from refl
+      ∙ sym (style_of_run (runs_along upright (of_view v d)) (are.runs v upright) r k r.at r.from refl
       (covers_from r r.from (omega (arith, ints)) is_run.0))
 
   module _ (v : View) (right up : ℤ) (begins : BeginsAt drawing v right up) where

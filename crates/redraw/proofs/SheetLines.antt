@@ -12,7 +12,8 @@ use Rattle.solid_model.specs.declared.segment.Style.TheVariants.{Blank, Dashed, 
 use Rattle.solid_model.specs.Drawings.{same_view, same_style, is_between, covers, is_covered, sheet_style}
 use Rattle.solid_model.specs.Line.{Line}
 use Rattle.lemmas.specs.Lists.{Member}
-use Rattle.solid_model.specs.Runs.{run_covers, run_style, AreRuns, DrawingRuns, view_runs, runs_along, style_in}
+use Rattle.solid_model.specs.Runs.{run_covers, run_style, AreRuns, DrawingRuns, runs_along, style_in}
+use Rattle.solid_model.specs.PerView.{of_view}
 use Rattle.solid_model.specs.Segments.{along_of, across_of, start_of, line_of, farther}
 use Rattle.lemmas.proofs.Lists.{each-at, member-append, member-append_left, member-append_right, member-map, member-from_map}
 use Rattle.solid_model.proofs.RunStyles.{covers_parts, covers_from, covering_run, run_stretch}
@@ -132,7 +133,7 @@ covered_by (m ∷ ls) l g (inr k) e =
 -- the line is that of a run of the view and kind
 pub record IsRunLine (far_x far_z : ℤ) (d : DrawingRuns) (v : View) (upright : Bool) (l : Line) : Type 0 where
   pub run : Run
-  pub listed : Member (runs_along upright (view_runs v d)) run
+  pub listed : Member (runs_along upright (of_view v d)) run
   pub is : run_line v upright (right_on_sheet far_x v) (up_on_sheet far_z v) run ≡ l
 
 module _ (far_x far_z : ℤ) (d : DrawingRuns) where
@@ -143,9 +144,9 @@ module _ (far_x far_z : ℤ) (d : DrawingRuns) where
   SomeRunLine l = (v : View) × (upright : Bool) × IsRunLine far_x far_z d v upright l
 
   line_of_run : (v : View) (upright : Bool) (l : Line)
-      → Member (map (run_line v upright (right_on_sheet far_x v) (up_on_sheet far_z v)) (runs_along upright (view_runs v d))) l → SomeRunLine l
+      → Member (map (run_line v upright (right_on_sheet far_x v) (up_on_sheet far_z v)) (runs_along upright (of_view v d))) l → SomeRunLine l
   line_of_run v upright l k =
-      let m = member-from_map (run_line v upright (right_on_sheet far_x v) (up_on_sheet far_z v)) (runs_along upright (view_runs v d)) l k in
+      let m = member-from_map (run_line v upright (right_on_sheet far_x v) (up_on_sheet far_z v)) (runs_along upright (of_view v d)) l k in
       (v, upright, record { run = m.0; listed = m.1; is = m.2 })
 
   placed_line : (v : View) (l : Line) → Member (placed_lines far_x far_z d v) l → SomeRunLine l
@@ -157,11 +158,11 @@ module _ (far_x far_z : ℤ) (d : DrawingRuns) where
       (λ m. ⊎_elim {C = SomeRunLine l} (placed_line Top l) (placed_line Side l) (member-append _ _ l m)) (member-append _ _ l k)
 
   -- the line of each run stands on the sheet
-  line_listed : (v : View) (upright : Bool) (r : Run) → Member (runs_along upright (view_runs v d)) r
+  line_listed : (v : View) (upright : Bool) (r : Run) → Member (runs_along upright (of_view v d)) r
       → Member lines (run_line v upright (right_on_sheet far_x v) (up_on_sheet far_z v) r)
   line_listed v upright r k = on_sheet v _ (in_view upright k)
     where
-      in_view : (kind : Bool) → Member (runs_along kind (view_runs v d)) r
+      in_view : (kind : Bool) → Member (runs_along kind (of_view v d)) r
           → Member (placed_lines far_x far_z d v) (run_line v kind (right_on_sheet far_x v) (up_on_sheet far_z v) r)
       in_view false l = member-append_left _ _ _ (member-map (run_line v false (right_on_sheet far_x v) (up_on_sheet far_z v)) _ r l)
       in_view true l = member-append_right _ _ _ (member-map (run_line v true (right_on_sheet far_x v) (up_on_sheet far_z v)) _ r l)
@@ -173,7 +174,7 @@ module _ (far_x far_z : ℤ) (d : DrawingRuns) where
 
   -- ---- what they show
 
-  module _ (runs : (v : View) (upright : Bool) → AreRuns (runs_along upright (view_runs v d))) where
+  module _ (runs : (v : View) (upright : Bool) → AreRuns (runs_along upright (of_view v d))) where
     -- a line that covers a segment at its view's place has its style
     style_of_covering : (style : Style) (g : Segment)
         → is_covered style lines (farther (right_on_sheet far_x g.view) (up_on_sheet far_z g.view) g) ≡ true → style_in d g ≡ style
@@ -185,14 +186,14 @@ module _ (far_x far_z : ℤ) (d : DrawingRuns) where
         (each-at _ _ m.run (runs v upright).0 m.listed).0
         (ap (λ l. covers l (farther (right_on_sheet far_x g.view) (up_on_sheet far_z g.view) g)) m.is ∙ c.3) in
         sym (c.2 ∙ sym (ap (λ (l : Line). l.style) m.is)
-        ∙ style_of_run (runs_along upright (view_runs v d)) (runs v upright) m.run m.listed (line_of g) (start_of g) shows.on shows.covers_it
-        ∙ (λ t. run_style (runs_along (shows.of_kind t) (view_runs (shows.of_view t) d)) (line_of g) (start_of g)))
+        ∙ style_of_run (runs_along upright (of_view v d)) (runs v upright) m.run m.listed (line_of g) (start_of g) shows.on shows.covers_it
+        ∙ (λ t. run_style (runs_along (shows.of_kind t) (of_view (shows.of_view t) d)) (line_of g) (start_of g)))
 
     -- a segment that isn't blank is covered by a line of its style
     covered_in_style : (g : Segment) → style_in d g ≢ Blank
         → is_covered (style_in d g) lines (farther (right_on_sheet far_x g.view) (up_on_sheet far_z g.view) g) ≡ true
     covered_in_style g drawn =
-        let rs : List Run = runs_along g.upright (view_runs g.view d) in
+        let rs : List Run = runs_along g.upright (of_view g.view d) in
         let m = covering_run rs (line_of g) (start_of g) drawn in
         let at = covers_parts (line_of g) (start_of g) m.0 m.2 in
         let h : Segment = farther (right_on_sheet far_x g.view) (up_on_sheet far_z g.view) g in

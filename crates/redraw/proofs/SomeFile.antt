@@ -14,7 +14,8 @@ use Rattle.solid_model.specs.Boxes.{place_of}
 use Rattle.solid_model.specs.Cells.{coordinate, is_full, IsSolid}
 use Rattle.solid_model.specs.DrawnStyle.{solid_drawing}
 use Rattle.solid_model.specs.Frames.{frame_of, along, across}
-use Rattle.solid_model.specs.Runs.{AreRuns, DrawingRuns, view_runs, runs_along, run_style}
+use Rattle.solid_model.specs.Runs.{AreRuns, DrawingRuns, runs_along, run_style}
+use Rattle.solid_model.specs.PerView.{of_view}
 use Rattle.solid_model.specs.Segments.{segment_at, start_of, line_of}
 use Rattle.solid_model.proofs.Fullness.{member-is_full}
 use Rattle.lemmas.proofs.Integers.{natural}
@@ -36,7 +37,7 @@ drawing_runs runs = record {
 }
 
 -- of each view and kind they are the ones given
-runs_of_drawing : (runs : View → Bool → List Run) (v : View) (upright : Bool) → runs v upright ≡ runs_along upright (view_runs v (drawing_runs runs))
+runs_of_drawing : (runs : View → Bool → List Run) (v : View) (upright : Bool) → runs v upright ≡ runs_along upright (of_view v (drawing_runs runs))
 runs_of_drawing runs Front false = refl
 runs_of_drawing runs Front true = refl
 runs_of_drawing runs Top false = refl

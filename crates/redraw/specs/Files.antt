@@ -12,7 +12,8 @@ use Rattle.solid_model.specs.declared.segment.Style.{Style}
 use Rattle.solid_model.specs.Cells.{coordinate, is_full}
 use Rattle.solid_model.specs.DrawnStyle.{solid_drawing}
 use Rattle.solid_model.specs.Line.{Line}
-use Rattle.solid_model.specs.Runs.{AreRuns, ViewRuns, DrawingRuns, view_runs, runs_along, style_in}
+use Rattle.solid_model.specs.Runs.{AreRuns, ViewRuns, DrawingRuns, runs_along, style_in}
+use Rattle.solid_model.specs.PerView.{of_view}
 use Rattle.solid_model.specs.Segments.{along_of, across_of}
 use Rattle.redraw.specs.Plain.{plain_file}
 
@@ -20,7 +21,7 @@ use Rattle.redraw.specs.Plain.{plain_file}
 
 -- the level and the upright runs of each view, which show what the drawing shows
 pub record AreRunsOf (drawing : Segment → Style) (d : DrawingRuns) : Type 0 where
-  pub runs : (v : View) (upright : Bool) → AreRuns (runs_along upright (view_runs v d))
+  pub runs : (v : View) (upright : Bool) → AreRuns (runs_along upright (of_view v d))
   pub show : (g : Segment) → style_in d g ≡ drawing g
 
 -- ---- the sheet
@@ -60,7 +61,7 @@ view_lines v right up runs = map (run_line v false right up) runs.level ++ map (
 
 -- the lines of a view on the sheet of a solid that reaches so far along x and z
 abbrev pub placed_lines : ℤ → ℤ → DrawingRuns → View → List Line
-placed_lines far_x far_z d v = view_lines v (right_on_sheet far_x v) (up_on_sheet far_z v) (view_runs v d)
+placed_lines far_x far_z d v = view_lines v (right_on_sheet far_x v) (up_on_sheet far_z v) (of_view v d)
 
 -- the lines of all three
 abbrev pub sheet_lines : ℤ → ℤ → DrawingRuns → List Line

@@ -10,8 +10,9 @@ use Rattle.solid_model.specs.Frames.{frame_of, along, across}
 use Rattle.solid_model.specs.Grid.{is_in_gap, IsInSomeGap}
 use Rattle.solid_model.specs.Limits.{farthest_in_view}
 use Rattle.lemmas.specs.Lists.{Member, Each}
-use Rattle.solid_model.specs.Panels.{PanelsStyles, panel_of, styles_along, AreGridStyles, GridParts, coordinates_of, IsGrid}
-use Rattle.solid_model.specs.Runs.{run_style, AreRuns, DrawingRuns, view_runs, runs_along}
+use Rattle.solid_model.specs.Panels.{PanelsStyles, styles_along, AreGridStyles, GridParts, coordinates_of, IsGrid}
+use Rattle.solid_model.specs.PerView.{of_view}
+use Rattle.solid_model.specs.Runs.{run_style, AreRuns, DrawingRuns, runs_along}
 use Rattle.redraw.specs.declared.text.Place.{Place}
 use Rattle.redraw.specs.Files.{run_line, sheet_lines}
 use Rattle.redraw.specs.Plain.{line_text, plain_file}
@@ -74,12 +75,12 @@ HasDrawing g panels = IsGrid g → (drawing : Segment → Style) × AreGridStyle
 pub record AreRunsAlong (g : GridParts) (panels : PanelsStyles) (v : View) (upright : Bool) (rs : List Run) : Type 0 where
   pub grid : IsGrid g
   pub on : AreRunsOn (coordinates_of g (across (frame_of v) upright).axis) (coordinates_of g (along (frame_of v) upright).axis)
-      (styles_along upright (panel_of v panels)) rs
+      (styles_along upright (of_view v panels)) rs
   pub near : Each IsNearRun rs
 
 -- all runs of three views are near
 abbrev pub AreNearRuns : DrawingRuns → Type 0
-AreNearRuns d = (v : View) (upright : Bool) → Each IsNearRun (runs_along upright (view_runs v d))
+AreNearRuns d = (v : View) (upright : Bool) → Each IsNearRun (runs_along upright (of_view v d))
 
 -- the line of the last run; 0 where there is no run
 abbrev pub last_line : List Run → ℤ

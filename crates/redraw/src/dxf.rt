@@ -15,10 +15,10 @@ ghost use Rattle.redraw.specs.Files.{right_on_sheet, up_on_sheet, placed_lines, 
 ghost use Rattle.redraw.specs.GridRuns.{last_line, IsUpTo, IsNearRun, IsNearPlace, AreNearRuns, sheet_text};
 ghost use Rattle.redraw.specs.Plain.{line_text};
 
-use crate::sheet::{Sheet, last_line, sheet_of};
+use crate::sheet::{last_line, sheet_of};
 use crate::text::{Place, push_pair, push_view};
 use columns::draw_cells;
-use solid_model::{Grid, Memory, Runs, View};
+use solid_model::{Grid, Memory, PerView, Runs, View, ViewLines};
 use std::alloc::Global;
 
 /// How far the top view stands above the front view, and the side view to the right of it.
@@ -34,7 +34,7 @@ fn beyond(runs: &Runs) -> i64
 }
 
 /// Where a view stands on the sheet: the top view above the front view, the side view to its right.
-fn place_of(sheet: &Sheet, view: View) -> Place
+fn place_of(sheet: &PerView<ViewLines>, view: View) -> Place
     requires { AreNearRuns sheet.now }
     ensures view { result.view ≡ view }
     ensures right { result.right ≡ right_on_sheet (last_line sheet.now.front.upright) view }
@@ -53,7 +53,12 @@ fn place_of(sheet: &Sheet, view: View) -> Place
 }
 
 /// Adds the lines of a view where it stands on the sheet.
-fn push_placed(text: &mut Vec<u8>, sheet: &Sheet, view: View, decimals: u8) -> Result<(), Memory>
+fn push_placed(
+    text: &mut Vec<u8>,
+    sheet: &PerView<ViewLines>,
+    view: View,
+    decimals: u8,
+) -> Result<(), Memory>
     requires near { AreNearRuns sheet.now }
     requires decimals { decimals ≤ most_decimals }
     ensures { OnOk result (text.new.items ≡ text.old.items ++ flat_map (line_text decimals)
@@ -66,7 +71,7 @@ fn push_placed(text: &mut Vec<u8>, sheet: &Sheet, view: View, decimals: u8) -> R
 
 /// Room for the text of a sheet: 100 bytes for each line, which is more than it can take, and 40
 /// for what stands around them.
-fn room_for(sheet: &Sheet) -> usize {
+fn room_for(sheet: &PerView<ViewLines>) -> usize {
     let mut lines: usize = 0;
     for view in [View::Front, View::Top, View::Side] {
         for upright in [false, true] {
@@ -78,7 +83,7 @@ fn room_for(sheet: &Sheet) -> usize {
 }
 
 /// The text of a sheet, whose coordinates have so many decimals.
-fn sheet_text(alloc: Global, sheet: &Sheet, decimals: u8) -> Result<Vec<u8>, Memory>
+fn sheet_text(alloc: Global, sheet: &PerView<ViewLines>, decimals: u8) -> Result<Vec<u8>, Memory>
     requires near { AreNearRuns sheet.now }
     requires decimals { decimals ≤ most_decimals }
     ensures { IfOk result (λ text. text.items ≡ sheet_text decimals sheet.now) }

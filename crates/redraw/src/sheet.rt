@@ -5,45 +5,13 @@
 
 ghost use Rattle.std.specs.Prelude.{◌≡◌, Bool, IfOk};
 ghost use Rattle.solid_model.specs.declared.frame.View.{View};
-ghost use Rattle.solid_model.specs.Runs.{runs_along, view_runs};
+ghost use Rattle.solid_model.specs.Runs.{runs_along};
+ghost use Rattle.solid_model.specs.PerView.{of_view};
 ghost use Rattle.redraw.specs.GridRuns.{HasDrawing, AreRunsAlong, last_line};
 
 use crate::runs::runs_on;
-use solid_model::{Grid, Panels, Runs, View, ViewLines};
+use solid_model::{Grid, Panels, PerView, Runs, View, ViewLines};
 use std::alloc::{AllocError, Global};
-use std::marker::Model;
-
-/// The runs of the three views of a solid, wherever it begins.
-#[derive(Drop)]
-pub struct Sheet {
-    pub front: ViewLines,
-    pub top: ViewLines,
-    pub side: ViewLines,
-}
-
-impl Model for Sheet {
-    ghost use Rattle.solid_model.specs.Runs.{DrawingRuns};
-
-    ghost Value = { DrawingRuns };
-
-    ghost view = { λ s. record { front = s.front; top = s.top; side = s.side } };
-}
-
-impl Sheet {
-    ghost use Rattle.std.specs.Prelude.{◌≡◌};
-    ghost use Rattle.solid_model.specs.Runs.{view_runs};
-
-    /// The runs of a view.
-    pub fn view(&self, view: View) -> &ViewLines
-        ensures { result.now ≡ view_runs view self.now }
-    {
-        match view {
-            View::Front => &self.front,
-            View::Top => &self.top,
-            View::Side => &self.side,
-        }
-    }
-}
 
 /// The line of the last run, which is the farthest one; 0 where there is no run.
 pub fn last_line(runs: &Runs) -> i64
@@ -90,13 +58,18 @@ fn view_lines(
     })
 }
 
-/// The runs of three views, whose segments have the styles of the panels.
-pub fn sheet_of(alloc: Global, grid: &Grid, panels: &Panels) -> Result<Sheet, AllocError>
+/// The runs of three views, whose segments have the styles of the panels, wherever the solid
+/// begins.
+pub fn sheet_of(
+    alloc: Global,
+    grid: &Grid,
+    panels: &Panels,
+) -> Result<PerView<ViewLines>, AllocError>
     requires { HasDrawing grid.now panels.now }
     ensures { IfOk result (λ sheet. (v : View) (upright : Bool)
-        → AreRunsAlong grid.now panels.now v upright (runs_along upright (view_runs v sheet))) }
+        → AreRunsAlong grid.now panels.now v upright (runs_along upright (of_view v sheet))) }
 {
-    Ok(Sheet {
+    Ok(PerView {
         front: view_lines(alloc, grid, panels, View::Front)?,
         top: view_lines(alloc, grid, panels, View::Top)?,
         side: view_lines(alloc, grid, panels, View::Side)?,

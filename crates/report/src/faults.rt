@@ -16,6 +16,7 @@ use std::alloc::Global;
 use std::marker::Model;
 
 /// What the text of a fault tells: its number and name, and what it names.
+#[derive(Drop)]
 struct FaultNames {
     name: &'static str,
     line: Option<u32>,

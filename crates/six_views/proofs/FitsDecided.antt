@@ -10,7 +10,8 @@ use Rattle.solid_model.specs.declared.segment.Style.{Style}
 use Rattle.solid_model.specs.Cells.{is_full, IsSolid}
 use Rattle.solid_model.specs.DrawnStyle.{solid_drawing}
 use Rattle.solid_model.specs.Drawings.{same_style}
-use Rattle.solid_model.specs.Runs.{AreRuns, ViewRuns, view_runs, runs_along, run_style}
+use Rattle.solid_model.specs.Runs.{AreRuns, ViewRuns, runs_along, run_style}
+use Rattle.solid_model.specs.PerView.{of_view}
 use Rattle.solid_model.specs.Segments.{along_of, across_of, start_of, line_of}
 use Rattle.solid_model.proofs.Sheets.{same_style-itself, same_style-one}
 use Rattle.redraw.proofs.SolidBegins.{solid_begins}
@@ -90,9 +91,9 @@ module _ (x : Extra) (s : List Cell) (solid : IsSolid s) where
   shows_decided shown kept =
       let (text, (far_x, far_z, d, sheet, is)) = some_file turned (solid_turned x s solid) 0 in
       let (right, up, begins) = solid_begins turned (solid_turned x s solid) v in
-      let own : ViewRuns = view_runs v d in
+      let own : ViewRuns = of_view v d in
       let where_moved = shows_where_moved (further_frame x) (is_full s) v (solid_drawing turned) (further_drawn x s) own shown (sheet.runs.runs v) kept
-      (λ g of. (λ t. run_style (runs_along g.upright (view_runs (sym of t) d)) (line_of g) (start_of g)) ∙ sheet.runs.show g) right up begins in
+      (λ g of. (λ t. run_style (runs_along g.upright (of_view (sym of t) d)) (line_of g) (start_of g)) ∙ sheet.runs.show g) right up begins in
       as_decided (AreMovedRuns right up shown own) (ShowsMoved (further_frame x) (is_full s) (view_style shown) v) where_moved.1 where_moved.0
       (as_decided (Moved right up own false × Moved right up own true) (AreMovedRuns right up shown own) (λ h. λ upright. each right up own upright h)
       (λ are. (are false, are true)) (both_decided _ _ (decided right up own false) (decided right up own true)))

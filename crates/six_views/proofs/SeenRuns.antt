@@ -13,7 +13,8 @@ use Rattle.solid_model.specs.Cells.{is_full}
 use Rattle.solid_model.specs.DrawnStyle.{solid_drawing}
 use Rattle.solid_model.specs.Frames.{frame_of, along, across}
 use Rattle.solid_model.specs.Grid.{Coordinates, IsUnionOf, gaps_along}
-use Rattle.solid_model.specs.Panels.{PanelsStyles, panel_of, styles_along, AreGridStyles, grid_styles}
+use Rattle.solid_model.specs.Panels.{PanelsStyles, styles_along, AreGridStyles, grid_styles}
+use Rattle.solid_model.specs.PerView.{of_view}
 use Rattle.solid_model.specs.PerAxis.{gaps_of}
 use Rattle.solid_model.specs.Runs.{run_style}
 use Rattle.solid_model.specs.Segments.{segment_at}
@@ -110,7 +111,7 @@ module _ (x : Extra) (counts : Axis → ℕ) (coordinates : Coordinates) (has : 
     sizes = sym (same_sizes x counts coordinates has chosen turned are_turned s union)
 
     -- the styles are those of the turned solid
-    styles_seen : styles ≡ styles_along upright (panel_of v panels)
+    styles_seen : styles ≡ styles_along upright (of_view v panels)
     styles_seen =
         seen_styles x counts coordinates has chosen turned are_turned s union upright styles
         (drawn turned (columns_turned x (gaps_of counts) chosen turned are_turned columns (subst (λ (n : Axis → ℕ). AreColumns (further_frame x) n chosen columns) sizes are)))

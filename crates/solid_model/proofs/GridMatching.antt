@@ -14,7 +14,8 @@ use Rattle.solid_model.specs.Frames.{frame_of}
 use Rattle.solid_model.specs.Grid.{IsUnionOf}
 use Rattle.lemmas.specs.Lists.{Ascends}
 use Rattle.solid_model.specs.Matching.{Matches}
-use Rattle.solid_model.specs.Panels.{PanelsStyles, panel_of, styles_along, grid_styles, AreGridStyles, GridParts, coordinates_of, IsGridOf}
+use Rattle.solid_model.specs.Panels.{PanelsStyles, styles_along, grid_styles, AreGridStyles, GridParts, coordinates_of, IsGridOf}
+use Rattle.solid_model.specs.PerView.{of_view}
 use Rattle.solid_model.proofs.OnGrid.{StaysOnGrid, on_own_grid}
 use Rattle.solid_model.specs.Runs.{IsDrawing}
 use Rattle.solid_model.proofs.Fullness.{solid_with}
@@ -24,7 +25,7 @@ use Rattle.solid_model.proofs.UnionDrawing.{union_on_grid}
 use Rattle.solid_model.proofs.Views.{views_are_frames}
 
 -- panels with the same styles in each view, level and upright, are the same
-one_panels : (a b : PanelsStyles) → ((v : View) (upright : Bool) → styles_along upright (panel_of v a) ≡ styles_along upright (panel_of v b)) → a ≡ b
+one_panels : (a b : PanelsStyles) → ((v : View) (upright : Bool) → styles_along upright (of_view v a) ≡ styles_along upright (of_view v b)) → a ≡ b
 one_panels a b same = λ t. record {
   front = record { level = same Front false t; upright = same Front true t };
   top = record { level = same Top false t; upright = same Top true t };
@@ -67,7 +68,7 @@ module _ (drawing : Segment → Style) (is : IsDrawing drawing) (g : GridParts) 
   matching_on_grid chosen s union panels drawn = (
     (λ same. matches_from_drawing drawing is s (same_everywhere (coordinates_of g) ascends (solid_drawing s) drawing
         (union_on_grid (coordinates_of g) ascends chosen s union) stays
-        (λ v upright. sym (drawn v upright) ∙ ap (λ p. styles_along upright (panel_of v p)) same ∙ grid.styles v upright))),
+        (λ v upright. sym (drawn v upright) ∙ ap (λ p. styles_along upright (of_view v p)) same ∙ grid.styles v upright))),
     (λ matches. one_panels panels g.panels (λ v upright. drawn v upright
         ∙ (λ t. grid_styles (λ s'. matching_draws_it drawing s matches s' t) (coordinates_of g) v upright) ∙ sym (grid.styles v upright))),
   )

@@ -9,7 +9,8 @@ use Rattle.solid_model.specs.declared.segment.Style.{Style}
 use Rattle.solid_model.specs.declared.segment.Style.TheVariants.{Blank}
 use Rattle.solid_model.specs.Drawings.{same_style}
 use Rattle.lemmas.specs.Lists.{Member, Each, Ascends}
-use Rattle.solid_model.specs.Runs.{run_covers, run_style, IsRun, StandsApart, AreRuns, DrawingRuns, view_runs, runs_along, style_in}
+use Rattle.solid_model.specs.Runs.{run_covers, run_style, IsRun, StandsApart, AreRuns, DrawingRuns, runs_along, style_in}
+use Rattle.solid_model.specs.PerView.{of_view}
 use Rattle.solid_model.specs.Segments.{segment_at}
 use Rattle.solid_model.specs.Stretches.{IsStretch}
 use Rattle.lemmas.proofs.Lists.{IsWithin, each-at, each-from, each-weaker, ascends-members, same_ascending}
@@ -168,6 +169,6 @@ same_styles_one_list rs ss runs others same =
 
 -- it gives a segment the style of the unit length of a run's line
 pub in_runs : (d : DrawingRuns) (v : View) (upright : Bool) (start line : ℤ)
-    → style_in d (segment_at v upright start line) ≡ run_style (runs_along upright (view_runs v d)) line start
+    → style_in d (segment_at v upright start line) ≡ run_style (runs_along upright (of_view v d)) line start
 in_runs d v true start line = refl
 in_runs d v false start line = refl

@@ -11,7 +11,8 @@ use Rattle.solid_model.specs.declared.segment.Style.TheVariants.{Blank}
 use Rattle.solid_model.specs.Cells.{coordinate, is_full}
 use Rattle.solid_model.specs.Frames.{frame_of, along, across}
 use Rattle.solid_model.specs.Grid.{GridCell, LiesInGridCell, gaps_along}
-use Rattle.solid_model.specs.Panels.{GridParts, coordinates_of, panel_of, styles_along}
+use Rattle.solid_model.specs.Panels.{GridParts, coordinates_of, styles_along}
+use Rattle.solid_model.specs.PerView.{of_view}
 use Rattle.solid_model.specs.Rooms.{Sizes, is_within, place_of_number}
 
 -- how many grid cells stand in a row along each axis
@@ -40,6 +41,6 @@ axis_across v upright = (across (frame_of v) upright).axis
 abbrev pub grid_style : GridParts → View → Bool → ℤ → ℤ → Style
 grid_style g v upright (pos line) (pos cell) =
     if nat_lt line (suc (grid_sizes g (axis_across v upright))) && nat_lt cell (grid_sizes g (axis_along v upright))
-    then slice_index_or (styles_along upright (panel_of v g.panels)) (line * grid_sizes g (axis_along v upright) + cell) Blank
+    then slice_index_or (styles_along upright (of_view v g.panels)) (line * grid_sizes g (axis_along v upright) + cell) Blank
     else Blank
 grid_style g v upright _ _ = Blank

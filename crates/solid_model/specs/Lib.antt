@@ -2,6 +2,7 @@ pub mod Limits
 pub mod Cells
 pub mod Edges
 pub mod Frames
+pub mod PerView
 pub mod Segments
 pub mod Columns
 pub mod Known

@@ -5,12 +5,14 @@ use Rattle.solid_model.specs.declared.cell.Axis.{Axis}
 use Rattle.solid_model.specs.declared.cell.Axis.TheVariants.{X, Y, Z}
 use Rattle.solid_model.specs.declared.frame.View.{View}
 use Rattle.solid_model.specs.declared.frame.View.TheVariants.{Front, Top, Side}
+use Rattle.solid_model.specs.declared.per_view.PerView.{PerView}
 use Rattle.solid_model.specs.declared.segment.Segment.{Segment}
 use Rattle.solid_model.specs.declared.segment.Style.{Style}
 use Rattle.solid_model.specs.DrawnStyle.{line_styles}
 use Rattle.solid_model.specs.Frames.{frame_of, along, across}
 use Rattle.solid_model.specs.Grid.{Coordinates, AreGridCoordinates}
 use Rattle.solid_model.specs.Limits.{most_grid_coordinates}
+use Rattle.solid_model.specs.PerView.{of_view}
 use Rattle.solid_model.specs.Runs.{IsDrawing}
 
 -- the styles of a view's level and upright grid segments
@@ -23,16 +25,8 @@ abbrev pub styles_along : Bool → PanelStyles → List Style
 styles_along upright p = if upright then p.upright else p.level
 
 -- those of three views
-pub record PanelsStyles : Type 0 where
-  pub front : PanelStyles
-  pub top : PanelStyles
-  pub side : PanelStyles
-
--- those of a view
-abbrev pub panel_of : View → PanelsStyles → PanelStyles
-panel_of Front p = p.front
-panel_of Top p = p.top
-panel_of Side p = p.side
+abbrev pub PanelsStyles : Type 0
+PanelsStyles = PerView PanelStyles
 
 -- the members of a list but its last one: where the grid segments along an axis begin
 abbrev pub starts_of : List ℤ → List ℤ
@@ -47,7 +41,7 @@ grid_styles drawing coordinates v upright =
 -- these are the styles that a drawing gives the segments of a grid with these coordinates
 abbrev pub AreGridStyles : (Segment → Style) → Coordinates → PanelsStyles → Type 0
 AreGridStyles drawing coordinates panels =
-    (v : View) (upright : Bool) → styles_along upright (panel_of v panels) ≡ grid_styles drawing coordinates v upright
+    (v : View) (upright : Bool) → styles_along upright (of_view v panels) ≡ grid_styles drawing coordinates v upright
 
 -- ---- the grid of a drawing
 

@@ -2,7 +2,7 @@
 use Rattle.std.specs.Prelude.{◌≡◌, ◌≢◌, ◌⊎◌, Bool, ◌&&◌, List, [], ◌∷◌, ℤ, pos, ◌≤ℤ◌, ◌<ℤ◌, int_lt, int_le, if◌then◌else◌}
 use Rattle.std.specs.Ordering.{int_eq}
 use Rattle.solid_model.specs.declared.frame.View.{View}
-use Rattle.solid_model.specs.declared.frame.View.TheVariants.{Front, Top, Side}
+use Rattle.solid_model.specs.declared.per_view.PerView.{PerView}
 use Rattle.solid_model.specs.declared.runs.Run.{Run}
 use Rattle.solid_model.specs.declared.segment.Segment.{Segment}
 use Rattle.solid_model.specs.declared.segment.Style.{Style}
@@ -10,6 +10,7 @@ use Rattle.solid_model.specs.declared.segment.Style.TheVariants.{Blank}
 use Rattle.solid_model.specs.Limits.{farthest_in_view}
 use Rattle.lemmas.specs.Lists.{Each, Ascends}
 use Rattle.solid_model.specs.Moved.{BeginsAt}
+use Rattle.solid_model.specs.PerView.{of_view}
 use Rattle.solid_model.specs.Segments.{start_of, line_of, far_right, far_up}
 
 -- ---- runs of one kind, level or upright
@@ -44,16 +45,8 @@ pub record ViewRuns : Type 0 where
   pub upright : List Run
 
 -- the runs of the three views
-pub record DrawingRuns : Type 0 where
-  pub front : ViewRuns
-  pub top : ViewRuns
-  pub side : ViewRuns
-
--- the runs of a view of a drawing
-abbrev pub view_runs : View → DrawingRuns → ViewRuns
-view_runs Front d = d.front
-view_runs Top d = d.top
-view_runs Side d = d.side
+abbrev pub DrawingRuns : Type 0
+DrawingRuns = PerView ViewRuns
 
 -- the level or the upright ones
 abbrev pub runs_along : Bool → ViewRuns → List Run
@@ -61,7 +54,7 @@ runs_along upright v = if upright then v.upright else v.level
 
 -- the style that a drawing gives a segment
 abbrev pub style_in : DrawingRuns → Segment → Style
-style_in d g = run_style (runs_along g.upright (view_runs g.view d)) (line_of g) (start_of g)
+style_in d g = run_style (runs_along g.upright (of_view g.view d)) (line_of g) (start_of g)
 
 -- ---- what a drawing keeps
 

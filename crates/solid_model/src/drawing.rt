@@ -57,11 +57,12 @@ impl Model for Drawing {
 
 impl Drawing {
     ghost use Rattle.std.specs.Prelude.{◌≡◌};
-    ghost use Rattle.solid_model.specs.Runs.{IsDrawing, style_in, view_runs};
+    ghost use Rattle.solid_model.specs.Runs.{IsDrawing, style_in};
+    ghost use Rattle.solid_model.specs.PerView.{of_view};
 
     /// A view of the drawing.
     pub fn view(&self, view: View) -> &ViewLines
-        ensures same { result.now ≡ view_runs view self.now }
+        ensures same { result.now ≡ of_view view self.now }
         ensures kept { IsDrawing (style_in self.now) }
     {
         match view {

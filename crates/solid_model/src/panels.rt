@@ -78,11 +78,11 @@ impl Model for Panels {
 
 impl Panels {
     ghost use Rattle.std.specs.Prelude.{◌≡◌, ◌↔◌, IsTrue};
-    ghost use Rattle.solid_model.specs.Panels.{panel_of};
+    ghost use Rattle.solid_model.specs.PerView.{of_view};
 
     /// The styles of a view's segments.
     pub fn view(&self, view: View) -> &Panel
-        ensures { result.now ≡ panel_of view self.now }
+        ensures { result.now ≡ of_view view self.now }
     {
         match view {
             View::Front => &self.front,

@@ -1,6 +1,6 @@
 //! Boxes of cells, as rows tell them.
 
-ghost use Rattle.std.specs.Prelude.{◌≤◌};
+ghost use Rattle.std.specs.Prelude.{◌≡◌, ◌≤◌, IfOk};
 ghost use Rattle.solid_model.specs.declared.cell.Axis.{Axis};
 ghost use Rattle.solid_model.specs.Limits.{most_grid_coordinates};
 ghost use Rattle.solid_model.specs.PerAxis.{numbers_of};
@@ -44,6 +44,7 @@ pub fn cells(alloc: Global, text: &str) -> Result<Vec<bool>, Fail> {
 /// The rows of the chosen cells of a box of these sizes.
 pub fn rows_of(alloc: Global, sizes: PerAxis, text: &str) -> Result<CellRows, Fail>
     requires { (a : Axis) → numbers_of sizes a ≤ 63 }
+    ensures { IfOk result (λ rows. rows.sizes ≡ sizes) }
 {
     let cells = cells(alloc, text)?;
     if cells.len() != sizes.count() {

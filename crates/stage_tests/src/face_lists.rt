@@ -1,8 +1,9 @@
 //! Solids whose faces were found by hand.
 
-use crate::cells::{numbers, rows_of};
-use faces::counted_faces;
-use solid_model::{Face, Loop, Out};
+use crate::cells::{cells, numbers, rows_of};
+use crate::surfaces::problem_at;
+use faces::{counted_faces, faces_of_rows, faces_of_solid};
+use solid_model::{Face, Grid, Loop, Out};
 use std::alloc::Global;
 use std::fmt::Write;
 use std::test::Fail;
@@ -58,12 +59,10 @@ fn tell_face(face: &Face, told: &mut String) -> Result<(), Fail> {
     Ok(())
 }
 
-/// All faces of a row's cells, as the row has them.
-fn told_faces(alloc: Global, row: Row<'_>) -> Result<String, Fail> {
-    let [sizes, cells, ..] = row.parts;
-    let cells = rows_of(alloc, numbers(sizes), cells)?;
+/// Faces, as a row has them.
+fn told_list(alloc: Global, faces: &[Face]) -> Result<String, Fail> {
     let mut told = String::new(alloc);
-    for face in &counted_faces(alloc, &cells)? {
+    for face in faces {
         if !told.is_empty() {
             told.push_str(", ")?;
         }
@@ -72,11 +71,60 @@ fn told_faces(alloc: Global, row: Row<'_>) -> Result<String, Fail> {
     Ok(told)
 }
 
+/// All faces of a row's cells, as the row has them.
+fn told_faces(alloc: Global, row: Row<'_>) -> Result<String, Fail> {
+    let [sizes, cells, ..] = row.parts;
+    let rows = rows_of(alloc, numbers(sizes), cells)?;
+    let faces = counted_faces(alloc, &rows)?;
+    told_list(alloc, faces.as_slice())
+}
+
 #[test]
 fn faces_are_those_found_by_hand(rt: HostRuntime) -> Result<(), Fail> {
     for line in SOLIDS.lines() {
         let row = row_of(line);
         assert_eq!(rt; told_faces(rt.alloc(), row)?.as_str(), row.wanted, "{line}");
+    }
+    Ok(())
+}
+
+/// Strokes of three views, the cells of their grid that a solid fills, and its faces, as above. It
+/// is a hollow cube.
+const DRAWN: &str = "\
+rect S 0 0 3 3, rect D 1 1 2 2; rect S 0 0 3 3, rect D 1 1 2 2; rect S 0 0 3 3, rect D 1 1 2 2; \
+    ######### ####.#### ######### -> -x0 000 003 033 030, -x2 211 212 222 221, \
+    +x1 111 121 122 112, +x3 300 330 333 303, -y0 000 300 303 003, -y2 121 221 222 122, \
+    +y1 111 112 212 211, +y3 030 033 333 330, -z0 000 030 330 300, -z2 112 122 222 212, \
+    +z1 111 211 221 121, +z3 003 303 333 033";
+
+/// The faces of cells of a grid, found cell by cell.
+fn by_cells(alloc: Global, grid: &Grid, filled: &str) -> Result<Vec<Face>, Fail> {
+    let filled = cells(alloc, filled)?;
+    if filled.len() != grid.sizes().count() {
+        return Err(Fail::new("as many cells as the grid has"));
+    }
+    Ok(faces_of_solid(alloc, grid, filled.as_slice())?)
+}
+
+/// The faces of a row's solid, as the row has them, if they are found alike by rows and by cells.
+fn told_solid(alloc: Global, row: Row<'_>) -> Result<String, Fail> {
+    let [_, _, _, filled, _] = row.parts;
+    let problem = problem_at(alloc, row.views())?;
+    let rows = rows_of(alloc, problem.grid().sizes(), filled)?;
+    let faces = faces_of_rows(alloc, problem.grid(), &rows)?;
+    let told = told_list(alloc, faces.as_slice())?;
+    let other = by_cells(alloc, problem.grid(), filled)?;
+    if told.as_str() != told_list(alloc, other.as_slice())?.as_str() {
+        return Err(Fail::new("other faces by cells"));
+    }
+    Ok(told)
+}
+
+#[test]
+fn faces_of_drawn_solids_are_those_found_by_hand(rt: HostRuntime) -> Result<(), Fail> {
+    for line in DRAWN.lines() {
+        let row = row_of(line);
+        assert_eq!(rt; told_solid(rt.alloc(), row)?.as_str(), row.wanted, "{line}");
     }
     Ok(())
 }

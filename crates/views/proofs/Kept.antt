@@ -7,7 +7,8 @@ use Rattle.solid_model.specs.Segments.{start_of, line_of}
 use Rattle.solid_model.specs.Drawings.{covering_lines, drawing_of, IsEmptyView}
 use Rattle.solid_model.specs.Line.{Line, IsKept}
 use Rattle.lemmas.specs.Lists.{Each}
-use Rattle.solid_model.specs.Runs.{run_style, ViewRuns, DrawingRuns, view_runs, runs_along, style_in, IsDrawing}
+use Rattle.solid_model.specs.Runs.{run_style, ViewRuns, DrawingRuns, runs_along, style_in, IsDrawing}
+use Rattle.solid_model.specs.PerView.{of_view}
 use Rattle.solid_model.proofs.KeptDrawings.{lines_are_drawing}
 use Rattle.solid_model.proofs.Sheets.{empty-without_lines}
 
@@ -22,7 +23,7 @@ pub views_draw : (ls : List Line) (d : DrawingRuns) → DrawsView ls Front d.fro
     → (g : Segment) → style_in d g ≡ drawing_of ls g
 views_draw ls d front top side g = by g.view refl
   where
-    by : (v : View) → g.view ≡ v → run_style (runs_along g.upright (view_runs v d)) (line_of g) (start_of g) ≡ drawing_of ls g
+    by : (v : View) → g.view ≡ v → run_style (runs_along g.upright (of_view v d)) (line_of g) (start_of g) ≡ drawing_of ls g
     by Front e = front g e
     by Top e = top g e
     by Side e = side g e
