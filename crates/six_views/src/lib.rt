@@ -7,6 +7,7 @@
 mod extra;
 mod fitting;
 mod further;
+mod further_sieve;
 mod laws;
 mod moved;
 mod seen;
@@ -15,6 +16,7 @@ mod sieve;
 pub use extra::{Extra, frame_of, seen_as};
 pub use fitting::fits;
 pub use further::Further;
+pub use further_sieve::FurtherSieve;
 pub use laws::{
     fitting_choices_fill_the_fitting_solids, further_views_are_views_of_the_turned_solid,
     small_further_views, without_further_views_all_matching_solids_fit,
