@@ -56,7 +56,7 @@ impl ColumnSet {
 }
 
 /// How many coordinates the grid has along each axis.
-fn counts_of(grid: &Grid) -> PerAxis
+pub fn counts_of(grid: &Grid) -> PerAxis
     ensures counts { HasCounts (numbers_of result) (coordinates_of grid.now) }
     ensures few { (a : Axis) → numbers_of result a ≤ most_grid_coordinates }
 {

@@ -6,4 +6,6 @@ mod draw;
 mod grid_columns;
 mod segment_styles;
 
-pub use draw::{ColumnSet, columns_in, columns_of, draw_cells, draw_in};
+pub use draw::{ColumnSet, columns_in, columns_of, counts_of, draw_cells, draw_in};
+pub use grid_columns::view_columns;
+pub use segment_styles::styles_along;

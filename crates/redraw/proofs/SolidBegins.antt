@@ -40,13 +40,13 @@ module _ (s : List Cell) (v : View) where
   draws_its_drawing g of = subst (λ w. Draws (frame_of w) (is_full s) g (solid_drawing s g)) of (drawn_style_drawn (frame_of g.view) (views_are_frames g.view) s g)
 
   -- an outermost edge is drawn
-  outermost_drawn : (upright : Bool) (o : IsOutermost f s v upright Least) → solid_drawing s (segment_at v upright o.start o.line) ≢ Blank
+  pub outermost_drawn : (upright : Bool) (o : IsOutermost f s v upright Least) → solid_drawing s (segment_at v upright o.start o.line) ≢ Blank
   outermost_drawn upright o =
       let g : Segment = segment_at v upright o.start o.line in
       edge_not_blank f (is_full s) g (solid_drawing s g) (draws_its_drawing g refl) o.depth o.edge
 
   -- where a cell is full, the view begins beside the first cells to the right and upwards
-  begins_beside : (left : IsOutermost f s v true Least) (bottom : IsOutermost f s v false Least) → BeginsAt (solid_drawing s) v left.line bottom.line
+  pub begins_beside : (left : IsOutermost f s v true Least) (bottom : IsOutermost f s v false Least) → BeginsAt (solid_drawing s) v left.line bottom.line
   begins_beside left bottom = record {
     stands_from = λ g of drawn.
         let b = cell_beside_drawn f is (is_full s) g (solid_drawing s g) (draws_its_drawing g of) drawn in

@@ -12,3 +12,4 @@ pub use laws::{
     matching_solids_have_one_file, no_solid_lacks_a_file, one_written_file, sheet_lines_are_few,
     sheet_lines_draw_the_solid, small_file,
 };
+pub use runs::runs_on;

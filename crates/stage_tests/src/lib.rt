@@ -15,6 +15,8 @@ mod drawn_columns;
 #[cfg(test)]
 mod face_lists;
 #[cfg(test)]
+mod further_views;
+#[cfg(test)]
 mod graphs;
 #[cfg(test)]
 mod grids;

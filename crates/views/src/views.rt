@@ -1,11 +1,11 @@
 //! The drawing of a file's lines.
 
-ghost use Rattle.std.specs.Prelude.{◌≡◌, ◌≢◌, [], IfOk, OnOk, IsErrOf};
+ghost use Rattle.std.specs.Prelude.{◌≡◌, ◌≢◌, [], IfOk, IfSome, MatchOption, OnOk, IsErrOf};
 ghost use Rattle.solid_model.specs.declared.fault.Fault.{Fault};
 ghost use Rattle.solid_model.specs.declared.frame.View.{View};
 ghost use Rattle.solid_model.specs.declared.segment.Segment.{Segment};
 ghost use Rattle.solid_model.specs.Segments.{start_of, line_of};
-ghost use Rattle.solid_model.specs.Drawings.{sheet_style, covering_lines, drawing_of, IsShown, IsFirstEmptyView};
+ghost use Rattle.solid_model.specs.Drawings.{sheet_style, covering_lines, drawing_of, IsEmptyView, IsShown, IsFirstEmptyView};
 ghost use Rattle.solid_model.specs.Line.{IsKept};
 ghost use Rattle.lemmas.specs.Lists.{Each};
 ghost use Rattle.solid_model.specs.Runs.{run_style, runs_along, style_in};
@@ -14,7 +14,7 @@ ghost use Rattle.views.specs.Corners.{from_corner};
 use crate::corner::Corner;
 use crate::strokes::strokes_in_order;
 use crate::sweep::runs_of;
-use solid_model::{Drawing, Fault, Refused, Runs, SheetLine, View, ViewLines};
+use solid_model::{Drawing, Fault, Memory, Refused, Runs, SheetLine, View, ViewLines};
 use std::alloc::{AllocError, Global};
 
 /// The level or the upright runs of a view whose corner comes to 0.
@@ -30,6 +30,28 @@ fn runs_along(
 {
     let strokes = strokes_in_order(alloc, lines, view, upright, corner)?;
     Ok(Runs::new(runs_of(alloc, &strokes)?))
+}
+
+/// The runs of one view of these lines, shifted so that its least right and its least up coordinate
+/// are 0, as [`drawing`] has them; `None` exactly where no line covers anything of it. An `Err` is
+/// out of memory.
+pub fn view_of(
+    alloc: Global,
+    lines: &[SheetLine],
+    view: View,
+) -> Result<Option<ViewLines>, Memory>
+    ensures drawn { IfOk result (λ shown. IfSome shown (λ runs. (g : Segment) → g.view ≡ view
+        → run_style (runs_along g.upright runs) (line_of g) (start_of g)
+        ≡ drawing_of lines.now g)) }
+    ensures shown { IfOk result (λ shown. MatchOption shown (IsEmptyView lines.now view)
+        (λ runs. IsEmptyView lines.now view → ⊥)) }
+{
+    let Some(corner) = Corner::of_view(view, lines) else {
+        return Ok(None);
+    };
+    let level = runs_along(alloc, lines, view, false, corner)?;
+    let upright = runs_along(alloc, lines, view, true, corner)?;
+    Ok(Some(ViewLines { level, upright }))
 }
 
 /// The runs of a view, shifted so that they begin at 0.

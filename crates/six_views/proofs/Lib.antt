@@ -1,0 +1,12 @@
+pub mod Turned
+pub mod TurnedGrid
+pub mod TurnedColumns
+pub mod Those
+pub mod FittingSolids
+pub mod MovedRuns
+pub mod SeenTurned
+pub mod SeenRuns
+pub mod FirstRuns
+pub mod ShownRuns
+pub mod FitsDecided
+pub mod Sifted
