@@ -124,7 +124,11 @@ fn fitting_in(alloc: Global, row: Row<'_>) -> Result<String, Fail> {
 fn solids_fit_their_further_views_alone(rt: HostRuntime) -> Result<(), Fail> {
     for line in FURTHER.lines() {
         let row = row_of(line);
-        assert_eq!(rt; fitting_in(rt.alloc(), row)?.as_str().trim_start(), row.wanted, "{line}");
+        assert_eq!(rt;
+            fitting_in(rt.alloc(), row)?.as_str().trim_start(),
+            row.wanted,
+            "{line}"
+        );
     }
     Ok(())
 }

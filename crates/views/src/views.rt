@@ -35,11 +35,7 @@ fn runs_along(
 /// The runs of one view of these lines, shifted so that its least right and its least up coordinate
 /// are 0, as [`drawing`] has them; `None` exactly where no line covers anything of it. An `Err` is
 /// out of memory.
-pub fn view_of(
-    alloc: Global,
-    lines: &[SheetLine],
-    view: View,
-) -> Result<Option<ViewLines>, Memory>
+pub fn view_of(alloc: Global, lines: &[SheetLine], view: View) -> Result<Option<ViewLines>, Memory>
     ensures drawn { IfOk result (λ shown. IfSome shown (λ runs. (g : Segment) → g.view ≡ view
         → run_style (runs_along g.upright runs) (line_of g) (start_of g)
         ≡ drawing_of lines.now g)) }
