@@ -105,9 +105,32 @@ fn bytes_from(text: Vec<u8>, place: usize) -> Vec<u8>
     bytes
 }
 
-/// The grid and the blocks of the drawing of a text whose coordinates have no decimals, and the
-/// bytes behind the line of its end pair's value; or the text's first fault, which is never that it
-/// is too long. The text has at most 134,217,728 bytes. Memory comes when out of memory.
+/// The grid and the blocks of the drawing of a text whose coordinates have so many decimals, and the
+/// bytes behind the line of its end pair's value; or the text's first fault. The text has at most
+/// 134,217,728 bytes, and there are at most 6 decimals. Memory comes when out of memory.
+pub fn problem_with_rest(
+    alloc: Global,
+    text: Vec<u8>,
+    decimals: u8,
+) -> Result<(Problem, Vec<u8>), Refused>
+    requires short { length text.items ≤ most_text_bytes }
+    requires decimals { decimals ≤ most_decimals }
+    ensures problem { (most : ℕ) → length text.items ≤ most → IfOk result (λ found. HasProblem
+        (record { bytes = text.items; decimals = decimals; most = most }) found.0) }
+    ensures rest { IfOk result (λ found. rest_of_text text.items ≡ Some found.1.items) }
+    ensures few { IfOk result (λ found. length found.1.items ≤ most_text_bytes) }
+    ensures fault { (most : ℕ) → length text.items ≤ most
+        → (fault : Fault) → IsErrOf result (refused.Fault fault)
+        → IsFileFault (record { bytes = text.items; decimals = decimals; most = most }) fault }
+{
+    let mut groups = Groups::new(text);
+    let problem = read(alloc, &mut groups, decimals)?;
+    let place = groups.after_end().unwrap();
+    let rest = bytes_from(groups.into_text(), place);
+    Ok((problem, rest))
+}
+
+/// The same where coordinates have no decimals; it is never a fault that the text is too long.
 pub fn problem_and_rest(alloc: Global, text: Vec<u8>) -> Result<(Problem, Vec<u8>), Refused>
     requires { length text.items ≤ most_text_bytes }
     ensures problem { IfOk result (λ found. HasProblem
@@ -117,9 +140,5 @@ pub fn problem_and_rest(alloc: Global, text: Vec<u8>) -> Result<(Problem, Vec<u8
         → IsFileFault (record { bytes = text.items; decimals = 0; most = most_text_bytes }) fault }
     ensures not_long { IsErrOf result (refused.Fault TooLong) → ⊥ }
 {
-    let mut groups = Groups::new(text);
-    let problem = read(alloc, &mut groups, 0)?;
-    let place = groups.after_end().unwrap();
-    let rest = bytes_from(groups.into_text(), place);
-    Ok((problem, rest))
+    problem_with_rest(alloc, text, 0)
 }

@@ -4,9 +4,9 @@ use Rattle.std.proofs.lemmas.List.{append-nil}
 use Rattle.face_laws.proofs.SomeFaces.{some_faces}
 use Rattle.file_problem.specs.Inputs.{Input}
 use Rattle.replies.specs.declared.status.Answer.{Answer}
-use Rattle.recon_run.specs.Answers.{BeginsToList, CanEnd, ListsSolids, TellsSolids, head_of}
+use Rattle.recon_run.specs.Answers.{BeginsToList, CanEnd, ListsSolids, TellsChecked, TellsSolids, head_of}
 use Rattle.recon_run.specs.Endings.{owed_to}
-use Rattle.recon_run.specs.Owed.{AnswersOwed, BeginsOwed, Judgement, Owed, Search, alone, input_of, judgement_of, owed, read, search_for_all, search_for_one, searched}
+use Rattle.recon_run.specs.Owed.{AnswersOwed, BeginsOwed, Judgement, Owed, Search, alone, input_of, judgement_of, owed, read, search_for_all, search_for_log, search_for_one, searched}
 use Rattle.recon_run.specs.Pages.{Page, pages_text}
 use Rattle.report.specs.Texts.{page_text, solid_text}
 use Rattle.redraw.specs.Files.{IsFileOf}
@@ -113,6 +113,9 @@ on_owed : (said : Option Job) → OwesOn (owed said)
 on_owed (Some (job.Solve workers limits pages decimals)) = search_goes_on (search_for_all pages limits) (listing_goes_on pages limits)
 on_owed (Some (job.Redraw which workers limits decimals)) = search_goes_on (search_for_one IsFileOf which limits) (piece_goes_on IsFileOf which limits)
 on_owed (Some (job.Stl which workers limits)) = search_goes_on (search_for_one (λ _. IsSolidStl) which limits) (piece_goes_on (λ _. IsSolidStl) which limits)
+on_owed (Some (job.Prove workers limits)) =
+    search_goes_on (search_for_log limits) (λ t kind c text. whole_goes_on ((search_for_log limits).tells t kind c) text)
+on_owed (Some job.Check) = λ t answer text told never. whole_goes_on (TellsChecked t answer) text told (never answer)
 on_owed (Some (job.Make n)) = tt
 on_owed (Some (job.Trial n workers)) = tt
 on_owed None = tt

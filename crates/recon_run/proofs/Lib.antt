@@ -13,3 +13,7 @@ pub mod OneSolid
 pub mod PossibleEnds
 pub mod Paged
 pub mod Searching
+pub mod Verdicts
+pub mod FewMatching
+pub mod OnePiece
+pub mod Checked

@@ -7,12 +7,13 @@ use Rattle.std.specs.List.{slice_get}
 use Rattle.drawing_maker.specs.Made.{made_solid}
 use Rattle.replies.specs.declared.status.Answer.{Answer}
 use Rattle.file_problem.specs.Inputs.{Input}
-use Rattle.recon_run.specs.Answers.{node_count, CanEnd, TellsNumbered, TellsSolids, IsTried, first_volume, made_drawing}
+use Rattle.recon_run.specs.Answers.{node_count, CanEnd, IsSomeLog, TellsNumbered, TellsSolids, IsTried, first_volume, made_drawing}
 use Rattle.recon_run.specs.Endings.{Answers, AreAlike, LeavesOpen, owed_to}
-use Rattle.recon_run.specs.Owed.{AnswersInput, AnswersOwed, IsCut, Judgement, Owed, Search, alone, answer_at, input_of, judgement_of, owed, read, search_for_all, search_for_one, searched}
+use Rattle.recon_run.specs.Owed.{AnswersInput, AnswersOwed, IsCut, Judgement, Owed, Search, alone, answer_at, input_of, judgement_of, owed, read, search_for_all, search_for_log, search_for_one, searched}
 use Rattle.recon_run.specs.Pages.{ArePagesOf, Page, SameButPages, choices_on, pages_text}
 use Rattle.file_problem.proofs.Faults.{one_fault}
 use Rattle.file_problem.proofs.Grids.{one_grid}
+use Rattle.recon_run.proofs.Checked.{one_checked}
 use Rattle.recon_run.proofs.OneEnd.{kept_or_passed, one_count, one_head, one_solids}
 use Rattle.file_problem.proofs.Problems.{one_blocks, one_problem}
 use Rattle.report.specs.FaultText.{fault_text}
@@ -24,6 +25,7 @@ use Rattle.stl_out.proofs.SolidTexts.{one_text}
 use Rattle.solid_model.specs.declared.cell.Cell.{Cell}
 use Rattle.solid_model.specs.declared.ended.EndKind.{EndKind}
 use Rattle.solid_model.specs.declared.ended.EndKind.TheVariants.{Whole, CutNodes, CutSolids}
+use Rattle.solid_model.specs.Blocks.{ProblemParts}
 use Rattle.solid_model.specs.Cells.{is_full}
 use Rattle.solid_model.specs.Choices.{AreSolidsOfChoices}
 use Rattle.solid_model.specs.Drawings.{drawing_of}
@@ -109,6 +111,11 @@ one_numbered writes one which limits t c d text other = by
         let within = slice_get_within d.solids (which - 1) s at in let many = one_count limits t Whole Whole c d in absurd (omega arith)
     by (inr (fewer, told)) (inr (fewer_too, told_too)) = told ∙ ap (no_solid_text which) (one_count limits t Whole Whole c d) ∙ sym told_too
 
+-- all logs of an input count as one text
+one_logs : (limits : SearchLimits) → TellsOne (search_for_log limits)
+one_logs limits t c d text other log log_too =
+    inr (c.problem, c.has, log, subst (λ (p : ProblemParts). IsSomeLog p other) (sym (one_problem c.has d.has).problem) log_too)
+
 -- a number has one file
 pub one_made_file : (n : ℕ) (text other : List ℕ) → IsFileOf 0 (made_solid n) text → IsFileOf 0 (made_solid n) other → text ≡ other
 one_made_file n text other = one_file (made_solid n) (made_solid n) (λ g. refl) 0 text other
@@ -186,6 +193,11 @@ one_owed (Some (job.Redraw which workers limits decimals)) =
     one_search (search_for_one IsFileOf which limits) (λ t text other is. is) (one_numbered IsFileOf (λ d s. one_file s s (λ g. refl) d) which limits)
 one_owed (Some (job.Stl which workers limits)) =
     one_search (search_for_one (λ _. IsSolidStl) which limits) (λ t text other is. is) (one_numbered (λ _. IsSolidStl) (λ d. one_text) which limits)
+one_owed (Some (job.Prove workers limits)) = one_search (search_for_log limits) (λ t text other is. inl is) (one_logs limits)
+one_owed (Some job.Check) = (
+  λ t text other is. is,
+  λ t a b text other told told_too. let one = one_checked t a b text other told told_too in (inl one.0, λ none. one.1),
+)
 one_owed (Some (job.Make n)) = one_made_file n
 one_owed (Some (job.Trial n workers)) = one_figures n
 one_owed None = λ text other is is_too. is ∙ sym is_too

@@ -4,20 +4,15 @@ use Rattle.std.specs.List.{slice_get}
 use Rattle.file_problem.specs.Inputs.{HasProblem, Input}
 use Rattle.replies.specs.declared.status.Answer.{Answer}
 use Rattle.replies.specs.declared.status.Answer.TheVariants as answers
-use Rattle.replies.specs.Status.{end_answer}
-use Rattle.recon_run.specs.Answers.{CanEnd, head_of, numbered_answer}
+use Rattle.recon_run.specs.Answers.{TellsNumbered, numbered_answer}
 use Rattle.recon_run.specs.Owed.{IsAnEnd, search_for_one}
-use Rattle.recon_run.specs.Searched.{AnswersNumbered, FillSolids, IsSearchOf, SearchedParts, search_head}
+use Rattle.recon_run.specs.Searched.{AnswersNumbered, FillSolids, IsSearchOf, SearchedParts}
 use Rattle.recon_run.proofs.Filled.{filled_at, filled_count}
-use Rattle.recon_run.proofs.Searching.{searched_end, searched_listing, searched_problem}
-use Rattle.recon_run.proofs.Solved.{whole_listing}
+use Rattle.recon_run.proofs.OnePiece.{whole_listed}
 use Rattle.solid_model.specs.declared.cell.Cell.{Cell}
-use Rattle.solid_model.specs.declared.ended.EndKind.{EndKind}
-use Rattle.solid_model.specs.declared.ended.EndKind.TheVariants.{Whole, CutNodes, CutSolids}
+use Rattle.solid_model.specs.declared.ended.EndKind.TheVariants.{Whole}
 use Rattle.solid_model.specs.Blocks.{ProblemParts}
-use Rattle.solid_model.specs.Forcing.{is_live}
 use Rattle.solid_model.specs.Search.{SearchLimits}
-use Rattle.solid_model.specs.SearchEnds.{EndsAs}
 
 -- where a number isn't above that of the solids, the answer is that all is done,
 numbered_done : (which solids : ℕ) → which ≤ solids → answers.Done ≡ numbered_answer which solids
@@ -41,28 +36,11 @@ module _ (writes : ℕ → List Cell → List ℕ → Type 0) (which : ℕ) (lim
   abbrev Tells : Answer → List ℕ → Type 0
   Tells = IsAnEnd (search_for_one writes which limits) (search_for_one writes which limits).tells t
 
-  -- the answer to a whole search is that of the solid of the number,
-  at_whole : (p : ProblemParts) (has : HasProblem t p) (opened : ℕ) (choices : List (List Bool)) → EndsAs (is_live p) p.blocks.count limits Whole opened choices
-      → (solids : List (List Cell)) × FillSolids p choices solids × ((answer : Answer) (text : List ℕ) → AnswersNumbered (writes t.decimals) which solids answer text → Tells answer text)
-  at_whole p has opened choices ends =
-      let is = whole_listing limits t p has opened choices ends in
-      (is.can.solids, is.filled, λ answer text told. (Whole, is.can, told.0, told.1))
-
-  -- and that to a cut one how it ended
-  at_cut : (kind : EndKind) → (kind ≡ Whole → ⊥) → (c : CanEnd limits t kind) (answer : Answer) (text : List ℕ) → answer ≡ end_answer kind → text ≡ head_of c → Tells answer text
-  at_cut Whole cut c answer text is told = absurd (cut refl)
-  at_cut CutNodes cut c answer text is told = (CutNodes, c, is, told)
-  at_cut CutSolids cut c answer text is told = (CutSolids, c, is, told)
-
   module _ (p : ProblemParts) (has : HasProblem t p) (s : SearchedParts) (is_of : IsSearchOf limits p s) where
+    -- the answer to a whole search is that of the solid of the number
     pub whole_told : s.ended.kind ≡ Whole
         → (solids : List (List Cell)) × FillSolids s.problem s.ended.solids solids
         × ((answer : Answer) (text : List ℕ) → AnswersNumbered (writes t.decimals) which solids answer text → Tells answer text)
-    whole_told whole = at_whole s.problem (searched_problem limits t p has s is_of) s.ended.opened s.ended.solids
-        (subst (λ k. EndsAs (is_live s.problem) s.problem.blocks.count limits k s.ended.opened s.ended.solids) whole (searched_end limits t p has s is_of))
-
-    pub cut_told : (kind : EndKind) → s.ended.kind ≡ kind → (kind ≡ Whole → ⊥) → (answer : Answer) (text : List ℕ) → answer ≡ end_answer kind → text ≡ search_head limits s
-        → Tells answer text
-    cut_told kind same cut answer text is told =
-        let (solids, listed) = searched_listing limits t p has s is_of in
-        at_cut s.ended.kind (λ whole. cut (sym same ∙ whole)) listed.can answer text (is ∙ ap end_answer (sym same)) (told ∙ listed.head)
+    whole_told whole =
+        let is = whole_listed limits (λ t. numbered_answer which) (λ t c. TellsNumbered (writes t.decimals) which c.solids) (λ t text other. text ≡ other) t p has s is_of whole in
+        (is.can.solids, is.filled, λ answer text told. (Whole, is.can, told.0, told.1))

@@ -1,15 +1,11 @@
 -- What is found in a source.
 use Rattle.std.proofs.Common.{◌≤◌, ◌+◌, ℕ, List, [], length, replicate, Option, Some, None, refl, sym, inl, inr, arith}
 use Rattle.std.proofs.lemmas.List.{length-replicate}
-use Rattle.file_problem.specs.Inputs.{HasProblem, IsFileFault}
 use Rattle.recon_run.specs.declared.found.Found.{Found}
 use Rattle.recon_run.specs.declared.found.Found.TheVariants.{Fault}
-use Rattle.recon_run.specs.Owed.{HasRead, ProfileParts, drawing_profile, input_of}
+use Rattle.recon_run.specs.Owed.{HasRead, ProfileParts, input_of}
 use Rattle.recon_run.specs.Searched.{IsFoundIn}
-use Rattle.solid_model.specs.declared.fault.Fault as faults
 use Rattle.solid_model.specs.declared.fault.Fault.TheVariants.{TooLong}
-use Rattle.solid_model.specs.Blocks.{ProblemParts}
-use Rattle.solid_model.specs.Limits.{most_file_bytes}
 use Rattle.tv_base.specs.Pieces.{ReadsAll, ReadsPast, ReadsWithin}
 
 -- where nothing is read, any bound is kept
@@ -18,23 +14,6 @@ reads_nothing None limit = ([], omega arith, tt)
 reads_nothing (Some bytes) limit = ([], omega arith, refl)
 
 module _ (profile : ProfileParts) (file : List ℕ) (short : length file ≤ profile.most) where
-  -- a drawing that isn't longer than an input may be is that input
-  pub problem_within : (p : ProblemParts) → HasProblem (input_of (drawing_profile profile.decimals) file) p → HasProblem (input_of profile file) p
-  problem_within p has = record {
-    short = short;
-    lines = has.lines;
-    reads = has.reads;
-    shown = has.shown;
-    grid = has.grid;
-    blocks = has.blocks;
-    few = has.few;
-  }
-
-  pub fault_within : profile.most ≤ most_file_bytes → (fault : faults.Fault) → IsFileFault (input_of (drawing_profile profile.decimals) file) fault
-      → IsFileFault (input_of profile file) fault
-  fault_within few fault (inl (long, is)) = absurd (omega (arith, short, few, long))
-  fault_within few fault (inr (kept, after)) = inr (short, after)
-
   -- all that was left was read, and what is found in it is found in what was left
   pub found_source : (left rest : Option (List ℕ)) (found : Found) → ReadsAll left rest file → IsFoundIn (input_of profile file) found
       → (t : List ℕ) × HasRead profile.most left rest t × IsFoundIn (input_of profile t) found

@@ -1,18 +1,23 @@
 -- Words and an input never lack a right answer.
-use Rattle.std.proofs.Common.{◌≡◌, refl, inl, inr, ⊎_elim, Bool, true, false, ℕ, ◌+◌, ◌-◌, ◌<◌, ◌≤◌, List, [], ◌∷◌, length, drop, Option, Some, None, Result, Ok, Err, ℤ, sym, ap, ◌∙◌, arith}
+use Rattle.std.proofs.Common.{◌≡◌, refl, inl, inr, ⊎_elim, Bool, true, false, ℕ, ◌+◌, ◌-◌, ◌<◌, ◌≤◌, List, [], ◌∷◌, length, drop, Option, Some, None, Result, Ok, Err, ℤ, sym, ap, subst, ◌∙◌, arith}
 use Rattle.std.proofs.lemmas.Bool.{cases_lt}
 use Rattle.dxf_entities.specs.Reading.{read_of}
 use Rattle.dxf_entities.proofs.KeptLines.{read_lines_are_kept}
 use Rattle.replies.specs.declared.status.Answer.{Answer}
 use Rattle.replies.specs.declared.status.Answer.TheVariants as answers
 use Rattle.file_problem.specs.Inputs.{HasNoFault, HasProblem, Input, IsFaultAfter, IsFileFault}
-use Rattle.recon_run.specs.Answers.{usage_text, CanEnd, IsTried, TellsNumbered, head_of, numbered_answer}
+use Rattle.recon_run.specs.Answers.{usage_text, AreSomeLogs, CanEnd, IsSomeLog, IsTried, TellsNumbered, head_of, numbered_answer}
 use Rattle.solid_model.specs.Search.{default_limits, SearchLimits}
 use Rattle.recon_run.specs.Endings.{Answers}
-use Rattle.recon_run.specs.Owed.{AnswersOwed, HasRead, Judgement, Owed, Search, alone, answer_at, drawing_profile, in_one_piece, input_of, judgement_of, owed, owed_for, read, search_for_all, search_for_one, searched}
+use Rattle.recon_run.specs.Owed.{AnswersOwed, HasRead, Judgement, Owed, Search, alone, answer_at, drawing_profile, in_one_piece, input_of, judgement_of, owed, owed_for, read, search_for_all, search_for_log, search_for_one, searched}
 use Rattle.recon_run.specs.Searched.{FillSolids}
 use Rattle.recon_run.proofs.Filled.{filled_at, some_first}
 use Rattle.file_problem.proofs.Faults.{file_fault}
+use Rattle.file_problem.proofs.Problems.{problem_drawing}
+use Rattle.completeness_logs.specs.LogTexts.{IsLog}
+use Rattle.proof_log.proofs.Begun.{some_log}
+use Rattle.recon_run.proofs.Checked.{some_checked}
+use Rattle.recon_run.proofs.FewMatching.{few_matching}
 use Rattle.recon_run.proofs.PossibleEnds.{can_list}
 use Rattle.recon_run.proofs.Solved.{IsWholeListing, listing, matching, some_listing, whole_listing}
 use Rattle.report.specs.FaultText.{fault_text}
@@ -32,9 +37,9 @@ use Rattle.solid_model.specs.Choices.{cells_of_choice}
 use Rattle.solid_model.specs.Forcing.{is_live}
 use Rattle.solid_model.specs.Drawings.{drawing_of, IsShown, IsEmptyView, IsFirstEmptyView}
 use Rattle.solid_model.specs.Grid.{Coordinates, AreGridCoordinates, IsFineEnough, IsFirstTooFine}
-use Rattle.solid_model.specs.Limits.{most_blocks, most_grid_coordinates}
+use Rattle.solid_model.specs.Limits.{most_blocks, most_grid_coordinates, most_solid_limit}
 use Rattle.solid_model.specs.Line.{Line}
-use Rattle.solid_model.specs.Panels.{PanelStyles, GridParts, coordinates_of, grid_styles, AreGridStyles, IsGridOf}
+use Rattle.solid_model.specs.Panels.{PanelStyles, GridParts, coordinates_of, grid_styles, AreGridStyles, IsGrid, IsGridOf}
 use Rattle.solid_model.specs.PerAxis.{numbers_of}
 use Rattle.solid_model.specs.Runs.{IsDrawing}
 use Rattle.solid_model.specs.SearchEnds.{EndsAs}
@@ -209,10 +214,11 @@ TellsSome s = (t : Input) (p : ProblemParts) → HasProblem t p → (kind : EndK
 -- nor one of a search that answers in one piece, if no whole one lacks its text
 some_in_one_piece : (limits : SearchLimits) (whole : Input → ℕ → Answer) (tells : (t : Input) → CanEnd limits t Whole → List ℕ → Type 0)
     (alike : Input → List ℕ → List ℕ → Type 0) → ((t : Input) (p : ProblemParts) (has : HasProblem t p) (opened : ℕ) (choices : List (List Bool))
-    (is : IsWholeListing limits t p has opened choices) → ((text : List ℕ) → tells t is.can text → ⊥) → ⊥)
+    (ends : EndsAs (is_live p) p.blocks.count limits Whole opened choices) (is : IsWholeListing limits t p has opened choices)
+    → ((text : List ℕ) → tells t is.can text → ⊥) → ⊥)
     → TellsSome (in_one_piece limits whole tells alike)
 some_in_one_piece limits whole tells alike some t p has Whole opened choices ends never =
-    let is = whole_listing limits t p has opened choices ends in some t p has opened choices is (never is.can)
+    let is = whole_listing limits t p has opened choices ends in some t p has opened choices ends is (never is.can)
 some_in_one_piece limits whole tells alike some t p has CutNodes opened choices ends never =
     let (solids, is) = listing limits t p has CutNodes opened choices ends in never is.can (head_of is.can) refl
 some_in_one_piece limits whole tells alike some t p has CutSolids opened choices ends never =
@@ -222,7 +228,8 @@ some_in_one_piece limits whole tells alike some t p has CutSolids opened choices
 module _ (writes : ℕ → List Cell → List ℕ → Type 0)
     (written : (decimals : ℕ) (p : ProblemParts) (choice : List Bool) (s : List Cell) → FillSolids p (choice ∷ []) (s ∷ []) → (text : List ℕ) × writes decimals s text)
     (which : ℕ) (some : 1 ≤ which) (limits : SearchLimits) where
-  module _ (t : Input) (p : ProblemParts) (has : HasProblem t p) (opened : ℕ) (choices : List (List Bool)) (is : IsWholeListing limits t p has opened choices)
+  module _ (t : Input) (p : ProblemParts) (has : HasProblem t p) (opened : ℕ) (choices : List (List Bool))
+      (ends : EndsAs (is_live p) p.blocks.count limits Whole opened choices) (is : IsWholeListing limits t p has opened choices)
       (never : (text : List ℕ) → TellsNumbered (writes t.decimals) which is.can.solids text → ⊥) where
     choice_at : (o : Option (List Bool)) → slice_get choices (which - 1) ≡ o → which - 1 < length choices → ⊥
     choice_at None none within = none-some _ (sym none ∙ slice_get-get_or choices (which - 1) [] within)
@@ -239,6 +246,17 @@ module _ (writes : ℕ → List Cell → List ℕ → Type 0)
   some_numbered : TellsSome (search_for_one writes which limits)
   some_numbered = some_in_one_piece limits (λ t. numbered_answer which) (λ t c. TellsNumbered (writes t.decimals) which c.solids)
       (λ t text other. text ≡ other) never_lacking
+
+-- a whole search has a log
+some_proof : (limits : SearchLimits) → limits.solids ≤ most_solid_limit → TellsSome (search_for_log limits)
+some_proof limits most = some_in_one_piece limits (λ t solids. answers.Done) (λ t c. IsSomeLog c.problem) AreSomeLogs
+    (λ t p has opened choices (few_nodes, few_solids, counted, is_whole) is never.
+    let same = ap length is_whole in
+    let few = few_matching p has.blocks choices is_whole (omega (arith, few_solids, same, most)) in
+    let grid : IsGrid p.grid = (drawing_of has.lines, problem_drawing t p has, has.grid) in
+    let count = has.few in
+    let (text, listed, log) = some_log p grid has.blocks (omega (arith, count)) few in
+    never text (listed, subst (λ (q : ProblemParts). IsLog q text listed) (sym is.problem) log))
 
 -- no solid lacks a file,
 some_written_file : (s : List Cell) → IsSolid s → ((text : List ℕ) → IsFileOf 0 s text → ⊥) → ⊥
@@ -279,6 +297,9 @@ some_owed (job.Redraw which workers limits decimals) counted = some_search (sear
     (some_numbered IsFileOf (λ d p choice s are. some_file s are.matching.0.0.0 d) which counted.0 limits)
 some_owed (job.Stl which workers limits) counted = some_search (search_for_one (λ _. IsSolidStl) which limits)
     (some_numbered (λ _. IsSolidStl) some_stl which counted.0 limits)
+some_owed (job.Prove workers limits) counted = some_search (search_for_log limits) (some_proof limits counted.1)
+some_owed job.Check counted = λ t none never. searched_somehow default_limits t none (λ p has kind opened choices ends.
+    some_checked t p has _ (matching default_limits t p has) never)
 some_owed (job.Make n) counted = some_written_file (made_solid n) (made_is_solid n)
 some_owed (job.Trial n workers) counted = tried_somehow n
 

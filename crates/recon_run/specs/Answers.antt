@@ -1,11 +1,16 @@
 -- What commands answer to an input.
 use Rattle.std.specs.Prelude.{◌≡◌, ◌⊎◌, ℕ, nat_lt, ◌+◌, ◌-◌, ◌<◌, ◌≤◌, List, [], ◌∷◌, ◌++◌, Bool, length, take, slice_get, Some, codes, if◌then◌else◌}
+use Rattle.completeness_logs.specs.LogTexts.{IsLog}
 use Rattle.drawing_maker.specs.Made.{made_solid}
+use Rattle.dxf_groups.specs.Pairs.{rest_of_text}
 use Rattle.file_problem.specs.Inputs.{HasProblem, Input}
+use Rattle.proof_check.specs.declared.fault.LogKind.{LogKind}
+use Rattle.proof_check.specs.declared.fault.LogKind.TheVariants.{BadLine, BadBlock, Unproved, Unsolid, TooMany, BadCount, Short, Long}
+use Rattle.proof_check.specs.Refusals.{IsLogRefused}
 use Rattle.replies.specs.declared.status.Answer.{Answer}
 use Rattle.replies.specs.declared.status.Answer.TheVariants as answers
 use Rattle.recon_run.specs.Pages.{BeginsPages, TellsPages}
-use Rattle.report.specs.Texts.{head_text, no_solid_text, solid_text, trial_text}
+use Rattle.report.specs.Texts.{head_text, no_solid_text, refusal_text, solid_text, trial_text, yes_text}
 use Rattle.solid_model.specs.declared.cell.Cell.{Cell}
 use Rattle.solid_model.specs.declared.ended.EndKind.{EndKind}
 use Rattle.solid_model.specs.declared.ended.EndKind.TheVariants.{Whole, CutNodes, CutSolids}
@@ -127,6 +132,49 @@ numbered_answer which solids = if nat_lt solids which then answers.NoSolid else 
 abbrev pub TellsNumbered : (List Cell → List ℕ → Type 0) → ℕ → List (List Cell) → List ℕ → Type 0
 TellsNumbered writes which solids text = ((s : List Cell) × IsNumbered solids which s × writes s text)
     ⊎ ((length solids < which) × (text ≡ no_solid_text which (length solids)))
+
+-- ---- `prove`
+
+-- the text is a log of a problem
+abbrev pub IsSomeLog : ProblemParts → List ℕ → Type 0
+IsSomeLog p text = (listed : List (List Bool)) × IsLog p text listed
+
+-- two texts are one, or both are logs of the input's problem
+abbrev pub AreSomeLogs : Input → List ℕ → List ℕ → Type 0
+AreSomeLogs t text other = (text ≡ other) ⊎ ((p : ProblemParts) × HasProblem t p × IsSomeLog p text × IsSomeLog p other)
+
+-- ---- `check`
+
+-- the number and the name of what is wrong with a line of a log
+abbrev pub log_kind_name : LogKind → List ℕ
+log_kind_name BadLine = codes "G1 BadLine"
+log_kind_name BadBlock = codes "G2 BadBlock"
+log_kind_name Unproved = codes "G3 Unproved"
+log_kind_name Unsolid = codes "G4 Unsolid"
+log_kind_name TooMany = codes "G5 TooMany"
+log_kind_name BadCount = codes "G6 BadCount"
+log_kind_name Short = codes "G7 Short"
+log_kind_name Long = codes "G8 Long"
+
+-- The bytes are a log of the input's problem, whoever wrote it, and the text says yes: it tells the choices of blocks that fill
+-- the solids of the input's drawing, all of them.
+abbrev pub SaysYes : {t : Input} {p : ProblemParts} → HasProblem t p → List ℕ → List ℕ → Type 0
+SaysYes {t} {p} has log text = IsSomeLog p log × (solids : List (List Cell)) × AreTold has solids
+    × (choices : List (List Bool)) × AreSolidsOfChoices (coordinates_of p.grid) p.blocks.numbers p.blocks.count choices solids
+    × (text ≡ yes_text choices)
+
+-- or they are none, and it tells the first line that is refused, and why
+abbrev pub SaysRefused : ProblemParts → List ℕ → List ℕ → Type 0
+SaysRefused p log text = (kind : LogKind) × (line : ℕ) × IsLogRefused p log kind line × (text ≡ refusal_text (log_kind_name kind) line)
+
+-- what is answered to an input whose drawing has these bytes behind it
+abbrev pub SaysChecked : {t : Input} {p : ProblemParts} → HasProblem t p → List ℕ → Answer → List ℕ → Type 0
+SaysChecked {t} {p} has log answer text = ((answer ≡ answers.Done) × SaysYes has log text) ⊎ ((answer ≡ answers.Refused) × SaysRefused p log text)
+
+-- what is answered to an input, by its problem and what stands behind its drawing
+abbrev pub TellsChecked : Input → Answer → List ℕ → Type 0
+TellsChecked t answer text = (p : ProblemParts) × (has : HasProblem t p)
+    × (log : List ℕ) × (rest_of_text t.bytes ≡ Some log) × SaysChecked has log answer text
 
 -- ---- `trial`
 

@@ -4,7 +4,7 @@ use Rattle.drawing_maker.specs.Made.{made_solid}
 use Rattle.replies.specs.declared.status.Answer.{Answer}
 use Rattle.replies.specs.declared.status.Answer.TheVariants as answers
 use Rattle.file_problem.specs.Inputs.{HasNoFault, Input, IsFileFault}
-use Rattle.recon_run.specs.Answers.{BeginsToList, CanEnd, IsTried, ListsSolids, TellsNumbered, head_of, numbered_answer, usage_text}
+use Rattle.recon_run.specs.Answers.{AreSomeLogs, BeginsToList, CanEnd, IsSomeLog, IsTried, ListsSolids, TellsChecked, TellsNumbered, head_of, numbered_answer, usage_text}
 use Rattle.recon_run.specs.Pages.{SameButPages}
 use Rattle.redraw.specs.Files.{IsFileOf}
 use Rattle.report.specs.FaultText.{fault_text}
@@ -12,7 +12,7 @@ use Rattle.solid_model.specs.declared.cell.Cell.{Cell}
 use Rattle.solid_model.specs.declared.ended.EndKind.{EndKind}
 use Rattle.solid_model.specs.declared.ended.EndKind.TheVariants.{Whole, CutNodes, CutSolids}
 use Rattle.solid_model.specs.declared.fault.Fault.{Fault}
-use Rattle.solid_model.specs.Limits.{most_file_bytes}
+use Rattle.solid_model.specs.Limits.{most_file_bytes, most_text_bytes}
 use Rattle.solid_model.specs.Search.{SearchLimits}
 use Rattle.stl_out.specs.SolidStl.{IsSolidStl}
 use Rattle.tv_base.specs.Pieces.{ReadsPast}
@@ -29,6 +29,10 @@ pub record ProfileParts : Type 0 where
 -- a drawing alone, whose coordinates have so many decimals
 abbrev pub drawing_profile : ℕ → ProfileParts
 drawing_profile decimals = record { most = most_file_bytes; decimals = decimals }
+
+-- a drawing whose coordinates have no decimals, and a log behind it
+abbrev pub log_profile : ProfileParts
+log_profile = record { most = most_text_bytes; decimals = 0 }
 
 -- the input that is read so of these bytes
 abbrev pub input_of : ProfileParts → List ℕ → Input
@@ -84,6 +88,10 @@ abbrev pub search_for_one : (ℕ → List Cell → List ℕ → Type 0) → ℕ 
 search_for_one writes which limits = in_one_piece limits (λ t. numbered_answer which)
     (λ t c. TellsNumbered (writes t.decimals) which c.solids) (λ t text other. text ≡ other)
 
+-- a search that a log shows to be complete: any log of the problem, and all of these count as one
+abbrev pub search_for_log : SearchLimits → Search
+search_for_log limits = in_one_piece limits (λ t solids. answers.Done) (λ t c. IsSomeLog c.problem) AreSomeLogs
+
 -- ---- judgements
 
 -- What is judged of an input without a fault: the right answers, with their texts; those that begin one; the answers that leave
@@ -108,6 +116,16 @@ IsCut answers.Done = ⊥
 IsCut answers.Faulty = ⊥
 IsCut answers.Usage = ⊥
 IsCut answers.NoSolid = ⊥
+IsCut answers.Refused = ⊥
+
+-- what is judged of a log behind a drawing
+abbrev pub log_judgement : Judgement
+log_judgement = record {
+  tells = TellsChecked;
+  begins = TellsChecked;
+  leaves_open = λ t answer. ⊥;
+  alike = λ t text other. text ≡ other;
+}
 
 -- what an input is asked for: a search, or what is judged of it without a search of its own
 pub data Asked : Type 1 where
@@ -136,6 +154,8 @@ abbrev pub owed_for : Job → Owed
 owed_for (job.Solve workers limits pages decimals) = read (drawing_profile decimals) (searched (search_for_all pages limits))
 owed_for (job.Redraw which workers limits decimals) = read (drawing_profile decimals) (searched (search_for_one IsFileOf which limits))
 owed_for (job.Stl which workers limits) = read (drawing_profile 0) (searched (search_for_one (λ _. IsSolidStl) which limits))
+owed_for (job.Prove workers limits) = read (drawing_profile 0) (searched (search_for_log limits))
+owed_for job.Check = read log_profile (judged log_judgement)
 owed_for (job.Make n) = alone answers.Done (IsFileOf 0 (made_solid n))
 owed_for (job.Trial n workers) = alone answers.Done (IsTried n)
 

@@ -1,5 +1,6 @@
 -- Problems that are found in inputs and searched, and what is written of them.
-use Rattle.std.specs.Prelude.{◌≡◌, ◌≤◌, Bool, ℕ, List, length, Option}
+use Rattle.std.specs.Prelude.{◌≡◌, ◌≤◌, Bool, ℕ, List, length, Option, Some}
+use Rattle.dxf_groups.specs.Pairs.{rest_of_text}
 use Rattle.file_problem.specs.Inputs.{HasProblem, Input, IsFileFault}
 use Rattle.recon_run.specs.declared.found.Found.{Found}
 use Rattle.recon_run.specs.declared.found.Found.TheVariants.{Problem, Fault}
@@ -8,7 +9,7 @@ use Rattle.recon_run.specs.declared.export.Export.TheVariants.{Drawing, Triangle
 use Rattle.recon_run.specs.declared.form.Form.{Form}
 use Rattle.recon_run.specs.declared.form.Form.TheVariants as form
 use Rattle.recon_run.specs.Answers.{TellsNumbered, numbered_answer}
-use Rattle.recon_run.specs.Owed.{Asked, ProfileParts, input_of, judgement_of, search_for_all, search_for_one, searched}
+use Rattle.recon_run.specs.Owed.{Asked, ProfileParts, input_of, judged, judgement_of, log_judgement, search_for_all, search_for_log, search_for_one, searched}
 use Rattle.redraw.specs.Files.{IsFileOf}
 use Rattle.replies.specs.Status.{Status}
 use Rattle.replies.specs.Writings.{EndsWriting}
@@ -33,9 +34,9 @@ use Rattle.solid_model.specs.Panels.{coordinates_of, IsGridOf}
 use Rattle.solid_model.specs.Search.{SearchLimits}
 use Rattle.solid_model.specs.SearchEnds.{EndsSearch, SearchEnd}
 
--- what is found in an input: its problem, or its first fault
+-- what is found in an input: its problem and what stands behind its drawing, or its first fault
 abbrev pub IsFoundIn : Input → Found → Type 0
-IsFoundIn t (Problem p) = HasProblem t p
+IsFoundIn t (Problem found) = HasProblem t found.problem × (rest_of_text t.bytes ≡ Some found.rest.items)
 IsFoundIn t (Fault fault) = IsFileFault t fault
 
 -- ---- searches
@@ -91,8 +92,15 @@ writes_of Triangles = λ decimals. IsSolidStl
 abbrev pub asked_of : Form → Asked
 asked_of (form.AllSolids all) = searched (search_for_all all.pages all.limits)
 asked_of (form.OneSolid one) = searched (search_for_one (writes_of one.export) one.which one.limits)
+asked_of (form.Log limits) = searched (search_for_log limits)
+asked_of form.Check = judged log_judgement
 
 -- so ends the writing of what is answered in a form to an input that is read so and has this problem
 abbrev pub AnswersForm : Form → ProfileParts → ProblemParts → Option (List ℕ) → Option (List ℕ) → Type 0 → Status → Type 0
 AnswersForm f profile p held now rose status = (t : List ℕ) → HasProblem (input_of profile t) p
+    → EndsWriting ((judgement_of (asked_of f)).tells (input_of profile t)) ((judgement_of (asked_of f)).begins (input_of profile t)) held now rose status
+
+-- the same where these bytes stand behind its drawing
+abbrev pub AnswersBehind : Form → ProfileParts → ProblemParts → List ℕ → Option (List ℕ) → Option (List ℕ) → Type 0 → Status → Type 0
+AnswersBehind f profile p rest held now rose status = (t : List ℕ) → HasProblem (input_of profile t) p → rest_of_text t ≡ Some rest
     → EndsWriting ((judgement_of (asked_of f)).tells (input_of profile t)) ((judgement_of (asked_of f)).begins (input_of profile t)) held now rose status

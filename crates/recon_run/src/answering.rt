@@ -3,7 +3,7 @@
 ghost use Rattle.std.specs.Prelude.{◌≡◌, ◌+◌, Err};
 ghost use Rattle.recon_run.specs.Endings.{Ends};
 ghost use Rattle.recon_run.specs.Owed.{read};
-ghost use Rattle.recon_run.specs.Searched.{AnswersForm, asked_of};
+ghost use Rattle.recon_run.specs.Searched.{AnswersBehind, asked_of};
 ghost use Rattle.replies.specs.declared.status.Answer.TheVariants as answers;
 ghost use Rattle.replies.specs.declared.status.Failure.TheVariants.{ReadFault};
 ghost use Rattle.replies.specs.Writings.{EndsWriting, IsReply};
@@ -12,35 +12,41 @@ ghost use Rattle.tv_base.specs.Faults.{Rose};
 ghost use Rattle.tv_base.specs.Pieces.{ReadsWithin};
 
 use crate::all_solids::answer_all;
+use crate::check::answer_check;
 use crate::crew::Crew;
 use crate::form::Form;
 use crate::found::{Found, find};
+use crate::found_problem::ProblemAndRest;
+use crate::log::answer_log;
 use crate::one_solid::answer_one;
 use crate::profile::Profile;
 use replies::{Answer, Status, write_reply};
 use report::fault_text;
-use solid_model::{Fault, Problem};
+use solid_model::Fault;
 use std::alloc::Global;
 use std::sync::Wait;
 use std::thread::Threads;
 use tv_base::{Gate, Sink, Source};
 
-/// Writes what is answered in a form to an input that is read so and has this problem; the crew
-/// works at what is searched.
+/// Writes what is answered in a form to an input that is read so and in which this is found; the
+/// crew works at what is searched.
 fn answer_problem<R: Threads + Wait + Sync, G: Gate, K: Sink>(
     alloc: Global,
     crew: &Crew<'_, R, G>,
     form: &Form,
     profile: &Profile,
-    problem: Problem,
+    found: ProblemAndRest,
     sink: &mut K,
 ) -> Status
-    ensures { AnswersForm form.now profile.now problem (K.held sink.old) (K.held sink.new)
-        (Rose (K.faults sink.old) (K.faults sink.new)) result }
+    ensures { AnswersBehind form.now profile.now found.problem found.rest.items (K.held sink.old)
+        (K.held sink.new) (Rose (K.faults sink.old) (K.faults sink.new)) result }
 {
+    let ProblemAndRest { problem, rest } = found;
     match form {
         Form::AllSolids(all) => answer_all(alloc, crew, all, profile, problem, sink),
         Form::OneSolid(one) => answer_one(alloc, crew, one, profile, problem, sink),
+        Form::Log(limits) => answer_log(alloc, crew, limits, profile, problem, sink),
+        Form::Check => answer_check(alloc, profile, &problem, rest.as_slice(), sink),
     }
 }
 
@@ -71,7 +77,7 @@ pub fn answer_source<R: Threads + Wait + Sync, G: Gate, S: Source, K: Sink>(
 {
     let found = find(alloc, profile, source)?;
     match found {
-        Found::Problem(problem) => answer_problem(alloc, crew, form, profile, problem, sink),
+        Found::Problem(found) => answer_problem(alloc, crew, form, profile, found, sink),
         Found::Fault(fault) => write_fault(alloc, &fault, sink),
     }
 }

@@ -90,6 +90,20 @@ fn do_job<R: Threads + Wait + Sync, S: Source, K: Sink, G: Gate>(
             });
             answer_source(alloc, &crew, &profile, &form, source, sink)
         }
+        Job::Prove { workers, limits } => {
+            let crew = Crew { rt, workers, gate };
+            let profile = Profile::drawing(0);
+            answer_source(alloc, &crew, &profile, &Form::Log(limits), source, sink)
+        }
+        Job::Check => {
+            let crew = Crew {
+                rt,
+                workers: 1,
+                gate,
+            };
+            let profile = Profile::with_log();
+            answer_source(alloc, &crew, &profile, &Form::Check, source, sink)
+        }
         Job::Make { n } => write_reply(Answer::Done, made_file(alloc, n)?.as_slice(), sink),
         Job::Trial { n, workers } => {
             let crew = Crew { rt, workers, gate };
@@ -132,6 +146,8 @@ fn answer<R: Threads + Wait + Sync, S: Source, K: Sink, G: Gate>(
 /// `solve` writes all solids of the drawing that the source's bytes show, within the limits that
 /// the options `--nodes` and `--solids` give, and with `--pages` pages of them while it finds them;
 /// `redraw` writes the drawing of one of them, by its number, and `stl` its boundary as triangles;
+/// `prove` writes a log that shows that these are all, and `check` says whether what stands behind the
+/// drawing is such a log, and then tells them, or which of its lines is the first that is wrong, and why;
 /// `make` writes a drawing that is made from a number, and `trial` what a search of that drawing
 /// finds. As many work at a search as `--workers` says, and they pass the gate at their points; the
 /// run waits for them, and what it answers doesn't depend on their number. Other words give the

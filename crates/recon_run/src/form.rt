@@ -28,4 +28,8 @@ pub enum Form {
     AllSolids(AllSolids),
     /// One of its solids.
     OneSolid(OneSolid),
+    /// A log that shows that a search for its solids, within limits, was complete.
+    Log(Limits),
+    /// Whether what stands behind its drawing is such a log.
+    Check,
 }

@@ -7,8 +7,9 @@ ghost use Rattle.recon_run.specs.Searched.{IsFoundIn};
 ghost use Rattle.tv_base.specs.Faults.{Rose};
 ghost use Rattle.tv_base.specs.Pieces.{ReadsWithin};
 
+use crate::found_problem::ProblemAndRest;
 use crate::profile::Profile;
-use file_problem::problem_of;
+use file_problem::problem_with_rest;
 use replies::Failure;
 use solid_model::{Fault, Memory, Problem, Refused};
 use std::alloc::Global;
@@ -17,8 +18,8 @@ use tv_base::{ReadEnd, Source, read_all};
 /// What is found in an input.
 #[derive(Drop)]
 pub enum Found {
-    /// Its problem.
-    Problem(Problem),
+    /// Its problem, and what stands behind its drawing.
+    Problem(ProblemAndRest),
     /// Its first fault.
     Fault(Fault),
 }
@@ -28,10 +29,10 @@ fn find_in(alloc: Global, profile: &Profile, file: Vec<u8>) -> Result<Found, Mem
     requires { length file.items ≤ profile.now.most }
     ensures { IfOk result (IsFoundIn (input_of profile.now file.items)) }
 {
-    // A look that tells that no profile takes more bytes than a drawing has.
+    // A look that tells that no profile takes more bytes than a text may have.
     let _most = profile.most();
-    match problem_of(alloc, file, profile.decimals()) {
-        Ok(problem) => Ok(Found::Problem(problem)),
+    match problem_with_rest(alloc, file, profile.decimals()) {
+        Ok((problem, rest)) => Ok(Found::Problem(ProblemAndRest { problem, rest })),
         Err(Refused::Fault(fault)) => Ok(Found::Fault(fault)),
         Err(Refused::Memory) => Err(Memory),
     }

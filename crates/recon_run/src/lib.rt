@@ -3,12 +3,15 @@
 
 mod all_solids;
 mod answering;
+mod check;
 mod command;
 mod crew;
 mod export;
 mod form;
 mod found;
+mod found_problem;
 mod laws;
+mod log;
 mod one_solid;
 mod profile;
 mod searched;

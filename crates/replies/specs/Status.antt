@@ -1,7 +1,7 @@
 -- The statuses, and their numbers.
 use Rattle.std.specs.Prelude.{ℕ, Result, Ok, Err}
 use Rattle.replies.specs.declared.status.Answer.{Answer}
-use Rattle.replies.specs.declared.status.Answer.TheVariants.{Done, Faulty, Usage, CutNodes, CutSolids, NoSolid}
+use Rattle.replies.specs.declared.status.Answer.TheVariants.{Done, Faulty, Usage, CutNodes, CutSolids, NoSolid, Refused}
 use Rattle.replies.specs.declared.status.Failure.{Failure}
 use Rattle.replies.specs.declared.status.Failure.TheVariants.{ReadFault, WriteFault, Memory}
 use Rattle.solid_model.specs.declared.ended.EndKind.{EndKind}
@@ -25,6 +25,7 @@ answer_code Usage = 2
 answer_code CutNodes = 3
 answer_code CutSolids = 4
 answer_code NoSolid = 8
+answer_code Refused = 9
 
 -- the number of a failure
 abbrev pub failure_code : Failure → ℕ

@@ -16,4 +16,5 @@ pub fn status_numbers()
     ensures write_fault { status_code (Err failures.WriteFault) ≡ 6 }
     ensures memory { status_code (Err failures.Memory) ≡ 7 }
     ensures no_solid { status_code (Ok answers.NoSolid) ≡ 8 }
+    ensures refused { status_code (Ok answers.Refused) ≡ 9 }
 {}

@@ -21,6 +21,8 @@ pub enum Answer {
     CutSolids,
     /// That there is no solid of the number that was asked for.
     NoSolid,
+    /// Why what was to be checked doesn't show what it should.
+    Refused,
 }
 
 /// Why a run fails before its answer is written.
@@ -49,6 +51,7 @@ impl Answer {
             Answer::CutNodes => 3,
             Answer::CutSolids => 4,
             Answer::NoSolid => 8,
+            Answer::Refused => 9,
         }
     }
 

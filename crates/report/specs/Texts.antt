@@ -89,3 +89,13 @@ trial_text n blocks solids opened volume = codes "trial " ++ decimal n ++ codes 
 -- that there is no solid of this number, but only so many
 abbrev pub no_solid_text : ℕ → ℕ → List ℕ
 no_solid_text which solids = codes "none " ++ decimal which ++ codes " of " ++ decimal solids ++ codes "\n"
+
+-- ---- logs
+
+-- that these choices are all, as a log shows: how many there are, and a line for each
+abbrev pub yes_text : List (List Bool) → List ℕ
+yes_text choices = codes "yes " ++ decimal (length choices) ++ codes "\n" ++ flat_map choice_line choices
+
+-- why a log is refused: the name of what is wrong, and the number of the line
+abbrev pub refusal_text : List ℕ → ℕ → List ℕ
+refusal_text name line = codes "log " ++ name ++ codes " line " ++ decimal line ++ codes "\n"

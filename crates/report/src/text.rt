@@ -3,7 +3,7 @@
 ghost use Rattle.std.specs.Prelude.{◌≡◌, ◌++◌, length, IfOk, OnOk};
 ghost use Rattle.std.specs.List.{flat_map};
 ghost use Rattle.report.specs.Texts.{choice_text, head_text, choice_line, page_text};
-ghost use Rattle.report.specs.Texts.{trial_text, no_solid_text};
+ghost use Rattle.report.specs.Texts.{trial_text, no_solid_text, refusal_text, yes_text};
 
 use itoa::{Buffer, Integer};
 use solid_model::{Choice, EndKind, Ended, Limits, Memory};
@@ -99,6 +99,31 @@ pub fn page_text(
     push_number(&mut text, total)?;
     text.extend_from_slice(b"\n")?;
     push_choice_lines(&mut text, more)?;
+    Ok(text)
+}
+
+/// The text that tells that these choices are all, as a log shows: `yes S`, and then for each of them
+/// a line `choice C`. An `Err` is out of memory.
+pub fn yes_text(alloc: Global, choices: &[Choice]) -> Result<Vec<u8>, Memory>
+    ensures { IfOk result (λ text. text.items ≡ yes_text choices.now) }
+{
+    let mut text = Vec::from_slice(alloc, b"yes ")?;
+    push_number(&mut text, choices.len())?;
+    text.extend_from_slice(b"\n")?;
+    push_choice_lines(&mut text, choices)?;
+    Ok(text)
+}
+
+/// The line that tells why a log is refused, by the name of what is wrong and the number of the line:
+/// `log G3 Unproved line 3`. An `Err` is out of memory.
+pub fn refusal_text(alloc: Global, name: &str, line: u32) -> Result<Vec<u8>, Memory>
+    ensures { IfOk result (λ text. text.items ≡ refusal_text name.now line) }
+{
+    let mut text = Vec::from_slice(alloc, b"log ")?;
+    text.extend_from_slice(name.as_bytes())?;
+    text.extend_from_slice(b" line ")?;
+    push_number(&mut text, line)?;
+    text.extend_from_slice(b"\n")?;
     Ok(text)
 }
 

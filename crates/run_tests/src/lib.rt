@@ -13,6 +13,8 @@ mod entities;
 #[cfg(test)]
 mod hostile;
 #[cfg(test)]
+mod logs;
+#[cfg(test)]
 mod options;
 #[cfg(test)]
 mod pages;

@@ -122,6 +122,15 @@ redraw, --decimals=2, 1 -> redraw 1 1 1000000 4096 decimals 2
 redraw, 1, --decimals, 7 -> usage
 stl, 1 -> stl 1 1 1000000 4096
 stl, 1, --decimals, 2 -> usage
+prove -> prove 1 1000000 4096
+prove, --solids=7, --workers, 3, --nodes, 5 -> prove 3 5 7
+prove, --decimals, 0 -> usage
+prove, --pages -> usage
+prove, 1 -> usage
+check -> check
+check, 1 -> usage
+check, --workers, 2 -> usage
+check, check -> usage
 redraw, -- , 1 -> usage
 redraw, 1, --nodes -> usage
 redraw, 1.0 -> usage
@@ -225,6 +234,11 @@ fn push_job(text: &mut String, job: Job) -> Result<(), Fail> {
             workers,
             limits,
         } => push_one(text, "stl", which, workers, limits, 0),
+        Job::Prove { workers, limits } => {
+            text.push_str("prove")?;
+            push_search(text, workers, limits)
+        }
+        Job::Check => Ok(text.push_str("check")?),
         Job::Make { n } => Ok(write!(text, "make {n}")?),
         Job::Trial { n, workers } => Ok(write!(text, "trial {n} {workers}")?),
     }

@@ -4,9 +4,10 @@ use Rattle.std.specs.Prelude.{option_map}
 use Rattle.std.specs.Str.{bytes_eq}
 use Rattle.std.proofs.lemmas.Slice.Eq.{bytes_eq-Decides}
 use Rattle.solid_model.specs.Limits.{most_decimals, most_solid_limit}
+use Rattle.solid_model.specs.Search.{default_limits}
 use Rattle.lemmas.specs.Lists.{Each}
 use Rattle.words.specs.declared.job.Job.{Job}
-use Rattle.words.specs.Jobs.{AreWorkers, Command, IsCounted, command_said, commands, decimals_field, decimals_in, job_said, most_workers, number_in, redraw_table, said_among, solve_table, stl_table, trial_table, workers_field, workers_in}
+use Rattle.words.specs.Jobs.{AreWorkers, Command, IsCounted, command_said, commands, decimals_field, decimals_in, job_said, limits_in, most_workers, number_in, prove_table, redraw_table, said_among, solids_field, solve_table, stl_table, trial_table, workers_field, workers_in}
 use Rattle.words.specs.Rows.{is_sound}
 use Rattle.words.specs.Said.{agrees}
 use Rattle.words.specs.declared.table.Range.{Range}
@@ -72,6 +73,11 @@ counts t sound workers decimals words us is = (
   (within t (codes "decimals") (record { least = 0; most = most_decimals }) 0 sound decimals (omega arith) (omega arith) words us is).1,
 )
 
+-- nor a higher limit of solids than may be
+few_solids : (t : Table) → is_sound t ≡ true → agrees t solids_field ≡ true → (words : List Text) (us : List Use) → taken t words ≡ Some us
+    → (limits_in us).solids ≤ most_solid_limit
+few_solids t sound agree words us is = (within t (codes "solids") (record { least = 1; most = most_solid_limit }) default_limits.solids sound agree (omega arith) (omega arith) words us is).1
+
 -- one that takes the number of a solid has one that is 1 at least
 has_number_of_solid : (t : Table) → is_sound t ≡ true → agrees t (number_field (record { least = 1; most = most_solid_limit })) ≡ true
     → (words : List Text) (us : List Use) → taken t words ≡ Some us → 1 ≤ number_in us
@@ -87,7 +93,10 @@ said_is_counted (name ∷ words) j said = counted_among commands (
     (λ ws us is. let c = counts redraw_table refl refl refl ws us is in (has_number_of_solid redraw_table refl refl ws us is, c.0, c.1)),
     (
       (λ ws us is. (has_number_of_solid stl_table refl refl ws us is, (counts stl_table refl refl refl ws us is).0)),
-      ((λ ws us is. tt), ((λ ws us is. (counts trial_table refl refl refl ws us is).0), tt)),
+      (
+        (λ ws us is. ((counts prove_table refl refl refl ws us is).0, few_solids prove_table refl refl ws us is)),
+        ((λ ws us is. tt), ((λ ws us is. tt), ((λ ws us is. (counts trial_table refl refl refl ws us is).0), tt))),
+      ),
     ),
   ),
 ) name words j said

@@ -55,6 +55,14 @@ redraw_table = one_table (search_fields ++ decimals_field ∷ [])
 abbrev pub stl_table : Table
 stl_table = one_table search_fields
 
+-- what `prove` takes: those of a search, and no number
+abbrev pub prove_table : Table
+prove_table = record { options = search_fields; number = None }
+
+-- what `check` takes: nothing
+abbrev pub check_table : Table
+check_table = record { options = []; number = None }
+
 -- what `make` takes: no option, and any number of 64 bits
 abbrev pub make_table : Table
 make_table = record { options = []; number = Some (record { least = 0; most = 18446744073709551615 }) }
@@ -96,6 +104,8 @@ abbrev pub commands : List Command
 commands = record { name = codes "solve"; table = solve_table; job = λ us. job.Solve (workers_in us) (limits_in us) (pages_in us) (decimals_in us) }
     ∷ record { name = codes "redraw"; table = redraw_table; job = λ us. job.Redraw (number_in us) (workers_in us) (limits_in us) (decimals_in us) }
     ∷ record { name = codes "stl"; table = stl_table; job = λ us. job.Stl (number_in us) (workers_in us) (limits_in us) }
+    ∷ record { name = codes "prove"; table = prove_table; job = λ us. job.Prove (workers_in us) (limits_in us) }
+    ∷ record { name = codes "check"; table = check_table; job = λ us. job.Check }
     ∷ record { name = codes "make"; table = make_table; job = λ us. job.Make (number_in us) }
     ∷ record { name = codes "trial"; table = trial_table; job = λ us. job.Trial (number_in us) (workers_in us) } ∷ []
 
@@ -117,11 +127,13 @@ job_said (name ∷ words) = said_among commands name words
 abbrev pub AreWorkers : ℕ → Type 0
 AreWorkers workers = (1 ≤ workers) × (workers ≤ most_workers)
 
--- the numbers that a job asks for can be met: it counts solids from 1, as many work at it as may, and coordinates have no more
--- decimals than they may
+-- the numbers that a job asks for can be met: it counts solids from 1, as many work at it as may, coordinates have no more
+-- decimals than they may, and a log lists no more solids than it may
 abbrev pub IsCounted : Job → Type 0
 IsCounted (job.Solve workers limits pages decimals) = AreWorkers workers × (decimals ≤ most_decimals)
 IsCounted (job.Redraw which workers limits decimals) = (1 ≤ which) × AreWorkers workers × (decimals ≤ most_decimals)
 IsCounted (job.Stl which workers limits) = (1 ≤ which) × AreWorkers workers
+IsCounted (job.Prove workers limits) = AreWorkers workers × (limits.solids ≤ most_solid_limit)
+IsCounted job.Check = Unit {0}
 IsCounted (job.Make n) = Unit {0}
 IsCounted (job.Trial n workers) = AreWorkers workers

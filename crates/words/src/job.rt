@@ -36,6 +36,13 @@ pub enum Job {
         workers: u32,
         limits: Limits,
     },
+    /// What shows that a search for all these solids was complete.
+    Prove {
+        workers: u32,
+        limits: Limits,
+    },
+    /// The check of what is said to show that, behind a drawing.
+    Check,
     /// The drawing that is made from a number.
     Make {
         n: u64,
@@ -104,6 +111,18 @@ static STL: Rows<'static> = Rows {
     number: Some(SOLIDS),
 };
 
+/// What `prove` takes.
+static PROVE: Rows<'static> = Rows {
+    options: &[WORKERS_ROW, NODES_ROW, SOLIDS_ROW],
+    number: None,
+};
+
+/// What `check` takes.
+static CHECK: Rows<'static> = Rows {
+    options: &[],
+    number: None,
+};
+
 /// What `make` takes.
 static MAKE: Rows<'static> = Rows {
     options: &[],
@@ -151,6 +170,17 @@ fn job_by(alloc: Global, command: &str, words: &[String]) -> Result<Job, WordFau
                 workers: said.workers,
                 limits: said.limits,
             })
+        }
+        "prove" => {
+            let said = said_by(alloc, &PROVE, words)?;
+            Ok(Job::Prove {
+                workers: said.workers,
+                limits: said.limits,
+            })
+        }
+        "check" => {
+            said_by(alloc, &CHECK, words)?;
+            Ok(Job::Check)
         }
         "make" => {
             let said = said_by(alloc, &MAKE, words)?;

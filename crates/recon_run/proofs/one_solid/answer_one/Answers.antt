@@ -5,7 +5,9 @@ use Rattle.replies.specs.Status.{end_answer}
 use Rattle.replies.specs.Writings.{EndsWriting, IsReply}
 use Rattle.recon_run.specs.Owed.{IsAnEnd, input_of, search_for_one}
 use Rattle.recon_run.specs.Searched.{AnswersNumbered, writes_of}
-use Rattle.recon_run.proofs.OneSolid.{cut_told, whole_told}
+use Rattle.recon_run.proofs.OnePiece.{cut_told}
+use Rattle.recon_run.proofs.OneSolid.{whole_told}
+use Rattle.recon_run.specs.Answers.{TellsNumbered, numbered_answer}
 use Rattle.recon_run.proofs.TextByText.{writing_weaker}
 use Rattle.solid_model.specs.declared.ended.EndKind.TheVariants.{Whole}
 use Rattle.solid_model.specs.SearchEnds.{SearchEnd}
@@ -32,7 +34,7 @@ returns g c t has =
     let s_tells = IsAnEnd (search_for_one (writes_of one.export) one.which one.limits) (search_for_one (writes_of one.export) one.which one.limits).tells input in
     let kind : s.ended.kind ≡ c.in_default.kind = sym (ap (λ (e : SearchEnd). e.kind) (c.behind-searched.view_is ∙ c.ended.ensures.same)) ∙ c.in_default.kind-is in
     let weaken : (a : Answer) (text : List ℕ) → IsReply answer told a text → s_tells a text =
-    λ a text is. cut_told (writes_of one.export) one.which one.limits input c.args.problem has s c.in_ok-searched.ensures c.in_default.kind kind
+    λ a text is. cut_told one.limits (λ t. numbered_answer one.which) (λ t found. TellsNumbered (writes_of one.export t.decimals) one.which found.solids) (λ t one_text other. one_text ≡ other) input c.args.problem has s c.in_ok-searched.ensures c.in_default.kind kind
     (λ whole. c.in_default.not-Whole (c.in_default.kind-is ∙ whole)) a text (is.0 ∙ c.at_end.ensures ∙ ap end_answer c.in_default.kind-is) (is.1 ∙ c.as_slice.ensures.value ∙ c.in_ok-text-in_default.ensures) in
     writing_weaker Answer (IsReply answer told) (IsReply answer told) s_tells s_tells (g.K.Sink.held c.args.sink.now) (g.K.Sink.held c.write_reply.new.sink)
     (Rose (g.K.Sink.faults c.args.sink.now) (g.K.Sink.faults c.write_reply.new.sink)) weaken weaken c.write_reply.result c.write_reply.ensures
