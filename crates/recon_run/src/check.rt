@@ -31,8 +31,8 @@ fn log_kind_name(kind: LogKind) -> &'static str
     }
 }
 
-/// Checks the bytes that stand behind a drawing as a log of its problem: writes that these are all its
-/// solids, or why the log is refused.
+/// Checks the bytes that stand behind a drawing as a log of its problem: writes that these are all
+/// its solids, or why the log is refused.
 pub fn answer_check<K: Sink>(
     alloc: Global,
     profile: &Profile,

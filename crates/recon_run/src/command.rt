@@ -146,18 +146,18 @@ fn answer<R: Threads + Wait + Sync, S: Source, K: Sink, G: Gate>(
 /// `solve` writes all solids of the drawing that the source's bytes show, within the limits that
 /// the options `--nodes` and `--solids` give, and with `--pages` pages of them while it finds them;
 /// `redraw` writes the drawing of one of them, by its number, and `stl` its boundary as triangles;
-/// `prove` writes a log that shows that these are all, and `check` says whether what stands behind the
-/// drawing is such a log, and then tells them, or which of its lines is the first that is wrong, and why;
-/// `make` writes a drawing that is made from a number, and `trial` what a search of that drawing
-/// finds. As many work at a search as `--workers` says, and they pass the gate at their points; the
-/// run waits for them, and what it answers doesn't depend on their number. Other words give the
-/// usage line.
+/// `prove` writes a log that shows that these are all, and `check` says whether what stands behind
+/// the drawing is such a log, with the choices that it lists, or which of its lines is the first
+/// that is wrong, and why; `make` writes a drawing that is made from a number, and `trial` what a
+/// search of that drawing finds. As many work at a search as `--workers` says, and they pass the
+/// gate at their points; the run waits for them, and what it answers doesn't depend on their
+/// number. Other words give the usage line.
 ///
-/// The status is 0 where a search was whole and lists all matching solids, or a drawing is written;
-/// 1 where what is searched has a fault, 2 where the arguments aren't taken, 3 or 4 where there are
-/// more live prefixes, or more solids, than their limit, 5 or 6 where the source or the sink
-/// failed, 7 where it ran out of memory, and 8 where there is no solid of the number that `redraw`
-/// or `stl` is given.
+/// The status is 0 where a search was whole and lists all matching solids, a drawing or a log is
+/// written, or a log is one; 1 where what is read has a fault, 2 where the arguments aren't taken,
+/// 3 or 4 where there are more live prefixes, or more solids, than their limit, 5 or 6 where the
+/// source or the sink failed, 7 where it ran out of memory, 8 where there is no solid of the number
+/// that `redraw` or `stl` is given, and 9 where a log is refused.
 pub fn run<R: Threads + Wait + Sync, S: Source, K: Sink, G: Gate>(
     rt: &R,
     alloc: Global,
