@@ -100,7 +100,8 @@ rect S 0 0 3 3, rect D 1 1 2 2; rect S 0 0 3 3, rect D 1 1 2 2; rect S 0 0 3 3, 
 /// The faces of cells of a grid, found cell by cell.
 fn by_cells(alloc: Global, grid: &Grid, filled: &str) -> Result<Vec<Face>, Fail> {
     let filled = cells(alloc, filled)?;
-    if filled.len() != grid.sizes().count() {
+    let wanted = grid.sizes().count();
+    if filled.len() != wanted {
         return Err(Fail::new("as many cells as the grid has"));
     }
     Ok(faces_of_solid(alloc, grid, filled.as_slice())?)
@@ -110,10 +111,11 @@ fn by_cells(alloc: Global, grid: &Grid, filled: &str) -> Result<Vec<Face>, Fail>
 fn told_solid(alloc: Global, row: Row<'_>) -> Result<String, Fail> {
     let [_, _, _, filled, _] = row.parts;
     let problem = problem_at(alloc, row.views())?;
-    let rows = rows_of(alloc, problem.grid().sizes(), filled)?;
-    let faces = faces_of_rows(alloc, problem.grid(), &rows)?;
+    let grid = problem.grid();
+    let rows = rows_of(alloc, grid.sizes(), filled)?;
+    let faces = faces_of_rows(alloc, grid, &rows)?;
     let told = told_list(alloc, faces.as_slice())?;
-    let other = by_cells(alloc, problem.grid(), filled)?;
+    let other = by_cells(alloc, grid, filled)?;
     if told.as_str() != told_list(alloc, other.as_slice())?.as_str() {
         return Err(Fail::new("other faces by cells"));
     }
