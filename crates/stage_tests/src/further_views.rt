@@ -47,10 +47,13 @@ bar; ; line S 0 0 2 0, line S 2 0 2 2, line S 1 2 2 2, line S 1 1 1 2, line S 0 
 bar; ; line S 0 0 3 0, line S 3 0 3 2, line S 2 2 3 2, line S 2 1 2 2, line S 0 1 2 1, \
     line S 0 0 0 1, line S 2 0 2 1, line D 2 1 3 1; ; 1111 -> ;";
 
+/// What a cube shows in any view.
+const CUBE: &str = "rect S 0 0 1 1";
+
 /// The strokes of a drawing in front, from the top and from the side.
 fn drawing_named(name: &str) -> [&'static str; 3] {
     match name {
-        "cube" => ["rect S 0 0 1 1", "rect S 0 0 1 1", "rect S 0 0 1 1"],
+        "cube" => [CUBE, CUBE, CUBE],
         "voids" => [
             "lattice 2 2",
             "rect S 0 0 5 4, rect D 1 1 2 2, rect D 3 1 4 2, rect D 1 3 2 4, rect D 3 3 4 4",
@@ -69,7 +72,10 @@ fn drawing_named(name: &str) -> [&'static str; 3] {
 
 /// The runs of strokes in front, where there are some.
 fn asked(alloc: Global, strokes: &str) -> Result<Option<ViewLines>, Fail> {
-    let file = file_bytes(drawing_file(alloc, [strokes, "", ""])?)?;
+    if strokes.is_empty() {
+        return Ok(None);
+    }
+    let file = file_bytes(drawing_file(alloc, [strokes, CUBE, CUBE])?)?;
     let lines = entities(alloc, &mut Groups::new(file), 0)?;
     Ok(view_of(alloc, lines.as_slice(), View::Front)?)
 }
