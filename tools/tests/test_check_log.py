@@ -237,13 +237,32 @@ def broken(chance: random.Random, drawing: bytes) -> bytes:
     return drawing[:drawing.find(b"EOF") + 4] if b"EOF" in drawing else drawing
 
 
+@functools.cache
+def has_logs() -> bool:
+    """The built program knows the commands `prove` and `check`."""
+    def is_taken(word: str) -> bool:
+        ended = subprocess.run([program.find(), word], stdin=subprocess.DEVNULL, capture_output=True)
+        return ended.returncode != program.USAGE
+    return is_built() and is_taken("prove") and is_taken("check")
+
+
+def recon(word: str, data: bytes) -> tuple[int, str]:
+    """The status of the built program at this word, and what it writes."""
+    ended = subprocess.run([program.find(), word], input=data, capture_output=True, timeout=600)
+    if ended.stderr:
+        raise AssertionError(ended.stderr)
+    return ended.returncode, ended.stdout.decode()
+
+
 class Logs(unittest.TestCase):
     """Right logs, and wrong ones."""
 
     def check(self, plain: logs.Plain, drawing: bytes, log: bytes) -> str:
-        """What is said of a log: the same as by the plain definitions, and with the solids of the drawing."""
+        """What is said of a log: the same as by the plain definitions, and by the program where it is built."""
         status, text = said(drawing, log)
         self.assertEqual(text, logs.verdict(plain, log), log)
+        if has_logs():
+            self.assertEqual((status, text), recon("check", drawing + log), log)
         self.assertEqual(status, 0 if text.startswith("yes") else 9)
         return text
 
@@ -363,10 +382,10 @@ class Logs(unittest.TestCase):
             if grid := grid_in(drawing):
                 plain = logs.plain_of(drawing)
                 right = [logs.log_of(plain, by_chance).encode() for by_chance in (None, chance, chance)]
-                pool.append((plain, logs.choices_of(plain), right, functools.partial(check_log.State, *grid)))
+                pool.append((drawing, plain, logs.choices_of(plain), right, functools.partial(check_log.State, *grid)))
         taken = 0
         for _ in range(MUTATIONS):
-            plain, choices, right, state = chance.choice(pool)
+            drawing, plain, choices, right, state = chance.choice(pool)
             log = chance.choice(right)
             for _ in range(chance.choice((1, 1, 1, 2, 3))):
                 log = spoiled(chance, log or b"\n1")
@@ -379,6 +398,8 @@ class Logs(unittest.TestCase):
             except check_log.Wrong as wrong:
                 text = f"log {wrong}\n"
             self.assertEqual(text, logs.verdict(plain, log), log)
+            if has_logs():
+                self.assertEqual(text, recon("check", drawing + log)[1], log)
         self.assertGreater(taken, MUTATIONS // 100)
 
 
@@ -416,31 +437,17 @@ class Streams(unittest.TestCase):
         self.assertEqual(said(b"0\nSECTION\n" * 100_000), (1, "fault F5 BadSection line 3\n"))
 
 
-@functools.cache
-def has_logs() -> bool:
-    """The built program knows the commands `prove` and `check`."""
-    def is_taken(word: str) -> bool:
-        ended = subprocess.run([program.find(), word], stdin=subprocess.DEVNULL, capture_output=True)
-        return ended.returncode != program.USAGE
-    return is_built() and is_taken("prove") and is_taken("check")
-
-
 def needs_logs() -> Decorated:
     return unittest.skipUnless(has_logs(), "the program isn't built, or has no commands prove and check")
 
 
 @needs_logs()
 class BesideTheProgram(unittest.TestCase):
-    def recon(self, word: str, data: bytes) -> tuple[int, str]:
-        ended = subprocess.run([program.find(), word], input=data, capture_output=True, timeout=600)
-        self.assertEqual(ended.stderr, b"")
-        return ended.returncode, ended.stdout.decode()
-
     def test_random_drawings(self) -> None:
         chance, taken = random.Random(36), 0
         for number in range(DRAWINGS):
             drawing = random_drawing(chance)
-            status, log = self.recon("prove", drawing)
+            status, log = recon("prove", drawing)
             with self.subTest(number=number):
                 self.assertIn(status, (0, 1), drawing)
                 if status == 1:
@@ -454,7 +461,7 @@ class BesideTheProgram(unittest.TestCase):
                     tried += [other := logs.log_of(plain, chance).encode(), spoiled(chance, other)]
                 for log_tried in tried:
                     answer = said(drawing, log_tried)
-                    self.assertEqual(answer, self.recon("check", drawing + log_tried), (drawing, log_tried))
+                    self.assertEqual(answer, recon("check", drawing + log_tried), (drawing, log_tried))
                     taken += answer[0] == check_log.YES
         self.assertGreater(taken, DRAWINGS)
 
@@ -462,7 +469,7 @@ class BesideTheProgram(unittest.TestCase):
         chance = random.Random(37)
         for _ in range(DRAWINGS):
             drawing = broken(chance, chance.choice((CUBE, HOLLOW, (EXAMPLES / "bracket_of_polylines.dxf").read_bytes()))) + RIGHT_CUBE
-            self.assertEqual(said(drawing), self.recon("check", drawing), drawing)
+            self.assertEqual(said(drawing), recon("check", drawing), drawing)
 
 
 if __name__ == "__main__":
