@@ -1,5 +1,5 @@
 -- What stands behind lines of a text, and where a reader stands.
-use Rattle.std.proofs.Common.{◌≡◌, ℕ, suc, ◌+◌, ◌-◌, ◌≤◌, Bool, true, false, List, drop, length, Option, Some, None, Result, Ok, Err, nat_eq, refl, ap, sym, ◌∙◌, arith}
+use Rattle.std.proofs.Common.{◌≡◌, ℕ, suc, ◌+◌, ◌-◌, ◌≤◌, true, false, List, drop, length, Option, Some, None, Result, Ok, Err, nat_eq, refl, ap, sym, ◌∙◌, arith}
 use Rattle.std.specs.List.{after_first, starts_with}
 use Rattle.solid_model.specs.declared.fault.Fault.{Fault}
 use Rattle.solid_model.specs.declared.fault.Fault.TheVariants.{Binary}

@@ -1,7 +1,9 @@
 pub mod BehindLines
 pub mod FewDigits
+pub mod FirstBlanks
 pub mod FirstLines
 pub mod FirstPairs
+pub mod NearBytes
 pub mod NumeralDigits
 pub mod NumeralGrammar
 pub mod NumeralReach

@@ -1,31 +1,47 @@
 //! Group codes.
 
-ghost use Rattle.std.specs.Prelude.{◌≡◌, ◌≤◌, Some, None, cond, length};
-ghost use Rattle.std.specs.Str.{all_ascii_digits};
+ghost use Rattle.std.specs.Prelude.{◌≡◌, ◌&&◌, ◌+◌, ◌-◌, ◌*◌, Some, None, cond};
+ghost use Rattle.std.specs.Char.{is_ascii_digit};
 ghost use Rattle.std.specs.Str.Parse.{digits_value};
-ghost use Rattle.dxf_groups.specs.Codes.{group_code_of};
+ghost use Rattle.dxf_groups.specs.Codes.{are_few_digits, group_code_of};
 
 /// The code of a comment.
 pub const COMMENT: i32 = 999;
 
-/// The number that a few decimal digits write. None where another byte stands among them.
-fn few_digits(digits: &[u8]) -> Option<u16>
-    requires { length digits.now ≤ 4 }
+/// The number that four decimal digits write. None where one of the bytes is none.
+fn number_of(a: u8, b: u8, c: u8, d: u8) -> Option<u16>
     ensures { result
-        ≡ cond (all_ascii_digits digits.now) (Some (digits_value 10 digits.now)) None }
+        ≡ cond (is_ascii_digit a && (is_ascii_digit b && (is_ascii_digit c && is_ascii_digit d)))
+        (Some ((((a - 48) * 10 + (b - 48)) * 10 + (c - 48)) * 10 + (d - 48))) None }
 {
-    let mut number = 0;
-    for byte in digits {
-        if !byte.is_ascii_digit() {
-            return None;
-        }
-        number = number * 10 + u16::from(*byte - b'0');
+    let are_digits = a.is_ascii_digit()
+        && b.is_ascii_digit()
+        && c.is_ascii_digit()
+        && d.is_ascii_digit();
+    if !are_digits {
+        return None;
     }
-    Some(number)
+    let hundreds = u16::from(a - b'0') * 10 + u16::from(b - b'0');
+    Some(hundreds * 100 + u16::from(c - b'0') * 10 + u16::from(d - b'0'))
+}
+
+/// The number that one to four decimal digits write. None where the bytes are anything else.
+fn few_digits(digits: &[u8]) -> Option<u16>
+    ensures { result
+        ≡ cond (are_few_digits digits.now) (Some (digits_value 10 digits.now)) None }
+{
+    match *digits {
+        [d] => number_of(b'0', b'0', b'0', d),
+        [c, d] => number_of(b'0', b'0', c, d),
+        [b, c, d] => number_of(b'0', b, c, d),
+        [a, b, c, d] => number_of(a, b, c, d),
+        _ => None,
+    }
 }
 
 /// The group code that the bytes spell: a minus sign or none, and one to four decimal digits. None
 /// where they are anything else.
+#[inline(always)]
 pub fn group_code(text: &[u8]) -> Option<i32>
     ensures { result ≡ group_code_of text.now }
 {
@@ -33,9 +49,6 @@ pub fn group_code(text: &[u8]) -> Option<i32>
         [b'-', digits @ ..] => (true, digits),
         _ => (false, text),
     };
-    if digits.is_empty() || digits.len() > 4 {
-        return None;
-    }
     let number = i32::from(few_digits(digits)?);
     Some(if negative { -number } else { number })
 }

@@ -19,6 +19,7 @@ pub struct ReadPair {
 
 /// The pair that begins at `start`, with line `line`. `NoEof` comes at the end of the text,
 /// `BadCode` where the line is no group code, and `NoValue` where no line follows it.
+#[inline(always)]
 fn pair_at(text: &[u8], start: usize, line: u32) -> Result<ReadPair, Fault>
     requires { IsPlaceIn text.now start line }
     ensures { IsReading text.now start line result }

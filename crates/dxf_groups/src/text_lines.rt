@@ -1,12 +1,13 @@
 //! The lines of a text.
 
-ghost use Rattle.std.specs.Prelude.{◌≡◌, ◌-◌, ◌<◌, ◌≤◌, ◌∷◌, length, drop};
+ghost use Rattle.std.specs.Prelude.{◌≡◌, ℕ, ◌-◌, ◌<◌, ◌≤◌, ◌∷◌, true, length, take, drop, slice_index, IfSome};
 ghost use Rattle.std.specs.List.{after_first, position_or_len, prefix_len, suffix_len};
 ghost use Rattle.dxf_groups.specs.Spans.{IsSpanIn, span_of};
 ghost use Rattle.dxf_groups.specs.TextLines.{content_of, contents_of, is_blank, is_feed, without_return};
 
 use crate::span::Span;
 use memchr::memchr;
+use std::simd::prelude::*;
 
 /// A line of a text: where that stands which counts of it, and where the next line begins.
 #[derive(Clone, Copy)]
@@ -15,13 +16,48 @@ pub struct TextLine {
     pub after: usize,
 }
 
-/// How many bytes stand before the first line feed.
-pub fn feed_place(text: &[u8]) -> usize
+/// How many bytes are looked at together. Most lines are shorter.
+const NEAR: usize = 16;
+
+/// Where the first line feed stands, if that is one of the first sixteen bytes of sixteen or more.
+fn near_feed(text: &[u8]) -> Option<usize>
+    ensures within { IfSome result (λ place. place ≤ length text.now) }
+    ensures place { IfSome result (λ place. place ≡ position_or_len is_feed text.now) }
+{
+    if text.len() < NEAR {
+        return None;
+    }
+    let feeds = u8x16::from_slice(text)
+        .simd_eq(u8x16::splat(b'\n'))
+        .to_bitmask();
+    if feeds == 0 {
+        return None;
+    }
+    Some(feeds.trailing_zeros() as usize)
+}
+
+/// How many bytes stand before the first line feed, which may be far. It is a call of its own, so
+/// that its vectors don't take room in those who read short lines.
+#[cold]
+#[inline(never)]
+fn far_feed_place(text: &[u8]) -> usize
     ensures within { result ≤ length text.now }
     ensures place { result ≡ position_or_len is_feed text.now }
 {
     match memchr(b'\n', text) {
         None => text.len(),
+        Some(place) => place,
+    }
+}
+
+/// How many bytes stand before the first line feed.
+#[inline(always)]
+pub fn feed_place(text: &[u8]) -> usize
+    ensures within { result ≤ length text.now }
+    ensures place { result ≡ position_or_len is_feed text.now }
+{
+    match near_feed(text) {
+        None => far_feed_place(text),
         Some(place) => place,
     }
 }
@@ -43,17 +79,32 @@ fn is_blank(byte: u8) -> bool
     byte == b' ' || byte == b'\t'
 }
 
-/// How many blanks the line begins with.
-fn leading_blanks(line: &[u8]) -> usize
-    ensures within { result ≤ length line.now }
-    ensures count { result ≡ prefix_len is_blank line.now }
+/// How many spaces the text begins with, of the first sixteen bytes of sixteen or more.
+fn near_spaces(text: &[u8]) -> usize
+    ensures within { result ≤ length text.now }
+    ensures blank { (k : ℕ) → k < result → is_blank (slice_index text.now k) ≡ true }
 {
-    for (place, byte) in line.iter().enumerate() {
-        if !is_blank(*byte) {
-            return place;
-        }
+    if text.len() < NEAR {
+        return 0;
     }
-    line.len()
+    let others = u8x16::from_slice(text)
+        .simd_ne(u8x16::splat(b' '))
+        .to_bitmask();
+    if others == 0 {
+        return NEAR;
+    }
+    others.trailing_zeros() as usize
+}
+
+/// How many blanks the text begins with.
+fn leading_blanks(text: &[u8]) -> usize
+    ensures { result ≡ prefix_len is_blank text.now }
+{
+    let mut place = near_spaces(text);
+    while place < text.len() && is_blank(text[place]) {
+        place += 1;
+    }
+    place
 }
 
 /// How many bytes stand before the blanks that the line ends with.
@@ -67,13 +118,26 @@ fn len_before_trailing_blanks(line: &[u8]) -> usize
     len
 }
 
-/// Where what counts of a line stands in it.
-fn content_span(line: &[u8]) -> Span
-    ensures span { IsSpanIn line.now result }
-    ensures content { span_of line.now result ≡ content_of line.now }
+/// How many blanks the text's first line begins with, without its carriage return: those of the
+/// text, since neither that nor a line feed is blank.
+fn first_line_blanks(text: &[u8], feed: usize) -> usize
+    requires { feed ≡ position_or_len is_feed text.now }
+    ensures within { result ≤ length (without_return (take feed text.now)) }
+    ensures count { result ≡ prefix_len is_blank (without_return (take feed text.now)) }
 {
-    let bare = without_return(line);
-    let start = leading_blanks(bare);
+    leading_blanks(text)
+}
+
+/// Where what counts of the text's first line stands in it. So many bytes stand before its line
+/// feed.
+fn content_span(text: &[u8], feed: usize) -> Span
+    requires within { feed ≤ length text.now }
+    requires place { feed ≡ position_or_len is_feed text.now }
+    ensures span { IsSpanIn (take feed text.now) result }
+    ensures content { span_of (take feed text.now) result ≡ content_of (take feed text.now) }
+{
+    let bare = without_return(&text[..feed]);
+    let start = first_line_blanks(text, feed);
     let len = len_before_trailing_blanks(&bare[start..]);
     Span {
         start,
@@ -82,6 +146,7 @@ fn content_span(line: &[u8]) -> Span
 }
 
 /// The line that begins at `start`.
+#[inline(always)]
 pub fn text_line_at(text: &[u8], start: usize) -> TextLine
     requires { start < length text.now }
     ensures span { IsSpanIn text.now result.content }
@@ -93,7 +158,7 @@ pub fn text_line_at(text: &[u8], start: usize) -> TextLine
 {
     let rest = &text[start..];
     let feed = feed_place(rest);
-    let span = content_span(&rest[..feed]);
+    let span = content_span(rest, feed);
     let content = Span {
         start: start + span.start,
         end: start + span.end,

@@ -1,6 +1,12 @@
-use Rattle.std.proofs.Common.{◌≡◌, ℕ, ◌<◌, true, get_or}
+use Rattle.std.proofs.Common.{◌≡◌, ◌≤◌, ◌<◌, ◌-◌, ℕ, true, length, slice_index}
 use Rattle.dxf_groups.specs.TextLines.{is_blank}
 use Rattle.dxf_groups.proofs.text_lines.leading_blanks.Given as goal
 
+-- what was passed over is blank
 abbrev pub invariant-loop-place : goal.invariant-loop-place
-invariant-loop-place l = (k : ℕ) (d : ℕ) → k < l.place → is_blank (get_or l.line k d) ≡ true
+invariant-loop-place l =
+    (l.place ≤ length l.text)
+    × ((k : ℕ) → k < l.place → is_blank (slice_index l.text k) ≡ true)
+
+abbrev pub decreases-loop-place : goal.decreases-loop-place
+decreases-loop-place l = length l.text - l.place

@@ -1,5 +1,5 @@
 -- The reader begins behind its text's mark.
-use Rattle.std.proofs.Common.{◌≡◌, ◌≤◌, length, nat_eq, drop, Some, Ok, sym, ap, subst, ◌∙◌}
+use Rattle.std.proofs.Common.{◌≡◌, ◌≤◌, length, nat_eq, drop, sym, ap, subst, ◌∙◌}
 use Rattle.std.specs.List.{starts_with}
 use Rattle.std.proofs.lemmas.List.{take_rest}
 use Rattle.dxf_groups.specs.Pairs.{binary_sentinel, without_mark}

@@ -3,7 +3,7 @@ use Rattle.std.proofs.Common.{length, sym, arith}
 use Rattle.std.proofs.lemmas.List.Sums.{position_or_len_is}
 use Rattle.std.proofs.lemmas.Bool.{false_from_ne_true}
 use Rattle.dxf_groups.specs.TextLines.{is_feed}
-use Rattle.dxf_groups.proofs.text_lines.feed_place.Goals as goal
+use Rattle.dxf_groups.proofs.text_lines.far_feed_place.Goals as goal
 
 pub returns-in-None-clause-place : goal.returns-in-None-clause-place
 returns-in-None-clause-place c =
