@@ -1,41 +1,41 @@
--- The rows of cells on both sides of a plane.
-use Rattle.std.proofs.Common.{◌≡◌, Bool, ℕ, true, false, ◌&&◌, not, ℤ, pos, sym, refl}
+-- The cells on both sides of a plane, by the layers that begin there.
+use Rattle.std.proofs.Common.{◌≡◌, true, false, ℤ, pos, ◌-ℤ◌, sym, refl}
 use Rattle.std.proofs.lemmas.Bool.{false≢true}
-use Rattle.solid_model.specs.declared.cell.Cell.{Cell}
 use Rattle.solid_model.specs.declared.face.Out.{Out}
 use Rattle.solid_model.specs.declared.face.Out.TheVariants.{MinusX, PlusX, MinusY, PlusY, MinusZ, PlusZ}
-use Rattle.solid_model.specs.declared.per_axis.PerAxis.{PerAxis}
-use Rattle.solid_model.specs.Cells.{cell_before}
-use Rattle.solid_model.specs.Faces.{outward, right_axis, place, is_boundary}
-use Rattle.solid_model.specs.PerAxis.{cell_of}
+use Rattle.solid_model.specs.Faces.{outward, place, inner_cell, outer_cell}
 use Rattle.solid_model.specs.Rounds.{Spot}
-use Rattle.cell_rows.specs.Rows.{cell_numbered}
 
--- the cell at a spot of a plane, by the first one of its row
-pub along_right : (out : Out) (k : ℕ) (n : PerAxis) (at v : ℤ) → cell_of n ≡ place out at (record { u = pos 0; v = v })
-    → cell_numbered (right_axis out) k n ≡ place out at (record { u = pos k; v = v })
-along_right MinusX k n at v e = λ i. record { x = (e i).x; y = (e i).y; z = pos k }
-along_right PlusX k n at v e = λ i. record { x = (e i).x; y = pos k; z = (e i).z }
-along_right MinusY k n at v e = λ i. record { x = pos k; y = (e i).y; z = (e i).z }
-along_right PlusY k n at v e = λ i. record { x = (e i).x; y = (e i).y; z = pos k }
-along_right MinusZ k n at v e = λ i. record { x = (e i).x; y = pos k; z = (e i).z }
-along_right PlusZ k n at v e = λ i. record { x = pos k; y = (e i).y; z = (e i).z }
+-- where the axis leads outwards, the layer before the plane lies inwards
+pub before_inwards : (out : Out) (at : ℤ) (p : Spot) → (outward out).forward ≡ true → place out (at -ℤ pos 1) p ≡ inner_cell out at p
+before_inwards MinusX at p e = absurd (false≢true e)
+before_inwards PlusX at p e = refl
+before_inwards MinusY at p e = absurd (false≢true e)
+before_inwards PlusY at p e = refl
+before_inwards MinusZ at p e = absurd (false≢true e)
+before_inwards PlusZ at p e = refl
 
--- the truth values of a boundary square, by those of the cells on both sides
-pub boundary_forward : (full : Cell → Bool) (out : Out) (at : ℤ) (p : Spot) → (outward out).forward ≡ true
-    → is_boundary full out at p ≡ (full (cell_before (outward out).axis (place out at p)) && not (full (place out at p)))
-boundary_forward full MinusX at p e = absurd (false≢true e)
-boundary_forward full PlusX at p e = refl
-boundary_forward full MinusY at p e = absurd (false≢true e)
-boundary_forward full PlusY at p e = refl
-boundary_forward full MinusZ at p e = absurd (false≢true e)
-boundary_forward full PlusZ at p e = refl
+pub behind_outwards : (out : Out) (at : ℤ) (p : Spot) → (outward out).forward ≡ true → place out at p ≡ outer_cell out at p
+behind_outwards MinusX at p e = absurd (false≢true e)
+behind_outwards PlusX at p e = refl
+behind_outwards MinusY at p e = absurd (false≢true e)
+behind_outwards PlusY at p e = refl
+behind_outwards MinusZ at p e = absurd (false≢true e)
+behind_outwards PlusZ at p e = refl
 
-pub boundary_backward : (full : Cell → Bool) (out : Out) (at : ℤ) (p : Spot) → (outward out).forward ≡ false
-    → is_boundary full out at p ≡ (full (place out at p) && not (full (cell_before (outward out).axis (place out at p))))
-boundary_backward full MinusX at p e = refl
-boundary_backward full PlusX at p e = absurd (false≢true (sym e))
-boundary_backward full MinusY at p e = refl
-boundary_backward full PlusY at p e = absurd (false≢true (sym e))
-boundary_backward full MinusZ at p e = refl
-boundary_backward full PlusZ at p e = absurd (false≢true (sym e))
+-- else it lies outwards
+pub behind_inwards : (out : Out) (at : ℤ) (p : Spot) → (outward out).forward ≡ false → place out at p ≡ inner_cell out at p
+behind_inwards MinusX at p e = refl
+behind_inwards PlusX at p e = absurd (false≢true (sym e))
+behind_inwards MinusY at p e = refl
+behind_inwards PlusY at p e = absurd (false≢true (sym e))
+behind_inwards MinusZ at p e = refl
+behind_inwards PlusZ at p e = absurd (false≢true (sym e))
+
+pub before_outwards : (out : Out) (at : ℤ) (p : Spot) → (outward out).forward ≡ false → place out (at -ℤ pos 1) p ≡ outer_cell out at p
+before_outwards MinusX at p e = refl
+before_outwards PlusX at p e = absurd (false≢true (sym e))
+before_outwards MinusY at p e = refl
+before_outwards PlusY at p e = absurd (false≢true (sym e))
+before_outwards MinusZ at p e = refl
+before_outwards PlusZ at p e = absurd (false≢true (sym e))

@@ -12,8 +12,8 @@ use Rattle.face_laws.proofs.JoinedSides.{neighbours-back}
 use Rattle.flood.specs.Graph.{Leads, GoesBack, AreComponentsOf}
 use Rattle.faces.specs.PlaneSquares.{SquareTable, square_place, is_there}
 use Rattle.faces.specs.Ways.{heading_at}
-use Rattle.faces.specs.SquareSteps.{square_count, square_at_place, IsSquareStep, next_square, AreSquareComponents}
-use Rattle.faces.proofs.SquarePlaces.{in_table-numbers, there-parts, square_there, square_own, place_own}
+use Rattle.faces.specs.SquareSteps.{place_count, square_at_place, IsSquareStep, next_square, AreSquareComponents}
+use Rattle.faces.proofs.SquarePlaces.{in_table-numbers, there-parts, square_own, place_there, place_own}
 
 -- the way that leads in a heading
 abbrev way_to : Heading → ℕ
@@ -38,13 +38,13 @@ from_if false n m e = absurd (none-some m e)
 
 module _ (t : SquareTable) where
   -- a square that is there stands at its place
-  pub there-place : (q : Spot) → is_there t q ≡ true → (square_place q < square_count) × (square_at_place (square_place q) ≡ q)
+  pub there-place : (q : Spot) → is_there t q ≡ true → (square_place q < place_count t) × (square_at_place (square_place q) ≡ q)
   there-place q there =
       let has = in_table-numbers q (there-parts t q there).0 in
-      (square_there q has, square_own q has)
+      (place_there t q there, square_own q has)
 
   -- steps are what ways lead to
-  pub steps_lead : (a b : ℕ) → a < square_count → IsSquareStep t a b ↔ Leads 4 (next_square t) a b
+  pub steps_lead : (a b : ℕ) → a < place_count t → IsSquareStep t a b ↔ Leads 4 (next_square t) a b
   steps_lead a b within = (leads, comes)
     where
       here : Spot
@@ -72,12 +72,12 @@ module _ (t : SquareTable) where
           let same : square_at_place b ≡ next = ap (square_at_place) (sym place) ∙ own.1 in
           record {
             from = within;
-            to = subst (λ n. n < square_count) place own.0;
+            to = subst (λ n. n < place_count t) place own.0;
             neighbours = (here_there, ap (is_there t) same ∙ next_there, (heading_at way, same));
           }
 
   -- and go back
-  pub steps_back : GoesBack (square_count) (IsSquareStep t)
+  pub steps_back : GoesBack (place_count t) (IsSquareStep t)
   steps_back a b a_in b_in step = record {
     from = b_in;
     to = a_in;
@@ -116,7 +116,7 @@ module _ (t : SquareTable) where
 
   -- the components of the graph are the joined squares
   pub joined_components : (rows : List ℕ) → rows ≡ t.rows → (numbers : List ℕ) (count : ℕ)
-      → AreComponentsOf (IsSquareStep t) square_count (bit_of rows) numbers count → AreSquareComponents t numbers count
+      → AreComponentsOf (IsSquareStep t) (place_count t) (bit_of rows) numbers count → AreSquareComponents t numbers count
   joined_components rows e numbers count are = record {
     listed = are.listed;
     below = λ p there. are.below (square_place p) (asked rows e p there) (there-place p there).0;

@@ -1,6 +1,8 @@
 -- The places of squares in a table.
-use Rattle.std.proofs.Common.{◌≡◌, inl, inr, Bool, true, ℕ, zero, suc, ◌+◌, ◌*◌, ◌<◌, List, [], ◌∷◌, map, ℤ, pos, ◌≤ℤ◌, slice_index_or, ap, ap₂, sym, subst, ◌∙◌, arith}
-use Rattle.std.proofs.lemmas.Bool.{and_parts, cases_lt}
+use Rattle.std.proofs.Common.{◌≡◌, inl, inr, Bool, true, ℕ, zero, suc, ◌+◌, ◌*◌, ◌<◌, ◌==◌, List, [], ◌∷◌, length, map, ℤ, pos, ◌≤ℤ◌, slice_index_or, ap, ap₂, sym, subst, ◌∙◌, arith}
+use Rattle.std.proofs.lemmas.Bool.{both_ways, and_parts, cases_lt}
+use Rattle.std.proofs.lemmas.List.{get_or_past}
+use Rattle.std.proofs.lemmas.Nat.Bits.{bit_at-zero}
 use Rattle.std.proofs.lemmas.Nat.{mod-mul-add, div-mul-add, div-add-mod'}
 use Rattle.lemmas.specs.Bits.{is_set}
 use Rattle.lemmas.specs.Lists.{Member}
@@ -11,7 +13,7 @@ use Rattle.lemmas.proofs.Lists.{member-map}
 use Rattle.solid_model.proofs.BoxPlaces.{IsNumber, number_below}
 use Rattle.face_laws.proofs.Turns.{same_spot}
 use Rattle.faces.specs.PlaneSquares.{SquareTable, is_in_table, square_place, is_there}
-use Rattle.faces.specs.SquareSteps.{square_count, square_at_place}
+use Rattle.faces.specs.SquareSteps.{place_count, square_at_place}
 
 -- the numbers below n
 abbrev upto : ℕ → List ℕ
@@ -31,6 +33,10 @@ pub in_table-numbers : (q : Spot) → is_in_table q ≡ true → HasPlace q
 in_table-numbers q within =
     let parts = and_parts (is_below 63 q.u) (is_below 63 q.v) within in
     record { u = number_below 63 q.u parts.0; v = number_below 63 q.v parts.1 }
+
+-- how many places the greatest table has
+abbrev square_count : ℕ
+square_count = 4032
 
 -- the bit of a square
 abbrev pub bit_there : SquareTable → Spot → Bool
@@ -57,6 +63,18 @@ module _ (q : Spot) (has : HasPlace q) where
       ∙ same_spot (square_at_place (has.v.number * 64 + has.u.number)) q
       (ap pos (mod-mul-add has.v.number 64 has.u.number less) ∙ sym has.u.is)
       (ap pos (div-mul-add has.v.number 64 has.u.number less) ∙ sym has.v.is)
+
+-- its row is one of the table's where it is there, and so is its place
+pub place_there : (t : SquareTable) (q : Spot) → is_there t q ≡ true → square_place q < place_count t
+place_there t q there = elim (cases_lt has.v.number (length t.rows)) as (λ _. square_place q < place_count t) [
+  | inl within ↦ omega (arith, place_is q has, has.u.less, within)
+  | inr beyond ↦ absurd (both_ways (bit_there t q)
+      (ap (λ w. is_set w (place_of_number q.u)) (get_or_past t.rows (place_of_number q.v) 0 (omega (arith, ap place_of_number has.v.is, beyond)))
+      ∙ ap (λ b. b == 1) (bit_at-zero (place_of_number q.u))) (there-parts t q there).1)
+]
+  where
+    has : HasPlace q
+    has = in_table-numbers q (there-parts t q there).0
 
 -- and has the place
 pub place_own : (p : ℕ) → square_place (square_at_place p) ≡ p

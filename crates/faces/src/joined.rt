@@ -4,7 +4,7 @@ ghost use Rattle.std.specs.Prelude.{◌≡◌, ◌≤◌, ◌<◌, None, false, 
 ghost use Rattle.faces.specs.PlaneSquares.{SquareTable, is_there};
 ghost use Rattle.faces.specs.Points.{spot_of};
 ghost use Rattle.faces.specs.Ways.{heading_at};
-ghost use Rattle.faces.specs.SquareSteps.{square_count, square_at_place, IsSquareStep, next_square, AreSquareComponents};
+ghost use Rattle.faces.specs.SquareSteps.{place_count, square_at_place, IsSquareStep, next_square, AreSquareComponents};
 ghost use Rattle.solid_model.specs.Rounds.{spot_after};
 
 use crate::point::Point;
@@ -49,7 +49,7 @@ struct Neighbours<'a> {
 }
 
 impl Graph for Neighbours<'_> {
-    ghost nodes = { λ g. square_count };
+    ghost nodes = { λ g. place_count g.squares.now };
 
     ghost steps = { λ g. IsSquareStep g.squares.now };
 
@@ -58,7 +58,7 @@ impl Graph for Neighbours<'_> {
     ghost next = { λ g. next_square g.squares.now };
 
     fn node_count(&self) -> usize {
-        4032
+        self.squares.rows().len() * 64
     }
 
     fn way_count(&self) -> usize {

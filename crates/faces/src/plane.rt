@@ -1,56 +1,48 @@
 //! The boundary squares of a plane.
 
-ghost use Rattle.std.specs.Prelude.{◌≡◌, ◌<◌, ℕ, pos, IfOk};
-ghost use Rattle.cell_rows.specs.Rows.{cell_numbered};
+ghost use Rattle.std.specs.Prelude.{◌≡◌, ◌<◌, ◌&&◌, not, ℕ, pos, slice_index_or, IsTrue, IfOk};
+ghost use Rattle.faces.specs.PlaneFaces.{AreBoundary};
 ghost use Rattle.faces.specs.PlaneSquares.{is_there};
-ghost use Rattle.faces.specs.Points.{spot_of};
 ghost use Rattle.lemmas.specs.Bits.{is_set};
-ghost use Rattle.solid_model.specs.Cells.{cell_before};
-ghost use Rattle.solid_model.specs.Faces.{place, outward, right_axis, is_boundary};
+ghost use Rattle.solid_model.specs.Faces.{inner_cell, outer_cell, is_boundary};
 ghost use Rattle.solid_model.specs.Marks.{is_marked};
-ghost use Rattle.solid_model.specs.PerAxis.{cell_of};
 ghost use Rattle.solid_model.specs.Rounds.{Spot};
 
-use crate::point::Point;
 use crate::squares::Squares;
-use cell_rows::CellRows;
-use solid_model::{Memory, Out, PerAxis};
+use cell_rows::{CellRows, LayerRows};
+use solid_model::{Memory, Out};
 use std::alloc::Global;
 
-/// The cell that begins at a point of a plane.
-fn place(out: Out, at: usize, point: Point) -> PerAxis
-    ensures { cell_of result ≡ place out (pos at) (spot_of point) }
+/// The rows of the cells that lie inwards from a plane.
+fn inner_rows(cells: &CellRows, out: Out, at: usize) -> LayerRows<'_>
+    ensures { (u v : ℕ) → u < 64 → is_set (slice_index_or result v 0) u
+        ≡ is_marked cells.now (inner_cell out (pos at) (record { u = pos u; v = pos v })) }
 {
-    PerAxis::FIRST
-        .numbered(out.up(), point.v)
-        .numbered(out.right(), point.u)
-        .numbered(out.direction().axis, at)
-}
-
-/// The row of the cell before one, across the planes of an outward side.
-fn row_before(cells: &CellRows, out: Out, cell: PerAxis) -> u64
-    ensures { (k : ℕ) → k < 64 → is_set result k ≡ is_marked cells.now
-        (cell_before (outward out).axis (cell_numbered (right_axis out) k cell)) }
-{
-    match cell.before(out.direction().axis) {
-        Some(before) => cells.row(out.right(), before),
-        None => 0,
-    }
-}
-
-/// The boundary squares of a row of a plane.
-fn boundary_row(cells: &CellRows, out: Out, at: usize, v: usize) -> u64
-    ensures { (k : ℕ) → k < 64 → is_set result k ≡ is_boundary (is_marked cells.now) out (pos at)
-        (record { u = pos k; v = pos v }) }
-{
-    let cell = place(out, at, Point { u: 0, v });
-    let before = row_before(cells, out, cell);
-    let behind = cells.row(out.right(), cell);
     if out.direction().forward {
-        before & !behind
+        cells.layer_before(out, at)
     } else {
-        behind & !before
+        cells.layer(out, at)
     }
+}
+
+/// The rows of the cells that lie outwards from it.
+fn outer_rows(cells: &CellRows, out: Out, at: usize) -> LayerRows<'_>
+    ensures { (u v : ℕ) → u < 64 → is_set (slice_index_or result v 0) u
+        ≡ is_marked cells.now (outer_cell out (pos at) (record { u = pos u; v = pos v })) }
+{
+    if out.direction().forward {
+        cells.layer(out, at)
+    } else {
+        cells.layer_before(out, at)
+    }
+}
+
+/// The boundary squares of a row: those with a full cell inwards and an empty one outwards.
+fn boundary_row(inner: &LayerRows<'_>, outer: &LayerRows<'_>, v: usize) -> u64
+    ensures { (u : ℕ) → u < 64 → is_set result u ≡ (is_set (slice_index_or inner.now v 0) u
+        && not (is_set (slice_index_or outer.now v 0) u)) }
+{
+    inner.row(v) & !outer.row(v)
 }
 
 /// The boundary squares of the marked cells in the plane at a whole coordinate, for whoever looks
@@ -65,9 +57,29 @@ pub fn plane_squares(
         → is_there squares q ≡ is_boundary (is_marked cells.now) out (pos at) q) }
 {
     let height = cells.sizes().along(out.up());
+    let inner = inner_rows(cells, out, at);
+    let outer = outer_rows(cells, out, at);
     let mut rows = Vec::with_capacity(alloc, height)?;
     for v in 0..height {
-        rows.push(boundary_row(cells, out, at, v))?;
+        rows.push(boundary_row(&inner, &outer, v))?;
     }
     Ok(Squares::new(rows))
+}
+
+/// Surely these are those squares, since each row is the same.
+pub fn are_plane_squares(cells: &CellRows, out: Out, at: usize, squares: &Squares) -> bool
+    ensures { IsTrue result → AreBoundary (is_marked cells.now) out (pos at) squares.now }
+{
+    let height = cells.sizes().along(out.up());
+    if squares.rows().len() != height {
+        return false;
+    }
+    let inner = inner_rows(cells, out, at);
+    let outer = outer_rows(cells, out, at);
+    for v in 0..height {
+        if boundary_row(&inner, &outer, v) != squares.row(v) {
+            return false;
+        }
+    }
+    true
 }

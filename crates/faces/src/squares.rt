@@ -29,7 +29,7 @@ impl Squares {
     ghost use Rattle.std.specs.Prelude.{◌≡◌, ◌≤◌, ◌<◌, ℕ, false, length, slice_index_or, pos, IsTrue};
     ghost use Rattle.faces.specs.PlaneSquares.{IsTable, is_there, square_place};
     ghost use Rattle.faces.specs.Points.{spot_of};
-    ghost use Rattle.faces.specs.SquareSteps.{square_count, square_at_place};
+    ghost use Rattle.faces.specs.SquareSteps.{place_count, square_at_place};
     ghost use Rattle.solid_model.specs.Rounds.{Spot};
 
     /// The squares of these rows.
@@ -83,11 +83,13 @@ impl Squares {
 
     /// The square at a place of the table.
     pub fn square(&self, place: usize) -> Point
-        requires { place < square_count }
+        requires { place < place_count self.now }
         ensures square { spot_of result ≡ square_at_place place }
         ensures u { result.u < 64 }
         ensures v { result.v < 63 }
     {
+        // A look at the rows tells that they are few.
+        let _ = self.rows();
         Point {
             u: place % 64,
             v: place / 64,
@@ -98,7 +100,7 @@ impl Squares {
     pub fn place(&self, square: Point) -> usize
         requires { IsTrue (is_there self.now (spot_of square)) }
         ensures place { result ≡ square_place (spot_of square) }
-        ensures there { result < square_count }
+        ensures there { result < place_count self.now }
     {
         square.v * 64 + square.u
     }

@@ -1,5 +1,5 @@
 -- The lines of one plane more, of one side more, and of all.
-use Rattle.std.proofs.Common.{◌≡◌, ℕ, ◌+◌, ◌++◌, ◌∷◌, ◌&&◌, ◌<ℤ◌, Bool, false, List, [], map, slice_index_or, pos, refl, sym, ◌∙◌, ap, subst, arith}
+use Rattle.std.proofs.Common.{◌≡◌, ℕ, zero, suc, ◌+◌, ◌<◌, ◌++◌, ◌∷◌, ◌&&◌, ◌<ℤ◌, Bool, false, List, [], map, length, take, set, slice_index_or, pos, refl, sym, ◌∙◌, ap, subst, arith}
 use Rattle.std.specs.List.{flat_map}
 use Rattle.std.proofs.lemmas.Grind.{flat_map-append}
 use Rattle.std.proofs.lemmas.List.{append-nil, length-append, length-map, map-append}
@@ -10,7 +10,7 @@ use Rattle.solid_model.specs.declared.cell.Cell.{Cell}
 use Rattle.solid_model.specs.declared.face.Out.{Out}
 use Rattle.solid_model.specs.Faces.{outward, out_number, FaceParts, AreFacesOf}
 use Rattle.solid_model.specs.Grid.{Coordinates, gaps_along}
-use Rattle.lemmas.specs.Lists.{Ascends}
+use Rattle.lemmas.specs.Lists.{Each, Ascends}
 use Rattle.solid_model.specs.Marks.{BoxMarks, is_marked}
 use Rattle.solid_model.specs.PerAxis.{numbers_of}
 use Rattle.solid_model.specs.Rooms.{is_within, box_place}
@@ -20,7 +20,13 @@ use Rattle.face_laws.proofs.GridPlanes.{union_faces}
 use Rattle.faces.specs.PlaneFaces.{AreBoundary, AreFacesOfSquares, AreFacesInPlane}
 use Rattle.faces.proofs.MoreFaces.{no_faces_yet, plane_more, side_done, all_faces}
 use Rattle.report.specs.Texts.{face_text}
-use Rattle.report.specs.PlaneTexts.{PlaneLines, AreLines, AreLinesBefore, AreAllLines, GridLines, listed}
+use Rattle.report.specs.PlaneTexts.{PlaneLines, AreLines, AreLinesIn, AreLinesBefore, AreFirstLines, AreAllLines, GridLines, listed}
+
+-- another member in the place of one
+pub each-set : {A : Type 0} (P : A → Type 0) (xs : List A) (i : ℕ) (y : A) → Each P xs → P y → Each P (set xs i y)
+each-set P [] i y each is = tt
+each-set P (x ∷ xs) zero y each is = (is, each.1)
+each-set P (x ∷ xs) (suc i) y each is = (each.0, each-set P xs i y each.1 is)
 
 -- coordinates stay when planes change
 pub other_planes : (g : GridLines) (planes : List PlaneLines) → listed (record { decimals = g.decimals; xs = g.xs; ys = g.ys; zs = g.zs; planes = planes }) ≡ listed g
@@ -59,6 +65,15 @@ module _ (decimals : ℕ) (coordinates : Coordinates) (m : BoxMarks) where
         each = each-push (AreLines decimals coordinates) planes p so_far.each lines;
       }
 
+  -- the first of a list, and the next one
+  pub first_more : (n k : ℕ) (planes more : List PlaneLines) (count : ℕ) → AreFirstLines decimals coordinates (is_marked m) n k planes count
+      → (out : Out) → out_number out ≡ n → (p : PlaneLines) → take (count + 1) more ≡ take count planes ++ p ∷ [] → count < length more
+      → AreLinesIn decimals coordinates (is_marked m) out k p → AreFirstLines decimals coordinates (is_marked m) n (k + 1) more (count + 1)
+  first_more n k planes more count first out side p is within lines = record {
+    before = subst (Before n (k + 1)) (sym is) (lines_more n k (take count planes) first.before out side p lines.out_is lines.at_is lines.lines lines.boundary);
+    within = omega arith;
+  }
+
   pub lines_of_side : (n k : ℕ) (planes : List PlaneLines) (out : Out) → out_number out ≡ n → k ≡ numbers_of m.sizes (outward out).axis + 1
       → Before n k planes → Before (n + 1) 0 planes
   lines_of_side n k planes out side all so_far = record {
@@ -67,6 +82,13 @@ module _ (decimals : ℕ) (coordinates : Coordinates) (m : BoxMarks) where
     count = so_far.count;
     text = so_far.text;
     each = so_far.each;
+  }
+
+  pub first_of_side : (n k : ℕ) (planes : List PlaneLines) (count : ℕ) (out : Out) → out_number out ≡ n → k ≡ numbers_of m.sizes (outward out).axis + 1
+      → AreFirstLines decimals coordinates (is_marked m) n k planes count → AreFirstLines decimals coordinates (is_marked m) (n + 1) 0 planes count
+  first_of_side n k planes count out side all first = record {
+    before = lines_of_side n k (take count planes) out side all first.before;
+    within = first.within;
   }
 
   module _ (sized : numbers_of m.sizes ≡ gaps_along coordinates) (ascends : (a : Axis) → Ascends ◌<ℤ◌ (coordinates a)) where

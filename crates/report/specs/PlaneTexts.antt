@@ -1,5 +1,5 @@
 -- The lines of a solid's faces, plane by plane.
-use Rattle.std.specs.Prelude.{◌≡◌, Bool, ℕ, List, length, map, ℤ, pos}
+use Rattle.std.specs.Prelude.{◌≡◌, ◌≤◌, Bool, ℕ, List, length, map, take, ℤ, pos}
 use Rattle.std.specs.List.{flat_map, sum_by}
 use Rattle.solid_model.specs.declared.cell.Axis.TheVariants.{X, Y, Z}
 use Rattle.solid_model.specs.declared.cell.Cell.{Cell}
@@ -9,7 +9,7 @@ use Rattle.solid_model.specs.Grid.{Coordinates, IsUnionOf}
 use Rattle.lemmas.specs.Lists.{Each}
 use Rattle.face_laws.specs.GridFaces.{face_in_space, grid_planes}
 use Rattle.faces.specs.FacesSoFar.{AreFacesBefore}
-use Rattle.faces.specs.PlaneFaces.{AreFacesOfSquares}
+use Rattle.faces.specs.PlaneFaces.{AreBoundary, AreFacesOfSquares}
 use Rattle.faces.specs.PlaneSquares.{SquareTable}
 use Rattle.report.specs.Texts.{face_text}
 
@@ -28,11 +28,11 @@ pub record AreLines (decimals : ℕ) (coordinates : Coordinates) (p : PlaneLines
   pub count : length faces ≡ p.count
   pub text : p.text ≡ flat_map (face_text decimals) (map (face_in_space (grid_planes coordinates)) faces)
 
--- and the squares are these, in this plane
-pub record AreLinesOf (decimals : ℕ) (coordinates : Coordinates) (out : Out) (at : ℕ) (squares : SquareTable) (p : PlaneLines) : Type 0 where
+-- and these are the faces of a solid of numbers in this plane
+pub record AreLinesIn (decimals : ℕ) (coordinates : Coordinates) (full : Cell → Bool) (out : Out) (at : ℕ) (p : PlaneLines) : Type 0 where
   pub out_is : p.out ≡ out
   pub at_is : p.at ≡ at
-  pub squares_are : p.squares ≡ squares
+  pub boundary : AreBoundary full out (pos at) p.squares
   pub lines : AreLines decimals coordinates p
 
 -- ---- several planes
@@ -52,6 +52,11 @@ pub record AreLinesBefore (decimals : ℕ) (coordinates : Coordinates) (full : C
   pub count : length faces ≡ line_count planes
   pub text : all_lines planes ≡ flat_map (face_text decimals) (map (face_in_space (grid_planes coordinates)) faces)
   pub each : Each (AreLines decimals coordinates) planes
+
+-- the first of a list are, so many of them, and all are lines of such faces
+pub record AreFirstLines (decimals : ℕ) (coordinates : Coordinates) (full : Cell → Bool) (n m : ℕ) (planes : List PlaneLines) (count : ℕ) : Type 0 where
+  pub before : AreLinesBefore decimals coordinates full n m (take count planes)
+  pub within : count ≤ length planes
 
 -- they are those of all faces of the union of chosen grid cells
 pub record AreAllLines (decimals : ℕ) (coordinates : Coordinates) (cells : List Bool) (planes : List PlaneLines) : Type 0 where

@@ -1,5 +1,5 @@
 -- The texts of a search: its end, its solids with their faces, and pages of solids.
-use Rattle.std.specs.Prelude.{Bool, true, false, ℕ, List, [], ◌∷◌, ◌++◌, length, codes, decimal}
+use Rattle.std.specs.Prelude.{Bool, true, false, ℕ, List, [], ◌∷◌, ◌++◌, length, codes, decimal, if◌then◌else◌}
 use Rattle.std.specs.List.{flat_map}
 use Rattle.decimal_texts.specs.Decimals.{decimal_text}
 use Rattle.solid_model.specs.Blocks.{ProblemParts}
@@ -76,6 +76,18 @@ abbrev pub page_text : ℕ → ℕ → List (List Bool) → List ℕ
 page_text number total choices = codes "page " ++ decimal number ++ codes " solids " ++ decimal total ++ codes "\n"
     ++ flat_map choice_line choices
 
+-- ---- readers
+
+-- a page that a reader has taken from a place on: how many solids it tells, whether the list that was seen ends there, and a line
+-- for each choice that it tells
+abbrev pub reader_text : ℕ → ℕ → List (List Bool) → Bool → List ℕ
+reader_text reader from choices ends = codes "reader " ++ decimal reader ++ codes " page " ++ decimal from
+    ++ codes " solids " ++ decimal (length choices) ++ (if ends then codes " ends 1\n" else codes " ends 0\n") ++ flat_map choice_line choices
+
+-- that a search was stopped, and how many solids are listed
+abbrev pub stopped_text : ℕ → List ℕ
+stopped_text solids = codes "stopped solids " ++ decimal solids ++ codes "\n"
+
 -- ---- trials
 
 -- what is told of the search of a made drawing: the number that it is made from, its pieces, how many blocks and solids there
@@ -97,5 +109,5 @@ abbrev pub yes_text : List (List Bool) → List ℕ
 yes_text choices = codes "yes " ++ decimal (length choices) ++ codes "\n" ++ flat_map choice_line choices
 
 -- why a log is refused: the name of what is wrong, and the number of the line
-abbrev pub refusal_text : List ℕ → ℕ → List ℕ
-refusal_text name line = codes "log " ++ name ++ codes " line " ++ decimal line ++ codes "\n"
+abbrev pub refusal_text : List ℕ → List ℕ → ℕ → List ℕ
+refusal_text subject name line = subject ++ codes " " ++ name ++ codes " line " ++ decimal line ++ codes "\n"

@@ -1,14 +1,8 @@
 //! The lines of the faces in one plane.
 
-ghost use Rattle.std.specs.Prelude.{◌≡◌, ◌≤◌, pos, IfSome, IfOk};
-ghost use Rattle.faces.specs.PlaneFaces.{LieOnGrid};
-ghost use Rattle.report.specs.PlaneTexts.{AreLines, AreLinesOf};
-ghost use Rattle.solid_model.specs.Limits.{most_decimals};
-ghost use Rattle.lemmas.specs.Lists.{Each, Member};
-ghost use Rattle.solid_model.specs.Panels.{coordinates_of};
-
 use crate::solid::push_faces;
-use faces::{Squares, faces_of_squares};
+use cell_rows::CellRows;
+use faces::{Squares, are_plane_squares, faces_of_squares, plane_squares};
 use solid_model::{Grid, Memory, Out};
 use std::alloc::Global;
 use std::marker::Model;
@@ -39,26 +33,31 @@ impl Model for PlaneText {
 
 impl PlaneText {
     ghost use Rattle.std.specs.Prelude.{◌≡◌, ◌≤◌, ◌^◌, ◌<◌, pos, IsTrue, IfOk};
-    ghost use Rattle.faces.specs.PlaneFaces.{LieOnGrid};
-    ghost use Rattle.report.specs.PlaneTexts.{AreLinesOf};
+    ghost use Rattle.faces.specs.PlaneFaces.{AreBoundary};
+    ghost use Rattle.report.specs.PlaneTexts.{AreLinesIn};
+    ghost use Rattle.solid_model.specs.GridBox.{grid_sizes};
     ghost use Rattle.solid_model.specs.Limits.{most_decimals};
+    ghost use Rattle.solid_model.specs.Marks.{is_marked};
+    ghost use Rattle.solid_model.specs.PerAxis.{numbers_of};
     ghost use Rattle.solid_model.specs.Panels.{coordinates_of};
 
-    /// The lines of the faces of these squares in a plane of a grid. Their coordinates have so many
-    /// decimals. An `Err` is out of memory.
-    fn of(
+    /// The lines of the faces of the marked cells of a grid in a plane. Their coordinates have so
+    /// many decimals. An `Err` is out of memory.
+    pub fn of(
         alloc: Global,
         grid: &Grid,
         decimals: u8,
-        squares: Squares,
+        cells: &CellRows,
         out: Out,
         at: usize,
     ) -> Result<PlaneText, Memory>
         requires at { at ≤ 1024 }
+        requires sizes { numbers_of cells.now.sizes ≡ grid_sizes grid.now }
         requires decimals { decimals ≤ most_decimals }
-        requires grid { LieOnGrid (coordinates_of grid.now) squares out (pos at) }
-        ensures { IfOk result (AreLinesOf decimals (coordinates_of grid.now) out at squares) }
+        ensures { IfOk result (AreLinesIn decimals (coordinates_of grid.now)
+            (is_marked cells.now) out at) }
     {
+        let squares = plane_squares(alloc, cells, out, at)?;
         let faces = faces_of_squares(alloc, grid, &squares, out, at)?;
         let mut text = Vec::new(alloc);
         push_faces(&mut text, faces.as_slice(), decimals)?;
@@ -71,27 +70,13 @@ impl PlaneText {
         })
     }
 
-    /// They are those of these squares in this plane.
-    fn tells(&self, squares: &Squares, out: Out, at: usize) -> bool
+    /// They are those of the faces of marked cells in this plane, since these have the same squares
+    /// there.
+    pub fn tells(&self, cells: &CellRows, out: Out, at: usize) -> bool
         ensures { IsTrue result → (self.now.out ≡ out) × (self.now.at ≡ at)
-            × (self.now.squares ≡ squares.now) }
+            × AreBoundary (is_marked cells.now) out (pos at) self.now.squares }
     {
-        self.out == out && self.at == at && self.squares.same(squares)
-    }
-
-    /// The same lines, with the same squares. An `Err` is out of memory.
-    fn copied(&self, alloc: Global, squares: Squares) -> Result<PlaneText, Memory>
-        requires { self.now.squares ≡ squares }
-        ensures { IfOk result (λ copy. copy ≡ self.now) }
-    {
-        let text = Vec::from_slice(alloc, self.text.as_slice())?;
-        Ok(PlaneText {
-            out: self.out,
-            at: self.at,
-            squares,
-            count: self.count,
-            text,
-        })
+        self.out == out && self.at == at && are_plane_squares(cells, out, at, &self.squares)
     }
 
     /// How many lines there are.
@@ -107,52 +92,5 @@ impl PlaneText {
         ensures { result.now ≡ self.now.text }
     {
         self.text.as_slice()
-    }
-}
-
-/// The lines at a place of a list, if they are those of these squares in this plane.
-fn kept<'a>(
-    earlier: &'a [PlaneText],
-    place: usize,
-    squares: &Squares,
-    out: Out,
-    at: usize,
-) -> Option<&'a PlaneText>
-    ensures { IfSome result (λ p. Member earlier.now p.now × (p.now.out ≡ out) × (p.now.at ≡ at)
-        × (p.now.squares ≡ squares.now)) }
-{
-    if place >= earlier.len() {
-        return None;
-    }
-    let plane = &earlier[place];
-    if plane.tells(squares, out, at) {
-        Some(plane)
-    } else {
-        None
-    }
-}
-
-/// The lines of the faces of these squares in a plane of a grid: the earlier ones at a place of a
-/// list, if they are of the same squares, or else new ones. Their coordinates have so many
-/// decimals. An `Err` is out of memory.
-pub fn text_of_plane(
-    alloc: Global,
-    grid: &Grid,
-    decimals: u8,
-    squares: Squares,
-    out: Out,
-    at: usize,
-    earlier: &[PlaneText],
-    place: usize,
-) -> Result<PlaneText, Memory>
-    requires at { at ≤ 1024 }
-    requires decimals { decimals ≤ most_decimals }
-    requires grid { LieOnGrid (coordinates_of grid.now) squares out (pos at) }
-    requires earlier { Each (AreLines decimals (coordinates_of grid.now)) earlier.now }
-    ensures { IfOk result (AreLinesOf decimals (coordinates_of grid.now) out at squares) }
-{
-    match kept(earlier, place, &squares, out, at) {
-        Some(plane) => plane.copied(alloc, squares),
-        None => PlaneText::of(alloc, grid, decimals, squares, out, at),
     }
 }

@@ -4,10 +4,10 @@
 //! forgotten where either is another: so no condition is laid on whose lines they are, and no
 //! caller has to see to it.
 
-ghost use Rattle.std.specs.Prelude.{◌≡◌, ◌≤◌, ◌+◌, ◌++◌, ◌∷◌, [], pos, IsTrue, IfOk, OnOk};
-ghost use Rattle.faces.specs.PlaneFaces.{AreBoundary};
-ghost use Rattle.report.specs.PlaneTexts.{PlaneLines, AreLines, AreLinesBefore, line_count, all_lines};
+ghost use Rattle.std.specs.Prelude.{◌≡◌, ◌≤◌, ◌<◌, ◌+◌, ◌++◌, ◌∷◌, [], ℕ, length, take, IsTrue, IfOk, OnOk};
+ghost use Rattle.report.specs.PlaneTexts.{PlaneLines, AreLines, AreLinesIn, AreLinesBefore, AreFirstLines, line_count, all_lines};
 ghost use Rattle.solid_model.specs.Faces.{out_number};
+ghost use Rattle.solid_model.specs.Grid.{Coordinates};
 ghost use Rattle.solid_model.specs.GridBox.{grid_sizes};
 ghost use Rattle.solid_model.specs.Limits.{most_decimals};
 ghost use Rattle.lemmas.specs.Lists.{Each};
@@ -15,89 +15,107 @@ ghost use Rattle.solid_model.specs.Marks.{is_marked};
 ghost use Rattle.solid_model.specs.Panels.{coordinates_of};
 ghost use Rattle.solid_model.specs.PerAxis.{numbers_of};
 
-use crate::plane_text::{PlaneText, text_of_plane};
+use crate::plane_text::PlaneText;
 use cell_rows::CellRows;
-use faces::plane_squares;
 use solid_model::{Axis, Grid, Memory, Out, same_coordinates};
 use std::alloc::Global;
 use std::marker::Model;
 
-/// Puts the lines of the faces of marked cells in a plane at the end of the list, whose coordinates
-/// have so many decimals. Those at the same place of an earlier list serve again if they are of the
-/// same squares.
-fn add_plane(
+/// Puts lines in their place of a list, or at its end.
+fn set_plane(planes: &mut Vec<PlaneText>, place: usize, plane: PlaneText) -> Result<(), Memory>
+    requires { place ≤ length planes.old.items }
+    ensures each { (decimals : ℕ) (coordinates : Coordinates)
+        → Each (AreLines decimals coordinates) planes.old.items
+        → AreLines decimals coordinates plane
+        → Each (AreLines decimals coordinates) planes.new.items }
+    ensures put { IfOk result (λ done. (place < length planes.new.items)
+        × (take (place + 1) planes.new.items ≡ take place planes.old.items ++ plane ∷ [])) }
+{
+    if place < planes.len() {
+        planes[place] = plane;
+    } else {
+        planes.push(plane)?;
+    }
+    Ok(())
+}
+
+/// Puts the lines of the faces of marked cells in a plane in their place of a list, where those
+/// stand that another solid had there: they stay if they are of the same squares. Their coordinates
+/// have so many decimals.
+fn put_plane(
     alloc: Global,
     grid: &Grid,
     decimals: u8,
     cells: &CellRows,
     out: Out,
     at: usize,
-    earlier: &[PlaneText],
     planes: &mut Vec<PlaneText>,
+    place: usize,
 ) -> Result<(), Memory>
     requires at { at ≤ 1024 }
     requires sizes { numbers_of cells.now.sizes ≡ grid_sizes grid.now }
     requires decimals { decimals ≤ most_decimals }
-    requires earlier { Each (AreLines decimals (coordinates_of grid.now)) earlier.now }
-    ensures { IfOk result (λ done. (p : PlaneLines)
-        × (planes.new.items ≡ planes.old.items ++ p ∷ [])
-        × (p.out ≡ out) × (p.at ≡ at) × AreLines decimals (coordinates_of grid.now) p
-        × AreBoundary (is_marked cells.now) out (pos at) p.squares) }
+    requires place { place ≤ length planes.old.items }
+    requires each { Each (AreLines decimals (coordinates_of grid.now)) planes.old.items }
+    ensures each { Each (AreLines decimals (coordinates_of grid.now)) planes.new.items }
+    ensures put { IfOk result (λ done. (place < length planes.new.items) × ((p : PlaneLines)
+        × (take (place + 1) planes.new.items ≡ take place planes.old.items ++ p ∷ [])
+        × AreLinesIn decimals (coordinates_of grid.now) (is_marked cells.now) out at p)) }
 {
-    let squares = plane_squares(alloc, cells, out, at)?;
-    let place = planes.len();
-    let plane = text_of_plane(alloc, grid, decimals, squares, out, at, earlier, place)?;
-    planes.push(plane)?;
-    Ok(())
+    if place < planes.len() && planes[place].tells(cells, out, at) {
+        return Ok(());
+    }
+    let plane = PlaneText::of(alloc, grid, decimals, cells, out, at)?;
+    set_plane(planes, place, plane)
 }
 
-/// The same of all planes of an outward side.
-fn add_side(
+/// The same of all planes of an outward side, from a place on; tells the place behind them.
+fn put_side(
     alloc: Global,
     grid: &Grid,
     decimals: u8,
     cells: &CellRows,
     out: Out,
-    earlier: &[PlaneText],
     planes: &mut Vec<PlaneText>,
-) -> Result<(), Memory>
+    first: usize,
+) -> Result<usize, Memory>
     requires sizes { numbers_of cells.now.sizes ≡ grid_sizes grid.now }
     requires decimals { decimals ≤ most_decimals }
-    requires earlier { Each (AreLines decimals (coordinates_of grid.now)) earlier.now }
-    requires before { AreLinesBefore decimals (coordinates_of grid.now) (is_marked cells.now)
-        (out_number out)
-        0 planes.old.items }
-    ensures { IfOk result (λ done. AreLinesBefore decimals (coordinates_of grid.now)
-        (is_marked cells.now)
-        (out_number out + 1) 0 planes.new.items) }
+    requires each { Each (AreLines decimals (coordinates_of grid.now)) planes.old.items }
+    requires before { AreFirstLines decimals (coordinates_of grid.now) (is_marked cells.now)
+        (out_number out) 0 planes.old.items first }
+    ensures each { Each (AreLines decimals (coordinates_of grid.now)) planes.new.items }
+    ensures put { IfOk result (AreFirstLines decimals (coordinates_of grid.now)
+        (is_marked cells.now) (out_number out + 1) 0 planes.new.items) }
 {
     let count = cells.sizes().along(out.direction().axis) + 1;
     for at in 0..count {
-        add_plane(alloc, grid, decimals, cells, out, at, earlier, planes)?;
+        put_plane(alloc, grid, decimals, cells, out, at, planes, first + at)?;
     }
-    Ok(())
+    Ok(first + count)
 }
 
-/// The lines of all faces of the marked cells of a grid, by their planes.
-fn all_planes(
+/// Makes a list that of the lines of all faces of the marked cells of a grid, by their planes.
+fn put_all(
     alloc: Global,
     grid: &Grid,
     decimals: u8,
     cells: &CellRows,
-    earlier: &[PlaneText],
-) -> Result<Vec<PlaneText>, Memory>
+    planes: &mut Vec<PlaneText>,
+) -> Result<(), Memory>
     requires sizes { numbers_of cells.now.sizes ≡ grid_sizes grid.now }
     requires decimals { decimals ≤ most_decimals }
-    requires earlier { Each (AreLines decimals (coordinates_of grid.now)) earlier.now }
-    ensures { IfOk result (λ planes. AreLinesBefore decimals (coordinates_of grid.now)
-        (is_marked cells.now)
-        6 0 planes.items) }
+    requires each { Each (AreLines decimals (coordinates_of grid.now)) planes.old.items }
+    ensures each { Each (AreLines decimals (coordinates_of grid.now)) planes.new.items }
+    ensures all { IfOk result (λ done. AreLinesBefore decimals (coordinates_of grid.now)
+        (is_marked cells.now) 6 0 planes.new.items) }
 {
-    let mut planes = Vec::new(alloc);
+    let mut place = 0;
     for out in Out::ALL {
-        add_side(alloc, grid, decimals, cells, out, earlier, &mut planes)?;
+        place = put_side(alloc, grid, decimals, cells, out, planes, place)?;
     }
-    Ok(planes)
+    planes.truncate(place);
+    Ok(())
 }
 
 /// How many lines there are.
@@ -219,8 +237,7 @@ impl PlaneTexts {
         // A look at the grid tells that its coordinates are in order.
         let _ = grid.coordinates(Axis::X);
         self.put_on(alloc, grid, decimals)?;
-        self.planes = all_planes(alloc, grid, decimals, cells, self.planes.as_slice())?;
-        Ok(())
+        put_all(alloc, grid, decimals, cells, &mut self.planes)
     }
 
     /// How many lines there are.

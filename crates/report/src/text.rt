@@ -3,7 +3,7 @@
 ghost use Rattle.std.specs.Prelude.{◌≡◌, ◌++◌, length, IfOk, OnOk};
 ghost use Rattle.std.specs.List.{flat_map};
 ghost use Rattle.report.specs.Texts.{choice_text, head_text, choice_line, page_text};
-ghost use Rattle.report.specs.Texts.{trial_text, no_solid_text, refusal_text, yes_text};
+ghost use Rattle.report.specs.Texts.{trial_text, no_solid_text, reader_text, refusal_text, stopped_text, yes_text};
 
 use itoa::{Buffer, Integer};
 use solid_model::{Choice, EndKind, Ended, Limits, Memory};
@@ -114,12 +114,48 @@ pub fn yes_text(alloc: Global, choices: &[Choice]) -> Result<Vec<u8>, Memory>
     Ok(text)
 }
 
-/// The line that tells why a log is refused, by the name of what is wrong and the number of the line:
-/// `log G3 Unproved line 3`. An `Err` is out of memory.
-pub fn refusal_text(alloc: Global, name: &str, line: u32) -> Result<Vec<u8>, Memory>
-    ensures { IfOk result (λ text. text.items ≡ refusal_text name.now line) }
+/// The text of a page that a reader has taken from a place on: `reader R page F solids C ends E`,
+/// where E is 1 if the list that it saw had no further place, and else 0, and then for each choice a
+/// line `choice C`. An `Err` is out of memory.
+pub fn reader_text(
+    alloc: Global,
+    reader: usize,
+    from: usize,
+    choices: &[Choice],
+    ends: bool,
+) -> Result<Vec<u8>, Memory>
+    ensures { IfOk result (λ text.
+        text.items ≡ reader_text reader from choices.now ends) }
 {
-    let mut text = Vec::from_slice(alloc, b"log ")?;
+    let mut text = Vec::from_slice(alloc, b"reader ")?;
+    push_number(&mut text, reader)?;
+    text.extend_from_slice(b" page ")?;
+    push_number(&mut text, from)?;
+    text.extend_from_slice(b" solids ")?;
+    push_number(&mut text, choices.len())?;
+    text.extend_from_slice(if ends { b" ends 1\n" } else { b" ends 0\n" })?;
+    push_choice_lines(&mut text, choices)?;
+    Ok(text)
+}
+
+/// The line that tells that a search was stopped, and how many solids are listed. An `Err` is out of
+/// memory.
+pub fn stopped_text(alloc: Global, solids: usize) -> Result<Vec<u8>, Memory>
+    ensures { IfOk result (λ text. text.items ≡ stopped_text solids) }
+{
+    let mut text = Vec::from_slice(alloc, b"stopped solids ")?;
+    push_number(&mut text, solids)?;
+    text.extend_from_slice(b"\n")?;
+    Ok(text)
+}
+
+/// The line that tells why what stands behind a drawing is refused, by what it should be, the name of
+/// what is wrong and the number of the line: `log G3 Unproved line 3`. An `Err` is out of memory.
+pub fn refusal_text(alloc: Global, subject: &str, name: &str, line: u32) -> Result<Vec<u8>, Memory>
+    ensures { IfOk result (λ text. text.items ≡ refusal_text subject.now name.now line) }
+{
+    let mut text = Vec::from_slice(alloc, subject.as_bytes())?;
+    text.extend_from_slice(b" ")?;
     text.extend_from_slice(name.as_bytes())?;
     text.extend_from_slice(b" line ")?;
     push_number(&mut text, line)?;

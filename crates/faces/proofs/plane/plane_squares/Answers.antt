@@ -1,5 +1,5 @@
 -- One row more; and all of them.
-use Rattle.std.proofs.Common.{◌≡◌, ◌≤◌, length, ◌∙◌, ap, sym, subst, pos, arith}
+use Rattle.std.proofs.Common.{◌≡◌, ◌≤◌, ◌&&◌, not, length, ◌∙◌, ap, sym, subst, pos, arith}
 use Rattle.solid_model.specs.declared.cell.Axis.{Axis}
 use Rattle.solid_model.specs.Faces.{is_boundary}
 use Rattle.solid_model.specs.Marks.{is_marked}
@@ -16,7 +16,9 @@ loop-v-init c = record { count = ap length c.in_ok-rows.ensures.items; each = λ
 pub loop-v-preserved : goal.loop-v-preserved
 loop-v-preserved c =
     holds_more (IsBoundaryRow c.args.cells.now c.args.out (pos c.args.at)) c.loop-v.rows.items _ _ c.boundary_row.result
-    c.loop-v.invariant c.boundary_row.ensures c.in_ok-push.ensures.items
+    c.loop-v.invariant
+    (λ u l. c.boundary_row.ensures u l ∙ (λ i. c.inner_rows-inner.ensures u c.loop-v.v l i && not (c.outer_rows-outer.ensures u c.loop-v.v l i)))
+    c.in_ok-push.ensures.items
 
 pub new-requires : goal.new-requires
 new-requires c =
