@@ -1,6 +1,7 @@
 //! Where a log's tree stands: the decisions, and the places of those whose empty side is to come.
 
-ghost use Rattle.std.specs.Prelude.{◌≡◌, ◌<◌, ◌≤◌, ◌∷◌, None, true, false, get_or, length, reverse, take, OnOk};
+ghost use Rattle.std.specs.Prelude.{◌≡◌, ◌<◌, ◌≤◌, ◌++◌, ◌∷◌, [], ℕ, None, true, false, get_or, length, reverse, take, OnErr, OnOk};
+ghost use Rattle.solid_model.specs.declared.decision.Decision.{Decision};
 ghost use Rattle.solid_model.specs.Decisions.{decided_by};
 ghost use Rattle.completeness_logs.specs.Logs.{with_block};
 ghost use Rattle.completeness_logs.specs.SplitMarks.{AreSplitMarks, no_decision, sides_to_come, all_to_come};
@@ -35,6 +36,12 @@ pub fn close_tree(partial: &mut Partial<'_>, marks: &mut Vec<u16>) -> bool
     ensures marks { AreSplitMarks partial.new.decisions (reverse marks.new.items) }
     ensures coming { all_to_come result partial.new.decisions (reverse marks.new.items)
         ≡ sides_to_come partial.old.decisions (reverse marks.old.items) }
+    ensures back { result ≡ true → (mark : ℕ)
+        × (last : Decision)
+        × (reverse marks.old.items ≡ mark ∷ reverse marks.new.items)
+        × (partial.new.decisions ≡ take mark partial.old.decisions ++ last ∷ []) }
+    ensures end { result ≡ false → (partial.new ≡ partial.old)
+        × (marks.new.items ≡ marks.old.items) }
 {
     let _count = partial.decided();
     match marks.pop() {
@@ -73,6 +80,12 @@ pub fn go_split(partial: &mut Partial<'_>, block: u16, marks: &mut Vec<u16>) -> 
         ≡ with_block (decided_by partial.old.decisions) block true
         ∷ with_block (decided_by partial.old.decisions) block false
         ∷ sides_to_come partial.old.decisions (reverse marks.old.items)) }
+    ensures split { OnOk result ((marks.new.items
+        ≡ marks.old.items ++ length partial.old.decisions ∷ [])
+        × (partial.new.decisions
+        ≡ partial.old.decisions ++ record { block = block; full = true } ∷ [])) }
+    ensures kept { OnErr result
+        ((partial.new ≡ partial.old) × (marks.new.items ≡ marks.old.items)) }
 {
     let mark = partial.decided();
     marks.push(mark)?;

@@ -3,3 +3,4 @@ pub mod SomeTrees
 pub mod LineTexts
 pub mod Begun
 pub mod NextEntries
+pub mod Walks

@@ -1,4 +1,5 @@
 pub mod Few
 pub mod Lines
+pub mod Walks
 pub mod Weights
 pub mod Writing

@@ -13,9 +13,8 @@ ghost use Rattle.tv_base.specs.Faults.{Rose};
 ghost use Rattle.tv_base.specs.Pieces.{AppendsPrefix};
 
 use crate::line::{push_closing, push_entry, push_opening};
-use crate::next::next_entry;
+use crate::walk::Walk;
 use completeness_logs::LogEntry;
-use line_demands::Partial;
 use solid_model::{Axis, Problem};
 use std::alloc::Global;
 use text_pieces::{PIECE, make_room, write_piece};
@@ -60,35 +59,33 @@ fn count_listed(solids: u64, entry: LogEntry) -> u64
 /// Writes the entries of a log behind its first line, which the piece has. How many solids are
 /// listed.
 fn write_entries<K: Sink>(
-    alloc: Global,
-    partial: &mut Partial<'_>,
+    walk: &mut Walk<'_>,
     piece: &mut Vec<u8>,
     sink: &mut K,
 ) -> Result<u64, SinkError>
-    requires fresh { partial.old.decisions ≡ [] }
-    requires first { piece.old.items ≡ fed (opening_line partial.old.problem.blocks.count) }
+    requires fresh { (walk.old.decisions ≡ []) × (walk.old.marks ≡ []) }
+    requires first { piece.old.items ≡ fed (opening_line walk.old.problem.blocks.count) }
     requires fits { length piece.old.items ≤ 64201 }
-    requires grid { IsGrid partial.old.problem.grid }
-    requires blocks { IsBlocksOf partial.old.problem.grid partial.old.problem.blocks }
-    requires few { HasFewMatching partial.old.problem }
+    requires grid { IsGrid walk.old.problem.grid }
+    requires blocks { IsBlocksOf walk.old.problem.grid walk.old.problem.blocks }
+    requires few { HasFewMatching walk.old.problem }
     ensures later { K.faults sink.old ≤ K.faults sink.new }
     ensures ok { IfOk result (λ solids. (text : List ℕ)
         × (choices : List (List Bool))
-        × IsLog partial.old.problem (text ++ fed (closing_line solids)) choices
+        × IsLog walk.old.problem (text ++ fed (closing_line solids)) choices
         × WritesOn (K.held sink.old) (K.held sink.new) text piece.new.items) }
     ensures room { OnOk result (length piece.new.items ≤ 64201) }
     ensures err { OnErr result
-        (WritesLog partial.old.problem (K.held sink.old) (K.held sink.new)) }
+        (WritesLog walk.old.problem (K.held sink.old) (K.held sink.new)) }
     ensures failed { IsErrOf result SinkError.Failed →
         Rose (K.faults sink.old) (K.faults sink.new) }
 {
     // A look at the blocks tells that their number has 16 bits.
-    let _count = block_count(partial.problem());
-    let mut marks = Vec::new(alloc);
+    let _count = block_count(walk.problem());
     let mut solids = 0;
     let mut open = true;
     while open {
-        let Ok(next) = next_entry(partial, &mut marks) else {
+        let Ok(next) = walk.next_entry() else {
             return Err(SinkError::Memory);
         };
         write_entry(piece, next.entry, sink)?;
@@ -99,29 +96,25 @@ fn write_entries<K: Sink>(
 }
 
 /// Writes the log of a problem, while no block is decided.
-fn write_log<K: Sink>(
-    alloc: Global,
-    partial: &mut Partial<'_>,
-    sink: &mut K,
-) -> Result<(), SinkError>
-    requires fresh { partial.old.decisions ≡ [] }
-    requires grid { IsGrid partial.old.problem.grid }
-    requires blocks { IsBlocksOf partial.old.problem.grid partial.old.problem.blocks }
-    requires few { HasFewMatching partial.old.problem }
+fn write_log<K: Sink>(alloc: Global, walk: &mut Walk<'_>, sink: &mut K) -> Result<(), SinkError>
+    requires fresh { (walk.old.decisions ≡ []) × (walk.old.marks ≡ []) }
+    requires grid { IsGrid walk.old.problem.grid }
+    requires blocks { IsBlocksOf walk.old.problem.grid walk.old.problem.blocks }
+    requires few { HasFewMatching walk.old.problem }
     ensures later { K.faults sink.old ≤ K.faults sink.new }
     ensures ok { OnOk result ((text : List ℕ)
         × (choices : List (List Bool))
-        × IsLog partial.old.problem text choices
+        × IsLog walk.old.problem text choices
         × Appends (K.held sink.old) (K.held sink.new) text) }
     ensures err { OnErr result
-        (WritesLog partial.old.problem (K.held sink.old) (K.held sink.new)) }
+        (WritesLog walk.old.problem (K.held sink.old) (K.held sink.new)) }
     ensures failed { IsErrOf result SinkError.Failed →
         Rose (K.faults sink.old) (K.faults sink.new) }
 {
-    let blocks = u64::from(block_count(partial.problem()));
+    let blocks = u64::from(block_count(walk.problem()));
     let mut piece = Vec::with_capacity(alloc, PIECE)?;
     push_opening(&mut piece, blocks)?;
-    let solids = write_entries(alloc, partial, &mut piece, sink)?;
+    let solids = write_entries(walk, &mut piece, sink)?;
     push_closing(&mut piece, solids)?;
     write_piece(sink, &piece)
 }
@@ -151,10 +144,10 @@ pub fn prove_log<K: Sink>(alloc: Global, problem: &Problem, sink: &mut K) -> Res
     // drawing's, and that the number of its blocks has 16 bits.
     let _coordinates = problem.grid().coordinates(Axis::X);
     let _count = block_count(problem);
-    match Partial::new(alloc, problem) {
-        Ok(partial) => {
-            let mut partial = partial;
-            write_log(alloc, &mut partial, sink)
+    match Walk::new(alloc, problem) {
+        Ok(walk) => {
+            let mut walk = walk;
+            write_log(alloc, &mut walk, sink)
         }
         Err(_) => Err(SinkError::Memory),
     }

@@ -106,13 +106,13 @@ excluded_there p blocks known l block value (none, (of_after, k, at, out)) =
     (subst (λ r. IfSome r (λ b. b < p.blocks.count)) at (block_below p blocks (cell_beside p.grid l of_after k)), touches_by p blocks l block of_after k at)
 
 -- none where it leaves the cells beside it free
-free_calm : (p : ProblemParts) → IsBlocksOf p.grid p.blocks → (known : ℕ → Option Bool) (l : LineId) → LeavesFree p known l → IsCalm p known l
+pub free_calm : (p : ProblemParts) → IsBlocksOf p.grid p.blocks → (known : ℕ → Option Bool) (l : LineId) → LeavesFree p known l → IsCalm p known l
 free_calm p blocks known l free block value (none, (of_after, negsuc k, at, out)) = absurd (none-some block (sym (none_before p blocks l of_after k) ∙ at))
 free_calm p blocks known l free block value (none, (of_after, pos k, at, out)) = out (free of_after k value (ap (known_in known) at ∙ none))
 
 -- ---- a decision more
 
-at_push : {A : Type 0} (xs : List A) (x : A) → slice_get (xs ++ x ∷ []) (length xs) ≡ Some x
+pub at_push : {A : Type 0} (xs : List A) (x : A) → slice_get (xs ++ x ∷ []) (length xs) ≡ Some x
 at_push [] x = refl
 at_push (y ∷ ys) x = at_push ys x
 
@@ -122,7 +122,7 @@ module _ (p : ProblemParts) (blocks : IsBlocksOf p.grid p.blocks) (ds : List Dec
   awaits_new from few l e = (length ds, few, d, at_push ds d, e)
 
   -- each other one excludes nothing more,
-  calm_apart : (l : LineId) → touches p d.block l ≡ false → IsCalm p (decided_by ds) l → IsCalm p (decided_by (ds ++ d ∷ [])) l
+  pub calm_apart : (l : LineId) → touches p d.block l ≡ false → IsCalm p (decided_by ds) l → IsCalm p (decided_by (ds ++ d ∷ [])) l
   calm_apart l apart calm = subst (λ known. IsCalm p known l) (sym (decided_push ds d undecided)) (calm_same p blocks l (decided_by ds) d apart calm)
 
   -- so all stay handled

@@ -3,3 +3,5 @@ pub mod LineCells
 pub mod Steps
 pub mod Chains
 pub mod Handled
+pub mod OneNumber
+pub mod Doubting

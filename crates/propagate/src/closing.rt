@@ -54,7 +54,7 @@ fn settle_line(partial: &mut Partial<'_>, number: usize) -> Option<LineId>
 }
 
 /// The block of a decision.
-fn decided_block(partial: &Partial<'_>, at: u16) -> u16
+pub fn decided_block(partial: &Partial<'_>, at: u16) -> u16
     requires { at < length partial.now.decisions }
     ensures decision { (d : Decision) × (slice_get partial.now.decisions at ≡ Some d)
         × (d.block ≡ result) }

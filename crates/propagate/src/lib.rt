@@ -4,8 +4,10 @@
 
 mod cells;
 mod closing;
+mod doubted;
 mod line;
 mod stepping;
 
 pub use closing::{Closed, close, decide_closed};
-pub use stepping::{Forcing, step};
+pub use doubted::DoubtedLines;
+pub use stepping::{Forcing, doubt_last, step, step_doubted};

@@ -4,7 +4,7 @@ use Rattle.solid_model.specs.declared.decision.Decision.{Decision}
 use Rattle.solid_model.specs.Blocks.{ProblemParts}
 use Rattle.solid_model.specs.Decisions.{PartialParts, decided_by}
 use Rattle.completeness_logs.specs.SplitMarks.{AreSplitMarks, all_to_come}
-use Rattle.completeness_logs.proofs.SplitMarks.{newest_open, newest_marks, newest_standing}
+use Rattle.completeness_logs.proofs.SplitMarks.{newest_open, newest_marks, newest_standing, reversed}
 use Rattle.log_trail.proofs.trail.close_tree.Goals as goal
 
 pub decide-requires-clause-there : goal.decide-requires-clause-there
@@ -39,3 +39,12 @@ returns-in-Some-clause-coming c =
     ∙ ap₂ (λ (xs : List Decision) (b : ℕ). xs ++ record { block = b; full = false } ∷ []) c.undo_to.ensures.undone c.decided_block-block.ensures in
     ap (λ xs. all_to_come true xs (reverse c.pop.new.self.items)) now
     ∙ newest_standing p.blocks.count ds c.decided-count.ensures.each c.args.marks.now.items c.pop.new.self.items c.in-Some.mark c.in-Some.ensures.items c.requires
+
+pub returns-in-Some-clause-back : goal.returns-in-Some-clause-back
+returns-in-Some-clause-back c = λ _. (
+  c.in-Some.mark,
+  _,
+  reversed c.args.marks.now.items c.pop.new.self.items c.in-Some.mark c.in-Some.ensures.items,
+  ap (λ (v : PartialParts). v.decisions) c.decide.ensures.decided
+      ∙ ap₂ (λ (xs : List Decision) (b : ℕ). xs ++ record { block = b; full = false } ∷ []) c.undo_to.ensures.undone c.decided_block-block.ensures,
+)

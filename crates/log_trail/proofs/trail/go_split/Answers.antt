@@ -12,3 +12,9 @@ returns-clause-coming c =
     ap₂ (λ ns xs. all_to_come true xs (reverse ns)) (c.in_ok-push.ensures.items ∙ ap (λ n. ms ++ n ∷ []) c.decided-mark.ensures.count) (ap (λ (v : PartialParts). v.decisions) c.decide.ensures.decided)
     ∙ ap (λ ns. all_to_come true (ds ++ record { block = c.args.block; full = true } ∷ []) ns) (reverse-append ms (length ds ∷ []))
     ∙ standing_split ds (record { block = c.args.block; full = true }) (reverse ms) c.requires.undecided
+
+pub returns-clause-split : goal.returns-clause-split
+returns-clause-split c = (
+  c.in_ok-push.ensures.items ∙ ap (λ n. c.args.marks.now.items ++ n ∷ []) c.decided-mark.ensures.count,
+  ap (λ (v : PartialParts). v.decisions) c.decide.ensures.decided,
+)

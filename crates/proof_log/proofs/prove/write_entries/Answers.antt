@@ -1,8 +1,8 @@
 -- One entry more.
-use Rattle.std.proofs.Common.{◌++◌, ◌+◌, ◌≤◌, [], Bool, List, reverse, refl, sym, subst, ap, ◌∙◌, true, arith}
+use Rattle.std.proofs.Common.{◌++◌, ◌+◌, ◌≤◌, [], Bool, List, refl, sym, subst, ap, ◌∙◌, true, arith}
 use Rattle.completeness_logs.specs.Logs.{IsRightEntry, KnownBlocks}
 use Rattle.completeness_logs.specs.LogTexts.{entry_line, opening_line}
-use Rattle.completeness_logs.specs.SplitMarks.{AreSplitMarks, all_to_come, sides_to_come}
+use Rattle.completeness_logs.specs.SplitMarks.{all_to_come, sides_to_come}
 use Rattle.proof_log.specs.Lines.{fed}
 use Rattle.proof_log.specs.Writing.{listed_by}
 use Rattle.proof_log.proofs.Begun.{IsBegun, begun_first, begun_next, begun_prefix, counted_log}
@@ -14,18 +14,17 @@ use Rattle.proof_log.proofs.prove.write_entries.Goals as goal
 
 pub loop-open-init : goal.loop-open-init
 loop-open-init g c =
-    let p = c.args.partial.now.problem in
-    let ds = c.args.partial.now.decisions in
+    let p = c.args.walk.now.problem in
+    let ds = c.args.walk.now.decisions in
     let text = c.args.piece.now.items in
     record {
       problem = refl;
-      marks = subst (λ ms. AreSplitMarks ds (reverse ms)) (sym c.new-marks.ensures.items) tt;
       later = omega arith;
       text = text;
       listed = 0;
-      begun = subst (λ t. IsBegun p (all_to_come true ds (reverse c.new-marks.result.items)) t 0) (sym c.requires.first)
-          (subst (λ ms. IsBegun p (all_to_come true ds (reverse ms)) (fed (opening_line p.blocks.count)) 0) (sym c.new-marks.ensures.items)
-          (subst (λ xs. IsBegun p (all_to_come true xs []) (fed (opening_line p.blocks.count)) 0) (sym c.requires.fresh) (begun_first p)));
+      begun = subst (λ t. IsBegun p (all_to_come true ds c.args.walk.now.marks) t 0) (sym c.requires.first)
+          (subst (λ ms. IsBegun p (all_to_come true ds ms) (fed (opening_line p.blocks.count)) 0) (sym c.requires.fresh.1)
+          (subst (λ xs. IsBegun p (all_to_come true xs []) (fed (opening_line p.blocks.count)) 0) (sym c.requires.fresh.0) (begun_first p)));
       written = nothing_written (g.K.Sink.held c.args.sink.now) text;
       room = c.requires.fits;
       counted = λ l. refl;
@@ -33,9 +32,9 @@ loop-open-init g c =
 
 pub loop-open-preserved : goal.loop-open-preserved
 loop-open-preserved g c =
-    let p = c.args.partial.now.problem in
-    let ds = c.loop-open.partial.decisions in
-    let ms = reverse c.loop-open.marks.items in
+    let p = c.args.walk.now.problem in
+    let ds = c.loop-open.walk.decisions in
+    let ms = c.loop-open.walk.marks in
     let inv = c.loop-open.invariant in
     let e = c.in-Ok.next.entry in
     let right = subst (λ (r : ProblemParts). IsRightEntry r (decided_by ds) e) inv.problem c.in-Ok.ensures.right in
@@ -45,7 +44,6 @@ loop-open-preserved g c =
     let after = c.in_ok-write_entry.ensures.later in
     record {
       problem = c.next_entry.ensures.problem ∙ inv.problem;
-      marks = c.in-Ok.ensures.marks;
       later = omega (arith, before, after);
       text = inv.text ++ fed (entry_line e);
       listed = inv.listed + listed_by e;
@@ -58,18 +56,18 @@ loop-open-preserved g c =
 
 pub loop-open-smaller : goal.loop-open-smaller
 loop-open-smaller g c =
-    let p = c.args.partial.now.problem in
-    let ds = c.loop-open.partial.decisions in
-    let ms = reverse c.loop-open.marks.items in
+    let p = c.args.walk.now.problem in
+    let ds = c.loop-open.walk.decisions in
+    let ms = c.loop-open.walk.marks in
     let e = c.in-Ok.next.entry in
     let right = subst (λ (r : ProblemParts). IsRightEntry r (decided_by ds) e) c.loop-open.invariant.problem c.in-Ok.ensures.right in
     lighter_next p (decided_by ds) (sides_to_come ds ms) e right (all_to_come c.loop-open.open ds ms)
-    (all_to_come c.in-Ok.next.goes_on c.next_entry.new.partial.decisions (reverse c.next_entry.new.marks.items))
+    (all_to_come c.in-Ok.next.goes_on c.next_entry.new.self.decisions c.next_entry.new.self.marks)
     (ap (λ (b : Bool). all_to_come b ds ms) c.loop-open-test.true) c.in-Ok.ensures.coming
 
 pub returns-in_default-clause-err : goal.returns-in_default-clause-err
 returns-in_default-clause-err g c =
-    let p = c.args.partial.now.problem in
+    let p = c.args.walk.now.problem in
     let inv = c.loop-open.invariant in
     let count = subst (λ (q : ProblemParts). q.blocks.count ≤ 65535) c.problem.ensures c.block_count-count.ensures.few in
     begun_prefix p c.requires.grid c.requires.blocks count c.requires.few _ inv.text inv.listed inv.begun (g.K.Sink.held c.args.sink.now) (g.K.Sink.held c.loop-open.sink)
@@ -77,7 +75,7 @@ returns-in_default-clause-err g c =
 
 pub returns-in_err-write_entry-clause-err : goal.returns-in_err-write_entry-clause-err
 returns-in_err-write_entry-clause-err g c =
-    let p = c.args.partial.now.problem in
+    let p = c.args.walk.now.problem in
     let inv = c.loop-open.invariant in
     let count = subst (λ (q : ProblemParts). q.blocks.count ≤ 65535) c.problem.ensures c.block_count-count.ensures.few in
     let a = g.K.Sink.held c.args.sink.now in
@@ -88,9 +86,9 @@ returns-in_err-write_entry-clause-err g c =
 
 pub returns-clause-ok : goal.returns-clause-ok
 returns-clause-ok g c =
-    let p = c.args.partial.now.problem in
-    let ds = c.loop-open.partial.decisions in
-    let ms = reverse c.loop-open.marks.items in
+    let p = c.args.walk.now.problem in
+    let ds = c.loop-open.walk.decisions in
+    let ms = c.loop-open.walk.marks in
     let inv = c.loop-open.invariant in
     let count = subst (λ (q : ProblemParts). q.blocks.count ≤ 65535) c.problem.ensures c.block_count-count.ensures.few in
     let done = subst (λ (b : Bool). IsBegun p (all_to_come b ds ms) inv.text inv.listed) c.loop-open-test.false inv.begun in

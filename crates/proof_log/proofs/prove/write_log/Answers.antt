@@ -12,13 +12,13 @@ use Rattle.proof_log.proofs.prove.write_log.Goals as goal
 pub returns-in_err-piece-clause-err : goal.returns-in_err-piece-clause-err
 returns-in_err-piece-clause-err g c =
     let count = subst (λ (q : ProblemParts). q.blocks.count ≤ 65535) c.problem.ensures c.block_count.ensures.few in
-    at_error c.from_residual.result (nothing_of_log c.args.partial.now.problem c.requires.grid c.requires.blocks count c.requires.few (g.K.Sink.held c.args.sink.now))
+    at_error c.from_residual.result (nothing_of_log c.args.walk.now.problem c.requires.grid c.requires.blocks count c.requires.few (g.K.Sink.held c.args.sink.now))
 
 pub returns-in_err-push_opening-clause-err : goal.returns-in_err-push_opening-clause-err
 returns-in_err-push_opening-clause-err g c =
     let count = subst (λ (q : ProblemParts). q.blocks.count ≤ 65535) c.problem.ensures c.block_count.ensures.few in
     at_error c.from_residual-in_err-push_opening.result
-    (nothing_of_log c.args.partial.now.problem c.requires.grid c.requires.blocks count c.requires.few (g.K.Sink.held c.args.sink.now))
+    (nothing_of_log c.args.walk.now.problem c.requires.grid c.requires.blocks count c.requires.few (g.K.Sink.held c.args.sink.now))
 
 pub returns-in_err-push_closing-clause-err : goal.returns-in_err-push_closing-clause-err
 returns-in_err-push_closing-clause-err g c =
