@@ -27,7 +27,7 @@ use Rattle.search_tree.proofs.SearchEnds.{some_found}
 use Rattle.search_end.specs.Answers.{is_new, new_ones}
 
 -- one that isn't new is
-not_new : (handed : List (List Bool)) (x : List Bool) → list_any (same_values x) handed ≡ true → Member handed x
+pub not_new : (handed : List (List Bool)) (x : List Bool) → list_any (same_values x) handed ≡ true → Member handed x
 not_new [] x e = absurd (both_ways false refl e)
 not_new (y ∷ handed) x e = at (same_values x y) refl (not_new handed x)
   where
@@ -36,7 +36,7 @@ not_new (y ∷ handed) x e = at (same_values x y) refl (not_new handed x)
     at false s later = inr (later (subst (λ (b : Bool). (b || list_any (same_values x) handed) ≡ true) s e))
 
 -- one that is among those isn't new, and one that isn't is
-old_one : (handed : List (List Bool)) (x : List Bool) → Member handed x → is_new handed x ≡ false
+pub old_one : (handed : List (List Bool)) (x : List Bool) → Member handed x → is_new handed x ≡ false
 old_one handed x k = ap not (any_from_member (same_values x) handed x k ((Decides-same_values x x).1 refl))
 
 new_one : (handed : List (List Bool)) (x : List Bool) → (Member handed x → ⊥) → is_new handed x ≡ true
@@ -47,7 +47,7 @@ new_one handed x none = at (list_any (same_values x) handed) refl
     at false e = ap not e
 
 -- where all pass the test, all are kept
-filter_all : {A : Type 0} (p : A → Bool) (xs : List A) → Each (λ x. p x ≡ true) xs → filter p xs ≡ xs
+pub filter_all : {A : Type 0} (p : A → Bool) (xs : List A) → Each (λ x. p x ≡ true) xs → filter p xs ≡ xs
 filter_all p [] h = refl
 filter_all p (x ∷ xs) h = rw (h.0, filter_all p xs h.1) refl
 

@@ -28,7 +28,7 @@ module _ (d : DeskParts) (desk : IsDesk d) (blocks : IsBlocksOf d.problem.grid d
   found_once = subst (Ascends ◌≢◌) (sym desk.found) kept.once
 
   -- and they are within the limit
-  found_few : length d.found ≤ d.limits.solids
+  pub found_few : length d.found ≤ d.limits.solids
   found_few = omega (arith, ap length desk.found, kept.few)
 
   -- a report leaves them, and more may follow

@@ -2,3 +2,5 @@ pub mod PageCalls
 pub mod AnswerLists
 pub mod DeskAnswers
 pub mod DeskFound
+mod JoinedLists
+pub mod StoppedDesks

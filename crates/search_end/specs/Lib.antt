@@ -1,3 +1,4 @@
 pub mod Handed
 pub mod Answers
 pub mod GoingOn
+pub mod Stopped

@@ -28,7 +28,7 @@ use std::alloc::Global;
 use std::sync::Arc;
 
 /// Whether a desk is of this problem and within these limits.
-fn is_of(desk: &Desk, problem: &Problem, limits: Limits) -> bool
+pub fn is_of(desk: &Desk, problem: &Problem, limits: Limits) -> bool
     ensures { IsTrue result → (desk.now.problem ≡ problem.now) × (desk.now.limits ≡ limits) }
 {
     let own = desk.limits();
@@ -71,7 +71,7 @@ fn own_desk(
 /// A desk of this search that has ended, and how: this one, or a new one where it is of another
 /// search. The events that are missing are made, by a way down the tree of their own. An `Err` is
 /// out of memory.
-fn ended_desk(
+pub fn ended_desk(
     alloc: Global,
     problem: &Arc<Problem>,
     limits: Limits,
@@ -150,7 +150,7 @@ fn hand_rest<P: PageOut>(
 }
 
 /// The answer of a desk that has ended so, where these are listed.
-fn answer(
+pub fn answer(
     problem: &Problem,
     limits: Limits,
     desk: &Desk,

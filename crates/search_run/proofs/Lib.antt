@@ -1,2 +1,4 @@
 mod Published
 mod ReadPages
+mod Work
+mod Opened

@@ -7,9 +7,8 @@ ghost use Rattle.search_end.specs.Handed.{BreaksOff, HandsOn, PagesOn};
 ghost use Rattle.page_calls.specs.Pages.{CountsFaults};
 ghost use Rattle.search_run.specs.Reading.{IsReadUpTo};
 
-use crate::search::Search;
-use crate::worker::Worker;
-use crate::working::work;
+use crate::working::work_at_seat;
+use crate::workshop::Workshop;
 use page_calls::{PageOut, RunFault};
 use search_end::{Handed, PAGE};
 use search_tree::BlockPath;
@@ -33,25 +32,25 @@ fn is_book_of<B: Wait + Drop>(reader: &mut BookReader<B>, problem: &Problem) -> 
 /// room. Says whether there was any. An `Err` is that of the page, or out of memory.
 fn page_new<B: Wait + Drop, G: Gate, P: PageOut>(
     alloc: Global,
-    search: &Search<'_, B, G>,
+    shop: &Workshop<'_, B, G>,
     reader: &mut BookReader<B>,
     handed: &mut Handed,
     pages: &mut P,
 ) -> Result<bool, RunFault>
-    requires read { IsReadUpTo (arc_value search.now.problem.now) reader.old handed.old.choices }
-    requires few { length handed.old.choices ≤ search.now.limits.solids }
+    requires read { IsReadUpTo (arc_value shop.now.problem.now) reader.old handed.old.choices }
+    requires few { length handed.old.choices ≤ shop.now.limits.solids }
     ensures read { OnOk result
-        (IsReadUpTo (arc_value search.now.problem.now) reader.new handed.new.choices) }
-    ensures few { OnOk result (length handed.new.choices ≤ search.now.limits.solids) }
+        (IsReadUpTo (arc_value shop.now.problem.now) reader.new handed.new.choices) }
+    ensures few { OnOk result (length handed.new.choices ≤ shop.now.limits.solids) }
     ensures out { MatchResult result
         (λ _. HandsOn (P.calls pages.old) handed.old (P.calls pages.new) handed.new)
-        (λ _. BreaksOff (arc_value search.now.problem.now) search.now.limits.solids
+        (λ _. BreaksOff (arc_value shop.now.problem.now) shop.now.limits.solids
         (P.calls pages.old) handed.old (P.calls pages.new)) }
     ensures faults { CountsFaults (P.faults pages.old) (P.faults pages.new) result
         RunFault.PageFault }
 {
     let from = handed.choices().len();
-    let most = PAGE.min(search.limits.solids as usize - from);
+    let most = PAGE.min(shop.limits.solids as usize - from);
     let Ok(page) = reader.page(alloc, from, most) else {
         return Err(RunFault::Memory);
     };
@@ -70,14 +69,14 @@ fn page_new<B: Wait + Drop, G: Gate, P: PageOut>(
 fn page_on<B: Wait + Drop, R: Wait, G: Gate, P: PageOut>(
     rt: &R,
     alloc: Global,
-    search: &Search<'_, B, G>,
+    shop: &Workshop<'_, B, G>,
     reader: BookReader<B>,
     handed: Handed,
     pages: &mut P,
 ) -> Result<Handed, RunFault>
-    requires read { IsReadUpTo (arc_value search.now.problem.now) reader handed.choices }
-    requires few { length handed.choices ≤ search.now.limits.solids }
-    ensures paged { PagesOn (arc_value search.now.problem.now) search.now.limits.solids
+    requires read { IsReadUpTo (arc_value shop.now.problem.now) reader handed.choices }
+    requires few { length handed.choices ≤ shop.now.limits.solids }
+    ensures paged { PagesOn (arc_value shop.now.problem.now) shop.now.limits.solids
         (P.calls pages.old) handed (P.calls pages.new) result }
     ensures faults { CountsFaults (P.faults pages.old) (P.faults pages.new) result
         RunFault.PageFault }
@@ -87,13 +86,13 @@ fn page_on<B: Wait + Drop, R: Wait, G: Gate, P: PageOut>(
     let mut seen = 0;
     let mut last = false;
     for _ in rt.forever() {
-        match page_new(alloc, search, &mut reader, &mut handed, pages) {
-            Ok(true) => search.gate.pass(search.workers, Point::PageWritten),
+        match page_new(alloc, shop, &mut reader, &mut handed, pages) {
+            Ok(true) => shop.gate.pass(shop.workers, Point::PageWritten),
             Ok(false) => {
                 if last {
                     return Ok(handed);
                 }
-                let news = search.room.wait_for_news(rt, seen);
+                let news = shop.room.wait_for_news(rt, seen);
                 seen = news.published;
                 last = news.last;
             }
@@ -107,21 +106,21 @@ fn page_on<B: Wait + Drop, R: Wait, G: Gate, P: PageOut>(
 fn page_all<B: Wait + Drop, R: Wait, G: Gate, P: PageOut>(
     rt: &R,
     alloc: Global,
-    search: &Search<'_, B, G>,
+    shop: &Workshop<'_, B, G>,
     reader: BookReader<B>,
     pages: &mut P,
 ) -> Result<Handed, RunFault>
-    ensures paged { PagesOn (arc_value search.now.problem.now) search.now.limits.solids
+    ensures paged { PagesOn (arc_value shop.now.problem.now) shop.now.limits.solids
         (P.calls pages.old) record { choices = []; pages = 0 } (P.calls pages.new) result }
     ensures faults { CountsFaults (P.faults pages.old) (P.faults pages.new) result
         RunFault.PageFault }
 {
     let mut reader = reader;
     let handed = Handed::new(alloc);
-    if !is_book_of(&mut reader, search.problem) {
+    if !is_book_of(&mut reader, shop.problem) {
         return Ok(handed);
     }
-    page_on(rt, alloc, search, reader, handed, pages)
+    page_on(rt, alloc, shop, reader, handed, pages)
 }
 
 /// Starts a worker at each seat, of which the first goes by this way down the tree of the problem's
@@ -131,14 +130,14 @@ fn page_all<B: Wait + Drop, R: Wait, G: Gate, P: PageOut>(
 pub fn search_together<'a, 's, R: Threads + Wait + Sync, G: Gate, P: PageOut>(
     rt: &'a R,
     alloc: Global,
-    search: &Search<'s, &'a R, G>,
+    shop: &Workshop<'s, &'a R, G>,
     path: BlockPath<'s>,
     seats: Vec<WorkerSeat>,
     reader: BookReader<&'a R>,
     pages: &mut P,
 ) -> Result<Handed, RunFault>
-    requires way { IsWayOf (arc_value search.now.problem.now) path }
-    ensures paged { PagesOn (arc_value search.now.problem.now) search.now.limits.solids
+    requires way { IsWayOf (arc_value shop.now.problem.now) path }
+    ensures paged { PagesOn (arc_value shop.now.problem.now) shop.now.limits.solids
         (P.calls pages.old) record { choices = []; pages = 0 } (P.calls pages.new) result }
     ensures faults { CountsFaults (P.faults pages.old) (P.faults pages.new) result
         RunFault.PageFault }
@@ -149,10 +148,10 @@ pub fn search_together<'a, 's, R: Threads + Wait + Sync, G: Gate, P: PageOut>(
         thread::scope_env(),
         rt,
         move |scope| -> (&mut P, Result<Handed, RunFault>)
-            requires way { IsWayOf (arc_value search.now.problem.now) path }
+            requires way { IsWayOf (arc_value shop.now.problem.now) path }
             ensures same { result.0.ghost_name ≡ lent.entry.ghost_name }
-            ensures paged { PagesOn (arc_value search.entry.now.problem.now)
-                search.entry.now.limits.solids (P.calls lent.entry.now)
+            ensures paged { PagesOn (arc_value shop.entry.now.problem.now)
+                shop.entry.now.limits.solids (P.calls lent.entry.now)
                 record { choices = []; pages = 0 } (P.calls result.0.now) result.1 }
             ensures faults { CountsFaults (P.faults lent.entry.now) (P.faults result.0.now) result.1
                 RunFault.PageFault }
@@ -163,17 +162,17 @@ pub fn search_together<'a, 's, R: Threads + Wait + Sync, G: Gate, P: PageOut>(
                 let own = path.take();
                 let started = scope.spawn(
                     move ||
-                        requires way { IfSome own (IsWayOf (arc_value search.now.problem.now)) }
-                    { work(rt, alloc, search, own, Worker::new(alloc, number, seat)) },
+                        requires way { IfSome own (IsWayOf (arc_value shop.now.problem.now)) }
+                    { drop(work_at_seat(rt, alloc, shop, own, number, seat)) },
                 );
                 if started.is_err() {
-                    search.room.leave(rt);
+                    shop.room.leave(rt);
                 }
                 number = number.saturating_add(1);
             }
-            let handed = page_all(rt, alloc, search, reader, lent);
+            let handed = page_all(rt, alloc, shop, reader, lent);
             if handed.is_err() {
-                search.room.halt(rt);
+                shop.room.halt(rt);
             }
             (lent, handed)
         },

@@ -147,17 +147,25 @@ impl<B: Wait + Drop> Room<B> {
         }
     }
 
+    /// A reader waits until so many solids are published, or no more will be.
+    pub fn wait_until<R: Wait>(&self, rt: &R, count: usize) {
+        let shared = self.enter(rt);
+        let _shared = self.news.wait_while(rt, shared, |shared| {
+            shared.published() < count && !shared.is_still()
+        });
+    }
+
     /// Wakes all that wait.
     fn wake_all(&self) {
         self.changed.notify_all();
         self.news.notify_all();
     }
 
-    /// The desk, once all workers have left. `None`: all were to stop.
+    /// The desk, once all workers have left. `None`: memory ran out.
     pub fn into_desk(self) -> Option<Desk> {
         let Room { shared, .. } = self;
-        let (desk, book, stop) = shared.into_inner().into_parts();
+        let (desk, book, failed) = shared.into_inner().into_parts();
         book.end();
-        if stop { None } else { Some(desk) }
+        if failed { None } else { Some(desk) }
     }
 }

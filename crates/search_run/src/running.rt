@@ -1,7 +1,6 @@
 //! The search of a problem by several workers.
 //!
-//! `run_search` doesn't close its pool: what is left in it is in the desk's frontier too, and the
-//! caller expands it from there.
+//! `run_search` doesn't close its pool, as the search of `search.rt` doesn't.
 //!
 //! It keeps no receipt: whatever the caller reads too late of the book, `finish` hands out by the
 //! desk.
@@ -16,26 +15,23 @@ ghost use Rattle.solid_model.specs.SearchEnds.{EndsSearch};
 ghost use Rattle.search_end.specs.Answers.{IsAnswer};
 ghost use Rattle.page_calls.specs.Pages.{CountsFaults, HasPaged, HasAllPaged};
 
+use crate::opening::{room_for, seats_at};
 use crate::paging::search_together;
 use crate::room::Room;
-use crate::search::Search;
-use crate::shared::Shared;
+use crate::workshop::Workshop;
 use page_calls::{PageOut, RunFault};
 use search_core::Desk;
 use search_end::{finish, set_up};
 use solid_model::{Ended, Limits, Memory, Problem};
-use solution_book::{Book, BookReader};
+use solution_book::BookReader;
 use std::alloc::Global;
 use std::sync::{Arc, Wait};
 use std::thread::Threads;
-use steal_pool::{Pool, WorkerSeat};
+use steal_pool::WorkerSeat;
 use tv_base::Gate;
 
-/// How many pieces each worker is sure to put into its deque.
-const PIECES: usize = 1024;
-
-/// The seats of so many workers in a pool that holds the desk's first piece, if it has one, in the
-/// first deque; none where the desk has ended, so that nobody starts. An `Err` is out of memory.
+/// The seats of the workers at a desk; none where it has ended, so that nobody starts. An `Err` is
+/// out of memory.
 fn seats_for(alloc: Global, workers: u32, desk: &Desk) -> Result<Vec<WorkerSeat>, Memory>
     requires some { 1 ≤ workers }
     requires few { workers ≤ 64 }
@@ -43,19 +39,11 @@ fn seats_for(alloc: Global, workers: u32, desk: &Desk) -> Result<Vec<WorkerSeat>
     if desk.end().is_some() {
         return Ok(Vec::new(alloc));
     }
-    let (_, mut seats) = Pool::open(alloc, workers, PIECES)?;
-    if let Some(piece) = desk.first_piece() {
-        let piece = piece.try_clone()?;
-        if let Some(first) = seats.first_mut() {
-            let _back = first.owner.put(piece);
-        }
-    }
-    Ok(seats)
+    seats_at(alloc, workers, desk)
 }
 
-/// A room for so many workers at a desk, with its book, and the book's reader. An `Err` is out of
-/// memory.
-fn room_for<'a, R: Wait>(
+/// A room for so many workers at a desk, and a reader of its book. An `Err` is out of memory.
+fn room_and_reader<'a, R: Wait>(
     rt: &'a R,
     alloc: Global,
     problem: &Arc<Problem>,
@@ -64,11 +52,11 @@ fn room_for<'a, R: Wait>(
 ) -> Result<(Room<&'a R>, BookReader<&'a R>), Memory>
     requires { desk.problem ≡ arc_value problem.now }
 {
-    let (book, mut readers) = Book::begin(rt, alloc, Arc::try_clone(problem)?, 1)?;
-    let Some(reader) = readers.pop() else {
-        return Err(Memory);
-    };
-    Ok((Room::new(Shared::new(desk, book, workers)), reader))
+    let (room, mut readers) = room_for(rt, alloc, problem, workers, 1, desk)?;
+    match readers.pop() {
+        Some(reader) => Ok((room, reader)),
+        None => Err(Memory),
+    }
 }
 
 /// The search of all prefixes of a problem within limits by so many workers, which pass the gate at
@@ -101,18 +89,18 @@ pub fn run_search<R: Threads + Wait + Sync, G: Gate, P: PageOut>(
     let Ok(seats) = seats_for(alloc, workers, &desk) else {
         return Err(RunFault::Memory);
     };
-    let Ok((room, reader)) = room_for(rt, alloc, &problem, workers, desk) else {
+    let Ok((room, reader)) = room_and_reader(rt, alloc, &problem, workers, desk) else {
         return Err(RunFault::Memory);
     };
     let handed = {
-        let search = Search {
+        let shop = Workshop {
             problem: &problem,
             limits,
             room: &room,
             gate,
             workers,
         };
-        search_together(rt, alloc, &search, path, seats, reader, pages)
+        search_together(rt, alloc, &shop, path, seats, reader, pages)
     };
     match handed {
         Ok(handed) => match room.into_desk() {

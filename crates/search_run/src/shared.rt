@@ -20,23 +20,23 @@ const QUIET: u32 = 64;
 #[derive(Drop)]
 pub struct Answered {
     /// The rest, of a report that is taken. `None`: the worker is to leave, since the desk has
-    /// ended or all are to stop, as they are where memory runs out; it signals that change when it
-    /// leaves.
+    /// ended, all are to stop or memory ran out; it signals that change when it leaves.
     pub rest: Option<Vec<Prefix>>,
     /// Whether the caller is to be told of solids now.
     pub news: bool,
 }
 
 /// The value under the lock: the desk, the writer of its book, how many workers are at work,
-/// whether all are to stop, and how many changes were signalled, which goes on from 0 after the
-/// greatest `u64`. One hold of the lock makes one report at most. Contracts see it as the desk and
-/// the edition that is published.
+/// whether all are to stop, whether memory ran out, and how many changes were signalled, which goes
+/// on from 0 after the greatest `u64`. One hold of the lock makes one report at most. Contracts see
+/// it as the desk and the edition that is published.
 #[derive(Drop)]
 pub struct Shared<B: Wait + Drop> {
     desk: Desk,
     book: BookWriter<B>,
     at_work: u32,
     stop: bool,
+    failed: bool,
     changes: u64,
     /// How many solids were published when the caller was last told.
     told: usize,
@@ -68,6 +68,7 @@ impl<B: Wait + Drop> Shared<B> {
             book,
             at_work: workers,
             stop: false,
+            failed: false,
             changes: 0,
             told: 0,
             quiet: QUIET,
@@ -90,9 +91,9 @@ impl<B: Wait + Drop> Shared<B> {
         self.book.published()
     }
 
-    /// Whether workers are to leave: the desk has ended, or all are to stop.
+    /// Whether workers are to leave: the desk has ended, all are to stop, or memory ran out.
     fn is_over(&self) -> bool {
-        self.stop || self.desk.end().is_some()
+        self.stop || self.failed || self.desk.end().is_some()
     }
 
     /// Whether nothing more will be published: it is over, or nobody is at work, who could find
@@ -184,7 +185,7 @@ impl<B: Wait + Drop> Shared<B> {
             Ok(_) if self.is_over() => None,
             Ok(rest) => Some(rest),
             Err(Memory) => {
-                self.stop = true;
+                self.failed = true;
                 None
             }
         }
@@ -197,7 +198,7 @@ impl<B: Wait + Drop> Shared<B> {
         Answered { rest, news }
     }
 
-    /// The desk and its book, and whether all were to stop.
+    /// The desk and its book, and whether memory ran out.
     pub fn into_parts(self) -> (Desk, BookWriter<B>, bool)
         ensures desk { result.0 ≡ self.desk }
         ensures book { result.1.edition ≡ self.edition }
@@ -205,9 +206,9 @@ impl<B: Wait + Drop> Shared<B> {
         let Shared {
             desk,
             book,
-            stop,
+            failed,
             ..
         } = self;
-        (desk, book, stop)
+        (desk, book, failed)
     }
 }

@@ -1,33 +1,25 @@
 //! A worker: where its pieces come from, and where they go.
 
+ghost use Rattle.search_run.specs.Worked.{WorksOn};
+
+use crate::bench::Bench;
 use crate::room::Room;
 use search_end::keep_all;
 use solid_model::Prefix;
 use std::alloc::Global;
 use std::collections::VecDeque;
+use std::marker::Model;
 use std::sync::Wait;
 use steal_pool::WorkerSeat;
 
 /// A worker: its number, its seats in the pool, and the pieces that it keeps, the last put at the
-/// end. These stand in the desk's frontier too, so that none is lost with it.
+/// end. These stand in the desk's frontier too, so that none is lost with it. Contracts see what
+/// was put, taken and stolen at its seats.
 #[derive(Drop)]
 pub struct Worker {
-    pub number: u32,
-    seat: WorkerSeat,
+    number: u32,
+    bench: Bench,
     kept: VecDeque<Prefix>,
-}
-
-/// A piece of the worker's deque, or one that it steals.
-fn find<R: Wait>(rt: &R, seat: &mut WorkerSeat) -> Option<Prefix> {
-    if let Some(piece) = seat.owner.take() {
-        return Some(piece);
-    }
-    for thief in seat.thieves.iter_mut() {
-        if let Some(piece) = thief.steal(rt) {
-            return Some(piece);
-        }
-    }
-    None
 }
 
 /// A piece, once there is one: an idle worker waits. It is told how many changes were signalled
@@ -35,11 +27,13 @@ fn find<R: Wait>(rt: &R, seat: &mut WorkerSeat) -> Option<Prefix> {
 fn find_or_wait<B: Wait + Drop, R: Wait>(
     rt: &R,
     room: &Room<B>,
-    seat: &mut WorkerSeat,
-) -> Option<Prefix> {
+    bench: &mut Bench,
+) -> Option<Prefix>
+    ensures { WorksOn bench.old bench.new }
+{
     let mut seen = room.changes(rt);
     for _ in rt.forever() {
-        if let Some(piece) = find(rt, seat) {
+        if let Some(piece) = bench.find(rt) {
             return Some(piece);
         }
         seen = room.wait(rt, seen)?;
@@ -51,75 +45,87 @@ fn find_or_wait<B: Wait + Drop, R: Wait>(
 fn find_or_idle<B: Wait + Drop, R: Wait>(
     rt: &R,
     room: &Room<B>,
-    seat: &mut WorkerSeat,
-) -> Option<Prefix> {
-    if let Some(piece) = find(rt, seat) {
+    bench: &mut Bench,
+) -> Option<Prefix>
+    ensures { WorksOn bench.old bench.new }
+{
+    if let Some(piece) = bench.find(rt) {
         return Some(piece);
     }
     room.begin_idle();
-    let piece = find_or_wait(rt, room, seat);
+    let piece = find_or_wait(rt, room, bench);
     room.end_idle();
     piece
 }
 
-/// Puts so many of the pieces that are kept into the deque, the shallowest ones first, until one
-/// comes back. Tells how many were put.
-fn give(seat: &mut WorkerSeat, kept: &mut VecDeque<Prefix>, count: usize) -> usize {
-    for given in 0..count {
-        let Some(piece) = kept.pop_front() else {
-            return given;
-        };
-        if let Err(piece) = seat.owner.put(piece) {
-            // There is room where it stood.
-            let _kept = kept.push_front(piece);
-            return given;
-        }
-    }
-    count
+impl Model for Worker {
+    ghost use Rattle.steal_pool.specs.Seats.{SeatState};
+
+    ghost Value = { SeatState };
+
+    ghost view = { λ s. s.bench };
 }
 
 impl Worker {
-    /// The worker of this number at its seats, which keeps no piece. It steals behind its own
-    /// number first, so that not all begin at the same deque.
-    pub fn new(alloc: Global, number: u32, seat: WorkerSeat) -> Worker {
-        let mut seat = seat;
-        let behind = (number as usize).min(seat.thieves.len());
-        seat.thieves.rotate_left(behind);
+    ghost use Rattle.std.specs.Prelude.{◌≡◌};
+    ghost use Rattle.search_run.specs.Worked.{WorksOn};
+    ghost use Rattle.steal_pool.specs.WorkerSeats.{state_of};
+
+    /// The worker of this number at its seats, which keeps no piece.
+    pub fn new(alloc: Global, number: u32, seat: WorkerSeat) -> Worker
+        ensures { result ≡ state_of seat }
+    {
         Worker {
             number,
-            seat,
+            bench: Bench::new(number, seat),
             kept: VecDeque::new(alloc),
         }
     }
 
+    /// Its number.
+    pub fn number(&self) -> u32 {
+        self.number
+    }
+
+    /// Its seats, handed back.
+    pub fn into_seat(self) -> WorkerSeat
+        ensures { state_of result ≡ self }
+    {
+        self.bench.into_seat()
+    }
+
     /// The piece with which it goes on: the last one that it keeps, or else one of the pool.
     /// `None`: nothing is left to be done or nobody is at work, and it leaves.
-    pub fn next_piece<B: Wait + Drop, R: Wait>(
-        &mut self,
-        rt: &R,
-        room: &Room<B>,
-    ) -> Option<Prefix> {
+    pub fn next_piece<B: Wait + Drop, R: Wait>(&mut self, rt: &R, room: &Room<B>) -> Option<Prefix>
+        ensures { WorksOn self.old self.new }
+    {
         match self.kept.pop_back() {
             Some(piece) => Some(piece),
-            None => find_or_idle(rt, room, &mut self.seat),
+            None => find_or_idle(rt, room, &mut self.bench),
         }
     }
 
     /// Keeps a piece. One for which there is no memory stays in the frontier alone, for the caller.
-    pub fn keep(&mut self, piece: Prefix) {
+    pub fn keep(&mut self, piece: Prefix)
+        ensures { self.new ≡ self.old }
+    {
         let _kept = self.kept.push_back(piece);
     }
 
     /// Keeps a rest, of which the first piece comes next.
-    pub fn keep_rest(&mut self, rest: Vec<Prefix>) {
+    pub fn keep_rest(&mut self, rest: Vec<Prefix>)
+        ensures { self.new ≡ self.old }
+    {
         keep_all(&mut self.kept, rest);
     }
 
     /// Gives a piece to each idle worker, as long as it keeps as many itself: the shallowest ones,
     /// which have most below them.
-    pub fn share<B: Wait + Drop, R: Wait>(&mut self, rt: &R, room: &Room<B>) {
+    pub fn share<B: Wait + Drop, R: Wait>(&mut self, rt: &R, room: &Room<B>)
+        ensures { WorksOn self.old self.new }
+    {
         let wanted = room.idle().min(self.kept.len() / 2);
-        let given = give(&mut self.seat, &mut self.kept, wanted);
+        let given = self.bench.give(&mut self.kept, wanted);
         if given > 0 {
             room.signal(rt, given);
         }
@@ -131,10 +137,12 @@ impl Worker {
         rt: &R,
         room: &Room<B>,
         piece: Prefix,
-    ) {
+    )
+        ensures { WorksOn self.old self.new }
+    {
         self.keep(piece);
         let count = self.kept.len();
-        give(&mut self.seat, &mut self.kept, count);
+        self.bench.give(&mut self.kept, count);
         room.leave(rt);
     }
 }

@@ -3,17 +3,20 @@
 
 ghost use Rattle.std.specs.Prelude.{IfOk, IfSome};
 ghost use Rattle.std.specs.Arc.{arc_value};
+ghost use Rattle.search_run.specs.Worked.{HasWorked, WorksOn};
 ghost use Rattle.search_tree.specs.BlockPaths.{IsWayOf};
+ghost use Rattle.steal_pool.specs.WorkerSeats.{state_of};
 
 use crate::room::Room;
-use crate::search::Search;
 use crate::worker::Worker;
+use crate::workshop::Workshop;
 use search_core::ReadyReport;
 use search_end::QUANTUM;
 use search_tree::{BlockPath, expand_from};
 use solid_model::{Memory, Prefix, Problem};
 use std::alloc::Global;
 use std::sync::{Arc, Wait};
+use steal_pool::WorkerSeat;
 use tv_base::{Gate, Point};
 
 /// The report of a piece, if it is live, ready for the desk before its lock is taken. An `Err` is
@@ -42,19 +45,19 @@ fn report_of(
 fn work_at<B: Wait + Drop, R: Wait, G: Gate>(
     rt: &R,
     alloc: Global,
-    search: &Search<'_, B, G>,
+    shop: &Workshop<'_, B, G>,
     path: &mut BlockPath,
     worker: u32,
     piece: &Prefix,
 ) -> Result<Option<Vec<Prefix>>, Memory>
-    requires way { IsWayOf (arc_value search.now.problem.now) path.old }
-    ensures way { IsWayOf (arc_value search.now.problem.now) path.new }
+    requires way { IsWayOf (arc_value shop.now.problem.now) path.old }
+    ensures way { IsWayOf (arc_value shop.now.problem.now) path.new }
 {
-    search.gate.pass(worker, Point::BeforeExpand);
-    match report_of(alloc, path, search.problem, worker, piece)? {
+    shop.gate.pass(worker, Point::BeforeExpand);
+    match report_of(alloc, path, shop.problem, worker, piece)? {
         Some(report) => {
-            let rest = search.room.report(rt, alloc, report);
-            search.gate.pass(worker, Point::AfterReport);
+            let rest = shop.room.report(rt, alloc, report);
+            shop.gate.pass(worker, Point::AfterReport);
             Ok(rest)
         }
         None => Ok(Some(Vec::new(alloc))),
@@ -66,23 +69,24 @@ fn work_at<B: Wait + Drop, R: Wait, G: Gate>(
 fn go_round<B: Wait + Drop, R: Wait, G: Gate>(
     rt: &R,
     alloc: Global,
-    search: &Search<'_, B, G>,
+    shop: &Workshop<'_, B, G>,
     path: &mut BlockPath,
     worker: &mut Worker,
 )
-    requires way { IsWayOf (arc_value search.now.problem.now) path.old }
+    requires way { IsWayOf (arc_value shop.now.problem.now) path.old }
+    ensures worked { WorksOn worker.old worker.new }
 {
     for _ in rt.forever() {
-        let Some(piece) = worker.next_piece(rt, search.room) else {
+        let Some(piece) = worker.next_piece(rt, shop.room) else {
             return;
         };
-        match work_at(rt, alloc, search, path, worker.number, &piece) {
+        match work_at(rt, alloc, shop, path, worker.number(), &piece) {
             Ok(Some(rest)) => {
                 worker.keep_rest(rest);
-                worker.share(rt, search.room);
+                worker.share(rt, shop.room);
             }
-            Ok(None) => return search.room.leave(rt),
-            Err(_) => return worker.leave_to_others(rt, search.room, piece),
+            Ok(None) => return shop.room.leave(rt),
+            Err(_) => return worker.leave_to_others(rt, shop.room, piece),
         }
     }
 }
@@ -108,19 +112,20 @@ fn own_path<'a>(
 fn work_from<'a, B: Wait + Drop, R: Wait, G: Gate>(
     rt: &R,
     alloc: Global,
-    search: &Search<'a, B, G>,
+    shop: &Workshop<'a, B, G>,
     path: Option<BlockPath<'a>>,
     worker: &mut Worker,
     piece: Prefix,
 )
-    requires way { IfSome path (IsWayOf (arc_value search.now.problem.now)) }
+    requires way { IfSome path (IsWayOf (arc_value shop.now.problem.now)) }
+    ensures worked { WorksOn worker.old worker.new }
 {
-    match own_path(alloc, search.problem, path) {
+    match own_path(alloc, shop.problem, path) {
         Ok(mut path) => {
             worker.keep(piece);
-            go_round(rt, alloc, search, &mut path, worker);
+            go_round(rt, alloc, shop, &mut path, worker);
         }
-        Err(_) => worker.leave_to_others(rt, search.room, piece),
+        Err(_) => worker.leave_to_others(rt, shop.room, piece),
     }
 }
 
@@ -129,14 +134,31 @@ fn work_from<'a, B: Wait + Drop, R: Wait, G: Gate>(
 pub fn work<'a, B: Wait + Drop, R: Wait, G: Gate>(
     rt: &R,
     alloc: Global,
-    search: &Search<'a, B, G>,
+    shop: &Workshop<'a, B, G>,
     path: Option<BlockPath<'a>>,
-    worker: Worker,
+    worker: &mut Worker,
 )
-    requires way { IfSome path (IsWayOf (arc_value search.now.problem.now)) }
+    requires way { IfSome path (IsWayOf (arc_value shop.now.problem.now)) }
+    ensures worked { WorksOn worker.old worker.new }
 {
-    let mut worker = worker;
-    if let Some(piece) = worker.next_piece(rt, search.room) {
-        work_from(rt, alloc, search, path, &mut worker, piece);
+    if let Some(piece) = worker.next_piece(rt, shop.room) {
+        work_from(rt, alloc, shop, path, worker, piece);
     }
+}
+
+/// The same, at these seats, which it hands back: what it put, took and stole is added there.
+pub fn work_at_seat<'a, B: Wait + Drop, R: Wait, G: Gate>(
+    rt: &R,
+    alloc: Global,
+    shop: &Workshop<'a, B, G>,
+    path: Option<BlockPath<'a>>,
+    number: u32,
+    seat: WorkerSeat,
+) -> WorkerSeat
+    requires way { IfSome path (IsWayOf (arc_value shop.now.problem.now)) }
+    ensures worked { HasWorked (state_of seat) (state_of result) }
+{
+    let mut worker = Worker::new(alloc, number, seat);
+    work(rt, alloc, shop, path, &mut worker);
+    worker.into_seat()
 }

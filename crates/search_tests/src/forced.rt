@@ -1,8 +1,10 @@
 //! What the lines of small drawings force.
 
+ghost use Rattle.propagate.specs.Doubting.{AreDoubted};
+
 use crate::demands::{problem_in, push_line};
 use line_demands::Partial;
-use propagate::{Closed, Forcing, close, step};
+use propagate::{Closed, DoubtedLines, Forcing, close, step, step_doubted};
 use solid_model::{LineId, Problem};
 use std::alloc::Global;
 use std::fmt::Write;
@@ -104,10 +106,31 @@ fn push_known(text: &mut String, partial: &Partial<'_>) -> Result<(), Fail> {
     Ok(())
 }
 
+/// A step as `step` takes it and, by another state with the same decisions, as `step_doubted` does.
+fn step_twice(
+    partial: &mut Partial<'_>,
+    other: &mut Partial<'_>,
+    doubted: &mut DoubtedLines,
+) -> Result<Forcing, Fail>
+    requires { AreDoubted other.old.problem other.old.decisions doubted.old }
+    ensures { AreDoubted other.new.problem other.new.decisions doubted.new }
+{
+    let forcing = step(partial);
+    if step_doubted(other, doubted) != forcing {
+        return Err(Fail::new("doubted lines force something else"));
+    }
+    Ok(forcing)
+}
+
 /// All steps.
-fn push_steps(text: &mut String, partial: &mut Partial<'_>) -> Result<(), Fail> {
+fn push_steps(
+    text: &mut String,
+    partial: &mut Partial<'_>,
+    other: &mut Partial<'_>,
+) -> Result<(), Fail> {
+    let mut doubted = DoubtedLines::all(*text.allocator(), other.line_count())?;
     for _step in 0..10000 {
-        let forcing = step(partial);
+        let forcing = step_twice(partial, other, &mut doubted)?;
         push_step(text, forcing)?;
         if is_last(forcing) {
             return Ok(());
@@ -134,11 +157,12 @@ pub fn begun<'a>(alloc: Global, problem: &'a Problem, values: &str) -> Result<Pa
     Ok(partial)
 }
 
-/// The steps that lines force.
+/// The steps that lines force, whether all are asked or those alone that are doubted.
 fn told_steps(alloc: Global, problem: &Problem, values: &str) -> Result<String, Fail> {
     let mut partial = begun(alloc, problem, values)?;
+    let mut other = begun(alloc, problem, values)?;
     let mut text = String::new(alloc);
-    push_steps(&mut text, &mut partial)?;
+    push_steps(&mut text, &mut partial, &mut other)?;
     Ok(text)
 }
 

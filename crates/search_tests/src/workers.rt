@@ -6,6 +6,7 @@ ghost use Rattle.std.specs.Prelude.{◌≤◌};
 mod answers;
 mod gates;
 mod pages;
+mod stops;
 
 use search_run::{PageOut, RunFault, run_search};
 use solid_model::{Ended, Limits, Problem};

@@ -100,7 +100,7 @@ fn push_lines(text: &mut String, told: &str) -> Result<(), AllocError> {
 }
 
 /// The text that a row tells.
-fn text_of(alloc: Global, told: &str) -> Result<String, AllocError> {
+pub fn text_of(alloc: Global, told: &str) -> Result<String, AllocError> {
     let mut text = String::new(alloc);
     for (place, step) in told.split('|').enumerate() {
         text.push_str(if place == 0 { "" } else { "\n" })?;

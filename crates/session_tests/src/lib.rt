@@ -1,5 +1,7 @@
-//! Tests of what readers are asked: askings, and the lines that are refused.
+//! Tests of readers: what they are asked, the lines that are refused, and sessions beside a search.
 #![tactic(auto)]
 
 #[cfg(test)]
 mod askings;
+#[cfg(test)]
+mod sessions;

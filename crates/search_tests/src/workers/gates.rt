@@ -13,7 +13,7 @@ use std::thread::Threads;
 use tv_base::{Gate, Point};
 
 /// After so many turns a gate gives up. A turn is one yield.
-const TURNS: u32 = 20_000_000;
+pub const TURNS: u32 = 20_000_000;
 
 /// After so many the one of a meeting does: a worker that starts late may find that the other one
 /// keeps all pieces, and then they don't meet in that search.
@@ -23,7 +23,7 @@ const MEETING_TURNS: u32 = 200_000;
 const SEARCHES: u32 = 40;
 
 /// Waits so many turns until a count has reached a number. False: it gave up.
-fn wait_for(count: &AtomicU64, number: u64, turns: u32) -> bool {
+pub fn wait_for(count: &AtomicU64, number: u64, turns: u32) -> bool {
     for _ in 0..turns {
         if count.load(Ordering::SeqCst) >= number {
             return true;

@@ -10,8 +10,8 @@ returns-in_default-clause-paged g c = unpaged (arc_value c.args.problem) c.args.
 pub returns-in_default-seats_for-clause-paged : goal.returns-in_default-seats_for-clause-paged
 returns-in_default-seats_for-clause-paged g c = unpaged (arc_value c.args.problem) c.args.limits.solids (g.P.PageOut.calls c.args.pages.now)
 
-pub returns-in_default-room_for-clause-paged : goal.returns-in_default-room_for-clause-paged
-returns-in_default-room_for-clause-paged g c = unpaged (arc_value c.args.problem) c.args.limits.solids (g.P.PageOut.calls c.args.pages.now)
+pub returns-in_default-room_and_reader-clause-paged : goal.returns-in_default-room_and_reader-clause-paged
+returns-in_default-room_and_reader-clause-paged g c = unpaged (arc_value c.args.problem) c.args.limits.solids (g.P.PageOut.calls c.args.pages.now)
 
 pub returns-in-Some-clause-paged : goal.returns-in-Some-clause-paged
 returns-in-Some-clause-paged g c =

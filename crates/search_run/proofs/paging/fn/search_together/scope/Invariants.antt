@@ -8,4 +8,4 @@ abbrev pub invariant-loop-seat : goal.invariant-loop-seat
 invariant-loop-seat g l =
     (goal.iterator-loop-seat g).can_next l.seat-iterator
     × (goal.iterator-loop-seat g).is_finite l.seat-iterator
-    × IfSome l.path (IsWayOf (arc_value l.search.problem.now))
+    × IfSome l.path (IsWayOf (arc_value l.shop.problem.now))

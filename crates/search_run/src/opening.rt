@@ -1,0 +1,88 @@
+//! The parts of a search that begins: the pool of its pieces, and where its workers meet.
+
+ghost use Rattle.std.specs.Prelude.{◌≡◌, ◌≤◌, length, IfOk, IsTrue};
+ghost use Rattle.std.specs.Arc.{arc_value};
+ghost use Rattle.lemmas.specs.Lists.{Each};
+ghost use Rattle.query_session.specs.Tales.{IsReaderOf};
+
+use crate::room::Room;
+use crate::shared::Shared;
+use search_core::Desk;
+use solid_model::{Memory, Problem};
+use solution_book::{Book, BookReader};
+use std::alloc::Global;
+use std::sync::{Arc, Wait};
+use steal_pool::{Pool, WorkerSeat};
+
+/// How many pieces each worker is sure to put into its deque.
+const PIECES: usize = 1024;
+
+/// Puts a desk's first piece, if it has one, into the first deque. An `Err` is out of memory.
+fn put_first(desk: &Desk, seats: &mut [WorkerSeat]) -> Result<(), Memory> {
+    if let Some(piece) = desk.first_piece() {
+        let piece = piece.try_clone()?;
+        if let Some(first) = seats.first_mut() {
+            let _back = first.owner.put(piece);
+        }
+    }
+    Ok(())
+}
+
+/// The seats of so many workers in a pool that holds the desk's first piece, if it has one, in the
+/// first deque. An `Err` is out of memory.
+pub fn seats_at(alloc: Global, workers: u32, desk: &Desk) -> Result<Vec<WorkerSeat>, Memory>
+    requires some { 1 ≤ workers }
+    requires few { workers ≤ 64 }
+    ensures { IfOk result (λ seats. length seats.items ≡ workers) }
+{
+    let (_, mut seats) = Pool::open(alloc, workers, PIECES)?;
+    put_first(desk, seats.as_mut_slice())?;
+    Ok(seats)
+}
+
+/// Whether a reader is of a book of this problem.
+fn is_reader_of<B: Wait + Drop>(reader: &mut BookReader<B>, problem: &Problem) -> bool
+    ensures { IsTrue result → IsReaderOf problem.now reader.new }
+{
+    reader.is_of(problem)
+}
+
+/// Readers of a book of this problem, which have looked at it. An `Err`, also where one isn't, is
+/// out of memory.
+pub fn readers_of<B: Wait + Drop>(
+    alloc: Global,
+    problem: &Problem,
+    readers: Vec<BookReader<B>>,
+) -> Result<Vec<BookReader<B>>, Memory>
+    ensures each { IfOk result (λ own. Each (IsReaderOf problem.now) own.items) }
+    ensures count { IfOk result (λ own. length own.items ≡ length readers.items) }
+{
+    let mut own = Vec::new(alloc);
+    let mut left = readers.into_iter();
+    while let Some(next) = left.next() {
+        let mut reader = next;
+        if !is_reader_of(&mut reader, problem) {
+            return Err(Memory);
+        }
+        own.push(reader)?;
+    }
+    Ok(own)
+}
+
+/// A room for so many workers at a desk, with its book, and so many readers of that. An `Err` is
+/// out of memory.
+pub fn room_for<'a, R: Wait>(
+    rt: &'a R,
+    alloc: Global,
+    problem: &Arc<Problem>,
+    workers: u32,
+    readers: u32,
+    desk: Desk,
+) -> Result<(Room<&'a R>, Vec<BookReader<&'a R>>), Memory>
+    requires problem { desk.problem ≡ arc_value problem.now }
+    requires readers { (1 ≤ readers) × (readers ≤ 16) }
+    ensures { IfOk result (λ r. length r.1.items ≡ readers) }
+{
+    let (book, others) = Book::begin(rt, alloc, Arc::try_clone(problem)?, readers)?;
+    Ok((Room::new(Shared::new(desk, book, workers)), others))
+}

@@ -1,0 +1,3 @@
+mod EndSolids
+mod Listed
+mod Told
