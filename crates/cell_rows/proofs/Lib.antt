@@ -4,3 +4,4 @@ pub mod FilledSpans
 pub mod MarksByRows
 pub mod SpanRows
 pub mod ProblemSizes
+pub mod LayerCells

@@ -21,7 +21,7 @@ numbered_cell Y k n r e = ap (λ (f : Axis → ℕ). cell_at (f X) (f Y) (f Z)) 
 numbered_cell Z k n r e = ap (λ (f : Axis → ℕ). cell_at (f X) (f Y) (f Z)) e
 
 -- which has that number along it
-coordinate_numbered : (a : Axis) (k : ℕ) (n : PerAxis) → coordinate a (cell_numbered a k n) ≡ pos k
+pub coordinate_numbered : (a : Axis) (k : ℕ) (n : PerAxis) → coordinate a (cell_numbered a k n) ≡ pos k
 coordinate_numbered X k n = refl
 coordinate_numbered Y k n = refl
 coordinate_numbered Z k n = refl
@@ -38,7 +38,7 @@ none_beyond m a n k beyond = false_from_ne_true (is_marked_at m a n k) (λ marke
 -- ---- places along a row
 
 -- the first cell of a row stands in the box where another one does
-within_first : (sizes : Sizes) (a : Axis) (k : ℕ) (n : PerAxis) → is_within sizes (cell_numbered a k n) ≡ true
+pub within_first : (sizes : Sizes) (a : Axis) (k : ℕ) (n : PerAxis) → is_within sizes (cell_numbered a k n) ≡ true
     → is_within sizes (cell_numbered a 0 n) ≡ true
 within_first sizes a k n within = below-within sizes (cell_numbered a 0 n) (by a (within-below sizes (cell_numbered a k n) within))
   where
@@ -66,7 +66,7 @@ none_outside m a n none k = false_from_ne_true (is_marked_at m a n k) (λ marked
     both_ways (is_within sizes (cell_numbered a 0 n)) none (within_first sizes a k n within))
 
 -- and all cells of its row stand there too,
-within_along : (sizes : Sizes) (a : Axis) (k : ℕ) (n : PerAxis) → is_within sizes (cell_numbered a 0 n) ≡ true → k < sizes a
+pub within_along : (sizes : Sizes) (a : Axis) (k : ℕ) (n : PerAxis) → is_within sizes (cell_numbered a 0 n) ≡ true → k < sizes a
     → is_within sizes (cell_numbered a k n) ≡ true
 within_along sizes a k n within l = below-within sizes (cell_numbered a k n) (by a l (within-below sizes (cell_numbered a 0 n) within))
   where
@@ -83,7 +83,7 @@ within_along sizes a k n within l = below-within sizes (cell_numbered a k n) (by
     by Z m h Z = below_number (sizes Z) k m
 
 -- a stride apart
-place_along : (sizes : Sizes) (a : Axis) (k : ℕ) (n : PerAxis)
+pub place_along : (sizes : Sizes) (a : Axis) (k : ℕ) (n : PerAxis)
     → box_place sizes (cell_numbered a 0 n) + k * stride_along sizes a ≡ box_place sizes (cell_numbered a k n)
 place_along sizes X k n = omega arith
 place_along sizes Y k n = sym (mul_in (n.z * sizes Y) k (sizes X) n.x)
@@ -183,25 +183,3 @@ all_rows m a rows count held all = record {
       (subst (λ c. box_place (row_sizes m a) (cell_numbered a 0 n) < c) (sym all) (cell_there (row_sizes m a) (cell_numbered a 0 n) within))
       n within refl k l;
 }
-
--- ---- a row that is looked up
-
-module _ (m : BoxMarks) (a : Axis) (n first ends : PerAxis) (at : numbers_of first ≡ numbered a 0 (numbers_of n))
-    (sized : numbers_of ends ≡ numbered a 1 (numbers_of m.sizes)) where
-  -- the row of a cell of the box
-  pub found_row : (rows : List ℕ) → AreRows m a rows → is_within (numbers_of ends) (cell_of first) ≡ true
-      → (k : ℕ) → k < 64 → is_set (slice_index_or rows (box_place (numbers_of ends) (cell_of first)) 0) k ≡ is_marked_at m a n k
-  found_row rows are within k l =
-      let cell = numbered_cell a 0 n first at in
-      subst (λ p. is_set (slice_index_or rows p 0) k ≡ is_marked_at m a n k)
-      (λ i. box_place (sym sized i) (sym cell i))
-      (are.each n ((λ i. is_within (sym sized i) (sym cell i)) ∙ within) k l)
-
-  -- and its place
-  pub row_there : (rows : List ℕ) → AreRows m a rows → is_within (numbers_of ends) (cell_of first) ≡ true → box_place (numbers_of ends) (cell_of first) < length rows
-  row_there rows are within = subst (λ c. box_place (numbers_of ends) (cell_of first) < c) (ap box_count sized ∙ sym are.listed)
-      (cell_there (numbers_of ends) (cell_of first) within)
-
-  -- beyond the box there is none
-  pub no_row : is_within (numbers_of ends) (cell_of first) ≡ false → (k : ℕ) → is_marked_at m a n k ≡ false
-  no_row none k = none_without_row m a n ((λ i. is_within (sym sized i) (sym (numbered_cell a 0 n first at) i)) ∙ none) k

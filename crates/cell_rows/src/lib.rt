@@ -6,10 +6,12 @@
 
 mod bit_places;
 mod block_rows;
+mod layer_rows;
 mod rows;
 mod span;
 
 pub use bit_places::{has_bit, next_place};
 pub use block_rows::BlockRows;
-pub use rows::CellRows;
+pub use layer_rows::LayerRows;
+pub use rows::{CellRows, fill_rows};
 pub use span::Span;

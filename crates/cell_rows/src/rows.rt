@@ -7,8 +7,9 @@ ghost use Rattle.lemmas.specs.Bits.{is_set};
 ghost use Rattle.solid_model.specs.PerAxis.{numbers_of, AreFew};
 
 use crate::block_rows::{BlockRows, filled_row};
+use crate::layer_rows::LayerRows;
 use crate::span::Span;
-use solid_model::{Axis, Choice, Marks, Memory, PerAxis, Problem};
+use solid_model::{Axis, Choice, Marks, Memory, Out, PerAxis, Problem};
 use std::alloc::Global;
 use std::marker::Model;
 
@@ -82,7 +83,7 @@ fn rows_along(alloc: Global, marks: &Marks, axis: Axis) -> Result<Vec<u64>, Memo
 }
 
 /// Puts what a choice fills of each row in the row's place.
-fn fill_rows(rows: &mut Vec<u64>, spans: &[Vec<Span>], choice: &Choice)
+pub fn fill_rows(rows: &mut Vec<u64>, spans: &[Vec<Span>], choice: &Choice)
     requires { length rows.old.items ≡ length spans.now }
     ensures count { length rows.new.items ≡ length rows.old.items }
     ensures filled { AreFilled choice.now (map (λ r. r.items) spans.now) rows.new.items
@@ -94,7 +95,8 @@ fn fill_rows(rows: &mut Vec<u64>, spans: &[Vec<Span>], choice: &Choice)
 }
 
 impl CellRows {
-    ghost use Rattle.std.specs.Prelude.{◌≡◌, ◌≤◌, ◌<◌, ℕ, IfOk};
+    ghost use Rattle.std.specs.Prelude.{◌≡◌, ◌≤◌, ◌<◌, ℕ, pos, ◌-ℤ◌, IfOk};
+    ghost use Rattle.cell_rows.specs.Layers.{AreLayer};
     ghost use Rattle.cell_rows.specs.Rows.{is_marked_at, AreRows};
     ghost use Rattle.cell_rows.specs.Spans.{chosen_marks};
     ghost use Rattle.solid_model.specs.declared.cell.Axis.{Axis};
@@ -143,16 +145,29 @@ impl CellRows {
         self.sizes
     }
 
-    /// The row of a cell along an axis, whatever the cell's own number along it; 0 beyond the box.
-    pub fn row(&self, axis: Axis, cell: PerAxis) -> u64
-        ensures { (k : ℕ) → k < 64 → is_set result k ≡ is_marked_at self.now axis cell k }
+    /// The layer of the cells that begin in the plane at a number, seen from outside: a row for each
+    /// v.
+    pub fn layer(&self, out: Out, at: usize) -> LayerRows<'_>
+        ensures { AreLayer self.now out (pos at) result }
     {
-        let first = cell.numbered(axis, 0);
-        let ends = self.sizes.numbered(axis, 1);
-        if ends.has(first) {
-            self.rows(axis)[ends.place(first)]
-        } else {
-            0
+        let right = out.right();
+        let rows = self.rows(right);
+        let ends = self.sizes.numbered(right, 1);
+        let first = PerAxis::FIRST.numbered(out.direction().axis, at);
+        if !ends.has(first) {
+            return LayerRows::of(rows, 0, 0, 0);
+        }
+        let up = out.up();
+        LayerRows::of(rows, ends.place(first), stride(ends, up), ends.along(up))
+    }
+
+    /// The layer on the other side of that plane.
+    pub fn layer_before(&self, out: Out, at: usize) -> LayerRows<'_>
+        ensures { AreLayer self.now out (pos at -ℤ pos 1) result }
+    {
+        match at.checked_sub(1) {
+            Some(before) => self.layer(out, before),
+            None => LayerRows::of(self.rows(out.right()), 0, 0, 0),
         }
     }
 

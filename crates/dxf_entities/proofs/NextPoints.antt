@@ -4,7 +4,7 @@ use Rattle.std.proofs.lemmas.Bool.{lt-leb}
 use Rattle.std.proofs.lemmas.List.{drop_more, length-drop, take_all}
 use Rattle.solid_model.specs.declared.fault.Fault.TheVariants.{TooManyLines}
 use Rattle.solid_model.specs.Limits.{most_lines}
-use Rattle.solid_model.specs.Line.{Line}
+use Rattle.dxf_entities.specs.declared.layer_line.LayerLine.{LayerLine}
 use Rattle.dxf_entities.specs.declared.pen.Pen.{Pen}
 use Rattle.dxf_entities.specs.Known.{Point}
 use Rattle.dxf_entities.specs.DrawnLines.{added_along, are_straight_from, line_between, lines_from}
@@ -23,7 +23,7 @@ pub straight_next : (a : Point) (ps : List Point) (i : ℕ) (b : Point) → i < 
 straight_next a ps i b within is = ap (are_straight_from a) (next_point ps i b within is)
 
 -- the line to the next point is one of those that are owed
-pub line_pushed : (line : ℕ) (pen : Pen) (a : Point) (ps : List Point) (i : ℕ) (b : Point) (lines : List Line)
+pub line_pushed : (line : ℕ) (pen : Pen) (a : Point) (ps : List Point) (i : ℕ) (b : Point) (lines : List LayerLine)
     → i < length ps → b ≡ get_or ps i b
     → (lines ++ line_between line pen a b ∷ []) ++ lines_from line pen b (drop (i + 1) ps)
     ≡ lines ++ lines_from line pen a (drop i ps)
@@ -45,7 +45,7 @@ lines_counted : (line : ℕ) (pen : Pen) (a : Point) (ps : List Point)
 lines_counted line pen a [] = refl
 lines_counted line pen a (b ∷ ps) = ap suc (lines_counted line pen b ps)
 
-module _ (line : ℕ) (pen : Pen) (lines : List Line) (a : Point) (ps : List Point)
+module _ (line : ℕ) (pen : Pen) (lines : List LayerLine) (a : Point) (ps : List Point)
     (straight : are_straight_from a ps ≡ true) where
   -- straight lines for which there is room are added
   pub lines_fit : length ps ≤ most_lines - length lines

@@ -2,7 +2,7 @@
 use Rattle.std.proofs.Common.{◌≡◌, ℕ, Bool, true, false, not, List, [], ◌∷◌, Option, Some, None, Result, Ok, Err, if◌then◌else◌, refl, sym, ap, ◌∙◌}
 use Rattle.std.specs.Option.{option_map, option_or, option_flatten}
 use Rattle.solid_model.specs.declared.fault.Fault.{Fault}
-use Rattle.solid_model.specs.declared.frame.View.{View}
+use Rattle.dxf_entities.specs.declared.layer.Layer.{Layer}
 use Rattle.dxf_groups.specs.Pairs.{TextPair}
 use Rattle.dxf_entities.specs.declared.facts.Facts.{Facts}
 use Rattle.dxf_entities.specs.declared.layer_facts.LayerFacts.{LayerFacts}
@@ -10,14 +10,15 @@ use Rattle.dxf_entities.specs.declared.kind.Kind.TheVariants.{Other}
 use Rattle.dxf_entities.specs.declared.linetype.Linetype.{Linetype}
 use Rattle.dxf_entities.specs.Entries.{has_code, own_pairs, first_value, opens_application, closes_application}
 use Rattle.dxf_entities.specs.Judging.{is_on_paper, is_one, drawn_by, judged, lines_by, pen_of, pen_on}
-use Rattle.dxf_entities.specs.Names.{view_on, linetype_of}
+use Rattle.dxf_entities.specs.Forms.{FormParts}
+use Rattle.dxf_entities.specs.Names.{layer_on, linetype_of}
 use Rattle.dxf_entities.specs.Resuming.{or_first, with_fact, with_layer_fact, with_own}
 use Rattle.dxf_entities.specs.Shapes.{with_shape, known_shape}
 use Rattle.dxf_entities.specs.Steps.{◌>>=◌}
-use Rattle.solid_model.specs.Line.{Line}
+use Rattle.dxf_entities.specs.declared.layer_line.LayerLine.{LayerLine}
 
 -- what is known, or else nothing
-or_nothing : {A : Type 0} (known : Option A) → option_or known None ≡ known
+pub or_nothing : {A : Type 0} (known : Option A) → option_or known None ≡ known
 or_nothing (Some x) = refl
 or_nothing None = refl
 
@@ -47,17 +48,17 @@ bind_bind (Ok x) f g = refl
 bind_bind (Err e) f g = refl
 
 -- what counts of an entity with these pairs of its own
-abbrev pub with_facts : ℕ → List TextPair → Facts → Facts
-with_facts decimals own f = record f {
-  layer = option_or f.layer (option_map view_on (first_value 8 own));
+abbrev pub with_facts : FormParts → List TextPair → Facts → Facts
+with_facts form own f = record f {
+  layer = option_or f.layer (option_map (layer_on form.six) (first_value 8 own));
   paper = option_or f.paper (option_map is_one (first_value 67 own));
   linetype = option_or f.linetype (option_map linetype_of (first_value 6 own));
-  shape = f.shape >>= known_shape decimals f.line own;
+  shape = f.shape >>= known_shape form.decimals f.line own;
 }
 
 -- with no pairs nothing more counts
-no_facts : (decimals : ℕ) (f : Facts) → with_facts decimals [] f ≡ f
-no_facts decimals f = λ i. record f {
+no_facts : (form : FormParts) (f : Facts) → with_facts form [] f ≡ f
+no_facts form f = λ i. record f {
   layer = or_nothing f.layer i;
   paper = or_nothing f.paper i;
   linetype = or_nothing f.linetype i;
@@ -65,31 +66,31 @@ no_facts decimals f = λ i. record f {
 }
 
 -- one more pair, and then the others
-more_facts : (decimals : ℕ) (p : TextPair) (own : List TextPair) (f : Facts)
-    → with_facts decimals own (with_fact decimals p f) ≡ with_facts decimals (p ∷ own) f
-more_facts decimals p own f = λ i. record f {
-  layer = first_of_more 8 view_on p own f.layer i;
+more_facts : (form : FormParts) (p : TextPair) (own : List TextPair) (f : Facts)
+    → with_facts form own (with_fact form p f) ≡ with_facts form (p ∷ own) f
+more_facts form p own f = λ i. record f {
+  layer = first_of_more 8 (layer_on form.six) p own f.layer i;
   paper = first_of_more 67 is_one p own f.paper i;
   linetype = first_of_more 6 linetype_of p own f.linetype i;
-  shape = bind_bind f.shape (with_shape decimals f.line p) (known_shape decimals f.line own) i;
+  shape = bind_bind f.shape (with_shape form.decimals f.line p) (known_shape form.decimals f.line own) i;
 }
 
 -- what counts of a layer's entry with these pairs of its own
-abbrev pub with_layer_facts : List TextPair → LayerFacts → LayerFacts
-with_layer_facts own f = record {
-  name = option_or f.name (option_map view_on (first_value 2 own));
+abbrev pub with_layer_facts : Bool → List TextPair → LayerFacts → LayerFacts
+with_layer_facts six own f = record {
+  name = option_or f.name (option_map (layer_on six) (first_value 2 own));
   linetype = option_or f.linetype (option_map linetype_of (first_value 6 own));
 }
 
 -- with no pairs nothing more counts
-no_layer_facts : (f : LayerFacts) → with_layer_facts [] f ≡ f
-no_layer_facts f = λ i. record { name = or_nothing f.name i; linetype = or_nothing f.linetype i }
+no_layer_facts : (six : Bool) (f : LayerFacts) → with_layer_facts six [] f ≡ f
+no_layer_facts six f = λ i. record { name = or_nothing f.name i; linetype = or_nothing f.linetype i }
 
 -- one more pair, and then the others
-more_layer_facts : (p : TextPair) (own : List TextPair) (f : LayerFacts)
-    → with_layer_facts own (with_layer_fact p f) ≡ with_layer_facts (p ∷ own) f
-more_layer_facts p own f = λ i. record {
-  name = first_of_more 2 view_on p own f.name i;
+more_layer_facts : (six : Bool) (p : TextPair) (own : List TextPair) (f : LayerFacts)
+    → with_layer_facts six own (with_layer_fact six p f) ≡ with_layer_facts six (p ∷ own) f
+more_layer_facts six p own f = λ i. record {
+  name = first_of_more 2 (layer_on six) p own f.name i;
   linetype = first_of_more 6 linetype_of p own f.linetype i;
 }
 
@@ -112,25 +113,25 @@ module _ {F : Type 0} (with : TextPair → F → F) (all : List TextPair → F �
         by false inside outside = outside ∙ more p (own_pairs false ps) f
 
 -- so are the facts of an entity
-pub own_facts : (decimals : ℕ) (inside : Bool) (ps : List TextPair) (f : Facts)
-    → with_own (with_fact decimals) inside ps f ≡ with_facts decimals (own_pairs inside ps) f
-own_facts decimals =
-    found (with_fact decimals) (with_facts decimals) (no_facts decimals) (more_facts decimals)
+pub own_facts : (form : FormParts) (inside : Bool) (ps : List TextPair) (f : Facts)
+    → with_own (with_fact form) inside ps f ≡ with_facts form (own_pairs inside ps) f
+own_facts form =
+    found (with_fact form) (with_facts form) (no_facts form) (more_facts form)
 
 -- and those of a layer's entry
-pub own_layer_facts : (inside : Bool) (ps : List TextPair) (f : LayerFacts)
-    → with_own with_layer_fact inside ps f ≡ with_layer_facts (own_pairs inside ps) f
-own_layer_facts = found with_layer_fact with_layer_facts no_layer_facts more_layer_facts
+pub own_layer_facts : (six inside : Bool) (ps : List TextPair) (f : LayerFacts)
+    → with_own (with_layer_fact six) inside ps f ≡ with_layer_facts six (own_pairs inside ps) f
+own_layer_facts six = found (with_layer_fact six) (with_layer_facts six) (no_layer_facts six) (more_layer_facts six)
 
--- an entity that stands on a layer that is no view's is passed over
-pub elsewhere : (layers : View → Option Linetype) (lines : List Line) (f : Facts) → f.layer ≡ Some None
+-- an entity that stands on a layer that isn't read is passed over
+pub elsewhere : (layers : Layer → Option Linetype) (lines : List LayerLine) (f : Facts) → f.layer ≡ Some None
     → judged layers lines f ≡ Ok lines
 unfolding drawn_by
 elsewhere layers lines f e =
     ap (λ layer. pen_on (option_flatten layer) layers f >>= lines_by f lines) e
 
--- no view, or paper space: what is no geometry is passed over in each case
-no_geometry_on : (layer : Option View) (layers : View → Option Linetype) (f : Facts)
+-- no layer that is read, or paper space: what is no geometry is passed over in each case
+no_geometry_on : (layer : Option Layer) (layers : Layer → Option Linetype) (f : Facts)
     → f.kind ≡ Other → pen_on layer layers f ≡ Ok None
 no_geometry_on None layers f e = refl
 no_geometry_on (Some view) layers f e = by (is_on_paper f.paper)
@@ -140,7 +141,7 @@ no_geometry_on (Some view) layers f e = by (is_on_paper f.paper)
     by false = ap (λ kind. pen_of kind (layers view) view f) e
 
 -- as is one that is no geometry
-pub no_geometry : (layers : View → Option Linetype) (lines : List Line) (f : Facts) → f.kind ≡ Other
+pub no_geometry : (layers : Layer → Option Linetype) (lines : List LayerLine) (f : Facts) → f.kind ≡ Other
     → judged layers lines f ≡ Ok lines
 unfolding drawn_by
 no_geometry layers lines f e =

@@ -5,12 +5,12 @@ use Rattle.solid_model.specs.declared.fault.Fault.{Fault}
 use Rattle.solid_model.specs.declared.fault.Fault.TheVariants.{BadSection}
 use Rattle.solid_model.specs.declared.fault.Refused.{Refused}
 use Rattle.solid_model.specs.declared.fault.Refused.TheVariants as refused
-use Rattle.solid_model.specs.declared.frame.View.{View}
-use Rattle.solid_model.specs.Line.{Line}
 use Rattle.dxf_groups.specs.declared.pair.Pair.{Pair}
 use Rattle.dxf_groups.specs.Groups.{GroupsState, Gives, IsReadThrough}
 use Rattle.dxf_groups.specs.Spans.{span_of}
 use Rattle.dxf_entities.specs.declared.facts.Facts.{Facts}
+use Rattle.dxf_entities.specs.declared.layer.Layer.{Layer as ReadLayer}
+use Rattle.dxf_entities.specs.declared.layer_line.LayerLine.{LayerLine}
 use Rattle.dxf_entities.specs.declared.kind.Kind.{Kind}
 use Rattle.dxf_entities.specs.declared.kind.Kind.TheVariants as kind
 use Rattle.dxf_entities.specs.declared.section.Section.{Section}
@@ -25,7 +25,8 @@ use Rattle.dxf_groups.specs.Pairs.{TextPair, Pairs, pairs_of, text_pair}
 use Rattle.dxf_entities.specs.Entries.{Entry, has_code, before_entries, entries_of, own_pairs, first_value, opens_application}
 use Rattle.dxf_entities.specs.declared.pen.Pen.{Pen}
 use Rattle.dxf_entities.specs.Judging.{facts_of, drawn_by, lines_by}
-use Rattle.dxf_entities.specs.Names.{is_name, view_on, kind_of, section_of}
+use Rattle.dxf_entities.specs.Forms.{FormParts}
+use Rattle.dxf_entities.specs.Names.{is_name, layer_on, kind_of, section_of}
 use Rattle.dxf_entities.specs.Reading.{Progress, between, opened, with_layer, layer_added, nothing_read, entity_read, entry_read, read_at, end_read, is_ended, entries_read, pairs_read}
 use Rattle.dxf_entities.specs.Resuming.{with_fact, with_layer_fact, with_own, begun_facts, nothing_told, opened_entity, opened_entry, unless_elsewhere, with_own_pair, with_pair_of, is_inside_after, fact_taken, entry_closed, closed, closed_where, layer_linetype, progress_of, advanced, resumed}
 use Rattle.dxf_entities.proofs.OwnFacts.{own_facts, own_layer_facts, elsewhere, no_geometry}
@@ -40,21 +41,21 @@ abbrev pub entry_with : TextPair → List TextPair → Entry
 entry_with p lead = record { name = p.value; line = p.line; pairs = lead }
 
 -- the lines that are kept with those of an entity
-abbrev then_kept : Progress → Result (List Line) Fault → Result Progress Fault
+abbrev then_kept : Progress → Result (List LayerLine) Fault → Result Progress Fault
 then_kept s r = r >>= λ lines. Ok (record s { lines = lines })
 
 -- an entity that a pair opens is closed as it is judged
 entity_opened : (p : TextPair) (lead : List TextPair) (s : Progress) (k : Kind) → kind_of p.value ≡ k
     → entry_closed (opened_entity p k) false lead s
-    ≡ entity_read (facts_of s.decimals (entry_with p lead)) s
+    ≡ entity_read (facts_of s.form (entry_with p lead)) s
 entity_opened p lead s kind.Line e =
-    ap (λ f. entity_read f s) (own_facts s.decimals false lead (begun_facts p))
+    ap (λ f. entity_read f s) (own_facts s.form false lead (begun_facts p))
 entity_opened p lead s kind.Polyline e =
-    ap (λ f. entity_read f s) (own_facts s.decimals false lead (begun_facts p))
+    ap (λ f. entity_read f s) (own_facts s.form false lead (begun_facts p))
 entity_opened p lead s kind.Geometry e =
-    ap (λ f. entity_read f s) (own_facts s.decimals false lead (begun_facts p))
+    ap (λ f. entity_read f s) (own_facts s.form false lead (begun_facts p))
 entity_opened p lead s kind.Other e =
-    sym (ap (then_kept s) (no_geometry s.layers s.lines (facts_of s.decimals (entry_with p lead)) e))
+    sym (ap (then_kept s) (no_geometry s.layers s.lines (facts_of s.form (entry_with p lead)) e))
 
 -- an entry that a pair opens is closed as the entry that it begins is read
 pub opened_closes : (section : Section) (p : TextPair) (lead : List TextPair) (s : Progress)
@@ -66,54 +67,54 @@ opened_closes Tables p lead s = by (is_name (codes "LAYER") p.value)
         ≡ Ok (if b then layer_added (record { name = codes "LAYER"; line = p.line; pairs = lead }) s
         else s)
     by true =
-        ap (λ f. Ok (with_layer f.name f.linetype s)) (own_layer_facts false lead nothing_told)
+        ap (λ f. Ok (with_layer f.name f.linetype s)) (own_layer_facts s.form.six false lead nothing_told)
     by false = refl
 opened_closes Entities p lead s = entity_opened p lead s (kind_of p.value) refl
 opened_closes Other p lead s = refl
 
--- an entity goes on as one that is passed over, where it stands on a layer that is no view's
-unless_closes : (layer : Option (Option View)) (f : Facts) (ps : List TextPair) (s : Progress)
+-- an entity goes on as one that is passed over, where it stands on a layer that isn't read
+unless_closes : (layer : Option (Option ReadLayer)) (f : Facts) (ps : List TextPair) (s : Progress)
     → f.layer ≡ layer
     → entry_closed (Entity f) false ps s ≡ entry_closed (unless_elsewhere layer f) false ps s
 unless_closes None f ps s e = refl
-unless_closes (Some (Some view)) f ps s e = refl
+unless_closes (Some (Some layer)) f ps s e = refl
 unless_closes (Some None) f ps s e =
-    ap (then_kept s) (elsewhere s.layers s.lines (with_own (with_fact s.decimals) false ps f) still)
+    ap (then_kept s) (elsewhere s.layers s.lines (with_own (with_fact s.form) false ps f) still)
   where
-    still : (with_own (with_fact s.decimals) false ps f).layer ≡ Some None
+    still : (with_own (with_fact s.form) false ps f).layer ≡ Some None
     still =
-        ap (λ (g : Facts). g.layer) (own_facts s.decimals false ps f)
-        ∙ ap (λ layer. option_or layer (option_map view_on (first_value 8 (own_pairs false ps)))) e
+        ap (λ (g : Facts). g.layer) (own_facts s.form false ps f)
+        ∙ ap (λ layer. option_or layer (option_map (layer_on s.form.six) (first_value 8 (own_pairs false ps)))) e
 
 -- an entry is closed with a pair and what follows it; whether that begins what belongs to an
 -- application is told
 abbrev entry_closed_after : Bool → TextPair → List TextPair → Open → Progress → Result Progress Fault
 entry_closed_after b p ps Passed s = Ok s
 entry_closed_after b p ps (Layer f) s =
-    let all = if b then with_own with_layer_fact true ps f
-    else with_own with_layer_fact false ps (with_layer_fact p f) in
+    let all = if b then with_own (with_layer_fact s.form.six) true ps f
+    else with_own (with_layer_fact s.form.six) false ps (with_layer_fact s.form.six p f) in
     Ok (with_layer all.name all.linetype s)
 entry_closed_after b p ps (Entity f) s =
     entity_read
-    (if b then with_own (with_fact s.decimals) true ps f
-    else with_own (with_fact s.decimals) false ps (with_fact s.decimals p f)) s
+    (if b then with_own (with_fact s.form) true ps f
+    else with_own (with_fact s.form) false ps (with_fact s.form p f)) s
 
 -- a pair of its own is added to an open entry
 own_taken : (p : TextPair) (ps : List TextPair) (entry : Open) (s : Progress) (b : Bool)
     → entry_closed_after b p ps entry s
-    ≡ entry_closed (if b then entry else with_own_pair s.decimals p entry) b ps s
+    ≡ entry_closed (if b then entry else with_own_pair s.form p entry) b ps s
 own_taken p ps Passed s true = refl
 own_taken p ps Passed s false = refl
 own_taken p ps (Layer f) s true = refl
 own_taken p ps (Layer f) s false = refl
 own_taken p ps (Entity f) s true = refl
 own_taken p ps (Entity f) s false =
-    unless_closes (with_fact s.decimals p f).layer (with_fact s.decimals p f) ps s refl
+    unless_closes (with_fact s.form p f).layer (with_fact s.form p f) ps s refl
 
 -- an open entry takes a pair
 pub pair_taken : (p : TextPair) (ps : List TextPair) (inside : Bool) (entry : Open) (s : Progress)
     → entry_closed entry inside (p ∷ ps) s
-    ≡ entry_closed (with_pair_of s.decimals p inside entry) (is_inside_after p inside) ps s
+    ≡ entry_closed (with_pair_of s.form p inside entry) (is_inside_after p inside) ps s
 pair_taken p ps true Passed s = refl
 pair_taken p ps true (Layer f) s = refl
 pair_taken p ps true (Entity f) s = refl
@@ -133,7 +134,7 @@ pub closed_entity : (r : Reader) (f : Facts) → r.entry ≡ Entity f
 closed_entity r f is =
     ap (λ entry. entry_closed entry r.in_application [] (progress_of r)) is
     ∙ ap (λ all. entity_read all (progress_of r))
-    (nothing_more (with_fact r.decimals) r.in_application f)
+    (nothing_more (with_fact r.form) r.in_application f)
 
 -- the end of an entity, by how it is drawn
 abbrev drawn_so : Reader → Facts → Result (Option Pen) Fault → Result Progress Fault
@@ -147,11 +148,11 @@ entity_passed r f is gives = closed_entity r f is ∙ ap (drawn_so r f) gives
 -- ---- a pair with code 0
 
 -- what is read of the entries that follow
-abbrev then_entries : List TextPair → Result ℕ Fault → Result Progress Fault → Result (List Line) Fault
+abbrev then_entries : List TextPair → Result ℕ Fault → Result Progress Fault → Result (List LayerLine) Fault
 then_entries ps ending r = r >>= entries_read (entries_of ps) ending
 
 -- what is read after the entry that it ends
-abbrev rest_of : TextPair → List TextPair → Result ℕ Fault → Progress → Result (List Line) Fault
+abbrev rest_of : TextPair → List TextPair → Result ℕ Fault → Progress → Result (List LayerLine) Fault
 rest_of p ps ending s = then_entries ps ending
     (read_at s.place (is_ended (entries_of ps) ending) (entry_with p (before_entries ps)) s)
 
@@ -394,10 +395,10 @@ read_through all old new same_text same_ending gives = record {
 -- ---- the beginning
 
 -- a reader that has read nothing reads all
-pub begins : (decimals : ℕ) (r : Reader) → r.place ≡ Outside → progress_of r ≡ nothing_read decimals
-    → (ps : Pairs) → resumed ps.pairs ps.ending r ≡ pairs_read decimals ps
+pub begins : (form : FormParts) (r : Reader) → r.place ≡ Outside → progress_of r ≡ nothing_read form
+    → (ps : Pairs) → resumed ps.pairs ps.ending r ≡ pairs_read form ps
 unfolding resumed
-begins decimals r outside fresh ps =
+begins form r outside fresh ps =
     ap (λ place. then_entries ps.pairs ps.ending
     (advanced place (is_ended (entries_of ps.pairs) ps.ending) (before_entries ps.pairs) r)) outside
     ∙ ap (λ s. then_entries ps.pairs ps.ending (between (before_entries ps.pairs) s)) fresh

@@ -1,6 +1,8 @@
 -- No fault that is found in a text is that it is too long.
 use Rattle.std.proofs.Common.{◌≡◌, Bool, true, false, cond, if◌then◌else◌, ℕ, ◌+◌, List, [], ◌∷◌, length, ℤ, pos, int_eq, Option, Some, None, Result, Ok, Err, ap}
 use Rattle.dxf_entities.specs.declared.facts.Facts.{Facts}
+use Rattle.dxf_entities.specs.declared.layer.Layer.{Layer}
+use Rattle.dxf_entities.specs.declared.layer_line.LayerLine.{LayerLine}
 use Rattle.dxf_entities.specs.declared.kind.Kind.{Kind}
 use Rattle.dxf_entities.specs.declared.kind.Kind.TheVariants as kind
 use Rattle.dxf_entities.specs.declared.linetype.Linetype.{Linetype}
@@ -15,24 +17,24 @@ use Rattle.dxf_entities.specs.declared.shape.Shape.TheVariants as shape
 use Rattle.dxf_entities.specs.Coordinates.{value_at, coordinate_at, with_coordinate, present, line_ends}
 use Rattle.dxf_entities.specs.DrawnLines.{are_straight, drawn_along, added_along, kept, lines_through}
 use Rattle.dxf_entities.specs.Entries.{Entry, entries_of, before_entries, has_code, own_pairs}
-use Rattle.dxf_entities.specs.Judging.{facts_of, style_of, pen_in, pen_of, pen_on, drawn_by, lines_by, judged}
+use Rattle.dxf_entities.specs.Judging.{facts_of, style_of, pen_of, pen_on, drawn_by, lines_by}
 use Rattle.dxf_entities.specs.Known.{Known, KnownOutline, Point}
+use Rattle.dxf_entities.specs.Extras.{lines_read}
+use Rattle.dxf_entities.specs.Forms.{FormParts}
 use Rattle.dxf_entities.specs.Names.{kind_of, section_of}
-use Rattle.dxf_entities.specs.Outlines.{first_x, with_x, ended_vertex, with_y, flat, first_flags, with_vertex, whole_route}
-use Rattle.dxf_entities.specs.Reading.{Progress, between, opened, entry_read, read_at, end_read, is_ended, entries_read, nothing_read, pairs_read, read_of}
+use Rattle.dxf_entities.specs.Outlines.{first_x, ended_vertex, flat, first_flags, with_vertex, whole_route}
+use Rattle.dxf_entities.specs.Reading.{Progress, between, opened, entry_read, read_at, end_read, is_ended, entries_read, nothing_read, text_read}
 use Rattle.dxf_entities.specs.Shapes.{begun_shape, with_shape, known_shape, points_of}
 use Rattle.dxf_entities.specs.Steps.{◌>>=◌}
 use Rattle.dxf_groups.specs.declared.numerals.NumeralFault.{NumeralFault}
 use Rattle.dxf_groups.specs.declared.numerals.NumeralFault.TheVariants as numeral
 use Rattle.dxf_groups.specs.Codes.{group_code_of, is_comment, is_end}
 use Rattle.dxf_groups.specs.Numerals.{scaled_of, whole_of}
-use Rattle.dxf_groups.specs.Pairs.{Pairs, TextPair, code_before, ended, last_line_fault, pairs_after_mark, pairs_from, pairs_of, with_pair, without_mark}
+use Rattle.dxf_groups.specs.Pairs.{Pairs, TextPair, code_before, ended, last_line_fault, pairs_from, pairs_of, with_pair, without_mark}
 use Rattle.dxf_groups.specs.TextLines.{contents_of}
 use Rattle.solid_model.specs.declared.fault.Fault.{Fault}
 use Rattle.solid_model.specs.declared.fault.Fault.TheVariants as fault
 use Rattle.solid_model.specs.declared.fault.Fault.TheVariants.{TooLong}
-use Rattle.solid_model.specs.declared.frame.View.{View}
-use Rattle.solid_model.specs.Line.{Line}
 
 -- ---- steps
 
@@ -180,7 +182,7 @@ points line shape.Nothing = value []
 
 -- ---- how an entity is judged
 
-keeps : (count line : ℕ) (ls : List Line) → IsNotLong (kept count line ls)
+keeps : (count line : ℕ) (ls : List LayerLine) → IsNotLong (kept count line ls)
 keeps count line ls = either _ (Ok ls) (Err (fault.TooManyLines line)) (value ls) (λ e. cc)
 
 along : (count line : ℕ) (pen : Pen) (ps : List Point) → IsNotLong (drawn_along count line pen ps)
@@ -188,7 +190,7 @@ along count line pen ps =
     either (are_straight ps) (kept count line (lines_through line pen ps)) (Err (fault.Oblique line))
     (keeps count line (lines_through line pen ps)) (λ e. cc)
 
-added : (line : ℕ) (pen : Pen) (lines : List Line) (ps : List Point) → IsNotLong (added_along line pen lines ps)
+added : (line : ℕ) (pen : Pen) (lines : List LayerLine) (ps : List Point) → IsNotLong (added_along line pen lines ps)
 added line pen lines ps =
     after _ _ (along (length lines) line pen ps) (λ more. value _)
 
@@ -199,21 +201,21 @@ style line Center = λ e. cc
 style line ByLayer = λ e. cc
 style line Unlisted = λ e. cc
 
-pen_kind : (k : Kind) (layer : Option Linetype) (view : View) (f : Facts) → IsNotLong (pen_of k layer view f)
-pen_kind kind.Line layer view f = after _ _ (style f.line _) (λ s. value _)
-pen_kind kind.Polyline layer view f = after _ _ (style f.line _) (λ s. value _)
-pen_kind kind.Geometry layer view f = λ e. cc
-pen_kind kind.Other layer view f = λ e. cc
+pen_kind : (k : Kind) (own : Option Linetype) (layer : Layer) (f : Facts) → IsNotLong (pen_of k own layer f)
+pen_kind kind.Line own layer f = after _ _ (style f.line _) (λ s. value _)
+pen_kind kind.Polyline own layer f = after _ _ (style f.line _) (λ s. value _)
+pen_kind kind.Geometry own layer f = λ e. cc
+pen_kind kind.Other own layer f = λ e. cc
 
-pen_seen : (view : Option View) (layers : View → Option Linetype) (f : Facts) → IsNotLong (pen_on view layers f)
+pen_seen : (layer : Option Layer) (layers : Layer → Option Linetype) (f : Facts) → IsNotLong (pen_on layer layers f)
 pen_seen None layers f = λ e. cc
-pen_seen (Some view) layers f = either _ _ _ (value None) (pen_kind f.kind (layers view) view f)
+pen_seen (Some layer) layers f = either _ _ _ (value None) (pen_kind f.kind (layers layer) layer f)
 
-drawn : (layers : View → Option Linetype) (f : Facts) → IsNotLong (drawn_by layers f)
+drawn : (layers : Layer → Option Linetype) (f : Facts) → IsNotLong (drawn_by layers f)
 unfolding drawn_by
 drawn layers f = pen_seen _ layers f
 
-lines : (f : Facts) (ls : List Line) → IsNotLong f.shape → (pen : Option Pen) → IsNotLong (lines_by f ls pen)
+lines : (f : Facts) (ls : List LayerLine) → IsNotLong f.shape → (pen : Option Pen) → IsNotLong (lines_by f ls pen)
 lines f ls own None = value ls
 lines f ls own (Some pen) =
     after _ _ own (λ s. after _ _ (points f.line s) (λ ps. added f.line pen ls ps))
@@ -235,8 +237,8 @@ entry false section x s = value s
 entry true Tables x s = value _
 entry true Other x s = value s
 entry true Entities x s =
-    let f = facts_of s.decimals x in
-    after _ _ (after _ _ (drawn s.layers f) (λ pen. lines f s.lines (shape_read s.decimals x.line
+    let f = facts_of s.form x in
+    after _ _ (after _ _ (drawn s.layers f) (λ pen. lines f s.lines (shape_read s.form.decimals x.line
     (own_pairs false x.pairs) (begun_shape (kind_of x.name))) pen))
     (λ ls. value _)
 
@@ -261,9 +263,14 @@ entries (x ∷ es) ending s own =
     after _ _ (entry_at s.place (is_ended es ending) x s) (λ t. entries es ending t own)
 
 -- what is read of a text is no such fault
-pub reads_are_not_long : (decimals : ℕ) (text : List ℕ) → read_of decimals text ≡ Err TooLong → ⊥
-unfolding read_of
-reads_are_not_long decimals text =
+texts_are_not_long : (form : FormParts) (text : List ℕ) → text_read form text ≡ Err TooLong → ⊥
+unfolding text_read
+texts_are_not_long form text =
     let ps = pairs_of text in
-    after _ _ (starts (before_entries ps.pairs) (nothing_read decimals))
+    after _ _ (starts (before_entries ps.pairs) (nothing_read form))
     (λ s. entries (entries_of ps.pairs) ps.ending s (text_end text))
+
+pub reads_are_not_long : (form : FormParts) (text : List ℕ) → lines_read form text ≡ Err TooLong → ⊥
+unfolding lines_read
+reads_are_not_long form text =
+    after _ _ (texts_are_not_long form text) (λ ls. value _)

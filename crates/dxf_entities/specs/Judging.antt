@@ -4,18 +4,19 @@ use Rattle.std.specs.Option.{option_map, option_flatten, unwrap_or}
 use Rattle.std.specs.Str.{bytes_eq}
 use Rattle.solid_model.specs.declared.fault.Fault.{Fault}
 use Rattle.solid_model.specs.declared.fault.Fault.TheVariants as fault
-use Rattle.solid_model.specs.declared.frame.View.{View}
 use Rattle.solid_model.specs.declared.segment.Style.{Style}
 use Rattle.solid_model.specs.declared.segment.Style.TheVariants.{Dashed, Solid}
-use Rattle.solid_model.specs.Line.{Line}
 use Rattle.dxf_entities.specs.declared.facts.Facts.{Facts}
+use Rattle.dxf_entities.specs.declared.layer.Layer.{Layer}
+use Rattle.dxf_entities.specs.declared.layer_line.LayerLine.{LayerLine}
 use Rattle.dxf_entities.specs.declared.kind.Kind.{Kind}
 use Rattle.dxf_entities.specs.declared.kind.Kind.TheVariants as kind
 use Rattle.dxf_entities.specs.declared.linetype.Linetype.{Linetype}
 use Rattle.dxf_entities.specs.declared.linetype.Linetype.TheVariants.{Continuous, Hidden, Center, ByLayer, Unlisted}
 use Rattle.dxf_entities.specs.declared.pen.Pen.{Pen}
 use Rattle.dxf_entities.specs.Entries.{Entry, own_pairs, first_value}
-use Rattle.dxf_entities.specs.Names.{view_on, linetype_of, kind_of}
+use Rattle.dxf_entities.specs.Forms.{FormParts}
+use Rattle.dxf_entities.specs.Names.{layer_on, linetype_of, kind_of}
 use Rattle.dxf_entities.specs.Shapes.{begun_shape, known_shape, points_of}
 use Rattle.dxf_entities.specs.Steps.{◌>>=◌}
 use Rattle.dxf_entities.specs.DrawnLines.{added_through}
@@ -24,20 +25,19 @@ use Rattle.dxf_entities.specs.DrawnLines.{added_through}
 abbrev pub is_one : List ℕ → Bool
 is_one value = bytes_eq value (codes "1")
 
--- What counts of an entity that is read with so many decimals: the line at which it begins and its
--- kind; of the pairs that belong to no application the first layer, the first mark of paper space and
+-- What counts of an entity that is read in this form: the line at which it begins and its kind; of the pairs that belong to no application the first layer, the first mark of paper space and
 -- the first linetype; and what they draw.
-abbrev pub facts_of : ℕ → Entry → Facts
-facts_of decimals e =
+abbrev pub facts_of : FormParts → Entry → Facts
+facts_of form e =
     let own = own_pairs false e.pairs in
     let kind = kind_of e.name in
     record {
       line = e.line;
       kind = kind;
-      layer = option_map view_on (first_value 8 own);
+      layer = option_map (layer_on form.six) (first_value 8 own);
       paper = option_map is_one (first_value 67 own);
       linetype = option_map linetype_of (first_value 6 own);
-      shape = known_shape decimals e.line own (begun_shape kind);
+      shape = known_shape form.decimals e.line own (begun_shape kind);
     }
 
 -- what stands in paper space is no part of a view
@@ -58,36 +58,36 @@ style_of line Center = Ok None
 style_of line ByLayer = Ok (Some Solid)
 style_of line Unlisted = Err (fault.Linetype line)
 
--- how an entity of a view whose layer has this linetype is drawn
-abbrev pub pen_in : Option Linetype → View → Facts → Result (Option Pen) Fault
-pen_in layer view f = style_of f.line (by_layer (unwrap_or f.linetype ByLayer) layer)
-    >>= λ style. Ok (option_map (λ s. record { view = view; style = s }) style)
+-- how an entity on a layer that has this linetype is drawn
+abbrev pub pen_in : Option Linetype → Layer → Facts → Result (Option Pen) Fault
+pen_in own layer f = style_of f.line (by_layer (unwrap_or f.linetype ByLayer) own)
+    >>= λ style. Ok (option_map (λ s. record { layer = layer; style = s }) style)
 
 -- how an entity of this kind is drawn: lines are, other geometry is a fault, and what is no geometry
 -- is passed over
-abbrev pub pen_of : Kind → Option Linetype → View → Facts → Result (Option Pen) Fault
-pen_of kind.Line layer view f = pen_in layer view f
-pen_of kind.Polyline layer view f = pen_in layer view f
-pen_of kind.Geometry layer view f = Err (fault.Geometry f.line)
-pen_of kind.Other layer view f = Ok None
+abbrev pub pen_of : Kind → Option Linetype → Layer → Facts → Result (Option Pen) Fault
+pen_of kind.Line own layer f = pen_in own layer f
+pen_of kind.Polyline own layer f = pen_in own layer f
+pen_of kind.Geometry own layer f = Err (fault.Geometry f.line)
+pen_of kind.Other own layer f = Ok None
 
--- how an entity is drawn that stands on a view's layer, or on none
-abbrev pub pen_on : Option View → (View → Option Linetype) → Facts → Result (Option Pen) Fault
+-- how an entity is drawn that stands on a layer that is read, or on none
+abbrev pub pen_on : Option Layer → (Layer → Option Linetype) → Facts → Result (Option Pen) Fault
 pen_on None layers f = Ok None
-pen_on (Some view) layers f =
-    if is_on_paper f.paper then Ok None else pen_of f.kind (layers view) view f
+pen_on (Some layer) layers f =
+    if is_on_paper f.paper then Ok None else pen_of f.kind (layers layer) layer f
 
--- how an entity is drawn where the views' layers have these linetypes; without a pen it is passed over
-unfoldable pub drawn_by : (View → Option Linetype) → Facts → Result (Option Pen) Fault
+-- how an entity is drawn where the layers have these linetypes; without a pen it is passed over
+unfoldable pub drawn_by : (Layer → Option Linetype) → Facts → Result (Option Pen) Fault
 drawn_by layers f = pen_on (option_flatten f.layer) layers f
 
 -- these lines and then those of an entity that is drawn so
-abbrev pub lines_by : Facts → List Line → Option Pen → Result (List Line) Fault
+abbrev pub lines_by : Facts → List LayerLine → Option Pen → Result (List LayerLine) Fault
 lines_by f lines None = Ok lines
 lines_by f lines (Some pen) =
     f.shape >>= (λ s. added_through f.line pen lines (points_of f.line s))
 
--- An entity, where the views' layers have these linetypes and these lines are kept: the lines that are
+-- An entity, where the layers have these linetypes and these lines are kept: the lines that are
 -- kept with its own, which has none where it is passed over; or its first fault.
-abbrev pub judged : (View → Option Linetype) → List Line → Facts → Result (List Line) Fault
+abbrev pub judged : (Layer → Option Linetype) → List LayerLine → Facts → Result (List LayerLine) Fault
 judged layers lines f = drawn_by layers f >>= lines_by f lines

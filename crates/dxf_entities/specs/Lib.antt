@@ -1,5 +1,6 @@
 pub mod Steps
 pub mod Known
+pub mod Forms
 pub mod Names
 pub mod Entries
 pub mod Coordinates
@@ -8,5 +9,6 @@ pub mod Shapes
 pub mod DrawnLines
 pub mod Judging
 pub mod Reading
+pub mod Extras
 pub mod Resuming
 pub mod SmallFiles

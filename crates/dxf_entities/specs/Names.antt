@@ -1,8 +1,9 @@
 -- Names that have a meaning in a file. They are compared with ASCII case ignored.
-use Rattle.std.specs.Prelude.{ℕ, Bool, List, ◌||◌, Option, Some, None, codes, if◌then◌else◌}
+use Rattle.std.specs.Prelude.{ℕ, Bool, true, false, List, ◌||◌, Option, Some, None, codes, if◌then◌else◌}
 use Rattle.std.specs.Str.{str_eq_ignore_ascii_case}
 use Rattle.solid_model.specs.declared.frame.View.{View}
 use Rattle.solid_model.specs.declared.frame.View.TheVariants.{Front, Top, Side}
+use Rattle.dxf_entities.specs.declared.layer.Layer.{Layer}
 use Rattle.dxf_entities.specs.declared.kind.Kind.{Kind}
 use Rattle.dxf_entities.specs.declared.kind.Kind.TheVariants as kind
 use Rattle.dxf_entities.specs.declared.linetype.Linetype.{Linetype}
@@ -14,11 +15,26 @@ use Rattle.dxf_entities.specs.declared.section.Section.TheVariants as section
 abbrev pub is_name : List ℕ → List ℕ → Bool
 is_name name value = str_eq_ignore_ascii_case value name
 
--- the view that is drawn on a layer of this name
-abbrev pub view_on : List ℕ → Option View
-view_on value = if is_name (codes "FRONT") value then Some Front
-    else (if is_name (codes "TOP") value then Some Top
-    else (if is_name (codes "SIDE") value then Some Side else None))
+-- the layer of a view, and that of the further view opposite to it
+abbrev pub main_layer : View → Layer
+main_layer v = record { view = v; opposite = false }
+
+abbrev pub further_layer : View → Layer
+further_layer v = record { view = v; opposite = true }
+
+-- The layer of a further view that has this name. The left side lies opposite to the right one, the rear
+-- to the front and the bottom to the top.
+abbrev pub further_on : List ℕ → Option Layer
+further_on value = if is_name (codes "LEFT") value then Some (further_layer Side)
+    else (if is_name (codes "REAR") value then Some (further_layer Front)
+    else (if is_name (codes "BOTTOM") value then Some (further_layer Top) else None))
+
+-- the layer of this name that is read; one of a further view is where six are
+abbrev pub layer_on : Bool → List ℕ → Option Layer
+layer_on six value = if is_name (codes "FRONT") value then Some (main_layer Front)
+    else (if is_name (codes "TOP") value then Some (main_layer Top)
+    else (if is_name (codes "SIDE") value then Some (main_layer Side)
+    else (if six then further_on value else None)))
 
 -- linetypes of visible edges
 abbrev pub is_continuous : List ℕ → Bool

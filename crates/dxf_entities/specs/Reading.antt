@@ -1,13 +1,15 @@
 -- What a file shows: the lines that are kept, or its first fault.
-use Rattle.std.specs.Prelude.{ℕ, Bool, true, false, List, [], ◌∷◌, Option, Some, None, Result, Ok, Err, codes, if◌then◌else◌}
+use Rattle.std.specs.Prelude.{ℕ, Bool, true, false, not, ◌&&◌, List, [], ◌∷◌, map, Option, Some, None, Result, Ok, Err, codes, if◌then◌else◌}
+use Rattle.std.specs.List.{filter}
 use Rattle.std.specs.Option.{option_map, option_or, unwrap_or}
 use Rattle.solid_model.specs.declared.fault.Fault.{Fault}
 use Rattle.solid_model.specs.declared.fault.Fault.TheVariants.{BadSection}
-use Rattle.solid_model.specs.declared.frame.View.{View}
 use Rattle.solid_model.specs.Drawings.{same_view}
 use Rattle.solid_model.specs.Line.{Line}
 use Rattle.dxf_groups.specs.Pairs.{TextPair, Pairs, pairs_of}
 use Rattle.dxf_entities.specs.declared.facts.Facts.{Facts}
+use Rattle.dxf_entities.specs.declared.layer.Layer.{Layer}
+use Rattle.dxf_entities.specs.declared.layer_line.LayerLine.{LayerLine}
 use Rattle.dxf_entities.specs.declared.linetype.Linetype.{Linetype}
 use Rattle.dxf_entities.specs.declared.linetype.Linetype.TheVariants.{Continuous}
 use Rattle.dxf_entities.specs.declared.section.Section.{Section}
@@ -17,20 +19,21 @@ use Rattle.dxf_entities.specs.declared.place.Place.TheVariants.{Outside, Unnamed
 use Rattle.dxf_entities.specs.Steps.{◌>>=◌}
 use Rattle.dxf_entities.specs.Entries.{Entry, has_code, before_entries, entries_of, own_pairs, first_value}
 use Rattle.dxf_entities.specs.Judging.{facts_of, judged}
-use Rattle.dxf_entities.specs.Names.{is_name, view_on, linetype_of, section_of}
+use Rattle.dxf_entities.specs.Forms.{FormParts, three_views}
+use Rattle.dxf_entities.specs.Names.{is_name, layer_on, linetype_of, section_of}
 
--- how a file is read, with so many decimals, and how far: where that is, which linetypes the layers of
--- the views have so far, and the lines kept so far
+-- how a file is read, in which form, and how far: where that is, which linetypes the layers have so far,
+-- and the lines kept so far
 pub record Progress : Type 0 where
-  pub decimals : ℕ
+  pub form : FormParts
   pub place : Place
-  pub layers : View → Option Linetype
-  pub lines : List Line
+  pub layers : Layer → Option Linetype
+  pub lines : List LayerLine
 
 -- nothing is read
-abbrev pub nothing_read : ℕ → Progress
-nothing_read decimals =
-    record { decimals = decimals; place = Outside; layers = λ _. None; lines = [] }
+abbrev pub nothing_read : FormParts → Progress
+nothing_read form =
+    record { form = form; place = Outside; layers = λ _. None; lines = [] }
 
 -- between sections no pair may stand but one that begins a section
 abbrev pub between : List TextPair → Progress → Result Progress Fault
@@ -44,26 +47,30 @@ opened [] s = Ok (record s { place = Unnamed })
 opened (p ∷ ps) s = if has_code 2 p then Ok (record s { place = Inside (section_of p.value) })
     else Err (BadSection p.line)
 
--- the name of a layer is that of this view's
-abbrev pub is_layer_of : View → Option (Option View) → Bool
-is_layer_of v (Some (Some w)) = same_view v w
-is_layer_of v _ = false
+-- two names of one layer
+abbrev pub same_layer : Layer → Layer → Bool
+same_layer a b = same_view a.view b.view && (if a.opposite then b.opposite else not b.opposite)
 
--- the views' layers, with one of this name and linetype, CONTINUOUS where it has none; the first of
--- its name counts
-abbrev pub layers_with : Option (Option View) → Option Linetype → (View → Option Linetype)
-    → View → Option Linetype
-layers_with name linetype layers v = option_or (layers v)
-    (if is_layer_of v name then Some (unwrap_or linetype Continuous) else None)
+-- the name of a layer is this one's
+abbrev pub is_layer : Layer → Option (Option Layer) → Bool
+is_layer l (Some (Some m)) = same_layer l m
+is_layer l _ = false
 
-abbrev pub with_layer : Option (Option View) → Option Linetype → Progress → Progress
+-- the layers, with one of this name and linetype, CONTINUOUS where it has none; the first of its name
+-- counts
+abbrev pub layers_with : Option (Option Layer) → Option Linetype → (Layer → Option Linetype)
+    → Layer → Option Linetype
+layers_with name linetype layers l = option_or (layers l)
+    (if is_layer l name then Some (unwrap_or linetype Continuous) else None)
+
+abbrev pub with_layer : Option (Option Layer) → Option Linetype → Progress → Progress
 with_layer name linetype s = record s { layers = layers_with name linetype s.layers }
 
 -- the layer that an entry of TABLES gives, where it is one
 abbrev pub layer_added : Entry → Progress → Progress
 layer_added e s = let own = own_pairs false e.pairs in
     if is_name (codes "LAYER") e.name
-    then with_layer (option_map view_on (first_value 2 own))
+    then with_layer (option_map (layer_on s.form.six) (first_value 2 own))
     (option_map linetype_of (first_value 6 own)) s
     else s
 
@@ -75,7 +82,7 @@ entity_read f s = judged s.layers s.lines f >>= λ lines. Ok (record s { lines =
 abbrev pub entry_read : Bool → Section → Entry → Progress → Result Progress Fault
 entry_read false section e s = Ok s
 entry_read true Tables e s = Ok (layer_added e s)
-entry_read true Entities e s = entity_read (facts_of s.decimals e) s
+entry_read true Entities e s = entity_read (facts_of s.form e) s
 entry_read true Other e s = Ok s
 
 -- the next entry, at this place; whether a pair ends it is told
@@ -88,7 +95,7 @@ read_at (Inside section) ended e s =
     else (if is_name (codes "ENDSEC") e.name then between e.pairs s else entry_read ended section e s)
 
 -- where the pairs end with the end pair on this line, which stands outside the sections
-abbrev pub end_read : Place → ℕ → Progress → Result (List Line) Fault
+abbrev pub end_read : Place → ℕ → Progress → Result (List LayerLine) Fault
 end_read Outside line s = Ok s.lines
 end_read Unnamed line s = Err (BadSection line)
 end_read (Inside section) line s = Err (BadSection line)
@@ -100,17 +107,29 @@ is_ended [] (Ok line) = true
 is_ended (e ∷ es) ending = true
 
 -- entry after entry, up to the end pair or a fault
-abbrev pub entries_read : List Entry → Result ℕ Fault → Progress → Result (List Line) Fault
+abbrev pub entries_read : List Entry → Result ℕ Fault → Progress → Result (List LayerLine) Fault
 entries_read [] (Err f) s = Err f
 entries_read [] (Ok line) s = end_read s.place line s
 entries_read (e ∷ es) ending s = read_at s.place (is_ended es ending) e s >>= entries_read es ending
 
--- all pairs, with so many decimals
-abbrev pub pairs_read : ℕ → Pairs → Result (List Line) Fault
-pairs_read decimals ps = between (before_entries ps.pairs) (nothing_read decimals)
+-- all pairs, in this form
+abbrev pub pairs_read : FormParts → Pairs → Result (List LayerLine) Fault
+pairs_read form ps = between (before_entries ps.pairs) (nothing_read form)
     >>= entries_read (entries_of ps.pairs) ps.ending
 
--- the lines that are kept of a text that is read with so many decimals, in its order, or its first
--- fault
+-- the lines that are kept of a text that is read in this form, in its order, or its first fault
+unfoldable pub text_read : FormParts → List ℕ → Result (List LayerLine) Fault
+text_read form text = pairs_read form (pairs_of text)
+
+-- of lines those of the views, or those of the further views opposite to them
+abbrev pub lines_on : Bool → List LayerLine → List Line
+lines_on opposite ls = map (λ l. l.line) (filter (λ l. if opposite then l.opposite else not l.opposite) ls)
+
+-- the lines of the three views alone, pair by pair
+abbrev pub main_read : ℕ → Pairs → Result (List Line) Fault
+main_read decimals ps = pairs_read (three_views decimals) ps >>= λ ls. Ok (lines_on false ls)
+
+-- the lines of the three views that are kept of a text that is read with so many decimals, in its order,
+-- or its first fault
 unfoldable pub read_of : ℕ → List ℕ → Result (List Line) Fault
-read_of decimals text = pairs_read decimals (pairs_of text)
+read_of decimals text = main_read decimals (pairs_of text)

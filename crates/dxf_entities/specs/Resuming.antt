@@ -4,11 +4,13 @@ use Rattle.std.specs.Option.{option_or}
 use Rattle.solid_model.specs.declared.fault.Fault.{Fault}
 use Rattle.solid_model.specs.declared.frame.View.{View}
 use Rattle.solid_model.specs.declared.frame.View.TheVariants.{Front, Top, Side}
-use Rattle.solid_model.specs.Line.{Line}
 use Rattle.dxf_groups.specs.Pairs.{TextPair}
 use Rattle.dxf_entities.specs.declared.facts.Facts.{Facts}
 use Rattle.dxf_entities.specs.declared.layer_facts.LayerFacts.{LayerFacts}
+use Rattle.dxf_entities.specs.declared.layer.Layer.{Layer as ReadLayer}
+use Rattle.dxf_entities.specs.declared.layer_line.LayerLine.{LayerLine}
 use Rattle.dxf_entities.specs.declared.layers.Layers.{Layers}
+use Rattle.dxf_entities.specs.declared.layers.ViewLayers.{ViewLayers}
 use Rattle.dxf_entities.specs.declared.kind.Kind.{Kind}
 use Rattle.dxf_entities.specs.declared.kind.Kind.TheVariants as kind
 use Rattle.dxf_entities.specs.declared.linetype.Linetype.{Linetype}
@@ -23,7 +25,8 @@ use Rattle.dxf_entities.specs.Shapes.{begun_shape, more_shape}
 use Rattle.dxf_entities.specs.Steps.{◌>>=◌}
 use Rattle.dxf_entities.specs.Entries.{has_code, before_entries, entries_of, opens_application, closes_application}
 use Rattle.dxf_entities.specs.Judging.{is_one}
-use Rattle.dxf_entities.specs.Names.{is_name, view_on, linetype_of, kind_of}
+use Rattle.dxf_entities.specs.Forms.{FormParts}
+use Rattle.dxf_entities.specs.Names.{is_name, layer_on, linetype_of, kind_of}
 use Rattle.dxf_entities.specs.Reading.{Progress, between, opened, with_layer, entity_read, is_ended, entries_read}
 
 -- what is known, or else what a pair with this code tells
@@ -32,18 +35,18 @@ or_first code meaning p known =
     option_or known (if has_code code p then Some (meaning p.value) else None)
 
 -- what counts of an entity, with one more pair of its own
-abbrev pub with_fact : ℕ → TextPair → Facts → Facts
-with_fact decimals p f = record f {
-  layer = or_first 8 view_on p f.layer;
+abbrev pub with_fact : FormParts → TextPair → Facts → Facts
+with_fact form p f = record f {
+  layer = or_first 8 (layer_on form.six) p f.layer;
   paper = or_first 67 is_one p f.paper;
   linetype = or_first 6 linetype_of p f.linetype;
-  shape = more_shape decimals f.line p f.shape;
+  shape = more_shape form.decimals f.line p f.shape;
 }
 
 -- what counts of a layer's entry, with one more pair of its own
-abbrev pub with_layer_fact : TextPair → LayerFacts → LayerFacts
-with_layer_fact p f = record {
-  name = or_first 2 view_on p f.name;
+abbrev pub with_layer_fact : Bool → TextPair → LayerFacts → LayerFacts
+with_layer_fact six p f = record {
+  name = or_first 2 (layer_on six) p f.name;
   linetype = or_first 6 linetype_of p f.linetype;
 }
 
@@ -70,15 +73,25 @@ begun_facts p = record {
 }
 
 -- the linetypes of the views' layers
-abbrev pub layer_linetype : Layers → View → Option Linetype
-layer_linetype l Front = l.front
-layer_linetype l Top = l.top
-layer_linetype l Side = l.side
+abbrev pub view_linetype : ViewLayers → View → Option Linetype
+view_linetype l Front = l.front
+view_linetype l Top = l.top
+view_linetype l Side = l.side
+
+-- with one of a view's layer, if that has none
+abbrev pub with_linetype : View → Linetype → ViewLayers → ViewLayers
+with_linetype Front linetype l = record l { front = option_or l.front (Some linetype) }
+with_linetype Top linetype l = record l { top = option_or l.top (Some linetype) }
+with_linetype Side linetype l = record l { side = option_or l.side (Some linetype) }
+
+-- the linetypes of the layers
+abbrev pub layer_linetype : Layers → ReadLayer → Option Linetype
+layer_linetype ls l = view_linetype (if l.opposite then ls.further else ls.main) l.view
 
 -- how far a reader has read, but for the entry that is open
 abbrev pub progress_of : Reader → Progress
 progress_of r = record {
-  decimals = r.decimals;
+  form = r.form;
   place = r.place;
   layers = layer_linetype r.layers;
   lines = r.lines.items;
@@ -98,24 +111,24 @@ opened_entry Tables p =
 opened_entry Entities p = opened_entity p (kind_of p.value)
 opened_entry Other p = Passed
 
--- an entity is passed over where it stands on a layer that is no view's
-abbrev pub unless_elsewhere : Option (Option View) → Facts → Open
+-- an entity is passed over where it stands on a layer that isn't read
+abbrev pub unless_elsewhere : Option (Option ReadLayer) → Facts → Open
 unless_elsewhere None f = Entity f
 unless_elsewhere (Some None) f = Passed
-unless_elsewhere (Some (Some view)) f = Entity f
+unless_elsewhere (Some (Some layer)) f = Entity f
 
 -- an open entry with one more pair of its own
-abbrev pub with_own_pair : ℕ → TextPair → Open → Open
-with_own_pair decimals p Passed = Passed
-with_own_pair decimals p (Layer f) = Layer (with_layer_fact p f)
-with_own_pair decimals p (Entity f) =
-    let more = with_fact decimals p f in unless_elsewhere more.layer more
+abbrev pub with_own_pair : FormParts → TextPair → Open → Open
+with_own_pair form p Passed = Passed
+with_own_pair form p (Layer f) = Layer (with_layer_fact form.six p f)
+with_own_pair form p (Entity f) =
+    let more = with_fact form p f in unless_elsewhere more.layer more
 
 -- an open entry with one more pair; whether that may belong to an application is told
-abbrev pub with_pair_of : ℕ → TextPair → Bool → Open → Open
-with_pair_of decimals p true entry = entry
-with_pair_of decimals p false entry =
-    if opens_application p then entry else with_own_pair decimals p entry
+abbrev pub with_pair_of : FormParts → TextPair → Bool → Open → Open
+with_pair_of form p true entry = entry
+with_pair_of form p false entry =
+    if opens_application p then entry else with_own_pair form p entry
 
 -- whether the next pair may belong to an application
 abbrev pub is_inside_after : TextPair → Bool → Bool
@@ -125,7 +138,7 @@ is_inside_after p false = opens_application p
 -- the open entry takes a pair
 abbrev pub fact_taken : TextPair → Reader → Reader
 fact_taken p r = record r {
-  entry = with_pair_of r.decimals p r.in_application r.entry;
+  entry = with_pair_of r.form p r.in_application r.entry;
   in_application = is_inside_after p r.in_application;
 }
 
@@ -133,8 +146,8 @@ fact_taken p r = record r {
 abbrev pub entry_closed : Open → Bool → List TextPair → Progress → Result Progress Fault
 entry_closed Passed inside ps s = Ok s
 entry_closed (Layer f) inside ps s =
-    let all = with_own with_layer_fact inside ps f in Ok (with_layer all.name all.linetype s)
-entry_closed (Entity f) inside ps s = entity_read (with_own (with_fact s.decimals) inside ps f) s
+    let all = with_own (with_layer_fact s.form.six) inside ps f in Ok (with_layer all.name all.linetype s)
+entry_closed (Entity f) inside ps s = entity_read (with_own (with_fact s.form) inside ps f) s
 
 -- the open entry is closed
 abbrev pub closed : List TextPair → Reader → Result Progress Fault
@@ -152,7 +165,7 @@ advanced Unnamed ended ps r = opened ps (progress_of r)
 advanced (Inside section) ended ps r = closed_where ended ps r
 
 -- what a reader reads where these pairs and this ending are left
-unfoldable pub resumed : List TextPair → Result ℕ Fault → Reader → Result (List Line) Fault
+unfoldable pub resumed : List TextPair → Result ℕ Fault → Reader → Result (List LayerLine) Fault
 resumed ps ending r =
     advanced r.place (is_ended (entries_of ps) ending) (before_entries ps) r
     >>= entries_read (entries_of ps) ending

@@ -1,5 +1,6 @@
 -- Small files, pair by pair, and what is read of them.
 use Rattle.std.specs.Prelude.{ℕ, ◌+◌, List, [], ◌∷◌, ◌++◌, pos, Ok, codes}
+use Rattle.solid_model.specs.declared.frame.View.{View}
 use Rattle.solid_model.specs.declared.frame.View.TheVariants.{Front}
 use Rattle.solid_model.specs.declared.segment.Style.{Style}
 use Rattle.solid_model.specs.declared.segment.Style.TheVariants.{Solid}
@@ -7,13 +8,17 @@ use Rattle.solid_model.specs.Line.{Line}
 use Rattle.dxf_groups.specs.Pairs.{TextPair, Pairs}
 use Rattle.dxf_groups.specs.SmallTexts.{pair_on}
 
--- from the line n on, an entity on the layer FRONT from (0, 0) to (x, y), with these pairs before its
+-- from the line n on, an entity on this layer from (0, 0) to (x, y), with these pairs before its
 -- coordinates
-abbrev pub line_from : ℕ → List TextPair → List ℕ → List ℕ → List TextPair
-line_from n more x y =
-    pair_on n (pos 0) (codes "LINE") ∷ pair_on (n + 2) (pos 8) (codes "Front")
+abbrev pub line_on : List ℕ → ℕ → List TextPair → List ℕ → List ℕ → List TextPair
+line_on layer n more x y =
+    pair_on n (pos 0) (codes "LINE") ∷ pair_on (n + 2) (pos 8) layer
     ∷ (more ++ pair_on (n + 10) (pos 10) (codes "0.0") ∷ pair_on (n + 12) (pos 20) (codes "-0")
     ∷ pair_on (n + 14) (pos 11) x ∷ pair_on (n + 16) (pos 21) y ∷ [])
+
+-- the same on the layer FRONT
+abbrev pub line_from : ℕ → List TextPair → List ℕ → List ℕ → List TextPair
+line_from = line_on (codes "Front")
 
 -- a section of this name begins at the line n, or ends there
 abbrev pub section_at : ℕ → List ℕ → List TextPair
@@ -38,11 +43,15 @@ file_of_polyline n more = record {
   ending = Ok (n + 2);
 }
 
--- a table with one layer FRONT, whose linetype is HIDDEN
-abbrev pub hidden_layer : ℕ → List TextPair
-hidden_layer n = section_at n (codes "TABLES")
-    ++ (pair_on (n + 4) (pos 0) (codes "LAYER") ∷ pair_on (n + 6) (pos 2) (codes "FRONT")
+-- a table with one layer, whose linetype is HIDDEN
+abbrev pub hidden_on : List ℕ → ℕ → List TextPair
+hidden_on layer n = section_at n (codes "TABLES")
+    ++ (pair_on (n + 4) (pos 0) (codes "LAYER") ∷ pair_on (n + 6) (pos 2) layer
     ∷ pair_on (n + 8) (pos 6) (codes "Hidden") ∷ end_of_section (n + 10))
+
+-- the same of FRONT
+abbrev pub hidden_layer : ℕ → List TextPair
+hidden_layer = hidden_on (codes "FRONT")
 
 -- the line from (a, b) to (c, d) that begins at the line n
 abbrev pub line_to : ℕ → ℕ → ℕ → ℕ → ℕ → Line
@@ -60,3 +69,27 @@ line_to n a b c d = record {
 abbrev pub unit_line : ℕ → Style → Line
 unit_line n style =
     record { of = Front; style = style; x0 = pos 0; y0 = pos 0; x1 = pos 1; y1 = pos 0; number = n }
+
+-- the line of a view from (0, 0) to (x, y) that begins at the line n
+abbrev pub line_in : View → ℕ → Style → ℕ → ℕ → Line
+line_in v n style x y =
+    record { of = v; style = style; x0 = pos 0; y0 = pos 0; x1 = pos x; y1 = pos y; number = n }
+
+-- a line on each layer of a further view and one on FRONT, behind a table in which that of the rear is HIDDEN
+abbrev pub lines_of_further_views : Pairs
+lines_of_further_views = record {
+  pairs = hidden_on (codes "rear") 1 ++ (section_at 13 (codes "ENTITIES")
+      ++ (line_on (codes "Left") 17 [] (codes "1") (codes "0")
+      ++ (line_on (codes "REAR") 35 [] (codes "0") (codes "2")
+      ++ (line_from 53 [] (codes "0") (codes "4")
+      ++ (line_on (codes "bottom") 71 [] (codes "3") (codes "0") ++ end_of_section 89)))));
+  ending = Ok 91;
+}
+
+-- an arc on this layer
+abbrev pub arc_on : List ℕ → Pairs
+arc_on layer = record {
+  pairs = section_at 1 (codes "ENTITIES")
+      ++ (pair_on 5 (pos 0) (codes "ARC") ∷ pair_on 7 (pos 8) layer ∷ end_of_section 9);
+  ending = Ok 11;
+}

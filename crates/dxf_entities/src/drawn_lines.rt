@@ -5,6 +5,7 @@ ghost use Rattle.solid_model.specs.declared.segment.Style.TheVariants.{Blank};
 ghost use Rattle.dxf_entities.specs.Steps.{ComesTo};
 ghost use Rattle.dxf_entities.specs.DrawnLines.{added_along, are_straight_from, line_between, lines_from};
 
+use crate::layer_line::LayerLine;
 use crate::pen::Pen;
 use crate::vertex::Vertex;
 use solid_model::{Fault, Memory, Refused, SheetLine};
@@ -32,7 +33,7 @@ fn push_lines(
     pen: Pen,
     first: Vertex,
     rest: &[Vertex],
-    lines: &mut Vec<SheetLine>,
+    lines: &mut Vec<LayerLine>,
 ) -> Result<(), Memory>
     requires drawn { pen.style ≢ Blank }
     requires straight { are_straight_from first rest.now ≡ true }
@@ -41,14 +42,17 @@ fn push_lines(
 {
     let mut from = first;
     for to in rest {
-        lines.push(SheetLine {
-            view: pen.view,
-            style: pen.style,
-            x0: from.x,
-            y0: from.y,
-            x1: to.x,
-            y1: to.y,
-            line,
+        lines.push(LayerLine {
+            opposite: pen.layer.opposite,
+            line: SheetLine {
+                view: pen.layer.view,
+                style: pen.style,
+                x0: from.x,
+                y0: from.y,
+                x1: to.x,
+                y1: to.y,
+                line,
+            },
         })?;
         from = *to;
     }
@@ -62,7 +66,7 @@ pub fn add_along(
     line: u32,
     pen: Pen,
     vertices: &[Vertex],
-    lines: &mut Vec<SheetLine>,
+    lines: &mut Vec<LayerLine>,
 ) -> Result<(), Refused>
     requires drawn { pen.style ≢ Blank }
     ensures { ComesTo (added_along line pen lines.old.items vertices.now) lines.new.items result }

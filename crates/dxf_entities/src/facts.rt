@@ -6,14 +6,17 @@ ghost use Rattle.dxf_entities.specs.Judging.{is_one};
 ghost use Rattle.dxf_entities.specs.Resuming.{or_first};
 
 use crate::codes::has_code;
+use crate::form::ReadingForm;
 use crate::kind::{Kind, kind_of};
+use crate::layer::Layer;
+use crate::layer_line::LayerLine;
 use crate::layers::Layers;
 use crate::linetype::{Linetype, first_linetype};
-use crate::names::first_view;
+use crate::names::first_layer;
 use crate::pen::Pen;
 use crate::shape::{Shape, take_more};
 use dxf_groups::Pair;
-use solid_model::{Fault, Memory, Refused, SheetLine, Style, View};
+use solid_model::{Fault, Memory, Refused, Style};
 use std::alloc::Global;
 
 /// What counts of an entity.
@@ -22,8 +25,8 @@ pub struct Facts {
     /// The number of the line at which it begins.
     pub line: u32,
     pub kind: Kind,
-    /// The view that is drawn on its layer, where that is told and is a view's.
-    pub layer: Option<Option<View>>,
+    /// Its layer, where that is told and is one that is read.
+    pub layer: Option<Option<Layer>>,
     /// Whether it stands in paper space, where that is told.
     pub paper: Option<bool>,
     pub linetype: Option<Linetype>,
@@ -44,9 +47,8 @@ fn first_paper(known: Option<bool>, pair: &Pair, value: &[u8]) -> Option<bool>
 }
 
 impl Facts {
-    ghost use Rattle.std.specs.Prelude.{◌≡◌, ◌≢◌, ◌≤◌, Some, IfOk, IfSome, OnOk};
+    ghost use Rattle.std.specs.Prelude.{◌≡◌, ◌≢◌, Some, IfOk, IfSome, OnOk};
     ghost use Rattle.solid_model.specs.declared.segment.Style.TheVariants.{Blank};
-    ghost use Rattle.solid_model.specs.Limits.{most_decimals};
     ghost use Rattle.dxf_entities.specs.Judging.{drawn_by, lines_by, pen_in};
     ghost use Rattle.dxf_entities.specs.Resuming.{begun_facts, layer_linetype, with_fact};
     ghost use Rattle.dxf_entities.specs.Steps.{ComesTo};
@@ -68,35 +70,30 @@ impl Facts {
     }
 
     /// Takes one more pair, which has this value and belongs to no application.
-    pub fn take(&mut self, pair: &Pair, value: &[u8], decimals: u8) -> Result<(), Memory>
-        requires { decimals ≤ most_decimals }
-        ensures { OnOk result (self.new
-            ≡ with_fact decimals (text_pair pair.now value.now) self.old) }
+    pub fn take(&mut self, pair: &Pair, value: &[u8], form: ReadingForm) -> Result<(), Memory>
+        ensures { OnOk result (self.new ≡ with_fact form (text_pair pair.now value.now) self.old) }
     {
-        self.layer = first_view(self.layer, 8, pair, value);
+        self.layer = first_layer(self.layer, 8, form.six(), pair, value);
         self.paper = first_paper(self.paper, pair, value);
         self.linetype = first_linetype(self.linetype, pair, value);
-        take_more(&mut self.shape, self.line, pair, value, decimals)
+        take_more(&mut self.shape, self.line, pair, value, form.decimals())
     }
 
-    /// How the lines of an entity of this view are drawn, where its layer has this linetype; None
-    /// for centre lines.
-    fn pen_in(&self, view: View, layer: Option<Linetype>) -> Result<Option<Pen>, Fault>
-        ensures pen { result ≡ pen_in layer view self.now }
+    /// How the lines of an entity on this layer are drawn, where that has this linetype; None for
+    /// centre lines.
+    fn pen_in(&self, layer: Layer, own: Option<Linetype>) -> Result<Option<Pen>, Fault>
+        ensures pen { result ≡ pen_in own layer self.now }
         ensures drawn { IfOk result (λ pen. IfSome pen (λ p. p.style ≢ Blank)) }
     {
-        let linetype = self
-            .linetype
-            .unwrap_or(Linetype::ByLayer)
-            .or_of_layer(layer);
+        let linetype = self.linetype.unwrap_or(Linetype::ByLayer).or_of_layer(own);
         match linetype {
             // A layer's own BYLAYER counts as CONTINUOUS.
             Linetype::Continuous | Linetype::ByLayer => Ok(Some(Pen {
-                view,
+                layer,
                 style: Style::Solid,
             })),
             Linetype::Hidden => Ok(Some(Pen {
-                view,
+                layer,
                 style: Style::Dashed,
             })),
             Linetype::Center => Ok(None),
@@ -111,14 +108,14 @@ impl Facts {
         ensures pen { result ≡ drawn_by (layer_linetype layers.now) self.now }
         ensures drawn { IfOk result (λ pen. IfSome pen (λ p. p.style ≢ Blank)) }
     {
-        let Some(Some(view)) = self.layer else {
+        let Some(Some(layer)) = self.layer else {
             return Ok(None);
         };
         if self.paper == Some(true) {
             return Ok(None);
         }
         match self.kind {
-            Kind::Line | Kind::Polyline => self.pen_in(view, layers.of(view)),
+            Kind::Line | Kind::Polyline => self.pen_in(layer, layers.of(layer)),
             Kind::Geometry => Err(Fault::Geometry { line: self.line }),
             Kind::Other => Ok(None),
         }
@@ -126,7 +123,7 @@ impl Facts {
 
     /// Adds the lines that the entity gives which is drawn so. The first fault in its values comes
     /// first, then `Missing`, `Oblique` and `TooManyLines`.
-    pub fn add_lines(&mut self, pen: Pen, lines: &mut Vec<SheetLine>) -> Result<(), Refused>
+    pub fn add_lines(&mut self, pen: Pen, lines: &mut Vec<LayerLine>) -> Result<(), Refused>
         requires { pen.style ≢ Blank }
         ensures { ComesTo (lines_by self.old lines.old.items (Some pen)) lines.new.items result }
     {

@@ -1,13 +1,19 @@
 //! Laws of the definition of what is read.
 
-ghost use Rattle.std.specs.Prelude.{◌≡◌, ℕ, List, [], ◌∷◌, ◌++◌, pos, Ok, Err, codes};
-ghost use Rattle.solid_model.specs.declared.fault.Fault.TheVariants.{BadSection, Curved, Missing, NoEof, Oblique, Repeated};
+ghost use Rattle.std.specs.Prelude.{◌≡◌, ◌↔◌, ℕ, List, [], ◌∷◌, ◌++◌, pos, Ok, Err, codes};
+ghost use Rattle.solid_model.specs.declared.fault.Fault.{Fault};
+ghost use Rattle.solid_model.specs.declared.fault.Fault.TheVariants.{BadSection, Curved, Geometry, Missing, NoEof, Oblique, Repeated};
+ghost use Rattle.solid_model.specs.declared.frame.View.TheVariants.{Front, Side, Top};
 ghost use Rattle.solid_model.specs.declared.segment.Style.TheVariants.{Dashed, Solid};
 ghost use Rattle.solid_model.specs.Line.{Line, IsKept};
 ghost use Rattle.lemmas.specs.Lists.{Each};
 ghost use Rattle.dxf_groups.specs.SmallTexts.{pair_on};
-ghost use Rattle.dxf_entities.specs.Reading.{pairs_read, read_of};
-ghost use Rattle.dxf_entities.specs.SmallFiles.{line_from, section_at, end_of_section, hidden_layer, unit_line, file_of_polyline, vertex_at, line_to};
+ghost use Rattle.dxf_entities.specs.declared.extra.Extra.TheVariants.{Left, Rear, Bottom};
+ghost use Rattle.dxf_entities.specs.declared.extra.ExtraLine.{ExtraLine};
+ghost use Rattle.dxf_entities.specs.Extras.{apart_read, lines_read};
+ghost use Rattle.dxf_entities.specs.Forms.{six_views, three_views};
+ghost use Rattle.dxf_entities.specs.Reading.{main_read, read_of};
+ghost use Rattle.dxf_entities.specs.SmallFiles.{line_from, section_at, end_of_section, hidden_layer, unit_line, file_of_polyline, vertex_at, line_to, line_in, lines_of_further_views, arc_on};
 
 /// Small files, written out by hand. A line on the layer FRONT is kept; without a linetype it takes
 /// its layer's from a table that stands before it, and not from one that stands after it. A pair
@@ -15,40 +21,40 @@ ghost use Rattle.dxf_entities.specs.SmallFiles.{line_from, section_at, end_of_se
 /// entity, which comes before the fault of that pair; where the text ends first, the fault is the
 /// text's.
 pub fn small_files()
-    ensures kept { pairs_read 0 (record {
+    ensures kept { main_read 0 (record {
       pairs = section_at 1 (codes "Entities")
           ++ (line_from 5 [] (codes "1") (codes "0") ++ end_of_section 23);
       ending = Ok 25;
     }) ≡ Ok (unit_line 5 Solid ∷ []) }
-    ensures by_layer { pairs_read 0 (record {
+    ensures by_layer { main_read 0 (record {
       pairs = hidden_layer 1 ++ (section_at 13 (codes "ENTITIES")
           ++ (line_from 17 [] (codes "10E-1") (codes "0") ++ end_of_section 35));
       ending = Ok 37;
     }) ≡ Ok (unit_line 17 Dashed ∷ []) }
-    ensures layer_after { pairs_read 0 (record {
+    ensures layer_after { main_read 0 (record {
       pairs = section_at 1 (codes "ENTITIES")
           ++ (line_from 5 [] (codes "1") (codes "0") ++ (end_of_section 23 ++ hidden_layer 25));
       ending = Ok 37;
     }) ≡ Ok (unit_line 5 Solid ∷ []) }
-    ensures application { pairs_read 0 (record {
+    ensures application { main_read 0 (record {
       pairs = section_at 1 (codes "ENTITIES")
           ++ (line_from 5 (pair_on 9 (pos 102) (codes "{A") ∷ pair_on 11 (pos 6) (codes "HIDDEN")
           ∷ pair_on 13 (pos 102) (codes "}") ∷ []) (codes "1") (codes "0") ++ end_of_section 23);
       ending = Ok 25;
     }) ≡ Ok (unit_line 5 Solid ∷ []) }
-    ensures oblique { pairs_read 0 (record {
+    ensures oblique { main_read 0 (record {
       pairs = section_at 1 (codes "ENTITIES") ++ line_from 5 [] (codes "1") (codes "2");
       ending = Ok 23;
     }) ≡ Err (Oblique 5) }
-    ensures not_ended { pairs_read 0 (record {
+    ensures not_ended { main_read 0 (record {
       pairs = section_at 1 (codes "ENTITIES") ++ line_from 5 [] (codes "1") (codes "2");
       ending = Err (NoEof 23);
     }) ≡ Err (NoEof 23) }
-    ensures misplaced { pairs_read 0 (record {
+    ensures misplaced { main_read 0 (record {
       pairs = section_at 1 (codes "ENTITIES") ++ section_at 5 (codes "ENTITIES");
       ending = Ok 9;
     }) ≡ Err (BadSection 5) }
-    ensures decimals { pairs_read 1 (record {
+    ensures decimals { main_read 1 (record {
       pairs = section_at 1 (codes "ENTITIES")
           ++ (line_from 5 [] (codes "1e-1") (codes "0") ++ end_of_section 23);
       ending = Ok 25;
@@ -61,30 +67,58 @@ pub fn small_files()
 /// vertex too, and so is a vertex without its y coordinate or without its x, which is found before
 /// the next value is read.
 pub fn small_polylines()
-    ensures left_open { pairs_read 1 (file_of_polyline 25 (pair_on 9 (pos 70) (codes "128")
+    ensures left_open { main_read 1 (file_of_polyline 25 (pair_on 9 (pos 70) (codes "128")
         ∷ vertex_at 11 (codes "0") (codes "0") ++ pair_on 15 (pos 42) (codes "0e5")
         ∷ vertex_at 17 (codes ".3") (codes "0") ++ vertex_at 21 (codes "0.3") (codes "0.20")))
         ≡ Ok (line_to 5 0 0 3 0 ∷ line_to 5 3 0 3 2 ∷ []) }
-    ensures closed { pairs_read 1 (file_of_polyline 21 (vertex_at 9 (codes "0") (codes "0")
+    ensures closed { main_read 1 (file_of_polyline 21 (vertex_at 9 (codes "0") (codes "0")
         ++ pair_on 13 (pos 70) (codes "1.0") ∷ vertex_at 15 (codes "0.3") (codes "0")
         ++ pair_on 19 (pos 70) (codes "x") ∷ []))
         ≡ Ok (line_to 5 0 0 3 0 ∷ line_to 5 3 0 0 0 ∷ []) }
-    ensures one_vertex { pairs_read 0 (file_of_polyline 15 (pair_on 9 (pos 70) (codes "-1")
+    ensures one_vertex { main_read 0 (file_of_polyline 15 (pair_on 9 (pos 70) (codes "-1")
         ∷ vertex_at 11 (codes "7") (codes "8"))) ≡ Ok [] }
-    ensures oblique { pairs_read 0 (file_of_polyline 23 (pair_on 9 (pos 70) (codes "129")
+    ensures oblique { main_read 0 (file_of_polyline 23 (pair_on 9 (pos 70) (codes "129")
         ∷ vertex_at 11 (codes "0") (codes "0") ++ vertex_at 15 (codes "3") (codes "0")
         ++ vertex_at 19 (codes "3") (codes "2"))) ≡ Err (Oblique 5) }
-    ensures bent { pairs_read 0 (file_of_polyline 15 (pair_on 9 (pos 42) (codes "5e-99")
+    ensures bent { main_read 0 (file_of_polyline 15 (pair_on 9 (pos 42) (codes "5e-99")
         ∷ vertex_at 11 (codes "x") (codes "0"))) ≡ Err (Curved 5) }
-    ensures half_a_vertex { pairs_read 0 (file_of_polyline 15 (vertex_at 9 (codes "0") (codes "0")
+    ensures half_a_vertex { main_read 0 (file_of_polyline 15 (vertex_at 9 (codes "0") (codes "0")
         ++ pair_on 13 (pos 10) (codes "3") ∷ pair_on 15 (pos 10) (codes "x") ∷ []))
         ≡ Err (Missing 5 (pos 20)) }
-    ensures last_half { pairs_read 0 (file_of_polyline 11 (pair_on 9 (pos 10) (codes "3") ∷ []))
+    ensures last_half { main_read 0 (file_of_polyline 11 (pair_on 9 (pos 10) (codes "3") ∷ []))
         ≡ Err (Missing 5 (pos 20)) }
-    ensures no_x { pairs_read 0 (file_of_polyline 11 (pair_on 9 (pos 20) (codes "x") ∷ []))
+    ensures no_x { main_read 0 (file_of_polyline 11 (pair_on 9 (pos 20) (codes "x") ∷ []))
         ≡ Err (Missing 5 (pos 10)) }
-    ensures two_ends { pairs_read 0 (file_of_polyline 15 (vertex_at 9 (codes "0") (codes "0")
+    ensures two_ends { main_read 0 (file_of_polyline 15 (vertex_at 9 (codes "0") (codes "0")
         ++ pair_on 13 (pos 20) (codes "x") ∷ [])) ≡ Err (Repeated 13 (pos 20)) }
+{}
+
+/// Small files that are read in six views, written out by hand. A line on a further view's layer is
+/// told as one of the view opposite to it, and has the linetype of its own layer; where three views
+/// are read, it is passed over. So is an arc there, which is a fault where six are.
+pub fn small_files_of_six_views()
+    ensures kept { apart_read (six_views 0) lines_of_further_views
+        ≡ Ok (
+          line_in Front 53 Solid 0 4 ∷ [],
+          (record { of = Left; line = line_in Side 17 Solid 1 0 })
+              ∷ (record { of = Rear; line = line_in Front 35 Dashed 0 2 })
+              ∷ (record { of = Bottom; line = line_in Top 71 Solid 3 0 }) ∷ [],
+        ) }
+    ensures passed_over { main_read 0 lines_of_further_views
+        ≡ Ok (line_in Front 53 Solid 0 4 ∷ []) }
+    ensures geometry { apart_read (six_views 0) (arc_on (codes "LEFT")) ≡ Err (Geometry 5) }
+    ensures elsewhere { main_read 0 (arc_on (codes "LEFT")) ≡ Ok [] }
+{}
+
+/// Where three views are read, no line is one of a further view, and the faults are the same.
+pub fn three_views_have_no_further_line()
+    ensures lines { (decimals : ℕ) (text : List ℕ) (ls : List Line)
+        → read_of decimals text ≡ Ok ls → lines_read (three_views decimals) text ≡ Ok (ls, []) }
+    ensures alone { (decimals : ℕ) (text : List ℕ) (ls : List Line) (more : List ExtraLine)
+        → lines_read (three_views decimals) text ≡ Ok (ls, more)
+        → (read_of decimals text ≡ Ok ls) × (more ≡ []) }
+    ensures fault { (decimals : ℕ) (text : List ℕ) (fault : Fault)
+        → read_of decimals text ≡ Err fault ↔ lines_read (three_views decimals) text ≡ Err fault }
 {}
 
 /// Each line that is read of a text is level or upright, is drawn, and has coordinates of an

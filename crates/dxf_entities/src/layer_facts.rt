@@ -4,16 +4,16 @@ ghost use Rattle.std.specs.Prelude.{◌≡◌};
 ghost use Rattle.dxf_groups.specs.Pairs.{text_pair};
 ghost use Rattle.dxf_entities.specs.Resuming.{with_layer_fact};
 
+use crate::layer::Layer;
 use crate::linetype::{Linetype, first_linetype};
-use crate::names::first_view;
+use crate::names::first_layer;
 use dxf_groups::Pair;
-use solid_model::View;
 
 /// What counts of a layer's entry.
 #[derive(Clone, Copy)]
 pub struct LayerFacts {
-    /// The view that is drawn on the layer, where its name is told and is a view's.
-    pub name: Option<Option<View>>,
+    /// The layer, where its name is told and is one that is read.
+    pub name: Option<Option<Layer>>,
     pub linetype: Option<Linetype>,
 }
 
@@ -25,11 +25,11 @@ impl LayerFacts {
     };
 
     /// Those with one more pair, which has this value and belongs to no application.
-    pub fn with(self, pair: &Pair, value: &[u8]) -> LayerFacts
-        ensures { result ≡ with_layer_fact (text_pair pair.now value.now) self }
+    pub fn with(self, six: bool, pair: &Pair, value: &[u8]) -> LayerFacts
+        ensures { result ≡ with_layer_fact six (text_pair pair.now value.now) self }
     {
         LayerFacts {
-            name: first_view(self.name, 2, pair, value),
+            name: first_layer(self.name, 2, six, pair, value),
             linetype: first_linetype(self.linetype, pair, value),
         }
     }

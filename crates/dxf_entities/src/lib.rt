@@ -4,12 +4,15 @@
 
 mod codes;
 mod coordinates;
-mod decimals;
 mod drawn_lines;
+mod extra;
 mod facts;
+mod form;
 mod kind;
 mod laws;
+mod layer;
 mod layer_facts;
+mod layer_line;
 mod layers;
 mod linetype;
 mod names;
@@ -24,6 +27,11 @@ mod shape;
 mod values;
 mod vertex;
 
-pub use laws::{read_lines_are_kept, small_files, small_polylines};
-pub use reading::entities;
+pub use extra::{Extra, ExtraLine};
+pub use form::ReadingForm;
+pub use laws::{
+    read_lines_are_kept, small_files, small_files_of_six_views, small_polylines,
+    three_views_have_no_further_line,
+};
+pub use reading::{entities, entities_in, entities_six};
 pub use solid_model::SheetLine;

@@ -2,10 +2,11 @@
 
 ghost use Rattle.std.specs.Prelude.{◌≡◌};
 ghost use Rattle.dxf_groups.specs.Pairs.{text_pair};
-ghost use Rattle.dxf_entities.specs.Names.{is_name, view_on};
+ghost use Rattle.dxf_entities.specs.Names.{is_name, further_on, layer_on};
 ghost use Rattle.dxf_entities.specs.Resuming.{or_first};
 
 use crate::codes::has_code;
+use crate::layer::Layer;
 use dxf_groups::Pair;
 use solid_model::View;
 
@@ -16,33 +17,59 @@ pub fn is_name(name: &[u8], value: &[u8]) -> bool
     value.eq_ignore_ascii_case(name)
 }
 
-/// The view that is drawn on a layer of this name.
-pub fn view_on(value: &[u8]) -> Option<View>
-    ensures { result ≡ view_on value.now }
+/// The layer of a further view that has this name.
+fn further_on(value: &[u8]) -> Option<Layer>
+    ensures { result ≡ further_on value.now }
 {
-    if is_name(b"FRONT", value) {
-        Some(View::Front)
-    } else if is_name(b"TOP", value) {
-        Some(View::Top)
-    } else if is_name(b"SIDE", value) {
-        Some(View::Side)
+    let view = if is_name(b"LEFT", value) {
+        View::Side
+    } else if is_name(b"REAR", value) {
+        View::Front
+    } else if is_name(b"BOTTOM", value) {
+        View::Top
     } else {
-        None
-    }
+        return None;
+    };
+    Some(Layer {
+        view,
+        opposite: true,
+    })
 }
 
-/// The view that is drawn on a layer, where its name is known, or one more pair with this value and
-/// this code tells it.
-pub fn first_view(
-    known: Option<Option<View>>,
+/// The layer of this name that is read; one of a further view is where six are.
+pub fn layer_on(six: bool, value: &[u8]) -> Option<Layer>
+    ensures { result ≡ layer_on six value.now }
+{
+    let view = if is_name(b"FRONT", value) {
+        View::Front
+    } else if is_name(b"TOP", value) {
+        View::Top
+    } else if is_name(b"SIDE", value) {
+        View::Side
+    } else if six {
+        return further_on(value);
+    } else {
+        return None;
+    };
+    Some(Layer {
+        view,
+        opposite: false,
+    })
+}
+
+/// The layer of an entry, where its name is known, or one more pair with this value and this code
+/// tells it.
+pub fn first_layer(
+    known: Option<Option<Layer>>,
     code: u16,
+    six: bool,
     pair: &Pair,
     value: &[u8],
-) -> Option<Option<View>>
-    ensures { result ≡ or_first code view_on (text_pair pair.now value.now) known }
+) -> Option<Option<Layer>>
+    ensures { result ≡ or_first code (layer_on six) (text_pair pair.now value.now) known }
 {
     if known.is_none() && has_code(pair, code) {
-        Some(view_on(value))
+        Some(layer_on(six, value))
     } else {
         known
     }

@@ -1,11 +1,11 @@
 //! The entry that is being read.
 
-ghost use Rattle.std.specs.Prelude.{◌≡◌, ◌≤◌, OnOk};
-ghost use Rattle.solid_model.specs.Limits.{most_decimals};
+ghost use Rattle.std.specs.Prelude.{◌≡◌, OnOk};
 ghost use Rattle.dxf_groups.specs.Pairs.{text_pair};
 ghost use Rattle.dxf_entities.specs.Resuming.{opened_entry, with_own_pair};
 
 use crate::facts::Facts;
+use crate::form::ReadingForm;
 use crate::kind::{Kind, kind_of};
 use crate::layer_facts::LayerFacts;
 use crate::names::is_name;
@@ -40,17 +40,16 @@ impl Open {
     }
 
     /// Takes one more pair, which has this value and belongs to no application. An entity that
-    /// stands on a layer that is no view's is passed over from there on.
-    pub fn take(&mut self, pair: &Pair, value: &[u8], decimals: u8) -> Result<(), Memory>
-        requires { decimals ≤ most_decimals }
+    /// stands on a layer that isn't read is passed over from there on.
+    pub fn take(&mut self, pair: &Pair, value: &[u8], form: ReadingForm) -> Result<(), Memory>
         ensures { OnOk result (self.new
-            ≡ with_own_pair decimals (text_pair pair.now value.now) self.old) }
+            ≡ with_own_pair form (text_pair pair.now value.now) self.old) }
     {
         match self {
             Open::Passed => (),
-            Open::Layer(facts) => *facts = facts.with(pair, value),
+            Open::Layer(facts) => *facts = facts.with(form.six(), pair, value),
             Open::Entity(facts) => {
-                facts.take(pair, value, decimals)?;
+                facts.take(pair, value, form)?;
                 if let Some(None) = facts.layer {
                     *self = Open::Passed;
                 }

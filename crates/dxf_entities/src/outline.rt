@@ -8,11 +8,12 @@ ghost use Rattle.dxf_groups.specs.Numerals.{whole_of};
 ghost use Rattle.dxf_groups.specs.Pairs.{text_pair};
 
 use crate::drawn_lines::add_along;
+use crate::layer_line::LayerLine;
 use crate::pen::Pen;
 use crate::values::value_at;
 use crate::vertex::Vertex;
 use dxf_groups::{NumeralFault, Pair, whole};
-use solid_model::{Fault, Memory, Refused, SheetLine};
+use solid_model::{Fault, Memory, Refused};
 use std::alloc::Global;
 use std::marker::Model;
 
@@ -219,7 +220,7 @@ impl Outline {
         &mut self,
         line: u32,
         pen: Pen,
-        lines: &mut Vec<SheetLine>,
+        lines: &mut Vec<LayerLine>,
     ) -> Result<(), Refused>
         requires { pen.style ≢ Blank }
         ensures { ComesTo (added_through line pen lines.old.items

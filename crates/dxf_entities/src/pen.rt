@@ -1,10 +1,11 @@
 //! How an entity is drawn.
 
-use solid_model::{Style, View};
+use crate::layer::Layer;
+use solid_model::Style;
 
-/// The view and the style in which an entity is drawn.
+/// The layer and the style in which an entity is drawn.
 #[derive(Clone, Copy)]
 pub struct Pen {
-    pub view: View,
+    pub layer: Layer,
     pub style: Style,
 }

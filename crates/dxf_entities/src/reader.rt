@@ -5,24 +5,24 @@
 //! cuts a file into entries; `proofs/Resumes.antt` shows that the reader goes on as the definition
 //! does with what is left.
 
-ghost use Rattle.std.specs.Prelude.{◌≡◌, ◌≤◌, ℕ, List, [], ◌∷◌, Result, Ok, Err, IfOk, OnOk, IsErrOf, true, false, IsTrue};
+ghost use Rattle.std.specs.Prelude.{◌≡◌, ℕ, List, [], ◌∷◌, Result, Ok, Err, IfOk, OnOk, IsErrOf, true, false, IsTrue};
 ghost use Rattle.solid_model.specs.declared.fault.Fault.{Fault};
 ghost use Rattle.solid_model.specs.declared.fault.Refused.TheVariants as refused;
-ghost use Rattle.solid_model.specs.Limits.{most_decimals};
 ghost use Rattle.dxf_groups.specs.Pairs.{TextPair, Pairs, text_pair};
 ghost use Rattle.dxf_entities.specs.Entries.{has_code, opens_application, closes_application};
 ghost use Rattle.dxf_entities.specs.Reading.{pairs_read};
 ghost use Rattle.dxf_entities.specs.Resuming.{progress_of, closed, opened_entry, fact_taken, resumed};
 
 use crate::codes::has_code;
-use crate::decimals::Decimals;
+use crate::form::ReadingForm;
+use crate::layer_line::LayerLine;
 use crate::layers::Layers;
 use crate::names::is_name;
 use crate::open::Open;
 use crate::place::Place;
 use crate::section::{Section, section_of};
 use dxf_groups::Pair;
-use solid_model::{Fault, Memory, Refused, SheetLine};
+use solid_model::{Fault, Memory, Refused};
 use std::alloc::Global;
 
 /// Whether the pair begins what belongs to an application.
@@ -43,25 +43,24 @@ fn closes_application(pair: &Pair, value: &[u8]) -> bool
 #[derive(Drop)]
 pub struct Reader {
     pub alloc: Global,
-    /// The decimals with which coordinates are read.
-    pub decimals: Decimals,
+    /// How the file is read.
+    pub form: ReadingForm,
     pub place: Place,
     pub layers: Layers,
-    pub lines: Vec<SheetLine>,
+    pub lines: Vec<LayerLine>,
     pub entry: Open,
     /// Whether the next pairs of the entry belong to an application.
     pub in_application: bool,
 }
 
 impl Reader {
-    /// Nothing is read. At most 6 decimals can be read.
-    pub fn new(alloc: Global, decimals: u8) -> Reader
-        requires { decimals ≤ most_decimals }
-        ensures { (ps : Pairs) → resumed ps.pairs ps.ending result ≡ pairs_read decimals ps }
+    /// Nothing is read.
+    pub fn new(alloc: Global, form: ReadingForm) -> Reader
+        ensures { (ps : Pairs) → resumed ps.pairs ps.ending result ≡ pairs_read form ps }
     {
         Reader {
             alloc,
-            decimals: Decimals { count: decimals },
+            form,
             place: Place::Outside,
             layers: Layers::NONE,
             lines: Vec::new(alloc),
@@ -143,7 +142,7 @@ impl Reader {
             self.in_application = true;
             Ok(())
         } else {
-            self.entry.take(pair, value, self.decimals.count())
+            self.entry.take(pair, value, self.form)
         }
     }
 
@@ -174,7 +173,7 @@ impl Reader {
     }
 
     /// The lines, where the text ends with the end pair at this line.
-    pub fn finish(self, end: u32) -> Result<Vec<SheetLine>, Refused>
+    pub fn finish(self, end: u32) -> Result<Vec<LayerLine>, Refused>
         ensures read { IfOk result (λ lines. resumed [] (Ok end) self ≡ Ok lines.items) }
         ensures fault { (fault : Fault) → IsErrOf result (refused.Fault fault)
             → resumed [] (Ok end) self ≡ Err fault }

@@ -1,16 +1,21 @@
 //! The lines that a file keeps.
 
-ghost use Rattle.std.specs.Prelude.{◌≡◌, ◌≤◌, Ok, Err, IfOk, OnOk, IsErrOf};
+ghost use Rattle.std.specs.Prelude.{◌≡◌, ◌≤◌, false, map, Ok, Err, IfOk, OnOk, IsErrOf};
 ghost use Rattle.solid_model.specs.declared.fault.Fault.{Fault};
 ghost use Rattle.solid_model.specs.declared.fault.Refused.TheVariants as refused;
 ghost use Rattle.solid_model.specs.Limits.{most_decimals};
 ghost use Rattle.dxf_groups.specs.Groups.{IsReadThrough};
 ghost use Rattle.dxf_groups.specs.Pairs.{pairs_of};
-ghost use Rattle.dxf_entities.specs.Reading.{read_of};
+ghost use Rattle.dxf_entities.specs.Extras.{extra_line, extra_lines, lines_read};
+ghost use Rattle.dxf_entities.specs.Forms.{six_views};
+ghost use Rattle.dxf_entities.specs.Reading.{lines_on, read_of, text_read};
 
+use crate::extra::{ExtraLine, opposite_to};
+use crate::form::ReadingForm;
+use crate::layer_line::LayerLine;
 use crate::reader::Reader;
 use dxf_groups::Groups;
-use solid_model::{Refused, SheetLine};
+use solid_model::{Memory, Refused, SheetLine};
 use std::alloc::Global;
 
 /// The lines of the three views that a file keeps, in its order, read to the pair that ends it, as
@@ -43,10 +48,102 @@ pub fn entities(alloc: Global, groups: &mut Groups, decimals: u8) -> Result<Vec<
     ensures fault { (fault : Fault) → IsErrOf result (refused.Fault fault)
         → read_of decimals groups.old.text ≡ Err fault }
 {
-    let mut reader = Reader::new(alloc, decimals);
+    let lines = layer_lines(alloc, groups, ReadingForm::three_views(decimals))?;
+    let own = main_lines(alloc, &lines)?;
+    Ok(own)
+}
+
+/// The same of a file that is read in this form: the lines of the three views and those of the
+/// further ones, each in the file's order. Where six views are read, an entity counts on the layers
+/// LEFT, REAR and BOTTOM too, and `TooManyLines` counts the lines of all six; else there is no line
+/// of a further view.
+pub fn entities_in(
+    alloc: Global,
+    groups: &mut Groups,
+    form: ReadingForm,
+) -> Result<(Vec<SheetLine>, Vec<ExtraLine>), Refused>
+    requires { groups.old.left ≡ pairs_of groups.old.text }
+    ensures lines { IfOk result (λ lines. lines_read form groups.old.text
+        ≡ Ok (lines.0.items, lines.1.items)) }
+    ensures through { OnOk result (IsReadThrough groups.old groups.new) }
+    ensures fault { (fault : Fault) → IsErrOf result (refused.Fault fault)
+        → lines_read form groups.old.text ≡ Err fault }
+{
+    let lines = layer_lines(alloc, groups, form)?;
+    let main = main_lines(alloc, &lines)?;
+    let further = extra_lines(alloc, &lines)?;
+    Ok((main, further))
+}
+
+/// The same where all six views are read.
+pub fn entities_six(
+    alloc: Global,
+    groups: &mut Groups,
+    decimals: u8,
+) -> Result<(Vec<SheetLine>, Vec<ExtraLine>), Refused>
+    requires fresh { groups.old.left ≡ pairs_of groups.old.text }
+    requires decimals { decimals ≤ most_decimals }
+    ensures lines { IfOk result (λ lines. lines_read (six_views decimals) groups.old.text
+        ≡ Ok (lines.0.items, lines.1.items)) }
+    ensures through { OnOk result (IsReadThrough groups.old groups.new) }
+    ensures fault { (fault : Fault) → IsErrOf result (refused.Fault fault)
+        → lines_read (six_views decimals) groups.old.text ≡ Err fault }
+{
+    entities_in(alloc, groups, ReadingForm::six_views(decimals))
+}
+
+/// The lines that a file keeps which is read in this form.
+fn layer_lines(
+    alloc: Global,
+    groups: &mut Groups,
+    form: ReadingForm,
+) -> Result<Vec<LayerLine>, Refused>
+    requires { groups.old.left ≡ pairs_of groups.old.text }
+    ensures lines { IfOk result (λ lines. text_read form groups.old.text ≡ Ok lines.items) }
+    ensures through { OnOk result (IsReadThrough groups.old groups.new) }
+    ensures fault { (fault : Fault) → IsErrOf result (refused.Fault fault)
+        → text_read form groups.old.text ≡ Err fault }
+{
+    let mut reader = Reader::new(alloc, form);
     while let Some(pair) = groups.next()? {
         reader.take(&pair, groups.value_of(&pair))?;
     }
     let end = groups.end_line().unwrap();
     reader.finish(end)
+}
+
+/// Of lines those of the three views.
+fn main_lines(alloc: Global, lines: &[LayerLine]) -> Result<Vec<SheetLine>, Memory>
+    ensures { IfOk result (λ own. own.items ≡ lines_on false lines.now) }
+{
+    let mut own = Vec::new(alloc);
+    for line in lines {
+        if !line.opposite {
+            own.push(line.line)?;
+        }
+    }
+    Ok(own)
+}
+
+/// A line of a further view, told as one of the view opposite to it.
+fn extra_line(line: SheetLine) -> ExtraLine
+    ensures { result ≡ extra_line line }
+{
+    ExtraLine {
+        of: opposite_to(line.view),
+        line,
+    }
+}
+
+/// Of lines those of further views.
+fn extra_lines(alloc: Global, lines: &[LayerLine]) -> Result<Vec<ExtraLine>, Memory>
+    ensures { IfOk result (λ extra. extra.items ≡ extra_lines lines.now) }
+{
+    let mut extra = Vec::new(alloc);
+    for line in lines {
+        if line.opposite {
+            extra.push(extra_line(line.line))?;
+        }
+    }
+    Ok(extra)
 }

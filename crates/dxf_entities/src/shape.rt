@@ -8,10 +8,11 @@ ghost use Rattle.dxf_groups.specs.Pairs.{text_pair};
 use crate::coordinates::Coordinates;
 use crate::drawn_lines::add_along;
 use crate::kind::Kind;
+use crate::layer_line::LayerLine;
 use crate::outline::Outline;
 use crate::pen::Pen;
 use dxf_groups::Pair;
-use solid_model::{Fault, Memory, Refused, SheetLine};
+use solid_model::{Fault, Memory, Refused};
 use std::alloc::Global;
 
 /// What an entity draws, as far as its pairs tell it.
@@ -69,7 +70,7 @@ impl Shape {
         &mut self,
         line: u32,
         pen: Pen,
-        lines: &mut Vec<SheetLine>,
+        lines: &mut Vec<LayerLine>,
     ) -> Result<(), Refused>
         requires { pen.style ≢ Blank }
         ensures { ComesTo (added_through line pen lines.old.items (points_of line self.old))

@@ -1,8 +1,9 @@
 -- When an input has a fault, and when it has none.
 use Rattle.std.proofs.Common.{◌≡◌, refl, inl, inr, ◌≤◌, List, length, Result, Ok, Err, sym, subst, ap, ◌∙◌, arith}
-use Rattle.dxf_entities.specs.Reading.{read_of}
+use Rattle.dxf_entities.specs.declared.extra.ExtraLine.{ExtraLine}
+use Rattle.dxf_entities.specs.Extras.{lines_read}
 use Rattle.dxf_entities.proofs.TextFaults.{reads_are_not_long}
-use Rattle.file_problem.specs.Inputs.{HasFineAxis, Input, IsFaultAfter, IsFileFault, HasNoFault, HasProblem}
+use Rattle.file_problem.specs.Inputs.{HasFineAxis, Input, IsFaultAfter, IsFaultOfLines, IsFileFault, HasNoFault, HasProblem, form_of}
 use Rattle.file_problem.proofs.Grids.{one_too_fine, none_too_fine, one_grid, coordinates_from_grid}
 use Rattle.file_problem.proofs.Problems.{one_block_count}
 use Rattle.solid_model.specs.declared.fault.Fault.{Fault}
@@ -32,17 +33,13 @@ one_empty_view ls Side Front a b = absurd (a.0 b)
 one_empty_view ls Side Top a b = absurd (a.1 b.1)
 one_empty_view ls Side Side a b = refl
 
--- what lines refuse
-abbrev LinesFault : List Line → Fault → Type 0
-LinesFault ls f = IsFaultAfter (Ok ls) f
-
 -- a drawing with a grid has no axis that is too fine
 not_fine : (ls : List Line) (g : GridParts) → IsGridOf (drawing_of ls) g → (f : Fault) → HasFineAxis ls f → ⊥
 not_fine ls g grid f (_, a, count, fine, _) =
     none_too_fine (drawing_of ls) (coordinates_of g) (coordinates_from_grid (drawing_of ls) g grid) a count fine
 
 -- the fault of lines is one
-one_lines_fault : (ls : List Line) (f g : Fault) → LinesFault ls f → LinesFault ls g → f ≡ g
+one_lines_fault : (ls : List Line) (f g : Fault) → IsFaultOfLines ls f → IsFaultOfLines ls g → f ≡ g
 one_lines_fault ls f g (inl p) (inl q) = p.2 ∙ ap EmptyView (one_empty_view ls p.0 q.0 p.1 q.1) ∙ sym q.2
 one_lines_fault ls f g (inl p) (inr (inl q)) = absurd (shown_not_empty ls p.0 q.0 p.1)
 one_lines_fault ls f g (inl p) (inr (inr q)) = absurd (shown_not_empty ls p.0 q.0 p.1)
@@ -58,19 +55,19 @@ one_lines_fault ls f g (inr (inr (shown, grid, is_grid, count, (numbers, are, ma
     is ∙ ap TooManyBlocks (one_block_count grid other same numbers others count count_too are are_too).1 ∙ sym is_too
 
 -- the fault of what a file reads as is one
-one_fault_after : (r : Result (List Line) Fault) (f g : Fault) → IsFaultAfter r f → IsFaultAfter r g → f ≡ g
+one_fault_after : (r : Result (List Line × List ExtraLine) Fault) (f g : Fault) → IsFaultAfter r f → IsFaultAfter r g → f ≡ g
 one_fault_after (Err found) f g p q = p ∙ sym q
-one_fault_after (Ok ls) f g p q = one_lines_fault ls f g p q
+one_fault_after (Ok read) f g p q = one_lines_fault read.0 f g p q
 
 -- an input has at most one first fault
 pub one_fault : (t : Input) (f g : Fault) → IsFileFault t f → IsFileFault t g → f ≡ g
 one_fault t f g (inl p) (inl q) = p.1 ∙ sym q.1
 one_fault t f g (inl p) (inr q) = absurd (omega (arith, p.0, q.0))
 one_fault t f g (inr p) (inl q) = absurd (omega (arith, p.0, q.0))
-one_fault t f g (inr p) (inr q) = one_fault_after (read_of t.decimals t.bytes) f g p.1 q.1
+one_fault t f g (inr p) (inr q) = one_fault_after (lines_read (form_of t) t.bytes) f g p.1 q.1
 
 -- a file that isn't too long has the fault of what it reads as
-pub file_fault : (t : Input) (r : Result (List Line) Fault) (f : Fault) → length t.bytes ≤ t.most → read_of t.decimals t.bytes ≡ r → IsFaultAfter r f → IsFileFault t f
+pub file_fault : (t : Input) (r : Result (List Line × List ExtraLine) Fault) (f : Fault) → length t.bytes ≤ t.most → lines_read (form_of t) t.bytes ≡ r → IsFaultAfter r f → IsFileFault t f
 file_fault t r f short reads after = inr (short, subst (λ r. IsFaultAfter r f) (sym reads) after)
 
 -- an input with a problem has no fault
@@ -78,7 +75,7 @@ pub no_fault : {t : Input} {p : ProblemParts} → HasProblem t p → HasNoFault 
 no_fault has f (inl long) = let short = has.short in absurd (omega (arith, long.0))
 no_fault {t} {p} has f (inr read) = by (subst (λ r. IsFaultAfter r f) has.reads read.1)
   where
-    by : LinesFault has.lines f → ⊥
+    by : IsFaultOfLines has.lines f → ⊥
     by (inl empty) = shown_not_empty has.lines empty.0 has.shown empty.1
     by (inr (inl fine)) = not_fine has.lines p.grid has.grid f fine
     by (inr (inr (shown, other, is_other, many, (others, are, above), is))) =
@@ -87,7 +84,7 @@ no_fault {t} {p} has f (inr read) = by (subst (λ r. IsFaultAfter r f) has.reads
         let few = has.few in omega (arith, above)
 
 -- no fault of lines is that their file is too long,
-lines_are_not_long : (ls : List Line) → IsFaultAfter (Ok ls) TooLong → ⊥
+lines_are_not_long : (ls : List Line) → IsFaultOfLines ls TooLong → ⊥
 lines_are_not_long ls (inl (v, empty, is)) = cc
 lines_are_not_long ls (inr (inl (shown, a, count, fine, is))) = cc
 lines_are_not_long ls (inr (inr (shown, g, grid, count, many, is))) = cc
@@ -95,8 +92,8 @@ lines_are_not_long ls (inr (inr (shown, g, grid, count, many, is))) = cc
 -- nor is it one of an input that isn't
 pub short_is_not_long : (t : Input) → length t.bytes ≤ t.most → IsFileFault t TooLong → ⊥
 short_is_not_long t short (inl long) = absurd (omega (arith, long.0))
-short_is_not_long t short (inr read) = by (read_of t.decimals t.bytes) refl read.1
+short_is_not_long t short (inr read) = by (lines_read (form_of t) t.bytes) refl read.1
   where
-    by : (r : Result (List Line) Fault) → read_of t.decimals t.bytes ≡ r → IsFaultAfter r TooLong → ⊥
-    by (Err found) is after = reads_are_not_long t.decimals t.bytes (is ∙ ap Err (sym after))
-    by (Ok ls) is after = lines_are_not_long ls after
+    by : (r : Result (List Line × List ExtraLine) Fault) → lines_read (form_of t) t.bytes ≡ r → IsFaultAfter r TooLong → ⊥
+    by (Err found) is after = reads_are_not_long (form_of t) t.bytes (is ∙ ap Err (sym after))
+    by (Ok read) is after = lines_are_not_long read.0 after

@@ -1,13 +1,15 @@
 -- An input has one problem.
-use Rattle.std.proofs.Common.{◌≡◌, ℕ, List, Option, sym, subst, ◌∙◌}
-use Rattle.dxf_entities.proofs.KeptLines.{read_lines_are_kept}
+use Rattle.std.proofs.Common.{◌≡◌, ℕ, List, Option, ap, sym, subst, ◌∙◌}
+use Rattle.dxf_entities.specs.declared.extra.ExtraLine.{ExtraLine}
+use Rattle.dxf_entities.proofs.KeptLines.{lines_read_are_kept}
 use Rattle.dxf_entities.proofs.NearPoints.{ok_value}
-use Rattle.file_problem.specs.Inputs.{HasProblem, Input}
+use Rattle.file_problem.specs.Inputs.{HasProblem, Input, form_of}
 use Rattle.file_problem.proofs.Grids.{one_grid}
 use Rattle.solid_model.specs.declared.cell.Axis.{Axis}
 use Rattle.solid_model.specs.declared.cell.Axis.TheVariants.{X, Y, Z}
 use Rattle.solid_model.specs.Blocks.{AreBlocksOf, BlockNumbers, IsBlocksOf, ProblemParts}
 use Rattle.solid_model.specs.Drawings.{drawing_of}
+use Rattle.solid_model.specs.Line.{Line}
 use Rattle.solid_model.specs.Panels.{GridParts, IsGridOf}
 use Rattle.solid_model.specs.PerAxis.{numbers_of}
 use Rattle.solid_model.specs.Runs.{IsDrawing}
@@ -20,7 +22,7 @@ use Rattle.solid_model.proofs.Sheets.{without_lines-empty}
 -- the drawing of its lines keeps what a drawing of three views keeps
 pub problem_drawing : (t : Input) (p : ProblemParts) (has : HasProblem t p) → IsDrawing (drawing_of has.lines)
 problem_drawing t p has =
-    lines_are_drawing has.lines (read_lines_are_kept t.decimals t.bytes has.lines has.reads) (λ v none. has.shown v (without_lines-empty has.lines v none))
+    lines_are_drawing has.lines (lines_read_are_kept (form_of t) t.bytes has.lines has.further has.reads) (λ v none. has.shown v (without_lines-empty has.lines v none))
 
 -- the blocks of one grid are one numbering
 pub one_block_count : (g h : GridParts) → g ≡ h → (numbers others : List (Option ℕ)) (count many : ℕ) → AreBlocksOf g numbers count → AreBlocksOf h others many
@@ -44,11 +46,13 @@ one_blocks g h same b c are are_too = λ t. record {
 -- two problems of an input are one
 pub record AreOneProblem {t : Input} {p q : ProblemParts} (has : HasProblem t p) (has_too : HasProblem t q) : Type 0 where
   pub lines : has.lines ≡ has_too.lines
+  pub further : has.further ≡ has_too.further
   pub problem : p ≡ q
 
 pub one_problem : {t : Input} {p q : ProblemParts} (has : HasProblem t p) (has_too : HasProblem t q) → AreOneProblem has has_too
 one_problem {t} {p} {q} has has_too =
-    let lines : has.lines ≡ has_too.lines = ok_value has.lines has_too.lines (sym has.reads ∙ has_too.reads) in
+    let read = ok_value (has.lines, has.further) (has_too.lines, has_too.further) (sym has.reads ∙ has_too.reads) in
+    let lines : has.lines ≡ has_too.lines = ap (λ (r : List Line × List ExtraLine). r.0) read in
     let grid = one_grid (drawing_of has_too.lines) p.grid q.grid (subst (λ ls. IsGridOf (drawing_of ls) p.grid) lines has.grid) has_too.grid in
     let blocks = one_blocks p.grid q.grid grid p.blocks q.blocks has.blocks has_too.blocks in
-    record { lines = lines; problem = λ i. record { grid = grid i; blocks = blocks i } }
+    record { lines = lines; further = ap (λ (r : List Line × List ExtraLine). r.1) read; problem = λ i. record { grid = grid i; blocks = blocks i } }

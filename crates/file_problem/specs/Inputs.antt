@@ -1,6 +1,9 @@
 -- What is asked of a file: its first fault, or its problem.
-use Rattle.std.specs.Prelude.{◌≡◌, ◌⊎◌, ℕ, ◌<◌, ◌≤◌, List, length, Result, Ok, Err}
-use Rattle.dxf_entities.specs.Reading.{read_of}
+use Rattle.std.specs.Prelude.{◌≡◌, ◌⊎◌, ℕ, ◌<◌, ◌≤◌, Bool, List, length, Result, Ok, Err}
+use Rattle.dxf_entities.specs.declared.extra.ExtraLine.{ExtraLine}
+use Rattle.dxf_entities.specs.Extras.{lines_read}
+use Rattle.dxf_entities.specs.Forms.{FormParts}
+use Rattle.further_views.specs.Further.{further_lines, further_runs, AreFurtherOf, FurtherParts}
 use Rattle.solid_model.specs.declared.cell.Axis.{Axis}
 use Rattle.solid_model.specs.declared.fault.Fault.{Fault}
 use Rattle.solid_model.specs.declared.fault.Fault.TheVariants.{EmptyView, TooFine, TooLong, TooManyBlocks}
@@ -12,11 +15,21 @@ use Rattle.solid_model.specs.Limits.{most_blocks}
 use Rattle.solid_model.specs.Line.{Line}
 use Rattle.solid_model.specs.Panels.{GridParts, IsGridOf}
 
--- an input: the bytes of a file, how many decimals its coordinates are read with, and how many bytes it may have at most
+-- an input: the bytes of a file, how many decimals its coordinates are read with, whether the layers of the further views are read
+-- too, and how many bytes it may have at most
 pub record Input : Type 0 where
   pub bytes : List ℕ
   pub decimals : ℕ
+  pub six : Bool
   pub most : ℕ
+
+-- these bytes, at most so many, read in this form
+abbrev pub input_in : FormParts → ℕ → List ℕ → Input
+input_in form most bytes = record { bytes = bytes; decimals = form.decimals; six = form.six; most = most }
+
+-- the form in which it is read
+abbrev pub form_of : Input → FormParts
+form_of t = record { decimals = t.decimals; six = t.six }
 
 -- ---- the faults of an input
 
@@ -33,16 +46,21 @@ abbrev pub HasManyBlocks : List Line → Fault → Type 0
 HasManyBlocks ls fault = IsShown ls × (g : GridParts) × IsGridOf (drawing_of ls) g
     × (count : ℕ) × HasTooManyBlocks g count × (fault ≡ TooManyBlocks count)
 
--- The first fault of a file that reads so: what the reading found. Where it found lines: the first view of which they cover
--- nothing; else the first axis that is too fine; else too many blocks.
-abbrev pub IsFaultAfter : Result (List Line) Fault → Fault → Type 0
+-- the first fault of lines that are kept: the first view of which they cover nothing; else the first axis that is too fine;
+-- else too many blocks
+abbrev pub IsFaultOfLines : List Line → Fault → Type 0
+IsFaultOfLines ls fault = HasEmptyView ls fault ⊎ (HasFineAxis ls fault ⊎ HasManyBlocks ls fault)
+
+-- the first fault of a file that reads so: what the reading found, or that of the lines of the three views; those of further views
+-- have no fault beyond the reading's
+abbrev pub IsFaultAfter : Result (List Line × List ExtraLine) Fault → Fault → Type 0
 IsFaultAfter (Err found) fault = fault ≡ found
-IsFaultAfter (Ok ls) fault = HasEmptyView ls fault ⊎ (HasFineAxis ls fault ⊎ HasManyBlocks ls fault)
+IsFaultAfter (Ok read) fault = IsFaultOfLines read.0 fault
 
 -- the first fault of an input: its file is too long, or else that of what it reads as
 abbrev pub IsFileFault : Input → Fault → Type 0
 IsFileFault t fault = ((t.most < length t.bytes) × (fault ≡ TooLong))
-    ⊎ ((length t.bytes ≤ t.most) × IsFaultAfter (read_of t.decimals t.bytes) fault)
+    ⊎ ((length t.bytes ≤ t.most) × IsFaultAfter (lines_read (form_of t) t.bytes) fault)
 
 -- the input has no fault
 abbrev pub HasNoFault : Input → Type 0
@@ -50,12 +68,17 @@ HasNoFault t = (fault : Fault) → IsFileFault t fault → ⊥
 
 -- ---- the problem of an input
 
--- an input without a fault: its lines, and the grid of their drawing with its blocks
+-- an input without a fault: its lines, those of further views, and the grid of the drawing of the former with its blocks
 pub record HasProblem (t : Input) (p : ProblemParts) : Type 0 where
   pub short : length t.bytes ≤ t.most
   pub lines : List Line
-  pub reads : read_of t.decimals t.bytes ≡ Ok lines
+  pub further : List ExtraLine
+  pub reads : lines_read (form_of t) t.bytes ≡ Ok (lines, further)
   pub shown : IsShown lines
   pub grid : IsGridOf (drawing_of lines) p.grid
   pub blocks : IsBlocksOf p.grid p.blocks
   pub few : p.blocks.count ≤ most_blocks
+
+-- and these are its further views
+abbrev pub HasFurther : Input → ProblemParts → FurtherParts → Type 0
+HasFurther t p further = (has : HasProblem t p) × AreFurtherOf (further_lines has.further) (further_runs further)

@@ -6,4 +6,4 @@
 
 mod problem;
 
-pub use problem::{problem_and_rest, problem_of, problem_with_rest};
+pub use problem::{problem_and_rest, problem_of, problem_of_six, problem_with_rest};

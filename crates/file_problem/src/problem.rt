@@ -2,10 +2,11 @@
 //! lines that it keeps, their drawing in three views, the drawing's grid, the grid's pseudo wire
 //! frame, virtual faces and blocks.
 
-ghost use Rattle.std.specs.Prelude.{◌≡◌, ◌⊎◌, ◌≤◌, ℕ, length, drop, Some, Ok, IfOk, OnOk, IsErrOf};
+ghost use Rattle.std.specs.Prelude.{◌≡◌, ◌⊎◌, ◌≤◌, ℕ, length, drop, Some, IfOk, OnOk, IsErrOf};
 ghost use Rattle.dxf_groups.specs.Groups.{IsReadThrough};
 ghost use Rattle.dxf_groups.specs.Pairs.{pairs_of, rest_of_text};
-ghost use Rattle.file_problem.specs.Inputs.{HasEmptyView, HasFineAxis, HasProblem, Input, IsFaultAfter, IsFileFault};
+ghost use Rattle.dxf_entities.specs.Forms.{six_views, three_views};
+ghost use Rattle.file_problem.specs.Inputs.{HasEmptyView, HasFineAxis, HasFurther, HasProblem, IsFaultOfLines, IsFileFault, input_in};
 ghost use Rattle.solid_model.specs.declared.fault.Fault.{Fault};
 ghost use Rattle.solid_model.specs.declared.fault.Fault.TheVariants.{TooLong};
 ghost use Rattle.solid_model.specs.declared.fault.Refused.TheVariants as refused;
@@ -15,8 +16,9 @@ ghost use Rattle.solid_model.specs.Limits.{most_blocks, most_decimals, most_file
 ghost use Rattle.solid_model.specs.Panels.{IsGridOf};
 
 use blocks::blocks_of;
-use dxf_entities::entities;
+use dxf_entities::{ReadingForm, entities_in};
 use dxf_groups::Groups;
+use further_views::{Further, further_of};
 use grid::grid_of;
 use pseudo_wire::wire_of;
 use solid_model::{Blocks, Grid, Problem, Refused, SheetLine};
@@ -54,28 +56,32 @@ fn problem_of_lines(alloc: Global, lines: &[SheetLine]) -> Result<Problem, Refus
     ensures blocks { IfOk result (λ problem. IsBlocksOf problem.grid problem.blocks) }
     ensures few { IfOk result (λ problem. problem.blocks.count ≤ most_blocks) }
     ensures fault { (fault : Fault) → IsErrOf result (refused.Fault fault)
-        → IsFaultAfter (Ok lines.now) fault }
+        → IsFaultOfLines lines.now fault }
 {
     let grid = grid_of_lines(alloc, lines)?;
     let blocks = blocks_of_grid(alloc, &grid)?;
     Ok(Problem::new(grid, blocks))
 }
 
-/// The grid and the blocks of the drawing of a reader's text, whose coordinates have so many
-/// decimals; or the text's first fault.
-fn read(alloc: Global, groups: &mut Groups, decimals: u8) -> Result<Problem, Refused>
-    requires fresh { groups.old.left ≡ pairs_of groups.old.text }
-    requires decimals { decimals ≤ most_decimals }
+/// The grid and the blocks of the drawing of a reader's text, which is read in this form, and its
+/// further views; or the text's first fault.
+fn read(
+    alloc: Global,
+    groups: &mut Groups,
+    form: ReadingForm,
+) -> Result<(Problem, Further), Refused>
+    requires { groups.old.left ≡ pairs_of groups.old.text }
     ensures problem { (most : ℕ) → length groups.old.text ≤ most
-        → IfOk result (λ problem. HasProblem
-        (record { bytes = groups.old.text; decimals = decimals; most = most }) problem) }
+        → IfOk result (λ found. HasFurther (input_in form most groups.old.text) found.0 found.1) }
     ensures fault { (most : ℕ) → length groups.old.text ≤ most
         → (fault : Fault) → IsErrOf result (refused.Fault fault)
-        → IsFileFault (record { bytes = groups.old.text; decimals = decimals; most = most }) fault }
+        → IsFileFault (input_in form most groups.old.text) fault }
     ensures through { OnOk result (IsReadThrough groups.old groups.new) }
 {
-    let lines = entities(alloc, groups, decimals)?;
-    problem_of_lines(alloc, lines.as_slice())
+    let (lines, extra_lines) = entities_in(alloc, groups, form)?;
+    let problem = problem_of_lines(alloc, lines.as_slice())?;
+    let further = further_of(alloc, extra_lines.as_slice())?;
+    Ok((problem, further))
 }
 
 /// The grid and the blocks of the drawing of a file whose coordinates have so many decimals, or the
@@ -84,13 +90,36 @@ fn read(alloc: Global, groups: &mut Groups, decimals: u8) -> Result<Problem, Ref
 pub fn problem_of(alloc: Global, file: Vec<u8>, decimals: u8) -> Result<Problem, Refused>
     requires short { length file.items ≤ most_file_bytes }
     requires decimals { decimals ≤ most_decimals }
-    ensures problem { IfOk result (λ problem. HasProblem
-        (record { bytes = file.items; decimals = decimals; most = most_file_bytes }) problem) }
+    ensures problem { IfOk result (λ problem.
+        HasProblem (input_in (three_views decimals) most_file_bytes file.items) problem) }
     ensures fault { (fault : Fault) → IsErrOf result (Refused.Fault fault)
-        → IsFileFault
-        (record { bytes = file.items; decimals = decimals; most = most_file_bytes }) fault }
+        → IsFileFault (input_in (three_views decimals) most_file_bytes file.items) fault }
 {
-    read(alloc, &mut Groups::new(file), decimals)
+    let form = ReadingForm::three_views(decimals);
+    let (problem, _) = read(alloc, &mut Groups::new(file), form)?;
+    Ok(problem)
+}
+
+/// The same of a file whose six views are read, with its further views: of each the runs, shifted so
+/// that its least right and its least up coordinate are 0; `None` exactly where no line covers
+/// anything of it. The first fault of a line of any of the six layers is one of the file.
+pub fn problem_of_six(
+    alloc: Global,
+    file: Vec<u8>,
+    decimals: u8,
+) -> Result<(Problem, Further), Refused>
+    requires short { length file.items ≤ most_file_bytes }
+    requires decimals { decimals ≤ most_decimals }
+    ensures problem { IfOk result (λ found.
+        HasFurther (input_in (six_views decimals) most_file_bytes file.items) found.0 found.1) }
+    ensures fault { (fault : Fault) → IsErrOf result (Refused.Fault fault)
+        → IsFileFault (input_in (six_views decimals) most_file_bytes file.items) fault }
+{
+    read(
+        alloc,
+        &mut Groups::new(file),
+        ReadingForm::six_views(decimals),
+    )
 }
 
 /// The bytes from a place of a text on. They are moved to its front, and no memory is taken.
@@ -105,40 +134,42 @@ fn bytes_from(text: Vec<u8>, place: usize) -> Vec<u8>
     bytes
 }
 
-/// The grid and the blocks of the drawing of a text whose coordinates have so many decimals, and the
-/// bytes behind the line of its end pair's value; or the text's first fault. The text has at most
-/// 134,217,728 bytes, and there are at most 6 decimals. Memory comes when out of memory.
+/// The grid and the blocks of the drawing of a text that is read in this form, its further views,
+/// and the bytes behind the line of its end pair's value; or the text's first fault. The text has at
+/// most 134,217,728 bytes. Memory comes when out of memory.
 pub fn problem_with_rest(
     alloc: Global,
     text: Vec<u8>,
-    decimals: u8,
-) -> Result<(Problem, Vec<u8>), Refused>
-    requires short { length text.items ≤ most_text_bytes }
-    requires decimals { decimals ≤ most_decimals }
-    ensures problem { (most : ℕ) → length text.items ≤ most → IfOk result (λ found. HasProblem
-        (record { bytes = text.items; decimals = decimals; most = most }) found.0) }
-    ensures rest { IfOk result (λ found. rest_of_text text.items ≡ Some found.1.items) }
-    ensures few { IfOk result (λ found. length found.1.items ≤ most_text_bytes) }
+    form: ReadingForm,
+) -> Result<(Problem, Further, Vec<u8>), Refused>
+    requires { length text.items ≤ most_text_bytes }
+    ensures problem { (most : ℕ) → length text.items ≤ most
+        → IfOk result (λ found. HasFurther (input_in form most text.items) found.0 found.1) }
+    ensures rest { IfOk result (λ found. rest_of_text text.items ≡ Some found.2.items) }
+    ensures few { IfOk result (λ found. length found.2.items ≤ most_text_bytes) }
     ensures fault { (most : ℕ) → length text.items ≤ most
         → (fault : Fault) → IsErrOf result (refused.Fault fault)
-        → IsFileFault (record { bytes = text.items; decimals = decimals; most = most }) fault }
+        → IsFileFault (input_in form most text.items) fault }
 {
     let mut groups = Groups::new(text);
-    let problem = read(alloc, &mut groups, decimals)?;
+    let (problem, further) = read(alloc, &mut groups, form)?;
     let place = groups.after_end().unwrap();
     let rest = bytes_from(groups.into_text(), place);
-    Ok((problem, rest))
+    Ok((problem, further, rest))
 }
 
-/// The same where coordinates have no decimals; it is never a fault that the text is too long.
+/// The same where the three views alone are read and coordinates have no decimals; it is never a
+/// fault that the text is too long.
 pub fn problem_and_rest(alloc: Global, text: Vec<u8>) -> Result<(Problem, Vec<u8>), Refused>
     requires { length text.items ≤ most_text_bytes }
-    ensures problem { IfOk result (λ found. HasProblem
-        (record { bytes = text.items; decimals = 0; most = most_text_bytes }) found.0) }
+    ensures problem { IfOk result (λ found.
+        HasProblem (input_in (three_views 0) most_text_bytes text.items) found.0) }
     ensures rest { IfOk result (λ found. rest_of_text text.items ≡ Some found.1.items) }
     ensures fault { (fault : Fault) → IsErrOf result (refused.Fault fault)
-        → IsFileFault (record { bytes = text.items; decimals = 0; most = most_text_bytes }) fault }
+        → IsFileFault (input_in (three_views 0) most_text_bytes text.items) fault }
     ensures not_long { IsErrOf result (refused.Fault TooLong) → ⊥ }
 {
-    problem_with_rest(alloc, text, 0)
+    let form = ReadingForm::three_views(0);
+    let (problem, _, rest) = problem_with_rest(alloc, text, form)?;
+    Ok((problem, rest))
 }

@@ -1,5 +1,5 @@
 -- The entities of the plain form of lines, and the lines that are read of them.
-use Rattle.std.proofs.Common.{◌≡◌, ◌≢◌, ◌⊎◌, inl, inr, ℕ, ◌+◌, ◌-◌, ◌<◌, ◌≤◌, true, ◌||◌, List, [], ◌∷◌, ◌++◌, length, ℤ, Some, None, Ok, int_eq, codes, refl, sym, ap, ◌∙◌, append_assoc, append-nil, length-append, le-leb, arith}
+use Rattle.std.proofs.Common.{◌≡◌, ◌≢◌, ◌⊎◌, inl, inr, ℕ, ◌+◌, ◌-◌, ◌<◌, ◌≤◌, true, false, ◌||◌, List, [], ◌∷◌, ◌++◌, length, map, ℤ, Some, None, Ok, int_eq, codes, refl, sym, ap, ◌∙◌, append_assoc, append-nil, length-append, le-leb, arith}
 use Rattle.std.proofs.lemmas.Bool.{or_left, or_right}
 use Rattle.std.proofs.lemmas.Bool.Decides.{Decides-int_eq}
 use Rattle.solid_model.specs.declared.frame.View.{View}
@@ -12,6 +12,7 @@ use Rattle.solid_model.specs.Line.{Line, IsKept}
 use Rattle.lemmas.specs.Lists.{Each}
 use Rattle.dxf_entities.specs.declared.facts.Facts.{Facts}
 use Rattle.dxf_entities.specs.declared.kind.Kind.TheVariants as kind
+use Rattle.dxf_entities.specs.declared.layer_line.LayerLine.{LayerLine}
 use Rattle.dxf_entities.specs.declared.linetype.Linetype.{Linetype}
 use Rattle.dxf_entities.specs.declared.linetype.Linetype.TheVariants as linetype
 use Rattle.dxf_entities.specs.declared.place.Place.TheVariants.{Inside}
@@ -21,8 +22,10 @@ use Rattle.dxf_entities.specs.declared.shape.Shape.TheVariants as shape
 use Rattle.dxf_entities.specs.Coordinates.{line_ends}
 use Rattle.dxf_entities.specs.Judging.{by_layer, drawn_by, facts_of, judged, style_of}
 use Rattle.dxf_entities.specs.Known.{Known}
-use Rattle.dxf_entities.specs.Names.{kind_of, linetype_of, section_of, view_on}
-use Rattle.dxf_entities.specs.Reading.{Progress, entity_read, entries_read, is_ended, pairs_read, read_of}
+use Rattle.dxf_entities.specs.Forms.{three_views}
+use Rattle.dxf_entities.specs.Names.{kind_of, layer_on, linetype_of, main_layer, section_of}
+use Rattle.dxf_entities.specs.Reading.{Progress, entity_read, entries_read, is_ended, lines_on, main_read, pairs_read, read_of}
+use Rattle.dxf_entities.specs.Steps.{◌>>=◌}
 use Rattle.redraw.specs.Plain.{linetype_name, plain_file}
 use Rattle.read_back.specs.ReadBack.{numbered_from}
 use Rattle.read_back.proofs.Fields.{pairs_on, past}
@@ -50,11 +53,15 @@ abbrev facts_for : ℕ → Line → Facts
 facts_for n l = record {
   line = n;
   kind = kind.Line;
-  layer = Some (Some l.of);
+  layer = Some (Some (main_layer l.of));
   paper = None;
   linetype = Some (linetype_for l.style);
   shape = Ok (shape.Line (known_of l));
 }
+
+-- a line that stands on its view's layer
+abbrev on_main : Line → LayerLine
+on_main l = record { opposite = false; line = l }
 
 -- the entity of a line that begins on line n, with so many decimals
 abbrev entry_for : ℕ → ℕ → Line → Entry
@@ -62,7 +69,7 @@ entry_for decimals n l =
     record { name = codes "LINE"; line = n; pairs = pairs_on (n + 2) (inner_fields decimals l) }
 
 -- a view's layer is the view's
-layer_read : (v : View) → view_on (layer_name v) ≡ Some v
+layer_read : (v : View) → layer_on false (layer_name v) ≡ Some (main_layer v)
 layer_read Front = refl
 layer_read Top = refl
 layer_read Side = refl
@@ -76,7 +83,7 @@ linetype_read Solid drawn = refl
 
 -- the facts that are read of a line's entity
 facts_read : (decimals n : ℕ) (l : Line) → IsKept l
-    → facts_of decimals (entry_for decimals n l) ≡ facts_for n l
+    → facts_of (three_views decimals) (entry_for decimals n l) ≡ facts_for n l
 unfolding kind_of
 facts_read decimals n l is =
     rw (
@@ -106,8 +113,8 @@ straight_test x0 y0 x1 y1 (inr upright) =
     or_right (int_eq x0 x1) (int_eq y0 y1) ((Decides-int_eq y0 y1).1 upright)
 
 -- the line that it gives, where there is room for one more
-line_judged : (n : ℕ) (lines : List Line) (l : Line) → IsKept l → length lines < most_lines
-    → judged (λ v. None) lines (facts_for n l) ≡ Ok (lines ++ numbered n l ∷ [])
+line_judged : (n : ℕ) (lines : List LayerLine) (l : Line) → IsKept l → length lines < most_lines
+    → judged (λ layer. None) lines (facts_for n l) ≡ Ok (lines ++ on_main (numbered n l) ∷ [])
 unfolding drawn_by line_ends
 line_judged n lines l is room =
     let fits : 1 ≤ most_lines - length lines = omega arith in
@@ -120,13 +127,13 @@ line_judged n lines l is room =
 -- ---- how the file goes on
 
 -- among the entities, which are read with so many decimals, with these lines kept
-abbrev among : ℕ → List Line → Progress
-among decimals lines = record { decimals = decimals; place = Inside Entities; layers = λ v. None; lines = lines }
+abbrev among : ℕ → List LayerLine → Progress
+among decimals lines = record { form = three_views decimals; place = Inside Entities; layers = λ layer. None; lines = lines }
 
 -- one more line is kept
-line_kept : (decimals n : ℕ) (l : Line) (lines : List Line) → IsKept l → length lines < most_lines
-    → entity_read (facts_of decimals (entry_for decimals n l)) (among decimals lines)
-    ≡ Ok (among decimals (lines ++ numbered n l ∷ []))
+line_kept : (decimals n : ℕ) (l : Line) (lines : List LayerLine) → IsKept l → length lines < most_lines
+    → entity_read (facts_of (three_views decimals) (entry_for decimals n l)) (among decimals lines)
+    ≡ Ok (among decimals (lines ++ on_main (numbered n l) ∷ []))
 line_kept decimals n l lines is room =
     rw (facts_read decimals n l is, line_judged n lines l is room) refl
 
@@ -154,37 +161,42 @@ first_entry decimals n l ls =
     rw (nothing_before decimals (line_past n) ls, after) refl
 
 -- a line's entity is read, and what follows it
-entry_kept : (decimals n line : ℕ) (l : Line) (es : List Entry) (lines : List Line) → IsKept l
+entry_kept : (decimals n line : ℕ) (l : Line) (es : List Entry) (lines : List LayerLine) → IsKept l
     → length lines < most_lines
     → entries_read (entry_for decimals n l ∷ es) (Ok line) (among decimals lines)
-    ≡ entries_read es (Ok line) (among decimals (lines ++ numbered n l ∷ []))
+    ≡ entries_read es (Ok line) (among decimals (lines ++ on_main (numbered n l) ∷ []))
 entry_kept decimals n line l es lines is room =
     rw (all_ended es line, line_kept decimals n l lines is room) refl
 
 -- entry after entry gives its line
-entries_kept : (decimals n line : ℕ) (ls lines : List Line) → Each IsKept ls
+entries_kept : (decimals n line : ℕ) (ls : List Line) (lines : List LayerLine) → Each IsKept ls
     → length lines + length ls ≤ most_lines
     → entries_read (entries_of (pairs_on n (section_fields decimals ls))) (Ok line)
     (among decimals lines)
-    ≡ Ok (lines ++ numbered_from n ls)
+    ≡ Ok (lines ++ map on_main (numbered_from n ls))
 entries_kept decimals n line [] lines kept few = ap (λ ls. Ok ls) (sym (append-nil lines))
 entries_kept decimals n line (l ∷ ls) lines kept few =
     let rest = entries_of (pairs_on (n + 18) (section_fields decimals ls)) in
-    let longer : length (lines ++ numbered n l ∷ []) + length ls ≤ most_lines =
-    omega (arith, length-append lines (numbered n l ∷ [])) in
+    let longer : length (lines ++ on_main (numbered n l) ∷ []) + length ls ≤ most_lines =
+    omega (arith, length-append lines (on_main (numbered n l) ∷ [])) in
     ap (λ es. entries_read es (Ok line) (among decimals lines)) (first_entry decimals n l ls)
     ∙ entry_kept decimals n line l rest lines kept.0 (omega arith)
-    ∙ entries_kept decimals (n + 18) line ls (lines ++ numbered n l ∷ []) kept.1 longer
-    ∙ ap (λ ls. Ok ls) (append_assoc lines (numbered n l ∷ []) (numbered_from (n + 18) ls))
+    ∙ entries_kept decimals (n + 18) line ls (lines ++ on_main (numbered n l) ∷ []) kept.1 longer
+    ∙ ap (λ ls. Ok ls) (append_assoc lines (on_main (numbered n l) ∷ []) (map on_main (numbered_from (n + 18) ls)))
 
 -- the file begins with its section
 begins_with_section : (decimals : ℕ) (lines : List Line) (line : ℕ)
-    → pairs_read decimals
+    → pairs_read (three_views decimals)
     (record { pairs = pairs_on 1 (file_fields decimals lines); ending = Ok line })
     ≡ entries_read (entries_of (pairs_on 5 (section_fields decimals lines))) (Ok line)
     (among decimals [])
 unfolding section_of
 begins_with_section decimals lines line = refl
+
+-- those on the views' layers are the lines of the views
+on_main_all : (ls : List Line) → lines_on false (map on_main ls) ≡ ls
+on_main_all [] = refl
+on_main_all (l ∷ ls) = ap (λ more. l ∷ more) (on_main_all ls)
 
 -- the plain form of lines with so many decimals is read as these lines with as many
 pub plain_is_read : (decimals : ℕ) (lines : List Line) → Each IsKept lines
@@ -193,6 +205,7 @@ pub plain_is_read : (decimals : ℕ) (lines : List Line) → Each IsKept lines
 unfolding read_of
 plain_is_read decimals lines kept few =
     let line = past 1 (file_fields decimals lines) in
-    ap (pairs_read decimals) (plain_pairs decimals lines kept)
-    ∙ begins_with_section decimals lines line
-    ∙ entries_kept decimals 5 line lines [] kept (omega arith)
+    ap (main_read decimals) (plain_pairs decimals lines kept)
+    ∙ ap (λ read. read >>= λ ls. Ok (lines_on false ls))
+    (begins_with_section decimals lines line ∙ entries_kept decimals 5 line lines [] kept (omega arith))
+    ∙ ap (λ ls. Ok ls) (on_main_all (numbered_from 5 lines))

@@ -1,21 +1,17 @@
 -- What is said of a checked log.
-use Rattle.std.proofs.Common.{◌≡◌, ◌⊎◌, inl, inr, ◌∙◌, ap, refl, sym, subst, Bool, ℕ, List, Some, IsPermutation}
+use Rattle.std.proofs.Common.{codes, ◌≡◌, inl, inr, ◌∙◌, ap, refl, sym, subst, Bool, ℕ, List, Some, IsPermutation}
 use Rattle.std.proofs.Math.Path.{transport}
 use Rattle.completeness_logs.specs.LogTexts.{IsLog}
 use Rattle.completeness_logs.proofs.Matching.{log_ordered}
-use Rattle.dxf_groups.specs.Pairs.{rest_of_text}
-use Rattle.file_problem.specs.Inputs.{HasNoFault, HasProblem, Input}
+use Rattle.file_problem.specs.Inputs.{form_of, HasProblem, Input}
 use Rattle.file_problem.proofs.Problems.{one_problem, problem_drawing}
 use Rattle.lemmas.specs.Lists.{Ascends}
-use Rattle.proof_check.specs.declared.fault.LogKind.{LogKind}
-use Rattle.proof_check.specs.Refusals.{IsLogRefused}
 use Rattle.proof_check.proofs.SaidRefusals.{never_said, one_refusal_said}
 use Rattle.recon_run.specs.Answers.{IsSomeLog, SaysChecked, SaysRefused, SaysYes, TellsChecked, log_kind_name}
 use Rattle.recon_run.proofs.Verdicts.{judged_somehow, rest_there}
 use Rattle.replies.specs.declared.status.Answer.{Answer}
 use Rattle.replies.specs.declared.status.Answer.TheVariants as answers
 use Rattle.report.specs.Texts.{refusal_text, yes_text}
-use Rattle.solid_model.specs.declared.cell.Cell.{Cell}
 use Rattle.solid_model.specs.Blocks.{ProblemParts}
 use Rattle.solid_model.specs.Choices.{AreChoicesThat, AreSolidsOfChoices, ChoicePrecedes, IsMatchingChoice}
 use Rattle.solid_model.specs.Drawings.{drawing_of}
@@ -55,7 +51,7 @@ yes_or_refused p log text other (listed, is) (kind, line, refused, told) = never
 one_refused : (p : ProblemParts) (log text other : List ℕ) → SaysRefused p log text → SaysRefused p log other → text ≡ other
 one_refused p log text other (kind, line, refused, told) (kind_too, line_too, refused_too, told_too) =
     let (same, at) = one_refusal_said p log kind kind_too line line_too refused refused_too in
-    told ∙ (λ i. refusal_text (log_kind_name (same i)) (at i)) ∙ sym told_too
+    told ∙ (λ i. refusal_text (codes "log") (log_kind_name (same i)) (at i)) ∙ sym told_too
 
 -- a check has one answer, and one text
 pub one_checked : (t : Input) (a b : Answer) (text other : List ℕ) → TellsChecked t a text → TellsChecked t b other → (a ≡ b) × (text ≡ other)
@@ -85,8 +81,8 @@ one_checked t a b text other (p, has, log, behind, said) (q, has_too, log_too, b
 pub some_checked : (t : Input) (p : ProblemParts) (has : HasProblem t p) → (choices : List (List Bool)) → AreChoicesThat (IsMatchingChoice (drawing_of has.lines) (coordinates_of p.grid) p.blocks.numbers) p.blocks.count choices
     → ((answer : Answer) (text : List ℕ) → TellsChecked t answer text → ⊥) → ⊥
 some_checked t p has choices matching never =
-    let (log, behind) = rest_there t.decimals t.bytes has.lines has.reads in
+    let (log, behind) = rest_there (form_of t) t.bytes (has.lines, has.further) has.reads in
     let (solids, all, filled) = all_solids_of_blocks (drawing_of has.lines) p.grid has.grid p.blocks.numbers p.blocks.count has.blocks.blocks choices matching in
     judged_somehow p log
     (λ listed is. never answers.Done (yes_text choices) (p, has, log, behind, inl (refl, ((listed, is), solids, all, choices, filled, refl))))
-    (λ kind line refused. never answers.Refused (refusal_text (log_kind_name kind) line) (p, has, log, behind, inr (refl, (kind, line, refused, refl))))
+    (λ kind line refused. never answers.Refused (refusal_text (codes "log") (log_kind_name kind) line) (p, has, log, behind, inr (refl, (kind, line, refused, refl))))

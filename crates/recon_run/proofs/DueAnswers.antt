@@ -32,7 +32,7 @@ module _ (s : Search) (t : Input) (answer : Answer) (text : List ℕ) where
   end_answered kind c d whole = by kind whole d
     where
       by : (k : EndKind) → k ≡ Whole → (d : CanEnd s.limits t k) → answer_at s t k d ≡ s.whole t (length c.solids)
-      by Whole e d = ap (s.whole t) (one_count s.limits t Whole Whole d c)
+      by Whole e d = ap (s.whole t) (one_count s.limits t d c)
       by _ e d = cc
 
   -- an input that keeps both limits has the answer of a whole search,

@@ -1,14 +1,20 @@
 -- A text that begins a right answer goes on to one.
-use Rattle.std.proofs.Common.{◌≡◌, ℕ, zero, suc, ◌+◌, List, [], ◌∷◌, ◌++◌, Bool, length, take, Option, Some, None, inl, inr, refl, sym, ap, subst, ◌∙◌, append_assoc}
-use Rattle.std.proofs.lemmas.List.{append-nil}
+use Rattle.solid_model.specs.Blocks.{ProblemParts}
+use Rattle.recon_run.specs.Readers.{AnswersScripts, BeginsScripts, EndsAsked, StopsAsked, TellsSession, listing_head}
+use Rattle.dxf_groups.specs.TextLines.{text_lines}
+use Rattle.query_session.specs.Sessions.{read_session}
+use Rattle.query_session.specs.declared.ask.AskFault.{AskFault}
+use Rattle.query_session.specs.declared.ask.Ask.{Ask}
+use Rattle.std.proofs.Common.{◌≡◌, ◌⊎◌, ℕ, zero, suc, ◌+◌, List, [], ◌∷◌, ◌++◌, Bool, length, take, Option, Some, None, inl, inr, refl, sym, ap, subst, ◌∙◌, append_assoc, drop, Result, Ok, Err}
+use Rattle.std.proofs.lemmas.List.{append-nil, take-append-drop}
 use Rattle.face_laws.proofs.SomeFaces.{some_faces}
 use Rattle.file_problem.specs.Inputs.{Input}
 use Rattle.replies.specs.declared.status.Answer.{Answer}
-use Rattle.recon_run.specs.Answers.{BeginsToList, CanEnd, ListsSolids, TellsChecked, TellsSolids, head_of}
+use Rattle.recon_run.specs.Answers.{BeginsToList, CanEnd, ListsSolids, TellsChecked, TellsSolids, head_of, BeginsAll, TellsAll}
 use Rattle.recon_run.specs.Endings.{owed_to}
-use Rattle.recon_run.specs.Owed.{AnswersOwed, BeginsOwed, Judgement, Owed, Search, alone, input_of, judgement_of, owed, read, search_for_all, search_for_log, search_for_one, searched}
-use Rattle.recon_run.specs.Pages.{Page, pages_text}
-use Rattle.report.specs.Texts.{page_text, solid_text}
+use Rattle.recon_run.specs.Owed.{AnswersOwed, BeginsOwed, Judgement, Owed, Search, alone, input_of, judgement_of, owed, read, search_for_all, search_for_log, search_for_one, searched, session_judgement}
+use Rattle.sink_pages.specs.PageTexts.{Page, pages_text}
+use Rattle.report.specs.Texts.{page_text, solid_text, stopped_text}
 use Rattle.redraw.specs.Files.{IsFileOf}
 use Rattle.stl_out.specs.SolidStl.{IsSolidStl}
 use Rattle.solid_model.specs.declared.cell.Cell.{Cell}
@@ -104,6 +110,40 @@ piece_goes_on : (writes : ℕ → List Cell → List ℕ → Type 0) (which : �
     → (search_for_one writes which limits).begins t kind c text → ((more : List ℕ) → (search_for_one writes which limits).tells t kind c (text ++ more) → ⊥) → ⊥
 piece_goes_on writes which limits t kind c text = whole_goes_on ((search_for_one writes which limits).tells t kind c) text
 
+-- what begins to tell solids behind a first line
+begun_goes_on : (head : List ℕ) (decimals : ℕ) (p : ProblemParts) (choices : List (List Bool)) (solids : List (List Cell))
+    → AreSolidsOfChoices (coordinates_of p.grid) p.blocks.numbers p.blocks.count choices solids → (rest : List ℕ) → BeginsAll head decimals choices solids rest
+    → ((more : List ℕ) → TellsAll head decimals choices solids (rest ++ more) → ⊥) → ⊥
+begun_goes_on head decimals p choices solids filled rest (first, (texts, tells, is)) never =
+    telling_goes_on decimals (coordinates_of p.grid) p.blocks.numbers p.blocks.count 1 first choices solids filled texts tells (λ more told.
+    never more (texts ++ more, told, ap (λ bytes. bytes ++ more) is ∙ append_assoc head texts more))
+
+-- what begins an answer to what readers are asked
+asked_goes_on : (limits : SearchLimits) → GoesOn (session_judgement limits)
+asked_goes_on limits t answer text (asked, behind, begun) never = by (read_session (text_lines asked)) begun
+    (λ more told. never answer more (asked, behind, told))
+  where
+    by : (r : Result (List (List Ask)) AskFault) → BeginsScripts limits t r answer text
+        → ((more : List ℕ) → AnswersScripts limits t r answer (text ++ more) → ⊥) → ⊥
+    by (Err fault) told stuck = whole_goes_on (AnswersScripts limits t (Err fault) answer) text told stuck
+    by (Ok scripts) (before, rest, s, (n, is)) stuck = at s.ends
+      where
+        goes : (more : List ℕ) → TellsSession TellsAll limits t scripts answer before (rest ++ more) → ⊥
+        goes more told = stuck (drop n (before ++ rest) ++ more) (
+          before,
+          rest ++ more,
+          told,
+          ap (λ bytes. bytes ++ (drop n (before ++ rest) ++ more)) is ∙ sym (append_assoc (take n (before ++ rest)) (drop n (before ++ rest)) more)
+              ∙ ap (λ bytes. bytes ++ more) (take-append-drop n (before ++ rest)) ∙ append_assoc before rest more,
+        )
+
+        at : EndsAsked BeginsAll limits t s.lasts answer rest ⊎ StopsAsked BeginsAll limits t scripts s.lasts answer rest → ⊥
+        at (inl (kind, m, e, among, right, begins)) = begun_goes_on (listing_head e) t.decimals m.problem m.choices m.solids m.filled rest begins (λ more told.
+            goes more (record { problem = s.problem; has = s.has; lasts = s.lasts; readers = s.readers; ends = inl (kind, m, e, among, right, told) }))
+        at (inr (stops, m, some, among, right, begins)) =
+            begun_goes_on (stopped_text (length m.choices)) t.decimals m.problem m.choices m.solids m.filled rest begins (λ more told.
+            goes more (record { problem = s.problem; has = s.has; lasts = s.lasts; readers = s.readers; ends = inr (stops, m, some, among, right, told) }))
+
 -- what is owed for a job
 abbrev OwesOn : Owed → Type 0
 OwesOn (read profile asked) = GoesOn (judgement_of asked)
@@ -116,6 +156,7 @@ on_owed (Some (job.Stl which workers limits)) = search_goes_on (search_for_one (
 on_owed (Some (job.Prove workers limits)) =
     search_goes_on (search_for_log limits) (λ t kind c text. whole_goes_on ((search_for_log limits).tells t kind c) text)
 on_owed (Some job.Check) = λ t answer text told never. whole_goes_on (TellsChecked t answer) text told (never answer)
+on_owed (Some (job.Ask workers limits)) = asked_goes_on limits
 on_owed (Some (job.Make n)) = tt
 on_owed (Some (job.Trial n workers)) = tt
 on_owed None = tt

@@ -17,3 +17,6 @@ pub mod Verdicts
 pub mod FewMatching
 pub mod OnePiece
 pub mod Checked
+pub mod AskedTexts
+pub mod AskedEnds
+pub mod ScriptsRead

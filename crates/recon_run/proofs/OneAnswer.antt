@@ -1,23 +1,32 @@
 -- Words and an input have at most one right answer, up to what is left open.
-use Rattle.std.proofs.Common.{◌≡◌, ◌⊎◌, inl, inr, refl, Bool, true, false, IsPermutation, ℕ, ◌+◌, ◌-◌, List, [], ◌∷◌, ◌++◌, length, Option, Some, None, sym, subst, ap, ◌∙◌, arith}
+use Rattle.replies.specs.Status.{end_answer}
+use Rattle.session_run.specs.Session.{asks_stop}
+use Rattle.recon_run.specs.Readers.{AnswersScripts, AsksToStop, EndsAsked, SameBehindReaders, StopsAsked, TellsAsked, TellsReaders, TellsSession, EndsListing, SomeMatching, listing_head}
+use Rattle.query_session.specs.Sessions.{read_session}
+use Rattle.query_session.specs.declared.ask.AskFault.{AskFault}
+use Rattle.query_session.specs.declared.ask.Ask.{Ask}
+use Rattle.dxf_groups.specs.TextLines.{text_lines}
+use Rattle.dxf_groups.specs.Pairs.{rest_of_text}
+use Rattle.std.proofs.Common.{◌≡◌, ◌⊎◌, inl, inr, refl, Bool, true, false, IsPermutation, ℕ, ◌+◌, ◌-◌, List, [], ◌∷◌, ◌++◌, length, Option, Some, None, sym, subst, ap, ◌∙◌, arith, true≢false, Result, Ok, Err}
 use Rattle.std.proofs.Math.Path.{transport}
 use Rattle.std.proofs.lemmas.List.Sorted.{IsPermutation-refl, IsPermutation-sym, IsPermutation-trans}
 use Rattle.std.proofs.lemmas.Option.{slice_get_within}
 use Rattle.std.specs.List.{slice_get}
 use Rattle.drawing_maker.specs.Made.{made_solid}
 use Rattle.replies.specs.declared.status.Answer.{Answer}
-use Rattle.file_problem.specs.Inputs.{Input}
-use Rattle.recon_run.specs.Answers.{node_count, CanEnd, IsSomeLog, TellsNumbered, TellsSolids, IsTried, first_volume, made_drawing}
+use Rattle.file_problem.specs.Inputs.{HasProblem, Input}
+use Rattle.recon_run.specs.Answers.{node_count, CanEnd, IsSomeLog, TellsNumbered, TellsSolids, IsTried, first_volume, made_drawing, TellsAll, head_of}
 use Rattle.recon_run.specs.Endings.{Answers, AreAlike, LeavesOpen, owed_to}
-use Rattle.recon_run.specs.Owed.{AnswersInput, AnswersOwed, IsCut, Judgement, Owed, Search, alone, answer_at, input_of, judgement_of, owed, read, search_for_all, search_for_log, search_for_one, searched}
-use Rattle.recon_run.specs.Pages.{ArePagesOf, Page, SameButPages, choices_on, pages_text}
+use Rattle.recon_run.specs.Owed.{AnswersInput, AnswersOwed, IsCut, Judgement, Owed, Search, alone, answer_at, input_of, judgement_of, owed, read, search_for_all, search_for_log, search_for_one, searched, session_judgement}
+use Rattle.recon_run.specs.Pages.{ArePagesOf, SameButPages}
+use Rattle.sink_pages.specs.PageTexts.{Page, choices_on, pages_text}
 use Rattle.file_problem.proofs.Faults.{one_fault}
 use Rattle.file_problem.proofs.Grids.{one_grid}
 use Rattle.recon_run.proofs.Checked.{one_checked}
-use Rattle.recon_run.proofs.OneEnd.{kept_or_passed, one_count, one_head, one_solids}
+use Rattle.recon_run.proofs.OneEnd.{kept_or_passed, one_count, one_head, one_solids, one_told, one_list}
 use Rattle.file_problem.proofs.Problems.{one_blocks, one_problem}
 use Rattle.report.specs.FaultText.{fault_text}
-use Rattle.report.specs.Texts.{no_solid_text, solid_text, trial_text}
+use Rattle.report.specs.Texts.{head_text, no_solid_text, solid_text, trial_text}
 use Rattle.redraw.specs.Files.{IsFileOf}
 use Rattle.redraw.proofs.OneFile.{one_file}
 use Rattle.stl_out.specs.SolidStl.{IsSolidStl}
@@ -28,8 +37,6 @@ use Rattle.solid_model.specs.declared.ended.EndKind.TheVariants.{Whole, CutNodes
 use Rattle.solid_model.specs.Blocks.{ProblemParts}
 use Rattle.solid_model.specs.Cells.{is_full}
 use Rattle.solid_model.specs.Choices.{AreSolidsOfChoices}
-use Rattle.solid_model.specs.Drawings.{drawing_of}
-use Rattle.solid_model.specs.Matching.{AreSolidsOf}
 use Rattle.solid_model.specs.Panels.{coordinates_of}
 use Rattle.solid_model.specs.Search.{SearchLimits}
 use Rattle.solid_model.proofs.BlockChoices.{one_list_of_block_choices}
@@ -72,24 +79,32 @@ one_telling decimals number (choice ∷ choices) (s ∷ solids) text other (one,
     is ∙ ap (λ bytes. bytes ++ rest) told ∙ (λ i. solid_text decimals number choice (length s) (same i) ++ ends i)
     ∙ ap (λ bytes. bytes ++ more) (sym told_too) ∙ sym is_too
 
+-- one list of solids of an input has one list of choices that fill it, and one text behind a first line
+one_filled : (t : Input) (p q : ProblemParts) (has : HasProblem t p) (has_too : HasProblem t q) (choices others : List (List Bool)) (solids solids_too : List (List Cell))
+    → AreSolidsOfChoices (coordinates_of p.grid) p.blocks.numbers p.blocks.count choices solids
+    → AreSolidsOfChoices (coordinates_of q.grid) q.blocks.numbers q.blocks.count others solids_too → solids ≡ solids_too
+    → (head head_too : List ℕ) → head ≡ head_too → (rest rest_too : List ℕ)
+    → TellsAll head t.decimals choices solids rest → TellsAll head_too t.decimals others solids_too rest_too → (choices ≡ others) × (rest ≡ rest_too)
+one_filled t p q has has_too choices others solids solids_too fill fill_too same head head_too heads rest rest_too (texts, tells, is) (more, tells_too, is_too) =
+    let one = one_problem has has_too in
+    let filled : AreSolidsOfChoices (coordinates_of p.grid) p.blocks.numbers p.blocks.count choices solids
+    ≡ AreSolidsOfChoices (coordinates_of q.grid) q.blocks.numbers q.blocks.count choices solids_too =
+    λ i. AreSolidsOfChoices (coordinates_of (one.problem i).grid) (one.problem i).blocks.numbers (one.problem i).blocks.count choices (same i) in
+    let alike = one_list_of_block_choices q.grid (λ a. (has_too.grid.coordinates a).ordered) q.blocks.numbers q.blocks.count has_too.blocks.blocks
+    choices others solids_too (transport filled fill) fill_too in
+    let tells_same : TellsSolids t.decimals 1 choices solids texts ≡ TellsSolids t.decimals 1 others solids_too texts =
+    λ i. TellsSolids t.decimals 1 (alike i) (same i) texts in
+    let one_text = one_telling t.decimals 1 others solids_too texts more (transport tells_same tells) tells_too in
+    (alike, is ∙ (λ i. heads i ++ one_text i) ∙ sym is_too)
+
 -- an input has at most one text that lists all its solids
 one_listing : (paged : Bool) (limits : SearchLimits) → TellsOne (search_for_all paged limits)
-one_listing paged limits t c d text other (first, before, (pages, are, shown), rest, (texts, tells, is), told)
-    (second, before_too, (more, are_too, shown_too), rest_too, (others, tells_too, is_too), told_too) =
-    let one = one_problem first.has second.has in
-    let p = first.problem in let q = second.problem in
-    let drawing = drawing_of second.has.lines in
-    let solids = one_list_of_solids drawing first.solids second.solids (subst (λ ls. AreSolidsOf (drawing_of ls) first.solids) one.lines first.listed) second.listed in
-    let filled : AreSolidsOfChoices (coordinates_of p.grid) p.blocks.numbers p.blocks.count first.choices first.solids
-    ≡ AreSolidsOfChoices (coordinates_of q.grid) q.blocks.numbers q.blocks.count first.choices second.solids =
-    λ i. AreSolidsOfChoices (coordinates_of (one.problem i).grid) (one.problem i).blocks.numbers (one.problem i).blocks.count first.choices (solids i) in
-    let choices = one_list_of_block_choices q.grid (λ a. (second.has.grid.coordinates a).ordered) q.blocks.numbers q.blocks.count second.has.blocks.blocks
-    first.choices second.choices second.solids (transport filled first.filled) second.filled in
-    let tells_same : TellsSolids t.decimals 1 first.choices first.solids texts ≡ TellsSolids t.decimals 1 second.choices second.solids texts =
-    λ i. TellsSolids t.decimals 1 (choices i) (solids i) texts in
-    let same = one_telling t.decimals 1 second.choices second.solids texts others (transport tells_same tells) tells_too in
-    same_behind paged first.choices second.choices pages more choices are are_too rest rest_too
-    (is ∙ (λ i. one_head limits t c d i ++ same i) ∙ sym is_too) text other
+one_listing paged limits t c d text other (first, before, (pages, are, shown), rest, tells, told)
+    (second, before_too, (more, are_too, shown_too), rest_too, tells_too, told_too) =
+    let solids = one_told t first.problem second.problem first.has second.has first.solids second.solids first.listed second.listed in
+    let (choices, same) = one_filled t first.problem second.problem first.has second.has first.choices second.choices first.solids second.solids
+    first.filled second.filled solids (head_of c) (head_of d) (one_head limits t c d) rest rest_too tells tells_too in
+    same_behind paged first.choices second.choices pages more choices are are_too rest rest_too same text other
     (told ∙ ap (λ bytes. bytes ++ rest) shown) (told_too ∙ ap (λ bytes. bytes ++ rest_too) shown_too)
 
 same_place : {A : Type 0} (xs ys : List A) (k : ℕ) (x y : A) → xs ≡ ys → slice_get xs k ≡ Some x → slice_get ys k ≡ Some y → x ≡ y
@@ -103,13 +118,13 @@ one_numbered writes one which limits t c d text other = by
   where
     by : TellsNumbered (writes t.decimals) which c.solids text → TellsNumbered (writes t.decimals) which d.solids other → text ≡ other
     by (inl (s, (some, at), written)) (inl (u, (some_too, at_too), written_too)) =
-        let same = same_place c.solids d.solids (which - 1) s u (one_solids limits t Whole Whole c d) at at_too in
+        let same = same_place c.solids d.solids (which - 1) s u (one_solids limits t c d) at at_too in
         one t.decimals u text other (subst (λ x. writes t.decimals x text) same written) written_too
     by (inl (s, (some, at), written)) (inr (fewer, told)) =
-        let within = slice_get_within c.solids (which - 1) s at in let many = one_count limits t Whole Whole c d in absurd (omega arith)
+        let within = slice_get_within c.solids (which - 1) s at in let many = one_count limits t c d in absurd (omega arith)
     by (inr (fewer, told)) (inl (s, (some, at), written)) =
-        let within = slice_get_within d.solids (which - 1) s at in let many = one_count limits t Whole Whole c d in absurd (omega arith)
-    by (inr (fewer, told)) (inr (fewer_too, told_too)) = told ∙ ap (no_solid_text which) (one_count limits t Whole Whole c d) ∙ sym told_too
+        let within = slice_get_within d.solids (which - 1) s at in let many = one_count limits t c d in absurd (omega arith)
+    by (inr (fewer, told)) (inr (fewer_too, told_too)) = told ∙ ap (no_solid_text which) (one_count limits t c d) ∙ sym told_too
 
 -- all logs of an input count as one text
 one_logs : (limits : SearchLimits) → TellsOne (search_for_log limits)
@@ -157,7 +172,7 @@ module _ (s : Search) (t : Input) (a b : Answer) (text other : List ℕ) where
       → a ≡ answer_at s t kind c → b ≡ answer_at s t other_kind d → s.tells t kind c text → s.tells t other_kind d other
       → AreOne IsCut (s.alike t) a b text other
   one_end one Whole Whole c d is is_too tells tells_too =
-      (inl (is ∙ ap (s.whole t) (one_count s.limits t Whole Whole c d) ∙ sym is_too), λ none. one t c d text other tells tells_too)
+      (inl (is ∙ ap (s.whole t) (one_count s.limits t c d) ∙ sym is_too), λ none. one t c d text other tells tells_too)
   one_end one Whole CutNodes c d is is_too tells tells_too = absurd (passed CutNodes c d (λ e. cc))
   one_end one Whole CutSolids c d is is_too tells tells_too = absurd (passed CutSolids c d (λ e. cc))
   one_end one CutNodes Whole c d is is_too tells tells_too = absurd (passed CutNodes d c (λ e. cc))
@@ -181,6 +196,93 @@ text_alike : (paged : Bool) (text other : List ℕ) → text ≡ other → SameB
 text_alike false text other is = is
 text_alike true text other is = ([], [], IsPermutation-refl [], text, refl, sym is)
 
+-- what readers tell is one answer, where none asks to stop
+module _ (limits : SearchLimits) (t : Input) (a b : Answer) (text other : List ℕ) where
+  abbrev Open : Answer → Type 0
+  Open = (session_judgement limits).leaves_open t
+
+  abbrev One : Type 0
+  One = AreOne Open (SameBehindReaders t) a b text other
+
+  two_cuts : IsCut a → IsCut b → One
+  two_cuts cut cut_too = (inr (inr cut, inr cut_too), λ none. absurd (none (inr cut)))
+
+  module _ (scripts : List (List Ask)) (before before_too rest rest_too : List ℕ) (told : text ≡ before ++ rest) (told_too : other ≡ before_too ++ rest_too)
+      (s : TellsSession TellsAll limits t scripts a before rest) (u : TellsSession TellsAll limits t scripts b before_too rest_too) where
+    -- all solids are one list, and its first line
+    one_all : (m n : SomeMatching limits t) (kind other_kind : EndKind) (e : EndsListing limits t kind m) (f : EndsListing limits t other_kind n) → e.all ≡ f.all
+    one_all m n kind other_kind e f = one_list t m.problem n.problem m.has n.has e.all f.all e.matching f.matching
+
+    first_lines : (m n : SomeMatching limits t) (e : EndsListing limits t Whole m) (f : EndsListing limits t Whole n) → listing_head e ≡ listing_head f
+    first_lines m n e f =
+        let p = (one_problem m.has n.has).problem in let all = one_all m n Whole Whole e f in
+        λ i. head_text limits Whole (length (all i)) (node_count (p i)) (p i).blocks.count
+
+    -- where both limits are kept none is passed
+    no_cut_nodes : (m n : SomeMatching limits t) → EndsListing limits t Whole m → EndsListing limits t CutNodes n → ⊥
+    no_cut_nodes m n e f =
+        let same = ap node_count (one_problem m.has n.has).problem in let few = e.allows.0 in let many = f.allows in absurd (omega arith)
+
+    no_cut_solids : (m n : SomeMatching limits t) → EndsListing limits t Whole m → EndsListing limits t CutSolids n → ⊥
+    no_cut_solids m n e f =
+        let same = ap (λ (ss : List (List Cell)). length ss) (one_all m n Whole CutSolids e f) in let few = e.allows.1 in let many = f.allows in absurd (omega arith)
+
+    one_end_asked : (kind other_kind : EndKind) (m n : SomeMatching limits t) (e : EndsListing limits t kind m) (f : EndsListing limits t other_kind n)
+        → a ≡ end_answer kind → b ≡ end_answer other_kind
+        → TellsAll (listing_head e) t.decimals m.choices m.solids rest → TellsAll (listing_head f) t.decimals n.choices n.solids rest_too → One
+    one_end_asked Whole Whole m n e f is is_too tells tells_too = (
+      inl (is ∙ sym is_too),
+      λ none. inr (
+        s.problem,
+        s.has,
+        scripts,
+        before,
+        before_too,
+        (s.lasts, s.readers),
+        (u.lasts, subst (λ (p : ProblemParts). TellsReaders p 0 scripts u.lasts before_too) (sym (one_problem s.has u.has).problem) u.readers),
+        rest,
+        told,
+        told_too ∙ ap (λ bytes. before_too ++ bytes) (sym (one_filled t m.problem n.problem m.has n.has m.choices n.choices m.solids n.solids m.filled n.filled
+            (e.lists ∙ one_all m n Whole Whole e f ∙ sym f.lists) (listing_head e) (listing_head f) (first_lines m n e f) rest rest_too tells tells_too).1),
+      ),
+    )
+    one_end_asked Whole CutNodes m n e f is is_too tells tells_too = absurd (no_cut_nodes m n e f)
+    one_end_asked Whole CutSolids m n e f is is_too tells tells_too = absurd (no_cut_solids m n e f)
+    one_end_asked CutNodes Whole m n e f is is_too tells tells_too = absurd (no_cut_nodes n m f e)
+    one_end_asked CutSolids Whole m n e f is is_too tells tells_too = absurd (no_cut_solids n m f e)
+    one_end_asked CutNodes CutNodes m n e f is is_too tells tells_too = two_cuts (subst IsCut (sym is) tt) (subst IsCut (sym is_too) tt)
+    one_end_asked CutNodes CutSolids m n e f is is_too tells tells_too = two_cuts (subst IsCut (sym is) tt) (subst IsCut (sym is_too) tt)
+    one_end_asked CutSolids CutNodes m n e f is is_too tells tells_too = two_cuts (subst IsCut (sym is) tt) (subst IsCut (sym is_too) tt)
+    one_end_asked CutSolids CutSolids m n e f is is_too tells tells_too = two_cuts (subst IsCut (sym is) tt) (subst IsCut (sym is_too) tt)
+
+    one_unstopped : asks_stop scripts ≡ false → One
+    one_unstopped none = by s.ends u.ends
+      where
+        by : EndsAsked TellsAll limits t s.lasts a rest ⊎ StopsAsked TellsAll limits t scripts s.lasts a rest
+            → EndsAsked TellsAll limits t u.lasts b rest_too ⊎ StopsAsked TellsAll limits t scripts u.lasts b rest_too → One
+        by (inl (kind, m, e, among, is, tells)) (inl (other_kind, n, f, among_too, is_too, tells_too)) =
+            one_end_asked kind other_kind m n e f is is_too tells tells_too
+        by (inl ends) (inr stops) = absurd (true≢false (sym stops.0 ∙ none))
+        by (inr stops) ends = absurd (true≢false (sym stops.0 ∙ none))
+
+  one_by_scripts : (asked : List ℕ) → rest_of_text t.bytes ≡ Some asked → (r : Result (List (List Ask)) AskFault) → read_session (text_lines asked) ≡ r
+      → AnswersScripts limits t r a text → AnswersScripts limits t r b other → One
+  one_by_scripts asked behind (Err fault) reads (is, told) (is_too, told_too) = (inl (is ∙ sym is_too), λ none. inl (told ∙ sym told_too))
+  one_by_scripts asked behind (Ok scripts) reads (before, rest, s, told) (before_too, rest_too, u, told_too) = by (asks_stop scripts) refl
+    where
+      by : (stops : Bool) → asks_stop scripts ≡ stops → One
+      by true stops = let stop : AsksToStop t = (asked, behind, scripts, reads, stops) in (inr (inl stop, inl stop), λ none. absurd (none (inl stop)))
+      by false none = one_unstopped scripts before before_too rest rest_too told told_too s u none
+
+  one_asked : TellsAsked limits t a text → TellsAsked limits t b other → One
+  one_asked (asked, behind, said) (asked_too, behind_too, said_too) =
+      let same : asked_too ≡ asked = (let e : Some asked_too ≡ Some asked = sym behind_too ∙ behind in cc) in
+      one_by_scripts asked behind (read_session (text_lines asked)) refl said
+      (subst (λ bytes. AnswersScripts limits t (read_session (text_lines bytes)) b other) same said_too)
+
+one_session : (limits : SearchLimits) → JudgesOne (session_judgement limits)
+one_session limits = ((λ t text other is. inl is), one_asked limits)
+
 -- what is owed for a job is one answer
 abbrev OwesOne : Owed → Type 0
 OwesOne (read profile asked) = JudgesOne (judgement_of asked)
@@ -198,6 +300,7 @@ one_owed (Some job.Check) = (
   λ t text other is. is,
   λ t a b text other told told_too. let one = one_checked t a b text other told told_too in (inl one.0, λ none. one.1),
 )
+one_owed (Some (job.Ask workers limits)) = one_session limits
 one_owed (Some (job.Make n)) = one_made_file n
 one_owed (Some (job.Trial n workers)) = one_figures n
 one_owed None = λ text other is is_too. is ∙ sym is_too

@@ -1,12 +1,13 @@
 -- How the writing of one of the solids ends.
-use Rattle.std.proofs.Common.{◌≡◌, ◌-◌, ◌<◌, ◌≤◌, inl, Bool, ℕ, List, length, Some, sym, ap, subst, refl, arith, cond, lt-ltb, le-ltb, ◌∙◌}
+use Rattle.std.proofs.Common.{◌≡◌, ◌-◌, ◌<◌, ◌≤◌, inl, Bool, ℕ, List, length, Some, sym, ap, arith, cond, lt-ltb, le-ltb}
 use Rattle.std.specs.List.{slice_get}
-use Rattle.file_problem.specs.Inputs.{HasProblem, Input}
+use Rattle.file_problem.specs.Inputs.{Input}
 use Rattle.replies.specs.declared.status.Answer.{Answer}
 use Rattle.replies.specs.declared.status.Answer.TheVariants as answers
 use Rattle.recon_run.specs.Answers.{TellsNumbered, numbered_answer}
 use Rattle.recon_run.specs.Owed.{IsAnEnd, search_for_one}
-use Rattle.recon_run.specs.Searched.{AnswersNumbered, FillSolids, IsSearchOf, SearchedParts}
+use Rattle.recon_run.specs.declared.sought.Sought.{Sought}
+use Rattle.recon_run.specs.Searched.{AnswersNumbered, FillSolids, IsFittingSearchOf, IsSoughtBy, SearchedParts}
 use Rattle.recon_run.proofs.Filled.{filled_at, filled_count}
 use Rattle.recon_run.proofs.OnePiece.{whole_listed}
 use Rattle.solid_model.specs.declared.cell.Cell.{Cell}
@@ -36,11 +37,11 @@ module _ (writes : ℕ → List Cell → List ℕ → Type 0) (which : ℕ) (lim
   abbrev Tells : Answer → List ℕ → Type 0
   Tells = IsAnEnd (search_for_one writes which limits) (search_for_one writes which limits).tells t
 
-  module _ (p : ProblemParts) (has : HasProblem t p) (s : SearchedParts) (is_of : IsSearchOf limits p s) where
+  module _ (sought : Sought) (by : IsSoughtBy t sought) (s : SearchedParts) (is_of : IsFittingSearchOf limits sought s) where
     -- the answer to a whole search is that of the solid of the number
     pub whole_told : s.ended.kind ≡ Whole
         → (solids : List (List Cell)) × FillSolids s.problem s.ended.solids solids
         × ((answer : Answer) (text : List ℕ) → AnswersNumbered (writes t.decimals) which solids answer text → Tells answer text)
     whole_told whole =
-        let is = whole_listed limits (λ t. numbered_answer which) (λ t c. TellsNumbered (writes t.decimals) which c.solids) (λ t text other. text ≡ other) t p has s is_of whole in
+        let is = whole_listed limits (λ t. numbered_answer which) (λ t c. TellsNumbered (writes t.decimals) which c.solids) (λ t text other. text ≡ other) t sought by s is_of whole in
         (is.can.solids, is.filled, λ answer text told. (Whole, is.can, told.0, told.1))

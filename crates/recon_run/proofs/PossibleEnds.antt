@@ -26,8 +26,13 @@ between [] x k = absurd k
 between (y ∷ ys) x (inl e) = ([], ys, ap (λ z. z ∷ ys) e)
 between (y ∷ ys) x (inr k) = let b = between ys x k in (y ∷ b.0, b.1, ap (λ zs. y ∷ zs) b.2)
 
+-- in the stated order none stands twice
+pub ordered_once : (xs : List (List Bool)) → Ascends ChoicePrecedes xs → Ascends ◌≢◌ xs
+ordered_once xs = ascends-weaker ChoicePrecedes ◌≢◌ xs (λ x y before same. precedes_one_way x y before
+    (subst (λ z. ChoicePrecedes z x) same (subst (ChoicePrecedes x) (sym same) before)))
+
 -- of two lists without repeats that have the same members, one is the other in another order
-rearranged : (xs ys : List (List Bool)) → Ascends ◌≢◌ xs → Ascends ◌≢◌ ys → IsWithin xs ys → IsWithin ys xs → IsPermutation xs ys
+pub rearranged : (xs ys : List (List Bool)) → Ascends ◌≢◌ xs → Ascends ◌≢◌ ys → IsWithin xs ys → IsWithin ys xs → IsPermutation xs ys
 rearranged [] [] once once_too there back = IsPermutation-refl []
 rearranged [] (y ∷ ys) once once_too there back = absurd (back y (inl refl))
 rearranged (x ∷ xs) ys once once_too there back =
@@ -60,6 +65,7 @@ pub record CanList (live : PrefixTest) (n : ℕ) (limits : SearchLimits) (told :
   pub opened : ℕ
   pub choices : List (List Bool)
   pub ends : EndsAs live n limits kind opened choices
+  pub some : AreSomeOf live n choices
   pub more : List (List Bool)
   pub listed : IsPermutation (told ++ more) choices
 
@@ -81,8 +87,7 @@ module _ (live : PrefixTest) (n : ℕ) (limits : SearchLimits) (ordered : Ascend
   list = told ++ more
 
   all_once : Ascends ◌≢◌ all
-  all_once = ascends-weaker ChoicePrecedes ◌≢◌ all (λ x y before same. precedes_one_way x y before
-      (subst (λ z. ChoicePrecedes z x) same (subst (ChoicePrecedes x) (sym same) before))) ordered
+  all_once = ordered_once all ordered
 
   new_apart : (x : List Bool) → Member others x → Member told x → ⊥
   new_apart x k told_it = both_ways (is_new x) (ap not (among told x told_it)) (member-from_filter is_new all x k).1
@@ -164,7 +169,7 @@ module _ (live : PrefixTest) (n : ℕ) (limits : SearchLimits) (ordered : Ascend
   can_list = at (cases_lt limits.nodes (live_count live n [])) (cases_lt limits.solids (length all))
     where
       lists : (kind : EndKind) → EndsAs live n limits kind (live_count live n []) sorted → CanList live n limits told
-      lists kind ends = record { kind = kind; opened = live_count live n []; choices = sorted; ends = ends; more = more; listed = moved }
+      lists kind ends = record { kind = kind; opened = live_count live n []; choices = sorted; ends = ends; some = some; more = more; listed = moved }
 
       at : (limits.nodes < live_count live n []) ⊎ (live_count live n [] ≤ limits.nodes) → (limits.solids < length all) ⊎ (length all ≤ limits.solids) → CanList live n limits told
       at (inl many) solids = lists CutNodes (many, omega arith, some, within)

@@ -1,14 +1,24 @@
 -- From the end of a search to the solids that are listed.
-use Rattle.std.proofs.Common.{◌≡◌, ℕ, ◌<◌, ◌≤◌, List, [], ◌++◌, Bool, length, inl, inr, refl, sym, subst, ◌∙◌, arith}
+use Rattle.std.proofs.Common.{◌≡◌, ℕ, ◌<◌, ◌≤◌, ◌<ℤ◌, List, [], ◌++◌, Bool, length, inl, inr, refl, sym, ap, subst, ◌∙◌, arith}
 use Rattle.column_laws.proofs.LivePrefixes.{live_keeps_matching}
+use Rattle.choice_sieves.specs.Those.{AreThose}
+use Rattle.choice_sieves.proofs.Those.{no_more_those, some_those}
+use Rattle.dxf_entities.specs.declared.extra.Extra.{Extra}
 use Rattle.file_problem.specs.Inputs.{HasProblem, Input}
-use Rattle.recon_run.specs.Answers.{AllowsEnd, AreListed, BeginsAll, BeginsToList, CanEnd, ListedSolids, ListsSolids, TellsAll, head_of, node_count}
-use Rattle.recon_run.specs.Pages.{BeginsPages, TellsPages, pages_text}
+use Rattle.further_views.specs.Further.{further_lines}
+use Rattle.six_views.specs.Fits.{Fits}
+use Rattle.six_views.specs.Further.{FitsLines}
+use Rattle.six_views.proofs.SiftedChoices.{all_left, none_out, some_left}
+use Rattle.recon_run.specs.Answers.{AllowsEnd, AreListed, AreSomeTold, AreTold, BeginsAll, BeginsToList, CanEnd, ListedSolids, ListsSolids, TellsAll, head_of, node_count}
+use Rattle.recon_run.specs.Pages.{BeginsPages, TellsPages}
+use Rattle.sink_pages.specs.PageTexts.{pages_text}
+use Rattle.recon_run.specs.Readers.{EndsListing, SomeMatching, listing_head}
 use Rattle.recon_run.specs.Searched.{FillSolids}
 use Rattle.recon_run.proofs.GoingOn.{some_telling}
 use Rattle.recon_run.proofs.Paged.{some_pages}
 use Rattle.file_problem.proofs.Problems.{problem_drawing}
 use Rattle.report.specs.Texts.{head_text}
+use Rattle.solid_model.specs.declared.cell.Axis.{Axis}
 use Rattle.solid_model.specs.declared.cell.Cell.{Cell}
 use Rattle.solid_model.specs.declared.ended.EndKind.{EndKind}
 use Rattle.solid_model.specs.declared.ended.EndKind.TheVariants.{Whole, CutNodes, CutSolids}
@@ -18,8 +28,10 @@ use Rattle.solid_model.specs.Blocks.{ProblemParts}
 use Rattle.solid_model.specs.Choices.{AreChoicesThat, IsMatchingChoice, AreSolidsOfChoices}
 use Rattle.solid_model.specs.Forcing.{is_live}
 use Rattle.solid_model.specs.Drawings.{drawing_of}
-use Rattle.lemmas.specs.Lists.{Member}
-use Rattle.solid_model.specs.Matching.{AreSolidsOf, AreSomeSolidsOf}
+use Rattle.lemmas.specs.Lists.{Ascends, Each, Member}
+use Rattle.solid_model.specs.Line.{Line}
+use Rattle.solid_model.specs.Matching.{AreSolidsOf, AreSomeSolidsOf, Matches}
+use Rattle.solid_model.specs.Orders.{IsInStatedForm}
 use Rattle.solid_model.specs.Panels.{coordinates_of}
 use Rattle.solid_model.specs.Search.{SearchLimits}
 use Rattle.solid_model.specs.SearchEnds.{AreSomeOf, EndsAs}
@@ -48,35 +60,113 @@ module _ (limits : SearchLimits) (t : Input) (p : ProblemParts) (has : HasProble
       (live_keeps_matching drawing (problem_drawing t p has) p has.grid has.blocks)
 
   -- and fill all matching solids
-  all : (solids : List (List Cell)) × AreSolidsOf drawing solids × Fill whole solids
+  pub all : (solids : List (List Cell)) × AreSolidsOf drawing solids × Fill whole solids
   all = all_solids_of_blocks drawing p.grid has.grid p.blocks.numbers p.blocks.count has.blocks.blocks whole matching
 
   count_solids : (choices : List (List Bool)) (solids : List (List Cell)) → Fill choices solids → length choices ≡ length solids
   count_solids = as_many (coordinates_of p.grid) p.blocks.numbers p.blocks.count
 
   -- some of those choices fill some of those solids
-  some : (choices : List (List Bool)) → AreSomeOf (is_live p) p.blocks.count choices
+  pub some : (choices : List (List Bool)) → AreSomeOf (is_live p) p.blocks.count choices
       → (solids : List (List Cell)) × AreSomeSolidsOf drawing solids × Fill choices solids
   some choices are = some_solids_of_blocks drawing p.grid has.grid p.blocks.numbers p.blocks.count has.blocks.blocks choices
       (each-weaker (Member whole) (λ choice. (length choice ≡ p.blocks.count) × IsMatchingChoice drawing (coordinates_of p.grid) p.blocks.numbers choice) choices
       (λ choice member. each-at (λ choice. (length choice ≡ p.blocks.count) × IsMatchingChoice drawing (coordinates_of p.grid) p.blocks.numbers choice) whole choice matching.each member)
       are.listed) are.ordered
 
-  -- an end of this kind is one of the input
-  abbrev end_with : (kind : EndKind) → AllowsEnd limits p all.0 kind → CanEnd limits t kind
-  end_with kind allows = record { problem = p; has = has; counted = all.0; all = all.1; allows = allows; solids = all.0; told = all.1 }
+  -- a cut is an end of the input
+  abbrev nodes_end : (opened : ℕ) (choices : List (List Bool)) → EndsAs (is_live p) p.blocks.count limits CutNodes opened choices → CanEnd limits t CutNodes
+  nodes_end opened choices (many, counted, are, few) =
+      record { problem = p; has = has; counted = all.0; all = all.1; allows = omega (arith, many, counted); solids = []; told = refl }
 
-  abbrev whole_end : (opened : ℕ) (choices : List (List Bool)) → EndsAs (is_live p) p.blocks.count limits Whole opened choices → CanEnd limits t Whole
-  whole_end opened choices (few_nodes, few_solids, counted, is_whole) =
-      end_with Whole (few_nodes, omega (arith, few_solids, count_solids whole all.0 all.2))
+  abbrev solids_end : (opened : ℕ) (choices : List (List Bool)) → EndsAs (is_live p) p.blocks.count limits CutSolids opened choices → CanEnd limits t CutSolids
+  solids_end opened choices (many, counted, are, as_asked) = record {
+    problem = p;
+    has = has;
+    counted = all.0;
+    all = all.1;
+    allows = subst (λ n. limits.solids < n) (count_solids whole all.0 all.2) many;
+    solids = [];
+    told = refl;
+  }
 
-  whole_filled : (opened : ℕ) (choices : List (List Bool)) → EndsAs (is_live p) p.blocks.count limits Whole opened choices → FillSolids p choices all.0
+  -- a whole search keeps both limits, and what it found fills all solids
+  pub whole_allowed : (opened : ℕ) (choices : List (List Bool)) → EndsAs (is_live p) p.blocks.count limits Whole opened choices → AllowsEnd limits p all.0 Whole
+  whole_allowed opened choices (few_nodes, few_solids, counted, is_whole) = (few_nodes, omega (arith, few_solids, count_solids whole all.0 all.2))
+
+  pub whole_filled : (opened : ℕ) (choices : List (List Bool)) → EndsAs (is_live p) p.blocks.count limits Whole opened choices → FillSolids p choices all.0
   whole_filled opened choices (few_nodes, few_solids, counted, is_whole) =
       record { drawing = drawing; grid = has.grid; filled = subst (λ cs. Fill cs all.0) (sym is_whole) all.2; matching = all.1.matching }
 
-  some_filled : (choices : List (List Bool)) (are : AreSomeOf (is_live p) p.blocks.count choices) → FillSolids p choices (some choices are).0
+  pub some_filled : (choices : List (List Bool)) (are : AreSomeOf (is_live p) p.blocks.count choices) → FillSolids p choices (some choices are).0
   some_filled choices are =
       let found = some choices are in record { drawing = drawing; grid = has.grid; filled = found.2; matching = found.1.matching }
+
+  -- what a search that ended so lists, whatever is left of it
+  pub matched : (kind : EndKind) (opened : ℕ) (found : List (List Bool)) → EndsAs (is_live p) p.blocks.count limits kind opened found
+      → (m : SomeMatching limits t) × (m.choices ≡ found) × (e : EndsListing limits t kind m)
+      × (listing_head e ≡ head_text limits kind (length found) opened p.blocks.count) × FillSolids p found m.solids
+  matched Whole opened found (few_nodes, few_solids, counted, is_whole) =
+      let ends : EndsAs (is_live p) p.blocks.count limits Whole opened found = (few_nodes, few_solids, counted, is_whole) in
+      let filled = whole_filled opened found ends in let many = count_solids found all.0 filled.filled in (
+        record {
+          problem = p;
+          has = has;
+          solids = all.0;
+          some = record { matching = all.1.matching; ordered = all.1.ordered };
+          few = (whole_allowed opened found ends).1;
+          choices = found;
+          filled = filled.filled;
+        },
+        refl,
+        record { all = all.0; matching = all.1; allows = whole_allowed opened found ends; lists = refl },
+        (λ i. head_text limits Whole (sym many i) (sym counted i) p.blocks.count),
+        filled,
+      )
+  matched CutNodes opened found (many, counted, are, few) = let (solids, some_are, fill) = some found are in (
+    record {
+      problem = p;
+      has = has;
+      solids = solids;
+      some = some_are;
+      few = subst (λ n. n ≤ limits.solids) (count_solids found solids fill) few;
+      choices = found;
+      filled = fill;
+    },
+    refl,
+    record { all = all.0; matching = all.1; allows = omega (arith, many, counted); lists = tt },
+    refl,
+    some_filled found are,
+  )
+  matched CutSolids opened found (many, counted, are, as_asked) = let (solids, some_are, fill) = some found are in
+      let as_many_are = sym (count_solids found solids fill) ∙ as_asked in (
+        record { problem = p; has = has; solids = solids; some = some_are; few = omega (arith, as_many_are); choices = found; filled = fill },
+        refl,
+        record { all = all.0; matching = all.1; allows = subst (λ n. limits.solids < n) (count_solids whole all.0 all.2) many; lists = as_many_are },
+        refl,
+        some_filled found are,
+      )
+
+  -- ---- what is left of it
+
+  abbrev further : Extra → List Line
+  further = further_lines has.further
+
+  abbrev pub Left : List (List Bool) → List (List Bool) → Type 0
+  Left = AreThose (FitsLines p further)
+
+  ascends : (a : Axis) → Ascends ◌<ℤ◌ (coordinates_of p.grid a)
+  ascends a = (has.grid.coordinates a).ordered
+
+  -- choices that are left fill solids that match and fit
+  left_filled : (kept : List (List Bool)) (those : List (List Cell)) → Each (λ s. (Matches drawing s × Fits further s) × IsInStatedForm s) those → Fill kept those
+      → FillSolids p kept those
+  left_filled kept those each fill = record {
+    drawing = drawing;
+    grid = has.grid;
+    filled = fill;
+    matching = each-weaker (λ s. (Matches drawing s × Fits further s) × IsInStatedForm s) (λ s. Matches drawing s × IsInStatedForm s) those (λ s h. (h.0.0, h.1)) each;
+  }
 
   -- what a search that ended so lists
   pub record IsListing (kind : EndKind) (opened : ℕ) (choices : List (List Bool)) (solids : List (List Cell)) : Type 0 where
@@ -85,61 +175,64 @@ module _ (limits : SearchLimits) (t : Input) (p : ProblemParts) (has : HasProble
     pub filled : FillSolids p choices solids
     pub head : head_text limits kind (length choices) opened p.blocks.count ≡ head_of can
 
-  pub listing : (kind : EndKind) (opened : ℕ) (choices : List (List Bool)) → EndsAs (is_live p) p.blocks.count limits kind opened choices
-      → (solids : List (List Cell)) × IsListing kind opened choices solids
-  listing Whole opened choices (few_nodes, few_solids, counted, is_whole) =
-      let ends : EndsAs (is_live p) p.blocks.count limits Whole opened choices = (few_nodes, few_solids, counted, is_whole) in
-      let filled = whole_filled opened choices ends in (
-        all.0,
-        record {
-          can = whole_end opened choices ends;
-          listed = all.1;
-          filled = filled;
-          head = λ i. head_text limits Whole (count_solids choices all.0 filled.filled i) (counted i) p.blocks.count;
-        },
-      )
-  listing CutNodes opened choices (many, counted, are, few) =
-      let found = some choices are in (
-        found.0,
-        record {
-          can = end_with CutNodes (omega (arith, many, counted));
-          listed = (found.1, subst (λ n. n ≤ limits.solids) (count_solids choices found.0 found.2) few);
-          filled = some_filled choices are;
-          head = refl;
-        },
-      )
-  listing CutSolids opened choices (many, counted, are, as_asked) =
-      let found = some choices are in (
-        found.0,
-        record {
-          can = end_with CutSolids (subst (λ n. limits.solids < n) (count_solids whole all.0 all.2) many);
-          listed = (found.1, sym (count_solids choices found.0 found.2) ∙ as_asked);
-          filled = some_filled choices are;
-          head = refl;
-        },
-      )
-
   -- what a whole search opens and lists
   pub record IsWholeListing (opened : ℕ) (choices : List (List Bool)) : Type 0 where
     pub can : CanEnd limits t Whole
     pub problem : can.problem ≡ p
-    pub counts : can.counted ≡ can.solids
+    pub listed : AreTold has can.solids
     pub filled : FillSolids p choices can.solids
     pub many : length choices ≡ length can.solids
     pub opened_all : opened ≡ node_count p
+    pub head : head_text limits Whole (length choices) opened p.blocks.count ≡ head_of can
 
-  pub whole_listing : (opened : ℕ) (choices : List (List Bool)) → EndsAs (is_live p) p.blocks.count limits Whole opened choices
-      → IsWholeListing opened choices
-  whole_listing opened choices (few_nodes, few_solids, counted, is_whole) =
-      let ends : EndsAs (is_live p) p.blocks.count limits Whole opened choices = (few_nodes, few_solids, counted, is_whole) in
-      let filled = whole_filled opened choices ends in record {
-        can = whole_end opened choices ends;
+  pub whole_listing : (opened : ℕ) (found kept : List (List Bool)) → EndsAs (is_live p) p.blocks.count limits Whole opened found → Left found kept
+      → IsWholeListing opened kept
+  whole_listing opened found kept (few_nodes, few_solids, counted, is_whole) left =
+      let ends : EndsAs (is_live p) p.blocks.count limits Whole opened found = (few_nodes, few_solids, counted, is_whole) in
+      let (those, told, fill) = all_left p ascends further drawing found kept all.0 all.1 (whole_filled opened found ends).filled left in record {
+        can = record { problem = p; has = has; counted = all.0; all = all.1; allows = whole_allowed opened found ends; solids = those; told = told };
         problem = refl;
-        counts = refl;
-        filled = filled;
-        many = count_solids choices all.0 filled.filled;
+        listed = told;
+        filled = left_filled kept those told.each fill;
+        many = count_solids kept those fill;
         opened_all = counted;
+        head = λ i. head_text limits Whole (count_solids kept those fill i) (counted i) p.blocks.count;
       }
+
+  -- some of what a cut search found, no more than the limit
+  some_told : (found kept : List (List Bool)) → AreSomeOf (is_live p) p.blocks.count found → length found ≤ limits.solids → Left found kept
+      → (those : List (List Cell)) × AreSomeTold limits has those × FillSolids p kept those
+  some_told found kept are few left =
+      let (solids, match, filled) = some found are in
+      let (those, told, fill) = some_left p ascends further drawing found kept solids match filled left in
+      let kept_few = no_more_those (FitsLines p further) found kept left in let counted = count_solids kept those fill in
+      (those, (told, omega (arith, few, kept_few, counted)), left_filled kept those told.each fill)
+
+  pub listing : (kind : EndKind) (opened : ℕ) (found kept : List (List Bool)) → EndsAs (is_live p) p.blocks.count limits kind opened found → Left found kept
+      → (solids : List (List Cell)) × IsListing kind opened kept solids
+  listing Whole opened found kept ends left =
+      let is = whole_listing opened found kept ends left in (
+        is.can.solids,
+        record {
+          can = is.can;
+          listed = is.listed;
+          filled = is.filled;
+          head = is.head;
+        },
+      )
+  listing CutNodes opened found kept (many, counted, are, few) left =
+      let (those, told, filled) = some_told found kept are few left in
+      (those, record { can = nodes_end opened found (many, counted, are, few); listed = told; filled = filled; head = refl })
+  listing CutSolids opened found kept (many, counted, are, as_asked) left =
+      let (those, told, filled) = some_told found kept are (omega (arith, as_asked)) left in (
+        those,
+        record {
+          can = solids_end opened found (many, counted, are, as_asked);
+          listed = (told, λ none. sym (count_solids kept those filled.filled) ∙ ap (λ (cs : List (List Bool)). length cs) (none_out p ascends further none found kept left) ∙ as_asked);
+          filled = filled;
+          head = refl;
+        },
+      )
 
   -- ---- what is answered
 
@@ -176,8 +269,8 @@ module _ (limits : SearchLimits) (t : Input) (p : ProblemParts) (has : HasProble
   -- it can't be that no text lists solids where the search ends so
   pub some_listing : (paged : Bool) (kind : EndKind) (opened : ℕ) (choices : List (List Bool)) → EndsAs (is_live p) p.blocks.count limits kind opened choices
       → ((c : CanEnd limits t kind) (text : List ℕ) → ListsSolids paged limits t kind c text → ⊥) → ⊥
-  some_listing paged kind opened choices ends never =
-      let (solids, is) = listing kind opened choices ends in let (pages, are) = some_pages paged choices in
-      some_telling t.decimals (coordinates_of p.grid) p.blocks.numbers p.blocks.count 1 choices solids is.filled.filled (λ texts tells.
+  some_listing paged kind opened found ends never = some_those (FitsLines p further) found (λ kept left.
+      let (solids, is) = listing kind opened found kept ends left in let (pages, are) = some_pages paged kept in
+      some_telling t.decimals (coordinates_of p.grid) p.blocks.numbers p.blocks.count 1 kept solids is.filled.filled (λ texts tells.
       let before = pages_text 0 0 pages in let rest = head_of is.can ++ texts in
-      never is.can (before ++ rest) (listed_solids kind opened choices solids is, before, (pages, are, refl), rest, (texts, tells, refl), refl))
+      never is.can (before ++ rest) (listed_solids kind opened kept solids is, before, (pages, are, refl), rest, (texts, tells, refl), refl)))

@@ -57,19 +57,32 @@ pub ends_weaker : (tells begins others starts : List ℕ → Type 0) (held now :
 ends_weaker tells begins others starts held now rose weaken begun =
     writing_weaker (Unit {0}) (λ _. tells) (λ _. begins) (λ _. others) (λ _. starts) held now rose (λ _. weaken) (λ _. begun)
 
-module _ (tells others begins starts : List ℕ → Type 0) (first : List ℕ) (held mid now : Option (List ℕ)) (rose rises : Type 0)
-    (appends : Appends held mid first) (since : rose → rises) (both : (text : List ℕ) → begins text → starts (first ++ text)) (alone : starts first) where
+module _ {A : Type 0} (tells others begins starts : A → List ℕ → Type 0) (first : List ℕ) (held mid now : Option (List ℕ)) (rose rises : Type 0)
+    (appends : Appends held mid first) (since : rose → rises) (both : (a : A) (text : List ℕ) → begins a text → starts a (first ++ text))
+    (given : A) (alone : starts given first) where
   -- after a text that was written whole, a writing is refused as one of both together
-  pub refused_after : (failure : Failure) → EndsText tells begins mid now rose (Err failure) → EndsText others starts held now rises (Err failure)
-  refused_after ReadFault ends = ends
-  refused_after WriteFault (rising, given, text, begun, prefix) =
-      (since rising, given, first ++ text, both text begun, prefix_after held mid now first text appends prefix)
-  refused_after Memory (inl keeps) = inr (tt, first, alone, prefix_kept held mid now first appends keeps)
-  refused_after Memory (inr (given, text, begun, prefix)) =
-      inr (given, first ++ text, both text begun, prefix_after held mid now first text appends prefix)
+  pub given_refused_after : (failure : Failure) → EndsWriting tells begins mid now rose (Err failure) → EndsWriting others starts held now rises (Err failure)
+  given_refused_after ReadFault ends = ends
+  given_refused_after WriteFault (rising, a, text, begun, prefix) =
+      (since rising, a, first ++ text, both a text begun, prefix_after held mid now first text appends prefix)
+  given_refused_after Memory (inl keeps) = inr (given, first, alone, prefix_kept held mid now first appends keeps)
+  given_refused_after Memory (inr (a, text, begun, prefix)) =
+      inr (a, first ++ text, both a text begun, prefix_after held mid now first text appends prefix)
 
   -- and ends as one of both together
+  pub given_after : ((a : A) (text : List ℕ) → tells a text → others a (first ++ text)) → (r : Result A Failure)
+      → EndsWriting tells begins mid now rose r → EndsWriting others starts held now rises r
+  given_after told (Ok a) (text, tells_it, more) = (first ++ text, told a text tells_it, appends_both held mid now first text appends more)
+  given_after told (Err failure) ends = given_refused_after failure ends
+
+module _ (tells others begins starts : List ℕ → Type 0) (first : List ℕ) (held mid now : Option (List ℕ)) (rose rises : Type 0)
+    (appends : Appends held mid first) (since : rose → rises) (both : (text : List ℕ) → begins text → starts (first ++ text)) (alone : starts first) where
+  -- the same where nothing is given back
+  pub refused_after : (failure : Failure) → EndsText tells begins mid now rose (Err failure) → EndsText others starts held now rises (Err failure)
+  refused_after = given_refused_after {A = Unit {0}} (λ _. tells) (λ _. others) (λ _. begins) (λ _. starts) first held mid now rose rises appends since
+      (λ _. both) tt alone
+
   pub ends_after : ((text : List ℕ) → tells text → others (first ++ text)) → (r : Result (Unit {0}) Failure)
       → EndsText tells begins mid now rose r → EndsText others starts held now rises r
-  ends_after told (Ok given) (text, tells_it, more) = (first ++ text, told text tells_it, appends_both held mid now first text appends more)
-  ends_after told (Err failure) ends = refused_after failure ends
+  ends_after told = given_after {A = Unit {0}} (λ _. tells) (λ _. others) (λ _. begins) (λ _. starts) first held mid now rose rises appends since
+      (λ _. both) tt alone (λ _. told)

@@ -1,17 +1,34 @@
 -- Words and an input never lack a right answer.
-use Rattle.std.proofs.Common.{◌≡◌, refl, inl, inr, ⊎_elim, Bool, true, false, ℕ, ◌+◌, ◌-◌, ◌<◌, ◌≤◌, List, [], ◌∷◌, length, drop, Option, Some, None, Result, Ok, Err, ℤ, sym, ap, subst, ◌∙◌, arith}
+use Rattle.lemmas.specs.Lists.{Each}
+use Rattle.replies.specs.Status.{end_answer}
+use Rattle.recon_run.proofs.GoingOn.{some_telling}
+use Rattle.recon_run.proofs.Verdicts.{rest_there}
+use Rattle.recon_run.specs.Readers.{AnswersScripts, TellsReader, TellsReaders, ask_kind_name, page_told, listing_head}
+use Rattle.session_run.specs.Session.{AreAmong}
+use Rattle.query_session.specs.declared.ask.Ask.TheVariants as ask
+use Rattle.query_session.specs.Sessions.{read_session}
+use Rattle.query_session.specs.declared.ask.AskFault.{AskFault}
+use Rattle.query_session.specs.declared.ask.Ask.{Ask}
+use Rattle.dxf_groups.specs.TextLines.{text_lines}
+use Rattle.dxf_groups.specs.Pairs.{rest_of_text}
+use Rattle.std.proofs.Common.{◌≡◌, refl, inl, inr, ⊎_elim, Bool, true, false, ℕ, ◌+◌, ◌-◌, ◌<◌, ◌≤◌, List, [], ◌∷◌, length, drop, Option, Some, None, Result, Ok, Err, ℤ, sym, ap, subst, ◌∙◌, arith, ◌++◌, codes}
 use Rattle.std.proofs.lemmas.Bool.{cases_lt}
-use Rattle.dxf_entities.specs.Reading.{read_of}
-use Rattle.dxf_entities.proofs.KeptLines.{read_lines_are_kept}
+use Rattle.dxf_entities.specs.declared.extra.ExtraLine.{ExtraLine}
+use Rattle.dxf_entities.specs.Extras.{lines_read}
+use Rattle.dxf_entities.proofs.KeptLines.{lines_read_are_kept}
 use Rattle.replies.specs.declared.status.Answer.{Answer}
 use Rattle.replies.specs.declared.status.Answer.TheVariants as answers
-use Rattle.file_problem.specs.Inputs.{HasNoFault, HasProblem, Input, IsFaultAfter, IsFileFault}
+use Rattle.file_problem.specs.Inputs.{HasNoFault, HasProblem, Input, IsFaultAfter, IsFileFault, form_of}
 use Rattle.recon_run.specs.Answers.{usage_text, AreSomeLogs, CanEnd, IsSomeLog, IsTried, TellsNumbered, head_of, numbered_answer}
 use Rattle.solid_model.specs.Search.{default_limits, SearchLimits}
 use Rattle.recon_run.specs.Endings.{Answers}
-use Rattle.recon_run.specs.Owed.{AnswersOwed, HasRead, Judgement, Owed, Search, alone, answer_at, drawing_profile, in_one_piece, input_of, judgement_of, owed, owed_for, read, search_for_all, search_for_log, search_for_one, searched}
+use Rattle.recon_run.specs.Owed.{AnswersOwed, HasRead, Judgement, Owed, Search, alone, answer_at, drawing_profile, in_one_piece, input_of, judgement_of, owed, owed_for, read, search_for_all, search_for_log, search_for_one, searched, session_judgement}
 use Rattle.recon_run.specs.Searched.{FillSolids}
 use Rattle.recon_run.proofs.Filled.{filled_at, some_first}
+use Rattle.choice_sieves.specs.Those.{AreThose}
+use Rattle.choice_sieves.proofs.Those.{some_those}
+use Rattle.further_views.specs.Further.{further_lines}
+use Rattle.six_views.specs.Further.{FitsLines}
 use Rattle.file_problem.proofs.Faults.{file_fault}
 use Rattle.file_problem.proofs.Problems.{problem_drawing}
 use Rattle.completeness_logs.specs.LogTexts.{IsLog}
@@ -19,7 +36,7 @@ use Rattle.proof_log.proofs.Begun.{some_log}
 use Rattle.recon_run.proofs.Checked.{some_checked}
 use Rattle.recon_run.proofs.FewMatching.{few_matching}
 use Rattle.recon_run.proofs.PossibleEnds.{can_list}
-use Rattle.recon_run.proofs.Solved.{IsWholeListing, listing, matching, some_listing, whole_listing}
+use Rattle.recon_run.proofs.Solved.{IsWholeListing, listing, matching, some_listing, whole_listing, matched}
 use Rattle.report.specs.FaultText.{fault_text}
 use Rattle.solid_model.specs.declared.cell.Axis.{Axis}
 use Rattle.solid_model.specs.declared.cell.Axis.TheVariants.{X, Y, Z}
@@ -57,7 +74,7 @@ use Rattle.drawing_maker.specs.Made.{made_solid}
 use Rattle.made_laws.proofs.MadeSolid.{made_is_solid}
 use Rattle.redraw.specs.Files.{IsFileOf}
 use Rattle.redraw.proofs.SomeFile.{some_file}
-use Rattle.report.specs.Texts.{no_solid_text, trial_text}
+use Rattle.report.specs.Texts.{no_solid_text, trial_text, refusal_text}
 use Rattle.stl_out.specs.SolidStl.{IsSolidStl}
 use Rattle.stl_out.proofs.SolidTexts.{some_text}
 use Rattle.made_laws.proofs.MadeLimits.{made_problem}
@@ -101,18 +118,18 @@ EndlessSearch limits t = (p : ProblemParts) → HasProblem t p → (kind : EndKi
 
 module _ (limits : SearchLimits) (t : Input) (short : length t.bytes ≤ t.most) (faultless : (fault : Fault) → IsFileFault t fault → ⊥)
     (endless : EndlessSearch limits t) where
-  module _ (ls : List Line) (reads : read_of t.decimals t.bytes ≡ Ok ls) where
+  module _ (ls : List Line) (further : List ExtraLine) (reads : lines_read (form_of t) t.bytes ≡ Ok (ls, further)) where
     abbrev drawing : Segment → Style
     drawing = drawing_of ls
 
-    no_fault_after : (f : Fault) → IsFaultAfter (Ok ls) f → ⊥
-    no_fault_after f after = faultless f (file_fault t (Ok ls) f short reads after)
+    no_fault_after : (f : Fault) → IsFaultAfter (Ok (ls, further)) f → ⊥
+    no_fault_after f after = faultless f (file_fault t (Ok (ls, further)) f short reads after)
 
     shown : IsShown ls
     shown = shown_by_views ls (λ v empty. no_fault_after (EmptyView v) (inl (v, empty, refl)))
 
     is_drawing : IsDrawing drawing
-    is_drawing = lines_are_drawing ls (read_lines_are_kept t.decimals t.bytes ls reads) (λ v none. shown v (without_lines-empty ls v none))
+    is_drawing = lines_are_drawing ls (lines_read_are_kept (form_of t) t.bytes ls further reads) (λ v none. shown v (without_lines-empty ls v none))
 
     -- no axis is too fine
     not_first : (a : Axis) (count : ℕ) → IsFirstTooFine drawing a count → ⊥
@@ -148,7 +165,7 @@ module _ (limits : SearchLimits) (t : Input) (short : length t.bytes ≤ t.most)
         sized Z = refl
 
         has : HasProblem t problem
-        has = record { short = short; lines = ls; reads = reads; shown = shown; grid = grid; blocks = record { sized = sized; blocks = are }; few = few_blocks }
+        has = record { short = short; lines = ls; further = further; reads = reads; shown = shown; grid = grid; blocks = record { sized = sized; blocks = are }; few = few_blocks }
 
     -- it has some blocks
     with_grid : (g : GridParts) → IsGridOf drawing g → ⊥
@@ -189,14 +206,14 @@ module _ (limits : SearchLimits) (t : Input) (short : length t.bytes ≤ t.most)
         styles xs ys zs Side true = refl
 
   -- it can't be that an input that isn't too long has no fault and no end of a search
-  short_input : (r : Result (List Line) Fault) → read_of t.decimals t.bytes ≡ r → ⊥
+  short_input : (r : Result (List Line × List ExtraLine) Fault) → lines_read (form_of t) t.bytes ≡ r → ⊥
   short_input (Err found) reads = faultless found (file_fault t (Err found) found short reads refl)
-  short_input (Ok ls) reads = input_with_lines ls reads
+  short_input (Ok (ls, further)) reads = input_with_lines ls further reads
 
 -- it can't be that an input of any length has neither a fault nor an end of a search
 searched_somehow : (limits : SearchLimits) (t : Input) → HasNoFault t → EndlessSearch limits t → ⊥
 searched_somehow limits t faultless endless = ⊎_elim (λ long. faultless TooLong (inl (long, refl)))
-    (λ short. short_input limits t short faultless endless (read_of t.decimals t.bytes) refl) (cases_lt t.most (length t.bytes))
+    (λ short. short_input limits t short faultless endless (lines_read (form_of t) t.bytes) refl) (cases_lt t.most (length t.bytes))
 
 -- a source that had t left can have been read to its end, or past the most
 can_be_read : (most : ℕ) (t : List ℕ) → ((rest : Option (List ℕ)) → HasRead most (Some t) rest t → ⊥) → ⊥
@@ -211,25 +228,30 @@ TellsSome s = (t : Input) (p : ProblemParts) → HasProblem t p → (kind : EndK
     → EndsAs (is_live p) p.blocks.count s.limits kind opened choices
     → ((c : CanEnd s.limits t kind) (text : List ℕ) → s.tells t kind c text → ⊥) → ⊥
 
+-- of choices something is left that fits the further views, be it nothing
+some_left : {t : Input} (p : ProblemParts) (has : HasProblem t p) (found : List (List Bool))
+    → ((kept : List (List Bool)) → AreThose (FitsLines p (further_lines has.further)) found kept → ⊥) → ⊥
+some_left p has found = some_those (FitsLines p (further_lines has.further)) found
+
 -- nor one of a search that answers in one piece, if no whole one lacks its text
 some_in_one_piece : (limits : SearchLimits) (whole : Input → ℕ → Answer) (tells : (t : Input) → CanEnd limits t Whole → List ℕ → Type 0)
-    (alike : Input → List ℕ → List ℕ → Type 0) → ((t : Input) (p : ProblemParts) (has : HasProblem t p) (opened : ℕ) (choices : List (List Bool))
-    (ends : EndsAs (is_live p) p.blocks.count limits Whole opened choices) (is : IsWholeListing limits t p has opened choices)
+    (alike : Input → List ℕ → List ℕ → Type 0) → ((t : Input) (p : ProblemParts) (has : HasProblem t p) (opened : ℕ) (found kept : List (List Bool))
+    (ends : EndsAs (is_live p) p.blocks.count limits Whole opened found) (is : IsWholeListing limits t p has opened kept)
     → ((text : List ℕ) → tells t is.can text → ⊥) → ⊥)
     → TellsSome (in_one_piece limits whole tells alike)
-some_in_one_piece limits whole tells alike some t p has Whole opened choices ends never =
-    let is = whole_listing limits t p has opened choices ends in some t p has opened choices ends is (never is.can)
-some_in_one_piece limits whole tells alike some t p has CutNodes opened choices ends never =
-    let (solids, is) = listing limits t p has CutNodes opened choices ends in never is.can (head_of is.can) refl
-some_in_one_piece limits whole tells alike some t p has CutSolids opened choices ends never =
-    let (solids, is) = listing limits t p has CutSolids opened choices ends in never is.can (head_of is.can) refl
+some_in_one_piece limits whole tells alike some t p has Whole opened found ends never = some_left p has found (λ kept left.
+    let is = whole_listing limits t p has opened found kept ends left in some t p has opened found kept ends is (never is.can))
+some_in_one_piece limits whole tells alike some t p has CutNodes opened found ends never = some_left p has found (λ kept left.
+    let (solids, is) = listing limits t p has CutNodes opened found kept ends left in never is.can (head_of is.can) refl)
+some_in_one_piece limits whole tells alike some t p has CutSolids opened found ends never = some_left p has found (λ kept left.
+    let (solids, is) = listing limits t p has CutSolids opened found kept ends left in never is.can (head_of is.can) refl)
 
 -- a whole search has a solid of a number, of which something is written; or there are fewer
 module _ (writes : ℕ → List Cell → List ℕ → Type 0)
     (written : (decimals : ℕ) (p : ProblemParts) (choice : List Bool) (s : List Cell) → FillSolids p (choice ∷ []) (s ∷ []) → (text : List ℕ) × writes decimals s text)
     (which : ℕ) (some : 1 ≤ which) (limits : SearchLimits) where
-  module _ (t : Input) (p : ProblemParts) (has : HasProblem t p) (opened : ℕ) (choices : List (List Bool))
-      (ends : EndsAs (is_live p) p.blocks.count limits Whole opened choices) (is : IsWholeListing limits t p has opened choices)
+  module _ (t : Input) (p : ProblemParts) (has : HasProblem t p) (opened : ℕ) (found choices : List (List Bool))
+      (ends : EndsAs (is_live p) p.blocks.count limits Whole opened found) (is : IsWholeListing limits t p has opened choices)
       (never : (text : List ℕ) → TellsNumbered (writes t.decimals) which is.can.solids text → ⊥) where
     choice_at : (o : Option (List Bool)) → slice_get choices (which - 1) ≡ o → which - 1 < length choices → ⊥
     choice_at None none within = none-some _ (sym none ∙ slice_get-get_or choices (which - 1) [] within)
@@ -250,9 +272,9 @@ module _ (writes : ℕ → List Cell → List ℕ → Type 0)
 -- a whole search has a log
 some_proof : (limits : SearchLimits) → limits.solids ≤ most_solid_limit → TellsSome (search_for_log limits)
 some_proof limits most = some_in_one_piece limits (λ t solids. answers.Done) (λ t c. IsSomeLog c.problem) AreSomeLogs
-    (λ t p has opened choices (few_nodes, few_solids, counted, is_whole) is never.
+    (λ t p has opened found kept (few_nodes, few_solids, counted, is_whole) is never.
     let same = ap length is_whole in
-    let few = few_matching p has.blocks choices is_whole (omega (arith, few_solids, same, most)) in
+    let few = few_matching p has.blocks found is_whole (omega (arith, few_solids, same, most)) in
     let grid : IsGrid p.grid = (drawing_of has.lines, problem_drawing t p has, has.grid) in
     let count = has.few in
     let (text, listed, log) = some_log p grid has.blocks (omega (arith, count)) few in
@@ -272,7 +294,7 @@ tried_somehow : (n : ℕ) → ((text : List ℕ) → IsTried n text → ⊥) →
 tried_somehow n never =
     let (t, file) = some_file (made_solid n) (made_is_solid n) 0 in
     let p = made_problem n in let has = made_has_problem n t file in
-    let end = can_list (is_live p) p.blocks.count default_limits (matching default_limits (input_of (drawing_profile 0) t) p has).ordered [] tt tt (omega arith) in
+    let end = can_list (is_live p) p.blocks.count default_limits (matching default_limits (input_of (drawing_profile false 0) t) p has).ordered [] tt tt (omega arith) in
     let (volume, first) = some_first p end.choices in
     let line : ℕ → List ℕ = λ v. trial_text n p.blocks.count (length end.choices) end.opened v in
     never (line volume) (figures_are n t file p has end.kind end.opened end.choices end.ends (line volume) (λ solids are. ap line (first solids are)))
@@ -284,6 +306,62 @@ JudgesSome j = (t : Input) → HasNoFault t → ((answer : Answer) (text : List 
 some_search : (s : Search) → TellsSome s → JudgesSome (judgement_of (searched s))
 some_search s some t none never = searched_somehow s.limits t none (λ p has kind opened choices ends.
     some t p has kind opened choices ends (λ c text tells. never (answer_at s t kind c) text (kind, c, refl, tells)))
+
+-- ---- what readers are asked
+
+-- readers that see nothing
+no_lists : List (List Ask) → List (List (List Bool))
+no_lists [] = []
+no_lists (script ∷ scripts) = [] ∷ no_lists scripts
+
+-- tell something
+told_nothing : (reader : ℕ) (script : List Ask) → (text : List ℕ) × TellsReader reader script [] [] text
+told_nothing reader [] = ([], (([], refl), refl))
+told_nothing reader (ask.Page from most ∷ asks) =
+    let (rest, told) = told_nothing reader asks in (page_told reader from most [] ++ rest, ([], ([], refl), rest, told, refl))
+told_nothing reader (ask.Wait count ∷ asks) = told_nothing reader asks
+told_nothing reader (ask.Stop ∷ asks) = told_nothing reader asks
+
+all_told_nothing : (p : ProblemParts) (reader : ℕ) (scripts : List (List Ask)) → (text : List ℕ) × TellsReaders p reader scripts (no_lists scripts) text
+unfolding no_lists
+all_told_nothing p reader [] = ([], refl)
+all_told_nothing p reader (script ∷ scripts) =
+    let (first, told) = told_nothing reader script in let (rest, others) = all_told_nothing p (reader + 1) scripts in
+    (first ++ rest, (record { each = tt; once = tt }, first, told, rest, others, refl))
+
+none_among : (most : ℕ) (listed : List (List Bool)) (scripts : List (List Ask)) → Each (AreAmong most listed) (no_lists scripts)
+unfolding no_lists
+none_among most listed [] = tt
+none_among most listed (script ∷ scripts) = (inl tt, none_among most listed scripts)
+
+-- so what readers are asked has some answer
+some_session : (limits : SearchLimits) → JudgesSome (session_judgement limits)
+some_session limits t none never = searched_somehow limits t none (λ p has kind opened found ends.
+    let (asked, behind) = rest_there (form_of t) t.bytes (has.lines, has.further) has.reads in
+    by p has kind opened found ends asked behind (read_session (text_lines asked)) (λ answer text told. never answer text (asked, behind, told)))
+  where
+    by : (p : ProblemParts) (has : HasProblem t p) (kind : EndKind) (opened : ℕ) (found : List (List Bool))
+        → EndsAs (is_live p) p.blocks.count limits kind opened found → (asked : List ℕ) → rest_of_text t.bytes ≡ Some asked
+        → (r : Result (List (List Ask)) AskFault) → ((answer : Answer) (text : List ℕ) → AnswersScripts limits t r answer text → ⊥) → ⊥
+    by p has kind opened found ends asked behind (Err fault) stuck =
+        stuck answers.NotAsked (refusal_text (codes "ask") (ask_kind_name fault.kind) fault.line) (refl, refl)
+    by p has kind opened found ends asked behind (Ok scripts) stuck =
+        let (m, same, e, head, fill) = matched limits t p has kind opened found ends in
+        let (before, readers) = all_told_nothing p 0 scripts in
+        some_telling t.decimals (coordinates_of m.problem.grid) m.problem.blocks.numbers m.problem.blocks.count 1 m.choices m.solids m.filled (λ texts tells.
+        let rest = listing_head e ++ texts in
+        stuck (end_answer kind) (before ++ rest) (
+          before,
+          rest,
+          record {
+            problem = p;
+            has = has;
+            lasts = no_lists scripts;
+            readers = readers;
+            ends = inl (kind, m, e, none_among limits.solids m.choices scripts, refl, (texts, tells, refl));
+          },
+          refl,
+        ))
 
 -- what is owed for a job is some answer
 abbrev OwesSome : Owed → Type 0
@@ -300,6 +378,7 @@ some_owed (job.Stl which workers limits) counted = some_search (search_for_one (
 some_owed (job.Prove workers limits) counted = some_search (search_for_log limits) (some_proof limits counted.1)
 some_owed job.Check counted = λ t none never. searched_somehow default_limits t none (λ p has kind opened choices ends.
     some_checked t p has _ (matching default_limits t p has) never)
+some_owed (job.Ask workers limits) counted = some_session limits
 some_owed (job.Make n) counted = some_written_file (made_solid n) (made_is_solid n)
 some_owed (job.Trial n workers) counted = tried_somehow n
 

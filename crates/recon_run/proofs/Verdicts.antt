@@ -6,7 +6,12 @@ use Rattle.completeness_logs.specs.declared.entry.LogEntry.TheVariants.{Fail, Wh
 use Rattle.completeness_logs.specs.Logs.{KnownBlocks, IsRightEntry, IsUndecided, ShowsFail, ShowsForce, ShowsSolid, after_entry, nothing_known}
 use Rattle.completeness_logs.specs.LogTexts.{IsLog, most_listed, opening_line}
 use Rattle.dxf_entities.specs.Entries.{before_entries, entries_of}
-use Rattle.dxf_entities.specs.Reading.{Progress, between, nothing_read, entries_read, pairs_read, read_of}
+use Rattle.dxf_entities.specs.declared.layer_line.LayerLine.{LayerLine}
+use Rattle.dxf_entities.specs.declared.extra.ExtraLine.{ExtraLine}
+use Rattle.dxf_entities.specs.Extras.{lines_apart, lines_read}
+use Rattle.dxf_entities.specs.Forms.{FormParts}
+use Rattle.dxf_entities.specs.Reading.{Progress, between, nothing_read, entries_read, pairs_read, text_read}
+use Rattle.dxf_entities.proofs.NearPoints.{HasSteps, after_ok}
 use Rattle.dxf_entities.specs.Steps.{◌>>=◌}
 use Rattle.dxf_groups.specs.Pairs.{behind_end, pairs_of, rest_of_text, without_mark}
 use Rattle.dxf_groups.specs.TextLines.{behind_lines, is_feed, text_lines}
@@ -29,22 +34,26 @@ never_ok : {A B : Type 0} (r : Result A Fault) (next : A → Result B Fault) →
 never_ok (Ok a) next none b e = none a b e
 never_ok (Err f) next none b e = cc
 
-no_lines_at_fault : (es : List _) (f : Fault) (s : _) (ls : List Line) → entries_read es (Err f) s ≡ Ok ls → ⊥
+no_lines_at_fault : (es : List _) (f : Fault) (s : _) (ls : List LayerLine) → entries_read es (Err f) s ≡ Ok ls → ⊥
 no_lines_at_fault [] f s ls e = cc
 no_lines_at_fault (x ∷ es) f s ls e = never_ok _ (entries_read es (Err f)) (λ t ms. no_lines_at_fault es f t ms) ls e
 
 -- a text that has lines has an end, and something stands behind it
-pub rest_there : (decimals : ℕ) (text : List ℕ) (ls : List Line) → read_of decimals text ≡ Ok ls → (rest : List ℕ) × (rest_of_text text ≡ Some rest)
-unfolding read_of rest_of_text
-rest_there decimals text ls reads = by (pairs_of text).ending refl
+pub rest_there : (form : FormParts) (text : List ℕ) (read : List Line × List ExtraLine) → lines_read form text ≡ Ok read
+    → (rest : List ℕ) × (rest_of_text text ≡ Some rest)
+unfolding lines_read text_read rest_of_text
+rest_there form text read reads = by (pairs_of text).ending refl
   where
     begun : Result Progress Fault
-    begun = between (before_entries (pairs_of text).pairs) (nothing_read decimals)
+    begun = between (before_entries (pairs_of text).pairs) (nothing_read form)
+
+    kept : HasSteps (pairs_read form (pairs_of text)) (λ ls. Ok (lines_apart ls)) read
+    kept = after_ok (pairs_read form (pairs_of text)) (λ ls. Ok (lines_apart ls)) read reads
 
     by : (ending : Result ℕ Fault) → (pairs_of text).ending ≡ ending → (rest : List ℕ) × (behind_end (pairs_of text).ending (without_mark text) ≡ Some rest)
     by (Ok line) is = (behind_lines (line + 1) (without_mark text), ap (λ ending. behind_end ending (without_mark text)) is)
-    by (Err f) is = absurd (never_ok begun (entries_read (entries_of (pairs_of text).pairs) (Err f)) (λ s ms. no_lines_at_fault (entries_of (pairs_of text).pairs) f s ms) ls
-        (subst (λ ending. (begun >>= entries_read (entries_of (pairs_of text).pairs) ending) ≡ Ok ls) is reads))
+    by (Err f) is = absurd (never_ok begun (entries_read (entries_of (pairs_of text).pairs) (Err f)) (λ s ms. no_lines_at_fault (entries_of (pairs_of text).pairs) f s ms) kept.value
+        (subst (λ ending. (begun >>= entries_read (entries_of (pairs_of text).pairs) ending) ≡ Ok kept.value) is kept.first))
 
 -- ---- verdicts
 

@@ -3,7 +3,10 @@ use Rattle.std.specs.Prelude.{◌≡◌, ◌⊎◌, ℕ, nat_lt, ◌+◌, ◌-�
 use Rattle.completeness_logs.specs.LogTexts.{IsLog}
 use Rattle.drawing_maker.specs.Made.{made_solid}
 use Rattle.dxf_groups.specs.Pairs.{rest_of_text}
+use Rattle.dxf_entities.specs.declared.extra.Extra.{Extra}
 use Rattle.file_problem.specs.Inputs.{HasProblem, Input}
+use Rattle.further_views.specs.Further.{further_lines, seen_as}
+use Rattle.six_views.specs.Fits.{AreFittingSolids, AreSomeFittingSolids}
 use Rattle.proof_check.specs.declared.fault.LogKind.{LogKind}
 use Rattle.proof_check.specs.declared.fault.LogKind.TheVariants.{BadLine, BadBlock, Unproved, Unsolid, TooMany, BadCount, Short, Long}
 use Rattle.proof_check.specs.Refusals.{IsLogRefused}
@@ -20,10 +23,10 @@ use Rattle.solid_model.specs.Blocks.{ProblemParts, IsBlocksOf}
 use Rattle.solid_model.specs.Cells.{is_full}
 use Rattle.solid_model.specs.Choices.{AreSolidsOfChoices}
 use Rattle.solid_model.specs.Forcing.{is_live}
-use Rattle.solid_model.specs.Drawings.{drawing_of}
+use Rattle.solid_model.specs.Drawings.{drawing_of, IsEmptyView}
 use Rattle.solid_model.specs.DrawnStyle.{solid_drawing}
 use Rattle.solid_model.specs.Faces.{FaceParts, AreFacesOf}
-use Rattle.solid_model.specs.Matching.{AreSolidsOf, AreSomeSolidsOf}
+use Rattle.solid_model.specs.Matching.{AreSolidsOf}
 use Rattle.solid_model.specs.Panels.{coordinates_of, IsGridOf}
 use Rattle.solid_model.specs.Search.{SearchLimits, default_limits}
 use Rattle.solid_model.specs.Tree.{live_count}
@@ -41,12 +44,18 @@ AllowsEnd limits p solids Whole = (node_count p ≤ limits.nodes) × (length sol
 AllowsEnd limits p solids CutNodes = limits.nodes < node_count p
 AllowsEnd limits p solids CutSolids = limits.solids < length solids
 
--- the solids of an input that are told: all that match its drawing
+-- the solids of an input that are told: all that match its drawing and fit the further views that it asks for
 abbrev pub AreTold : {t : Input} {p : ProblemParts} → HasProblem t p → List (List Cell) → Type 0
-AreTold has solids = AreSolidsOf (drawing_of has.lines) solids
+AreTold has solids = AreFittingSolids (drawing_of has.lines) (further_lines has.further) solids
+
+-- those that are told at an end of this kind: all where it is whole; a cut leaves open which are
+abbrev pub AreToldAt : EndKind → {t : Input} {p : ProblemParts} → HasProblem t p → List (List Cell) → Type 0
+AreToldAt Whole has solids = AreTold has solids
+AreToldAt CutNodes has solids = solids ≡ []
+AreToldAt CutSolids has solids = solids ≡ []
 
 -- The input has no fault, and its live prefixes and the solids that match its drawing keep or pass the limits so. A search counts
--- all that match; it tells `solids` of them.
+-- all that match; where it is whole it tells `solids`.
 pub record CanEnd (limits : SearchLimits) (t : Input) (kind : EndKind) : Type 0 where
   pub problem : ProblemParts
   pub has : HasProblem t problem
@@ -54,7 +63,7 @@ pub record CanEnd (limits : SearchLimits) (t : Input) (kind : EndKind) : Type 0 
   pub all : AreSolidsOf (drawing_of has.lines) counted
   pub allows : AllowsEnd limits problem counted kind
   pub solids : List (List Cell)
-  pub told : AreTold has solids
+  pub told : AreToldAt kind has solids
 
 -- ---- the answers
 
@@ -68,11 +77,20 @@ head_of {limits} {t} {kind} c = head_text limits kind (length c.solids) (node_co
 
 -- ---- `solve`
 
--- what is listed at an end: all solids that are told; or, at a cut, some, at a cut at solids as many as the limit
+-- some of the solids of an input that are told, no more than the limit
+abbrev pub AreSomeTold : SearchLimits → {t : Input} {p : ProblemParts} → HasProblem t p → List (List Cell) → Type 0
+AreSomeTold limits has solids = AreSomeFittingSolids (drawing_of has.lines) (further_lines has.further) solids × (length solids ≤ limits.solids)
+
+-- the input asks for no further view
+abbrev pub AsksNoView : {t : Input} {p : ProblemParts} → HasProblem t p → Type 0
+AsksNoView has = (x : Extra) → IsEmptyView (further_lines has.further x) (seen_as x)
+
+-- what is listed at an end: all solids that are told; or, at a cut, some, at a cut at solids as many as the limit where no further
+-- view is asked for
 abbrev pub AreListed : SearchLimits → {t : Input} {p : ProblemParts} → HasProblem t p → EndKind → List (List Cell) → Type 0
 AreListed limits has Whole solids = AreTold has solids
-AreListed limits has CutNodes solids = AreSomeSolidsOf (drawing_of has.lines) solids × (length solids ≤ limits.solids)
-AreListed limits has CutSolids solids = AreSomeSolidsOf (drawing_of has.lines) solids × (length solids ≡ limits.solids)
+AreListed limits has CutNodes solids = AreSomeTold limits has solids
+AreListed limits has CutSolids solids = AreSomeTold limits has solids × (AsksNoView has → length solids ≡ limits.solids)
 
 -- solids that the input's drawing shows, as an end of this kind lists them, and the choices of blocks that fill them
 pub record ListedSolids (limits : SearchLimits) (t : Input) (kind : EndKind) : Type 0 where
@@ -159,13 +177,13 @@ log_kind_name Long = codes "G8 Long"
 -- The bytes are a log of the input's problem, whoever wrote it, and the text says yes: it tells the choices of blocks that fill
 -- the solids of the input's drawing, all of them.
 abbrev pub SaysYes : {t : Input} {p : ProblemParts} → HasProblem t p → List ℕ → List ℕ → Type 0
-SaysYes {t} {p} has log text = IsSomeLog p log × (solids : List (List Cell)) × AreTold has solids
+SaysYes {t} {p} has log text = IsSomeLog p log × (solids : List (List Cell)) × AreSolidsOf (drawing_of has.lines) solids
     × (choices : List (List Bool)) × AreSolidsOfChoices (coordinates_of p.grid) p.blocks.numbers p.blocks.count choices solids
     × (text ≡ yes_text choices)
 
 -- or they are none, and it tells the first line that is refused, and why
 abbrev pub SaysRefused : ProblemParts → List ℕ → List ℕ → Type 0
-SaysRefused p log text = (kind : LogKind) × (line : ℕ) × IsLogRefused p log kind line × (text ≡ refusal_text (log_kind_name kind) line)
+SaysRefused p log text = (kind : LogKind) × (line : ℕ) × IsLogRefused p log kind line × (text ≡ refusal_text (codes "log") (log_kind_name kind) line)
 
 -- what is answered to an input whose drawing has these bytes behind it
 abbrev pub SaysChecked : {t : Input} {p : ProblemParts} → HasProblem t p → List ℕ → Answer → List ℕ → Type 0

@@ -1,5 +1,6 @@
 pub mod Pages
 pub mod Answers
+pub mod Readers
 pub mod Owed
 pub mod Endings
 pub mod Searched

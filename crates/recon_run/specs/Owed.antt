@@ -6,6 +6,7 @@ use Rattle.replies.specs.declared.status.Answer.TheVariants as answers
 use Rattle.file_problem.specs.Inputs.{HasNoFault, Input, IsFileFault}
 use Rattle.recon_run.specs.Answers.{AreSomeLogs, BeginsToList, CanEnd, IsSomeLog, IsTried, ListsSolids, TellsChecked, TellsNumbered, head_of, numbered_answer, usage_text}
 use Rattle.recon_run.specs.Pages.{SameButPages}
+use Rattle.recon_run.specs.Readers.{AsksToStop, BeginsAsked, SameBehindReaders, TellsAsked}
 use Rattle.redraw.specs.Files.{IsFileOf}
 use Rattle.report.specs.FaultText.{fault_text}
 use Rattle.solid_model.specs.declared.cell.Cell.{Cell}
@@ -21,22 +22,24 @@ use Rattle.words.specs.declared.job.Job.TheVariants as job
 
 -- ---- how an input is read
 
--- how an input is read: how many bytes it may have at most, and how many decimals its coordinates are read with
+-- how an input is read: how many bytes it may have at most, how many decimals its coordinates are read with, and whether the layers
+-- of the further views are read too
 pub record ProfileParts : Type 0 where
   pub most : ℕ
   pub decimals : ℕ
+  pub six : Bool
 
--- a drawing alone, whose coordinates have so many decimals
-abbrev pub drawing_profile : ℕ → ProfileParts
-drawing_profile decimals = record { most = most_file_bytes; decimals = decimals }
+-- a drawing alone, whose coordinates have so many decimals, of the three views or of all six
+abbrev pub drawing_profile : Bool → ℕ → ProfileParts
+drawing_profile six decimals = record { most = most_file_bytes; decimals = decimals; six = six }
 
--- a drawing whose coordinates have no decimals, and a log behind it
+-- a drawing of the three views whose coordinates have no decimals, and a log behind it
 abbrev pub log_profile : ProfileParts
-log_profile = record { most = most_text_bytes; decimals = 0 }
+log_profile = record { most = most_text_bytes; decimals = 0; six = false }
 
 -- the input that is read so of these bytes
 abbrev pub input_of : ProfileParts → List ℕ → Input
-input_of profile t = record { bytes = t; most = profile.most; decimals = profile.decimals }
+input_of profile t = record { bytes = t; most = profile.most; decimals = profile.decimals; six = profile.six }
 
 -- ---- searches
 
@@ -117,6 +120,8 @@ IsCut answers.Faulty = ⊥
 IsCut answers.Usage = ⊥
 IsCut answers.NoSolid = ⊥
 IsCut answers.Refused = ⊥
+IsCut answers.Stopped = ⊥
+IsCut answers.NotAsked = ⊥
 
 -- what is judged of a log behind a drawing
 abbrev pub log_judgement : Judgement
@@ -125,6 +130,15 @@ log_judgement = record {
   begins = TellsChecked;
   leaves_open = λ t answer. ⊥;
   alike = λ t text other. text ≡ other;
+}
+
+-- what is judged of what readers are asked behind a drawing, whose problem is searched within these limits
+abbrev pub session_judgement : SearchLimits → Judgement
+session_judgement limits = record {
+  tells = TellsAsked limits;
+  begins = BeginsAsked limits;
+  leaves_open = λ t answer. AsksToStop t ⊎ IsCut answer;
+  alike = SameBehindReaders;
 }
 
 -- what an input is asked for: a search, or what is judged of it without a search of its own
@@ -151,11 +165,12 @@ pub data Owed : Type 1 where
 
 -- for each job, however many work at it: a command is one line
 abbrev pub owed_for : Job → Owed
-owed_for (job.Solve workers limits pages decimals) = read (drawing_profile decimals) (searched (search_for_all pages limits))
-owed_for (job.Redraw which workers limits decimals) = read (drawing_profile decimals) (searched (search_for_one IsFileOf which limits))
-owed_for (job.Stl which workers limits) = read (drawing_profile 0) (searched (search_for_one (λ _. IsSolidStl) which limits))
-owed_for (job.Prove workers limits) = read (drawing_profile 0) (searched (search_for_log limits))
+owed_for (job.Solve workers limits pages decimals) = read (drawing_profile true decimals) (searched (search_for_all pages limits))
+owed_for (job.Redraw which workers limits decimals) = read (drawing_profile true decimals) (searched (search_for_one IsFileOf which limits))
+owed_for (job.Stl which workers limits) = read (drawing_profile false 0) (searched (search_for_one (λ _. IsSolidStl) which limits))
+owed_for (job.Prove workers limits) = read (drawing_profile false 0) (searched (search_for_log limits))
 owed_for job.Check = read log_profile (judged log_judgement)
+owed_for (job.Ask workers limits) = read (drawing_profile false 0) (judged (session_judgement limits))
 owed_for (job.Make n) = alone answers.Done (IsFileOf 0 (made_solid n))
 owed_for (job.Trial n workers) = alone answers.Done (IsTried n)
 

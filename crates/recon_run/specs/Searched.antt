@@ -1,15 +1,24 @@
 -- Problems that are found in inputs and searched, and what is written of them.
 use Rattle.std.specs.Prelude.{◌≡◌, ◌≤◌, Bool, ℕ, List, length, Option, Some}
 use Rattle.dxf_groups.specs.Pairs.{rest_of_text}
-use Rattle.file_problem.specs.Inputs.{HasProblem, Input, IsFileFault}
+use Rattle.choice_sieves.specs.Those.{AreThose}
+use Rattle.file_problem.specs.Inputs.{HasFurther, Input, IsFileFault}
+use Rattle.further_views.specs.Further.{FurtherParts, further_runs}
+use Rattle.six_views.specs.Further.{FitsChoice}
 use Rattle.recon_run.specs.declared.found.Found.{Found}
 use Rattle.recon_run.specs.declared.found.Found.TheVariants.{Problem, Fault}
+use Rattle.recon_run.specs.declared.sought.Sought.{Sought}
 use Rattle.recon_run.specs.declared.export.Export.{Export}
 use Rattle.recon_run.specs.declared.export.Export.TheVariants.{Drawing, Triangles}
 use Rattle.recon_run.specs.declared.form.Form.{Form}
 use Rattle.recon_run.specs.declared.form.Form.TheVariants as form
 use Rattle.recon_run.specs.Answers.{TellsNumbered, numbered_answer}
-use Rattle.recon_run.specs.Owed.{Asked, ProfileParts, input_of, judged, judgement_of, log_judgement, search_for_all, search_for_log, search_for_one, searched}
+use Rattle.recon_run.specs.Readers.{TellsListed}
+use Rattle.replies.specs.declared.status.Answer.TheVariants as answers
+use Rattle.replies.specs.Status.{end_answer}
+use Rattle.search_end.specs.declared.stopping.SearchEnd.{SearchEnd as EndOfSearch}
+use Rattle.search_end.specs.declared.stopping.SearchEnd.TheVariants.{Ended, Stopped}
+use Rattle.recon_run.specs.Owed.{Asked, ProfileParts, input_of, judged, judgement_of, log_judgement, search_for_all, search_for_log, search_for_one, searched, session_judgement}
 use Rattle.redraw.specs.Files.{IsFileOf}
 use Rattle.replies.specs.Status.{Status}
 use Rattle.replies.specs.Writings.{EndsWriting}
@@ -17,7 +26,7 @@ use Rattle.stl_out.specs.SolidStl.{IsSolidStl}
 use Rattle.replies.specs.declared.status.Answer.{Answer}
 use Rattle.replies.specs.declared.status.Failure.{Failure}
 use Rattle.replies.specs.declared.status.Failure.TheVariants.{WriteFault, Memory}
-use Rattle.report.specs.Texts.{head_text}
+use Rattle.report.specs.Texts.{head_text, stopped_text}
 use Rattle.page_calls.specs.declared.page_out.RunFault.{RunFault}
 use Rattle.page_calls.specs.declared.page_out.RunFault.TheVariants as run_fault
 use Rattle.solid_model.specs.declared.cell.Cell.{Cell}
@@ -34,9 +43,13 @@ use Rattle.solid_model.specs.Panels.{coordinates_of, IsGridOf}
 use Rattle.solid_model.specs.Search.{SearchLimits}
 use Rattle.solid_model.specs.SearchEnds.{EndsSearch, SearchEnd}
 
--- what is found in an input: its problem and what stands behind its drawing, or its first fault
+-- this is sought by an input: its problem, and its further views
+abbrev pub IsSoughtBy : Input → Sought → Type 0
+IsSoughtBy t sought = HasFurther t sought.problem sought.further
+
+-- what is found in an input: what is sought by it and what stands behind its drawing, or its first fault
 abbrev pub IsFoundIn : Input → Found → Type 0
-IsFoundIn t (Problem found) = HasProblem t found.problem × (rest_of_text t.bytes ≡ Some found.rest.items)
+IsFoundIn t (Problem found) = IsSoughtBy t found.sought × (rest_of_text t.bytes ≡ Some found.rest.items)
 IsFoundIn t (Fault fault) = IsFileFault t fault
 
 -- ---- searches
@@ -54,9 +67,20 @@ HasFewSolids s = length s.ended.solids ≤ most_solid_limit
 abbrev pub IsSearchOf : SearchLimits → ProblemParts → SearchedParts → Type 0
 IsSearchOf limits p s = (s.problem ≡ p) × EndsSearch (is_live p) p.blocks.count limits s.ended
 
+-- the second one is the first one with those choices alone whose solids show these further views
+pub record IsFittingOf (further : FurtherParts) (all fitting : SearchedParts) : Type 0 where
+  pub problem : fitting.problem ≡ all.problem
+  pub kind : fitting.ended.kind ≡ all.ended.kind
+  pub opened : fitting.ended.opened ≡ all.ended.opened
+  pub those : AreThose (FitsChoice all.problem (further_runs further)) all.ended.solids fitting.ended.solids
+
+-- a search for what is sought has ended within limits: of the choices of the problem those are kept that fit the further views
+abbrev pub IsFittingSearchOf : SearchLimits → Sought → SearchedParts → Type 0
+IsFittingSearchOf limits sought s = (all : SearchedParts) × IsSearchOf limits sought.problem all × IsFittingOf sought.further all s
+
 -- the same, and the text is one of these of its choices
-abbrev pub TellsSearch : SearchLimits → ProblemParts → (List (List Bool) → List ℕ → Type 0) → SearchedParts → List ℕ → Type 0
-TellsSearch limits p texts s text = IsSearchOf limits p s × texts s.ended.solids text
+abbrev pub TellsSearch : SearchLimits → Sought → (List (List Bool) → List ℕ → Type 0) → SearchedParts → List ℕ → Type 0
+TellsSearch limits sought texts s text = IsFittingSearchOf limits sought s × texts s.ended.solids text
 
 -- the first line that is told of a search
 abbrev pub search_head : SearchLimits → SearchedParts → List ℕ
@@ -66,6 +90,15 @@ search_head limits s = head_text limits s.ended.kind (length s.ended.solids) s.e
 abbrev pub run_failure : RunFault → Failure
 run_failure run_fault.PageFault = WriteFault
 run_failure run_fault.Memory = Memory
+
+-- ---- sessions
+
+-- this text tells how the search of a problem ended beside which readers were asked, and the solids that are listed
+abbrev pub TellsEndOf : TellsListed → ℕ → ProblemParts → SearchLimits → EndOfSearch → List (List Cell) → Answer → List ℕ → Type 0
+TellsEndOf tells decimals p limits (Ended ended desk) solids answer text = (answer ≡ end_answer ended.kind)
+    × tells (search_head limits (record { problem = p; ended = ended })) decimals ended.solids solids text
+TellsEndOf tells decimals p limits (Stopped desk choices) solids answer text = (answer ≡ answers.Stopped)
+    × tells (stopped_text (length choices.items)) decimals choices.items solids text
 
 -- ---- its solids
 
@@ -94,13 +127,14 @@ asked_of (form.AllSolids all) = searched (search_for_all all.pages all.limits)
 asked_of (form.OneSolid one) = searched (search_for_one (writes_of one.export) one.which one.limits)
 asked_of (form.Log limits) = searched (search_for_log limits)
 asked_of form.Check = judged log_judgement
+asked_of (form.Session limits) = judged (session_judgement limits)
 
--- so ends the writing of what is answered in a form to an input that is read so and has this problem
-abbrev pub AnswersForm : Form → ProfileParts → ProblemParts → Option (List ℕ) → Option (List ℕ) → Type 0 → Status → Type 0
-AnswersForm f profile p held now rose status = (t : List ℕ) → HasProblem (input_of profile t) p
+-- so ends the writing of what is answered in a form to an input that is read so and by which this is sought
+abbrev pub AnswersForm : Form → ProfileParts → Sought → Option (List ℕ) → Option (List ℕ) → Type 0 → Status → Type 0
+AnswersForm f profile sought held now rose status = (t : List ℕ) → IsSoughtBy (input_of profile t) sought
     → EndsWriting ((judgement_of (asked_of f)).tells (input_of profile t)) ((judgement_of (asked_of f)).begins (input_of profile t)) held now rose status
 
 -- the same where these bytes stand behind its drawing
-abbrev pub AnswersBehind : Form → ProfileParts → ProblemParts → List ℕ → Option (List ℕ) → Option (List ℕ) → Type 0 → Status → Type 0
-AnswersBehind f profile p rest held now rose status = (t : List ℕ) → HasProblem (input_of profile t) p → rest_of_text t ≡ Some rest
+abbrev pub AnswersBehind : Form → ProfileParts → Sought → List ℕ → Option (List ℕ) → Option (List ℕ) → Type 0 → Status → Type 0
+AnswersBehind f profile sought rest held now rose status = (t : List ℕ) → IsSoughtBy (input_of profile t) sought → rest_of_text t ≡ Some rest
     → EndsWriting ((judgement_of (asked_of f)).tells (input_of profile t)) ((judgement_of (asked_of f)).begins (input_of profile t)) held now rose status

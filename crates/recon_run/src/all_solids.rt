@@ -16,6 +16,7 @@ use crate::crew::Crew;
 use crate::form::AllSolids;
 use crate::profile::Profile;
 use crate::searched::Searched;
+use crate::sought::Sought;
 use crate::telling::search_telling;
 use replies::{Answer, Failure, Status, write_text};
 use report::{SolidRoom, SolidTexts};
@@ -70,70 +71,53 @@ fn write_solids<K: Sink>(
     Ok(())
 }
 
-/// Writes how a search within limits ended that has no solids.
-fn write_none<K: Sink>(
+/// Writes a first line, and the solids that choices of a problem's blocks fill, whose coordinates have
+/// so many decimals. Where there are none, nothing is made ready for them.
+pub fn write_listed<K: Sink>(
+    alloc: Global,
+    problem: &Problem,
+    head: &[u8],
+    choices: &[Choice],
+    decimals: u8,
+    sink: &mut K,
+) -> Result<(), Failure>
+    requires few { length choices.now ≤ most_solid_limit }
+    requires decimals { decimals ≤ most_decimals }
+    ensures later { K.faults sink.old ≤ K.faults sink.new }
+    ensures ends { (solids : List (List Cell)) → FillSolids problem.now choices.now solids
+        → EndsText (TellsAll head.now decimals choices.now solids)
+        (BeginsAll head.now decimals choices.now solids) (K.held sink.old) (K.held sink.new)
+        (Rose (K.faults sink.old) (K.faults sink.new)) result }
+{
+    if choices.is_empty() {
+        return write_text(sink, head);
+    }
+    let texts = SolidTexts::of(alloc, problem, decimals)?;
+    let mut room = texts.room(alloc)?;
+    write_text(sink, head)?;
+    write_solids(alloc, &texts, choices, &mut room, sink)
+}
+
+/// Writes how a search within limits ended, and its solids.
+pub fn write_searched<K: Sink>(
     alloc: Global,
     searched: &Searched,
     limits: Limits,
+    decimals: u8,
     sink: &mut K,
 ) -> Result<(), Failure>
-    requires { searched.now.ended.solids ≡ [] }
+    requires { decimals ≤ most_decimals }
     ensures later { K.faults sink.old ≤ K.faults sink.new }
-    ensures ends { (decimals : ℕ) (solids : List (List Cell))
+    ensures ends { (solids : List (List Cell))
         → FillSolids searched.now.problem searched.now.ended.solids solids → EndsText
         (TellsAll (search_head limits searched.now) decimals searched.now.ended.solids solids)
         (BeginsAll (search_head limits searched.now) decimals searched.now.ended.solids solids)
         (K.held sink.old) (K.held sink.new) (Rose (K.faults sink.old) (K.faults sink.new)) result }
 {
     let head = searched.head(alloc, limits)?;
-    write_text(sink, head.as_slice())
-}
-
-/// Writes how a search within limits ended, and its solids, whose coordinates have so many
-/// decimals.
-fn write_all<K: Sink>(
-    alloc: Global,
-    searched: &Searched,
-    limits: Limits,
-    decimals: u8,
-    sink: &mut K,
-) -> Result<(), Failure>
-    requires { decimals ≤ most_decimals }
-    ensures later { K.faults sink.old ≤ K.faults sink.new }
-    ensures ends { (solids : List (List Cell))
-        → FillSolids searched.now.problem searched.now.ended.solids solids → EndsText
-        (TellsAll (search_head limits searched.now) decimals searched.now.ended.solids solids)
-        (BeginsAll (search_head limits searched.now) decimals searched.now.ended.solids solids)
-        (K.held sink.old) (K.held sink.new) (Rose (K.faults sink.old) (K.faults sink.new)) result }
-{
-    let texts = SolidTexts::of(alloc, searched.problem(), decimals)?;
-    let mut room = texts.room(alloc)?;
-    write_text(sink, searched.head(alloc, limits)?.as_slice())?;
-    let solids = searched.ended().solids.as_slice();
-    write_solids(alloc, &texts, solids, &mut room, sink)
-}
-
-/// The same; where there are no solids, nothing is made ready for them.
-fn write_searched<K: Sink>(
-    alloc: Global,
-    searched: &Searched,
-    limits: Limits,
-    decimals: u8,
-    sink: &mut K,
-) -> Result<(), Failure>
-    requires { decimals ≤ most_decimals }
-    ensures later { K.faults sink.old ≤ K.faults sink.new }
-    ensures ends { (solids : List (List Cell))
-        → FillSolids searched.now.problem searched.now.ended.solids solids → EndsText
-        (TellsAll (search_head limits searched.now) decimals searched.now.ended.solids solids)
-        (BeginsAll (search_head limits searched.now) decimals searched.now.ended.solids solids)
-        (K.held sink.old) (K.held sink.new) (Rose (K.faults sink.old) (K.faults sink.new)) result }
-{
-    if searched.ended().solids.is_empty() {
-        write_none(alloc, searched, limits, sink)
-    } else {
-        write_all(alloc, searched, limits, decimals, sink)
-    }
+    let choices = searched.ended().solids.as_slice();
+    let problem = searched.problem();
+    write_listed(alloc, problem, head.as_slice(), choices, decimals, sink)
 }
 
 /// Searches a problem for its solids, and writes all of them, after pages of them or without.
@@ -142,14 +126,14 @@ pub fn answer_all<R: Threads + Wait + Sync, G: Gate, K: Sink>(
     crew: &Crew<'_, R, G>,
     all: &AllSolids,
     profile: &Profile,
-    problem: Problem,
+    sought: Sought,
     sink: &mut K,
 ) -> Status
-    ensures { AnswersForm (form.AllSolids all.now) profile.now problem (K.held sink.old)
+    ensures { AnswersForm (form.AllSolids all.now) profile.now sought (K.held sink.old)
         (K.held sink.new) (Rose (K.faults sink.old) (K.faults sink.new)) result }
 {
     let limits = all.limits;
-    let searched = search_telling(alloc, problem, limits, all.pages, sink, crew)?;
+    let searched = search_telling(alloc, sought, limits, all.pages, sink, crew)?;
     write_searched(alloc, &searched, limits, profile.decimals(), sink)?;
     Ok(Answer::at_end(searched.ended().kind))
 }

@@ -12,11 +12,12 @@ ghost use Rattle.tv_base.specs.Faults.{Rose};
 ghost use Rattle.tv_base.specs.Pieces.{ReadsWithin};
 
 use crate::all_solids::answer_all;
+use crate::asked::answer_asked;
 use crate::check::answer_check;
 use crate::crew::Crew;
 use crate::form::Form;
 use crate::found::{Found, find};
-use crate::found_problem::ProblemAndRest;
+use crate::found_problem::FoundProblem;
 use crate::log::answer_log;
 use crate::one_solid::answer_one;
 use crate::profile::Profile;
@@ -35,18 +36,21 @@ fn answer_problem<R: Threads + Wait + Sync, G: Gate, K: Sink>(
     crew: &Crew<'_, R, G>,
     form: &Form,
     profile: &Profile,
-    found: ProblemAndRest,
+    found: FoundProblem,
     sink: &mut K,
 ) -> Status
-    ensures { AnswersBehind form.now profile.now found.problem found.rest.items (K.held sink.old)
-        (K.held sink.new) (Rose (K.faults sink.old) (K.faults sink.new)) result }
+    ensures { AnswersBehind form.now profile.now found.sought found.rest.items
+        (K.held sink.old) (K.held sink.new) (Rose (K.faults sink.old) (K.faults sink.new)) result }
 {
-    let ProblemAndRest { problem, rest } = found;
+    let FoundProblem { sought, rest } = found;
     match form {
-        Form::AllSolids(all) => answer_all(alloc, crew, all, profile, problem, sink),
-        Form::OneSolid(one) => answer_one(alloc, crew, one, profile, problem, sink),
-        Form::Log(limits) => answer_log(alloc, crew, limits, profile, problem, sink),
-        Form::Check => answer_check(alloc, profile, &problem, rest.as_slice(), sink),
+        Form::AllSolids(all) => answer_all(alloc, crew, all, profile, sought, sink),
+        Form::OneSolid(one) => answer_one(alloc, crew, one, profile, sought, sink),
+        Form::Log(limits) => answer_log(alloc, crew, limits, profile, sought, sink),
+        Form::Check => answer_check(alloc, profile, &sought, rest.as_slice(), sink),
+        Form::Session(limits) => {
+            answer_asked(alloc, crew, limits, profile, sought, rest.as_slice(), sink)
+        }
     }
 }
 

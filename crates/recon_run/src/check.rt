@@ -8,10 +8,10 @@ ghost use Rattle.solid_model.specs.Limits.{most_text_bytes};
 ghost use Rattle.tv_base.specs.Faults.{Rose};
 
 use crate::profile::Profile;
+use crate::sought::Sought;
 use proof_check::{LogKind, LogRefused, check_log};
 use replies::{Answer, Failure, Status, write_reply};
 use report::{refusal_text, yes_text};
-use solid_model::Problem;
 use std::alloc::Global;
 use tv_base::Sink;
 
@@ -36,21 +36,21 @@ fn log_kind_name(kind: LogKind) -> &'static str
 pub fn answer_check<K: Sink>(
     alloc: Global,
     profile: &Profile,
-    problem: &Problem,
+    sought: &Sought,
     rest: &[u8],
     sink: &mut K,
 ) -> Status
     requires { length rest.now ≤ most_text_bytes }
-    ensures { AnswersBehind form.Check profile.now problem.now rest.now (K.held sink.old)
+    ensures { AnswersBehind form.Check profile.now sought.now rest.now (K.held sink.old)
         (K.held sink.new) (Rose (K.faults sink.old) (K.faults sink.new)) result }
 {
-    match check_log(alloc, problem, rest) {
+    match check_log(alloc, &sought.problem, rest) {
         Ok(choices) => {
             let text = yes_text(alloc, choices.as_slice())?;
             write_reply(Answer::Done, text.as_slice(), sink)
         }
         Err(LogRefused::Fault(fault)) => {
-            let text = refusal_text(alloc, log_kind_name(fault.kind), fault.line)?;
+            let text = refusal_text(alloc, "log", log_kind_name(fault.kind), fault.line)?;
             write_reply(Answer::Refused, text.as_slice(), sink)
         }
         Err(LogRefused::Memory) => Err(Failure::Memory),

@@ -57,7 +57,7 @@ fn do_job<R: Threads + Wait + Sync, S: Source, K: Sink, G: Gate>(
             decimals,
         } => {
             let crew = Crew { rt, workers, gate };
-            let profile = Profile::drawing(decimals);
+            let profile = Profile::six_views(decimals);
             let form = Form::AllSolids(AllSolids { limits, pages });
             answer_source(alloc, &crew, &profile, &form, source, sink)
         }
@@ -68,7 +68,7 @@ fn do_job<R: Threads + Wait + Sync, S: Source, K: Sink, G: Gate>(
             decimals,
         } => {
             let crew = Crew { rt, workers, gate };
-            let profile = Profile::drawing(decimals);
+            let profile = Profile::six_views(decimals);
             let form = Form::OneSolid(OneSolid {
                 export: Export::Drawing,
                 which,
@@ -82,7 +82,7 @@ fn do_job<R: Threads + Wait + Sync, S: Source, K: Sink, G: Gate>(
             limits,
         } => {
             let crew = Crew { rt, workers, gate };
-            let profile = Profile::drawing(0);
+            let profile = Profile::three_views();
             let form = Form::OneSolid(OneSolid {
                 export: Export::Triangles,
                 which,
@@ -92,7 +92,7 @@ fn do_job<R: Threads + Wait + Sync, S: Source, K: Sink, G: Gate>(
         }
         Job::Prove { workers, limits } => {
             let crew = Crew { rt, workers, gate };
-            let profile = Profile::drawing(0);
+            let profile = Profile::three_views();
             answer_source(alloc, &crew, &profile, &Form::Log(limits), source, sink)
         }
         Job::Check => {
@@ -103,6 +103,11 @@ fn do_job<R: Threads + Wait + Sync, S: Source, K: Sink, G: Gate>(
             };
             let profile = Profile::with_log();
             answer_source(alloc, &crew, &profile, &Form::Check, source, sink)
+        }
+        Job::Ask { workers, limits } => {
+            let crew = Crew { rt, workers, gate };
+            let profile = Profile::three_views();
+            answer_source(alloc, &crew, &profile, &Form::Session(limits), source, sink)
         }
         Job::Make { n } => write_reply(Answer::Done, made_file(alloc, n)?.as_slice(), sink),
         Job::Trial { n, workers } => {
@@ -148,7 +153,8 @@ fn answer<R: Threads + Wait + Sync, S: Source, K: Sink, G: Gate>(
 /// `redraw` writes the drawing of one of them, by its number, and `stl` its boundary as triangles;
 /// `prove` writes a log that shows that these are all, and `check` says whether what stands behind
 /// the drawing is such a log, with the choices that it lists, or which of its lines is the first
-/// that is wrong, and why; `make` writes a drawing that is made from a number, and `trial` what a
+/// that is wrong, and why; `ask` lets readers look at the growing list of solids, as the lines behind
+/// the drawing ask, and writes what they tell and then all solids; `make` writes a drawing that is made from a number, and `trial` what a
 /// search of that drawing finds. As many work at a search as `--workers` says, and they pass the
 /// gate at their points; the run waits for them, and what it answers doesn't depend on their
 /// number. Other words give the usage line.
@@ -157,7 +163,8 @@ fn answer<R: Threads + Wait + Sync, S: Source, K: Sink, G: Gate>(
 /// written, or a log is one; 1 where what is read has a fault, 2 where the arguments aren't taken,
 /// 3 or 4 where there are more live prefixes, or more solids, than their limit, 5 or 6 where the
 /// source or the sink failed, 7 where it ran out of memory, 8 where there is no solid of the number
-/// that `redraw` or `stl` is given, and 9 where a log is refused.
+/// that `redraw` or `stl` is given, 9 where a log is refused, 10 where a search was stopped by a
+/// reader, and 11 where what readers are asked is refused.
 pub fn run<R: Threads + Wait + Sync, S: Source, K: Sink, G: Gate>(
     rt: &R,
     alloc: Global,

@@ -32,4 +32,7 @@ pub enum Form {
     Log(Limits),
     /// Whether what stands behind its drawing is such a log.
     Check,
+    /// What readers of the growing list of its solids, which are searched for within limits, tell as
+    /// they are asked behind its drawing.
+    Session(Limits),
 }

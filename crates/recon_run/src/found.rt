@@ -7,19 +7,20 @@ ghost use Rattle.recon_run.specs.Searched.{IsFoundIn};
 ghost use Rattle.tv_base.specs.Faults.{Rose};
 ghost use Rattle.tv_base.specs.Pieces.{ReadsWithin};
 
-use crate::found_problem::ProblemAndRest;
+use crate::found_problem::FoundProblem;
 use crate::profile::Profile;
+use crate::sought::Sought;
 use file_problem::problem_with_rest;
 use replies::Failure;
-use solid_model::{Fault, Memory, Problem, Refused};
+use solid_model::{Fault, Memory, Refused};
 use std::alloc::Global;
 use tv_base::{ReadEnd, Source, read_all};
 
 /// What is found in an input.
 #[derive(Drop)]
 pub enum Found {
-    /// Its problem, and what stands behind its drawing.
-    Problem(ProblemAndRest),
+    /// What is sought by it, and what stands behind its drawing.
+    Problem(FoundProblem),
     /// Its first fault.
     Fault(Fault),
 }
@@ -31,8 +32,11 @@ fn find_in(alloc: Global, profile: &Profile, file: Vec<u8>) -> Result<Found, Mem
 {
     // A look that tells that no profile takes more bytes than a text may have.
     let _most = profile.most();
-    match problem_with_rest(alloc, file, profile.decimals()) {
-        Ok((problem, rest)) => Ok(Found::Problem(ProblemAndRest { problem, rest })),
+    match problem_with_rest(alloc, file, profile.form()) {
+        Ok((problem, further, rest)) => Ok(Found::Problem(FoundProblem {
+            sought: Sought { problem, further },
+            rest,
+        })),
         Err(Refused::Fault(fault)) => Ok(Found::Fault(fault)),
         Err(Refused::Memory) => Err(Memory),
     }

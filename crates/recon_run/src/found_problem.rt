@@ -1,14 +1,14 @@
-//! The problem of an input, and what stands behind its drawing.
+//! The problem of an input, its further views, and what stands behind its drawing.
 
 ghost use Rattle.std.specs.Prelude.{◌≤◌, length};
 ghost use Rattle.solid_model.specs.Limits.{most_text_bytes};
 
-use solid_model::Problem;
+use crate::sought::Sought;
 
-/// The problem of an input, and the bytes that stand behind its drawing.
+/// What is sought by an input, and the bytes that stand behind its drawing.
 #[derive(Drop)]
-pub struct ProblemAndRest {
-    pub problem: Problem,
+pub struct FoundProblem {
+    pub sought: Sought,
     pub rest: Vec<u8>,
     ghost short: { length rest.items ≤ most_text_bytes },
 }

@@ -1,6 +1,6 @@
 //! Laws of what is answered.
 
-ghost use Rattle.std.specs.Prelude.{◌≡◌, ◌⊎◌, ◌++◌, ℕ, List, Option, Some};
+ghost use Rattle.std.specs.Prelude.{◌≡◌, ◌⊎◌, ◌++◌, false, ℕ, List, Option, Some};
 ghost use Rattle.replies.specs.declared.status.Answer.{Answer};
 ghost use Rattle.file_problem.specs.Inputs.{HasNoFault, Input, IsFileFault};
 ghost use Rattle.recon_run.specs.Endings.{Answers, AreAlike, LeavesOpen, owed_to};
@@ -12,7 +12,7 @@ ghost use Rattle.words.specs.declared.job.Job.TheVariants as job;
 pub fn made_files_have_no_fault()
     ensures { (n : ℕ) (left rest : Option (List ℕ)) (answer : Answer) (text : List ℕ)
         → AnswersOwed (owed_for (job.Make n)) left rest answer text
-        → HasNoFault (input_of (drawing_profile 0) text) }
+        → HasNoFault (input_of (drawing_profile false 0) text) }
 {}
 
 /// An input has at most one first fault.

@@ -3,6 +3,7 @@
 
 mod all_solids;
 mod answering;
+mod asked;
 mod check;
 mod command;
 mod crew;
@@ -15,6 +16,7 @@ mod log;
 mod one_solid;
 mod profile;
 mod searched;
+mod sought;
 mod telling;
 mod trial;
 

@@ -10,6 +10,7 @@ ghost use Rattle.tv_base.specs.Faults.{Rose};
 use crate::crew::Crew;
 use crate::profile::Profile;
 use crate::searched::search;
+use crate::sought::Sought;
 use proof_log::prove_log;
 use replies::{Answer, Failure, Status, write_reply};
 use solid_model::{EndKind, Limits, Problem};
@@ -38,13 +39,17 @@ pub fn answer_log<R: Threads + Wait + Sync, G: Gate, K: Sink>(
     crew: &Crew<'_, R, G>,
     limits: &Limits,
     profile: &Profile,
-    problem: Problem,
+    sought: Sought,
     sink: &mut K,
 ) -> Status
-    ensures { AnswersForm (form.Log limits.now) profile.now problem (K.held sink.old)
+    ensures { AnswersForm (form.Log limits.now) profile.now sought (K.held sink.old)
         (K.held sink.new) (Rose (K.faults sink.old) (K.faults sink.new)) result }
 {
-    let searched = search(alloc, problem, *limits, crew)?;
+    let Sought { problem, further } = sought;
+    let found = search(alloc, problem, *limits, crew)?;
+    // A look at how the search ended tells that it found few solids.
+    let _few = found.ended();
+    let searched = found.fitting(alloc, &further)?;
     match searched.ended().kind {
         EndKind::Whole => {
             // A look at the problem tells that its blocks are those of its grid.

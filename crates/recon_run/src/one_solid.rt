@@ -11,10 +11,11 @@ ghost use Rattle.tv_base.specs.Faults.{Rose};
 use crate::crew::Crew;
 use crate::form::OneSolid;
 use crate::profile::Profile;
-use crate::searched::{Searched, search};
+use crate::searched::{Searched, search_fitting};
+use crate::sought::Sought;
 use replies::{Answer, Status, write_reply};
 use report::no_solid_text;
-use solid_model::{EndKind, Problem};
+use solid_model::EndKind;
 use std::alloc::Global;
 use std::sync::Wait;
 use std::thread::Threads;
@@ -56,13 +57,13 @@ pub fn answer_one<R: Threads + Wait + Sync, G: Gate, K: Sink>(
     crew: &Crew<'_, R, G>,
     one: &OneSolid,
     profile: &Profile,
-    problem: Problem,
+    sought: Sought,
     sink: &mut K,
 ) -> Status
-    ensures { AnswersForm (form.OneSolid one.now) profile.now problem (K.held sink.old)
+    ensures { AnswersForm (form.OneSolid one.now) profile.now sought (K.held sink.old)
         (K.held sink.new) (Rose (K.faults sink.old) (K.faults sink.new)) result }
 {
-    let searched = search(alloc, problem, one.limits, crew)?;
+    let searched = search_fitting(alloc, sought, one.limits, crew)?;
     match searched.ended().kind {
         EndKind::Whole => write_numbered(alloc, one, profile.decimals(), &searched, sink),
         kind => {

@@ -1,5 +1,6 @@
 //! How an input is read.
 
+use dxf_entities::ReadingForm;
 use std::marker::Model;
 
 /// The most bytes of a drawing.
@@ -8,49 +9,63 @@ const MOST_BYTES: usize = 16_777_216;
 /// The most bytes of a drawing and a log behind it.
 const MOST_WITH_LOG: usize = 134_217_728;
 
-/// How an input is read: how many bytes it may have at most, and how many decimals its coordinates
-/// are read with.
+/// How an input is read: how many bytes it may have at most, and in which form: how many decimals
+/// its coordinates have, and whether the layers of the further views are read too.
 #[derive(Drop)]
 pub struct Profile {
     most: usize,
-    decimals: u8,
+    form: ReadingForm,
 }
 
 impl Model for Profile {
     ghost use Rattle.std.specs.Prelude.{◌≤◌};
     ghost use Rattle.recon_run.specs.Owed.{ProfileParts};
-    ghost use Rattle.solid_model.specs.Limits.{most_decimals, most_text_bytes};
+    ghost use Rattle.solid_model.specs.Limits.{most_text_bytes};
 
     ghost Value = { ProfileParts };
 
-    ghost view = { λ p. record { most = p.most; decimals = p.decimals } };
+    ghost view = { λ p. record {
+      most = p.most;
+      decimals = p.form.decimals;
+      six = p.form.six;
+    } };
 
-    ghost invariant = { λ p. (p.most ≤ most_text_bytes) × (p.decimals ≤ most_decimals) };
+    ghost invariant = { λ p. p.most ≤ most_text_bytes };
 }
 
 impl Profile {
-    ghost use Rattle.std.specs.Prelude.{◌≡◌, ◌≤◌};
+    ghost use Rattle.std.specs.Prelude.{◌≡◌, ◌≤◌, false, true};
     ghost use Rattle.recon_run.specs.Owed.{drawing_profile, log_profile};
     ghost use Rattle.solid_model.specs.Limits.{most_decimals, most_text_bytes};
 
-    /// A drawing alone, whose coordinates have so many decimals, at most 6.
-    pub fn drawing(decimals: u8) -> Profile
+    /// A drawing alone, of all six views, whose coordinates have so many decimals, at most 6.
+    pub fn six_views(decimals: u8) -> Profile
         requires { decimals ≤ most_decimals }
-        ensures { result ≡ drawing_profile decimals }
+        ensures { result ≡ drawing_profile true decimals }
     {
         Profile {
             most: MOST_BYTES,
-            decimals,
+            form: ReadingForm::six_views(decimals),
         }
     }
 
-    /// A drawing whose coordinates have no decimals, and a log behind it.
+    /// A drawing alone, of the three views, whose coordinates have no decimals.
+    pub fn three_views() -> Profile
+        ensures { result ≡ drawing_profile false 0 }
+    {
+        Profile {
+            most: MOST_BYTES,
+            form: ReadingForm::three_views(0),
+        }
+    }
+
+    /// The same with a log behind it.
     pub fn with_log() -> Profile
         ensures { result ≡ log_profile }
     {
         Profile {
             most: MOST_WITH_LOG,
-            decimals: 0,
+            form: ReadingForm::three_views(0),
         }
     }
 
@@ -62,11 +77,19 @@ impl Profile {
         self.most
     }
 
+    /// The form in which it is read.
+    pub fn form(&self) -> ReadingForm
+        ensures decimals { result.decimals ≡ self.now.decimals }
+        ensures six { result.six ≡ self.now.six }
+    {
+        self.form
+    }
+
     /// How many decimals its coordinates are read with.
     pub fn decimals(&self) -> u8
         ensures decimals { result ≡ self.now.decimals }
         ensures few { result ≤ most_decimals }
     {
-        self.decimals
+        self.form.decimals()
     }
 }

@@ -1,7 +1,7 @@
 -- The statuses, and their numbers.
 use Rattle.std.specs.Prelude.{ℕ, Result, Ok, Err}
 use Rattle.replies.specs.declared.status.Answer.{Answer}
-use Rattle.replies.specs.declared.status.Answer.TheVariants.{Done, Faulty, Usage, CutNodes, CutSolids, NoSolid, Refused}
+use Rattle.replies.specs.declared.status.Answer.TheVariants.{Done, Faulty, Usage, CutNodes, CutSolids, NoSolid, Refused, Stopped, NotAsked}
 use Rattle.replies.specs.declared.status.Failure.{Failure}
 use Rattle.replies.specs.declared.status.Failure.TheVariants.{ReadFault, WriteFault, Memory}
 use Rattle.solid_model.specs.declared.ended.EndKind.{EndKind}
@@ -26,6 +26,8 @@ answer_code CutNodes = 3
 answer_code CutSolids = 4
 answer_code NoSolid = 8
 answer_code Refused = 9
+answer_code Stopped = 10
+answer_code NotAsked = 11
 
 -- the number of a failure
 abbrev pub failure_code : Failure → ℕ

@@ -17,4 +17,6 @@ pub fn status_numbers()
     ensures memory { status_code (Err failures.Memory) ≡ 7 }
     ensures no_solid { status_code (Ok answers.NoSolid) ≡ 8 }
     ensures refused { status_code (Ok answers.Refused) ≡ 9 }
+    ensures stopped { status_code (Ok answers.Stopped) ≡ 10 }
+    ensures not_asked { status_code (Ok answers.NotAsked) ≡ 11 }
 {}

@@ -23,6 +23,10 @@ pub enum Answer {
     NoSolid,
     /// Why what was to be checked doesn't show what it should.
     Refused,
+    /// That a search was stopped before its end, as was asked for.
+    Stopped,
+    /// Why what readers are asked isn't taken.
+    NotAsked,
 }
 
 /// Why a run fails before its answer is written.
@@ -52,6 +56,8 @@ impl Answer {
             Answer::CutSolids => 4,
             Answer::NoSolid => 8,
             Answer::Refused => 9,
+            Answer::Stopped => 10,
+            Answer::NotAsked => 11,
         }
     }
 

@@ -3,6 +3,8 @@
 #![tactic(auto)]
 
 #[cfg(test)]
+mod asked;
+#[cfg(test)]
 mod decimals;
 #[cfg(test)]
 mod deep;
@@ -10,6 +12,8 @@ mod deep;
 mod drawings;
 #[cfg(test)]
 mod entities;
+#[cfg(test)]
+mod further;
 #[cfg(test)]
 mod hostile;
 #[cfg(test)]

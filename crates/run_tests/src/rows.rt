@@ -11,6 +11,7 @@
 use crate::decimals::DECIMALS;
 use crate::drawings::DRAWINGS;
 use crate::entities::ENTITIES;
+use crate::further::FURTHER;
 use crate::polylines::POLYLINES;
 use crate::runs::{Runtime, UNIT_CUBE, run_words};
 use crate::texts::{SIZES, TEXTS};
@@ -67,6 +68,15 @@ fn is_wanted(wrote: &str, wanted: &str) -> bool {
     wrote.starts_with(first) && wrote.ends_with(last)
 }
 
+/// Whether what was written is what a row wants.
+pub fn is_text(alloc: Global, wrote: &str, wanted: &str) -> Result<bool, AllocError> {
+    let wanted = wanted_text(alloc, wanted)?;
+    Ok(match wrote.strip_suffix('\n') {
+        Some(wrote) => is_wanted(wrote, wanted.as_str()),
+        None => false,
+    })
+}
+
 /// What a run with these words writes for the file that a row tells in a frame.
 fn wrote_for<R: Runtime>(
     rt: &R,
@@ -86,11 +96,7 @@ fn is_right<R: Runtime>(
     row: Row<'_>,
 ) -> Result<bool, AllocError> {
     let wrote = wrote_for(rt, words, frame, row)?;
-    let wanted = wanted_text(rt.alloc(), row.wanted)?;
-    Ok(match wrote.as_str().strip_suffix('\n') {
-        Some(wrote) => is_wanted(wrote, wanted.as_str()),
-        None => false,
-    })
+    is_text(rt.alloc(), wrote.as_str(), row.wanted)
 }
 
 /// The first of a frame's rows that isn't right for runs with these words; nothing where all are.
@@ -126,7 +132,9 @@ pub fn wrong_row<'a, R: Runtime>(
 
 #[test]
 fn files_give_their_texts(rt: HostRuntime) -> Result<(), Fail> {
-    for table in [TEXTS, ENTITIES, POLYLINES, LINETYPES, NUMERALS, DRAWINGS] {
+    for table in [
+        TEXTS, ENTITIES, POLYLINES, LINETYPES, NUMERALS, DRAWINGS, FURTHER,
+    ] {
         let row = wrong_row(&rt, "solve|", table)?;
         assert!(rt; row.is_empty(), "{row}");
     }

@@ -1,10 +1,10 @@
 -- Pages that go to a sink, as texts.
-use Rattle.std.specs.Prelude.{◌≡◌, Bool, true, false, ℕ, List, Option}
+use Rattle.std.specs.Prelude.{◌≡◌, Bool, true, false, ℕ, List, map, length, Option}
 use Rattle.std.specs.Io.KnownBytes.{Appends}
-use Rattle.std.specs.List.{flat_map}
 use Rattle.page_calls.specs.Pages.{Call}
-use Rattle.report.specs.Texts.{page_text}
 use Rattle.lemmas.specs.Lists.{Each}
+use Rattle.sink_pages.specs.PageTexts.{Page, choices_on, pages_text}
+use Rattle.choice_sieves.specs.Those.{AreThoseOfEach}
 use Rattle.tv_base.specs.Pieces.{AppendsPrefix}
 
 -- what the sink holds, where it tells it; how often it has failed; and the calls that handed out pages
@@ -13,15 +13,20 @@ pub record PagesState : Type 0 where
   pub faults : ℕ
   pub calls : List Call
 
--- the text of a call
-abbrev pub call_text : Call → List ℕ
-call_text c = page_text c.number c.total c.choices
+-- the pages that calls handed out
+abbrev pub pages_of : List Call → List Page
+pages_of calls = map (λ c. c.choices) calls
 
--- the texts of calls, one after another
-abbrev pub calls_text : List Call → List ℕ
-calls_text calls = flat_map call_text calls
+-- the sink gained this text; or, once a call was refused, a prefix of it
+abbrev pub GainedText : Bool → Option (List ℕ) → Option (List ℕ) → List Call → List ℕ → Type 0
+GainedText false before held calls text = Appends before held text
+GainedText true before held calls text = (Each (λ c. c.accepted ≡ true) calls → ⊥) × AppendsPrefix before held text
 
--- Since pages began to go to the sink, it gained the texts of all calls; or, once a call was refused, a prefix of these.
-abbrev pub HasGained : Bool → Option (List ℕ) → Option (List ℕ) → List Call → Type 0
-HasGained false before held calls = Appends before held (calls_text calls)
-HasGained true before held calls = (Each (λ c. c.accepted ≡ true) calls → ⊥) × AppendsPrefix before held (calls_text calls)
+-- Since pages began to go to the sink, it gained the texts of so many pages with so many choices: of each call those choices that
+-- fit, if any do. Or, once a call was refused, a prefix of these.
+pub record HasGained (fits : List Bool → Type 0) (refused : Bool) (before held : Option (List ℕ)) (calls : List Call) (number total : ℕ) : Type 0 where
+  pub pages : List Page
+  pub those : AreThoseOfEach fits (pages_of calls) pages
+  pub number_is : number ≡ length pages
+  pub total_is : total ≡ length (choices_on pages)
+  pub text : GainedText refused before held calls (pages_text 0 0 pages)

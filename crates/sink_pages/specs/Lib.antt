@@ -1,2 +1,4 @@
+pub mod PageTexts
 pub mod Gained
+pub mod Next
 pub mod KeptCalls

@@ -1,23 +1,28 @@
-//! Pages that were handed out, each kept with its text written.
+//! Pages that were handed out, of each of which the choices that fit are written.
 
-ghost use Rattle.std.specs.Prelude.{◌≡◌, ◌∷◌, [], List, Option, Some, None, ℕ, Bool, true, false, IfOk, OnOk, OnErr};
+ghost use Rattle.std.specs.Prelude.{◌≡◌, ◌↔◌, ◌∷◌, [], List, Option, Some, None, ℕ, Bool, true, false, IfOk, OnOk, OnErr, ⊤};
 ghost use Rattle.page_calls.specs.Pages.{Call, AddsCalls, CountsFaults, MayAddCall};
 ghost use Rattle.sink_pages.specs.Gained.{HasGained};
 
+use crate::next::{next_page, write_next};
+use choice_sieves::Sieve;
 use page_calls::PageOut;
-use report::page_text;
 use solid_model::{Choice, Memory, copy_choices};
 use std::alloc::Global;
 use std::marker::{Brand, Model, PhantomData};
 use tv_base::{Sink, SinkError};
 
-/// What a sink held when pages began to go to it.
+/// What a sink held when pages began to go to it, and which choices fit.
 pub trait Begun {
     ghost held: { Option (List ℕ) };
+
+    ghost fits: { List Bool → Type 0 };
 }
 
 impl Begun for Brand {
     ghost held = { None };
+
+    ghost fits = { λ _. ⊤ };
 }
 
 /// A page that was handed out, and whether the sink took it.
@@ -29,23 +34,26 @@ pub struct Told {
     accepted: bool,
 }
 
-/// Takes pages and writes their texts to a sink, each in one call. It keeps the pages, so that it
-/// can tell what the sink gained. Behind a page that was refused no other is written.
-pub struct SinkPages<K: Sink, B: Begun> {
+/// Takes pages and writes their texts to a sink, each in one call: of each page the choices that
+/// fit, and nothing where none does. It keeps the pages, so that it can tell what the sink gained.
+/// Behind a page that was refused no other is written.
+pub struct SinkPages<K: Sink, B: Begun, S: Sieve + Drop> {
     alloc: Global,
     sink: K,
+    sieve: S,
     told: Vec<Told>,
+    written: u32,
+    choices: usize,
     refused: bool,
     begun: PhantomData<B>,
 }
 
-impl<K: Sink, B: Begun> Model for SinkPages<K, B> {
-    ghost use Rattle.std.specs.Prelude.{map};
+impl<K: Sink, B: Begun, S: Sieve + Drop> Model for SinkPages<K, B, S> {
+    ghost use Rattle.std.specs.Prelude.{◌↔◌, Bool, List, map};
     ghost use Rattle.sink_pages.specs.Gained.{PagesState, HasGained};
+    ghost use Rattle.sink_pages.specs.KeptCalls.{call_of};
 
     ghost Value = { PagesState };
-
-    ghost use Rattle.sink_pages.specs.KeptCalls.{call_of};
 
     ghost view = { λ s. record {
       held = K.held s.sink;
@@ -53,20 +61,25 @@ impl<K: Sink, B: Begun> Model for SinkPages<K, B> {
       calls = map call_of s.told.items;
     } };
 
-    ghost invariant = { λ s. HasGained s.refused B.held (K.held s.sink)
-        (map call_of s.told.items) };
+    ghost invariant = { λ s. HasGained B.fits s.refused B.held (K.held s.sink)
+        (map call_of s.told.items) s.written s.choices
+        × ((choice : List Bool) → S.fits s.sieve choice ↔ B.fits choice) };
 }
 
-impl<K: Sink, B: Begun> SinkPages<K, B> {
-    /// Pages begin to go to a sink.
-    pub fn begin(alloc: Global, sink: K) -> Self
+impl<K: Sink, B: Begun, S: Sieve + Drop> SinkPages<K, B, S> {
+    /// Pages begin to go to a sink, of which the choices are written that fit.
+    pub fn begin(alloc: Global, sink: K, sieve: S) -> Self
         requires held { K.held sink ≡ B.held }
+        requires fits { (choice : List Bool) → S.fits sieve choice ↔ B.fits choice }
         ensures { result ≡ record { held = K.held sink; faults = K.faults sink; calls = [] } }
     {
         SinkPages {
             alloc,
             sink,
+            sieve,
             told: Vec::new(alloc),
+            written: 0,
+            choices: 0,
             refused: false,
             begun: PhantomData,
         }
@@ -76,21 +89,26 @@ impl<K: Sink, B: Begun> SinkPages<K, B> {
     pub fn into_sink(self) -> K
         ensures held { K.held result ≡ self.held }
         ensures faults { K.faults result ≡ self.faults }
-        ensures told { (refused : Bool) × HasGained refused B.held self.held self.calls }
+        ensures told { (refused : Bool) × (number : ℕ) × (total : ℕ)
+            × HasGained B.fits refused B.held self.held self.calls number total }
     {
         let Self {
             alloc: _,
             sink,
+            sieve,
             told,
+            written: _,
+            choices: _,
             refused: _,
             begun: _,
         } = self;
+        drop(sieve);
         drop(told);
         sink
     }
 }
 
-impl<K: Sink, B: Begun> PageOut for SinkPages<K, B> {
+impl<K: Sink, B: Begun, S: Sieve + Drop> PageOut for SinkPages<K, B, S> {
     ghost calls = { λ s. Some s.calls };
 
     ghost faults = { λ s. s.faults };
@@ -102,12 +120,21 @@ impl<K: Sink, B: Begun> PageOut for SinkPages<K, B> {
         let Ok(choices) = copy_choices(self.alloc, more) else {
             return Err(SinkError::Memory);
         };
-        let Ok(text) = page_text(self.alloc, number, total, more) else {
+        let own = next_page(
+            self.alloc,
+            &mut self.sieve,
+            self.written,
+            self.choices,
+            more,
+        );
+        let Ok(next) = own else {
             return Err(SinkError::Memory);
         };
         self.told.reserve(1)?;
-        let written = self.sink.write_all(text.as_slice());
+        let written = write_next(&next, &mut self.sink);
         self.refused = written.is_err();
+        self.written = next.number;
+        self.choices = next.total;
         self.told.push_reserved(Told {
             number,
             total,

@@ -23,7 +23,8 @@ use Rattle.solid_model.proofs.Views.{views_are_frames}
 use Rattle.solid_model.proofs.WithinViews.{Least, IsOutermost, outermost}
 use Rattle.redraw.proofs.LastRuns.{run_style-drawn}
 use Rattle.redraw.proofs.SolidBegins.{begins_beside, outermost_drawn}
-use Rattle.six_views.specs.MovedRuns.{view_style, first_line}
+use Rattle.further_views.specs.Further.{view_style}
+use Rattle.six_views.specs.MovedRuns.{first_line}
 
 -- no run stands on an earlier line than the first one
 first_least : (r : Run) (rs : List Run) → AreRuns (r ∷ rs) → (m : Run) → Member (r ∷ rs) m → r.at ≤ℤ m.at

@@ -16,12 +16,13 @@ use Rattle.solid_model.specs.Segments.{along_of, across_of, start_of, line_of}
 use Rattle.solid_model.proofs.Sheets.{same_style-itself, same_style-one}
 use Rattle.redraw.proofs.SolidBegins.{solid_begins}
 use Rattle.redraw.proofs.SomeFile.{some_file}
-use Rattle.six_views.specs.declared.extra.Extra.{Extra}
-use Rattle.six_views.specs.declared.extra.Extra.TheVariants.{Left, Rear, Bottom}
+use Rattle.dxf_entities.specs.declared.extra.Extra.{Extra}
+use Rattle.dxf_entities.specs.declared.extra.Extra.TheVariants.{Left, Rear, Bottom}
 use Rattle.six_views.specs.Fits.{ShowsMoved}
-use Rattle.six_views.specs.Further.{FurtherRuns, ShowsAsked, FitsRuns}
-use Rattle.six_views.specs.FurtherFrames.{further_frame, seen_as}
-use Rattle.six_views.specs.MovedRuns.{view_style, moved_run, AreMovedRuns}
+use Rattle.further_views.specs.Further.{FurtherRuns, seen_as, view_style}
+use Rattle.six_views.specs.Further.{ShowsAsked, FitsRuns}
+use Rattle.six_views.specs.FurtherFrames.{further_frame}
+use Rattle.six_views.specs.MovedRuns.{moved_run, AreMovedRuns}
 use Rattle.six_views.specs.Turned.{turned_cells}
 use Rattle.six_views.proofs.MovedRuns.{shows_where_moved}
 use Rattle.six_views.proofs.Turned.{further_drawn}
@@ -52,7 +53,7 @@ both_decided P Q (inl p) (inr none) = inr (λ h. none h.1)
 both_decided P Q (inr none) q = inr (λ h. none h.0)
 
 -- what stands or falls with what is decided is decided
-as_decided : (P Q : Type 0) → (P → Q) → (Q → P) → Decided P → Decided Q
+pub as_decided : (P Q : Type 0) → (P → Q) → (Q → P) → Decided P → Decided Q
 as_decided P Q to from (inl p) = inl (to p)
 as_decided P Q to from (inr none) = inr (λ q. none (from q))
 

@@ -10,13 +10,17 @@ use Rattle.solid_model.specs.Matching.{Matches, AreSolidsOf}
 use Rattle.solid_model.specs.Orders.{IsInStatedForm, SolidPrecedes}
 use Rattle.solid_model.specs.Drawings.{IsEmptyView}
 use Rattle.solid_model.specs.Line.{Line}
-use Rattle.lemmas.proofs.Lists.{each-at, each-from, each-weaker}
+use Rattle.lemmas.specs.Lists.{Member}
+use Rattle.lemmas.proofs.Lists.{IsWithin, each-at, each-from, each-weaker, same_ascending}
+use Rattle.solid_model.proofs.CellOrder.{one_list}
+use Rattle.solid_model.proofs.SolidOrder.{precedes_one_way}
 use Rattle.solid_model.proofs.Styles.{same_drawing}
-use Rattle.six_views.specs.declared.extra.Extra.{Extra}
-use Rattle.six_views.specs.FurtherFrames.{further_frame, seen_as}
+use Rattle.dxf_entities.specs.declared.extra.Extra.{Extra}
+use Rattle.further_views.specs.Further.{seen_as}
+use Rattle.six_views.specs.FurtherFrames.{further_frame}
 use Rattle.six_views.specs.Fits.{AreSolidsThat, AreFittingSolids, Fits}
-use Rattle.six_views.specs.Those.{AreThose}
-use Rattle.six_views.proofs.Those.{from_those, to_those, those_ascend}
+use Rattle.choice_sieves.specs.Those.{AreThose}
+use Rattle.choice_sieves.proofs.Those.{from_those, to_those, those_ascend}
 
 -- those that fit, of all that match, are all that match and fit; whether a solid fits doesn't rest on its list's order
 pub fitting_of_all : (drawing : Segment → Style) (F : List Cell → Type 0) → ((s t : List Cell) → SameCells s t → F s → F t)
@@ -69,3 +73,17 @@ none_asked drawing further none solids = (
 pub fits_same : (further : Extra → List Line) (s t : List Cell) → SameCells s t → Fits further s → Fits further t
 fits_same further s t same fits x asked = let h = fits x asked in
     (h.0, (λ g of. same_drawing (further_frame x) (is_full s) (is_full t) same g _ (h.1 g of)), h.2)
+
+-- ---- one list
+
+within : (P : List Cell → Type 0) (ss ts : List (List Cell)) → AreSolidsThat P ss → AreSolidsThat P ts → IsWithin ss ts
+within P ss ts h k s among =
+    let of_s = each-at (λ r. P r × IsInStatedForm r) ss s h.each among in
+    let (t, in_ts, same) = k.complete s of_s.0 in
+    let of_t = each-at (λ r. P r × IsInStatedForm r) ts t k.each in_ts in
+    subst (Member ts) (sym (one_list s t of_s.1 of_t.1 same)) in_ts
+
+-- there is one list of all solids that have a property
+pub one_list_that : (P : List Cell → Type 0) (ss ts : List (List Cell)) → AreSolidsThat P ss → AreSolidsThat P ts → ss ≡ ts
+one_list_that P ss ts h k =
+    same_ascending SolidPrecedes (λ s t. precedes_one_way (is_full s) (is_full t)) ss ts h.ordered k.ordered (within P ss ts h k) (within P ts ss k h)

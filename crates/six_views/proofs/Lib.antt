@@ -1,7 +1,6 @@
 pub mod Turned
 pub mod TurnedGrid
 pub mod TurnedColumns
-pub mod Those
 pub mod FittingSolids
 pub mod MovedRuns
 pub mod SeenTurned
@@ -10,3 +9,4 @@ pub mod FirstRuns
 pub mod ShownRuns
 pub mod FitsDecided
 pub mod Sifted
+pub mod SiftedChoices

@@ -16,7 +16,8 @@ use Rattle.solid_model.proofs.Moved.{one_moved}
 use Rattle.solid_model.proofs.RunStyles.{covers_parts, covers_from, same_styles_one_list}
 use Rattle.solid_model.proofs.Styles.{one_style}
 use Rattle.six_views.specs.Fits.{ShowsMoved}
-use Rattle.six_views.specs.MovedRuns.{view_style, moved_run, AreMovedRuns}
+use Rattle.further_views.specs.Further.{view_style}
+use Rattle.six_views.specs.MovedRuns.{moved_run, AreMovedRuns}
 use Rattle.six_views.proofs.Turned.{same_tests}
 
 -- ---- moved runs

@@ -24,9 +24,9 @@ use Rattle.column_laws.specs.GridPanels.{HasCounts, AreStylesAlong}
 use Rattle.columns.specs.ColumnLists.{AreColumns}
 use Rattle.redraw.specs.GridRuns.{AreRunsOn}
 use Rattle.redraw.proofs.DrawnRuns.{drawn_count, show_drawing}
-use Rattle.six_views.specs.declared.extra.Extra.{Extra}
-use Rattle.six_views.specs.FurtherFrames.{further_frame, seen_as}
-use Rattle.six_views.specs.MovedRuns.{view_style}
+use Rattle.dxf_entities.specs.declared.extra.Extra.{Extra}
+use Rattle.further_views.specs.Further.{seen_as, view_style}
+use Rattle.six_views.specs.FurtherFrames.{further_frame}
 use Rattle.six_views.specs.Turned.{turn_axis, turned_cells, turned_coordinates, AreTurnedCells}
 use Rattle.six_views.proofs.SeenTurned.{some_turned, same_sizes, seen_styles, seen_on_grid}
 use Rattle.six_views.proofs.TurnedColumns.{columns_turned}

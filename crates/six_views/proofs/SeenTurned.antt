@@ -17,8 +17,8 @@ use Rattle.solid_model.proofs.OnGrid.{StaysOnGrid}
 use Rattle.solid_model.proofs.UnionDrawing.{union_on_grid}
 use Rattle.solid_model.specs.GridPlaces.{place_in}
 use Rattle.column_laws.specs.GridPanels.{HasCounts, AreStylesAlong}
-use Rattle.six_views.specs.declared.extra.Extra.{Extra}
-use Rattle.six_views.specs.FurtherFrames.{seen_as}
+use Rattle.dxf_entities.specs.declared.extra.Extra.{Extra}
+use Rattle.further_views.specs.Further.{seen_as}
 use Rattle.six_views.specs.Turned.{turn_axis, turned_cells, turned_coordinates, turned_numbers, AreTurnedCells}
 use Rattle.six_views.proofs.Turned.{full_turned}
 use Rattle.six_views.proofs.TurnedGrid.{counts-turned, union_turned}

@@ -8,10 +8,11 @@ use Rattle.solid_model.specs.Cells.{is_full, IsSolid}
 use Rattle.solid_model.specs.DrawnStyle.{solid_drawing}
 use Rattle.solid_model.specs.Runs.{AreRuns, ViewRuns, runs_along}
 use Rattle.solid_model.proofs.Styles.{one_style}
-use Rattle.six_views.specs.declared.extra.Extra.{Extra}
+use Rattle.dxf_entities.specs.declared.extra.Extra.{Extra}
 use Rattle.six_views.specs.Fits.{ShowsMoved}
-use Rattle.six_views.specs.FurtherFrames.{further_frame, seen_as}
-use Rattle.six_views.specs.MovedRuns.{view_style, first_line, AreMovedRuns}
+use Rattle.further_views.specs.Further.{seen_as, view_style}
+use Rattle.six_views.specs.FurtherFrames.{further_frame}
+use Rattle.six_views.specs.MovedRuns.{first_line, AreMovedRuns}
 use Rattle.six_views.specs.Turned.{turned_cells}
 use Rattle.six_views.proofs.FirstRuns.{solid_of_drawn, solid_of_run, first_there, begins_first}
 use Rattle.six_views.proofs.MovedRuns.{shows_where_moved}

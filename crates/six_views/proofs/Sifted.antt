@@ -16,12 +16,12 @@ use Rattle.solid_model.specs.Matching.{AreSolidsOf}
 use Rattle.solid_model.specs.Panels.{coordinates_of}
 use Rattle.solid_model.specs.Runs.{ViewRuns}
 use Rattle.solid_model.proofs.ChosenSolids.{one_union}
-use Rattle.six_views.specs.declared.extra.Extra.{Extra}
+use Rattle.dxf_entities.specs.declared.extra.Extra.{Extra}
 use Rattle.six_views.specs.Fits.{ShowsMoved, Fits, AreFittingSolids}
-use Rattle.six_views.specs.Further.{FurtherRuns, AreFurtherOf, FitsRuns, FitsChoice}
-use Rattle.six_views.specs.FurtherFrames.{further_frame, seen_as}
-use Rattle.six_views.specs.MovedRuns.{view_style}
-use Rattle.six_views.specs.Those.{AreThose}
+use Rattle.further_views.specs.Further.{FurtherRuns, AreFurtherOf, seen_as, view_style}
+use Rattle.six_views.specs.Further.{FitsRuns, FitsChoice}
+use Rattle.six_views.specs.FurtherFrames.{further_frame}
+use Rattle.choice_sieves.specs.Those.{AreThose}
 use Rattle.six_views.proofs.FittingSolids.{fitting_of_all, filled_those, fits_same}
 
 -- a solid fits the runs of further lines exactly where it fits the lines

@@ -18,9 +18,10 @@ use Rattle.solid_model.specs.Segments.{start_of, line_of}
 use Rattle.solid_model.proofs.Fullness.{same_coordinates, Decides-same_cell, same_cell-from}
 use Rattle.solid_model.proofs.Styles.{one_style, drawn_style_drawn, same_drawing}
 use Rattle.solid_model.proofs.Views.{has_edge_is, views_are_frames}
-use Rattle.six_views.specs.declared.extra.Extra.{Extra}
-use Rattle.six_views.specs.declared.extra.Extra.TheVariants.{Left, Rear, Bottom}
-use Rattle.six_views.specs.FurtherFrames.{further_frame, seen_as}
+use Rattle.dxf_entities.specs.declared.extra.Extra.{Extra}
+use Rattle.dxf_entities.specs.declared.extra.Extra.TheVariants.{Left, Rear, Bottom}
+use Rattle.further_views.specs.Further.{seen_as}
+use Rattle.six_views.specs.FurtherFrames.{further_frame}
 use Rattle.six_views.specs.Turned.{half_turned, turn_axis, turned_cells}
 
 -- the further views are frames

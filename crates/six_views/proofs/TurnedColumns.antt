@@ -11,9 +11,10 @@ use Rattle.column_lanes.specs.declared.column.Column.{Column}
 use Rattle.solid_model.specs.GridPlaces.{place_in, grid_cell_in}
 use Rattle.column_laws.specs.GridColumns.{grid_column}
 use Rattle.columns.specs.ColumnLists.{listed_column, AreColumns}
-use Rattle.six_views.specs.declared.extra.Extra.{Extra}
-use Rattle.six_views.specs.declared.extra.Extra.TheVariants.{Left, Rear, Bottom}
-use Rattle.six_views.specs.FurtherFrames.{further_frame, seen_as}
+use Rattle.dxf_entities.specs.declared.extra.Extra.{Extra}
+use Rattle.dxf_entities.specs.declared.extra.Extra.TheVariants.{Left, Rear, Bottom}
+use Rattle.further_views.specs.Further.{seen_as}
+use Rattle.six_views.specs.FurtherFrames.{further_frame}
 use Rattle.six_views.specs.Turned.{turn_axis, turned_numbers, AreTurnedCells}
 
 -- along an axis from the other end, twice
@@ -69,7 +70,7 @@ module _ (x : Extra) (sizes : Axis → ℕ) (chosen turned : List Bool) (are : A
   abbrev main : Frame
   main = frame_of (seen_as x)
 
-  column_turned : (i j : ℕ) → i < sizes main.right.axis → j < sizes main.up.axis → (k : ℤ) → grid_column f sizes chosen i j k ≡ grid_column main sizes turned i j k
+  pub column_turned : (i j : ℕ) → i < sizes main.right.axis → j < sizes main.up.axis → (k : ℤ) → grid_column f sizes chosen i j k ≡ grid_column main sizes turned i j k
   column_turned i j l m (negsuc k) = refl
   column_turned i j l m (pos k) = by (nat_lt k (sizes main.away.axis)) refl
     where

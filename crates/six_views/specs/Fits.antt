@@ -1,5 +1,5 @@
 -- Which solids fit further views. `AreSolidsOf` is one case of `AreSolidsThat`, which stands here and not beside it, since nothing
--- below this crate speaks of further views: there it would be proved again for nothing with all that stands on it.
+-- below this crate asks which solids fit: there it would be proved again for nothing with all that stands on it.
 use Rattle.std.specs.Prelude.{Bool, List}
 use Rattle.solid_model.specs.declared.cell.Cell.{Cell}
 use Rattle.solid_model.specs.declared.frame.Frame.{Frame}
@@ -14,8 +14,9 @@ use Rattle.lemmas.specs.Lists.{Member, Each, Ascends}
 use Rattle.solid_model.specs.Matching.{Matches}
 use Rattle.solid_model.specs.Moved.{IsMovedToZero}
 use Rattle.solid_model.specs.Orders.{IsInStatedForm, SolidPrecedes}
-use Rattle.six_views.specs.declared.extra.Extra.{Extra}
-use Rattle.six_views.specs.FurtherFrames.{further_frame, seen_as}
+use Rattle.dxf_entities.specs.declared.extra.Extra.{Extra}
+use Rattle.further_views.specs.Further.{seen_as}
+use Rattle.six_views.specs.FurtherFrames.{further_frame}
 
 -- seen in the frame, and moved to least coordinates 0, the solid is what is shown in a view
 abbrev pub ShowsMoved : Frame → (Cell → Bool) → (Segment → Style) → View → Type 0
@@ -36,3 +37,12 @@ pub record AreSolidsThat (P : List Cell → Type 0) (solids : List (List Cell)) 
 -- all that match a drawing and fit further views
 abbrev pub AreFittingSolids : (Segment → Style) → (Extra → List Line) → List (List Cell) → Type 0
 AreFittingSolids drawing further = AreSolidsThat (λ s. Matches drawing s × Fits further s)
+
+-- some solids that have a property: each in the stated form, in the stated order
+pub record AreSomeSolidsThat (P : List Cell → Type 0) (solids : List (List Cell)) : Type 0 where
+  pub each : Each (λ s. P s × IsInStatedForm s) solids
+  pub ordered : Ascends SolidPrecedes solids
+
+-- some that match a drawing and fit further views
+abbrev pub AreSomeFittingSolids : (Segment → Style) → (Extra → List Line) → List (List Cell) → Type 0
+AreSomeFittingSolids drawing further = AreSomeSolidsThat (λ s. Matches drawing s × Fits further s)

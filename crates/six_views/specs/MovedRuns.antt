@@ -1,14 +1,8 @@
 -- The runs of one view, and the same moved.
 use Rattle.std.specs.Prelude.{◌≡◌, Bool, List, [], ◌∷◌, map, Option, Some, None, ℤ, ◌+ℤ◌}
 use Rattle.solid_model.specs.declared.runs.Run.{Run}
-use Rattle.solid_model.specs.declared.segment.Segment.{Segment}
-use Rattle.solid_model.specs.declared.segment.Style.{Style}
-use Rattle.solid_model.specs.Runs.{ViewRuns, run_style, runs_along}
-use Rattle.solid_model.specs.Segments.{along_of, across_of, start_of, line_of}
-
--- what the runs of a view show
-abbrev pub view_style : ViewRuns → Segment → Style
-view_style v g = run_style (runs_along g.upright v) (line_of g) (start_of g)
+use Rattle.solid_model.specs.Runs.{ViewRuns, runs_along}
+use Rattle.solid_model.specs.Segments.{along_of, across_of}
 
 -- a run that stands so much farther across and along
 abbrev pub moved_run : ℤ → ℤ → Run → Run

@@ -10,9 +10,9 @@ use Rattle.solid_model.specs.Rooms.{same_axis}
 use Rattle.solid_model.specs.GridPlaces.{place_in}
 use Rattle.column_lanes.specs.declared.column.Column.{Column}
 use Rattle.columns.specs.ColumnLists.{AreColumns}
-use Rattle.six_views.specs.declared.extra.Extra.{Extra}
+use Rattle.dxf_entities.specs.declared.extra.Extra.{Extra}
 use Rattle.six_views.specs.FurtherFrames.{further_frame}
-use Rattle.six_views.specs.declared.extra.Extra.TheVariants.{Left, Rear, Bottom}
+use Rattle.dxf_entities.specs.declared.extra.Extra.TheVariants.{Left, Rear, Bottom}
 
 -- the mirror image of a cell, which fills k to k + 1 along an axis, in the plane at 0 across it: it fills -(k + 1) to -k
 abbrev pub mirrored : Axis → Cell → Cell

@@ -7,14 +7,13 @@ ghost use Rattle.solid_model.specs.Choices.{cells_of_choice};
 ghost use Rattle.solid_model.specs.Grid.{IsUnionOf};
 ghost use Rattle.solid_model.specs.Panels.{coordinates_of};
 ghost use Rattle.six_views.specs.Fits.{ShowsMoved};
-ghost use Rattle.six_views.specs.Further.{FitsRuns, further_runs, ShowsAsked};
-ghost use Rattle.six_views.specs.FurtherFrames.{further_frame, seen_as};
-ghost use Rattle.six_views.specs.MovedRuns.{view_style};
+ghost use Rattle.further_views.specs.Further.{further_runs, seen_as, view_style};
+ghost use Rattle.six_views.specs.Further.{FitsRuns, ShowsAsked};
+ghost use Rattle.six_views.specs.FurtherFrames.{further_frame};
 
-use crate::extra::Extra;
-use crate::further::Further;
 use crate::moved::{first_line, views_are_moved};
 use crate::seen::seen_lines;
+use further_views::{Extra, Further};
 use solid_model::{Choice, Grid, Memory, Problem, ViewLines};
 use std::alloc::Global;
 

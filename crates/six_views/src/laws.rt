@@ -17,13 +17,14 @@ ghost use Rattle.solid_model.specs.Frames.{IsFrame, frame_of};
 ghost use Rattle.solid_model.specs.Line.{Line};
 ghost use Rattle.solid_model.specs.Matching.{Matches, AreSolidsOf};
 ghost use Rattle.solid_model.specs.Panels.{coordinates_of};
-ghost use Rattle.six_views.specs.declared.extra.Extra.{Extra};
-ghost use Rattle.six_views.specs.declared.extra.Extra.TheVariants.{Left, Rear, Bottom};
+ghost use Rattle.dxf_entities.specs.declared.extra.Extra.{Extra};
+ghost use Rattle.dxf_entities.specs.declared.extra.Extra.TheVariants.{Left, Rear, Bottom};
 ghost use Rattle.six_views.specs.Fits.{Fits, AreSolidsThat, AreFittingSolids};
-ghost use Rattle.six_views.specs.Further.{FurtherRuns, AreFurtherOf, FitsRuns, FitsChoice};
-ghost use Rattle.six_views.specs.FurtherFrames.{further_frame, seen_as};
+ghost use Rattle.further_views.specs.Further.{FurtherRuns, AreFurtherOf, seen_as};
+ghost use Rattle.six_views.specs.Further.{FitsRuns, FitsChoice};
+ghost use Rattle.six_views.specs.FurtherFrames.{further_frame};
 ghost use Rattle.six_views.specs.SmallViews.{bar_from, bar_in};
-ghost use Rattle.six_views.specs.Those.{AreThose};
+ghost use Rattle.choice_sieves.specs.Those.{AreThose};
 ghost use Rattle.six_views.specs.Turned.{half_turned, turn_axis, turned_cells};
 
 /// Each further view is the view opposite to it, of the solid turned half round: from the left and

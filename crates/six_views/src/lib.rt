@@ -4,21 +4,18 @@
 //! main views is used as it stands, of the turned solid, and `View` doesn't grow.
 #![tactic(auto)]
 
-mod extra;
 mod fitting;
-mod further;
-mod further_sieve;
+mod frames;
 mod laws;
 mod moved;
 mod seen;
-mod sieve;
 
-pub use extra::{Extra, frame_of, seen_as};
 pub use fitting::fits;
-pub use further::Further;
-pub use further_sieve::FurtherSieve;
+pub use frames::frame_of;
+pub use further_views::{Extra, ExtraLine, Further, further_of, seen_as};
 pub use laws::{
     fitting_choices_fill_the_fitting_solids, further_views_are_views_of_the_turned_solid,
     small_further_views, without_further_views_all_matching_solids_fit,
 };
-pub use sieve::{Sieve, sift};
+pub use moved::{are_moved, is_farther};
+pub use seen::turned_places;

@@ -17,7 +17,7 @@ pub fn first_line(runs: &[Run]) -> Option<i64>
 }
 
 /// The one coordinate stands so much farther than the other.
-fn is_farther(own: i64, shown: i64, by: i64) -> bool
+pub fn is_farther(own: i64, shown: i64, by: i64) -> bool
     ensures { IsTrue result ↔ (own ≡ shown +ℤ by) }
 {
     match own.checked_sub(by) {
@@ -50,7 +50,7 @@ fn is_moved(own: Run, shown: Run, across: i64, along: i64) -> bool
 }
 
 /// The ones are the others, so much farther across and along.
-fn are_moved(own: &[Run], shown: &[Run], across: i64, along: i64) -> bool
+pub fn are_moved(own: &[Run], shown: &[Run], across: i64, along: i64) -> bool
     ensures { IsTrue result ↔ (own.now ≡ map (moved_run across along) shown.now) }
 {
     if own.len() != shown.len() {

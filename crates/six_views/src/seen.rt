@@ -10,13 +10,13 @@ ghost use Rattle.solid_model.specs.Grid.{IsUnionOf};
 ghost use Rattle.solid_model.specs.Panels.{coordinates_of};
 ghost use Rattle.solid_model.specs.Runs.{run_style};
 ghost use Rattle.solid_model.specs.Segments.{segment_at};
-ghost use Rattle.six_views.specs.FurtherFrames.{seen_as};
-ghost use Rattle.six_views.specs.MovedRuns.{view_style};
+ghost use Rattle.further_views.specs.Further.{seen_as, view_style};
 ghost use Rattle.six_views.specs.Turned.{AreFurtherColumns, turn_axis, turned_cells, mirrored_places, turned_coordinates};
 
-use crate::extra::{Extra, frame_of, seen_as};
+use crate::frames::frame_of;
 use column_lanes::Column;
 use columns::{counts_of, styles_along, view_columns};
+use further_views::{Extra, seen_as};
 use redraw::runs_on;
 use solid_model::{Axis, Grid, Memory, Runs, ViewLines};
 use std::alloc::Global;
@@ -45,7 +45,12 @@ fn turn_axis(extra: Extra) -> Axis
 }
 
 /// The coordinates along an axis of a grid that is turned to be seen from the other side.
-fn turned_places(alloc: Global, grid: &Grid, extra: Extra, axis: Axis) -> Result<Vec<i64>, Memory>
+pub fn turned_places(
+    alloc: Global,
+    grid: &Grid,
+    extra: Extra,
+    axis: Axis,
+) -> Result<Vec<i64>, Memory>
     ensures { IfOk result (λ places. places.items
         ≡ turned_coordinates (turn_axis extra) (coordinates_of grid.now) axis) }
 {

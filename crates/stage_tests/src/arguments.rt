@@ -131,6 +131,11 @@ check -> check
 check, 1 -> usage
 check, --workers, 2 -> usage
 check, check -> usage
+ask -> ask 1 1000000 4096
+ask, --solids=7, --workers, 3, --nodes, 5 -> ask 3 5 7
+ask, --decimals, 0 -> usage
+ask, --pages -> usage
+ask, 1 -> usage
 redraw, -- , 1 -> usage
 redraw, 1, --nodes -> usage
 redraw, 1.0 -> usage
@@ -239,6 +244,10 @@ fn push_job(text: &mut String, job: Job) -> Result<(), Fail> {
             push_search(text, workers, limits)
         }
         Job::Check => Ok(text.push_str("check")?),
+        Job::Ask { workers, limits } => {
+            text.push_str("ask")?;
+            push_search(text, workers, limits)
+        }
         Job::Make { n } => Ok(write!(text, "make {n}")?),
         Job::Trial { n, workers } => Ok(write!(text, "trial {n} {workers}")?),
     }

@@ -15,13 +15,15 @@ mod drawn_columns;
 #[cfg(test)]
 mod face_lists;
 #[cfg(test)]
-mod further_views;
+mod fitting_solids;
 #[cfg(test)]
 mod graphs;
 #[cfg(test)]
 mod grids;
 #[cfg(test)]
 mod planes;
+#[cfg(test)]
+mod six_layers;
 #[cfg(test)]
 mod sources;
 #[cfg(test)]

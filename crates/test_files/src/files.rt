@@ -58,9 +58,8 @@ pub fn layer_of(view: View) -> &'static str {
     }
 }
 
-/// Adds a line on the layer of a view.
-fn push_line(file: &mut String, view: View, line: Stroke<'_>) -> Result<(), AllocError> {
-    let layer = layer_of(view);
+/// Adds a line on a layer.
+fn push_line(file: &mut String, layer: &str, line: Stroke<'_>) -> Result<(), AllocError> {
     let linetype = if line.style == "S" {
         "CONTINUOUS"
     } else {
@@ -74,36 +73,36 @@ fn push_line(file: &mut String, view: View, line: Stroke<'_>) -> Result<(), Allo
 }
 
 /// Adds the four lines of a rectangle.
-fn push_rect(file: &mut String, view: View, rect: Stroke<'_>) -> Result<(), AllocError> {
+fn push_rect(file: &mut String, layer: &str, rect: Stroke<'_>) -> Result<(), AllocError> {
     let Stroke { x0, y0, x1, y1, .. } = rect;
-    push_line(file, view, Stroke { y1: y0, ..rect })?;
-    push_line(file, view, Stroke { y0: y1, ..rect })?;
-    push_line(file, view, Stroke { x1: x0, ..rect })?;
-    push_line(file, view, Stroke { x0: x1, ..rect })
+    push_line(file, layer, Stroke { y1: y0, ..rect })?;
+    push_line(file, layer, Stroke { y0: y1, ..rect })?;
+    push_line(file, layer, Stroke { x1: x0, ..rect })?;
+    push_line(file, layer, Stroke { x0: x1, ..rect })
 }
 
 /// Adds unit squares on the diagonal.
-fn push_diagonal(file: &mut String, view: View, count: u8) -> Result<(), AllocError> {
+fn push_diagonal(file: &mut String, layer: &str, count: u8) -> Result<(), AllocError> {
     for square in 0..count {
         let low = 2 * u16::from(square);
         let told = format!(in *file.allocator(); "S {low} {low} {} {}", low + 1, low + 1)?;
-        push_rect(file, view, stroke_of(told.as_str()))?;
+        push_rect(file, layer, stroke_of(told.as_str()))?;
     }
     Ok(())
 }
 
 /// Adds a rectangle, and in it so many dashed unit squares to the right and upwards.
-fn push_lattice(file: &mut String, view: View, wide: u8, high: u8) -> Result<(), AllocError> {
+fn push_lattice(file: &mut String, layer: &str, wide: u8, high: u8) -> Result<(), AllocError> {
     let (width, height) = (2 * u16::from(wide) + 1, 2 * u16::from(high) + 1);
     let outline = format!(in *file.allocator(); "S 0 0 {width} {height}")?;
-    push_rect(file, view, stroke_of(outline.as_str()))?;
+    push_rect(file, layer, stroke_of(outline.as_str()))?;
     for square in 0..u16::from(wide) * u16::from(high) {
         let (right, up) = (
             2 * (square % u16::from(wide)) + 1,
             2 * (square / u16::from(wide)) + 1,
         );
         let told = format!(in *file.allocator(); "D {right} {up} {} {}", right + 1, up + 1)?;
-        push_rect(file, view, stroke_of(told.as_str()))?;
+        push_rect(file, layer, stroke_of(told.as_str()))?;
     }
     Ok(())
 }
@@ -115,28 +114,54 @@ fn lattice_of(told: &str) -> (u8, u8) {
 }
 
 /// Does a step.
-fn take_step(file: &mut String, view: View, step: &str) -> Result<(), AllocError> {
+fn take_step(file: &mut String, layer: &str, step: &str) -> Result<(), AllocError> {
     match step.split_once(' ') {
         None if step == "blanks" => file.push_str("                "),
         None => write!(file, "{step}\n"),
-        Some(("line", rest)) => push_line(file, view, stroke_of(rest)),
-        Some(("rect", rest)) => push_rect(file, view, stroke_of(rest)),
-        Some(("diagonal", count)) => push_diagonal(file, view, count.parse().unwrap_or(0)),
+        Some(("line", rest)) => push_line(file, layer, stroke_of(rest)),
+        Some(("rect", rest)) => push_rect(file, layer, stroke_of(rest)),
+        Some(("diagonal", count)) => push_diagonal(file, layer, count.parse().unwrap_or(0)),
         Some(("lattice", told)) => {
             let (wide, high) = lattice_of(told);
-            push_lattice(file, view, wide, high)
+            push_lattice(file, layer, wide, high)
         }
         Some((code, value)) => write!(file, "{code}\n{value}\n"),
     }
 }
 
-/// The view whose layer has this name.
-fn view_on(layer: &str) -> Option<View> {
-    match layer {
-        "FRONT" => Some(View::Front),
-        "TOP" => Some(View::Top),
-        "SIDE" => Some(View::Side),
+/// A layer of strokes.
+#[derive(Clone, Copy)]
+enum Layer {
+    Front,
+    Top,
+    Side,
+    Left,
+    Rear,
+    Bottom,
+}
+
+/// The layer that has this name.
+fn layer_on(step: &str) -> Option<Layer> {
+    match step {
+        "FRONT" => Some(Layer::Front),
+        "TOP" => Some(Layer::Top),
+        "SIDE" => Some(Layer::Side),
+        "LEFT" => Some(Layer::Left),
+        "REAR" => Some(Layer::Rear),
+        "BOTTOM" => Some(Layer::Bottom),
         _ => None,
+    }
+}
+
+/// The name of a layer.
+fn name_of(layer: Layer) -> &'static str {
+    match layer {
+        Layer::Front => "FRONT",
+        Layer::Top => "TOP",
+        Layer::Side => "SIDE",
+        Layer::Left => "LEFT",
+        Layer::Rear => "REAR",
+        Layer::Bottom => "BOTTOM",
     }
 }
 
@@ -152,13 +177,13 @@ fn counted(step: &str) -> (usize, &str) {
 pub fn file_of(alloc: Global, steps: &str) -> Result<String, AllocError> {
     let steps = steps.replace(alloc, "cube", CUBE)?;
     let mut file = String::new(alloc);
-    let mut view = View::Front;
+    let mut layer = Layer::Front;
     for step in steps.as_str().split(", ") {
         let (count, step) = counted(step);
-        match view_on(step) {
-            Some(next) => view = next,
+        match layer_on(step) {
+            Some(next) => layer = next,
             None => for _ in 0..count {
-                take_step(&mut file, view, step)?;
+                take_step(&mut file, name_of(layer), step)?;
             },
         }
     }

@@ -63,6 +63,10 @@ prove_table = record { options = search_fields; number = None }
 abbrev pub check_table : Table
 check_table = record { options = []; number = None }
 
+-- what `ask` takes: those of a search, and no number
+abbrev pub ask_table : Table
+ask_table = prove_table
+
 -- what `make` takes: no option, and any number of 64 bits
 abbrev pub make_table : Table
 make_table = record { options = []; number = Some (record { least = 0; most = 18446744073709551615 }) }
@@ -106,6 +110,7 @@ commands = record { name = codes "solve"; table = solve_table; job = λ us. job.
     ∷ record { name = codes "stl"; table = stl_table; job = λ us. job.Stl (number_in us) (workers_in us) (limits_in us) }
     ∷ record { name = codes "prove"; table = prove_table; job = λ us. job.Prove (workers_in us) (limits_in us) }
     ∷ record { name = codes "check"; table = check_table; job = λ us. job.Check }
+    ∷ record { name = codes "ask"; table = ask_table; job = λ us. job.Ask (workers_in us) (limits_in us) }
     ∷ record { name = codes "make"; table = make_table; job = λ us. job.Make (number_in us) }
     ∷ record { name = codes "trial"; table = trial_table; job = λ us. job.Trial (number_in us) (workers_in us) } ∷ []
 
@@ -135,5 +140,6 @@ IsCounted (job.Redraw which workers limits decimals) = (1 ≤ which) × AreWorke
 IsCounted (job.Stl which workers limits) = (1 ≤ which) × AreWorkers workers
 IsCounted (job.Prove workers limits) = AreWorkers workers × (limits.solids ≤ most_solid_limit)
 IsCounted job.Check = Unit {0}
+IsCounted (job.Ask workers limits) = AreWorkers workers
 IsCounted (job.Make n) = Unit {0}
 IsCounted (job.Trial n workers) = AreWorkers workers

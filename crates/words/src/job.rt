@@ -43,6 +43,11 @@ pub enum Job {
     },
     /// The check of what is said to show that, behind a drawing.
     Check,
+    /// What readers of the growing list of these solids are asked, behind a drawing.
+    Ask {
+        workers: u32,
+        limits: Limits,
+    },
     /// The drawing that is made from a number.
     Make {
         n: u64,
@@ -123,6 +128,12 @@ static CHECK: Rows<'static> = Rows {
     number: None,
 };
 
+/// What `ask` takes.
+static ASK: Rows<'static> = Rows {
+    options: &[WORKERS_ROW, NODES_ROW, SOLIDS_ROW],
+    number: None,
+};
+
 /// What `make` takes.
 static MAKE: Rows<'static> = Rows {
     options: &[],
@@ -182,6 +193,13 @@ fn job_by(alloc: Global, command: &str, words: &[String]) -> Result<Job, WordFau
             said_by(alloc, &CHECK, words)?;
             Ok(Job::Check)
         }
+        "ask" => {
+            let said = said_by(alloc, &ASK, words)?;
+            Ok(Job::Ask {
+                workers: said.workers,
+                limits: said.limits,
+            })
+        }
         "make" => {
             let said = said_by(alloc, &MAKE, words)?;
             Ok(Job::Make { n: said.number })
@@ -202,7 +220,8 @@ fn job_by(alloc: Global, command: &str, words: &[String]) -> Result<Job, WordFau
 /// `solve` takes `--workers` from 1 to 64, by default 1, `--nodes` from 1 to 4,000,000, by default
 /// 1,000,000, `--solids` from 1 to 65,536, by default 4,096, `--decimals` from 0 to 6, by default
 /// 0, and `--pages`, which has no value. `redraw` takes these but `--pages`, `stl` the first three,
-/// and both a number from 1 to 65,536, which must be there. `make` and `trial` take a number below
+/// and both a number from 1 to 65,536, which must be there. `prove` and `ask` take the first three,
+/// and `check` nothing. `make` and `trial` take a number below
 /// 2 to the power 64, which must be there, and `trial` takes `--workers`. Options and the number
 /// stand in any order, each at most once; an option is written as `--name value` or as
 /// `--name=value`. A value is one or more digits; leading zeros count for nothing. `Usage` comes

@@ -27,6 +27,8 @@ pub fn small_jobs()
     ensures fractions { job_in (codes "redraw --decimals=03 2") ≡ redrawn 2 1 1000000 4096 3 }
     ensures stl { job_in (codes "stl --solids=7 3 --workers 2")
         ≡ Some (job.Stl 3 2 (record { nodes = 1000000; solids = 7 })) }
+    ensures ask { job_in (codes "ask --workers 2 --nodes=5")
+        ≡ Some (job.Ask 2 (record { nodes = 5; solids = 4096 })) }
     ensures make { job_in (codes "make 18446744073709551615")
         ≡ Some (job.Make 18446744073709551615) }
     ensures trial { job_in (codes "trial 0") ≡ Some (job.Trial 0 1) }
@@ -40,7 +42,7 @@ pub fn refused_words()
         ∷ codes "--nodes 3 solve" ∷ codes "--nodes=3" ∷ codes "solve=" ∷ []) ≡ false }
     ensures numbers { any_said (codes "redraw" ∷ codes "redraw 0" ∷ codes "redraw 65537"
         ∷ codes "redraw 1 2" ∷ codes "redraw --number 1" ∷ codes "stl" ∷ codes "stl 0"
-        ∷ codes "stl 1 1" ∷ codes "make" ∷ codes "make -1"
+        ∷ codes "stl 1 1" ∷ codes "ask 1" ∷ codes "ask --pages" ∷ codes "make" ∷ codes "make -1"
         ∷ codes "make 7 --nodes 3" ∷ codes "make --workers 2 7"
         ∷ codes "make 18446744073709551616" ∷ codes "trial"
         ∷ codes "trial 7 7" ∷ codes "trial --solids=3 7" ∷ codes "trial 7 --pages"

@@ -1,98 +1,27 @@
--- Pair after pair, what is read is what is left to be read.
-use Rattle.std.proofs.Common.{◌≡◌, Ok, Err, IsErrOf, length, refl, sym, ap, subst, ◌∙◌, arith}
-use Rattle.std.proofs.lemmas.Result.{err_from_is_err_and, IfOk-weaker}
+-- The lines that are kept in three views are those of the views.
+use Rattle.std.proofs.Common.{false, List, Result, Ok, Err, IsErrOf, Vec, Global, sym, ap, ◌∙◌}
+use Rattle.std.proofs.lemmas.Result.{err_from_is_err_and}
+use Rattle.solid_model.specs.declared.fault.Fault.{Fault}
 use Rattle.solid_model.specs.declared.fault.Refused.TheVariants as refused
-use Rattle.dxf_groups.specs.Groups.{Gives}
-use Rattle.dxf_groups.specs.Pairs.{Pairs}
-use Rattle.dxf_entities.specs.Reading.{read_of, pairs_read}
-use Rattle.dxf_entities.specs.Resuming.{resumed}
-use Rattle.dxf_entities.proofs.Resumes.{ends_at_fault, pair_read, end_read_at, read_through}
+use Rattle.solid_model.specs.Line.{Line}
+use Rattle.dxf_entities.specs.declared.layer_line.LayerLine.{LayerLine}
+use Rattle.dxf_entities.specs.Reading.{lines_on, read_of, text_read}
+use Rattle.dxf_entities.specs.Steps.{◌>>=◌}
 use Rattle.dxf_entities.proofs.reading.entities.Goals as goal
 
-pub loop-reader-init : goal.loop-reader-init
-unfolding read_of
-loop-reader-init c = record {
-  read = ap (pairs_read c.args.decimals) (sym c.requires.fresh) ∙ sym (c.new-reader.ensures c.args.groups.now.left);
-  same_text = refl;
-  same_ending = ap (λ (ps : Pairs). ps.ending) (sym c.requires.fresh);
-}
+-- those of the views, of what is read
+abbrev of_views : Result (List LayerLine) Fault → Result (List Line) Fault
+of_views read = read >>= λ ls. Ok (lines_on false ls)
 
-pub returns-in_err-pair-clause-fault : goal.returns-in_err-pair-clause-fault
-returns-in_err-pair-clause-fault c = λ f is.
+pub returns-in_err-lines-clause-fault : goal.returns-in_err-lines-clause-fault
+unfolding read_of text_read
+returns-in_err-lines-clause-fault c = λ f is.
     let q = err_from_is_err_and c.from_residual.result c.from_residual.ensures.1 in
-    let same : c.in_err-pair.field-0.0 ≡ f = cc in
-    c.loop-reader.invariant.read
-    ∙ (ap (λ ps. resumed ps.pairs ps.ending c.loop-reader.reader) c.in_err-pair.ensures.0
-    ∙ (ends_at_fault c.loop-reader.reader c.in_err-pair.field-0.0 ∙ ap Err same))
-
-pub loop-reader-smaller : goal.loop-reader-smaller
-loop-reader-smaller c =
-    let gives =
-    subst (λ r. Gives c.loop-reader.groups r c.next.new.self)
-    (c.in_ok-pair.was ∙ ap Ok c.in-Some.is) c.next.ensures in
-    let l = ap (λ (ps : Pairs). length ps.pairs) gives.first in omega (arith, l)
-
-pub loop-reader-preserved : goal.loop-reader-preserved
-loop-reader-preserved c =
-    let gives =
-    subst (λ r. Gives c.loop-reader.groups r c.next.new.self)
-    (c.in_ok-pair.was ∙ ap Ok c.in-Some.is) c.next.ensures in
-    record {
-      read =
-          c.loop-reader.invariant.read
-          ∙ (pair_read c.loop-reader.groups c.next.new.self c.loop-reader.reader c.in-Some.pair
-          c.value_of.result.now
-          gives c.value_of.ensures
-          ∙ c.in_ok-take.ensures.taken c.next.new.self.left.pairs c.next.new.self.left.ending);
-      same_text = gives.same_text ∙ c.loop-reader.invariant.same_text;
-      same_ending =
-          c.loop-reader.invariant.same_ending
-          ∙ ap (λ (ps : Pairs). ps.ending) gives.first;
-    }
-
-pub returns-in_err-take-clause-fault : goal.returns-in_err-take-clause-fault
-returns-in_err-take-clause-fault c = λ f is.
-    let q =
-    err_from_is_err_and c.from_residual-in_err-take.result c.from_residual-in_err-take.ensures.1 in
-    let faulty : IsErrOf {T = Unit {0}} (Err c.in_err-take.field-0.0) (refused.Fault f) = cc in
-    let gives =
-    subst (λ r. Gives c.loop-reader.groups r c.next.new.self)
-    (c.in_ok-pair.was ∙ ap Ok c.in-Some.is) c.next.ensures in
-    c.loop-reader.invariant.read
-    ∙ (pair_read c.loop-reader.groups c.next.new.self c.loop-reader.reader c.in-Some.pair
-    c.value_of.result.now
-    gives c.value_of.ensures
-    ∙ c.in_err-take.ensures.fault f faulty c.next.new.self.left.pairs c.next.new.self.left.ending)
+    let faulty : IsErrOf {T = Vec LayerLine Global} (Err c.in_err-lines.field-0.0) (refused.Fault f) = cc in
+    ap of_views (ap (λ form. text_read form c.args.groups.now.text) (sym c.three_views.ensures) ∙ c.in_err-lines.ensures.fault f faulty)
 
 pub returns-clause-lines : goal.returns-clause-lines
+unfolding read_of text_read
 returns-clause-lines c =
-    let gives =
-    subst (λ r. Gives c.loop-reader.groups r c.next.new.self)
-    (c.in_ok-pair.was ∙ ap Ok c.in_default.is) c.next.ensures in
-    let all = c.loop-reader.invariant.read
-    ∙ end_read_at c.loop-reader.groups c.next.new.self c.unwrap-end.result c.loop-reader.reader
-    gives
-    (sym c.end_line.ensures ∙ c.unwrap-end.ensures) in
-    IfOk-weaker c.finish.result _ _ (λ lines read. all ∙ read) c.finish.ensures.read
-
-pub returns-clause-through : goal.returns-clause-through
-returns-clause-through c =
-    let gives =
-    subst (λ r. Gives c.loop-reader.groups r c.next.new.self)
-    (c.in_ok-pair.was ∙ ap Ok c.in_default.is) c.next.ensures in
-    let before = c.loop-reader.invariant in
-    IfOk-weaker c.finish.result _ _
-    (λ lines read.
-    read_through _ c.loop-reader.groups c.next.new.self before.same_text before.same_ending gives)
-    c.finish.ensures.read
-
-pub returns-clause-fault : goal.returns-clause-fault
-returns-clause-fault c = λ f is.
-    let gives =
-    subst (λ r. Gives c.loop-reader.groups r c.next.new.self)
-    (c.in_ok-pair.was ∙ ap Ok c.in_default.is) c.next.ensures in
-    c.loop-reader.invariant.read
-    ∙
-    (end_read_at c.loop-reader.groups c.next.new.self c.unwrap-end.result c.loop-reader.reader gives
-    (sym c.end_line.ensures ∙ c.unwrap-end.ensures)
-    ∙ c.finish.ensures.fault f is)
+    ap of_views (ap (λ form. text_read form c.args.groups.now.text) (sym c.three_views.ensures) ∙ c.in_ok-lines.ensures.lines)
+    ∙ ap Ok (sym (c.in_ok-own.ensures ∙ ap (lines_on false) c.deref.ensures.value))

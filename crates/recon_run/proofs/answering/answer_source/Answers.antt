@@ -14,7 +14,7 @@ returns-in-Problem-clause-ends g c =
     judged_ends profile (asked_of c.args.form.now) (g.S.Source.left c.args.source.now) (g.S.Source.left c.find.new.source)
     (Rose (g.S.Source.faults c.args.source.now) (g.S.Source.faults c.find.new.source))
     (Rose (g.K.Sink.faults c.args.sink.now) (g.K.Sink.faults c.answer_problem.new.sink)) t reads (g.K.Sink.held c.args.sink.now) (g.K.Sink.held c.answer_problem.new.sink)
-    c.answer_problem.result found_there.problem has (c.answer_problem.ensures t has behind)
+    c.answer_problem.result found_there.sought.problem has.0 (c.answer_problem.ensures t has behind)
 
 pub returns-in-Fault-clause-ends : goal.returns-in-Fault-clause-ends
 returns-in-Fault-clause-ends g c =

@@ -1,5 +1,5 @@
 -- What the check tells is said of the bytes behind the drawing.
-use Rattle.std.proofs.Common.{◌≡◌, ◌∙◌, inl, inr, List, ℕ, ap, subst, sym, refl}
+use Rattle.std.proofs.Common.{codes, ◌≡◌, ◌∙◌, inl, inr, List, ℕ, ap, subst, sym}
 use Rattle.replies.specs.declared.status.Answer.{Answer}
 use Rattle.replies.specs.declared.status.Answer.TheVariants as answers
 use Rattle.replies.specs.Writings.{IsReply}
@@ -13,25 +13,25 @@ use Rattle.tv_base.specs.Faults.{Rose}
 use Rattle.recon_run.proofs.check.answer_check.Goals as goal
 
 pub returns-in_ok-text-in-Ok : goal.returns-in_ok-text-in-Ok
-returns-in_ok-text-in-Ok g c t has behind =
-    let p = c.args.problem.now in let log = c.args.rest.now in let input = input_of c.args.profile.now t in
+returns-in_ok-text-in-Ok g c t by behind =
+    let p = c.args.sought.now.problem in let log = c.args.rest.now in let input = input_of c.args.profile.now t in
     let told = c.as_slice-in-Ok.result.now in let cs = c.in-Ok.choices.items in
     let (listed, is, permuted, ascends) = c.in-Ok.ensures.ok in
     let text_is : told ≡ yes_text cs = c.as_slice-in-Ok.ensures.value ∙ c.in_ok-text-in-Ok.ensures ∙ ap yes_text c.as_slice.ensures.value in
     let weaken : (a : Answer) (text : List ℕ) → IsReply answers.Done told a text → TellsChecked input a text =
-    λ a text said. (p, has, log, behind, inl (said.0, subst (SaysYes has log) (sym (said.1 ∙ text_is)) (says_yes input p has log listed cs is permuted ascends))) in
+    λ a text said. (p, by.0, log, behind, inl (said.0, subst (SaysYes by.0 log) (sym (said.1 ∙ text_is)) (says_yes input p by.0 log listed cs is permuted ascends))) in
     writing_weaker Answer (IsReply answers.Done told) (IsReply answers.Done told) (TellsChecked input) (TellsChecked input) (g.K.Sink.held c.args.sink.now) (g.K.Sink.held c.write_reply.new.sink)
     (Rose (g.K.Sink.faults c.args.sink.now) (g.K.Sink.faults c.write_reply.new.sink)) weaken weaken c.write_reply.result c.write_reply.ensures
 
 pub returns-in_ok-text-in-Err-Fault : goal.returns-in_ok-text-in-Err-Fault
-returns-in_ok-text-in-Err-Fault g c t has behind =
-    let p = c.args.problem.now in let log = c.args.rest.now in let input = input_of c.args.profile.now t in
+returns-in_ok-text-in-Err-Fault g c t by behind =
+    let p = c.args.sought.now.problem in let log = c.args.rest.now in let input = input_of c.args.profile.now t in
     let told = c.as_slice-in-Err-Fault.result.now in let fault = c.in-Err-Fault.fault in
     let refused : IsLogRefused p log fault.kind fault.line = subst (TellsRefusal (IsLogRefused p log)) c.in-Err-Fault.field-0-is c.in-Err-Fault.ensures.refused in
-    let text_is : told ≡ refusal_text (log_kind_name fault.kind) fault.line =
-    c.as_slice-in-Err-Fault.ensures.value ∙ c.in_ok-text-in-Err-Fault.ensures ∙ ap (λ (name : List ℕ). refusal_text name fault.line) c.log_kind_name.ensures in
+    let text_is : told ≡ refusal_text (codes "log") (log_kind_name fault.kind) fault.line =
+    c.as_slice-in-Err-Fault.ensures.value ∙ c.in_ok-text-in-Err-Fault.ensures ∙ ap (λ (name : List ℕ). refusal_text (codes "log") name fault.line) c.log_kind_name.ensures in
     let weaken : (a : Answer) (text : List ℕ) → IsReply answers.Refused told a text → TellsChecked input a text =
-    λ a text said. (p, has, log, behind, inr (said.0, (fault.kind, fault.line, refused, said.1 ∙ text_is))) in
+    λ a text said. (p, by.0, log, behind, inr (said.0, (fault.kind, fault.line, refused, said.1 ∙ text_is))) in
     writing_weaker Answer (IsReply answers.Refused told) (IsReply answers.Refused told) (TellsChecked input) (TellsChecked input) (g.K.Sink.held c.args.sink.now)
     (g.K.Sink.held c.write_reply-in-Err-Fault.new.sink) (Rose (g.K.Sink.faults c.args.sink.now) (g.K.Sink.faults c.write_reply-in-Err-Fault.new.sink)) weaken weaken
     c.write_reply-in-Err-Fault.result c.write_reply-in-Err-Fault.ensures

@@ -56,4 +56,4 @@ returns-in-Stl-clause-ends g c =
     let sink_rose = Rose (g.K.Sink.faults c.args.sink.now) (g.K.Sink.faults c.answer_source-in-Stl.new.sink) in
     subst (λ j. Ends (owed_for j) left rest held now source_rose sink_rose c.answer_source-in-Stl.result) (sym c.in-Stl.is)
     (subst (λ (profile : ProfileParts). Ends (read profile (searched (search_for_one (λ _. IsSolidStl) c.in-Stl.which c.in-Stl.limits))) left rest held now
-    source_rose sink_rose c.answer_source-in-Stl.result) c.drawing-profile-in-Stl.ensures c.answer_source-in-Stl.ensures.ends)
+    source_rose sink_rose c.answer_source-in-Stl.result) c.three_views-profile.ensures c.answer_source-in-Stl.ensures.ends)

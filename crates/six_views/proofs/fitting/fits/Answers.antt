@@ -6,8 +6,9 @@ use Rattle.solid_model.specs.declared.cell.Cell.{Cell}
 use Rattle.solid_model.specs.Cells.{is_full}
 use Rattle.solid_model.specs.Grid.{IsUnionOf}
 use Rattle.solid_model.specs.Panels.{GridParts, coordinates_of}
-use Rattle.six_views.specs.declared.extra.Extra.TheVariants.{Left, Rear, Bottom}
-use Rattle.six_views.specs.Further.{FurtherParts, ShowsAsked, FitsRuns, further_runs}
+use Rattle.dxf_entities.specs.declared.extra.Extra.TheVariants.{Left, Rear, Bottom}
+use Rattle.further_views.specs.Further.{FurtherParts, further_runs}
+use Rattle.six_views.specs.Further.{ShowsAsked, FitsRuns}
 use Rattle.six_views.proofs.fitting.fits.Goals as goal
 
 -- a union of the cells of a grid is one of equal cells of an equal grid

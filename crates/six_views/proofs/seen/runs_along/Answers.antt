@@ -11,7 +11,7 @@ use Rattle.solid_model.specs.Runs.{run_style}
 use Rattle.column_laws.specs.GridPanels.{AreStylesAlong}
 use Rattle.columns.specs.ColumnLists.{AreColumns}
 use Rattle.redraw.specs.GridRuns.{AreRunsOn}
-use Rattle.six_views.specs.FurtherFrames.{seen_as}
+use Rattle.further_views.specs.Further.{seen_as}
 use Rattle.six_views.specs.Turned.{turn_axis, turned_coordinates}
 use Rattle.six_views.proofs.SeenRuns.{places_seen, runs_seen, count_seen}
 use Rattle.six_views.proofs.TurnedGrid.{counts-turned}

@@ -7,7 +7,8 @@ use Rattle.solid_model.specs.PerAxis.{numbers_of}
 use Rattle.column_lanes.specs.declared.column.Column.{Column}
 use Rattle.columns.specs.ColumnLists.{AreColumns}
 use Rattle.solid_model.specs.DrawnStyle.{solid_drawing}
-use Rattle.six_views.specs.FurtherFrames.{further_frame, seen_as}
+use Rattle.further_views.specs.Further.{seen_as}
+use Rattle.six_views.specs.FurtherFrames.{further_frame}
 use Rattle.six_views.specs.Turned.{turned_cells}
 use Rattle.six_views.proofs.SeenRuns.{columns_are, view_seen}
 use Rattle.six_views.proofs.seen.seen_lines.Goals as goal

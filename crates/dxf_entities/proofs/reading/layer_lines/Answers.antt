@@ -1,0 +1,98 @@
+-- Pair after pair, what is read is what is left to be read.
+use Rattle.std.proofs.Common.{◌≡◌, Ok, Err, IsErrOf, length, refl, sym, ap, subst, ◌∙◌, arith}
+use Rattle.std.proofs.lemmas.Result.{err_from_is_err_and, IfOk-weaker}
+use Rattle.solid_model.specs.declared.fault.Refused.TheVariants as refused
+use Rattle.dxf_groups.specs.Groups.{Gives}
+use Rattle.dxf_groups.specs.Pairs.{Pairs}
+use Rattle.dxf_entities.specs.Reading.{text_read, pairs_read}
+use Rattle.dxf_entities.specs.Resuming.{resumed}
+use Rattle.dxf_entities.proofs.Resumes.{ends_at_fault, pair_read, end_read_at, read_through}
+use Rattle.dxf_entities.proofs.reading.layer_lines.Goals as goal
+
+pub loop-reader-init : goal.loop-reader-init
+unfolding text_read
+loop-reader-init c = record {
+  read = ap (pairs_read c.args.form) (sym c.requires) ∙ sym (c.new-reader.ensures c.args.groups.now.left);
+  same_text = refl;
+  same_ending = ap (λ (ps : Pairs). ps.ending) (sym c.requires);
+}
+
+pub returns-in_err-pair-clause-fault : goal.returns-in_err-pair-clause-fault
+returns-in_err-pair-clause-fault c = λ f is.
+    let q = err_from_is_err_and c.from_residual.result c.from_residual.ensures.1 in
+    let same : c.in_err-pair.field-0.0 ≡ f = cc in
+    c.loop-reader.invariant.read
+    ∙ (ap (λ ps. resumed ps.pairs ps.ending c.loop-reader.reader) c.in_err-pair.ensures.0
+    ∙ (ends_at_fault c.loop-reader.reader c.in_err-pair.field-0.0 ∙ ap Err same))
+
+pub loop-reader-smaller : goal.loop-reader-smaller
+loop-reader-smaller c =
+    let gives =
+    subst (λ r. Gives c.loop-reader.groups r c.next.new.self)
+    (c.in_ok-pair.was ∙ ap Ok c.in-Some.is) c.next.ensures in
+    let l = ap (λ (ps : Pairs). length ps.pairs) gives.first in omega (arith, l)
+
+pub loop-reader-preserved : goal.loop-reader-preserved
+loop-reader-preserved c =
+    let gives =
+    subst (λ r. Gives c.loop-reader.groups r c.next.new.self)
+    (c.in_ok-pair.was ∙ ap Ok c.in-Some.is) c.next.ensures in
+    record {
+      read =
+          c.loop-reader.invariant.read
+          ∙ (pair_read c.loop-reader.groups c.next.new.self c.loop-reader.reader c.in-Some.pair
+          c.value_of.result.now
+          gives c.value_of.ensures
+          ∙ c.in_ok-take.ensures.taken c.next.new.self.left.pairs c.next.new.self.left.ending);
+      same_text = gives.same_text ∙ c.loop-reader.invariant.same_text;
+      same_ending =
+          c.loop-reader.invariant.same_ending
+          ∙ ap (λ (ps : Pairs). ps.ending) gives.first;
+    }
+
+pub returns-in_err-take-clause-fault : goal.returns-in_err-take-clause-fault
+returns-in_err-take-clause-fault c = λ f is.
+    let q =
+    err_from_is_err_and c.from_residual-in_err-take.result c.from_residual-in_err-take.ensures.1 in
+    let faulty : IsErrOf {T = Unit {0}} (Err c.in_err-take.field-0.0) (refused.Fault f) = cc in
+    let gives =
+    subst (λ r. Gives c.loop-reader.groups r c.next.new.self)
+    (c.in_ok-pair.was ∙ ap Ok c.in-Some.is) c.next.ensures in
+    c.loop-reader.invariant.read
+    ∙ (pair_read c.loop-reader.groups c.next.new.self c.loop-reader.reader c.in-Some.pair
+    c.value_of.result.now
+    gives c.value_of.ensures
+    ∙ c.in_err-take.ensures.fault f faulty c.next.new.self.left.pairs c.next.new.self.left.ending)
+
+pub returns-clause-lines : goal.returns-clause-lines
+returns-clause-lines c =
+    let gives =
+    subst (λ r. Gives c.loop-reader.groups r c.next.new.self)
+    (c.in_ok-pair.was ∙ ap Ok c.in_default.is) c.next.ensures in
+    let all = c.loop-reader.invariant.read
+    ∙ end_read_at c.loop-reader.groups c.next.new.self c.unwrap-end.result c.loop-reader.reader
+    gives
+    (sym c.end_line.ensures ∙ c.unwrap-end.ensures) in
+    IfOk-weaker c.finish.result _ _ (λ lines read. all ∙ read) c.finish.ensures.read
+
+pub returns-clause-through : goal.returns-clause-through
+returns-clause-through c =
+    let gives =
+    subst (λ r. Gives c.loop-reader.groups r c.next.new.self)
+    (c.in_ok-pair.was ∙ ap Ok c.in_default.is) c.next.ensures in
+    let before = c.loop-reader.invariant in
+    IfOk-weaker c.finish.result _ _
+    (λ lines read.
+    read_through _ c.loop-reader.groups c.next.new.self before.same_text before.same_ending gives)
+    c.finish.ensures.read
+
+pub returns-clause-fault : goal.returns-clause-fault
+returns-clause-fault c = λ f is.
+    let gives =
+    subst (λ r. Gives c.loop-reader.groups r c.next.new.self)
+    (c.in_ok-pair.was ∙ ap Ok c.in_default.is) c.next.ensures in
+    c.loop-reader.invariant.read
+    ∙
+    (end_read_at c.loop-reader.groups c.next.new.self c.unwrap-end.result c.loop-reader.reader gives
+    (sym c.end_line.ensures ∙ c.unwrap-end.ensures)
+    ∙ c.finish.ensures.fault f is)

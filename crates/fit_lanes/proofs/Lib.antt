@@ -1,0 +1,10 @@
+pub mod ByLines
+pub mod WantedRuns
+pub mod WantedBytes
+pub mod DrawnBytes
+pub mod ShownOnGrid
+pub mod GridFacts
+pub mod SightRows
+pub mod MovedStyles
+pub mod Told
+pub mod AllTold

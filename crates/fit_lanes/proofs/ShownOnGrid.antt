@@ -1,0 +1,352 @@
+-- A solid that begins where the grid does shows a further view exactly where it draws the wanted bytes.
+use Rattle.std.proofs.Common.{◌≡◌, ◌≢◌, ◌↔◌, inl, inr, ⊎_elim, Bool, true, false, nat_lt, if◌then◌else◌, ℕ, ◌+◌, ◌-◌, ◌*◌, ◌/◌, ◌%◌, ◌<◌, ◌≤◌, List, [], ◌∷◌, length, map, slice_index_or, Option, Some, None, ℤ, pos, ◌<ℤ◌, ◌≤ℤ◌, refl, ap, sym, subst, ◌∙◌, arith}
+use Rattle.std.specs.List.{range_with_len}
+use Rattle.std.specs.Prelude.{MatchOption}
+use Rattle.std.proofs.lemmas.Bool.{lt-ltb, cases_lt, false≢true}
+use Rattle.std.proofs.lemmas.Int.{ints}
+use Rattle.std.proofs.lemmas.List.{length-map, get_or-map}
+use Rattle.std.proofs.lemmas.List.FromFn.{length-range_with_len, get_or-range_with_len}
+use Rattle.std.proofs.lemmas.Nat.{div-mul-add, mod-mul-add, mul-add-lt}
+use Rattle.std.proofs.Math.Nat.{mul_comm}
+use Rattle.lemmas.specs.Lists.{Member, Ascends}
+use Rattle.lemmas.proofs.ListPlaces.{member-place}
+use Rattle.solid_model.specs.declared.cell.Axis.{Axis}
+use Rattle.solid_model.specs.declared.cell.Cell.{Cell}
+use Rattle.solid_model.specs.declared.frame.Frame.{Frame}
+use Rattle.solid_model.specs.declared.frame.View.{View}
+use Rattle.solid_model.specs.declared.runs.Run.{Run}
+use Rattle.solid_model.specs.declared.segment.Segment.{Segment}
+use Rattle.solid_model.specs.declared.segment.Style.{Style}
+use Rattle.solid_model.specs.declared.segment.Style.TheVariants.{Blank}
+use Rattle.solid_model.specs.Cells.{is_full, IsSolid}
+use Rattle.solid_model.specs.DrawnStyle.{solid_drawing}
+use Rattle.solid_model.specs.Frames.{frame_of, along, across}
+use Rattle.solid_model.specs.Grid.{Coordinates, is_in_gap, IsInSomeGap, gaps_along, IsUnionOf}
+use Rattle.solid_model.specs.Moved.{BeginsAt}
+use Rattle.solid_model.specs.PerView.{of_view}
+use Rattle.solid_model.specs.Runs.{run_style, AreRuns, ViewRuns, runs_along}
+use Rattle.solid_model.specs.Segments.{along_of, across_of, segment_at}
+use Rattle.solid_model.proofs.Gaps.{member, lies_in, begins_gap, earlier_at_most}
+use Rattle.solid_model.proofs.InGrid.{gap_or_none}
+use Rattle.solid_model.proofs.OnGrid.{StaysOnGrid}
+use Rattle.solid_model.proofs.SameOnGrid.{member_or_not}
+use Rattle.solid_model.proofs.Styles.{cell_beside_drawn, drawn_style_drawn}
+use Rattle.solid_model.proofs.Views.{views_are_frames}
+use Rattle.column_lanes.specs.Styles.{style_byte}
+use Rattle.column_laws.specs.GridColumns.{grid_column}
+use Rattle.column_laws.specs.GridPanels.{HasCounts, IsColumnBeside, AreColumnsBeside, IsStyleBetween}
+use Rattle.column_laws.proofs.GridSegments.{segment_drawn}
+use Rattle.redraw.proofs.SomeFile.{some_file}
+use Rattle.dxf_entities.specs.declared.extra.Extra.{Extra}
+use Rattle.dxf_entities.specs.declared.extra.Extra.TheVariants.{Left, Rear, Bottom}
+use Rattle.six_views.specs.Fits.{ShowsMoved}
+use Rattle.further_views.specs.Further.{seen_as, view_style}
+use Rattle.six_views.specs.FurtherFrames.{further_frame}
+use Rattle.six_views.specs.MovedRuns.{AreMovedRuns}
+use Rattle.six_views.specs.Turned.{turn_axis, turned_cells, turned_coordinates, AreTurnedCells}
+use Rattle.six_views.proofs.MovedRuns.{shows_where_moved}
+use Rattle.six_views.proofs.SeenTurned.{some_turned, turned_union, seen_on_grid}
+use Rattle.six_views.proofs.Turned.{further_drawn}
+use Rattle.six_views.proofs.TurnedColumns.{column_turned}
+use Rattle.six_views.proofs.TurnedGrid.{count-turned, counts-turned}
+use Rattle.fit_lanes.specs.Points.{point_byte, ArePointBytes}
+use Rattle.fit_lanes.specs.Sights.{width, height}
+use Rattle.fit_lanes.specs.Wanted.{first_coordinate, placed_runs, HaveRuns, turned_lines, turned_ends, AreWantedBytes, AreNeverDrawn}
+use Rattle.fit_lanes.proofs.WantedBytes.{lines_count, ends_count}
+
+-- both views have the same axes
+same_across : (x : Extra) (upright : Bool) → (across (further_frame x) upright).axis ≡ (across (frame_of (seen_as x)) upright).axis
+same_across Left true = refl
+same_across Left false = refl
+same_across Rear true = refl
+same_across Rear false = refl
+same_across Bottom true = refl
+same_across Bottom false = refl
+
+same_along : (x : Extra) (upright : Bool) → (along (further_frame x) upright).axis ≡ (along (frame_of (seen_as x)) upright).axis
+same_along Left true = refl
+same_along Left false = refl
+same_along Rear true = refl
+same_along Rear false = refl
+same_along Bottom true = refl
+same_along Bottom false = refl
+
+module _ (x : Extra) (coordinates : Coordinates) (ordered : (a : Axis) → Ascends ◌<ℤ◌ (coordinates a)) (some : (a : Axis) → 0 < length (coordinates a))
+    (chosen : List Bool) (s : List Cell) (union : IsUnionOf coordinates chosen (is_full s)) where
+  abbrev f : Frame
+  f = further_frame x
+
+  abbrev v : View
+  v = seen_as x
+
+  abbrev main : Frame
+  main = frame_of v
+
+  abbrev sizes : Axis → ℕ
+  sizes = gaps_along coordinates
+
+  abbrev w : ℕ
+  w = width x sizes
+
+  abbrev h : ℕ
+  h = height x sizes
+
+  abbrev counts : Axis → ℕ
+  counts a = length (coordinates a)
+
+  has : HasCounts counts coordinates
+  has = record { ordered = ordered; count = λ a. refl }
+
+  abbrev grid : Coordinates
+  grid = turned_coordinates (turn_axis x) coordinates
+
+  abbrev lines : Bool → List ℤ
+  lines upright = turned_lines coordinates x upright
+
+  abbrev ends : Bool → List ℤ
+  ends upright = turned_ends coordinates x upright
+
+  abbrev turned : List Bool
+  turned = (some_turned (turn_axis x) sizes chosen).0
+
+  are : AreTurnedCells (turn_axis x) sizes chosen turned
+  are = (some_turned (turn_axis x) sizes chosen).1
+
+  abbrev drawing : Segment → Style
+  drawing = solid_drawing (turned_cells x s)
+
+  stays : StaysOnGrid grid drawing
+  stays = seen_on_grid x counts coordinates has chosen turned are s union
+
+  grid_ordered : (a : Axis) → Ascends ◌<ℤ◌ (grid a)
+  grid_ordered = (counts-turned (turn_axis x) coordinates counts has).ordered
+
+  -- ---- the drawing stays on the grid
+
+  off_lines : (upright : Bool) (start line : ℤ) → (Member (lines upright) line → ⊥) → drawing (segment_at v upright start line) ≡ Blank
+  off_lines upright = subst (λ (a : Axis). (start line : ℤ) → (Member (grid a) line → ⊥) → drawing (segment_at v upright start line) ≡ Blank)
+      (sym (same_across x upright)) (λ start line. stays.off_lines v upright start line)
+
+  off_ends : (upright : Bool) (start line : ℤ) → (IsInSomeGap (ends upright) start → ⊥) → drawing (segment_at v upright start line) ≡ Blank
+  off_ends upright = subst (λ (a : Axis). (start line : ℤ) → (IsInSomeGap (grid a) start → ⊥) → drawing (segment_at v upright start line) ≡ Blank)
+      (sym (same_along x upright)) (λ start line. stays.off_ends v upright start line)
+
+  steady : (upright : Bool) (n : ℕ) (start other line : ℤ) → is_in_gap (ends upright) n start ≡ true → is_in_gap (ends upright) n other ≡ true
+      → drawing (segment_at v upright start line) ≡ drawing (segment_at v upright other line)
+  steady upright = subst (λ (a : Axis). (n : ℕ) (start other line : ℤ) → is_in_gap (grid a) n start ≡ true → is_in_gap (grid a) n other ≡ true
+      → drawing (segment_at v upright start line) ≡ drawing (segment_at v upright other line))
+      (sym (same_along x upright)) (λ n start other line. stays.steady v upright n start other line)
+
+  -- ---- its styles on the grid
+
+  abbrev cells : Bool → ℕ
+  cells upright = length (ends upright) - 1
+
+  abbrev pub style_from : Bool → ℕ → ℕ → Style
+  style_from upright line cell = drawing (segment_at v upright (member (ends upright) cell) (member (lines upright) line))
+
+  abbrev pub styles : Bool → List Style
+  styles upright = map (λ p. style_from upright (p / cells upright) (p % cells upright)) (range_with_len 0 (length (lines upright) * cells upright))
+
+  styles_count : (upright : Bool) → length (styles upright) ≡ length (lines upright) * cells upright
+  styles_count upright = length-map (range_with_len 0 (length (lines upright) * cells upright)) _ ∙ length-range_with_len 0 (length (lines upright) * cells upright)
+
+  style_at : (upright : Bool) (line cell : ℕ) → line < length (lines upright) → cell < cells upright
+      → slice_index_or (styles upright) (line * cells upright + cell) Blank ≡ style_from upright line cell
+  style_at upright line cell l m =
+      let c : ℕ = cells upright in
+      let n : ℕ = length (lines upright) * c in
+      let p : ℕ = line * c + cell in
+      let within : p < n = omega (arith, mul-add-lt line c cell (length (lines upright)) l m, mul_comm c (length (lines upright))) in
+      let first : 0 + p ≡ p = omega arith in
+      get_or-map (λ q. style_from upright (q / c) (q % c)) (range_with_len 0 n) p 0 Blank (subst (λ k. p < k) (sym (length-range_with_len 0 n)) within)
+      ∙ ap (λ q. style_from upright (q / c) (q % c)) (get_or-range_with_len 0 n p 0 within ∙ first)
+      ∙ (λ t. style_from upright (div-mul-add line c cell m t) (mod-mul-add line c cell m t))
+
+  -- runs that show it are those of the styles
+  pub have_runs : (upright : Bool) (own : List Run) → AreRuns own → ((j z : ℤ) → run_style own j z ≡ drawing (segment_at v upright z j))
+      → HaveRuns (lines upright) (ends upright) (styles upright) own
+  have_runs upright own runs show = record {
+    count = styles_count upright;
+    runs_on = record {
+      are_runs = runs;
+      shown = λ line cell z l gap.
+          let es = ends upright in
+          let lies = (lies_in es cell z gap).within in
+          show (member (lines upright) line) z
+          ∙ steady upright cell z (member es cell) (member (lines upright) line) gap (begins_gap es (grid_ordered (along f upright).axis) cell lies)
+          ∙ sym (style_at upright line cell l (omega arith));
+      off_lines = λ j z none. show j z ∙ off_lines upright z j none;
+      off_ends = λ j z none. show j z ∙ off_ends upright z j none;
+    };
+  }
+
+  -- ---- what columns draw
+
+  beside_turned : (upright : Bool) (start line n : ℕ) → start < sizes (along main upright).axis → IsColumnBeside f sizes chosen upright start line n
+      → IsColumnBeside main sizes turned upright start line n
+  beside_turned upright start line n m at = record {
+    inside = λ l k. at.inside (subst (λ (a : Axis). line < sizes a) (sym (same_across x upright)) l) k ∙ by upright l m k;
+    outside = λ l. at.outside (subst (λ (a : Axis). sizes a ≤ line) (sym (same_across x upright)) l);
+  }
+    where
+      by : (u : Bool) → line < sizes (across main u).axis → start < sizes (along main u).axis → (k : ℤ)
+          → grid_column f sizes chosen (across_of u line start) (along_of u line start) k ≡ grid_column main sizes turned (across_of u line start) (along_of u line start) k
+      by true l m = column_turned x sizes chosen turned are line start l m
+      by false l m = column_turned x sizes chosen turned are start line m l
+
+  -- the style between two columns is that of the drawing
+  between_drawn : (upright : Bool) (line cell : ℕ) → line < length (lines upright) → cell < cells upright → (style : Style)
+      → IsStyleBetween f sizes chosen upright cell line style → style ≡ style_from upright line cell
+  between_drawn upright line cell l m style (after, before, at, draws) =
+      let e : length (ends upright) ≡ length (grid (along main upright).axis) = ap (λ (a : Axis). length (grid a)) (same_along x upright) in
+      let e_lines : length (lines upright) ≡ length (grid (across main upright).axis) = ap (λ (a : Axis). length (grid a)) (same_across x upright) in
+      let gaps : gaps_along grid ≡ sizes = (λ t b. count-turned (turn_axis x) coordinates b t - 1) in
+      let few : cell < sizes (along main upright).axis = subst (λ (n : Axis → ℕ). cell < n (along main upright).axis) gaps (omega arith) in
+      let beside : AreColumnsBeside main sizes turned upright cell line after before = record {
+        after_is = beside_turned upright cell line after few at.after_is;
+        before_first = at.before_first;
+        before_is = λ n is. beside_turned upright cell n before few (at.before_is n is);
+      } in
+      segment_drawn grid grid_ordered turned (turned_cells x s) (turned_union x counts coordinates has chosen turned are s union) v upright cell line after before
+      (subst (λ (n : Axis → ℕ). AreColumnsBeside main n turned upright cell line after before) (sym gaps) beside) (omega arith) (omega arith) style draws
+      ∙ (λ t. drawing (segment_at v upright (member (grid (sym (same_along x upright) t)) cell) (member (grid (sym (same_across x upright) t)) line)))
+
+  module _ (upright : Bool) (bytes : List ℕ) (long : length bytes ≡ (h + 1) * (w + 1))
+      (between : (i j : ℕ) → i ≤ w → j ≤ h → along_of upright i j < along_of upright w h
+      → (style : Style) × IsStyleBetween f sizes chosen upright (along_of upright i j) (across_of upright i j) style × (slice_index_or bytes (j * (w + 1) + i) 0 ≡ style_byte style))
+      (none : (i j : ℕ) → i ≤ w → j ≤ h → along_of upright w h ≤ along_of upright i j → slice_index_or bytes (j * (w + 1) + i) 0 ≡ 0) where
+    across_within : (u : Bool) (i j : ℕ) → i ≤ w → j ≤ h → across_of u i j < across_of u w h + 1
+    across_within true i j l m = omega arith
+    across_within false i j l m = omega arith
+
+    -- the bytes that are drawn are those of its styles,
+    byte_at : (i j : ℕ) → i ≤ w → j ≤ h → along_of upright i j < along_of upright w h
+        → slice_index_or bytes (j * (w + 1) + i) 0 ≡ style_byte (style_from upright (across_of upright i j) (along_of upright i j))
+    byte_at i j l m n =
+        let b = between i j l m n in
+        let on : across_of upright i j < length (lines upright) = subst (λ k. across_of upright i j < k) (sym (lines_count x coordinates some upright)) (across_within upright i j l m) in
+        let in_it : along_of upright i j < cells upright = subst (λ k. along_of upright i j < k) (sym (ends_count x coordinates some upright)) n in
+        b.2 ∙ ap style_byte (between_drawn upright (across_of upright i j) (along_of upright i j) on in_it b.0 b.1)
+
+    pub point_bytes : ArePointBytes w h upright (styles upright) bytes
+    point_bytes = record {
+      count = long;
+      each = λ i j l m. elim (cases_lt (along_of upright i j) (along_of upright w h)) as (λ _. slice_index_or bytes (j * (w + 1) + i) 0 ≡ point_byte w h upright (styles upright) i j) [
+        | inl n ↦ (
+            let on : across_of upright i j < length (lines upright) = subst (λ k. across_of upright i j < k) (sym (lines_count x coordinates some upright)) (across_within upright i j l m) in
+            let in_it : along_of upright i j < cells upright = subst (λ k. along_of upright i j < k) (sym (ends_count x coordinates some upright)) n in
+            byte_at i j l m n ∙ ap style_byte (sym (style_at upright (across_of upright i j) (along_of upright i j) on in_it))
+            ∙ ap (λ k. style_byte (slice_index_or (styles upright) (across_of upright i j * k + along_of upright i j) Blank)) (ends_count x coordinates some upright)
+            ∙ sym (ap (λ (b : Bool). if b then style_byte (slice_index_or (styles upright) (across_of upright i j * along_of upright w h + along_of upright i j) Blank) else 0)
+            (lt-ltb (along_of upright i j) (along_of upright w h) n)))
+        | inr n ↦ (
+            let off : nat_lt (along_of upright i j) (along_of upright w h) ≡ false = grind (arith, n) in
+            none i j l m n ∙ sym (ap (λ (b : Bool). if b then style_byte (slice_index_or (styles upright) (across_of upright i j * along_of upright w h + along_of upright i j) Blank) else 0) off))
+      ];
+    }
+
+    -- and what isn't 0 is drawn
+    pub drawn_at : (i j : ℕ) → i ≤ w → j ≤ h → slice_index_or bytes (j * (w + 1) + i) 0 ≢ 0
+        → style_from upright (across_of upright i j) (along_of upright i j) ≢ Blank
+    drawn_at i j l m some_byte blank = elim (cases_lt (along_of upright i j) (along_of upright w h)) [
+      | inl n ↦ some_byte (byte_at i j l m n ∙ ap style_byte blank)
+      | inr n ↦ some_byte (none i j l m n)
+    ]
+
+  -- ---- where it begins
+
+  first_line : (zs : List ℤ) → Ascends ◌<ℤ◌ zs → (z : ℤ) → Member zs z → first_coordinate zs ≤ℤ z
+  first_line zs ascends z k =
+      let at = member-place zs z k in
+      subst (λ y. first_coordinate zs ≤ℤ y) (at.2 (pos 0)) (earlier_at_most zs ascends 0 at.0 (omega arith) at.1)
+
+  first_end : (zs : List ℤ) → Ascends ◌<ℤ◌ zs → (z : ℤ) → IsInSomeGap zs z → first_coordinate zs ≤ℤ z
+  first_end zs ascends z gap =
+      let lies = lies_in zs gap.0 z gap.1 in
+      let low = earlier_at_most zs ascends 0 gap.0 (omega arith) (omega (arith, lies.within)) in
+      omega (arith, ints, low, lies.low)
+
+  from_line : (upright : Bool) (start line : ℤ) → drawing (segment_at v upright start line) ≢ Blank → first_coordinate (lines upright) ≤ℤ line
+  from_line upright start line drawn = ⊎_elim (first_line (lines upright) (grid_ordered (across f upright).axis) line)
+      (λ none. absurd (drawn (off_lines upright start line none))) (member_or_not (lines upright) line)
+
+  from_end : (upright : Bool) (start line : ℤ) → drawing (segment_at v upright start line) ≢ Blank → first_coordinate (ends upright) ≤ℤ start
+  from_end upright start line drawn = ⊎_elim (first_end (ends upright) (grid_ordered (along f upright).axis) start)
+      (λ none. absurd (drawn (off_ends upright start line none))) (gap_or_none (ends upright) (grid_ordered (along f upright).axis) start)
+
+  abbrev right : ℤ
+  right = first_coordinate (lines true)
+
+  abbrev up : ℤ
+  up = first_coordinate (lines false)
+
+  stands_at : (upright : Bool) (a b : ℤ) → drawing (record { view = v; upright = upright; right = a; up = b }) ≢ Blank → (right ≤ℤ a) × (up ≤ℤ b)
+  stands_at true a b drawn = (from_line true b a drawn, from_end true b a drawn)
+  stands_at false a b drawn = (from_end false a b drawn, from_line false a b drawn)
+
+  -- where something is drawn on the first level line and on the first upright one
+  pub begins_there : (cell : ℕ) → style_from true 0 cell ≢ Blank → (other : ℕ) → style_from false 0 other ≢ Blank → BeginsAt drawing v right up
+  begins_there cell on_left other on_bottom = record {
+    stands_from = λ g of drawn. stands_at g.upright g.right g.up
+        (subst (λ u. drawing (record { view = u; upright = g.upright; right = g.right; up = g.up }) ≢ Blank) of drawn);
+    at_left = (segment_at v true (member (ends true) cell) right, refl, on_left, refl);
+    at_bottom = (segment_at v false (member (ends false) other) up, refl, on_bottom, refl);
+  }
+
+  -- ---- what is shown
+
+  module _ (shown : ViewRuns) (kept : (upright : Bool) → AreRuns (runs_along upright shown)) (begins : BeginsAt drawing v right up) where
+    -- the runs of the view, which show it
+    pub record OwnRuns : Type 0 where
+      pub own : ViewRuns
+      pub runs : (upright : Bool) → AreRuns (runs_along upright own)
+      pub show : (g : Segment) → g.view ≡ v → view_style own g ≡ drawing g
+
+    pub own_runs : OwnRuns
+    own_runs =
+        let at = begins.at_left in
+        let solid : IsSolid (turned_cells x s) = drawn_solid (turned_cells x s) at.0 at.2 in
+        let (text, (far_x, far_z, d, sheet, is)) = some_file (turned_cells x s) solid 0 in
+        record {
+          own = of_view v d;
+          runs = sheet.runs.runs v;
+          show = λ g of. (λ t. view_style (of_view (sym of t) d) g) ∙ sheet.runs.show g;
+        }
+      where
+        full_solid : (cs : List Cell) (c : Cell) → is_full cs c ≡ true → IsSolid cs
+        full_solid [] c full = absurd (false≢true full)
+        full_solid (d ∷ cs) c full = tt
+
+        drawn_solid : (cs : List Cell) (g : Segment) → solid_drawing cs g ≢ Blank → IsSolid cs
+        drawn_solid cs g drawn =
+            let f = frame_of g.view in
+            let is = views_are_frames g.view in
+            let b = cell_beside_drawn f is (is_full cs) g (solid_drawing cs g) (drawn_style_drawn f is cs g) drawn in
+            full_solid cs b.cell b.is_full
+
+    show_at : (upright : Bool) (j z : ℤ) → run_style (runs_along upright own_runs.own) j z ≡ drawing (segment_at v upright z j)
+    show_at true j z = own_runs.show (segment_at v true z j) refl
+    show_at false j z = own_runs.show (segment_at v false z j) refl
+
+    abbrev pub Placed : Bool → Type 0
+    Placed upright = runs_along upright own_runs.own ≡ placed_runs (lines upright) (ends upright) (runs_along upright shown)
+
+    -- the wanted bytes are drawn exactly where the runs are the shown ones, moved
+    pub told_runs : {A : Type 0} (items : A → List ℕ) (upright : Bool) (bytes : List ℕ) → ArePointBytes w h upright (styles upright) bytes → (wanted : Option A)
+        → MatchOption wanted (AreNeverDrawn coordinates x upright shown) (λ b. AreWantedBytes coordinates x upright shown (items b))
+        → MatchOption wanted ⊥ (λ b. bytes ≡ items b) ↔ Placed upright
+    told_runs items upright bytes tell None never =
+        ((λ none. absurd none), λ placed. never bytes (runs_along upright own_runs.own) (styles upright, have_runs upright _ (own_runs.runs upright) (show_at upright), tell) placed)
+    told_runs items upright bytes tell (Some b) are =
+        let both = are bytes (runs_along upright own_runs.own) (styles upright, have_runs upright _ (own_runs.runs upright) (show_at upright), tell) in
+        (both.1, both.0)
+
+    moved_of : Placed false → Placed true → AreMovedRuns right up shown own_runs.own
+    moved_of level upright true = upright
+    moved_of level upright false = level
+
+    pub shows_where_placed : (Placed false × Placed true) ↔ ShowsMoved f (is_full s) (view_style shown) v
+    shows_where_placed =
+        let both = shows_where_moved f (is_full s) v drawing (further_drawn x s) own_runs.own shown own_runs.runs kept own_runs.show right up begins in
+        ((λ placed. both.1 (moved_of placed.0 placed.1)), (λ shows. (both.0 shows false, both.0 shows true)))

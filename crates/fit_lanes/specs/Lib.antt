@@ -1,0 +1,5 @@
+pub mod Sights
+pub mod Points
+pub mod Wanted
+pub mod Tests
+pub mod Kept

@@ -1,0 +1,18 @@
+//! A fast test whether solids fit further views: what a view shows is computed by words and lanes
+//! on the grid, and compared with what is wanted there.
+//!
+//! A view's grid points stand in rows from below upwards, each from the left to the right; so many
+//! to a row as there are grid cells side by side, and one more. What belongs to the level, or the
+//! upright, segment that begins at a point stands at the point's place. Columns stand in the same
+//! way with a row more before them: each beside the point that is its lower left corner, and empty
+//! ones where there is none. So the column before a line stands one place before that after it
+//! where the line is upright, and one row before it where it is level.
+#![tactic(auto)]
+
+mod further_sieve;
+mod points;
+mod sights;
+mod view_test;
+mod wanted;
+
+pub use further_sieve::FurtherSieve;

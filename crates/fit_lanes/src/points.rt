@@ -1,0 +1,89 @@
+//! What is drawn on the segments that begin at the points of a view's grid, as bytes.
+
+ghost use Rattle.std.specs.Prelude.{◌≡◌, ◌≤◌, ◌+◌, length, IsTrue, IfOk};
+ghost use Rattle.fit_lanes.specs.Points.{point_byte, ArePointBytes};
+ghost use Rattle.fit_lanes.specs.Tests.{AreDrawn, DrawsFirst};
+
+use column_lanes::{style_byte, styles};
+use solid_model::{Memory, Style};
+use std::alloc::Global;
+
+/// The byte of the level, or the upright, segment that begins at a point, of the styles of all of
+/// them by line and then by cell: that of Blank where there is none.
+fn point_byte(
+    styles: &[Style],
+    width: usize,
+    height: usize,
+    upright: bool,
+    right: usize,
+    up: usize,
+) -> u8
+    requires width { width ≤ 63 }
+    requires height { height ≤ 63 }
+    requires right { right ≤ width }
+    requires up { up ≤ height }
+    ensures { result ≡ point_byte width height upright styles.now right up }
+{
+    let (line, cell, cells) = if upright {
+        (right, up, height)
+    } else {
+        (up, right, width)
+    };
+    let place = line * cells + cell;
+    if cell < cells && place < styles.len() {
+        style_byte(styles[place])
+    } else {
+        0
+    }
+}
+
+/// The bytes of the segments that begin at all points.
+pub fn point_bytes(
+    alloc: Global,
+    styles: &[Style],
+    width: usize,
+    height: usize,
+    upright: bool,
+) -> Result<Vec<u8>, Memory>
+    requires width { width ≤ 63 }
+    requires height { height ≤ 63 }
+    ensures { IfOk result (λ bytes. ArePointBytes width height upright styles.now bytes.items) }
+{
+    let stride = width + 1;
+    let points = (height + 1) * stride;
+    let mut bytes = Vec::with_capacity(alloc, points)?;
+    for place in 0..points {
+        let (right, up) = (place % stride, place / stride);
+        bytes.push(point_byte(styles, width, height, upright, right, up))?;
+    }
+    Ok(bytes)
+}
+
+/// Puts the bytes of the styles that columns draw on the segments that begin at all points.
+pub fn draw(columns: &[u64], stride: usize, upright: bool, drawn: &mut [u8])
+    requires stride { 1 ≤ stride }
+    requires room { length columns.now ≡ length drawn.old + stride }
+    ensures length { length drawn.new ≡ length drawn.old }
+    ensures drawn { AreDrawn columns.now stride upright drawn.new }
+{
+    let points = columns.len() - stride;
+    let before = if upright { stride - 1 } else { 0 };
+    styles(&columns[stride..], &columns[before..before + points], drawn);
+}
+
+/// Whether something is drawn at one of the first points, so many, each so far from the one before
+/// it.
+pub fn begins(drawn: &[u8], apart: usize, points: usize) -> bool
+    requires apart { apart ≤ 64 }
+    requires points { points ≤ 64 }
+    ensures { IsTrue result → DrawsFirst drawn.now apart points }
+{
+    for point in 0..points {
+        if let Some(byte) = drawn.get(point * apart) {
+            if *byte != 0 {
+                return true;
+            }
+        }
+    }
+    false
+}
