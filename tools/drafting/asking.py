@@ -1,6 +1,7 @@
 """What the program answers to a drawing as it is, or to a sheet once it is drawn for it."""
 import argparse
 import pathlib
+import re
 from collections.abc import Callable
 from fractions import Fraction
 from typing import NamedTuple
@@ -61,15 +62,20 @@ def measure(value: Fraction, unit: str) -> str:
     return f"{text} {unit}".strip()
 
 
-def add_arguments(parser: argparse.ArgumentParser) -> None:
-    """The options of a command that asks the program."""
+def add_reading(parser: argparse.ArgumentParser) -> None:
+    """The options that say how a file is read, and by which program."""
     parser.add_argument("--as-is", action="store_true", help="the program reads the file as it is, and no sheet is drawn for it")
     parser.add_argument("--decimals", type=int, choices=range(7), help="how many decimals the file is read with as it is (else found)")
+    program.add_arguments(parser)
+    sheet.add_options(parser)
+
+
+def add_arguments(parser: argparse.ArgumentParser) -> None:
+    """The options of a command that asks for a search."""
     parser.add_argument("--nodes", type=int, help="a limit of the search's nodes")
     parser.add_argument("--solids", type=int, help="a limit of solids")
     parser.add_argument("--workers", type=int, help="how many work at the search")
-    program.add_arguments(parser)
-    sheet.add_options(parser)
+    add_reading(parser)
 
 
 def words_of(arguments: argparse.Namespace) -> list[object]:
@@ -90,7 +96,8 @@ def ask(
     lines = lines_within(data)
     decimals = decimals_of(lines) if arguments.decimals is None else arguments.decimals
     said_of_sheet = any(getattr(arguments, name) for name in ("hidden", "visible", "leave_out", "visible_only", "angle"))
-    as_is = arguments.as_is or faults.is_of_the_three_layers(lines) and not passed_over(lines) and arguments.scale == "1:1"
+    is_plain = faults.is_of_the_three_layers(lines) and not passed_over(lines) and not faults.names_other_layers(lines)
+    as_is = arguments.as_is or is_plain and arguments.scale == "1:1"
     words = [*decimals_words(command, decimals), *words_of(arguments)]
     # Where it isn't asked as it is, the least search tells whether the file is broken.
     found = program.find(arguments.program)
@@ -108,6 +115,12 @@ def ask(
     if not fault:
         tell(f"found: recon reads the file as it is, with --decimals {decimals}")
     return Asked(data, lines, decimals, origin_of(lines), run)
+
+
+def way_out(cut: re.Match[str]) -> str:
+    """What to do where a search was cut."""
+    limit, most = int(cut[2]), {"nodes": program.MOST_NODES, "solids": program.MOST_SOLIDS}[cut[1]]
+    return f"raise it by --{cut[1]}, to {most:,} at most" if limit < most else "draw what tells the solids apart, or less of the part"
 
 
 def decimals_words(command: tuple[object, ...], decimals: int) -> list[object]:

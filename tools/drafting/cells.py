@@ -1,6 +1,6 @@
 """The cells of an answer's solids, as numbers of bits."""
 import itertools
-from collections.abc import Iterable
+from collections.abc import Iterable, Iterator
 
 from .answers import Point, Solid
 from .messages import Refused
@@ -48,6 +48,12 @@ class Grid:
         if len(found) != 1 or self.volume(min(found)) != solid.volume:
             raise Refused(f"the faces of the solid of choice {solid.choice[:60]} don't enclose its volume")
         return found.pop()
+
+    def all_in(self, cells: int) -> Iterator[tuple[int, int, int]]:
+        """The cells of a set of cells, by their numbers along x, y and z."""
+        _, row, layer = self.strides
+        text = f"{cells:b}"[::-1]
+        return ((at % row, at % layer // row, at // layer) for at, bit in enumerate(text) if bit == "1")
 
     def rows(self, cells: int) -> list[list[str]]:
         """The cells as texts of 0 and 1, one for each row along x: by z, and then y."""

@@ -1,12 +1,13 @@
 """Draws a drawing, or a sheet, anew: the drawing of one of its solids as recon writes it, one line for each edge, and with a table of
 linetypes and layers, which recon leaves out and other programs ask for before they draw HIDDEN dashed. It is read back here, line by
-line, from what the program writes.
+line, from what the program writes. recon writes the three main views; further ones, which the solid fits, are those of the drawing.
 """
 import argparse
 
 from . import asking, faults, program
-from .drawing import Stroke, lines_within, views_of, written
+from .drawing import Stroke, lines_within, places_of, strokes_in, views_of, written
 from .messages import Refused, many, say, write_result
+from .panels import further_of, strokes_shown
 
 NAME = "clean"
 HELP = "draw a drawing or a sheet anew, one line for each edge"
@@ -17,15 +18,6 @@ def add_arguments(parser: argparse.ArgumentParser) -> None:
     parser.add_argument("solid", metavar="K", nargs="?", type=int, default=1, help="the solid whose drawing is written (else 1)")
     parser.add_argument("-o", "--output", metavar="OUT.dxf", help="the file to write, else standard output")
     asking.add_arguments(parser)
-
-
-def strokes_in(text: str, decimals: int) -> dict[str, list[Stroke]]:
-    """The strokes of a drawing that recon wrote, in units of its last decimal."""
-    def units(place: tuple[float, float]) -> tuple[int, int]:
-        return round(place[0] * 10**decimals), round(place[1] * 10**decimals)
-
-    views = views_of(lines_within(text.encode()))
-    return {view: [(line.dashed, units(line.start), units(line.end)) for line in lines] for view, lines in views.items()}
 
 
 def redrawn(arguments: argparse.Namespace, say_it: asking.Tell) -> asking.Asked:
@@ -41,9 +33,25 @@ def redrawn(arguments: argparse.Namespace, say_it: asking.Tell) -> asking.Asked:
     return asked
 
 
+# Between the views that recon writes, in units.
+GAP = 10
+
+
+def with_further(asked: asking.Asked) -> dict[str, list[Stroke]]:
+    """The strokes of the drawing that recon redraws, and beside them those of the further views, a line for each run."""
+    strokes = strokes_in(lines_within(asked.run.text.encode()), asked.decimals)
+    further = further_of(views_of(asked.lines), asked.decimals)
+    (width, height), (_, depth) = (
+        (max(end[axis] for _, *ends in strokes[view] for end in ends) - min(end[axis] for _, *ends in strokes[view] for end in ends)
+         for axis in (0, 1)) for view in ("FRONT", "TOP")
+    )
+    places = places_of(width, depth, height, GAP)
+    return {**strokes, **{view: strokes_shown(shown, *places[view]) for view, shown in further.items()}}
+
+
 def run(arguments: argparse.Namespace) -> int:
     asked = redrawn(arguments, lambda text: say(f"draft clean: {text}"))
-    strokes = strokes_in(asked.run.text, asked.decimals)
+    strokes = with_further(asked)
     say(f"draft clean: {many(sum(map(len, strokes.values())), 'line')}, read with --decimals {asked.decimals}")
     write_result(written(strokes, asked.decimals, asked.origin), arguments.output)
     return 0

@@ -13,8 +13,8 @@ from .messages import Progress, Refused, say
 # The commands, in the order in which the help tells them: a module each, with NAME, HELP, add_arguments(parser) and
 # run(arguments), which answers the status. What a command needs beyond Python is imported by its run alone.
 MODULES = (
-    "sheet", "solve", "serve", "follow", "why", "settle", "judge", "table", "row", "step", "stl", "clean", "page", "picture", "views",
-    "triangles",
+    "sheet", "solve", "serve", "follow", "why", "settle", "judge", "prove", "check", "table", "row", "step", "stl", "clean", "page", "picture",
+    "views", "triangles",
 )
 
 EPILOG = """\

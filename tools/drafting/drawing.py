@@ -1,4 +1,4 @@
-"""Drawings of three layers: reading their lines, and writing one.
+"""Drawings of three layers, and of further views beside these: reading their lines, and writing one.
 
 A drawing is read as docs/FORMAT.md says, as far as its lines go, and looked through for no fault.
 """
@@ -12,6 +12,8 @@ from fractions import Fraction
 from typing import NamedTuple
 
 VIEWS = ("FRONT", "TOP", "SIDE")
+# The views from the other sides, each of which a drawing may have too.
+FURTHER = ("LEFT", "REAR", "BOTTOM")
 DRAWN = ("LINE", "LWPOLYLINE")
 VISIBLE = ("CONTINUOUS", "BYBLOCK")
 DASHED = ("HIDDEN", "HIDDEN2", "HIDDENX2", "DASHED", "DASHED2", "DASHEDX2")
@@ -117,9 +119,9 @@ def sides_of(entry: Entry) -> list[tuple[Place, Place]]:
 
 
 def views_of(lines: list[str]) -> dict[str, list[Line]]:
-    """The lines of each view that can be read."""
+    """The lines that can be read of each of the three views, and of each further one that has some."""
     layers: dict[str, str] = {}
-    views: dict[str, list[Line]] = {"FRONT": [], "TOP": [], "SIDE": []}
+    views: dict[str, list[Line]] = {view: [] for view in (*VIEWS, *FURTHER)}
     for entry in entries_of(lines):
         layer = entry.values.get(8, "").upper()
         if entry.section == "TABLES" and entry.name == "LAYER":
@@ -131,14 +133,41 @@ def views_of(lines: list[str]) -> dict[str, list[Line]]:
                 told = entry.first, entry.last
                 known = linetype in ("", *VISIBLE, *DASHED)
                 views[layer] += [Line(linetype in DASHED, *ends, told, known) for ends in sides_of(entry)]
-    return views
+    return {view: its for view, its in views.items() if its or view in VIEWS}
+
+
+def further_in(lines: list[str]) -> list[str]:
+    """The further views that a drawing has."""
+    return [view for view in views_of(lines) if view in FURTHER]
+
+
+def places_of(width: int, depth: int, height: int, gap: int) -> dict[str, tuple[int, int]]:
+    """Where each view begins on a third-angle sheet, on which FRONT begins at 0, 0."""
+    return {
+        "FRONT": (0, 0), "TOP": (0, height + gap), "SIDE": (width + gap, 0), "LEFT": (-depth - gap, 0),
+        "REAR": (width + depth + 2 * gap, 0), "BOTTOM": (0, -depth - gap),
+    }
+
+
+def strokes_in(lines: list[str], decimals: int) -> dict[str, list[Stroke]]:
+    """The strokes of a drawing that recon takes with so many decimals, in units of its last one."""
+    def units(place: Place) -> tuple[int, int]:
+        return round(place[0] * 10**decimals), round(place[1] * 10**decimals)
+
+    return {view: [(line.dashed, units(line.start), units(line.end)) for line in its] for view, its in views_of(lines).items()}
+
+
+def up_to_end(data: bytes) -> bytes:
+    """A drawing that recon takes, up to the line of its end pair: what stands behind that is no part of it."""
+    last = max((line for line, _, _ in pairs_of(lines_within(data))), default=-1)
+    return b"\n".join(data.split(b"\n")[:last + 3]) + b"\n"
 
 
 def decimals_of(lines: list[str]) -> int:
-    """With how many decimals, at most 6, recon reads the lines of the three layers."""
+    """With how many decimals, at most 6, recon reads the lines of the views."""
     most = 0
     for entry in entries_of(lines):
-        if entry.section == "ENTITIES" and entry.name in DRAWN and entry.values.get(8, "").upper() in VIEWS:
+        if entry.section == "ENTITIES" and entry.name in DRAWN and entry.values.get(8, "").upper() in (*VIEWS, *FURTHER):
             for code, value in entry.pairs:
                 if code in (10, 20, 11, 21) and re.fullmatch(r"[-+]?(\d+\.?\d*|\.\d+)([eE][-+]?\d{1,3})?", value):
                     exponent = Decimal(value).normalize().as_tuple().exponent
@@ -151,8 +180,8 @@ MEANT = (*DRAWN, "POLYLINE", "ARC", "CIRCLE", "ELLIPSE", "SPLINE", "INSERT", "SO
 
 
 def passed_over(lines: list[str]) -> Counter[tuple[str, str]]:
-    """How many lines, curves and inserts, by layer and kind, lie within the boxes of the three views and aren't read, since they are on
-    other layers."""
+    """How many lines, curves and inserts, by layer and kind, lie within the boxes of the views and aren't read, since they are on other
+    layers."""
     boxes = []
     for its in views_of(lines).values():
         points = [point for line in its for point in (line.start, line.end)]
@@ -162,7 +191,7 @@ def passed_over(lines: list[str]) -> Counter[tuple[str, str]]:
     counts: Counter[tuple[str, str]] = Counter()
     for entry in entries_of(lines):
         layer = entry.values.get(8, "0")
-        unread = entry.name in MEANT and layer.upper() not in VIEWS and entry.values.get(67) != "1"
+        unread = entry.name in MEANT and layer.upper() not in (*VIEWS, *FURTHER) and entry.values.get(67) != "1"
         if entry.section == "ENTITIES" and unread and any(touches(entry, box) for box in boxes):
             counts[layer, entry.name] += 1
     return counts
@@ -198,7 +227,7 @@ def origin_of(lines: list[str]) -> Origin:
         elif code == 70 and variable == "$INSUNITS" and value.isdigit():
             origin = origin._replace(unit=UNITS.get(int(value), ""))
             variable = ""
-        elif code == 999 and (told := re.fullmatch(r"draft times (\d{1,9}(?:/[1-9]\d{0,8})?)", value)) and Fraction(told[1]):
+        elif code == 999 and (told := re.fullmatch(r"draft times (\d{1,15}(?:/[1-9]\d{0,8})?)", value)) and Fraction(told[1]):
             origin = origin._replace(times=Fraction(told[1]))
         elif code == 999 and value == "draft mirrored":
             origin = origin._replace(mirrored=True)
@@ -224,19 +253,20 @@ def section(name: str, *members: tuple[int, object]) -> str:
     return pairs((0, "SECTION"), (2, name), *members, (0, "ENDSEC"))
 
 
-def tables() -> str:
+def tables(views: Iterable[str]) -> str:
     """What HIDDEN looks like, and the layers, which other programs ask for."""
     plain = [(0, "LTYPE"), (2, "CONTINUOUS"), (70, 0), (3, "Solid line"), (72, 65), (73, 0), (40, 0)]
     hidden = [(0, "LTYPE"), (2, "HIDDEN"), (70, 0), (3, "Hidden"), (72, 65), (73, 2), (40, 0.375), (49, 0.25), (49, -0.125)]
-    layers = [pair for view in VIEWS for pair in ((0, "LAYER"), (2, view), (70, 0), (62, 7), (6, "CONTINUOUS"))]
+    names = [*VIEWS, *(view for view in views if view not in VIEWS)]
+    layers = [pair for view in names for pair in ((0, "LAYER"), (2, view), (70, 0), (62, 7), (6, "CONTINUOUS"))]
     return section(
         "TABLES", (0, "TABLE"), (2, "LTYPE"), (70, 2), *plain, *hidden, (0, "ENDTAB"),
-        (0, "TABLE"), (2, "LAYER"), (70, 3), *layers, (0, "ENDTAB"),
+        (0, "TABLE"), (2, "LAYER"), (70, len(names)), *layers, (0, "ENDTAB"),
     )
 
 
 def written(views: Mapping[str, Iterable[Stroke]], decimals: int, origin: Origin = Origin()) -> str:
-    """A drawing of three layers with a table of linetypes, which recon reads with so many decimals."""
+    """A drawing of these views with a table of linetypes, which recon reads with so many decimals."""
     unit = next((code for code, name in UNITS.items() if name == origin.unit), 0)
     comments = [(999, f"draft times {origin.times}")] if origin.times != 1 else []
     comments += [(999, "draft mirrored")] if origin.mirrored else []
@@ -247,4 +277,4 @@ def written(views: Mapping[str, Iterable[Stroke]], decimals: int, origin: Origin
             for end, codes in zip(ends, ((10, 20, 30), (11, 21, 31))):
                 members += zip(codes, (number(end[0], decimals), number(end[1], decimals), 0))
     header = section("HEADER", (9, "$ACADVER"), (1, "AC1009"), (9, "$INSUNITS"), (70, unit))
-    return pairs(*comments) + header + tables() + section("ENTITIES", *members) + pairs((0, "EOF"))
+    return pairs(*comments) + header + tables(views) + section("ENTITIES", *members) + pairs((0, "EOF"))

@@ -3,7 +3,9 @@ import re
 from collections import Counter
 
 from .answers import FAULT
-from .drawing import DRAWN, VIEWS, Entry, entries_of
+from .drawing import DRAWN, FURTHER, VIEWS, Entry, entries_of
+from .placing import view_named
+from .reading import Source
 
 # Of each fault what is wrong, and what to do.
 WORDS = {
@@ -95,3 +97,9 @@ def told(head: str, lines: list[str]) -> list[str]:
 def is_of_the_three_layers(lines: list[str]) -> bool:
     """Whether the file has lines on each of the three layers."""
     return set(VIEWS) <= {layer.upper() for layer in layers_with_lines(lines)}
+
+
+def names_other_layers(lines: list[str]) -> bool:
+    """Whether lines are on a layer that names a further view otherwise than recon does, as BACK or LEFT_VIEW."""
+    layers = {layer.upper() for layer in layers_with_lines(lines)}
+    return any(view_named(Source("LINE", layer, "")) in FURTHER for layer in layers - set(FURTHER))

@@ -92,7 +92,8 @@ def means_event(blocks: Blocks, choices: list[str], lines: list[str], decimals: 
     for means in settle.best_first([*views, *sections[:settle.SHOWN]]):
         numbers: dict[object, int] = {}
         rows.append({"name": means.name, "keys": [numbers.setdefault(key, len(numbers)) for key in means.keys]})
-    return {"kind": "means", "rows": rows, "text": "Drawn here from the solids that the program lists; it doesn't read these views yet."}
+    text = "Drawn here from the solids that the program lists; what settle adds to the drawing is checked by the program."
+    return {"kind": "means", "rows": rows, "text": text}
 
 
 # ---- the search
@@ -272,9 +273,8 @@ def suggest(asked: asking.Asked, arguments: argparse.Namespace, emit: Emit) -> N
         emit(suggestion_event(suggestion, asked))
 
     emit({"kind": "looking"})
-    sheet = sheet_of(views_of(asked.lines), asked.decimals)
     limits = why.Limits(arguments.runs, arguments.search)
-    rows, found = why.looked_at(program.find(arguments.program), sheet, asked.run.text.strip(), limits, tell)
+    rows, found = why.told_of(asked, program.find(arguments.program), limits, tell)
     for one in found:
         if one.words[0] not in told:
             tell(one)

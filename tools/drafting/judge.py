@@ -1,7 +1,8 @@
 """Judges an answer by another program: clingo (apt-get install gringo) lists all solids of the drawing from the column rule, in
 the twenty lines of views.lp beside this file, and knows nothing of blocks, of searches or of the proved program. Each
-solid of the answer is drawn by the definitions too and compared with the drawing; solids have to be the same ones, each once, in
-the stated order. The answer is read from the file ANSWER (`-` for standard input), or else had by running the program.
+solid of the answer is drawn by the definitions too and compared with the drawing, and so are clingo's where there are further views;
+solids have to be the same ones, each once, in the stated order. The answer is read from the file ANSWER (`-` for standard input), or
+else had by running the program.
 
 Of an answer that was cut it is judged that what it lists is right. The status is 1 where something differs. Nodes, blocks and
 faults aren't judged.
@@ -10,13 +11,14 @@ import argparse
 import itertools
 import re
 from collections.abc import Iterator
+from typing import NamedTuple
 
 from . import asking, solver
 from .answers import CUT, FAULT, Answer, answer_of, text_of
 from .cells import Grid as Cells, grid_round
 from .drawing import VIEWS, decimals_of, lines_of, views_of
 from .messages import Progress, Refused, many, say, write_result
-from .panels import Cell, Grid, grid_of, panels_of, sheet_of
+from .panels import Cell, Grid, Shown, further_of, grid_of, panels_of, sheet_of, shown_of
 
 NAME = "judge"
 HELP = "check an answer by another program, clingo, from other words"
@@ -67,10 +69,21 @@ def solids_of(answer: Answer, grid: Grid) -> Iterator[tuple[int, Solid | Refused
             yield number, refusal
 
 
-def has_views(solid: Solid, grid: Grid) -> bool:
-    """Whether a solid, drawn by the definitions, has the drawing's three views."""
-    sizes = [len(cut) - 1 for cut in grid.cuts]
-    return all(grid.panels[row] == styles for view in VIEWS for row, styles in panels_of(solid, sizes, view).items())
+class Drawing(NamedTuple):
+    """A drawing: its three views on their grid, and what each further view shows that it has."""
+
+    grid: Grid
+    further: dict[str, Shown]
+
+    def fits(self, solid: Solid) -> bool:
+        """Whether a solid, drawn by the definitions, has the further views."""
+        return all(shown_of(solid, self.grid.cuts, view) == shown for view, shown in self.further.items())
+
+    def shows(self, solid: Solid) -> bool:
+        """Whether a solid, drawn by the definitions, has all views."""
+        sizes = [len(cut) - 1 for cut in self.grid.cuts]
+        rows = (row for view in VIEWS for row in panels_of(solid, sizes, view).items())
+        return all(self.grid.panels[row] == styles for row, styles in rows) and self.fits(solid)
 
 
 def comes_first(first: Solid, second: Solid) -> bool:
@@ -78,7 +91,7 @@ def comes_first(first: Solid, second: Solid) -> bool:
     return min(first ^ second, key=lambda cell: cell[::-1]) in first
 
 
-def complaints_of(solids: list[tuple[int, Solid | Refused]], grid: Grid) -> Iterator[str]:
+def complaints_of(solids: list[tuple[int, Solid | Refused]], drawing: Drawing) -> Iterator[str]:
     """What is wrong with the solids of an answer, by themselves."""
     seen: dict[Solid, int] = {}
     last: Solid | None = None
@@ -86,7 +99,7 @@ def complaints_of(solids: list[tuple[int, Solid | Refused]], grid: Grid) -> Iter
         if isinstance(solid, Refused):
             yield f"solid {number}: {solid}"
             continue
-        if not has_views(solid, grid):
+        if not drawing.shows(solid):
             yield f"solid {number} doesn't have these views"
         if solid in seen:
             yield f"solid {number} is solid {seen[solid]} once more"
@@ -98,18 +111,19 @@ def complaints_of(solids: list[tuple[int, Solid | Refused]], grid: Grid) -> Iter
 
 # ---- the solids that clingo finds
 
-def found_solids(grid: Grid, most: int, seconds: float) -> set[Solid]:
-    """All solids of the drawing; refused where they are too many, or aren't found in time."""
+def found_solids(drawing: Drawing, most: int, seconds: float) -> set[Solid]:
+    """All solids of the drawing; refused where those of its three main views are too many, or aren't found in time."""
     Progress.show(f"clingo looks for all solids, for {seconds:g} seconds at most", 0)
-    found = solver.ask("views.lp", solver.facts_of(grid), [f"--models={most + 1}"], seconds)
+    found = solver.ask("views.lp", solver.facts_of(drawing.grid), [f"--models={most + 1}"], seconds)
     if not found.done:
         raise Refused(f"clingo wasn't done within {seconds:g} seconds: nothing is judged")
     if len(found.models) > most:
         raise Refused(f"there are more than {most:,} solids: nothing is judged (--most)")
-    return {
+    solids = {
         frozenset((int(told[1]), int(told[2]), int(told[3])) for atom in atoms if (told := FULL.fullmatch(atom)))
         for atoms, _ in found.models
     }
+    return {solid for solid in solids if drawing.fits(solid)}
 
 
 def compared(mine: set[Solid], solids: list[tuple[int, Solid | Refused]]) -> Iterator[str]:
@@ -123,15 +137,15 @@ def compared(mine: set[Solid], solids: list[tuple[int, Solid | Refused]]) -> Ite
         yield f"{many(missing, 'solid')} that clingo finds {'is' if missing == 1 else 'are'} not in the answer"
 
 
-def judged(answer: Answer, grid: Grid, most: int, seconds: float) -> str:
+def judged(answer: Answer, drawing: Drawing, most: int, seconds: float) -> str:
     """What is found right, in words; refused where something differs, after each such thing was said."""
-    solids = list(solids_of(answer, grid))
-    wrong = list(complaints_of(solids, grid))
+    solids = list(solids_of(answer, drawing.grid))
+    wrong = list(complaints_of(solids, drawing))
     count = many(answer.listed, "solid")
     if CUT.fullmatch(answer.head):
         right = f"The answer was cut. What it lists, {count}, has these views, each once, in the stated order."
     else:
-        mine = found_solids(grid, most, seconds)
+        mine = found_solids(drawing, most, seconds)
         wrong += compared(mine, solids)
         right = f"The same: {count} by clingo and in the answer, each once, in the stated order."
     for complaint in wrong:
@@ -151,6 +165,7 @@ def run(arguments: argparse.Namespace) -> int:
         answer, lines, decimals = answer_of(asked.run.text), asked.lines, asked.decimals
     if FAULT.fullmatch(answer.head):
         raise Refused(f"a fault isn't judged: {answer.head}")
-    grid = grid_of(sheet_of(views_of(lines), decimals))
-    write_result(judged(answer, grid, arguments.most, arguments.search) + "\n", None)
+    views = views_of(lines)
+    drawing = Drawing(grid_of(sheet_of(views, decimals)), further_of(views, decimals))
+    write_result(judged(answer, drawing, arguments.most, arguments.search) + "\n", None)
     return 0

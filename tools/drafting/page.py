@@ -1,7 +1,7 @@
 """Makes a page of a drawing and of what recon writes for it, which is read from the file ANSWER (`-` for standard input), or else
 had by running the program.
 
-The page stands alone and asks the network for nothing. It shows the three views as drawn, and the solids in three dimensions, so
+The page stands alone and asks the network for nothing. It shows the views as drawn, and the solids in three dimensions, so
 many at a time: turned by mouse, touch and arrow keys, all together. What only some of them have is coloured, two that are picked are
 compared, and blocks can be fixed full or empty, by which those solids are left that have them so. Of a fault it shows the lines of
 the file that are named. Where no solid has the views it shows what would have to be drawn otherwise, unless the answer was given,

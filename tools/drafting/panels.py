@@ -9,7 +9,7 @@ from collections.abc import Iterable, Sequence
 from fractions import Fraction
 from typing import NamedTuple
 
-from .drawing import VIEWS, Line
+from .drawing import FURTHER, VIEWS, Line
 from .messages import Refused
 
 BLANK, DASHED, SOLID = range(3)
@@ -37,7 +37,6 @@ FRAMES = {
     "REAR": Frame(0, 2, 1, True, False, True),
     "BOTTOM": Frame(0, 1, 2, False, True, False),
 }
-FURTHER = ("LEFT", "REAR", "BOTTOM")
 
 
 class Row(NamedTuple):
@@ -248,6 +247,51 @@ def cuts_in(view: str, cuts: Cuts) -> tuple[list[int], list[int]]:
         return [cut[-1] - at for at in reversed(cut)] if back else [at - cut[0] for at in cut]
 
     return gone(frame.right, frame.right_back), gone(frame.up, frame.up_back)
+
+
+# What a view shows: its longest runs of one style, each upright or not, at a coordinate, with its style and its ends.
+Shown = frozenset[tuple[bool, int, int, int, int]]
+
+
+def moved_runs(rows: Iterable[tuple[bool, int, bytes, Sequence[int]]]) -> Shown:
+    """The runs of rows, each told by its way, its coordinate, its styles and the coordinates along it, from the least ones on."""
+    runs = [(upright, at, style, along[low], along[high])
+            for upright, at, styles, along in rows for style, low, high in runs_of(styles)]
+    x, y = (min((low if upright == way else at for upright, at, _, low, _ in runs), default=0) for way in (False, True))
+    return frozenset((upright, at - (x if upright else y), style, *(end - (y if upright else x) for end in ends))
+                     for upright, at, style, *ends in runs)
+
+
+def shown_by(strokes: Iterable[Stroke]) -> Shown:
+    """What the strokes of a view show."""
+    rows: dict[tuple[bool, int], list[Stroke]] = defaultdict(list)
+    for stroke in strokes:
+        rows[stroke.upright, stroke.at].append(stroke)
+    cuts = {row: sorted({end for stroke in its for end in (stroke.low, stroke.high)}) for row, its in rows.items()}
+    return moved_runs((*row, row_of(its, cuts[row]), cuts[row]) for row, its in rows.items())
+
+
+def shown_of(cells: Iterable[Cell], cuts: Cuts, view: str) -> Shown:
+    """What a view shows of a solid, in grid cells between some cuts."""
+    rights, ups = cuts_in(view, cuts)
+    return moved_runs(
+        (row.upright, (rights if row.upright else ups)[row.number], styles, ups if row.upright else rights)
+        for row, styles in panels_of(cells, [len(cut) - 1 for cut in cuts], view).items()
+    )
+
+
+def strokes_shown(shown: Shown, right: int, up: int) -> list[tuple[bool, tuple[int, int], tuple[int, int]]]:
+    """The runs of a view as lines to be written, where it begins there."""
+    lines = []
+    for upright, at, style, *ends in sorted(shown):
+        start, end = ((right + at, up + it) if upright else (right + it, up + at) for it in ends)
+        lines.append((style == DASHED, start, end))
+    return lines
+
+
+def further_of(views: dict[str, list[Line]], decimals: int) -> dict[str, Shown]:
+    """What a drawing shows in each further view that it has, in units."""
+    return {view: shown_by(strokes_of(view, lines, decimals)) for view, lines in views.items() if view in FURTHER}
 
 
 def runs_of(styles: bytes) -> list[tuple[int, int, int]]:

@@ -1,4 +1,4 @@
-"""Draws a drawing as a picture: its three views in third-angle places and, where a file with what recon solve writes for it is
+"""Draws a drawing as a picture: its views in third-angle places and, where a file with what recon solve writes for it is
 given too (`-` for standard input), the first of the solids, seen from the front, the left and above.
 
 What is proved is the program, and not this: it reads a drawing simply, looks for no fault, and only makes pictures.

@@ -1,20 +1,28 @@
 """Which strokes of a sheet are which view: by the names of their layers or blocks, else by their places."""
+import bisect
 import itertools
 import re
 from collections import Counter, defaultdict
 from collections.abc import Callable, Iterable, Iterator, Sequence
 from typing import NamedTuple
 
+from .drawing import FURTHER, VIEWS
 from .messages import Refused, many
+from .panels import FRAMES
 from .reading import Box, Edge, Source
 from .straight import Run
 
-# The words that name a view in the name of a layer or block. A left view is drawn in a mirror.
+# The words that name a view in the name of a layer or block.
 NAMES = {
-    "FRONT": "FRONT", "FRONTVIEW": "FRONT", "VORDERANSICHT": "FRONT", "TOP": "TOP", "PLAN": "TOP", "TOPVIEW": "TOP", "DRAUFSICHT": "TOP",
-    "SIDE": "SIDE", "RIGHT": "SIDE", "RIGHTSIDE": "SIDE", "SIDEVIEW": "SIDE", "LEFT": "LEFT", "LEFTSIDE": "LEFT",
+    word: view for view, words in (
+        ("FRONT", "FRONT FRONTVIEW VORDERANSICHT"), ("TOP", "TOP PLAN TOPVIEW DRAUFSICHT"),
+        ("SIDE", "SIDE RIGHT RIGHTSIDE RIGHTVIEW SIDEVIEW"), ("LEFT", "LEFT LEFTSIDE LEFTVIEW"),
+        ("REAR", "REAR BACK REARVIEW BACKVIEW RUECKANSICHT"), ("BOTTOM", "BOTTOM BOTTOMVIEW UNTERANSICHT"),
+    ) for word in words.split()
 }
 MOST_GROUPS = 2000
+# How many ways to part a sheet by cuts are looked at; else those by one cut upwards and one across.
+MOST_CUTS = 20_000
 
 
 class Group(NamedTuple):
@@ -37,7 +45,8 @@ class Group(NamedTuple):
 
 
 class Placed(NamedTuple):
-    """The three views, whether the part is seen in a mirror (the side view is the left one), and what was found, in words."""
+    """The three views and those beside them, whether the part is seen in a mirror (the side view is the left one, and there is no right
+    one), and what was found, in words."""
 
     views: dict[str, Group]
     mirrored: bool
@@ -124,7 +133,7 @@ def frames(pieces: list[Group], tolerance: float) -> tuple[list[Group], list[Gro
 
 
 def why_no_view(group: Group, texts: Sequence[tuple[float, float]]) -> str:
-    """Why a group beside the three views is none."""
+    """Why a group beside the views is none."""
     oblique = sum(run.oblique for run in group.runs)
     if 4 * oblique >= len(group.runs):
         return "it is drawn with oblique lines, as an isometric view is"
@@ -146,13 +155,17 @@ def view_named(source: Source) -> str:
 
 
 def named_views(edges: Iterable[Edge]) -> dict[str, list[Edge]] | None:
-    """The edges by the views that their layers or blocks name, and the others, where three views are named."""
+    """The edges by the views that their layers or blocks name, and the others, where FRONT, TOP and a side view are named."""
     named: dict[str, list[Edge]] = defaultdict(list)
     for edge in edges:
         named[view_named(edge.source)].append(edge)
-    if "FRONT" not in named or "TOP" not in named or len({"SIDE", "LEFT"} & named.keys()) != 1:
-        return None
-    return named
+    return named if {"FRONT", "TOP"} <= named.keys() and {"SIDE", "LEFT"} & named.keys() else None
+
+
+def with_a_side(views: dict[str, Group]) -> dict[str, Group]:
+    """The views in their order, the left one in the place of SIDE where there is no right one."""
+    named = views if "SIDE" in views else {"SIDE" if view == "LEFT" else view: group for view, group in views.items()}
+    return {view: named[view] for view in (*VIEWS, *FURTHER) if view in named}
 
 
 def by_names(views: dict[str, list[Run]], others: list[Run], tolerance: float) -> Placed:
@@ -170,55 +183,101 @@ def by_names(views: dict[str, list[Run]], others: list[Run], tolerance: float) -
             found[f"lines on layer {layer} taken to {holding[0]}, in whose box they lie"] += 1
         else:
             left[f"lines on layer {layer}, outside the boxes of the named views"] += 1
-    groups = {"SIDE" if view == "LEFT" else view: group_of(its) for view, its in named.items()}
+    groups = with_a_side({view: group_of(its) for view, its in named.items()})
     words = [f"the views by the names of layers or blocks: {', '.join(sorted(named))}"]
     check_extents(groups, tolerance)
-    return Placed(groups, "LEFT" in named, words + [f"{count} {what}" for what, count in found.items()],
+    return Placed(groups, "SIDE" not in named, words + [f"{count} {what}" for what, count in found.items()],
                   [f"{count} {what}" for what, count in left.items()])
+
+
+def extents_of(view: str, group: Group) -> list[tuple[int, str, float]]:
+    """The axes that a view shows, and how far it reaches along each, in words and as a length."""
+    frame = FRAMES[view]
+    return [(frame.right, f"{view} is wide", group.width), (frame.up, f"{view} is high", group.height)]
 
 
 def check_extents(views: dict[str, Group], tolerance: float) -> None:
     """Refuses views that don't agree in what two of them show."""
-    front, top, side = (views[view] for view in ("FRONT", "TOP", "SIDE"))
-    for one, first, other, second in (
-        ("FRONT is wide", front.width, "TOP is", top.width), ("FRONT is high", front.height, "SIDE is", side.height),
-        ("TOP is high", top.height, "SIDE is wide", side.width),
-    ):
-        if abs(first - second) > 3 * tolerance:
-            raise Refused(f"the views don't agree: {one} {first:.9g}, and {other} {second:.9g}")
+    known: dict[int, tuple[str, float]] = {}
+    for view, group in views.items():
+        for axis, told, extent in extents_of(view, group):
+            first, size = known.setdefault(axis, (told, extent))
+            if abs(size - extent) > 3 * tolerance:
+                raise Refused(f"the views don't agree: {first} {size:.9g}, and {told} {extent:.9g}")
 
 
 # ---- by places
 
 class Way(NamedTuple):
-    """Three groups as FRONT, TOP and SIDE, in third angle (TOP above FRONT) or first (below)."""
+    """Groups as views, in third angle (TOP above FRONT) or first (below): FRONT, TOP, a side view, and others that stand with them."""
 
     angle: str
-    front: Group
-    top: Group
-    side: Group
+    views: dict[str, Group]
 
-    def is_left(self) -> bool:
-        """Whether the side view is the left one: in third angle it stands to the left of FRONT, in first to the right."""
-        return (self.side.box[0] < self.front.box[0]) == (self.angle == "third")
+    def __str__(self) -> str:
+        """Where the views stand, in words."""
+        views, front = self.views, self.views["FRONT"].box
+        told = [f"TOP {'above' if self.angle == 'third' else 'below'} FRONT"]
+        for view, name in (("SIDE", "the right side view"), ("LEFT", "the left side view"), ("REAR", "the rear view")):
+            if view in views:
+                told.append(f"{name} to its {'left' if views[view].box[0] < front[0] else 'right'}")
+        told += [f"the bottom view {'below' if self.angle == 'third' else 'above'} it"] if "BOTTOM" in views else []
+        return ", ".join(told[:-1]) + " and " + told[-1]
+
+
+class InLine(NamedTuple):
+    """The groups that stand in line with one: to its left and right, below and above it, the nearest ones first."""
+
+    left: list[Group]
+    right: list[Group]
+    below: list[Group]
+    above: list[Group]
+
+
+def in_line(front: Group, groups: Sequence[Group], tolerance: float) -> InLine:
+    def beside(axis: int) -> tuple[list[Group], list[Group]]:
+        box, ends = front.box, (1 - axis, 3 - axis)
+        lined = [it for it in groups if it is not front and all(abs(it.box[at] - box[at]) <= 3 * tolerance for at in ends)]
+        before = [it for it in lined if it.box[axis + 2] <= box[axis] + tolerance]
+        behind = [it for it in lined if it.box[axis] >= box[axis + 2] - tolerance]
+        return sorted(before, key=lambda it: -it.box[axis + 2]), sorted(behind, key=lambda it: it.box[axis])
+
+    return InLine(*beside(0), *beside(1))
 
 
 def ways_of(groups: Sequence[Group], hints: Hints) -> Iterator[Way]:
-    """The ways to take three groups as the views: TOP right above or below FRONT and as wide, SIDE beside it and as high."""
-    def same(*pairs: tuple[float, float]) -> bool:
-        return all(abs(one - other) <= 3 * hints.tolerance for one, other in pairs)
-
+    """The ways to take groups as the views: TOP right above or below FRONT, a side view beside it, and of the others those that stand
+    where they have to."""
     for front in groups:
-        f = front.box
-        tops = [it for it in groups if it is not front and same((f[0], it.box[0]), (f[2], it.box[2]))]
-        sides = [it for it in groups if it is not front and same((f[1], it.box[1]), (f[3], it.box[3]))]
-        for top, side in itertools.product(tops, sides):
-            apart = side.box[0] >= f[2] - hints.tolerance or side.box[2] <= f[0] + hints.tolerance
-            angle = "third" if top.box[1] >= f[3] - hints.tolerance else "first" if top.box[3] <= f[1] + hints.tolerance else ""
-            if top is not side and same((top.height, side.width)) and apart and angle and hints.angle in (None, angle):
-                way = Way(angle, front, top, side)
-                if covers_alike(way, hints.tolerance):
-                    yield way
+        it = in_line(front, groups, hints.tolerance)
+        for angle, tops, bottoms, rights, lefts in (
+            ("third", it.above, it.below, it.right, it.left), ("first", it.below, it.above, it.left, it.right)
+        ):
+            for top in tops if hints.angle in (None, angle) else []:
+                if shows_alike("TOP", top, front, top, hints.tolerance):
+                    views = views_beside(front, top, bottoms, rights, lefts, hints.tolerance)
+                    if "SIDE" in views or "LEFT" in views:
+                        yield Way(angle, views)
+
+
+def views_beside(
+    front: Group, top: Group, bottoms: list[Group], rights: list[Group], lefts: list[Group], tolerance: float
+) -> dict[str, Group]:
+    """FRONT and TOP, and of the groups that stand where another view has to the nearest that shows the same part: the rear view stands
+    behind a side view, as seen from FRONT."""
+    views = {"FRONT": front, "TOP": top}
+
+    def take(view: str, groups: list[Group]) -> None:
+        nearest = next((it for it in groups if shows_alike(view, it, front, top, tolerance)), None)
+        if nearest is not None:
+            views.setdefault(view, nearest)
+
+    for view, groups in (("SIDE", rights), ("LEFT", lefts)):
+        take(view, groups)
+        if view in views:
+            take("REAR", groups[next(at for at, it in enumerate(groups) if it is views[view]) + 1:])
+    take("BOTTOM", bottoms)
+    return views
 
 
 def stretches_of(group: Group, axis: int, tolerance: float, is_turned: bool = False) -> list[float]:
@@ -233,14 +292,16 @@ def stretches_of(group: Group, axis: int, tolerance: float, is_turned: bool = Fa
     return [last - end for end in reversed(ends)] if is_turned else [end - first for end in ends]
 
 
-def covers_alike(way: Way, tolerance: float) -> bool:
-    """Whether two views that show the same axis cover the same stretches of it, as views of one part do even where it is in pieces."""
-    pairs = [
-        (stretches_of(way.front, 0, tolerance), stretches_of(way.top, 0, tolerance)),
-        (stretches_of(way.front, 1, tolerance), stretches_of(way.side, 1, tolerance)),
-        (stretches_of(way.top, 1, tolerance), stretches_of(way.side, 0, tolerance, way.is_left())),
-    ]
-    return all(len(one) == len(other) and all(abs(a - b) <= 3 * tolerance for a, b in zip(one, other)) for one, other in pairs)
+def shows_alike(view: str, group: Group, front: Group, top: Group, tolerance: float) -> bool:
+    """Whether a group, taken as a view, covers the same stretches of each axis as FRONT does of x and z and TOP of y, as views of one part
+    do even where it is in pieces."""
+    frame = FRAMES[view]
+    for way, axis, back in ((0, frame.right, frame.right_back), (1, frame.up, frame.up_back)):
+        one = stretches_of(top, 1, tolerance) if axis == 1 else stretches_of(front, axis // 2, tolerance)
+        other = stretches_of(group, way, tolerance, back)
+        if len(one) != len(other) or any(abs(a - b) > 3 * tolerance for a, b in zip(one, other)):
+            return False
+    return True
 
 
 def cuts(groups: Sequence[Group], axis: int, tolerance: float) -> list[float]:
@@ -254,14 +315,32 @@ def cuts(groups: Sequence[Group], axis: int, tolerance: float) -> list[float]:
     return places
 
 
+def some_of(places: Sequence[float], most: int) -> list[tuple[float, ...]]:
+    """All choices of one to so many of some places."""
+    return [chosen for count in range(1, most + 1) for chosen in itertools.combinations(places, count)]
+
+
 def ways_by_cuts(groups: Sequence[Group], hints: Hints) -> Iterator[Way]:
-    """The ways to take all groups as three views that a cut upwards and one across part, as where a part is in pieces."""
-    for x, y in itertools.product(cuts(groups, 0, hints.tolerance), cuts(groups, 1, hints.tolerance)):
-        quarters: dict[tuple[bool, bool], list[Run]] = defaultdict(list)
+    """The ways to take all groups as views that cuts upwards and across part, as where a part is in pieces."""
+    xs, ys = (cuts(groups, axis, hints.tolerance) for axis in (0, 1))
+    upwards, across = some_of(xs, 3), some_of(ys, 2)
+    if len(upwards) * len(across) > MOST_CUTS:
+        upwards, across = some_of(xs, 1), some_of(ys, 1)
+    for x, y in itertools.product(upwards, across):
+        parts: dict[tuple[int, int], list[Run]] = defaultdict(list)
         for group in groups:
-            quarters[group.box[0] > x, group.box[1] > y] += group.runs
-        if len(quarters) == 3:
-            yield from ways_of([group_of(runs) for runs in quarters.values()], hints)
+            parts[bisect.bisect(x, group.box[0]), bisect.bisect(y, group.box[1])] += group.runs
+        if 3 <= len(parts) <= len(FRAMES):
+            yield from (way for way in ways_of([group_of(runs) for runs in parts.values()], hints) if len(way.views) == len(parts))
+
+
+def complete_ways(views: Sequence[Group], ways: Sequence[Way], hints: Hints) -> list[Way]:
+    """The ways that take all groups as views, each by itself or several as one, each once."""
+    found: dict[frozenset[tuple[str, Box]], Way] = {}
+    single = (way for way in ways if all(any(group is it for it in way.views.values()) for group in views))
+    for way in itertools.chain(single, ways_by_cuts(views, hints)):
+        found.setdefault(frozenset((view, group.box) for view, group in way.views.items()), way)
+    return list(found.values())
 
 
 def by_places(runs: Sequence[Run], hints: Hints) -> Placed:
@@ -278,46 +357,44 @@ def by_places(runs: Sequence[Run], hints: Hints) -> Placed:
     ways = list(ways_of(chosen, hints))
     views = [group for group in chosen if not why_no_view(group, hints.texts)]
     found = []
-    # Where three groups alone are views of a part, a fourth one may be of the same part: then all together are views too.
-    if len(ways) != 1 or len(views) > 3:
-        more = list(ways_by_cuts(views, hints)) if views else []
-        if len(more) == 1:
-            left += [f"{group}: {why_no_view(group, hints.texts)}" for group in chosen if group not in views]
-            found.append(f"{many(len(views), 'group')} of lines taken as three views, parted by one cut upwards and one across")
-            ways, chosen = more, []
-        elif len(ways) != 1:
-            raise Refused(no_way(groups, chosen, len(ways), hints))
+    # Where some groups alone are views of a part, another one may be of the same part: then all together are views too.
+    if len(views) > 3 and (complete := complete_ways(views, ways, hints)):
+        ways, chosen = complete, [group for group in chosen if why_no_view(group, hints.texts)]
+        count = len(ways[0].views)
+        if count < len(views):
+            found.append(f"{many(len(views), 'group')} of lines taken as {count} views, parted by cuts upwards and across")
+    if len(ways) != 1:
+        raise Refused(no_way(groups, chosen, ways, hints))
     way = ways[0]
-    used = (way.front, way.top, way.side)
-    left += beside(groups, [group for group in chosen if not any(group is it for it in used)], used, hints)
-    sizes = f"{way.front.width:.9g} wide, {way.top.height:.9g} deep and {way.front.height:.9g} high"
-    hand = "left" if way.is_left() else "right"
-    place = f"TOP {'above' if way.angle == 'third' else 'below'} FRONT, and the {hand} side view to its "
-    place += "left" if way.side.box[0] < way.front.box[0] else "right"
-    found.append(f"{way.angle}-angle views, {place}: a part {sizes}")
-    return Placed(dict(zip(("FRONT", "TOP", "SIDE"), used)), way.is_left(), found, left)
+    left += beside(groups, [group for group in chosen if not any(group is it for it in way.views.values())], hints)
+    front, top = way.views["FRONT"], way.views["TOP"]
+    sizes = f"{front.width:.9g} wide, {top.height:.9g} deep and {front.height:.9g} high"
+    found.append(f"{way.angle}-angle views, {way}: a part {sizes}")
+    return Placed(with_a_side(way.views), "SIDE" not in way.views, found, left)
 
 
-def beside(groups: Sequence[Group], others: Sequence[Group], used: Sequence[Group], hints: Hints) -> Iterator[str]:
+def beside(groups: Sequence[Group], others: Sequence[Group], hints: Hints) -> Iterator[str]:
     """What is left out of the groups beside the views; refused where one may be a further view."""
     for group in others:
         why = why_no_view(group, hints.texts)
         if not why:
             number = next(at for at, it in enumerate(groups, 1) if it is group)
             raise Refused(
-                f"beside the three views stands group {number}, {group}, whose first line is {group.runs[0].edge.source}: a fourth view isn't "
-                f"read, and whether it may be left out isn't told; leave it out by --leave-out group={number}"
+                f"beside the views stands group {number}, {group}, whose first line is {group.runs[0].edge.source}: it is no view of the "
+                f"same part where it stands, and whether it may be left out isn't told; leave it out by --leave-out group={number}"
             )
         yield f"{group}: {why}"
 
 
-def no_way(groups: Sequence[Group], chosen: Sequence[Group], count: int, hints: Hints) -> str:
+def no_way(groups: Sequence[Group], chosen: Sequence[Group], ways: Sequence[Way], hints: Hints) -> str:
     """The refusal of groups that can be taken in no way or in several, with what was seen."""
     seen = [f"group {number}: {group}, first {group.runs[0].edge.source}" for number, group in enumerate(groups[:12], 1)]
-    ways = f"there are {count} ways" if count else "there is no way"
+    count = f"there are {len(ways)} ways" if ways else "there is no way"
     angle = f" in {hints.angle} angle" if hints.angle else ""
-    text = f"{ways} to take three of these as FRONT, TOP and SIDE{angle}"
-    near = nearly(chosen, hints) if not count else ""
+    text = f"{count} to take three of these as FRONT, TOP and SIDE{angle}"
+    near = nearly(chosen, hints) if not ways else ""
+    if len({way.angle for way in ways}) == 2 and all(way.views["FRONT"] is ways[0].views["FRONT"] for way in ways):
+        near = "TOP may stand above FRONT (third angle) or below it (first angle): say which by --angle"
     return "\n  ".join([text + (f": {near}" if near else ""), *seen, *(["and more"] if len(groups) > 12 else [])])
 
 

@@ -15,7 +15,7 @@ BUILT = TOP / "crates" / "recon" / "out" / "recon"
 SECONDS = 3600.0
 
 # The program's statuses, as docs/FORMAT.md has them.
-WHOLE, FAULT, USAGE, CUT_NODES, CUT_SOLIDS, NO_INPUT, NO_OUTPUT, NO_MEMORY, NO_SUCH_SOLID = range(9)
+WHOLE, FAULT, USAGE, CUT_NODES, CUT_SOLIDS, NO_INPUT, NO_OUTPUT, NO_MEMORY, NO_SUCH_SOLID, NO_LOG = range(10)
 # The greatest values that its options take.
 MOST_NODES, MOST_SOLIDS, MOST_WORKERS, MOST_DECIMALS = 4_000_000, 65_536, 64, 6
 
@@ -63,7 +63,7 @@ def check(program: pathlib.Path, words: list[str], status: int, said: bytes) -> 
     """Refuses a run that was ended by a signal, that says what the program never says, or that has no answer."""
     if status < 0:
         raise Refused(f"recon was ended by {signal.Signals(-status).name}")
-    if said or status > NO_SUCH_SOLID:
+    if said or status > NO_LOG:
         told = said.decode(errors="replace").strip()[:200]
         raise Refused(f"{program} isn't recon, or not as it is known here: status {status} {told}")
     if status in (USAGE, NO_INPUT, NO_OUTPUT, NO_MEMORY):

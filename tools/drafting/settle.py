@@ -4,24 +4,24 @@ between two grid planes cuts, into how many groups it splits the solids and how 
 With --meant K it says which further views, as few as possible, leave solid K alone, and the lines to be added for them; --write
 writes the drawing with these. Where even all three leave others, it says which sections would settle it and which blocks differ.
 
-Views and sections are drawn here, by the definitions, from the solids that the proved program lists. Where the program reads
-further views, the drawing with the added lines is checked by it; where it doesn't yet, that is said.
+Views and sections are drawn here, by the definitions, from the solids that the proved program lists. Of the drawing with the added
+lines the program has to list just the solids that are said to be left.
 """
 import argparse
 import itertools
 import pathlib
+import re
 from collections import Counter
 from collections.abc import Hashable, Sequence
 from typing import NamedTuple
 
 from . import asking, faults, program
-from .answers import CUT, FAULT, Answer, answer_of, text_of
+from .answers import CUT, FAULT, WHOLE, Answer, answer_of, text_of
 from .cells import Grid as Cells, grid_round
-from .drawing import lines_of, number, pairs_of, views_of
+from .drawing import FURTHER, lines_of, number, pairs_of, views_of
 from .messages import Progress, Refused, many, say, write_result
 from .panels import (
-    AXES, DASHED, FRAMES, FURTHER, SOLID, STYLES, Cell, Panels, Sheet, columns_of, cuts_in, panels_of, runs_of, sheet_of,
-    style_between,
+    AXES, DASHED, FRAMES, SOLID, STYLES, Cell, Sheet, Shown, columns_of, sheet_of, shown_of, strokes_shown, style_between,
 )
 
 NAME = "settle"
@@ -51,9 +51,7 @@ class Solids(NamedTuple):
         return [len(cut) - 1 for cut in self.cells.cuts]
 
     def cells_in(self, full: int) -> list[Cell]:
-        x, y, z = (len(cut) for cut in self.cells.cuts)
-        text = f"{full:b}"[::-1]
-        return [(at % x, at // x % y, at // (x * y)) for at, bit in enumerate(text) if bit == "1"]
+        return list(self.cells.all_in(full))
 
     def varying(self) -> int:
         """The cells that some of the solids have and others don't."""
@@ -161,17 +159,9 @@ def place_on_sheet(view: str, sheet: Sheet, cuts: list[list[int]]) -> tuple[int,
     return {"LEFT": (x - gap - deep, y), "REAR": (side + deep + gap, beside), "BOTTOM": (x, y - gap - deep)}[view]
 
 
-def lines_of_view(view: str, panels: Panels, sheet: Sheet, cuts: list[list[int]]) -> list[Added]:
+def lines_of_view(view: str, shown: Shown, sheet: Sheet, cuts: list[list[int]]) -> list[Added]:
     """The lines of a further view, one for each run, where it stands on the sheet."""
-    x, y = place_on_sheet(view, sheet, cuts)
-    rights, ups = cuts_in(view, cuts)
-    added = []
-    for row, styles in panels.items():
-        along, at = (ups, rights[row.number]) if row.upright else (rights, ups[row.number])
-        for style, low, high in runs_of(styles):
-            start, end = ((x + at, y + along[it]) if row.upright else (x + along[it], y + at) for it in (low, high))
-            added.append(Added(view, style == DASHED, start, end))
-    return added
+    return [Added(view, *stroke) for stroke in strokes_shown(shown, *place_on_sheet(view, sheet, cuts))]
 
 
 def with_lines(lines: list[str], added: list[Added], decimals: int) -> str:
@@ -250,26 +240,24 @@ def table(means: Sequence[Means]) -> list[str]:
     return [f"{name:{width}}  {groups:>6}  {largest:>17}" for name, groups, largest in rows]
 
 
-def checked(text: str, path: pathlib.Path, decimals: int, before: int, left: int, seconds: float) -> str:
-    """What the program says of the drawing with the added lines."""
-    head = program.run(path, ["solve", "--decimals", decimals], text.encode(), seconds).text.partition("\n")[0]
-    if head.startswith(f"whole {left} "):
-        return f"Checked: of the drawing with these lines the program lists {many(left, 'solid')}."
-    if head.startswith(f"whole {before} "):
-        return "Not checked by the program, which doesn't read LEFT, REAR and BOTTOM yet: the views are drawn here."
-    raise Refused(f"of the drawing with these lines the program says otherwise: {head}")
+def checked(text: str, path: pathlib.Path, words: list[object], wanted: list[str], seconds: float) -> str:
+    """What the program says of the drawing with the added lines, of which it has to list these choices; refused where it doesn't."""
+    listed = program.run(path, ["solve", *words], text.encode(), seconds).text
+    head = listed.partition("\n")[0]
+    if not WHOLE.fullmatch(head) or re.findall(r"^solid \d+ choice ([01]+) ", listed, re.M) != wanted:
+        raise Refused(f"of the drawing with these lines the program lists other solids than the {len(wanted):,} that are left: {head}")
+    just = "that" if len(wanted) == 1 else "those"
+    return f"Checked: of the drawing with these lines the program lists {many(len(wanted), 'solid')}, just {just}."
 
 
 def told_meant(
     solids: Solids, answer: Answer, number: int, views: list[Means], sections: list[Means], sheet: Sheet
-) -> tuple[list[str], list[Added], int]:
-    """What is told of the solid that is meant, the lines to be added, and how many solids are left."""
+) -> tuple[list[str], list[Added], list[str]]:
+    """What is told of the solid that is meant, the lines to be added, and the choices of the solids that are left."""
     chosen, left = views_for(views, number)
     names = " and ".join(it.name for it in chosen)
-    added = [
-        line for it in chosen
-        for line in lines_of_view(it.name, panels_of(solids.cells_in(solids.full[number]), solids.sizes, it.name), sheet, solids.cells.cuts)
-    ]
+    cells, cuts = solids.cells_in(solids.full[number]), solids.cells.cuts
+    added = [line for it in chosen for line in lines_of_view(it.name, shown_of(cells, cuts, it.name), sheet, cuts)]
     if left == {number}:
         rows = [f"Solid {number + 1} is told by {names} alone. The lines to be added:"]
     elif chosen:
@@ -285,16 +273,18 @@ def told_meant(
         settling = sections_for(sections, number, left)
         names = " and a ".join(it.name for it in settling)
         rows.append(f"It would be settled by a {names}." if settling else f"No {MOST_SECTIONS} sections settle it.")
-    return rows, added, len(left)
+    return rows, added, [answer.solids[it].choice for it in sorted(left)]
 
 
-def text_for(arguments: argparse.Namespace, case: Case, added: list[Added], left: int) -> tuple[str, str]:
+def text_for(arguments: argparse.Namespace, case: Case, added: list[Added], left: list[str]) -> tuple[str, str]:
     """The drawing with the added lines, and what is said of its check by the program."""
     text = with_lines(case.lines, added, case.decimals)
     if arguments.answer:
         return text, "Not checked by the program, since the answer was given: the views are drawn here."
-    path = program.find(arguments.program)
-    return text, checked(text, path, case.decimals, case.answer.listed, left, arguments.seconds)
+    if not WHOLE.fullmatch(case.answer.head):
+        return text, "Not checked by the program, since the search was cut: the views are drawn here."
+    words = ["--decimals", case.decimals, *asking.words_of(arguments)]
+    return text, checked(text, program.find(arguments.program), words, left, arguments.seconds)
 
 
 def run(arguments: argparse.Namespace) -> int:

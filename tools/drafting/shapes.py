@@ -1,4 +1,4 @@
-"""The three views of a shape, as FreeCAD's TechDraw projects it by OpenCASCADE's hidden line removal. Solids of one shape are
+"""The views of a shape, as FreeCAD's TechDraw projects it by OpenCASCADE's hidden line removal. Solids of one shape are
 united, and faces of one plane that touch are joined.
 """
 import itertools
@@ -9,15 +9,18 @@ from decimal import Decimal, InvalidOperation
 from typing import NamedTuple
 
 from .cad import FreeCAD, Part, TechDraw, is_shape_file, load
-from .drawing import Stroke, written
+from .drawing import VIEWS, Stroke, places_of, written
 from .messages import Refused
 
 # The direction from the part to the viewer; and, as a box with three different sides shows, what is to the right and upwards
 # in the two coordinates that TechDraw answers.
-VIEWS: dict[str, tuple[tuple[int, int, int], Callable[[float, float], tuple[float, float]]]] = {
+DIRECTIONS: dict[str, tuple[tuple[int, int, int], Callable[[float, float], tuple[float, float]]]] = {
     "FRONT": ((0, -1, 0), lambda u, v: (v, -u)),
     "TOP": ((0, 0, 1), lambda u, v: (u, v)),
     "SIDE": ((1, 0, 0), lambda u, v: (-v, u)),
+    "LEFT": ((-1, 0, 0), lambda u, v: (v, -u)),
+    "REAR": ((0, 1, 0), lambda u, v: (-v, u)),
+    "BOTTOM": ((0, 0, -1), lambda u, v: (-u, -v)),
 }
 
 # Of the ten groups of edges that TechDraw answers the first five are visible.
@@ -111,7 +114,7 @@ def part_of(shape: Part.Shape) -> Part.Shape:
 
 def projected(part: Part.Shape, view: str) -> Iterator[Edge]:
     """The edges of a view as they come, in pieces and some of them repeated."""
-    direction, place = VIEWS[view]
+    direction, place = DIRECTIONS[view]
     for number, group in enumerate(TechDraw.projectEx(part, FreeCAD.Vector(*direction))):
         for edge in [] if group.isNull() else group.Edges:
             places = [place(vertex.X, vertex.Y) for vertex in edge.Vertexes]
@@ -138,21 +141,26 @@ def joined(edges: Iterable[Edge]) -> Iterator[Edge]:
         yield from pieces
 
 
-def views_of(part: Part.Shape) -> dict[str, list[Edge]]:
-    """The three views in third-angle places, FRONT at the part's own coordinates, TOP above it and SIDE to its right."""
+def views_of(part: Part.Shape, further: Iterable[str] = ()) -> dict[str, list[Edge]]:
+    """The three views and some further ones in third-angle places, FRONT at the part's own coordinates."""
     box = part.BoundBox
-    above, aside = round(box.ZMax - box.YMin) + MARGIN, round(box.XMax - box.YMin) + MARGIN
-    places = {"FRONT": (0, 0), "TOP": (0, above), "SIDE": (aside, 0)}
-    return {view: [edge.moved(*place) for edge in joined(projected(part, view))] for view, place in places.items()}
+    places = places_of(*map(round, (box.XLength, box.YLength, box.ZLength)), MARGIN)
+    views = {}
+    for view in (*VIEWS, *further):
+        edges = list(joined(projected(part, view)))
+        least = [min(end[axis] for edge in edges for end in edge.ends()) for axis in (0, 1)]
+        right, up = (round(begin) + at - low for begin, at, low in zip((box.XMin, box.ZMin), places[view], least))
+        views[view] = [edge.moved(right, up) for edge in edges]
+    return views
 
 
 # ---- the file
 
-def drawing_of(path: str, decimals: int) -> str:
-    """The drawing of a file's shape, with so many decimals."""
+def drawing_of(path: str, decimals: int, further: Iterable[str] = ()) -> str:
+    """The drawing of a file's shape, with so many decimals and some further views."""
     shape = load(path).scale(10**decimals) if is_shape_file(path) else shape_of_boxes(path, decimals)
     try:
-        views = views_of(part_of(shape))
+        views = views_of(part_of(shape), further)
     except Refused as refusal:
         raise Refused(f"{path}: {refusal}") from None
     strokes: dict[str, list[Stroke]] = {

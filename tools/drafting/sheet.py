@@ -1,9 +1,9 @@
 """Writes a sheet, any DXF file that ezdxf reads, as the drawing of three layers that recon reads. Blocks, polylines and exploded
 dimensions are taken apart; frame, title block, texts, dimensions, centre lines, what is off or frozen and paper space are left out;
 pieces are joined and coordinates made whole. Visible and hidden edges are told by linetype, else by the name of the layer, else by
-what is said here; the three views by the names of layers or blocks, else by their places: TOP above FRONT (third angle) or below it
-(first angle), and a right or a left side view beside it. With a left one all three views are mirrored, which a comment in the drawing
-says, and the commands here turn the solids back.
+what is said here; the views by the names of layers or blocks, else by their places: TOP above FRONT (third angle) or below it (first
+angle), a right or a left side view beside it, or both, a rear view behind one of them, and a bottom view across from TOP. With a left
+side view and no right one all views are mirrored, which a comment in the drawing says, and the commands here turn the solids back.
 
 Each thing that is changed or left out is one line on standard error, and what can't be read without a guess is refused.
 """
@@ -14,9 +14,9 @@ from fractions import Fraction
 from typing import NamedTuple
 
 from .dimensions import without_dimensions
-from .drawing import VIEWS, Origin, Stroke, written
+from .drawing import Origin, Stroke, places_of, written
 from .messages import Refused, many, say, write_result
-from .placing import Group, Hints, Placed, by_names, by_places, meet, named_views
+from .placing import Group, Hints, Placed, by_names, by_places, extents_of, meet, named_views
 from .reading import Arrow, Edge, Sheet, Source, Unread, line_of_file, read_sheet
 from .straight import Measure, Run, apart, hidden_by, measure_of, runs_of
 from .styles import Style, choice_of
@@ -123,7 +123,7 @@ def straight_runs(edges: Mapping[str, list[Edge]], arrows: Sequence[Arrow], tole
 
 
 def placed_views(sheet: Sheet, edges: list[Edge], arguments: argparse.Namespace, tell: Tell) -> tuple[Placed, list[Unread]]:
-    """The three views, and what can't be read of the sheet, without the heads of exploded dimensions."""
+    """The views, and what can't be read of the sheet, without the heads of exploded dimensions."""
     numbers = [text.removeprefix("group=") for text in arguments.leave_out if text.startswith("group=")]
     if not all(number.isdigit() for number in numbers):
         raise Refused("not group=NUMBER")
@@ -231,23 +231,20 @@ def plain(runs: Sequence[Whole]) -> list[Whole]:
 
 
 def strokes_of(placed: Placed, measure: Measure) -> tuple[dict[str, list[Stroke]], int]:
-    """The strokes of the three views where they are written, in units of the last decimal, and how many hidden ones lay under visible
-    ones."""
+    """The strokes of the views where they are written, in units of the last decimal, and how many hidden ones lay under visible ones."""
     views, under = {}, 0
-    sizes: dict[str, tuple[int, int]] = {}
-    for view in VIEWS:
-        runs = [(hidden, upright, *map(measure.units, whole)) for hidden, upright, *whole in moved(placed.views[view], placed.mirrored)]
+    sizes: dict[int, tuple[str, int]] = {}
+    for view, group in placed.views.items():
+        runs = [(hidden, upright, *map(measure.units, whole)) for hidden, upright, *whole in moved(group, placed.mirrored)]
         views[view] = plain([(hidden, upright, at, low, high) for hidden, upright, at, low, high in runs if low < high])
         under += max(0, len(runs) - len(views[view]))
-        group = placed.views[view]
-        sizes[view] = measure.units(group.width), measure.units(group.height)
-    (width, height), (top_width, depth), (side_width, side_height) = (sizes[view] for view in VIEWS)
-    if (width, height, depth) != (top_width, side_height, side_width):
-        raise Refused(f"the views don't agree in whole units: FRONT {width} by {height}, TOP {top_width} by {depth}, SIDE {side_width} by "
-                      f"{side_height}")
-    gap = MARGIN * 10**measure.decimals
-    places = {"FRONT": (0, 0), "TOP": (0, height + gap), "SIDE": (width + gap, 0)}
-    if max(width, height) + gap + depth > FARTHEST:
+        for axis, told, extent in extents_of(view, group):
+            first, size = sizes.setdefault(axis, (told, measure.units(extent)))
+            if size != measure.units(extent):
+                raise Refused(f"the views don't agree in whole units: {first} {size}, and {told} {measure.units(extent)}")
+    width, depth, height = (sizes[axis][1] for axis in range(3))
+    places = places_of(width, depth, height, MARGIN * 10**measure.decimals)
+    if any(abs(at) + max(width, depth, height) > FARTHEST for view in views for at in places[view]):
         raise Refused(f"the part is more than {FARTHEST:,} units of its last decimal")
     return {view: [stroke(run, *places[view]) for run in runs] for view, runs in views.items()}, under
 
@@ -294,7 +291,7 @@ def draw(path: str, arguments: argparse.Namespace, tell: Tell) -> Drawn:
     if under:
         tell(f"left out: {many(under, 'hidden stretch', 'hidden stretches')} under visible ones, or joined")
     if placed.mirrored:
-        tell("changed: the side view is the left one, so all three views are drawn in a mirror, x turned round")
+        tell("changed: the side view is the left one, so all views are drawn in a mirror, x turned round")
     # Lengths by the scale are told as real ones: only what was needed to make them whole is told apart.
     origin = Origin(sheet.unit, measure.times / scale_of(arguments.scale), placed.mirrored)
     lines = sum(map(len, views.values()))

@@ -108,7 +108,7 @@ def sizes_told(views: dict[str, list[Line]], units: Units) -> str:
 
 
 def views_told(views: dict[str, list[Line]], units: Units, marked: int | None = None) -> str:
-    """The three views as a picture, in which each line tells its place and length."""
+    """The views as a picture, in which each line tells its place and length."""
     def measured(view: str, kind: str, low: Place, high: Place) -> str:
         ends = [", ".join(units.told(round(at * 10**units.decimals)) for at in end) for end in (low, high)]
         length = units.told(round(abs(high[0] - low[0] + high[1] - low[1]) * 10**units.decimals))
@@ -116,7 +116,7 @@ def views_told(views: dict[str, list[Line]], units: Units, marked: int | None = 
 
     size = VIEWS + 2 * MARGIN
     parts = "".join(views_drawn(views, MARGIN, MARGIN, marked, measured))
-    return f'<svg viewBox="0 0 {size} {size}" role="img" aria-label="The three views">{parts}</svg>'
+    return f'<svg viewBox="0 0 {size} {size}" role="img" aria-label="The views">{parts}</svg>'
 
 
 def drawing_told(views: dict[str, list[Line]], units: Units, head: str = "") -> str:

@@ -28,10 +28,9 @@ def count_told(asked: asking.Asked, head: str, listed: int) -> list[str]:
     if not cut:
         return [{0: "No solid has these views", 1: "One solid has these views"}.get(listed, f"{listed:,} solids have these views")
                 + ": the search was whole."]
-    limit, most = int(cut[2]), {"nodes": program.MOST_NODES, "solids": program.MOST_SOLIDS}[cut[1]]
     are = "there are more" if cut[1] == "solids" else "there may be more"
-    do = f"raise it by --{cut[1]}, to {most:,} at most" if limit < most else "draw what tells the solids apart, or less of the part"
-    return [f"{many(listed, 'solid')} found, and {are}: the search was cut at its limit of {limit:,} {cut[1]}; {do}."]
+    return [f"{many(listed, 'solid')} found, and {are}: the search was cut at its limit of {int(cut[2]):,} {cut[1]}; "
+            f"{asking.way_out(cut)}."]
 
 
 def told(asked: asking.Asked, listed: int) -> list[str]:

@@ -8,7 +8,7 @@ import re
 from fractions import Fraction
 
 from . import asking, clean, program
-from .drawing import written
+from .drawing import further_in, lines_within, strokes_in, written
 from .messages import Refused, many, say, write_result
 from .triangles import edges_of, triangles_of
 
@@ -43,11 +43,25 @@ def turned_round(text: str) -> str:
     return re.sub(r"^(vertex .*\n)(vertex .*\n)(vertex .*\n)", r"\1\3\2", text, flags=re.M)
 
 
+def choices_of(data: bytes, arguments: argparse.Namespace, *words: object) -> list[str]:
+    """The choices of the solids that recon lists."""
+    listed = program.run(program.find(arguments.program), ["solve", *words, *asking.words_of(arguments)], data, arguments.seconds)
+    return re.findall(r"^solid \d+ choice ([01]+) ", listed.text, re.M)
+
+
+def number_among_all(asked: asking.Asked, whole: bytes, arguments: argparse.Namespace) -> int:
+    """The number of the solid among all that have the three main views, by which recon's `stl` goes."""
+    if not further_in(asked.lines):
+        return int(arguments.solid)
+    fitting = choices_of(asked.data, arguments, *asking.decimals_words(("solve",), asked.decimals))
+    return choices_of(whole, arguments).index(fitting[arguments.solid - 1]) + 1
+
+
 def run(arguments: argparse.Namespace) -> int:
     asked = clean.redrawn(arguments, lambda text: say(f"draft stl: {text}"))
     # recon writes triangles of drawings without decimals: so it is given the same drawing in whole units.
-    whole = written(clean.strokes_in(asked.run.text, asked.decimals), 0).encode()
-    words = ["stl", arguments.solid, *asking.words_of(arguments)]
+    whole = written(strokes_in(lines_within(asked.run.text.encode()), asked.decimals), 0).encode()
+    words = ["stl", number_among_all(asked, whole, arguments), *asking.words_of(arguments)]
     made = program.run(program.find(arguments.program), words, whole, arguments.seconds)
     if made.status != program.WHOLE:
         raise Refused(f"recon writes no triangles of its own drawing: {made.text[:80].strip()}")

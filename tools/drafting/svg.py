@@ -1,13 +1,16 @@
-"""The three views of a drawing as parts of an SVG picture, for `picture` and `page`."""
+"""The views of a drawing as parts of an SVG picture, for `picture` and `page`."""
 import functools
 import html
 import itertools
 from collections.abc import Callable, Iterable, Iterator
 
+from .drawing import VIEWS as MAIN
 from .drawing import Line, Place
 
 # Sizes on the picture, in pixels: the square that the views stand in, and what is between them.
 VIEWS, GAP = 290, 36
+# The column and the row, from the top, in which each view stands beside FRONT. The further ones are drawn where they have lines.
+PLACES = {"TOP": (0, -1), "FRONT": (0, 0), "SIDE": (1, 0), "LEFT": (-1, 0), "REAR": (2, 0), "BOTTOM": (0, 1)}
 
 Stroke = tuple[bool, Place, Place]
 # What is told of a stroke: by its view, its kind, and its ends from the view's least corner on.
@@ -68,22 +71,39 @@ class View:
             yield path([(left + scale * x, bottom - scale * y) for x, y in (start, end)], kind, told=told(kind, start, end) if told else "")
 
 
+def steps(sizes: dict[int, float], start: float, scale: float) -> dict[int, float]:
+    """Where each column or row begins, the first one there, one gap apart."""
+    begins = {}
+    for number in sorted(sizes):
+        begins[number] = start
+        start += scale * sizes[number] + GAP
+    return begins
+
+
 def views_drawn(
     views: dict[str, list[Line]], left: float, top: float, marked: int | None = None, told: Told | None = None
 ) -> Iterator[str]:
-    """The three views in a square from there, TOP above FRONT and SIDE to its right, with the lines that join them."""
-    front, above, side = (View(views[name], marked) for name in ("FRONT", "TOP", "SIDE"))
-    width, depth = max(front.width, above.width), max(above.height, side.width)
-    height = max(front.height, side.height)
-    scale = (VIEWS - GAP) / (max(width, height) + depth or 1)
-    top += (VIEWS - GAP - scale * (depth + height)) / 2
-    right, bottom = left + scale * width + GAP, top + scale * (depth + height) + GAP
+    """The views in third-angle places in a square from there, with the lines that join them."""
+    drawn = {name: View(views.get(name, []), marked) for name in PLACES if name in MAIN or views.get(name)}
+    columns: dict[int, float] = {}
+    rows: dict[int, float] = {}
+    for name, view in drawn.items():
+        column, row = PLACES[name]
+        columns[column], rows[row] = max(view.width, columns.get(column, 0.0)), max(view.height, rows.get(row, 0.0))
+    across, down = (VIEWS - GAP * (len(sizes) - 1) for sizes in (columns, rows))
+    scale = min(across / (sum(columns.values()) or 1), down / (sum(rows.values()) or 1))
+    top += (down - scale * sum(rows.values())) / 2
+    lefts, tops = steps(columns, left, scale), steps(rows, top, scale)
+    bottoms = {row: tops[row] + scale * rows[row] for row in rows}
+    front = drawn["FRONT"]
     for x in (0, front.width):
-        yield path([(left + scale * x, top), (left + scale * x, bottom)], "guide")
+        yield path([(lefts[0] + scale * x, top), (lefts[0] + scale * x, max(bottoms.values()))], "guide")
     for y in (0, front.height):
-        yield path([(left, bottom - scale * y), (right + scale * depth, bottom - scale * y)], "guide")
-    for name, view, x, y in (("TOP", above, left, top + scale * depth), ("FRONT", front, left, bottom), ("SIDE", side, right, bottom)):
-        yield from view.drawn(x, y, scale, functools.partial(told, name) if told else None)
-    yield label(left + scale * above.width / 2, top - 10, "TOP", "small")
-    yield label(left + scale * front.width / 2, bottom + 22, "FRONT", "small")
-    yield label(right + scale * side.width / 2, bottom + 22, "SIDE", "small")
+        ends = left, max(lefts[column] + scale * columns[column] for column in columns)
+        yield path([(x, bottoms[0] - scale * y) for x in ends], "guide")
+    for name in drawn:
+        column, row = PLACES[name]
+        yield from drawn[name].drawn(lefts[column], bottoms[row], scale, functools.partial(told, name) if told else None)
+    for name, view in drawn.items():
+        column, row = PLACES[name]
+        yield label(lefts[column] + scale * view.width / 2, top - 10 if name == "TOP" else bottoms[row] + 22, name, "small")

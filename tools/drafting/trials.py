@@ -70,6 +70,13 @@ def file_text(entities: Iterable[str]) -> str:
     return "0\nSECTION\n2\nENTITIES\n" + "".join(entities) + "0\nENDSEC\n0\nEOF\n"
 
 
+def with_entities(data: bytes, entities: Iterable[str]) -> bytes:
+    """A file that was written so, with further entities."""
+    text = data.decode()
+    end = text.rindex("0\nENDSEC\n")
+    return (text[:end] + "".join(entities) + text[end:]).encode()
+
+
 def bare(view: str, right: int, up: int) -> tuple[str, str]:
     """A place of a view as it is, in whole units: where views stand has no effect."""
     return str(right), str(up)

@@ -6,7 +6,8 @@ columns of cells don't refuse a change at once, the proved program is run on the
 told is the program's own. Where no single change gives a solid, clingo looks for the least length of segments to be drawn
 otherwise (apt-get install gringo), and the program is run on what it found. That nothing is found is an answer too.
 
-Each view may be taken to begin outside what is drawn of it, where another view reaches farther along the same axis.
+Each view may be taken to begin outside what is drawn of it, where another view reaches farther along the same axis. Where solids have
+the three main views, and none the further ones too, it says what of these the nearest solid shows otherwise.
 """
 import argparse
 import itertools
@@ -14,10 +15,10 @@ import pathlib
 from collections.abc import Callable, Iterator
 from typing import NamedTuple
 
-from . import asking, changes, faults, least, picture, program, trials
+from . import asking, changes, faults, least, picture, program, trials, unfit
 from .answers import FAULT, WHOLE, answer_of
 from .changes import Change, Judged, Kind
-from .drawing import VIEWS, Line, Origin, views_of, written
+from .drawing import VIEWS, Line, Origin, further_in, views_of, written
 from .messages import Progress, Refused, many, say, write_result
 from .panels import AXES, BLANK, DASHED, SOLID, STYLES, Grid, Row, Sheet, Stroke, grid_of, runs_of, sheet_of
 from .trials import Outcome, Tried
@@ -294,6 +295,24 @@ def looked_at(
     return rows + told_least(fewest, sure, limits.search, all_placed[0]), fewest
 
 
+def told_of(asked: asking.Asked, path: pathlib.Path, limits: Limits, tell: Found = said_found) -> tuple[list[str], list[Suggestion]]:
+    """What is told of a drawing or a sheet that no solid has, and the suggestions: where its three main views alone have none, of these,
+    and else of its further views."""
+    views = views_of(asked.lines)
+    sheet = sheet_of(views, asked.decimals)
+    further = further_in(asked.lines)
+    if not further:
+        return looked_at(path, sheet, asked.run.text.partition("\n")[0], limits, tell)
+    main = Tried(grid_of(sheet)).changed(())
+    alone = program.run(path, ["solve", "--nodes", program.MOST_NODES, "--solids", program.MOST_SOLIDS], main)
+    head = alone.text.partition("\n")[0]
+    if not head.startswith("whole 0 "):
+        return unfit.told(path, sheet, views, main, alone.text), []
+    rows, found = looked_at(path, sheet, head, limits, tell)
+    names = f"{' and '.join(further)} {'is' if len(further) == 1 else 'are'}"
+    return [f"{rows[0]} Its three main views alone have none: {names} left out here.", *rows[1:]], found
+
+
 def run(arguments: argparse.Namespace) -> int:
     asked = asking.ask(arguments.drawing, arguments, lambda text: say(f"draft why: {text}"))
     head = known_head(asked)
@@ -306,7 +325,7 @@ def run(arguments: argparse.Namespace) -> int:
         say("draft why: coordinates and lines of the file are those of the drawing that `draft sheet` writes")
     limits = Limits(arguments.runs, arguments.search, arguments.processes)
     path = program.find(arguments.program)
-    rows, found = looked_at(path, sheet_of(views_of(asked.lines), asked.decimals), head, limits)
+    rows, found = told_of(asked, path, limits)
     write_result("".join(f"{row}\n" for row in rows), None)
     if arguments.write or arguments.picture:
         if not 1 <= arguments.take <= len(found):

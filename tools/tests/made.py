@@ -27,6 +27,14 @@ def scattered(rng: random.Random, sizes: tuple[int, int, int], full: float) -> s
     return cells
 
 
+def pierced(rng: random.Random) -> set[Cell]:
+    """A small box with most of the cells of a lattice cut out, of which some are open to one side: its three views tend to have several
+    solids, and its further views to rule out some of these."""
+    sizes, begins = [rng.randint(3, 5) for _ in range(3)], [rng.randint(0, 1) for _ in range(3)]
+    return {cell for cell in itertools.product(*map(range, sizes))
+            if any((at - begin) % 2 for at, begin in zip(cell, begins)) or rng.random() < 0.2}
+
+
 def random_cuts(rng: random.Random, cells: Iterable[Cell]) -> list[list[int]]:
     """Grid coordinates of random distances, from 0 on."""
     cuts = []

@@ -7,7 +7,10 @@ from typing import Any, NamedTuple
 import ezdxf
 from ezdxf.enums import TextEntityAlignment
 
-from drafting.drawing import Stroke, lines_of, views_of
+from drafting.answers import answer_of
+from drafting.cells import grid_round
+from drafting.drawing import FURTHER, Stroke, lines_of, views_of
+from drafting.panels import shown_of, strokes_shown
 
 Ends = tuple[tuple[float, float], tuple[float, float]]
 Views = dict[str, list[tuple[bool, Ends]]]
@@ -27,6 +30,15 @@ def views_in(file: pathlib.Path) -> Views:
     return views
 
 
+def further_of_first(answer: str) -> Views:
+    """The further views of the first solid of an answer."""
+    solid = answer_of(answer, 1).solids[0]
+    grid = grid_round([solid])
+    cells = list(grid.all_in(grid.cells(solid)))
+    strokes = {view: strokes_shown(shown_of(cells, grid.cuts, view), 0, 0) for view in FURTHER}
+    return {view: [(dashed, (start, end)) for dashed, start, end in its] for view, its in strokes.items()}
+
+
 def size_of(strokes: list[tuple[bool, Ends]]) -> tuple[float, float]:
     points = [point for _, ends in strokes for point in ends]
     return max(x for x, _ in points), max(y for _, y in points)
@@ -42,12 +54,16 @@ def mirrored(views: Views) -> Views:
 
 
 def places_of(views: Views, angle: str = "third", left: bool = False) -> dict[str, tuple[float, float]]:
-    """Where the views stand on the sheet; the side view to the right of FRONT, or to the left."""
+    """Where the views stand on the sheet; the side view to the right of FRONT, or to the left, and the rear view behind it."""
     (width, height), (_, depth) = size_of(views["FRONT"]), size_of(views["TOP"])
     x, y = 40.0, 50.0 + (depth + GAP if angle == "first" else 0)
     x += depth + GAP if left else 0
     top = y + height + GAP if angle == "third" else y - GAP - depth
-    return {"FRONT": (x, y), "TOP": (x, top), "SIDE": (x - GAP - depth if left else x + width + GAP, y)}
+    bottom = y - GAP - depth if angle == "third" else y + height + GAP
+    right, before = x + width + GAP, x - GAP - depth
+    behind = before - GAP - width if left else right + depth + GAP
+    return {"FRONT": (x, y), "TOP": (x, top), "SIDE": (before if left else right, y), "LEFT": (right if left else before, y),
+            "REAR": (behind, y), "BOTTOM": (x, bottom)}
 
 
 def new(version: str = "R2010", unit: int = 4) -> Any:
@@ -114,30 +130,31 @@ def dimensions(space: Any, views: Views, places: dict[str, tuple[float, float]],
 
 
 # The kinds of sheets, each a method of the maker.
-KINDS = ("styles", "surroundings", "strokes", "placings", "refused", "versions")
+KINDS = ("styles", "surroundings", "strokes", "placings", "further_views", "refused", "versions")
 
 
 class Made(NamedTuple):
     """A sheet: its file, what is said of it, and what has to come: the part's own answer with lengths so many times as large, or a
-    refusal whose words are like this."""
+    refusal whose words are like this; and the further views that are found."""
 
     file: pathlib.Path
     words: list[str]
     factor: int | None
     refusal: str = ""
+    further: tuple[str, ...] = ()
 
 
 class Maker:
     """Makes the sheets of one part in a folder."""
 
-    def __init__(self, folder: pathlib.Path, views: Views) -> None:
-        self.folder, self.views = folder, views
+    def __init__(self, folder: pathlib.Path, views: Views, further: Views | None = None) -> None:
+        self.folder, self.views, self.further = folder, views, further or {}
         self.places = places_of(views)
 
-    def save(self, doc: Any, name: str, *words: str, factor: int | None = 1, refusal: str = "") -> Made:
+    def save(self, doc: Any, name: str, *words: str, factor: int | None = 1, refusal: str = "", further: tuple[str, ...] = ()) -> Made:
         file = self.folder / f"{name}.dxf"
         doc.saveas(file)
-        return Made(file, list(words), None if refusal else factor, refusal)
+        return Made(file, list(words), None if refusal else factor, refusal, further)
 
     def sheet(self, version: str = "R2010", **options: Any) -> Any:
         doc = new(version)
@@ -259,6 +276,40 @@ class Maker:
             draw(doc.modelspace(), mirrored(self.views), places_of(self.views, angle, left))
             yield self.save(doc, name)
 
+    # ---- further views
+
+    def further_views(self) -> Iterator[Made]:
+        six = {**self.views, **self.further}
+        for name, words, angle, views in (
+            ("six_views_third_angle", ["--angle", "third"], "third", FURTHER),
+            ("six_views_first_angle", ["--angle", "first"], "first", FURTHER),
+            ("rear_view", [], "third", ("REAR",)), ("left_and_rear_view_in_first_angle", [], "first", ("LEFT", "REAR")),
+            ("bottom_view", ["--angle", "third"], "third", ("BOTTOM",)),
+        ):
+            yield self.save(self.with_further(angle, views), name, *words, further=views)
+        yield self.save(self.with_further("third", FURTHER), "which_angle", refusal="there are 2 ways .* say which by --angle")
+        places = places_of(six)
+        left, y = places["LEFT"]
+        doc = new()
+        draw(doc.modelspace(), {view: six[view] for view in (*self.views, "LEFT", "REAR")}, {**places, "REAR": (left - 60, y)})
+        yield self.save(doc, "rear_view_behind_the_left_one", further=("LEFT", "REAR"))
+        doc = new()
+        turned = mirrored({view: six[view] for view in (*self.views, "REAR", "BOTTOM")})
+        draw(doc.modelspace(), turned, places_of(turned, "third", True))
+        yield self.save(doc, "third_angle_left_view_with_a_rear_and_a_bottom_one", "--angle", "third", further=("REAR", "BOTTOM"))
+        names = {"SIDE": "RIGHT", "LEFT": "Left_View", "REAR": "BACK", "BOTTOM": "BOTTOM"}
+        doc = new()
+        row = {view: (70.0 * number, 3.0 * number) for number, view in enumerate(six)}
+        draw(doc.modelspace(), six, row, lambda view, dashed: {**by_linetype(view, dashed), "layer": names.get(view, view)})
+        yield self.save(doc, "further_views_by_names", further=FURTHER)
+
+    def with_further(self, angle: str, views: tuple[str, ...]) -> Any:
+        """A sheet with some further views, as they stand in third or first angle."""
+        doc = new()
+        its = {**self.views, **{view: self.further[view] for view in views}}
+        draw(doc.modelspace(), its, places_of(its, angle, angle == "first"))
+        return doc
+
     # ---- what is refused
 
     def refused(self) -> Iterator[Made]:
@@ -278,9 +329,8 @@ class Maker:
         doc.modelspace().add_line((x, y + height / 2), (x + width, y + height / 2), dxfattribs={"linetype": "ZIGZAG_DOTS"})
         yield self.save(doc, "linetype_without_meaning", refusal="linetype ZIGZAG_DOTS, which tells no style")
         doc = self.sheet()
-        rear = {"FRONT": mirrored(self.views)["FRONT"]}
-        draw(doc.modelspace(), rear, {"FRONT": (self.places["SIDE"][0] + 80, y)})
-        yield self.save(doc, "fourth_view", refusal=r"beside the three views stands group \d.*--leave-out group=")
+        draw(doc.modelspace(), {"SIDE": self.views["SIDE"]}, {"SIDE": (self.places["SIDE"][0] + 80, y)})
+        yield self.save(doc, "fourth_view", refusal=r"beside the views stands group \d.*--leave-out group=")
         yield self.save(doc, "fourth_view_left_out", "--leave-out", "group=4")
         places = {**self.places, "TOP": (x + 0.5, self.places["TOP"][1])}
         doc = new()

@@ -6,7 +6,7 @@ import unittest
 from fractions import Fraction
 
 from drafting import program, sheet
-from drafting.drawing import lines_within, views_of
+from drafting.drawing import FURTHER, lines_within, views_of, written
 
 from .support import EXAMPLES, needs_module, needs_program
 from .test_sheet import arguments, plain_answer, solved
@@ -24,6 +24,10 @@ NAMES = ("bracket", "clevis", "pierced_plate", "quartered_cube", "untidy_redrawn
 SCALES = (1.0, 0.5, 0.0625, 1 / 3, 0.1, 2.5)
 
 
+def whole(ends: "sheets.Ends") -> list[tuple[int, int]]:
+    return [(round(x), round(y)) for x, y in ends]
+
+
 @needs_module("ezdxf", "python3-ezdxf")
 @needs_program()
 class RandomSheets(unittest.TestCase):
@@ -36,12 +40,21 @@ class RandomSheets(unittest.TestCase):
     def one(self, chance: random.Random, seed: int, folder: pathlib.Path) -> None:
         base = folder / "base.dxf"
         name = f"{chance.choice(NAMES)}.dxf"
+        angle, left = chance.choice(("third", "first")), chance.random() < 0.5
+        mirrored = (angle == "third") == left
+        further: list[str] = []
         if chance.random() < 0.5:
             base.write_text(program.run(program.find(), ["make", seed], b"").text)
         else:
             base.write_bytes((EXAMPLES / name).read_bytes())
+            further = chance.sample([view for view in FURTHER if not mirrored or view != "LEFT"], chance.randint(0, 2))
         views = sheets.views_in(base)
-        file, words, mirrored = self.drawn(chance, views, folder)
+        if further:
+            shown = sheets.further_of_first((EXAMPLES / name).with_suffix(".txt").read_text())
+            views |= {view: shown[view] for view in further}
+            base.write_text(written({view: [(dashed, *whole(ends)) for dashed, ends in strokes] for view, strokes in views.items()}, 0))
+        file, words = self.drawn(chance, views, folder, angle, left)
+        words += ["--angle", angle] if "BOTTOM" in further else []
         said: list[str] = []
         made = sheet.draw(str(file), arguments("sheet", file, *words), said.append)
         self.assertEqual(made.origin.mirrored, mirrored)
@@ -54,10 +67,10 @@ class RandomSheets(unittest.TestCase):
         if answer.startswith("whole"):
             self.assertEqual(plain_answer(solved(made.text.encode(), made.decimals)), plain_answer(answer, factor), said)
 
-    def drawn(self, chance: random.Random, views: "sheets.Views", folder: pathlib.Path) -> tuple[pathlib.Path, list[str], bool]:
-        angle, left = chance.choice(("third", "first")), chance.random() < 0.5
-        mirrored = (angle == "third") == left
-        its = sheets.mirrored(views) if mirrored else views
+    def drawn(
+        self, chance: random.Random, views: "sheets.Views", folder: pathlib.Path, angle: str, left: bool
+    ) -> tuple[pathlib.Path, list[str]]:
+        its = sheets.mirrored(views) if (angle == "third") == left else views
         places = sheets.places_of(its, angle, left)
         scale = chance.choice(SCALES)
         doc = sheets.new(chance.choice(("R2000", "R2010", "R2018")), chance.choice((0, 1, 4)))
@@ -74,12 +87,12 @@ class RandomSheets(unittest.TestCase):
         if chance.random() < 0.5:
             sheets.dimensions(space, sized, scaled, chance.random() < 0.5, scale=scale)
         if chance.random() < 0.5:
-            reach = scale * max(x + y for x, y in places.values()) + sum(map(max, map(sheets.size_of, sized.values()))) + 150
+            reach = scale * max(abs(x) + abs(y) for x, y in places.values()) + sum(map(max, map(sheets.size_of, sized.values()))) + 150
             for margin in (0, 10):
-                sheets.rectangle(space, -100 + margin, -100 + margin, reach - margin, reach - margin)
+                sheets.rectangle(space, -reach + margin, -reach + margin, reach - margin, reach - margin)
         file = folder / "sheet.dxf"
         doc.saveas(file)
-        return file, words, mirrored
+        return file, words
 
     def look(self, chance: random.Random, doc: object, any_hidden: bool) -> tuple["sheets.Look", list[str]]:
         kind = chance.randrange(4)

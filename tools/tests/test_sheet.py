@@ -8,7 +8,10 @@ from fractions import Fraction
 
 from drafting import asking, command, program, sheet
 from drafting.answers import Answer, Solid, answer_of, turned_round
+from drafting.cells import grid_round
+from drafting.drawing import FURTHER, lines_within, views_of
 from drafting.messages import Refused
+from drafting.panels import Shown, further_of, shown_of
 
 from .support import EXAMPLES, draft, needs_module, needs_program
 
@@ -18,6 +21,16 @@ except ImportError:
     sheets = None  # type: ignore[assignment]
 
 PARSER = command.parser_of(command.commands())
+
+
+def further_of_clevis() -> dict[str, Shown]:
+    """What the clevis shows from the left, from behind and from below."""
+    solid = answer_of((EXAMPLES / "clevis.txt").read_text()).solids[0]
+    grid = grid_round([solid])
+    return {view: shown_of(list(grid.all_in(grid.cells(solid))), grid.cuts, view) for view in FURTHER}
+
+
+FURTHER_OF_CLEVIS = further_of_clevis()
 
 
 def arguments(*words: object) -> argparse.Namespace:
@@ -44,7 +57,8 @@ class Sheets(unittest.TestCase):
         part = EXAMPLES / "clevis.dxf"
         own = part.with_suffix(".txt").read_text()
         with tempfile.TemporaryDirectory() as folder:
-            for made in getattr(sheets.Maker(pathlib.Path(folder), sheets.views_in(part)), kind)():
+            maker = sheets.Maker(pathlib.Path(folder), sheets.views_in(part), sheets.further_of_first(own))
+            for made in getattr(maker, kind)():
                 with self.subTest(made.file.stem):
                     self.one(made, own)
 
@@ -59,6 +73,9 @@ class Sheets(unittest.TestCase):
 
     def test_where_views_stand(self) -> None:
         self.kind("placings")
+
+    def test_further_views(self) -> None:
+        self.kind("further_views")
 
     def test_what_is_refused(self) -> None:
         self.kind("refused")
@@ -78,7 +95,9 @@ class Sheets(unittest.TestCase):
         self.assertFalse(made.refusal, said)
         told = plain_answer(solved(drawn.text.encode(), drawn.decimals))
         self.assertEqual(told, plain_answer(own, made.factor or 1), said)
-        self.assertEqual(drawn.origin.mirrored, "left_view" in made.file.stem)
+        self.assertEqual(drawn.origin.mirrored, "angle_left_view" in made.file.stem)
+        found = further_of(views_of(lines_within(drawn.text.encode())), drawn.decimals)
+        self.assertEqual(found, {view: shown for view, shown in FURTHER_OF_CLEVIS.items() if view in made.further}, said)
         self.assertRegex(said[-1], r"drawn: \d+ lines, \d+ of them hidden; recon reads it with --decimals \d")
 
 

@@ -1,0 +1,58 @@
+"""Writes a log that shows that the solids of a drawing or a sheet are all: by it whoever doubts the answer checks it without a search,
+by `draft check`, `recon check` or tools/check_log.py. The log goes to standard output, and the drawing that it is of into the file of
+--drawing: the file up to its end where recon reads that as it is, else what `draft sheet` draws of it, in whole units.
+
+Nothing is written where the search was cut; the status is then recon's, 3 or 4.
+"""
+import argparse
+import pathlib
+
+from . import asking, faults, program
+from .answers import CUT
+from .drawing import further_in, lines_within, strokes_in, up_to_end, written
+from .messages import Refused, many, say, write_result
+
+NAME = "prove"
+HELP = "write a log by which others see that the solids listed are all"
+
+
+def add_arguments(parser: argparse.ArgumentParser) -> None:
+    parser.add_argument("drawing", metavar="IN.dxf")
+    parser.add_argument("-o", "--output", metavar="OUT.log", help="the file for the log, else standard output")
+    parser.add_argument("--drawing", dest="drawn", metavar="OUT.dxf", help="a file for the drawing that the log is of")
+    asking.add_arguments(parser)
+
+
+def whole_drawing(arguments: argparse.Namespace, tell: asking.Tell) -> tuple[asking.Asked, bytes]:
+    """What the least search says of a file or of its sheet, and the drawing as `prove` and `check` read it: in whole units, up to its
+    end. Refused where it has a fault."""
+    least = argparse.Namespace(**{**vars(arguments), "nodes": 1, "solids": 1, "workers": None})
+    asked = asking.ask(arguments.drawing, least, tell)
+    if asked.run.status == program.FAULT:
+        raise Refused("; ".join(faults.told(asked.run.text.strip(), asked.lines)))
+    if further := further_in(asked.lines):
+        tell(f"warning: logs are of the three main views: what {' and '.join(further)} would rule out isn't asked")
+    if not asked.decimals:
+        return asked, up_to_end(asked.data)
+    tell(f"changed: lengths multiplied by {10**asked.decimals:,}, since logs are of drawings in whole units")
+    origin = asked.origin._replace(times=asked.origin.times * 10**asked.decimals)
+    return asked, written(strokes_in(asked.lines, asked.decimals), 0, origin).encode()
+
+
+def run(arguments: argparse.Namespace) -> int:
+    asked, data = whole_drawing(arguments, lambda text: say(f"draft prove: {text}"))
+    words = ["prove", *asking.words_of(arguments)]
+    made = program.run(program.find(arguments.program), words, data, arguments.seconds)
+    lines = lines_within(made.text.encode())
+    if cut := CUT.fullmatch(lines[0]):
+        say(f"draft prove: no log is written, since the search was cut at its limit of {int(cut[2]):,} {cut[1]}: {asking.way_out(cut)}")
+        return made.status
+    if made.status != program.WHOLE:
+        raise Refused(f"recon writes no log of this drawing: {lines[0][:80]}")
+    if arguments.drawn:
+        write_result(data, arguments.drawn)
+    elif data != pathlib.Path(arguments.drawing).read_bytes():
+        say("draft prove: the log is of a drawing that --drawing would write, and that `draft check` makes of this file again")
+    write_result(made.text, arguments.output)
+    say(f"draft prove: a log of {many(len(lines), 'line')}, which lists {many(int(lines[-1].split()[-1]), 'solid')}")
+    return program.WHOLE
