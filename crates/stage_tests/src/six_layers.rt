@@ -29,7 +29,8 @@ fn told_fault(alloc: Global, fault: &Fault) -> Result<String, Fail> {
 }
 
 /// What is kept in three views.
-fn told_three(alloc: Global, file: Vec<u8>) -> Result<String, Fail> {
+fn told_three(alloc: Global, file: String) -> Result<String, Fail> {
+    let file = file_bytes(file)?;
     match entities(alloc, &mut Groups::new(file), 0) {
         Ok(lines) => Ok(format!(in alloc; "{}", lines.len())?),
         Err(Refused::Fault(fault)) => told_fault(alloc, &fault),
@@ -38,7 +39,8 @@ fn told_three(alloc: Global, file: Vec<u8>) -> Result<String, Fail> {
 }
 
 /// What is kept in six.
-fn told_six(alloc: Global, file: Vec<u8>) -> Result<String, Fail> {
+fn told_six(alloc: Global, file: String) -> Result<String, Fail> {
+    let file = file_bytes(file)?;
     match entities_six(alloc, &mut Groups::new(file), 0) {
         Ok((main, further)) => Ok(format!(in alloc; "{} and {}", main.len(), further.len())?),
         Err(Refused::Fault(fault)) => told_fault(alloc, &fault),
@@ -47,9 +49,9 @@ fn told_six(alloc: Global, file: Vec<u8>) -> Result<String, Fail> {
 }
 
 /// The file of a row's entities.
-fn file_in(alloc: Global, row: Row<'_>) -> Result<Vec<u8>, Fail> {
+fn file_in(alloc: Global, row: Row<'_>) -> Result<String, Fail> {
     let steps = format!(in alloc; "0 SECTION, 2 ENTITIES, {}, 0 ENDSEC, 0 EOF", row.told)?;
-    file_bytes(file_of(alloc, steps.as_str())?)
+    Ok(file_of(alloc, steps.as_str())?)
 }
 
 /// What is kept of a row's file, as the row has it.
