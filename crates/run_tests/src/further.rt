@@ -20,7 +20,7 @@ LEFT, line S 3 3 3 3 -> unit cube
 LEFT, line S 0 0 1 0 -> 0 whole 0 nodes 2 blocks 1
 0 ARC, 8 LEFT -> 1 fault F13 Geometry line 5
 REAR, line S 0 0 1 1 -> 1 fault F11 Oblique line 5
-BOTTOM, line S 0 0 0.5 0 -> 1 fault F7 NotWhole line 17 code 11
+BOTTOM, line S 0 0 0.5 0 -> 1 fault F7 NotWhole line 18 code 11
 0 ARC, 8 RIGHT -> unit cube
 = 0 SECTION, 2 ENTITIES, FRONT, lattice 2 2, TOP, rect S 0 0 5 4, rect D 1 1 2 2, rect D 3 1 4 2, \
     rect D 1 3 2 4, rect D 3 3 4 4, SIDE, rect S 0 0 4 5, rect D 1 1 2 2, rect D 3 1 4 2, \
