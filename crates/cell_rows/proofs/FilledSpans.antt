@@ -1,6 +1,6 @@
 -- What a choice fills of spans, and the marks that it makes.
 use Rattle.std.proofs.Common.{◌≡◌, ◌≢◌, inl, inr, Bool, true, false, ◌&&◌, ◌||◌, if◌then◌else◌, ℕ, ◌+◌, ◌<◌, ◌≤◌, List, [], ◌∷◌, ◌++◌, slice_index_or, Option, None, refl, ap, sym, subst, ◌∙◌, arith}
-use Rattle.std.proofs.Math.Bool.{or_assoc}
+use Rattle.std.proofs.Math.Bool.{or_assoc, or-false}
 use Rattle.std.proofs.Math.ListN.{get_or-map}
 use Rattle.std.proofs.lemmas.Bool.{cases_lt}
 use Rattle.cell_rows.specs.declared.span.Span.{Span}
@@ -17,10 +17,6 @@ use Rattle.solid_model.specs.Marks.{is_marked}
 use Rattle.solid_model.specs.PerAxis.{numbers_of}
 use Rattle.solid_model.specs.Rooms.{is_within, box_place}
 
-pub or_false : (b : Bool) → (b || false) ≡ b
-or_false true = refl
-or_false false = refl
-
 -- ---- spans one behind another
 
 pub filled-append : (choice : List Bool) (xs ys : List Span) (k : ℕ)
@@ -32,7 +28,7 @@ filled-append choice (s ∷ xs) ys k = ap (λ b. (is_chosen choice s.block && is
 pub filled-last : (choice : List Bool) (xs : List Span) (s : Span) (k : ℕ)
     → is_filled choice (xs ++ s ∷ []) k ≡ (is_filled choice xs k || (is_chosen choice s.block && is_set s.cells k))
 filled-last choice xs s k = filled-append choice xs (s ∷ []) k
-    ∙ ap (λ b. is_filled choice xs k || b) (or_false (is_chosen choice s.block && is_set s.cells k))
+    ∙ ap (λ b. is_filled choice xs k || b) (or-false (is_chosen choice s.block && is_set s.cells k))
 
 -- ---- one cell more
 

@@ -2,3 +2,4 @@ mod EightLanes
 mod LowestBits
 mod NearBits
 mod MetColumns
+pub mod StyleBytes

@@ -1,8 +1,9 @@
--- Facts of lists: members, what holds of each, ascending lists, and a least member.
-use Rattle.std.proofs.Common.{◌≡◌, ◌⊎◌, inl, inr, ℕ, zero, suc, ◌<◌, Bool, true, false, cond, List, [], ◌∷◌, ◌++◌, map, filter, ℤ, ◌≤ℤ◌, refl, sym, ◌∙◌, ap, ap₂, subst, arith}
+-- Facts of lists: members, what holds of each, ascending lists, lengths, sums, and a least member.
+use Rattle.std.proofs.Common.{◌≡◌, ◌⊎◌, inl, inr, ℕ, zero, suc, ◌+◌, ◌<◌, Bool, true, false, cond, List, [], ◌∷◌, ◌++◌, length, map, filter, ℤ, ◌≤ℤ◌, refl, sym, ◌∙◌, ap, ap₂, subst, arith}
 use Rattle.std.proofs.lemmas.Int.{ints, by_lt_z}
 use Rattle.std.proofs.lemmas.Bool.{both_ways, cases_lt}
 use Rattle.lemmas.specs.Lists.{Member, Each, Ascends}
+use Rattle.lemmas.specs.Counts.{total}
 
 -- ---- members
 
@@ -210,6 +211,22 @@ ascends-appended R f (suc n) each across =
     (ascends-appended R f n (λ k l. each k (omega arith)) (λ j k x y earlier l. across j k x y earlier (omega arith))) (each n (omega arith))
     (each-from (λ x. Each (R x) (f n)) (appended f n) (λ x m. each-from (R x) (f n) (λ y l.
     let p = member-from_appended f n x m in across p.0 n x y p.1 (omega arith) p.2 l)))
+
+-- ---- lengths
+
+-- a list that isn't empty is longer than that
+pub some_length : {A : Type 0} (xs : List A) → (xs ≡ [] → ⊥) → 0 < length xs
+some_length [] none = absurd (none refl)
+some_length (x ∷ xs) none = omega arith
+
+-- ---- sums
+
+pub total-append : {A : Type 0} (f : A → ℕ) (xs ys : List A) → total f (xs ++ ys) ≡ total f xs + total f ys
+total-append f [] ys = omega arith
+total-append f (x ∷ xs) ys = let e = total-append f xs ys in omega arith
+
+pub total_push : {A : Type 0} (f : A → ℕ) (xs : List A) (x : A) → total f (xs ++ x ∷ []) ≡ total f xs + f x
+total_push f xs x = let e = total-append f xs (x ∷ []) in omega arith
 
 -- ---- two ascending lists with the same members
 

@@ -1,18 +1,16 @@
 -- The bits of a number down to its lowest one.
-use Rattle.std.proofs.Common.{◌≡◌, inl, inr, ◌==◌, ◌&&◌, Bool, true, false, ℕ, zero, suc, ◌+◌, ◌-◌, ◌/◌, ◌%◌, ◌^◌, ◌<◌, ◌≤◌, if◌then◌else◌, refl, ap, ap₂, sym, subst, ◌∙◌, arith}
+use Rattle.std.proofs.Common.{◌≡◌, inl, inr, ◌==◌, ◌&&◌, Bool, true, false, ℕ, zero, suc, ◌+◌, ◌-◌, ◌/◌, ◌%◌, ◌^◌, ◌<◌, ◌≤◌, refl, ap, ap₂, sym, subst, ◌∙◌, arith}
 use Rattle.std.specs.Int.{bit_at}
 use Rattle.std.proofs.lemmas.Bool.{both_ways, and_parts, and_from, eqb-true, eq-eqb, eqb-false, cases_lt}
 use Rattle.std.proofs.lemmas.Nat.Bits.{bit_at_xor, bit_at-suc, bit_at_lowest, bit_at-zero, bit_at_ones}
 use Rattle.lemmas.specs.Bits.{is_set, near}
 use Rattle.lemmas.proofs.WordBits.{zeros, zeros_of_none, lowest_set, below_lowest}
+use Rattle.lemmas.specs.Counts.{one_if}
 
 -- no bit is set below a place
 abbrev is_clear : ℕ → ℕ → Bool
 is_clear n zero = true
 is_clear n (suc k) = (n % 2 == 0) && is_clear (n / 2) k
-
-abbrev one_if : Bool → ℕ
-one_if b = if b then 1 else 0
 
 -- a number and the one before it differ just where none is set below
 differs : (k n : ℕ) → 0 < n → (bit_at n k + bit_at (n - 1) k) % 2 ≡ one_if (is_clear n k)

@@ -1,9 +1,19 @@
--- Tests for the same truth values.
-use Rattle.std.proofs.Common.{◌≡◌, Bool, true, false, true≢false, ◌&&◌, List, [], ◌∷◌, refl, sym, ap₂}
+-- Truth values, and tests for the same ones.
+use Rattle.std.proofs.Common.{◌≡◌, Bool, true, false, true≢false, not, ◌&&◌, List, [], ◌∷◌, refl, sym, ap₂}
 use Rattle.std.specs.Bool.{Decides}
 use Rattle.std.proofs.lemmas.Bool.{both_ways, false≢true, false_from_ne_true}
 use Rattle.std.proofs.lemmas.Bool.Decides.{Decides-and, Decides-like}
 use Rattle.lemmas.specs.Truth.{agree, same_values}
+
+-- a value isn't true with its opposite,
+pub never_both : (r : Bool) → r ≡ true → not r ≡ true → ⊥
+never_both true e f = false≢true f
+never_both false e f = absurd (false≢true e)
+
+-- and one that isn't true has a true opposite
+pub not_from_never : (r : Bool) → (r ≡ true → ⊥) → not r ≡ true
+not_from_never true none = absurd (none refl)
+not_from_never false none = refl
 
 -- two values agree where they are the same
 pub Decides-agree : (x y : Bool) → Decides (agree x y) (x ≡ y)

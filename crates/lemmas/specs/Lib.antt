@@ -2,3 +2,4 @@ pub mod Lists
 pub mod Bits
 pub mod Chains
 pub mod Truth
+pub mod Counts

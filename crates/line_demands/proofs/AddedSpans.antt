@@ -5,6 +5,7 @@ use Rattle.std.proofs.lemmas.List.{length_push, get_or_append_left}
 use Rattle.std.proofs.lemmas.List.Elements.{All-push}
 use Rattle.std.proofs.lemmas.List.Folds.{list_any-append}
 use Rattle.std.proofs.lemmas.Nat.Bits.{bit_at-zero, bit_at_set_same, bit_at_set_other}
+use Rattle.std.proofs.Math.Bool.{or-false, or-true}
 use Rattle.line_demands.specs.declared.spans.Span.{Span}
 use Rattle.line_demands.specs.Spans.{is_on, is_in_span, AreAdded}
 use Rattle.lemmas.specs.Bits.{is_set}
@@ -13,25 +14,13 @@ use Rattle.lemmas.proofs.WordBits.{set_either}
 -- one bit
 pub one_bit : (n d k : ℕ) → d < 64 → is_set (bit_or n (1 * 2 ^ d % 2 ^ 64)) k ≡ (is_set n k || (d == k))
 one_bit n d k l = elim (cases_Bool (d == k)) as (λ _. is_set (bit_or n (1 * 2 ^ d % 2 ^ 64)) k ≡ (is_set n k || (d == k))) [
-  | inl is ↦ (let e : d ≡ k = eqb-true d k is in ap (is_set (bit_or n (1 * 2 ^ d % 2 ^ 64))) (sym e) ∙ ap (λ b. b == 1) (bit_at_set_same w64 n d l) ∙ sym (or_true (is_set n k)) ∙ ap (λ x. is_set n k || x) (sym is))
-  | inr off ↦ ap (λ b. b == 1) (bit_at_set_other w64 n d l k (λ e. eqb-false d k off (sym e))) ∙ sym (or_false (is_set n k)) ∙ ap (λ x. is_set n k || x) (sym off)
+  | inl is ↦ (let e : d ≡ k = eqb-true d k is in ap (is_set (bit_or n (1 * 2 ^ d % 2 ^ 64))) (sym e) ∙ ap (λ b. b == 1) (bit_at_set_same w64 n d l) ∙ sym (or-true (is_set n k)) ∙ ap (λ x. is_set n k || x) (sym is))
+  | inr off ↦ ap (λ b. b == 1) (bit_at_set_other w64 n d l k (λ e. eqb-false d k off (sym e))) ∙ sym (or-false (is_set n k)) ∙ ap (λ x. is_set n k || x) (sym off)
 ]
-  where
-    or_true : (x : Bool) → (x || true) ≡ true
-    or_true true = refl
-    or_true false = refl
-
-    or_false : (x : Bool) → (x || false) ≡ x
-    or_false true = refl
-    or_false false = refl
-
-or_none : (x : Bool) → (x || false) ≡ x
-or_none true = refl
-or_none false = refl
 
 -- a list with a last span
 pub is_on_push : (rest : List Span) (s : Span) (c k : ℕ) → is_on (rest ++ s ∷ []) c k ≡ (is_on rest c k || is_in_span c k s)
-is_on_push rest s c k = list_any-append (is_in_span c k) rest (s ∷ []) ∙ ap (λ x. is_on rest c k || x) (or_none (is_in_span c k s))
+is_on_push rest s c k = list_any-append (is_in_span c k) rest (s ∷ []) ∙ ap (λ x. is_on rest c k || x) (or-false (is_in_span c k s))
 
 spread_or : (r x s d : Bool) → (r || (x && (s || d))) ≡ ((r || (x && s)) || (x && d))
 spread_or true x s d = refl

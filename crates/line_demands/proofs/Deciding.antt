@@ -4,7 +4,6 @@ use Rattle.std.specs.List.{IsDistinct, AllByRecursion, list_any}
 use Rattle.std.proofs.lemmas.Bool.{false≢true, or_cases, cases_Bool, eqb-true, eqb-false}
 use Rattle.std.proofs.lemmas.List.{length-map, length-set, length_push, same_from_push, get_or-set_same, get_or-set_other}
 use Rattle.std.proofs.lemmas.Map.Steps.{length-le_from_distinct_below}
-use Rattle.std.proofs.lemmas.Option.{none-some}
 use Rattle.solid_model.specs.declared.decision.Decision.{Decision}
 use Rattle.line_demands.specs.KeptColumns.{AreValues}
 use Rattle.solid_model.proofs.DecidedMore.{other_first, decided_more}

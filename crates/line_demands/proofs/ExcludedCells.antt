@@ -1,5 +1,5 @@
 -- What is told of a cell, and of a line by its two columns.
-use Rattle.std.proofs.Common.{◌≡◌, ◌↔◌, ◌⊎◌, inl, inr, Bool, true, false, not, ℕ, pos, Option, Some, None, IsTrue, refl, subst}
+use Rattle.std.proofs.Common.{◌≡◌, ◌↔◌, inl, inr, Bool, true, false, not, ℕ, pos, Option, Some, None, IsTrue, refl, subst}
 use Rattle.std.proofs.lemmas.Bool.{false≢true}
 use Rattle.line_demands.specs.declared.known.KnownColumn.{KnownColumn}
 use Rattle.line_demands.specs.declared.seen.SeenLine.{SeenLine}
@@ -11,14 +11,7 @@ use Rattle.solid_model.specs.declared.line_id.LineId.{LineId}
 use Rattle.solid_model.specs.Blocks.{ProblemParts, IsBlocksOf, block_at}
 use Rattle.solid_model.specs.Forcing.{cell_beside, LineExcludes}
 use Rattle.solid_model.specs.Known.{known_bits}
-
-not_true : (r : Bool) → r ≡ true → not r ≡ true → ⊥
-not_true true e f = false≢true f
-not_true false e f = absurd (false≢true e)
-
-true_of : (r : Bool) → (r ≡ true → ⊥) → not r ≡ true
-true_of true none = absurd (none refl)
-true_of false none = refl
+use Rattle.lemmas.proofs.Truth.{never_both, not_from_never}
 
 module _ (p : ProblemParts) (s : SeenLine) (a : Bool) (k block : ℕ) (value r : Bool) (column beyond : KnownColumn) (e : column ≡ column_of s a) (f : beyond ≡ column_of s (not a)) where
   abbrev Draws : KnownColumn → KnownColumn → Type 0
@@ -29,8 +22,8 @@ module _ (p : ProblemParts) (s : SeenLine) (a : Bool) (k block : ℕ) (value r :
   cell_told at none told =
       let forth : Draws column beyond → Draws (column_of s a) (column_of s (not a)) = λ d. subst (λ y. Draws (column_of s a) y) f (subst (λ x. Draws x beyond) e d) in
       let back : Draws (column_of s a) (column_of s (not a)) → Draws column beyond = λ d. subst (λ x. Draws x beyond) (sym_of e) (subst (λ y. Draws (column_of s a) y) (sym_of f) d) in (
-        (λ t. (at, subst (λ (x : KnownColumn). known_bits x.full x.may (pos k) ≡ None) e none, λ with. not_true r (told.1 (back with)) t)),
-        (λ ex. true_of r (λ t. ex.2 (forth (told.0 t)))),
+        (λ t. (at, subst (λ (x : KnownColumn). known_bits x.full x.may (pos k) ≡ None) e none, λ with. never_both r (told.1 (back with)) t)),
+        (λ ex. not_from_never r (λ t. ex.2 (forth (told.0 t)))),
       )
     where
       sym_of : {x y : KnownColumn} → x ≡ y → y ≡ x

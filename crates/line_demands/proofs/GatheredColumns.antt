@@ -12,12 +12,12 @@ use Rattle.line_demands.specs.declared.gather.ColumnPlace.{ColumnPlace}
 use Rattle.line_demands.specs.declared.spans.Span.{Span}
 use Rattle.line_demands.specs.Touching.{is_of, shown_cell}
 use Rattle.solid_model.specs.Decisions.{decided_by}
-use Rattle.line_demands.specs.Lines.{times_listed}
 use Rattle.line_demands.specs.Gathered.{block_of_place, block_of_column, place_numbered, IsGathered, AreGatheredTo}
 use Rattle.line_demands.specs.Spans.{is_on, no_column, column_there, known_there}
 use Rattle.line_demands.proofs.BoxSight.{shown_within}
 use Rattle.line_demands.proofs.Gathering.{no_more}
 use Rattle.lemmas.specs.Bits.{is_set}
+use Rattle.lemmas.specs.Counts.{times_listed}
 use Rattle.solid_model.specs.Blocks.{ProblemParts, IsBlocksOf}
 use Rattle.solid_model.specs.Demands.{known_in}
 use Rattle.solid_model.specs.Frames.{frame_of}

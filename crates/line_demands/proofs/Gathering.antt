@@ -2,7 +2,6 @@
 use Rattle.std.proofs.Common.{◌≡◌, ◌↔◌, inl, inr, Bool, true, false, if◌then◌else◌, ◌&&◌, ◌||◌, ◌==◌, nat_lt, ℕ, zero, suc, ◌+◌, ◌<◌, List, [], ◌∷◌, ◌++◌, length, get_or, Option, Some, None, refl, ap, sym, subst, ◌∙◌, arith}
 use Rattle.std.specs.Prelude.{All, is_some, IfSome}
 use Rattle.std.proofs.lemmas.Bool.{cases_Bool, cases_lt, eqb-true, eqb-false, eq-eqb}
-use Rattle.std.proofs.lemmas.List.Sums.{sum_by-append}
 use Rattle.line_demands.specs.declared.known.KnownColumn.{KnownColumn}
 use Rattle.line_demands.specs.declared.gather.ColumnPlace.{ColumnPlace}
 use Rattle.line_demands.specs.declared.lines.Beside.{Beside}
@@ -11,7 +10,8 @@ use Rattle.line_demands.specs.Touching.{is_of}
 use Rattle.line_demands.specs.Gathered.{block_of_place, AreAddedTo, IsListed, IsGatheredTo}
 use Rattle.line_demands.specs.Spans.{is_on}
 use Rattle.lemmas.specs.Bits.{is_set}
-use Rattle.line_demands.specs.Lines.{one_if, times_listed, IsMetBy, AreBrokenTo}
+use Rattle.lemmas.specs.Counts.{one_if, times_listed}
+use Rattle.line_demands.specs.Lines.{IsMetBy, AreBrokenTo}
 use Rattle.line_demands.specs.Plans.{IsAddedOnce}
 use Rattle.line_demands.proofs.MarkedLines.{last_there, last_other}
 use Rattle.solid_model.specs.declared.cell.Cell.{Cell}
@@ -25,9 +25,9 @@ use Rattle.solid_model.specs.GridBox.{grid_sizes}
 -- what stands at a place is there
 pub times_at : (xs : List ℕ) (i d x : ℕ) → i < length xs → get_or xs i d ≡ x → 0 < times_listed x xs
 times_at [] i d x l e = absurd (omega arith)
-times_at (y ∷ ys) zero d x l e = let f : times_listed x (y ∷ ys) ≡ 0 + one_if (y == x) + times_listed x ys = sum_by-append (λ z. one_if (z == x)) (y ∷ []) ys in
+times_at (y ∷ ys) zero d x l e = let f : times_listed x (y ∷ ys) ≡ one_if (y == x) + times_listed x ys = refl in
     let g : one_if (y == x) ≡ 1 = ap one_if (eq-eqb y x e) in omega arith
-times_at (y ∷ ys) (suc i) d x l e = let f : times_listed x (y ∷ ys) ≡ 0 + one_if (y == x) + times_listed x ys = sum_by-append (λ z. one_if (z == x)) (y ∷ []) ys in
+times_at (y ∷ ys) (suc i) d x l e = let f : times_listed x (y ∷ ys) ≡ one_if (y == x) + times_listed x ys = refl in
     let g = times_at ys i d x (omega arith) e in omega arith
 
 -- a number that is there isn't added

@@ -11,7 +11,7 @@ use Rattle.solid_model.specs.declared.decision.Decision.{Decision}
 use Rattle.line_demands.specs.declared.spans.Span.{Span}
 use Rattle.line_demands.specs.Touching.{is_of, view_width, view_height, shown_cell}
 use Rattle.solid_model.specs.Decisions.{decided_by}
-use Rattle.line_demands.specs.Lines.{times_listed, IsMetBy, AreTried}
+use Rattle.line_demands.specs.Lines.{IsMetBy, AreTried}
 use Rattle.line_demands.specs.Spans.{is_on, is_in_span, column_there, known_there, AreWithin}
 use Rattle.line_demands.specs.KeptColumns.{column_count, column_number, AreKnownColumns, AreSpans, IsColumnOf, IsBeside, IsPlanOf}
 use Rattle.line_demands.proofs.BoxSight.{shown_within}
@@ -27,6 +27,7 @@ use Rattle.solid_model.specs.Frames.{frame_of}
 use Rattle.solid_model.specs.PerAxis.{numbers_of}
 use Rattle.solid_model.specs.Rooms.{Sizes, is_below, is_within, number_at}
 use Rattle.solid_model.specs.GridBox.{grid_sizes, axis_along, axis_across}
+use Rattle.lemmas.specs.Counts.{times_listed}
 
 -- ---- marks of a block
 

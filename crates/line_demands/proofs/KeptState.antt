@@ -5,7 +5,6 @@ use Rattle.std.specs.List.{filter}
 use Rattle.std.proofs.lemmas.List.{length-map, get_or-map}
 use Rattle.std.proofs.lemmas.Option.{slice_get-get_or, slice_get_within, get_or_from_slice_get}
 use Rattle.std.proofs.lemmas.Bool.{cases_Bool, eqb-true}
-use Rattle.std.proofs.lemmas.List.Sums.{sum_by-append}
 use Rattle.line_demands.specs.declared.known.KnownColumn.{KnownColumn}
 use Rattle.line_demands.specs.declared.lines.Beside.{Beside}
 use Rattle.solid_model.specs.declared.decision.Decision.{Decision}
@@ -13,7 +12,7 @@ use Rattle.line_demands.specs.declared.spans.Span.{Span}
 use Rattle.solid_model.specs.Decisions.{decided_by}
 use Rattle.line_demands.specs.Broken.{TellsBroken}
 use Rattle.line_demands.specs.Free.{LeaveFreeBut, LeavesFree}
-use Rattle.line_demands.specs.Lines.{one_if, times_listed, AreMarked, AreBeside, AreTried, AreFreeAmong, IsMetBy, IsLeast}
+use Rattle.line_demands.specs.Lines.{AreMarked, AreBeside, AreTried, AreFreeAmong, IsMetBy, IsLeast}
 use Rattle.line_demands.specs.Spans.{is_on, column_there, known_there, AreWithin}
 use Rattle.line_demands.specs.KeptColumns.{column_count, IsColumnOf, IsBeside, IsKeptBy}
 use Rattle.line_demands.specs.declared.seen.SeenLine.{SeenLine}
@@ -32,6 +31,7 @@ use Rattle.solid_model.specs.Demands.{has_line, lines_of, line_style, CanBeMet}
 use Rattle.lemmas.specs.Lists.{Member}
 use Rattle.solid_model.specs.Panels.{GridParts}
 use Rattle.lemmas.proofs.ListPlaces.{member-at}
+use Rattle.lemmas.specs.Counts.{one_if, times_listed}
 use Rattle.solid_model.specs.PerAxis.{numbers_of}
 use Rattle.solid_model.specs.GridBox.{grid_sizes, axis_along}
 
@@ -113,7 +113,7 @@ pub times_below : (xs : List ℕ) (x n : ℕ) → All (λ y. y < n) xs → 0 < t
 times_below [] x n below some = absurd (omega arith)
 times_below (y ∷ ys) x n below some = elim (cases_Bool (y == x)) as (λ _. x < n) [
   | inl is ↦ subst (λ z. z < n) (eqb-true y x is) (below 0 0 (omega arith))
-  | inr off ↦ times_below ys x n (λ k d l. below (suc k) d (omega arith)) (let e : one_if (y == x) ≡ 0 = ap one_if off in let f : times_listed x (y ∷ ys) ≡ 0 + one_if (y == x) + times_listed x ys = sum_by-append (λ z. one_if (z == x)) (y ∷ []) ys in omega arith)
+  | inr off ↦ times_below ys x n (λ k d l. below (suc k) d (omega arith)) (let e : one_if (y == x) ≡ 0 = ap one_if off in let f : times_listed x (y ∷ ys) ≡ one_if (y == x) + times_listed x ys = refl in omega arith)
 ]
 
 -- what is known of a line that the grid has

@@ -3,11 +3,10 @@ use Rattle.std.proofs.Common.{◌≡◌, ◌↔◌, inl, inr, Bool, true, false,
 use Rattle.std.specs.Prelude.{IfSome}
 use Rattle.std.proofs.lemmas.Bool.{cases_Bool, eqb-true, eq-eqb, ltb-true, ltb-false}
 use Rattle.std.proofs.lemmas.List.{length-map, length-take-le, get_or-take, get_or-map}
-use Rattle.std.proofs.lemmas.List.Sums.{sum_by_push}
 use Rattle.std.proofs.lemmas.Grind.{take_at_read}
 use Rattle.line_demands.specs.declared.lines.Beside.{Beside}
 use Rattle.line_demands.specs.Broken.{TellsBroken}
-use Rattle.line_demands.specs.Lines.{one_if, times_listed, IsLeastNumber, IsLeast, lesser_of}
+use Rattle.line_demands.specs.Lines.{IsLeastNumber, IsLeast, lesser_of}
 use Rattle.solid_model.specs.declared.line_id.LineId.{LineId}
 use Rattle.solid_model.specs.declared.segment.Style.TheVariants.{Blank}
 use Rattle.solid_model.specs.Blocks.{ProblemParts}
@@ -15,14 +14,15 @@ use Rattle.solid_model.specs.Demands.{lines_of, CanBeMet, AllMet, IsFirstBroken}
 use Rattle.lemmas.specs.Lists.{Member}
 use Rattle.column_laws.proofs.AllLines.{lines_are_there, lines_are_listed}
 use Rattle.lemmas.proofs.ListPlaces.{member-place}
-use Rattle.lemmas.proofs.Lists.{member-append_right}
+use Rattle.lemmas.proofs.Lists.{member-append_right, total_push}
+use Rattle.lemmas.specs.Counts.{one_if, times_listed}
 use Rattle.std.proofs.lemmas.Option.{none-some}
 
 -- ---- the least of some numbers
 
 module _ (numbers : List ℕ) (n : ℕ) (d : ℕ) (l : n < length numbers) where
   more : (i : ℕ) → times_listed i (take (n + 1) numbers) ≡ times_listed i (take n numbers) + one_if (get_or numbers n d == i)
-  more i = ap (times_listed i) (take_at_read numbers n d l).1 ∙ sum_by_push (λ x. one_if (x == i)) (take n numbers) (get_or numbers n d)
+  more i = ap (times_listed i) (take_at_read numbers n d l).1 ∙ total_push (λ x. one_if (x == i)) (take n numbers) (get_or numbers n d)
 
   here : times_listed (get_or numbers n d) (take (n + 1) numbers) ≡ times_listed (get_or numbers n d) (take n numbers) + 1
   here = more (get_or numbers n d) ∙ ap (λ b. times_listed (get_or numbers n d) (take n numbers) + one_if b) (eq-eqb (get_or numbers n d) (get_or numbers n d) refl)

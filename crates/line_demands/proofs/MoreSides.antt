@@ -12,12 +12,12 @@ use Rattle.std.proofs.Math.Seq.{get_or-append_seam}
 use Rattle.line_demands.specs.declared.lines.Beside.{Beside}
 use Rattle.line_demands.specs.Gathered.{AreMoreSides, AreMarkedMet}
 use Rattle.line_demands.specs.KeptColumns.{IsBeside, AreSides}
-use Rattle.line_demands.specs.Lines.{one_if, times_listed}
 use Rattle.line_demands.proofs.ListParts.{range_more}
 use Rattle.solid_model.specs.declared.line_id.LineId.{LineId}
 use Rattle.solid_model.specs.Blocks.{ProblemParts}
 use Rattle.solid_model.specs.declared.frame.View.TheVariants.{Front, Top, Side}
 use Rattle.solid_model.specs.Demands.{lines_along, lines_in, lines_of}
+use Rattle.lemmas.specs.Counts.{one_if, times_listed}
 
 module _ (p : ProblemParts) where
   pub no_sides : (old : List Beside) → AreMoreSides p [] 0 old old

@@ -19,7 +19,7 @@ use Rattle.line_demands.specs.Touching.{is_of, view_width, view_height, lines_to
 use Rattle.solid_model.specs.Decisions.{decided_by}
 use Rattle.line_demands.specs.Gathered.{place_in_view, place_numbered, block_of_place, block_of_column, AreGatheredTo, AreTouchedTo}
 use Rattle.line_demands.specs.KeptColumns.{columns_before, column_count, column_number, AreKnownColumns, AreSpans, AreSides, IsTrail, IsKeptBy}
-use Rattle.line_demands.specs.Lines.{times_listed, AreMarked, AreBrokenTo, AreBeside}
+use Rattle.line_demands.specs.Lines.{AreMarked, AreBrokenTo, AreBeside}
 use Rattle.line_demands.specs.Spans.{is_on, no_column, column_there, known_there}
 use Rattle.line_demands.proofs.Deciding.{none_taken}
 use Rattle.line_demands.proofs.ColumnPlaces.{in_view, number_inside}
@@ -31,6 +31,7 @@ use Rattle.solid_model.specs.declared.frame.View.TheVariants.{Front, Top, Side}
 use Rattle.solid_model.specs.Blocks.{ProblemParts, IsBlocksOf}
 use Rattle.solid_model.specs.Rooms.{Sizes}
 use Rattle.solid_model.specs.GridBox.{grid_sizes}
+use Rattle.lemmas.specs.Counts.{times_listed}
 
 -- ---- the number of a column tells where it stands
 

@@ -2,9 +2,7 @@
 use Rattle.std.proofs.Common.{◌≡◌, ◌⊎◌, ◌↔◌, inl, inr, Bool, true, false, if◌then◌else◌, ◌==◌, ◌||◌, nat_lt, ℕ, ◌+◌, ◌-◌, ◌<◌, List, [], ◌∷◌, ◌++◌, length, take, map, get_or, set, refl, ap, sym, subst, ◌∙◌, arith}
 use Rattle.std.proofs.lemmas.Bool.{cases_Bool, cases_lt, eqb-true, eqb-false, eq-eqb, both_ways, lt-ltb, le-ltb, and_from, and_left, and_right}
 use Rattle.std.proofs.lemmas.List.{length-set, get_or-set_same, get_or-set_other, get_or_default, length_push, append-nil}
-use Rattle.std.proofs.lemmas.List.Sums.{sum_by_push}
 use Rattle.std.proofs.lemmas.Grind.{take_at_read}
-use Rattle.line_demands.specs.Lines.{one_if, times_listed}
 use Rattle.line_demands.specs.Plans.{IsAddedOnce, ends_with, add_last, with_hit, is_listed}
 use Rattle.std.specs.List.{filter, range_with_len}
 use Rattle.std.proofs.lemmas.List.Folds.{list_any_more}
@@ -12,14 +10,12 @@ use Rattle.std.proofs.lemmas.List.FromFn.{filter_of_map_range_with_len_more}
 use Rattle.std.proofs.Math.Seq.{get_or-append_seam}
 use Rattle.lemmas.proofs.Ranges.{member-from_range}
 use Rattle.lemmas.proofs.ListPlaces.{each-all}
-use Rattle.lemmas.proofs.Lists.{each-from, member-from_filter}
+use Rattle.lemmas.proofs.Lists.{each-from, member-from_filter, total_push}
+use Rattle.lemmas.specs.Counts.{one_if, times_listed}
 use Rattle.line_demands.specs.Gathered.{AreTouchedBy, AreTouchedTo, no_side, hits}
 use Rattle.line_demands.specs.declared.lines.Beside.{Beside}
 use Rattle.std.specs.Prelude.{All}
-
-or_none : (x : Bool) → (x || false) ≡ x
-or_none true = refl
-or_none false = refl
+use Rattle.std.proofs.Math.Bool.{or-false}
 
 or_last : (x y : Bool) → (x || (y || true)) ≡ true
 or_last true y = refl
@@ -41,7 +37,7 @@ add_hit base line false small = ap (λ (t : Bool). if t then base else (base ++ 
 
 module _ (line : ℕ) (on : List ℕ) (old : List (List ℕ)) where
   pub none_touched : AreTouchedBy line (take 0 on) old old
-  none_touched = record { lists = λ b ls base h l small e. e ∙ ap (λ x. with_hit base x line) (sym (or_none h)); count = refl; each = λ b n ls l. ((λ none. (none, λ _. refl)), (λ both. both.0)) }
+  none_touched = record { lists = λ b ls base h l small e. e ∙ ap (λ x. with_hit base x line) (sym (or-false h)); count = refl; each = λ b n ls l. ((λ none. (none, λ _. refl)), (λ both. both.0)) }
 
   pub one_touched : (n x e : ℕ) (so_far : List (List ℕ)) (was more : List ℕ) → AreTouchedBy line (take n on) old so_far → n < length on → get_or on n e ≡ x → x < length so_far
       → ((ls : List ℕ) → get_or so_far x ls ≡ was) → IsAddedOnce line was more → more ≡ add_last was line → AreTouchedBy line (take (n + 1) on) old (set so_far x more)
@@ -62,10 +58,10 @@ module _ (line : ℕ) (on : List ℕ) (old : List (List ℕ)) where
           ∙ add_hit base line (h || is_listed b (take n on)) small
           ∙ ap (λ y. with_hit base y line) (sym (ap (λ y. h || y) (wider b ∙ ap (λ y. is_listed b (take n on) || y) is) ∙ or_last h (is_listed b (take n on)))))
       lists b ls base h k small f (inr off) = get_or-set_other so_far x b more ls (λ g. eqb-false x b off (sym g)) ∙ are.lists b ls base h k small f
-          ∙ ap (λ y. with_hit base (h || y) line) (sym (wider b ∙ ap (λ y. is_listed b (take n on) || y) off ∙ or_none (is_listed b (take n on))))
+          ∙ ap (λ y. with_hit base (h || y) line) (sym (wider b ∙ ap (λ y. is_listed b (take n on) || y) off ∙ or-false (is_listed b (take n on))))
 
       grown : (b : ℕ) → times_listed b (take (n + 1) on) ≡ times_listed b (take n on) + one_if (x == b)
-      grown b = ap (times_listed b) (take_at_read on n e l).1 ∙ sum_by_push (λ y. one_if (y == b)) (take n on) (get_or on n e) ∙ ap (λ y. times_listed b (take n on) + one_if (y == b)) at
+      grown b = ap (times_listed b) (take_at_read on n e l).1 ∙ total_push (λ y. one_if (y == b)) (take n on) (get_or on n e) ∙ ap (λ y. times_listed b (take n on) + one_if (y == b)) at
 
       Goal : ℕ → ℕ → List ℕ → Type 0
       Goal b m ls = (times_listed m (get_or (set so_far x more) b ls) ≡ 0) ↔ ((times_listed m (get_or old b ls) ≡ 0) × ((line == m) ≡ true → times_listed b (take (n + 1) on) ≡ 0))

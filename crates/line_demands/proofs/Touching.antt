@@ -5,7 +5,6 @@ use Rattle.std.proofs.lemmas.Bool.{cases_Bool, cases_lt, and_right, and_left, le
 use Rattle.std.proofs.lemmas.List.{get_or_append_left, get_or_default}
 use Rattle.std.proofs.lemmas.List.Folds.{list_any_none, list_any_at}
 use Rattle.std.proofs.lemmas.List.FromFn.{length-range_with_len, get_or-range_with_len}
-use Rattle.std.proofs.lemmas.List.Sums.{sum_by-append}
 use Rattle.std.proofs.Math.Seq.{get_or-append_seam}
 use Rattle.line_demands.specs.declared.known.KnownColumn.{KnownColumn}
 use Rattle.line_demands.specs.declared.lines.Beside.{Beside}
@@ -15,7 +14,6 @@ use Rattle.line_demands.specs.Plans.{is_listed}
 use Rattle.line_demands.specs.Gathered.{block_of_column, AreGatheredTo, AreTouchedTo, no_side, hits}
 use Rattle.line_demands.specs.KeptColumns.{column_count, IsColumnOf, AreSides}
 use Rattle.line_demands.specs.Touching.{block_beside, touches, lines_touching}
-use Rattle.line_demands.specs.Lines.{one_if, times_listed}
 use Rattle.line_demands.proofs.CellsBeside.{none_at}
 use Rattle.line_demands.proofs.ColumnPlaces.{number_inside}
 use Rattle.line_demands.proofs.KeptColumns.{same_shown, in_width, in_height}
@@ -26,13 +24,14 @@ use Rattle.solid_model.specs.Demands.{box_cell_in}
 use Rattle.solid_model.specs.Frames.{frame_of}
 use Rattle.solid_model.specs.Rooms.{is_below}
 use Rattle.solid_model.specs.GridBox.{grid_sizes, axis_along, axis_across}
+use Rattle.lemmas.specs.Counts.{one_if, times_listed}
 
 -- ---- lists
 
 not_there : (b : ℕ) (xs : List ℕ) → times_listed b xs ≡ 0 → is_listed b xs ≡ false
 not_there b [] none = refl
 not_there b (x ∷ xs) none =
-    let e : times_listed b (x ∷ xs) ≡ 0 + one_if (x == b) + times_listed b xs = sum_by-append (λ z. one_if (z == b)) (x ∷ []) xs in
+    let e : times_listed b (x ∷ xs) ≡ one_if (x == b) + times_listed b xs = refl in
     elim (cases_Bool (x == b)) as (λ _. ((x == b) || is_listed b xs) ≡ false) [
       | inl is ↦ absurd (let f = ap one_if is in omega arith)
       | inr off ↦ ap (λ t. t || is_listed b xs) off ∙ not_there b xs (let f = ap one_if off in omega arith)
@@ -41,7 +40,7 @@ not_there b (x ∷ xs) none =
 no_times : (b : ℕ) (xs : List ℕ) → is_listed b xs ≡ false → times_listed b xs ≡ 0
 no_times b [] off = refl
 no_times b (x ∷ xs) off =
-    let e : times_listed b (x ∷ xs) ≡ 0 + one_if (x == b) + times_listed b xs = sum_by-append (λ z. one_if (z == b)) (x ∷ []) xs in
+    let e : times_listed b (x ∷ xs) ≡ one_if (x == b) + times_listed b xs = refl in
     let parts = both_off (x == b) (is_listed b xs) off in
     let f = ap one_if parts.0 in let g = no_times b xs parts.1 in omega arith
   where

@@ -7,10 +7,11 @@ use Rattle.std.proofs.Math.Seq.{get_or-append_seam}
 use Rattle.line_demands.specs.declared.lines.Beside.{Beside}
 use Rattle.solid_model.specs.declared.decision.Decision.{Decision}
 use Rattle.solid_model.specs.Decisions.{decided_by}
-use Rattle.line_demands.specs.Lines.{times_listed, BeginsWith}
+use Rattle.line_demands.specs.Lines.{BeginsWith}
 use Rattle.line_demands.specs.KeptColumns.{IsTrail}
 use Rattle.solid_model.specs.Blocks.{ProblemParts}
 use Rattle.solid_model.specs.Demands.{CanBeMet}
+use Rattle.lemmas.specs.Counts.{times_listed}
 
 module _ (p : ProblemParts) (sides : List Beside) where
   -- all of them are those of all decisions

@@ -2,12 +2,13 @@
 use Rattle.std.proofs.Common.{◌≡◌, ◌⊎◌, ◌↔◌, inl, inr, Bool, true, false, ◌==◌, ℕ, ◌+◌, ◌%◌, ◌<◌, List, [], ◌∷◌, ◌++◌, length, take, get_or, ap, sym, subst, ◌∙◌, arith}
 use Rattle.std.proofs.lemmas.Bool.{cases_Bool, cases_lt, eqb-true}
 use Rattle.std.proofs.lemmas.List.{length_push, take-append-le, take_all, take-take, get_or_default}
-use Rattle.std.proofs.lemmas.List.Sums.{sum_by_push}
 use Rattle.std.proofs.lemmas.Grind.{take_at_read}
 use Rattle.lemmas.specs.Bits.{is_set}
+use Rattle.lemmas.proofs.Lists.{total_push}
+use Rattle.lemmas.specs.Counts.{one_if, times_listed}
 use Rattle.line_demands.specs.declared.known.KnownColumn.{KnownColumn}
 use Rattle.line_demands.specs.declared.lines.Beside.{Beside}
-use Rattle.line_demands.specs.Lines.{one_if, times_listed, AreMarked, IsMetBy, AreFreeBeside, BeginsWith, AreTried, AreFreeAmong}
+use Rattle.line_demands.specs.Lines.{AreMarked, IsMetBy, AreFreeBeside, BeginsWith, AreTried, AreFreeAmong}
 
 -- a number that is one of a list, or isn't
 pub is_not_there : (met : List Bool) (broken : List ℕ) (i : ℕ) → AreMarked met broken → i < length met → get_or met i false ≡ true → times_listed i broken ≡ 0
@@ -36,7 +37,7 @@ begins_push xs x = record {
 
 -- a number that is read is listed once more
 times_more : (lines : List ℕ) (n line e : ℕ) → n < length lines → get_or lines n e ≡ line → (i : ℕ) → times_listed i (take (n + 1) lines) ≡ times_listed i (take n lines) + one_if (line == i)
-times_more lines n line e l at i = ap (times_listed i) (take_at_read lines n e l).1 ∙ sum_by_push (λ x. one_if (x == i)) (take n lines) (get_or lines n e)
+times_more lines n line e l at i = ap (times_listed i) (take_at_read lines n e l).1 ∙ total_push (λ x. one_if (x == i)) (take n lines) (get_or lines n e)
     ∙ ap (λ x. times_listed i (take n lines) + one_if (x == i)) at
 
 module _ (columns : List KnownColumn) (sides : List Beside) (lines old : List ℕ) where

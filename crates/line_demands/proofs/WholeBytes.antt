@@ -1,8 +1,9 @@
 -- Where every block is decided the bytes of the styles that the columns draw tell whether all lines can be met.
-use Rattle.std.proofs.Common.{◌≡◌, ◌↔◌, inl, inr, Bool, false, ℕ, ℤ, ◌<◌, ◌+◌, ◌++◌, ◌∷◌, [], List, length, get_or, set, Option, Some, None, is_some, refl, ap, ap₂, sym, subst, ◌∙◌, arith}
+use Rattle.std.proofs.Common.{◌≡◌, inl, inr, Bool, false, ℕ, ℤ, ◌<◌, ◌+◌, ◌++◌, ◌∷◌, [], List, length, get_or, set, Option, Some, None, is_some, refl, ap, sym, subst, ◌∙◌, arith}
 use Rattle.std.proofs.lemmas.Bool.{cases_lt, false≢true}
 use Rattle.std.proofs.lemmas.List.{ext_get_or, get_or-set_same, get_or-set_other}
 use Rattle.column_lanes.specs.Styles.{style_byte, IsStyleByte}
+use Rattle.column_lanes.proofs.StyleBytes.{same_style}
 use Rattle.line_demands.specs.declared.known.KnownColumn.{KnownColumn}
 use Rattle.line_demands.specs.declared.lines.Beside.{Beside}
 use Rattle.line_demands.specs.declared.seen.SeenLine.{SeenLine}
@@ -16,7 +17,7 @@ use Rattle.line_demands.proofs.KeptState.{seen_told}
 use Rattle.line_demands.proofs.WholeChoices.{one_drawn, met_drawn}
 use Rattle.column_laws.proofs.DecidedCells.{full_tells, cell_decided}
 use Rattle.solid_model.specs.declared.segment.Style.{Style}
-use Rattle.solid_model.specs.declared.segment.Style.TheVariants.{Blank, Dashed, Solid}
+use Rattle.solid_model.specs.declared.segment.Style.TheVariants.{Blank}
 use Rattle.solid_model.specs.declared.cell.Cell.{Cell}
 use Rattle.solid_model.specs.declared.decision.Decision.{Decision}
 use Rattle.lemmas.specs.Bits.{bits}
@@ -28,18 +29,6 @@ use Rattle.solid_model.specs.Columns.{ColumnsDraw}
 use Rattle.solid_model.specs.Demands.{known_cell, AllMet}
 use Rattle.lemmas.proofs.ListPlaces.{member-at}
 use Rattle.lemmas.proofs.Lists.{each-at, each-push, member-append_left, member-push_last}
-
--- styles with the same byte are the same
-same_style : (s t : Style) → style_byte s ≡ style_byte t → s ≡ t
-same_style Blank Blank e = refl
-same_style Blank Dashed e = absurd (omega (arith, e))
-same_style Blank Solid e = absurd (omega (arith, e))
-same_style Dashed Blank e = absurd (omega (arith, e))
-same_style Dashed Dashed e = refl
-same_style Dashed Solid e = absurd (omega (arith, e))
-same_style Solid Blank e = absurd (omega (arith, e))
-same_style Solid Dashed e = absurd (omega (arith, e))
-same_style Solid Solid e = refl
 
 -- where columns are packed, the bytes are those that are wanted just where the columns draw the lines' styles
 module _ (columns : List KnownColumn) (sides : List Beside) (numbers after before drawn wanted : List ℕ) (packed : ArePackedOf columns sides numbers (length numbers) after before)

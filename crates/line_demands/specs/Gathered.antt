@@ -6,7 +6,7 @@ use Rattle.solid_model.specs.declared.segment.Style.TheVariants.{Blank}
 use Rattle.line_demands.specs.declared.lines.Beside.{Beside}
 use Rattle.line_demands.specs.declared.spans.Span.{Span}
 use Rattle.line_demands.specs.Touching.{is_of, view_width, shown_cell}
-use Rattle.line_demands.specs.Lines.{times_listed, AreMarked}
+use Rattle.line_demands.specs.Lines.{AreMarked}
 use Rattle.line_demands.specs.Spans.{is_on, known_there, AreWithin, AreAdded}
 use Rattle.solid_model.specs.Decisions.{decided_by}
 use Rattle.solid_model.specs.Demands.{known_in}
@@ -18,6 +18,7 @@ use Rattle.solid_model.specs.declared.frame.View.{View}
 use Rattle.solid_model.specs.declared.frame.View.TheVariants.{Front, Top, Side}
 use Rattle.solid_model.specs.declared.line_id.LineId.{LineId}
 use Rattle.lemmas.specs.Bits.{is_set}
+use Rattle.lemmas.specs.Counts.{times_listed}
 use Rattle.solid_model.specs.Blocks.{ProblemParts, block_at}
 use Rattle.solid_model.specs.Rooms.{Sizes}
 use Rattle.solid_model.specs.GridBox.{grid_sizes}

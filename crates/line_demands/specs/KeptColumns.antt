@@ -7,7 +7,7 @@ use Rattle.line_demands.specs.declared.spans.Span.{Span}
 use Rattle.line_demands.specs.Touching.{is_of, view_width, view_height, shown_cell, lines_touching}
 use Rattle.solid_model.specs.declared.decision.Decision.{Decision}
 use Rattle.solid_model.specs.Decisions.{decided_by, AreDecisions}
-use Rattle.line_demands.specs.Lines.{times_listed, AreMarked}
+use Rattle.line_demands.specs.Lines.{AreMarked}
 use Rattle.line_demands.specs.Spans.{is_on, known_there, AreWithin}
 use Rattle.solid_model.specs.declared.frame.View.{View}
 use Rattle.solid_model.specs.declared.frame.View.TheVariants.{Front, Top, Side}
@@ -16,6 +16,7 @@ use Rattle.solid_model.specs.Blocks.{ProblemParts, block_at}
 use Rattle.solid_model.specs.Demands.{known_cell, line_style, lines_of, CanBeMet}
 use Rattle.solid_model.specs.Rooms.{Sizes, is_below}
 use Rattle.solid_model.specs.GridBox.{grid_sizes, axis_along, axis_across}
+use Rattle.lemmas.specs.Counts.{times_listed}
 
 -- how many columns stand before those of a view
 abbrev pub columns_before : Sizes → View → ℕ

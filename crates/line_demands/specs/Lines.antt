@@ -1,5 +1,5 @@
 -- Lines that can't be met, by number.
-use Rattle.std.specs.Prelude.{◌≡◌, ◌↔◌, ◌==◌, ◌<◌, ◌≤◌, ◌+◌, ◌%◌, Bool, false, ℕ, Option, Some, None, nat_lt, List, length, take, All, slice_index_or, if◌then◌else◌}
+use Rattle.std.specs.Prelude.{◌≡◌, ◌↔◌, ◌<◌, ◌≤◌, ◌+◌, ◌%◌, Bool, false, ℕ, Option, Some, None, nat_lt, List, length, take, All, slice_index_or, if◌then◌else◌}
 use Rattle.std.specs.List.{sum_by}
 use Rattle.solid_model.specs.Known.{known_bits}
 use Rattle.line_demands.specs.declared.known.KnownColumn.{KnownColumn}
@@ -7,15 +7,8 @@ use Rattle.line_demands.specs.declared.lines.Beside.{Beside}
 use Rattle.line_demands.specs.Doubted.{AreFree}
 use Rattle.line_demands.specs.Spans.{column_there}
 use Rattle.lemmas.specs.Bits.{is_set}
+use Rattle.lemmas.specs.Counts.{one_if, times_listed}
 use Rattle.solid_model.specs.Demands.{CanDraw}
-
--- 1 where the test holds
-abbrev pub one_if : Bool → ℕ
-one_if b = if b then 1 else 0
-
--- how often a number stands in a list
-abbrev pub times_listed : ℕ → List ℕ → ℕ
-times_listed i xs = sum_by (λ x. one_if (x == i)) xs
 
 -- The marks of lines say which can be met; each other line is listed once.
 pub record AreMarked (met : List Bool) (broken : List ℕ) : Type 0 where

@@ -1,7 +1,7 @@
 -- Lists that a plan of a problem is made of.
 use Rattle.std.specs.Prelude.{◌≡◌, ◌↔◌, ◌==◌, ◌&&◌, ◌-◌, Bool, false, ℕ, nat_lt, List, [], ◌∷◌, ◌++◌, length, slice_index_or, if◌then◌else◌}
 use Rattle.std.specs.List.{list_any}
-use Rattle.line_demands.specs.Lines.{times_listed}
+use Rattle.lemmas.specs.Counts.{times_listed}
 
 -- a number more, if it isn't there
 abbrev pub IsAddedOnce : ℕ → List ℕ → List ℕ → Type 0

@@ -6,8 +6,9 @@
 //! for the least one at each question.
 
 ghost use Rattle.std.specs.Prelude.{◌≡◌, ◌↔◌, ◌<◌, ◌≤◌, ◌+◌, ◌++◌, ◌∷◌, [], ◌==◌, ℕ, true, false, length, take, All, slice_index_or, slice_set, vec_capacity, IsTrue};
-ghost use Rattle.line_demands.specs.Lines.{times_listed, AreMarked, IsMetBy, AreFreeBeside, AreBeside, BeginsWith, AreTried, AreFreeAmong, IsLeast, lesser_of};
+ghost use Rattle.line_demands.specs.Lines.{AreMarked, IsMetBy, AreFreeBeside, AreBeside, BeginsWith, AreTried, AreFreeAmong, IsLeast, lesser_of};
 ghost use Rattle.line_demands.specs.Spans.{AreWithin};
+ghost use Rattle.lemmas.specs.Counts.{times_listed};
 
 use crate::free::are_free;
 use crate::known::{KnownColumn, can_draw, meets};

@@ -2,7 +2,7 @@
 
 ghost use Rattle.std.specs.Prelude.{◌≡◌, ◌<◌, IsTrue};
 ghost use Rattle.line_demands.specs.Plans.{ends_with};
-ghost use Rattle.line_demands.specs.Lines.{times_listed};
+ghost use Rattle.lemmas.specs.Counts.{times_listed};
 
 use crate::spans::Span;
 use solid_model::Memory;

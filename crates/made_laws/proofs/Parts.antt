@@ -5,6 +5,7 @@ use Rattle.std.proofs.Math.Seq.{take-append_seam, drop-append_seam}
 use Rattle.std.proofs.lemmas.Bool.{both_ways, and_parts, eqb-true}
 use Rattle.std.proofs.lemmas.List.Elements.{filter-append}
 use Rattle.solid_model.specs.Tree.{PrefixTest, extensions, live_count, is_whole, live_below}
+use Rattle.lemmas.specs.Counts.{one_if}
 
 -- ---- parts
 
@@ -39,9 +40,6 @@ most_of w [] = 1
 most_of w (q ∷ qs) = w * shorter q.size + passing q.size q.allows * most_of w qs
 
 -- ---- counting those that pass a test
-
-abbrev one_if : Bool → ℕ
-one_if b = if b then 1 else 0
 
 length-filter-cons : {A : Type 0} (test : A → Bool) (x : A) (xs : List A) → length (filter test (x ∷ xs)) ≡ one_if (test x) + length (filter test xs)
 length-filter-cons {A} test x xs = by (test x) refl

@@ -14,13 +14,14 @@ use Rattle.solid_model.specs.Reports.{Report, IsReport}
 use Rattle.solid_model.specs.Search.{SearchLimits}
 use Rattle.solid_model.specs.Tree.{IsAllowed}
 use Rattle.lemmas.proofs.Lists.{each-append, each-push, each-weaker}
+use Rattle.lemmas.specs.Counts.{times_listed, times_among}
 use Rattle.search_core.specs.declared.note.Note.{Note}
 use Rattle.search_core.specs.Ledger.{LedgerParts, history_of, desk_of, IsBegun, HasGrown, HasPosted, IsLedger, KeepsFrontier, IsLedgerOf}
-use Rattle.search_core.specs.Core.{Core, Event, IsCoreRun, times_among, without, core_start, end_at, end_after, after_event}
+use Rattle.search_core.specs.Core.{Core, Event, IsCoreRun, without, core_start, end_at, end_after, after_event}
 use Rattle.search_core.specs.Desk.{desk_state, event_of, pieces_put, IsDesk, IsFirstPiece, IsTaken}
 use Rattle.search_core.specs.Notes.{told, AreShared}
 use Rattle.prefix_tree.specs.Places.{prefix_at, StandsAt, AreDistinct}
-use Rattle.search_core.specs.Frontier.{count_of, times_in, IsFirstPut}
+use Rattle.search_core.specs.Frontier.{count_of, IsFirstPut}
 use Rattle.search_core.proofs.KeptFrontiers.{frontier-posted, frontier-grown, frontier-begun, counted-member, member-counted, left-among}
 use Rattle.prefix_tree.proofs.Stored.{stands-grown}
 use Rattle.search_core.proofs.Told.{after-push, run-push, each-drop, rests-told, told-grown, told-push, shared-push}
@@ -214,7 +215,7 @@ module _ (p : ProblemParts) (limits : SearchLimits) (b : LedgerParts) (live : Bo
   desk-begun end e = at live refl
     where
       frontier_at : (t : Bool) → live ≡ t → KeepsFrontier b.stored b.counts (if t then [] ∷ [] else [])
-      frontier_at t f = frontier-begun b.stored b.counts begun.root t begun.distinct begun.stands (λ k. begun.counts k ∙ ap (λ (u : Bool). if u then times_in k (begun.root ∷ []) else 0) f)
+      frontier_at t f = frontier-begun b.stored b.counts begun.root t begun.distinct begun.stands (λ k. begun.counts k ∙ ap (λ (u : Bool). if u then times_listed k (begun.root ∷ []) else 0) f)
 
       start_at : (t : Bool) → live ≡ t → core_start (is_live p) ≡ (if t then record { frontier = [] ∷ []; found = []; opened = 0; end = None } else record { frontier = []; found = []; opened = 0; end = Some Whole })
       start_at t f = ap (λ (u : Bool). if u then record { frontier = [] ∷ []; found = []; opened = 0; end = None } else record { frontier = []; found = []; opened = 0; end = Some Whole }) (sym is ∙ f)

@@ -3,18 +3,19 @@ use Rattle.std.proofs.Common.{◌≡◌, inl, inr, ℕ, suc, ◌+◌, ◌-◌, �
 use Rattle.std.proofs.lemmas.Bool.{cases_eq, cases_lt, eq-eqb, ne_eqb, cond_both, eqb-true, eqb-false}
 use Rattle.std.proofs.lemmas.List.{get_or-set_same, get_or-set_other, drop_more, drop-append-le, length-drop, length-append, get_or_append_left, get_or_push, get_or_past}
 use Rattle.std.specs.Prelude.{if◌then◌else◌}
-use Rattle.search_core.specs.Frontier.{times_in, count_of, count_without, passed, IsFrontier}
+use Rattle.search_core.specs.Frontier.{count_of, count_without, passed, IsFrontier}
+use Rattle.lemmas.specs.Counts.{times_listed}
 
 -- ---- how often a number stands in a list
 
-pub times_in-append : (k : ℕ) (xs ys : List ℕ) → times_in k (xs ++ ys) ≡ times_in k xs + times_in k ys
+pub times_in-append : (k : ℕ) (xs ys : List ℕ) → times_listed k (xs ++ ys) ≡ times_listed k xs + times_listed k ys
 times_in-append k [] ys = omega arith
 times_in-append k (x ∷ xs) ys = omega (arith, times_in-append k xs ys)
 
 -- at most as often as the list is long
-times_in-most : (k : ℕ) (xs : List ℕ) → times_in k xs ≤ length xs
+times_in-most : (k : ℕ) (xs : List ℕ) → times_listed k xs ≤ length xs
 times_in-most k [] = omega arith
-times_in-most k (x ∷ xs) = cond_both (x == k) 1 0 (λ n. n + times_in k xs ≤ suc (length xs)) (λ e. omega (arith, times_in-most k xs)) (λ e. omega (arith, times_in-most k xs))
+times_in-most k (x ∷ xs) = cond_both (x == k) 1 0 (λ n. n + times_listed k xs ≤ suc (length xs)) (λ e. omega (arith, times_in-most k xs)) (λ e. omega (arith, times_in-most k xs))
 
 -- ---- counts
 
@@ -47,9 +48,9 @@ module _ (put counts : List ℕ) (first : ℕ) (q : IsFrontier put counts first)
   frontier-put place n l e = record {
     within = omega (arith, q.within, length-append put (place ∷ []));
     behind = λ k.
-        let tail : times_in k (drop first (put ++ place ∷ [])) ≡ times_in k (drop first put) + times_in k (place ∷ [])
-        = ap (times_in k) (drop-append-le first put (place ∷ []) q.within) ∙ times_in-append k (drop first put) (place ∷ []) in
-        rw (count-set counts place n k l) (cond_both (k == place) n (count_of counts k) (λ m. m ≤ times_in k (drop first (put ++ place ∷ [])))
+        let tail : times_listed k (drop first (put ++ place ∷ [])) ≡ times_listed k (drop first put) + times_listed k (place ∷ [])
+        = ap (times_listed k) (drop-append-le first put (place ∷ []) q.within) ∙ times_in-append k (drop first put) (place ∷ []) in
+        rw (count-set counts place n k l) (cond_both (k == place) n (count_of counts k) (λ m. m ≤ times_listed k (drop first (put ++ place ∷ [])))
         (λ e. one k (eqb-true k place e) tail)
         (λ e. omega (arith, tail, q.behind k)));
     there = λ h. elim (cases_lt first (length put)) as (λ _. 0 < count_of (set counts place n) (get_or (put ++ place ∷ []) first 0)) [
@@ -58,22 +59,22 @@ module _ (put counts : List ℕ) (first : ℕ) (q : IsFrontier put counts first)
     ];
   }
     where
-      one : (k : ℕ) → k ≡ place → times_in k (drop first (put ++ place ∷ [])) ≡ times_in k (drop first put) + times_in k (place ∷ []) → n ≤ times_in k (drop first (put ++ place ∷ []))
+      one : (k : ℕ) → k ≡ place → times_listed k (drop first (put ++ place ∷ [])) ≡ times_listed k (drop first put) + times_listed k (place ∷ []) → n ≤ times_listed k (drop first (put ++ place ∷ []))
       one k same tail =
-          let here : times_in k (place ∷ []) ≡ 1 = ap (λ (b : Bool). cond b 1 0 + 0) (eq-eqb place k (sym same)) in
-          let was : count_of counts place ≤ times_in k (drop first put) = subst (λ j. count_of counts j ≤ times_in k (drop first put)) same (q.behind k) in
+          let here : times_listed k (place ∷ []) ≡ 1 = ap (λ (b : Bool). cond b 1 0 + 0) (eq-eqb place k (sym same)) in
+          let was : count_of counts place ≤ times_listed k (drop first put) = subst (λ j. count_of counts j ≤ times_listed k (drop first put)) same (q.behind k) in
           omega (arith, tail)
 
       more : (k : ℕ) → 0 < count_of counts k → 0 < count_of (set counts place n) k
       more k h = rw (count-set counts place n k l) (cond_both (k == place) n (count_of counts k) (λ m. 0 < m) (λ same. omega arith) (λ other. h))
 
 -- passing over places that aren't counted leaves what is counted behind them
-passed_behind : (count : ℕ → ℕ) (k : ℕ) (ks : List ℕ) → count k ≤ times_in k ks → count k ≤ times_in k (passed count ks)
+passed_behind : (count : ℕ → ℕ) (k : ℕ) (ks : List ℕ) → count k ≤ times_listed k ks → count k ≤ times_listed k (passed count ks)
 passed_behind count k [] h = h
-passed_behind count k (j ∷ ks) h = elim (cases_eq (count j) 0) as (λ _. count k ≤ times_in k (if count j == 0 then passed count ks else j ∷ ks)) [
-  | inl none ↦ rw (eq-eqb (count j) 0 none) (passed_behind count k ks (elim (cases_eq j k) as (λ _. count k ≤ times_in k ks) [
+passed_behind count k (j ∷ ks) h = elim (cases_eq (count j) 0) as (λ _. count k ≤ times_listed k (if count j == 0 then passed count ks else j ∷ ks)) [
+  | inl none ↦ rw (eq-eqb (count j) 0 none) (passed_behind count k ks (elim (cases_eq j k) as (λ _. count k ≤ times_listed k ks) [
     | inl same ↦ (let here : count k ≡ 0 = ap count (sym same) ∙ none in omega arith)
-    | inr other ↦ (let tail : times_in k (j ∷ ks) ≡ 0 + times_in k ks = ap (λ (b : Bool). cond b 1 0 + times_in k ks) (ne_eqb j k other) in omega (arith, tail))
+    | inr other ↦ (let tail : times_listed k (j ∷ ks) ≡ 0 + times_listed k ks = ap (λ (b : Bool). cond b 1 0 + times_listed k ks) (ne_eqb j k other) in omega (arith, tail))
   ]))
   | inr some ↦ rw (ne_eqb (count j) 0 some) h
 ]
@@ -96,19 +97,19 @@ pub frontier-take : (put counts : List ℕ) (first next place n : ℕ) → IsFro
 frontier-take put counts first next place n q l less high is there = record {
   within = high;
   there = λ h. rw (after (get_or put next 0)) (there h);
-  behind = λ k. rw (after k) (subst (λ (ks : List ℕ). count_without counts place k ≤ times_in k ks) is (passed_behind (count_without counts place) k (drop first put) (fewer k)));
+  behind = λ k. rw (after k) (subst (λ (ks : List ℕ). count_without counts place k ≤ times_listed k ks) is (passed_behind (count_without counts place) k (drop first put) (fewer k)));
 }
   where
     after : (k : ℕ) → count_of (set counts place n) k ≡ count_without counts place k
     after k = count-set counts place n k l ∙ cond_both (k == place) n (count_of counts k) (λ m. m ≡ count_without counts place k)
         (λ e. rw e (less ∙ ap (λ (j : ℕ). count_of counts j - 1) (sym (eqb-true k place e)))) (λ e. rw e refl)
 
-    fewer : (k : ℕ) → count_without counts place k ≤ times_in k (drop first put)
-    fewer k = cond_both (k == place) (count_of counts k - 1) (count_of counts k) (λ m. m ≤ times_in k (drop first put)) (λ e. (let h = q.behind k in omega arith)) (λ e. q.behind k)
+    fewer : (k : ℕ) → count_without counts place k ≤ times_listed k (drop first put)
+    fewer k = cond_both (k == place) (count_of counts k - 1) (count_of counts k) (λ m. m ≤ times_listed k (drop first put)) (λ e. (let h = q.behind k in omega arith)) (λ e. q.behind k)
 
 -- a count that rises where a place is put
-pub counted_once_more : (k place n : ℕ) → (if k == place then n + 1 else n) ≡ n + times_in k (place ∷ [])
-counted_once_more k place n = elim (cases_eq k place) as (λ _. (if k == place then n + 1 else n) ≡ n + times_in k (place ∷ [])) [
+pub counted_once_more : (k place n : ℕ) → (if k == place then n + 1 else n) ≡ n + times_listed k (place ∷ [])
+counted_once_more k place n = elim (cases_eq k place) as (λ _. (if k == place then n + 1 else n) ≡ n + times_listed k (place ∷ [])) [
   | inl e ↦ rw (eq-eqb k place e, eq-eqb place k (sym e)) (omega arith)
   | inr ne ↦ rw (ne_eqb k place ne, ne_eqb place k (λ e. ne (sym e))) (omega arith)
 ]

@@ -9,10 +9,11 @@ use Rattle.lemmas.proofs.ListPlaces.{member-at, member-place}
 use Rattle.lemmas.proofs.Lists.{member-append_left, each-at, each-append, each-append_left, each-append_right, each-weaker}
 use Rattle.search_core.specs.Ledger.{KeepsFrontier}
 use Rattle.lemmas.specs.Truth.{same_values}
-use Rattle.search_core.specs.Core.{times_among, without, end_at, end_after}
+use Rattle.search_core.specs.Core.{without, end_at, end_after}
 use Rattle.prefix_tree.specs.Places.{prefix_at, StandsAt, AreDistinct}
-use Rattle.search_core.specs.Frontier.{count_of, times_in}
+use Rattle.search_core.specs.Frontier.{count_of}
 use Rattle.lemmas.proofs.Truth.{Decides-same_values}
+use Rattle.lemmas.specs.Counts.{times_listed, times_among}
 use Rattle.search_core.proofs.TakenOut.{stands_between}
 
 -- ---- how often a prefix stands in a list
@@ -66,7 +67,7 @@ module _ (stored : List (List Bool)) (distinct : AreDistinct stored) where
   ]
 
   -- so they stand among prefixes as often as their places among places
-  times-places : (k : ℕ) (js : List ℕ) → k < length stored → Each (λ j. j < length stored) js → times_among (prefix_at stored k) (map (prefix_at stored) js) ≡ times_in k js
+  times-places : (k : ℕ) (js : List ℕ) → k < length stored → Each (λ j. j < length stored) js → times_among (prefix_at stored k) (map (prefix_at stored) js) ≡ times_listed k js
   times-places k [] l h = refl
   times-places k (j ∷ js) l h = ap₂ (λ (b : Bool) (n : ℕ). (if b then 1 else 0) + n) (same-places j k h.0 l) (times-places k js l h.1)
 
@@ -76,13 +77,13 @@ module _ (stored : List (List Bool)) (distinct : AreDistinct stored) where
   each-stored (j ∷ js) h = (member-at stored j [] h.0, each-stored js h.1)
 
   -- a place past them stands among places of stored ones never
-  times-past : (k : ℕ) (js : List ℕ) → Each (λ j. j < length stored) js → length stored ≤ k → times_in k js ≡ 0
+  times-past : (k : ℕ) (js : List ℕ) → Each (λ j. j < length stored) js → length stored ≤ k → times_listed k js ≡ 0
   times-past k [] h m = refl
   times-past k (j ∷ js) h m = let l = h.0 in let ne : j ≡ k → ⊥ = (λ e. omega arith) in rw (ne_eqb j k ne) (omega (arith, times-past k js h.1 m))
 
   -- The frontier after a report is kept where the piece's place is counted once less, and the places of its rest are counted.
   pub frontier-posted : (counts after : List ℕ) (frontier : List (List Bool)) (piece : ℕ) (js : List ℕ) → piece < length stored → 0 < count_of counts piece → Each (λ j. j < length stored) js
-      → ((k : ℕ) → count_of after k ≡ (if k == piece then count_of counts k - 1 else count_of counts k) + times_in k js) → Member frontier (prefix_at stored piece)
+      → ((k : ℕ) → count_of after k ≡ (if k == piece then count_of counts k - 1 else count_of counts k) + times_listed k js) → Member frontier (prefix_at stored piece)
       → KeepsFrontier stored counts frontier → KeepsFrontier stored after (without (prefix_at stored piece) frontier ++ map (prefix_at stored) js)
   frontier-posted counts after frontier piece js l there below is member keeps = record {
     kept = each-append (Member stored) (without p frontier) (map (prefix_at stored) js) (each-without (Member stored) p frontier member keeps.kept) (each-stored js below);
@@ -90,8 +91,8 @@ module _ (stored : List (List Bool)) (distinct : AreDistinct stored) where
         let was : count_of counts k ≡ times_among (prefix_at stored k) frontier = keeps.counted k lk in
         let left : times_among (prefix_at stored k) frontier ≡ times_among (prefix_at stored k) (without p frontier) + times_among (prefix_at stored k) (p ∷ [])
         = times-without p (prefix_at stored k) frontier member in
-        let own : times_among (prefix_at stored k) (p ∷ []) ≡ times_in k (piece ∷ []) = times-places k (piece ∷ []) lk (l, tt) in
-        let all : times_among (prefix_at stored k) (without p frontier ++ map (prefix_at stored) js) ≡ times_among (prefix_at stored k) (without p frontier) + times_in k js
+        let own : times_among (prefix_at stored k) (p ∷ []) ≡ times_listed k (piece ∷ []) = times-places k (piece ∷ []) lk (l, tt) in
+        let all : times_among (prefix_at stored k) (without p frontier ++ map (prefix_at stored) js) ≡ times_among (prefix_at stored k) (without p frontier) + times_listed k js
         = times_among-append (prefix_at stored k) (without p frontier) (map (prefix_at stored) js) ∙ ap (λ n. times_among (prefix_at stored k) (without p frontier) + n) (times-places k js lk below) in
         let less : (if k == piece then count_of counts k - 1 else count_of counts k) ≡ times_among (prefix_at stored k) (without p frontier) = taken k (count_of counts k) (times_among (prefix_at stored k) (without p frontier)) (was ∙ left ∙ ap (λ n. times_among (prefix_at stored k) (without p frontier) + n) own) in
         omega (arith, is k);
@@ -104,10 +105,10 @@ module _ (stored : List (List Bool)) (distinct : AreDistinct stored) where
       p : List Bool
       p = prefix_at stored piece
 
-      taken : (k n m : ℕ) → n ≡ m + times_in k (piece ∷ []) → (if k == piece then n - 1 else n) ≡ m
+      taken : (k n m : ℕ) → n ≡ m + times_listed k (piece ∷ []) → (if k == piece then n - 1 else n) ≡ m
       taken k n m e = elim (cases_eq k piece) as (λ _. (if k == piece then n - 1 else n) ≡ m) [
-        | inl same ↦ (let one : times_in k (piece ∷ []) ≡ 1 + 0 = ap (λ (b : Bool). cond b 1 0 + 0) (eq-eqb piece k (sym same)) in rw (eq-eqb k piece same) (omega arith))
-        | inr other ↦ (let none : times_in k (piece ∷ []) ≡ 0 + 0 = ap (λ (b : Bool). cond b 1 0 + 0) (ne_eqb piece k (λ f. other (sym f))) in rw (ne_eqb k piece other) (omega arith))
+        | inl same ↦ (let one : times_listed k (piece ∷ []) ≡ 1 + 0 = ap (λ (b : Bool). cond b 1 0 + 0) (eq-eqb piece k (sym same)) in rw (eq-eqb k piece same) (omega arith))
+        | inr other ↦ (let none : times_listed k (piece ∷ []) ≡ 0 + 0 = ap (λ (b : Bool). cond b 1 0 + 0) (ne_eqb piece k (λ f. other (sym f))) in rw (ne_eqb k piece other) (omega arith))
       ]
 
 -- a frontier is kept where more prefixes are stored, which aren't counted
@@ -151,13 +152,13 @@ module _ (stored : List (List Bool)) (counts : List ℕ) (frontier : List (List 
       (place.0, record { below = place.1; there = place.2 [] }, omega arith)
 
   -- where each place is counted at most as often as it stands among some, so stands each prefix among those of these places
-  pub left-among : AreDistinct stored → (js : List ℕ) → Each (λ j. j < length stored) js → ((k : ℕ) → count_of counts k ≤ times_in k js)
+  pub left-among : AreDistinct stored → (js : List ℕ) → Each (λ j. j < length stored) js → ((k : ℕ) → count_of counts k ≤ times_listed k js)
       → (p : List Bool) → times_among p frontier ≤ times_among p (map (prefix_at stored) js)
   left-among distinct js below behind p = elim (cases_lt 0 (times_among p frontier)) as (λ _. times_among p frontier ≤ times_among p (map (prefix_at stored) js)) [
     | inl some ↦ (
         let w = member-counted p (member-times p frontier some) in
         let counted : count_of counts w.0 ≡ times_among (prefix_at stored w.0) frontier = keeps.counted w.0 w.1.below in
-        let among : times_among (prefix_at stored w.0) (map (prefix_at stored) js) ≡ times_in w.0 js = times-places stored distinct w.0 js w.1.below below in
+        let among : times_among (prefix_at stored w.0) (map (prefix_at stored) js) ≡ times_listed w.0 js = times-places stored distinct w.0 js w.1.below below in
         subst (λ q. times_among q frontier ≤ times_among q (map (prefix_at stored) js)) w.1.there (omega (arith, behind w.0)))
     | inr none ↦ omega arith
   ]
@@ -182,7 +183,7 @@ end-open (q ∷ frontier) p m = refl
 
 -- at the beginning the empty prefix is the frontier, if it is live
 pub frontier-begun : (stored : List (List Bool)) (counts : List ℕ) (root : ℕ) (live : Bool) → AreDistinct stored → StandsAt stored [] root
-    → ((k : ℕ) → count_of counts k ≡ (if live then times_in k (root ∷ []) else 0)) → KeepsFrontier stored counts (if live then [] ∷ [] else [])
+    → ((k : ℕ) → count_of counts k ≡ (if live then times_listed k (root ∷ []) else 0)) → KeepsFrontier stored counts (if live then [] ∷ [] else [])
 frontier-begun stored counts root false distinct stands is = record { kept = tt; counted = λ k l. is k; unstored = λ k m. is k }
 frontier-begun stored counts root true distinct stands is = record {
   kept = (subst (Member stored) stands.there (member-at stored root [] stands.below), tt);

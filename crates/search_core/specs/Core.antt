@@ -3,18 +3,13 @@
 -- piece out of the frontier once. The frontier is a list, and a prefix could stand in it twice, since an allowed report is
 -- asked for sums alone: then each copy has to be expanded by an event of its own, and the sums stay right with nothing asked
 -- of the frontier.
-use Rattle.std.specs.Prelude.{◌≡◌, ◌&&◌, Bool, true, false, ℕ, ◌+◌, nat_lt, List, [], ◌∷◌, ◌++◌, length, take, Option, Some, None, if◌then◌else◌}
+use Rattle.std.specs.Prelude.{◌≡◌, Bool, ℕ, ◌+◌, nat_lt, List, [], ◌∷◌, ◌++◌, length, take, Option, Some, None, if◌then◌else◌}
 use Rattle.solid_model.specs.declared.ended.EndKind.{EndKind}
 use Rattle.solid_model.specs.declared.ended.EndKind.TheVariants.{Whole, CutNodes, CutSolids}
 use Rattle.lemmas.specs.Truth.{same_values}
 use Rattle.lemmas.specs.Lists.{Member}
 use Rattle.solid_model.specs.Search.{SearchLimits}
 use Rattle.solid_model.specs.Tree.{PrefixTest, IsAllowed}
-
--- how often a prefix stands in a list
-abbrev pub times_among : List Bool → List (List Bool) → ℕ
-times_among p [] = 0
-times_among p (q ∷ qs) = (if same_values p q then 1 else 0) + times_among p qs
 
 -- prefixes without the first one that is this
 abbrev pub without : List Bool → List (List Bool) → List (List Bool)

@@ -6,9 +6,10 @@ use Rattle.solid_model.specs.declared.ended.EndKind.{EndKind}
 use Rattle.solid_model.specs.Blocks.{ProblemParts}
 use Rattle.solid_model.specs.Forcing.{is_live}
 use Rattle.lemmas.specs.Lists.{Member}
+use Rattle.lemmas.specs.Counts.{times_among}
 use Rattle.solid_model.specs.Reports.{Report}
 use Rattle.solid_model.specs.Search.{SearchLimits}
-use Rattle.search_core.specs.Core.{Core, Event, IsCoreRun, core_start, after_events, times_among}
+use Rattle.search_core.specs.Core.{Core, Event, IsCoreRun, core_start, after_events}
 
 -- a desk: for which problem and limits, what has happened, and how the search stands
 pub record DeskParts : Type 0 where

@@ -1,10 +1,6 @@
 -- The frontier of a search, by the places of its prefixes.
-use Rattle.std.specs.Prelude.{◌≡◌, ◌==◌, ◌<◌, ◌≤◌, ◌+◌, ◌-◌, ℕ, List, [], ◌∷◌, length, drop, slice_index, slice_index_or, if◌then◌else◌}
-
--- how often a number stands in a list
-abbrev pub times_in : ℕ → List ℕ → ℕ
-times_in k [] = 0
-times_in k (j ∷ js) = (if j == k then 1 else 0) + times_in k js
+use Rattle.std.specs.Prelude.{◌≡◌, ◌==◌, ◌<◌, ◌≤◌, ◌-◌, ℕ, List, [], ◌∷◌, length, drop, slice_index, slice_index_or, if◌then◌else◌}
+use Rattle.lemmas.specs.Counts.{times_listed}
 
 -- how often a place stands in it
 abbrev pub count_of : List ℕ → ℕ → ℕ
@@ -27,7 +23,7 @@ first_or other (k ∷ ks) = k
 -- Each place stands in it at most as often as it was put and not yet passed over; the first that isn't passed over stands in it.
 pub record IsFrontier (put counts : List ℕ) (first : ℕ) : Type 0 where
   pub within : first ≤ length put
-  pub behind : (k : ℕ) → count_of counts k ≤ times_in k (drop first put)
+  pub behind : (k : ℕ) → count_of counts k ≤ times_listed k (drop first put)
   pub there : first < length put → 0 < count_of counts (slice_index put first)
 
 -- A place stands in it, and what does was put no earlier.
@@ -36,7 +32,7 @@ pub record IsFirstPut (put counts : List ℕ) (place : ℕ) : Type 0 where
   pub within : at < length put
   pub is : place ≡ slice_index put at
   pub counted : 0 < count_of counts place
-  pub behind : (k : ℕ) → count_of counts k ≤ times_in k (drop at put)
+  pub behind : (k : ℕ) → count_of counts k ≤ times_listed k (drop at put)
 
 -- so many can be put at most, since how often a place stands in it is a number of 32 bits
 abbrev pub most_puts : ℕ

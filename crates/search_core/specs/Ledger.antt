@@ -4,14 +4,15 @@ use Rattle.solid_model.specs.declared.ended.EndKind.{EndKind}
 use Rattle.solid_model.specs.Blocks.{ProblemParts}
 use Rattle.solid_model.specs.Forcing.{is_live}
 use Rattle.lemmas.specs.Lists.{Member, Each}
+use Rattle.lemmas.specs.Counts.{times_listed, times_among}
 use Rattle.solid_model.specs.Search.{SearchLimits}
 use Rattle.search_core.specs.declared.ledger.Ledger.{Ledger}
 use Rattle.search_core.specs.declared.note.Note.{Note}
-use Rattle.search_core.specs.Core.{Event, IsCoreRun, core_start, times_among}
+use Rattle.search_core.specs.Core.{Event, IsCoreRun, core_start}
 use Rattle.search_core.specs.Desk.{DeskParts, desk_state}
 use Rattle.search_core.specs.Notes.{told, AreShared}
 use Rattle.prefix_tree.specs.Places.{prefix_at, StandsAt, AreDistinct}
-use Rattle.search_core.specs.Frontier.{count_of, count_without, first_or, passed, times_in}
+use Rattle.search_core.specs.Frontier.{count_of, count_without, first_or, passed}
 
 -- stored prefixes; the places that were put into the frontier, and how often each stands there; notes; and the choices found
 pub record LedgerParts : Type 0 where
@@ -61,7 +62,7 @@ pub record IsBegun (b : LedgerParts) (live : Bool) : Type 0 where
   pub stands : StandsAt b.stored [] root
   pub distinct : AreDistinct b.stored
   pub put : b.put ≡ root ∷ []
-  pub counts : (k : ℕ) → count_of b.counts k ≡ (if live then times_in k (root ∷ []) else 0)
+  pub counts : (k : ℕ) → count_of b.counts k ≡ (if live then times_listed k (root ∷ []) else 0)
   pub notes : b.notes ≡ []
   pub found : b.found ≡ []
 
@@ -78,7 +79,7 @@ pub record HasGrown (b after : LedgerParts) : Type 0 where
 pub record HasPosted (b after : LedgerParts) (piece opened : ℕ) (choices : List (List Bool)) (places : List ℕ) : Type 0 where
   pub stored : after.stored ≡ b.stored
   pub put : after.put ≡ b.put ++ places
-  pub counts : (k : ℕ) → count_of after.counts k ≡ count_without b.counts piece k + times_in k places
+  pub counts : (k : ℕ) → count_of after.counts k ≡ count_without b.counts piece k + times_listed k places
   pub notes : after.notes ≡ b.notes ++ record { piece = piece; opened = opened; found = length choices; rest = length places } ∷ []
   pub found : after.found ≡ b.found ++ choices
 

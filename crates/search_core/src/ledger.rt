@@ -8,11 +8,12 @@
 
 ghost use Rattle.std.specs.Prelude.{◌≡◌, ◌<◌, ◌≤◌, ◌+◌, ◌++◌, ℕ, length, IfOk, IfSome, MatchOption};
 ghost use Rattle.lemmas.specs.Lists.{Each};
+ghost use Rattle.lemmas.specs.Counts.{times_listed};
 ghost use Rattle.search_core.specs.Ledger.{ledger_of, next_first, IsBegun, HasGrown, HasPosted, KnowsFirst};
 ghost use Rattle.search_core.specs.Copies.{AreCopies};
 ghost use Rattle.search_core.specs.Postings.{HasRoom, IsPosting, placed_or};
 ghost use Rattle.prefix_tree.specs.Places.{StandsAt};
-ghost use Rattle.search_core.specs.Frontier.{count_of, times_in};
+ghost use Rattle.search_core.specs.Frontier.{count_of};
 
 use crate::copies::Copies;
 use crate::frontier::{Frontier, first_of};
@@ -82,7 +83,7 @@ fn put_all(frontier: &mut Frontier, rest: &[u32])
     ensures put { frontier.new.put ≡ frontier.old.put ++ rest.now }
     ensures ahead { frontier.new.ahead ≡ frontier.old.ahead ++ rest.now }
     ensures counts { (k : ℕ) → count_of frontier.new.counts k
-        ≡ count_of frontier.old.counts k + times_in k rest.now }
+        ≡ count_of frontier.old.counts k + times_listed k rest.now }
 {
     for place in rest {
         frontier.put(*place);

@@ -1,5 +1,5 @@
 -- Choices compared: in the stated order exactly one of three ways holds of two choices of as many items.
-use Rattle.std.proofs.Common.{◌≡◌, ◌↔◌, inl, inr, Bool, true, false, true≢false, not, cond, ℕ, suc, ◌+◌, ◌<◌, List, [], ◌∷◌, length, get_or, Ordering, Less, Equal, Greater, ◌≤◌, refl, sym, ap, subst, ◌∙◌, arith}
+use Rattle.std.proofs.Common.{◌≡◌, ◌≢◌, ◌↔◌, inl, inr, Bool, true, false, true≢false, not, cond, ℕ, suc, ◌+◌, ◌<◌, List, [], ◌∷◌, length, get_or, Ordering, Less, Equal, Greater, ◌≤◌, refl, sym, ap, subst, ◌∙◌, arith}
 use Rattle.std.specs.List.{common_prefix_len}
 use Rattle.std.proofs.lemmas.Bool.{both_ways, cases_lt}
 use Rattle.std.proofs.lemmas.List.{ext_get_or, get_or-take}
@@ -21,6 +21,10 @@ precedes_one_way (x ∷ xs) (y ∷ ys) (inr (same, rest)) (inr (other_same, othe
 -- none precedes itself
 precedes_itself : (xs : List Bool) → ChoicePrecedes xs xs → ⊥
 precedes_itself xs h = precedes_one_way xs xs h h
+
+-- so that a choice is another one than that which it precedes
+pub precedes_another : (xs ys : List Bool) → ChoicePrecedes xs ys → xs ≢ ys
+precedes_another xs ys h e = precedes_itself ys (subst (λ zs. ChoicePrecedes zs ys) e h)
 
 -- the answer says which of the three ways holds
 pub record AreCompared (answer : Ordering) (xs ys : List Bool) : Type 0 where

@@ -34,10 +34,10 @@ blank_or_drawn Dashed = inr (λ e. cc)
 blank_or_drawn Solid = inr (λ e. cc)
 
 -- d stands just before c across the segments of a kind
-record StandsBefore (v : View) (upright : Bool) (d c : Cell) : Type 0 where
-  same_along : place_of (along (frame_of v) upright) d ≡ place_of (along (frame_of v) upright) c
-  before : place_of (across (frame_of v) upright) d ≡ place_of (across (frame_of v) upright) c -ℤ pos 1
-  same_away : place_of (frame_of v).away d ≡ place_of (frame_of v).away c
+pub record StandsBefore (v : View) (upright : Bool) (d c : Cell) : Type 0 where
+  pub same_along : place_of (along (frame_of v) upright) d ≡ place_of (along (frame_of v) upright) c
+  pub before : place_of (across (frame_of v) upright) d ≡ place_of (across (frame_of v) upright) c -ℤ pos 1
+  pub same_away : place_of (frame_of v).away d ≡ place_of (frame_of v).away c
 
 module _ (drawing : Segment → Style) (s : List Cell) (matches : Matches drawing s) where
   -- beside a segment that isn't drawn the two cells agree at every depth

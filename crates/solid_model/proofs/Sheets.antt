@@ -1,9 +1,9 @@
 -- Where the lines of a sheet begin, and what they cover there.
-use Rattle.std.proofs.Common.{◌≡◌, ◌≢◌, ◌⊎◌, inl, inr, ⊎_elim, Bool, true, false, not, ◌&&◌, ◌||◌, cond, List, [], ◌∷◌, map, ℤ, pos, ◌+ℤ◌, ◌≤ℤ◌, ◌<ℤ◌, int_lt, int_le, IsTrue, if◌then◌else◌, fold, int_eq, refl, ap, sym, subst, ◌∙◌, arith}
+use Rattle.std.proofs.Common.{◌≡◌, ◌≢◌, ◌⊎◌, inl, inr, ⊎_elim, Bool, true, false, not, ◌&&◌, ◌||◌, cond, List, [], ◌∷◌, map, ℤ, pos, ◌+ℤ◌, ◌≤ℤ◌, ◌<ℤ◌, int_lt, int_le, IsTrue, if◌then◌else◌, fold, int_eq, w64, to_z, of_z, refl, ap, sym, subst, ◌∙◌, arith}
 use Rattle.std.specs.Int.{int_min, int_max}
 use Rattle.std.proofs.lemmas.Bool.{false≢true, both_ways, and_parts, and_from, or_cases, or_left, or_right, not-true, not_from_false, false_from_ne_true, and_left, and_right}
 use Rattle.std.proofs.lemmas.Bool.Decides.{Decides-int_eq}
-use Rattle.std.proofs.lemmas.Int.{ints, clamps, by_lt_z, fold-int_min_bounds, fold-int_min_reached}
+use Rattle.std.proofs.lemmas.Int.{ints, to_z-of_z, clamps, by_lt_z, fold-int_min_bounds, fold-int_min_reached}
 use Rattle.solid_model.specs.declared.frame.View.{View}
 use Rattle.solid_model.specs.declared.frame.View.TheVariants.{Front, Top, Side}
 use Rattle.solid_model.specs.declared.segment.Segment.{Segment}
@@ -11,12 +11,18 @@ use Rattle.solid_model.specs.declared.segment.Style.{Style}
 use Rattle.solid_model.specs.declared.segment.Style.TheVariants.{Blank, Dashed, Solid}
 use Rattle.solid_model.specs.Drawings.{same_view, same_style, is_between, covers, is_covered, has_length, covering_lines, extreme, least_right, least_up, is_shown, sheet_style, drawing_of, IsEmptyView}
 use Rattle.solid_model.specs.Segments.{along_of, across_of, line_of, far_right, far_up, farther}
-use Rattle.solid_model.specs.Line.{Line, IsKept}
+use Rattle.solid_model.specs.Line.{Line, IsKept, IsNear}
 use Rattle.lemmas.specs.Lists.{Member, Each}
 use Rattle.solid_model.specs.Moved.{StandsFrom, BeginsAt, IsMovedToZero}
 use Rattle.lemmas.proofs.ListPlaces.{contains-member, all-each}
 use Rattle.lemmas.proofs.Lists.{each-at, member-map, member-from_map, member-filter, member-from_filter}
 use Rattle.solid_model.proofs.Moved.{moved_to_zero, moved_stands}
+
+-- ---- in code
+
+-- a near number is the same in code
+pub near_in_code : (k : ℤ) → IsNear k → to_z w64 (of_z w64 k) ≡ k
+near_in_code k near = to_z-of_z w64 k (omega (arith, ints))
 
 -- ---- the least of a list
 

@@ -19,6 +19,12 @@ use Rattle.solid_model.specs.Edges.{second_axis, third_axis, AreAcross, is_edge,
 use Rattle.solid_model.specs.Frames.{IsFrame, frame_of, along, across, point_on, cell_on, at_places}
 use Rattle.solid_model.specs.Segments.{segment_at, start_of, line_of}
 
+-- what holds of the three views holds of every view
+pub in_each_view : (P : View → Type 0) → P Front → P Top → P Side → (v : View) → P v
+in_each_view P front top side Front = front
+in_each_view P front top side Top = top
+in_each_view P front top side Side = side
+
 -- ---- the four cells round an edge
 
 -- to agree does not go by order

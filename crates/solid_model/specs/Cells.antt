@@ -11,7 +11,7 @@ coordinate X c = c.x
 coordinate Y c = c.y
 coordinate Z c = c.z
 
--- the cell at these coordinates
+-- the cell, or the point, at these coordinates
 abbrev pub cell_at : ℕ → ℕ → ℕ → Cell
 cell_at x y z = record { x = pos x; y = pos y; z = pos z }
 

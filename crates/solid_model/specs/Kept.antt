@@ -1,5 +1,5 @@
 -- What the stages from a grid to its blocks hand on to each other.
-use Rattle.std.specs.Prelude.{◌≡◌, suc, IsTrue, if◌then◌else◌, ℕ, length}
+use Rattle.std.specs.Prelude.{◌≡◌, suc, IsTrue, if◌then◌else◌, length}
 use Rattle.solid_model.specs.declared.cell.Axis.{Axis}
 use Rattle.solid_model.specs.Panels.{GridParts}
 use Rattle.solid_model.specs.Marks.{AxisMarks, marks_along, AreMarksOf}

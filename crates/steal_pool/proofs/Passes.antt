@@ -7,8 +7,10 @@ use Rattle.crossbeam_deque.specs.Tasks.{Pushes, Takes, Finds, FindsFew, Forks, M
 use Rattle.crossbeam_deque.proofs.Lists.{at_longer}
 use Rattle.steal_pool.specs.declared.rule.Account.{Account}
 use Rattle.steal_pool.specs.Seats.{Deque, OwnerState}
-use Rattle.steal_pool.specs.Accounts.{Piece, account, total, HoldsTheLast, Balanced, Held, WasFirst, IsSettled}
-use Rattle.steal_pool.proofs.Sums.{total-append, total_set, total_snoc, idle_set, idle_snoc, elem_le, alone}
+use Rattle.steal_pool.specs.Accounts.{Piece, account, HoldsTheLast, Balanced, Held, WasFirst, IsSettled}
+use Rattle.steal_pool.proofs.Sums.{total_set, idle_set, idle_snoc, elem_le, alone}
+use Rattle.lemmas.proofs.Lists.{total-append, total_push}
+use Rattle.lemmas.specs.Counts.{total}
 
 -- what the owner put stays, whichever pass changes and keeps what it put
 owner_stays : (views : List Account) (port : ℕ) (v w : Account) → get_elem? views port ≡ some v → w.put ≡ v.put → (owner : Account) → get_elem? views 0 ≡ some owner
@@ -93,12 +95,12 @@ forks port v two items views b at =
     let new : Account = account 1 [] [] in
     let vs = set views port w in
     record {
-      parts = let s = total_set (λ u. u.parts) views port v w at in let t = total_snoc (λ u. u.parts) vs new in let p = b.parts in omega arith;
+      parts = let s = total_set (λ u. u.parts) views port v w at in let t = total_push (λ u. u.parts) vs new in let p = b.parts in omega arith;
       sums = λ h.
           let s = total_set (λ u. total h u.put) views port v w at in
           let t = total_set (λ u. total h u.taken) views port v w at in
-          let q = total_snoc (λ u. total h u.put) vs new in
-          let r = total_snoc (λ u. total h u.taken) vs new in
+          let q = total_push (λ u. total h u.put) vs new in
+          let r = total_push (λ u. total h u.taken) vs new in
           let p = b.sums h in
           omega arith;
       idle = idle_snoc vs new (λ none. absurd (omega arith)) (idle_set views port w (λ none. absurd (omega arith)) b.idle);

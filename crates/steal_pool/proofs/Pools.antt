@@ -1,9 +1,10 @@
 -- The seats of a pool: one more, and one less.
 use Rattle.std.proofs.Common.{◌≡◌, ℕ, suc, ◌+◌, ◌-◌, ◌<◌, ◌≤◌, List, [], ◌∷◌, ◌++◌, length, length-append, map, sym, refl, ap, ◌∙◌, append_assoc, arith}
 use Rattle.lemmas.specs.Lists.{Each}
-use Rattle.steal_pool.specs.Accounts.{Piece, total}
+use Rattle.lemmas.proofs.Lists.{total-append, total_push}
+use Rattle.lemmas.specs.Counts.{total}
+use Rattle.steal_pool.specs.Accounts.{Piece}
 use Rattle.steal_pool.specs.Seats.{Deque, OwnerState, ThiefState, SeatState, new_thief, opened_thief, new_seat, seats_after, new_seats, as_opened, grown, absorbed_last, without_last, EndsAt, shrunk, AreMet, parted_seats, parted_owner, new_thieves, taken_by, put_by}
-use Rattle.steal_pool.proofs.Sums.{total-append, total_snoc}
 use Rattle.steal_pool.proofs.SeatLists.{head_or, tail_of, map-snoc, none_left, without_last-snoc, absorbed_last-snoc}
 
 -- a seat of one deque more
@@ -206,7 +207,7 @@ pub last_weights_out : (h : Piece → ℕ) (ss : List SeatState) (s : SeatState)
 last_weights_out h ss s more left begun put taken met drained e =
     let w = parted_weights h s.owner.deque s.owner ss s.thieves met in
     let p = parted-put_by (total h) ss s.thieves in
-    omega (arith, total_snoc (taken_by h) ss s, total_snoc (put_by h) ss s, total-append h left more)
+    omega (arith, total_push (taken_by h) ss s, total_push (put_by h) ss s, total-append h left more)
 
 pub added : (room n : ℕ) (deques : List Deque) (o : OwnerState) (d : Deque) (ss : List SeatState) (new : OwnerState) (thieves : List ThiefState)
     → ss ≡ new_seats room deques → (o.room ≡ room) × (o.parts ≡ 64) × (o.put ≡ []) × (o.taken ≡ []) → n ≡ length deques

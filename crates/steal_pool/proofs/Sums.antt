@@ -4,20 +4,14 @@ use mathlib.Core.Option.{some, some-ne-none, some-injective}
 use lib.ListN.{get_elem?}
 use Rattle.crossbeam_deque.proofs.Lists.{at_set, at_snoc}
 use Rattle.steal_pool.specs.declared.rule.Account.{Account}
-use Rattle.steal_pool.specs.Accounts.{total, IdleIsEmpty}
-
-pub total-append : {A : Type 0} (f : A → ℕ) (xs ys : List A) → total f (xs ++ ys) ≡ total f xs + total f ys
-total-append f [] ys = omega arith
-total-append f (x ∷ xs) ys = let e = total-append f xs ys in omega arith
+use Rattle.steal_pool.specs.Accounts.{IdleIsEmpty}
+use Rattle.lemmas.specs.Counts.{total}
 
 pub total_set : {A : Type 0} (f : A → ℕ) (views : List A) (port : ℕ) (v w : A) → get_elem? views port ≡ some v → total f (set views port w) + f v ≡ total f views + f w
 total_set f [] zero v w at = absurd (some-ne-none v (sym at))
 total_set f [] (suc p) v w at = absurd (some-ne-none v (sym at))
 total_set f (x ∷ xs) zero v w at = let e : f x ≡ f v = ap f (some-injective _ _ at) in omega arith
 total_set f (x ∷ xs) (suc p) v w at = let e = total_set f xs p v w at in omega arith
-
-pub total_snoc : {A : Type 0} (f : A → ℕ) (views : List A) (v : A) → total f (views ++ v ∷ []) ≡ total f views + f v
-total_snoc f views v = let e = total-append f views (v ∷ []) in omega arith
 
 pub elem_le : {A : Type 0} (f : A → ℕ) (views : List A) (port : ℕ) (v : A) → get_elem? views port ≡ some v → f v ≤ total f views
 elem_le f [] zero v at = absurd (some-ne-none v (sym at))

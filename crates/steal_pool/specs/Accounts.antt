@@ -1,25 +1,12 @@
 -- What the passes of one deque know together. A pass is a worker's right to put pieces into a deque or to take them out.
-use Rattle.std.specs.Prelude.{◌≡◌, ◌+◌, ℕ, Bool, true, false, ◌&&◌, List, [], ◌∷◌, ◌++◌, if◌then◌else◌}
+use Rattle.std.specs.Prelude.{◌≡◌, ◌+◌, ℕ, Bool, List, [], ◌++◌}
 use mathlib.Core.Option.{some}
 use lib.ListN.{get_elem?}
-use Rattle.lemmas.specs.Truth.{same_values}
 use Rattle.steal_pool.specs.declared.rule.Account.{Account}
+use Rattle.lemmas.specs.Counts.{total}
 
 abbrev pub Piece : Type 0
 Piece = List Bool
-
--- the numbers of the members, added up
-abbrev pub total : {A : Type 0} → (A → ℕ) → List A → ℕ
-total f [] = 0
-total f (x ∷ xs) = f x + total f xs
-
--- 1 at the piece, and 0 at each other one
-abbrev pub is_piece : Piece → Piece → ℕ
-is_piece p q = if same_values p q then 1 else 0
-
--- how often a piece stands in a list
-abbrev pub times : Piece → List Piece → ℕ
-times p pieces = total (is_piece p) pieces
 
 abbrev pub account : ℕ → List Piece → List Piece → Account
 account parts put taken = record { parts = parts; put = put; taken = taken }

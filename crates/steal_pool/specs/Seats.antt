@@ -2,7 +2,8 @@
 use Rattle.std.specs.Prelude.{◌≡◌, ◌+◌, ◌-◌, ℕ, List, [], ◌∷◌, ◌++◌, length, map}
 use Rattle.std.specs.declared.alloc.Global.{Global}
 use Rattle.steal_pool.specs.declared.rule.Account.{Account}
-use Rattle.steal_pool.specs.Accounts.{Piece, account, total, times}
+use Rattle.steal_pool.specs.Accounts.{Piece, account}
+use Rattle.lemmas.specs.Counts.{total, times_among}
 
 -- which deque it is
 abbrev pub Deque : Type 0
@@ -74,11 +75,11 @@ taken_by h s = total h s.owner.taken + total (λ t. total h t.taken) s.thieves
 
 -- how often a piece was put, over all seats
 abbrev pub times_put : Piece → List SeatState → ℕ
-times_put piece seats = total (λ s. times piece s.owner.put) seats
+times_put piece seats = total (λ s. times_among piece s.owner.put) seats
 
 -- how often it was taken or stolen, over all seats
 abbrev pub times_taken : Piece → List SeatState → ℕ
-times_taken piece seats = total (λ s. times piece s.owner.taken + total (λ t. times piece t.taken) s.thieves) seats
+times_taken piece seats = total (λ s. times_among piece s.owner.taken + total (λ t. times_among piece t.taken) s.thieves) seats
 
 -- seats that meet a newcomer
 

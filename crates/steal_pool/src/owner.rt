@@ -5,8 +5,9 @@
 
 ghost use Rattle.std.specs.Prelude.{◌≡◌, ◌<◌, ◌≤◌, ◌+◌, ◌-◌, ◌++◌, ◌∷◌, [], ℕ, length, vec_len, vec_capacity, IfOk, MatchOption, MatchResult};
 ghost use Rattle.crossbeam_deque.specs.Handles.{stealer_deque};
-ghost use Rattle.steal_pool.specs.Accounts.{Piece, Held, WasFirst, total};
+ghost use Rattle.steal_pool.specs.Accounts.{Piece, Held, WasFirst};
 ghost use Rattle.steal_pool.specs.Seats.{owner_account, opened_owner, new_thief, absorbed};
+ghost use Rattle.lemmas.specs.Counts.{total};
 
 use crate::rule::{Account, Balance, Counted, Puts, Shares, Takes, Whole};
 use crate::thief::ThiefSeat;

@@ -6,9 +6,10 @@
 
 ghost use Rattle.std.specs.Prelude.{◌≡◌, ◌<◌, ◌≤◌, ◌+◌, ◌++◌, List, ℕ, length, map, vec_len, vec_capacity, IfOk, OnOk, MatchResult};
 ghost use Rattle.crossbeam_deque.specs.Handles.{stealer_deque};
-ghost use Rattle.steal_pool.specs.Accounts.{Piece, total, times};
+ghost use Rattle.steal_pool.specs.Accounts.{Piece};
 ghost use Rattle.steal_pool.specs.Seats.{Deque, SeatState, new_seats, as_opened, AreMet, parted_seats, parted_owner, put_by, taken_by, times_put, times_taken};
 ghost use Rattle.steal_pool.specs.WorkerSeats.{state_of, seat_of};
+ghost use Rattle.lemmas.specs.Counts.{total, times_among};
 
 use crate::owner::OwnerSeat;
 use crate::rule::{Account, Balance};
@@ -123,7 +124,7 @@ impl Pool {
         requires { map seat_of seats.items ≡ self }
         ensures { MatchResult result
             (λ remains. (piece : Piece) → times_put piece (map state_of seats.items)
-            ≡ times_taken piece (map state_of seats.items) + times piece remains.left.items)
+            ≡ times_taken piece (map state_of seats.items) + times_among piece remains.left.items)
             (λ back. (back.0 ≡ self) × (back.1 ≡ seats)) }
     {
         let Some(count) = put_count(seats.as_slice()) else {

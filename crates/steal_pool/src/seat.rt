@@ -2,7 +2,7 @@
 
 ghost use Rattle.std.specs.Prelude.{◌≡◌, ◌<◌, ◌-◌, length, map, IfOk, IfSome, OnOk};
 ghost use Rattle.lemmas.specs.Lists.{Each};
-ghost use Rattle.steal_pool.specs.Accounts.{total};
+ghost use Rattle.lemmas.specs.Counts.{total};
 ghost use Rattle.steal_pool.specs.Seats.{grown, new_thief, absorbed_last, shrunk, EndsAt, AreMet, parted_seats, parted_owner, new_thieves};
 ghost use Rattle.steal_pool.specs.WorkerSeats.{state_of};
 

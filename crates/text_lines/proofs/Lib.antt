@@ -1,3 +1,4 @@
 pub mod NumberWords
 pub mod Cuts
 pub mod FirstLines
+pub mod Spaces

@@ -1,11 +1,12 @@
 -- What is filled of one span more.
 use Rattle.std.proofs.Common.{◌≡◌, ◌&&◌, ◌||◌, ℕ, ◌+◌, None, take, get_or, ap, sym, ◌∙◌}
 use Rattle.std.proofs.lemmas.List.{take_more}
+use Rattle.std.proofs.Math.Bool.{or-false}
 use Rattle.lemmas.specs.Bits.{is_set}
 use Rattle.solid_model.specs.Choices.{is_chosen}
 use Rattle.cell_rows.specs.declared.span.Span.{Span}
 use Rattle.cell_rows.specs.Spans.{is_filled}
-use Rattle.cell_rows.proofs.FilledSpans.{filled-last, or_false}
+use Rattle.cell_rows.proofs.FilledSpans.{filled-last}
 use Rattle.lemmas.proofs.WordBits.{set_either}
 use Rattle.cell_rows.proofs.block_rows.filled_row.Goals as goal
 use Rattle.cell_rows.proofs.block_rows.filled_row.Goals.{then-fills, else-fills}
@@ -16,7 +17,7 @@ loop-span-preserved c k =
     || (is_chosen c.args.choice.now span.block && is_set span.cells k))) [
       | then-fills w ↦ ap (λ r. is_set r k) w.row-is ∙ set_either c.loop-span.row span.cells k
           ∙ ap (λ b. is_set c.loop-span.row k || (b && is_set span.cells k)) (sym (sym c.fills.ensures ∙ w.if-fills.true))
-      | else-fills w ↦ ap (λ r. is_set r k) w.row-is ∙ sym (or_false (is_set c.loop-span.row k))
+      | else-fills w ↦ ap (λ r. is_set r k) w.row-is ∙ sym (or-false (is_set c.loop-span.row k))
           ∙ ap (λ b. is_set c.loop-span.row k || (b && is_set span.cells k)) (sym (sym c.fills.ensures ∙ w.if-fills.false))
     ])
   where

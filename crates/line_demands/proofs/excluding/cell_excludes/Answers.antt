@@ -1,5 +1,5 @@
 -- The cell is one of the block, and undecided.
-use Rattle.std.proofs.Common.{◌≡◌, Some, sym, ap, ◌∙◌}
+use Rattle.std.proofs.Common.{Some, sym, ap, ◌∙◌}
 use Rattle.line_demands.proofs.ExcludedCells.{cell_told}
 use Rattle.line_demands.proofs.excluding.cell_excludes.Goals as goal
 

@@ -1,9 +1,8 @@
 -- Cell after cell is asked.
-use Rattle.std.proofs.Common.{◌≡◌, ◌<◌, ◌+◌, false, ℕ, refl, ap, ap₂, subst, ◌∙◌, arith, inl, inr}
+use Rattle.std.proofs.Common.{◌≡◌, ◌<◌, refl, ap, ap₂, subst, ◌∙◌, arith, inl, inr}
 use Rattle.std.proofs.lemmas.Bool.{cases_lt, false≢true, both_ways}
 use Rattle.line_demands.specs.Excluding.{ExcludesAt}
 use Rattle.solid_model.specs.declared.frame.Frame.{Frame}
-use Rattle.solid_model.specs.Frames.{frame_of}
 use Rattle.solid_model.specs.GridBox.{grid_sizes}
 use Rattle.solid_model.specs.Rooms.{Sizes}
 use Rattle.line_demands.proofs.excluding.column_excludes.Goals as goal

@@ -1,5 +1,5 @@
 -- One of the two columns excludes the value.
-use Rattle.std.proofs.Common.{◌≡◌, ◌↔◌, IsTrue, sym, subst}
+use Rattle.std.proofs.Common.{◌↔◌, IsTrue, sym, subst}
 use Rattle.line_demands.specs.Seen.{IsSeen}
 use Rattle.line_demands.proofs.ExcludedCells.{first_told, second_told}
 use Rattle.solid_model.specs.Blocks.{ProblemParts}

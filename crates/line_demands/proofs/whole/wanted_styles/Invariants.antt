@@ -1,5 +1,5 @@
 -- The bytes so far.
-use Rattle.std.proofs.Common.{◌≡◌, get_or}
+use Rattle.std.proofs.Common.{◌≡◌}
 use Rattle.column_lanes.specs.Styles.{style_byte}
 use Rattle.line_demands.specs.WholeChoices.{line_at}
 use Rattle.lemmas.proofs.Pushed.{HoldsSoFar}

@@ -1,14 +1,14 @@
 use Rattle.std.proofs.Common.{◌≡◌, ◌≤◌, ◌+◌, ◌++◌, ◌∷◌, [], ℕ, List, map, drop, length, length-append, ap, sym, ◌∙◌, subst, arith}
 use Rattle.std.proofs.lemmas.List.{length-map, take_at}
-use Rattle.steal_pool.specs.Accounts.{total}
 use Rattle.steal_pool.specs.Seats.{Deque, SeatState, new_seats, as_opened, AreMet, parted_seats, parted_owner, taken_by, put_by}
 use Rattle.steal_pool.specs.declared.seat.WorkerSeat.{WorkerSeat}
 use Rattle.steal_pool.specs.WorkerSeats.{state_of}
-use Rattle.steal_pool.proofs.Sums.{total_snoc}
 use Rattle.steal_pool.proofs.Passes.{ones}
 use Rattle.steal_pool.proofs.SeatLists.{map-snoc}
 use Rattle.steal_pool.proofs.Pools.{IsLast, last_seat, last_met, last_parted, last_weights_out, parted-put_by}
 use Rattle.steal_pool.proofs.pool.take_all.Goals as goal
+use Rattle.lemmas.proofs.Lists.{total_push}
+use Rattle.lemmas.specs.Counts.{total}
 
 popped : (old new : List WorkerSeat) (last : WorkerSeat) → old ≡ new ++ last ∷ [] → map state_of old ≡ map state_of new ++ state_of last ∷ []
 popped old new last e = ap (map state_of) e ∙ map-snoc state_of new last
@@ -34,7 +34,7 @@ take_last-requires-clause-parts c =
 pub take_last-requires-clause-room : goal.take_last-requires-clause-room
 take_last-requires-clause-room c =
     let sum = ap (total (λ (s : SeatState). length s.owner.put)) (popped c.loop-last.seats.items c.pop.new.self.items c.in-Some.last c.in-Some.ensures.items) in
-    omega (arith, sum, total_snoc (λ (s : SeatState). length s.owner.put) (map state_of c.pop.new.self.items) (state_of c.in-Some.last), c.loop-last.invariant.room)
+    omega (arith, sum, total_push (λ (s : SeatState). length s.owner.put) (map state_of c.pop.new.self.items) (state_of c.in-Some.last), c.loop-last.invariant.room)
 
 pub loop-last-preserved : goal.loop-last-preserved
 loop-last-preserved c =
@@ -58,7 +58,7 @@ loop-last-preserved c =
             now,
             was,
             items,
-            total_snoc (λ (s : SeatState). length s.owner.put) before (state_of last),
+            total_push (λ (s : SeatState). length s.owner.put) before (state_of last),
             length-append c.loop-last.left.items left.0,
             left.2 (λ _. 1),
             ones last.owner.put,

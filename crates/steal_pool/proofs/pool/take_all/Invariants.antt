@@ -1,8 +1,9 @@
 use Rattle.std.proofs.Common.{◌≡◌, ◌≤◌, ◌+◌, ℕ, List, map, length, vec_len, vec_capacity}
-use Rattle.steal_pool.specs.Accounts.{Piece, total}
+use Rattle.steal_pool.specs.Accounts.{Piece}
 use Rattle.steal_pool.specs.Seats.{Deque, SeatState, new_seats, as_opened, taken_by, put_by}
 use Rattle.steal_pool.specs.WorkerSeats.{state_of}
 use Rattle.steal_pool.proofs.pool.take_all.Given as goal
+use Rattle.lemmas.specs.Counts.{total}
 
 abbrev pub invariant-loop-last : goal.invariant-loop-last
 invariant-loop-last l = record {

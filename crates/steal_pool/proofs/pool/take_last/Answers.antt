@@ -1,10 +1,10 @@
 use Rattle.std.proofs.Common.{◌+◌, map, length, ap, sym, ◌∙◌, arith}
 use Rattle.std.proofs.lemmas.List.{length-map}
-use Rattle.steal_pool.specs.Accounts.{total}
 use Rattle.steal_pool.specs.Seats.{OwnerState}
 use Rattle.steal_pool.specs.WorkerSeats.{state_of}
 use Rattle.steal_pool.proofs.Pools.{parted_owner-put, parted_owner-parts}
 use Rattle.steal_pool.proofs.pool.take_last.Goals as goal
+use Rattle.lemmas.specs.Counts.{total}
 
 pub drain-requires-clause-whole : goal.drain-requires-clause-whole
 drain-requires-clause-whole c =

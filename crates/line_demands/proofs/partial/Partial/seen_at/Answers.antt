@@ -2,7 +2,6 @@
 use Rattle.std.proofs.Common.{◌≡◌, List, IsTrue, subst, sym, ap, ◌∙◌}
 use Rattle.solid_model.specs.Decisions.{PartialParts, decided_by}
 use Rattle.solid_model.specs.Demands.{has_line}
-use Rattle.solid_model.specs.Panels.{GridParts}
 use Rattle.solid_model.specs.declared.line_id.LineId.{LineId}
 use Rattle.line_demands.specs.declared.known.KnownColumn.{KnownColumn}
 use Rattle.line_demands.specs.declared.seen.SeenLine.{SeenLine}

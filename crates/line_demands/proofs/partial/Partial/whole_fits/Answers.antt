@@ -1,5 +1,5 @@
 -- Where no line is broken all are met, and the solid matches. The room for the lines' columns stays as large.
-use Rattle.std.proofs.Common.{◌≡◌, ◌++◌, List, is_some, length, take, drop, sym, refl, ap, subst, ◌∙◌}
+use Rattle.std.proofs.Common.{◌≡◌, ◌++◌, is_some, length, take, drop, sym, refl, ap, subst, ◌∙◌}
 use Rattle.std.proofs.lemmas.Bool.{false≢true}
 use Rattle.std.proofs.lemmas.List.{take_at}
 use Rattle.solid_model.specs.Decisions.{decided_by, AreOnAll, PartialParts}

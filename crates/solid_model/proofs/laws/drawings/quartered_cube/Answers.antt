@@ -1,13 +1,6 @@
 use Rattle.std.proofs.Common.{refl}
-use Rattle.solid_model.specs.declared.frame.View.{View}
-use Rattle.solid_model.specs.declared.frame.View.TheVariants.{Front, Top, Side}
+use Rattle.solid_model.proofs.Views.{in_each_view}
 use Rattle.solid_model.proofs.laws.drawings.quartered_cube.Goals as goal
-
--- what holds of the three views holds of every view
-in_each_view : (P : View → Type 0) → P Front → P Top → P Side → (v : View) → P v
-in_each_view P front top side Front = front
-in_each_view P front top side Top = top
-in_each_view P front top side Side = side
 
 pub returns-clause-level : goal.returns-clause-level
 returns-clause-level c =
