@@ -7,9 +7,9 @@ use Rattle.solid_model.specs.Rounds.{Spot, Heading, East, North, West, South, le
 use Rattle.lemmas.proofs.Chains.{reaches-then_step, reaches-step, reaches-onward, reaches-map}
 use Rattle.face_laws.proofs.CornersOnGrid.{straight_between_columns, straight_between_rows, no_turn}
 use Rattle.face_laws.proofs.GridLines.{LiesBetween, on_line, before_line, one_between, some_between}
-use Rattle.lemmas.proofs.Integers.{natural}
+use Rattle.lemmas.proofs.Integers.{natural, down_and_up}
 use Rattle.face_laws.proofs.JoinedSides.{joined-back}
-use Rattle.face_laws.proofs.Turns.{same_spot, step_back, step_forth, down_and_up, left_at_end}
+use Rattle.face_laws.proofs.Turns.{same_spot, step_back, step_forth, left_at_end}
 
 module _ (squares : Spot → Bool) where
   -- squares in a row are joined,

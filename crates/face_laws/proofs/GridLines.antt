@@ -2,8 +2,7 @@
 use Rattle.std.proofs.Common.{◌≡◌, ℕ, zero, suc, ℤ, pos, ◌+ℤ◌, ◌-ℤ◌, ◌≤ℤ◌, ◌<ℤ◌, sym, ap, subst, arith}
 use Rattle.std.proofs.lemmas.Int.{ints, by_lt_z}
 use Rattle.face_laws.specs.GridRounds.{Rises}
-use Rattle.lemmas.proofs.Integers.{natural}
-use Rattle.face_laws.proofs.Turns.{down_and_up}
+use Rattle.lemmas.proofs.Integers.{natural, down_and_up}
 
 -- how far a greater integer lies beyond
 pub beyond : (x y : ℤ) → x <ℤ y → (d : ℕ) × (y ≡ x +ℤ pos (suc d))

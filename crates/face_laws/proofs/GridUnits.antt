@@ -5,7 +5,8 @@ use Rattle.face_laws.specs.GridRounds.{Rises, grid_point, AreSquaresOf, back_of,
 use Rattle.solid_model.specs.Rounds.{Spot, Heading, East, North, West, South, same_heading, spot_after, Side, end_of, is_border, heading_after, following, turns}
 use Rattle.face_laws.proofs.CornersOnGrid.{straight_between_columns, straight_between_rows, no_turn}
 use Rattle.face_laws.proofs.GridLines.{beyond, LiesBetween, on_line, before_line, one_between, one_line}
-use Rattle.face_laws.proofs.Turns.{same_spot, same_side, step_back, down_and_up, round, arrives, leaves, onward, border_at_end}
+use Rattle.face_laws.proofs.Turns.{same_spot, same_side, step_back, round, arrives, leaves, onward, border_at_end}
+use Rattle.lemmas.proofs.Integers.{down_and_up}
 
 -- so many units farther
 abbrev pub walked : Heading → ℕ → Spot → Spot

@@ -9,14 +9,14 @@ use Rattle.solid_model.specs.Orders.{ComesBefore}
 use Rattle.solid_model.specs.Rounds.{Spot, South, West, spot_after, Side, end_of, left_square, right_square, is_border, following, sides_from, IsRound, corners, round_corners, AreNeighbours, AreJoined}
 use Rattle.solid_model.proofs.CellOrder.{before_onward, one_or_before}
 use Rattle.lemmas.proofs.Chains.{reaches-itself, reaches-onward, reaches-step_then}
-use Rattle.lemmas.proofs.Integers.{natural}
+use Rattle.lemmas.proofs.Integers.{natural, up_and_down}
 use Rattle.face_laws.proofs.JoinedSides.{joined-back, round-joined}
 use Rattle.face_laws.proofs.LeastSides.{GoesDown, KeepsOrder, comes_down, one_down, corners_from}
 use Rattle.lemmas.proofs.Lists.{least_member}
 use Rattle.face_laws.proofs.ListedLoops.{GoesAlong}
 use Rattle.face_laws.proofs.RoundStarts.{begins_least_side, one_length}
 use Rattle.face_laws.proofs.SomeLoop.{side_of, some_round}
-use Rattle.face_laws.proofs.Turns.{same_spot, up_and_down}
+use Rattle.face_laws.proofs.Turns.{same_spot}
 
 -- what starts before a loop starts before whatever that starts before
 pub starts_onward : (l m n : List Cell) → StartsBefore l m → StartsBefore m n → StartsBefore l n

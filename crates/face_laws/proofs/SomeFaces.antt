@@ -8,6 +8,7 @@ use Rattle.solid_model.specs.declared.face.Out.TheVariants.{MinusX, PlusX, Minus
 use Rattle.solid_model.specs.Cells.{coordinate, is_full}
 use Rattle.solid_model.specs.Faces.{outward, place, inner_cell, is_boundary, IsLoopOf, StartsBefore, AreLoopsOf, FaceParts, IsFaceAt, out_number, first_loop, FaceBefore, AreFacesOf}
 use Rattle.lemmas.specs.Lists.{Member}
+use Rattle.lemmas.proofs.Integers.{down_and_up}
 use Rattle.solid_model.specs.Rounds.{Spot, Side, left_square, is_border, AreJoined}
 use Rattle.face_laws.proofs.BoundarySquares.{spot_of, inner_full, boundary_finite}
 use Rattle.solid_model.proofs.CellOrder.{one_or_less}
@@ -21,7 +22,6 @@ use Rattle.face_laws.proofs.ListedLoops.{GoesAlong, listed_complete}
 use Rattle.face_laws.proofs.LoopsInOrder.{starts_onward, loops_in_order, side_loop, first_is_loop}
 use Rattle.face_laws.proofs.SomeList.{IsListFrom, some_list}
 use Rattle.face_laws.proofs.SomeLoop.{all_sides, border_member}
-use Rattle.face_laws.proofs.Turns.{down_and_up}
 
 -- ---- the order of faces
 

@@ -11,8 +11,9 @@ use Rattle.lemmas.proofs.Lists.{each-from}
 use Rattle.face_laws.proofs.RoundStarts.{further-following, least_side}
 use Rattle.face_laws.proofs.SameSides.{is_same_side, Decides-same_side}
 use Rattle.face_laws.proofs.SidesInOrder.{earlier-member, member-earlier, member-border, round-further, round-comes}
-use Rattle.face_laws.proofs.Turns.{same_spot, same_side, down_and_up, following_border, following_one}
+use Rattle.face_laws.proofs.Turns.{same_spot, same_side, following_border, following_one}
 use Rattle.lemmas.proofs.WithoutRepeats.{no_longer}
+use Rattle.lemmas.proofs.Integers.{down_and_up}
 
 -- ---- the sides of some squares
 

@@ -1,9 +1,9 @@
 -- Round a point: how sides that come to it are followed by sides that leave it.
-use Rattle.std.proofs.Common.{◌≡◌, Bool, true, false, not, ◌&&◌, if◌then◌else◌, ℤ, pos, ◌+ℤ◌, ◌-ℤ◌, IsTrue, refl, sym, ◌∙◌, ap, ap₂, subst, arith}
+use Rattle.std.proofs.Common.{◌≡◌, Bool, true, false, not, ◌&&◌, if◌then◌else◌, IsTrue, refl, sym, ◌∙◌, ap, ap₂, subst}
 use Rattle.std.proofs.lemmas.Bool.{false≢true}
-use Rattle.std.proofs.lemmas.Int.{ints}
 use Rattle.face_laws.specs.GridRounds.{back_of}
 use Rattle.solid_model.specs.Rounds.{Spot, Heading, East, North, West, South, left_of, right_of, spot_after, square_at, Side, end_of, is_border, following}
+use Rattle.lemmas.proofs.Integers.{up_and_down, down_and_up}
 
 -- ---- spots and headings
 
@@ -21,12 +21,6 @@ left_of_left East = refl
 left_of_left North = refl
 left_of_left West = refl
 left_of_left South = refl
-
-pub up_and_down : (z : ℤ) → (z +ℤ pos 1) -ℤ pos 1 ≡ z
-up_and_down z = omega (arith, ints)
-
-pub down_and_up : (z : ℤ) → (z -ℤ pos 1) +ℤ pos 1 ≡ z
-down_and_up z = omega (arith, ints)
 
 -- a step back undoes a step
 pub step_back : (h : Heading) (p : Spot) → spot_after (back_of h) (spot_after h p) ≡ p

@@ -13,6 +13,7 @@ use Rattle.lemmas.proofs.Chains.{reaches-itself, reaches-onward, reaches-step}
 use Rattle.face_laws.proofs.FacePlaces.{place_keeps}
 use Rattle.face_laws.proofs.JoinedSides.{joined-back, round-joined}
 use Rattle.lemmas.proofs.Lists.{each-at, each-from, each-map, member-map, member-filter, ascends-map, ascends-filter}
+use Rattle.lemmas.proofs.Integers.{up_and_down}
 use Rattle.face_laws.proofs.SomeLoop.{side_of, some_round}
 use Rattle.face_laws.proofs.Turns.{same_spot}
 use Rattle.faces.specs.Groups.{with_key, IsGroup, heads_before, AreGroups}
@@ -20,9 +21,6 @@ use Rattle.faces.specs.PlaneFaces.{is_up_first, loop_in_space, face_of, AreFaces
 use Rattle.faces.specs.PlaneLoops.{PlaneLoop, IsLoopRound, first_corner_before, ArePlaneLoops}
 use Rattle.faces.proofs.Grouping.{with_key-member}
 use Rattle.faces.proofs.PlaneOrder.{same_int, starts_in_space, begins_least, begins_first}
-
-up_and_down : (z : ℤ) → (z +ℤ pos 1) -ℤ pos 1 ≡ z
-up_and_down z = omega (arith, ints)
 
 -- a square that is there, on whose left none is
 pub record IsLeftmost (squares : Spot → Bool) (q r : Spot) : Type 0 where

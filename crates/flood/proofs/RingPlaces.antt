@@ -11,6 +11,7 @@ use Rattle.solid_model.proofs.BoxCells.{below-bounds, bounds-below, within-below
 use Rattle.solid_model.proofs.BoxPlaces.{cell_there, cell_of_place, cell_of_place-within, cell_of_place-there, cell_of_place-own, before_earlier, earlier_before}
 use Rattle.solid_model.proofs.CellOrder.{LiesBefore, before-lies, lies-before}
 use Rattle.flood.specs.Ring.{ringed, IsRingedNumber, IsRinged, ring_count, inner, outer, ring_place, ring_cell, ring_stride}
+use Rattle.lemmas.proofs.Integers.{up_and_down, down_and_up}
 
 -- ---- cells of the box and of its ring
 
@@ -45,13 +46,6 @@ inner-ringed sizes c within = at
     at Y = to_ring (sizes Y) c.y (within-below (ringed sizes) c within Y)
     at Z = to_ring (sizes Z) c.z (within-below (ringed sizes) c within Z)
 
--- one more, and one fewer
-down_again : (z : ℤ) → (z +ℤ pos 1) -ℤ pos 1 ≡ z
-down_again z = omega (arith, ints)
-
-up_again : (z : ℤ) → (z -ℤ pos 1) +ℤ pos 1 ≡ z
-up_again z = omega (arith, ints)
-
 -- cells come in one order by either number
 outer-before : (n m : Cell) → ComesBefore n m ↔ ComesBefore (outer n) (outer m)
 outer-before n m =
@@ -73,7 +67,7 @@ ring_place-below sizes n ring = cell_there (ringed sizes) (outer n) (outer-withi
 pub ring_cell-ring_place : (sizes : Sizes) (n : Cell) → IsRinged sizes n → ring_cell sizes (ring_place sizes n) ≡ n
 ring_cell-ring_place sizes n ring =
     ap inner (cell_of_place-own (ringed sizes) (outer n) (outer-within sizes n ring))
-    ∙ (λ t. record { x = down_again n.x t; y = down_again n.y t; z = down_again n.z t })
+    ∙ (λ t. record { x = up_and_down n.x t; y = up_and_down n.y t; z = up_and_down n.z t })
 
 -- a node stands for a cell of the box or of its ring
 pub ring_cell-ringed : (sizes : Sizes) (p : ℕ) → p < ring_count sizes → IsRinged sizes (ring_cell sizes p)
@@ -83,7 +77,7 @@ ring_cell-ringed sizes p below = inner-ringed sizes (cell_of_place (ringed sizes
 pub ring_place-ring_cell : (sizes : Sizes) (p : ℕ) → ring_place sizes (ring_cell sizes p) ≡ p
 ring_place-ring_cell sizes p =
     let c = cell_of_place (ringed sizes) p in
-    (λ t. box_place (ringed sizes) (record { x = up_again c.x t; y = up_again c.y t; z = up_again c.z t })) ∙ cell_of_place-there (ringed sizes) p
+    (λ t. box_place (ringed sizes) (record { x = down_and_up c.x t; y = down_and_up c.y t; z = down_and_up c.z t })) ∙ cell_of_place-there (ringed sizes) p
 
 -- ---- the order of nodes
 
@@ -130,6 +124,6 @@ pub ring_place-before : (sizes : Sizes) (a : Axis) (n : Cell) → IsRinged sizes
 ring_place-before sizes a n ring = ap (ring_place sizes) (sym (after_before a)) ∙ ring_place-after sizes a (cell_before a n) ring
   where
     after_before : (b : Axis) → cell_after b (cell_before b n) ≡ n
-    after_before X = λ t. placed X (up_again n.x t) n
-    after_before Y = λ t. placed Y (up_again n.y t) n
-    after_before Z = λ t. placed Z (up_again n.z t) n
+    after_before X = λ t. placed X (down_and_up n.x t) n
+    after_before Y = λ t. placed Y (down_and_up n.y t) n
+    after_before Z = λ t. placed Z (down_and_up n.z t) n

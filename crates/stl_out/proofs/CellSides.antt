@@ -1,7 +1,6 @@
 -- The rectangles on the six sides of grid cells: each has a cell inwards and one outwards, and is one with that on the other
 -- side of the same face, seen from there.
 use Rattle.std.proofs.Common.{◌≡◌, inl, inr, ◌<◌, List, [], ◌∷◌, ℤ, pos, ◌+ℤ◌, if◌then◌else◌, refl, ap}
-use Rattle.face_laws.proofs.Turns.{up_and_down, down_and_up}
 use Rattle.solid_model.specs.declared.cell.Cell.{Cell}
 use Rattle.solid_model.specs.declared.face.Out.{Out}
 use Rattle.solid_model.specs.declared.face.Out.TheVariants.{MinusX, PlusX, MinusY, PlusY, MinusZ, PlusZ}
@@ -10,6 +9,7 @@ use Rattle.solid_model.specs.Faces.{outward, right_axis, up_axis, inner_cell, ou
 use Rattle.lemmas.specs.Lists.{Member, Ascends}
 use Rattle.lemmas.proofs.Lists.{ascends-from_map}
 use Rattle.lemmas.proofs.Ranges.{ascends-range}
+use Rattle.lemmas.proofs.Integers.{up_and_down, down_and_up}
 use Rattle.stl_out.specs.declared.rectangle.Rectangle.{Rectangle}
 use Rattle.stl_out.specs.Rectangles.{square_of}
 
