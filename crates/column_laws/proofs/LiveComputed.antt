@@ -1,6 +1,7 @@
 -- Whether a prefix is live is computed: one forcing chain that can't be longer tells it.
 use Rattle.std.proofs.Common.{◌≡◌, ◌↔◌, Bool, not, nat_le, ℕ, zero, suc, ◌+◌, ◌<◌, ◌≤◌, List, [], ◌∷◌, length, Option, Some, None, IsTrue, if◌then◌else◌, inl, inr, refl, ap, ap₂, sym, subst, ◌∙◌, arith}
 use Rattle.std.proofs.lemmas.Bool.{eq-eqb, ne_eqb, cases_lt, and_parts, and_from, le-leb, leb-true}
+use Rattle.column_laws.specs.Undecided.{one_if_none, undecided}
 use Rattle.column_laws.proofs.AllLines.{lines_are_there, lines_are_listed}
 use Rattle.column_laws.proofs.ForcedDecisions.{listed_excluded, excluded_listed}
 use Rattle.column_laws.proofs.MetLines.{met_computed}
@@ -14,15 +15,6 @@ use Rattle.solid_model.proofs.Lives.{chain_lives}
 use Rattle.lemmas.proofs.Tests.{passes_all, all_passing}
 
 -- ---- undecided blocks
-
-abbrev one_if_none : Option Bool → ℕ
-one_if_none None = 1
-one_if_none (Some v) = 0
-
--- how many of the first blocks are undecided
-abbrev undecided : (ℕ → Option Bool) → ℕ → ℕ
-undecided known zero = 0
-undecided known (suc n) = one_if_none (known n) + undecided known n
 
 at_most : (known : ℕ → Option Bool) (n : ℕ) → undecided known n ≤ n
 at_most known zero = omega arith

@@ -10,13 +10,23 @@ use Rattle.lemmas.proofs.Lists.{member-append, member-append_left, member-append
 use Rattle.solid_model.specs.Demands.{AllMet}
 use Rattle.solid_model.specs.Forcing.{IsLess}
 use Rattle.solid_model.proofs.Lives.{met_less, with_less, known_new, less_with, not_excluded}
-use Rattle.completeness_logs.specs.Logs.{line_placed, KnownBlocks, with_block, LogTree, IsTreeUnder, listed_choices, known_full, choice_known, ShowsSolid}
+use Rattle.completeness_logs.specs.declared.entry.LogEntry.{LogEntry}
+use Rattle.completeness_logs.specs.declared.entry.LogEntry.TheVariants.{Fail, Whole, Force, Split}
+use Rattle.completeness_logs.specs.Logs.{line_placed, KnownBlocks, with_block, LogTree, IsTreeUnder, listed_choices, listed_at, listed_by, known_full, choice_known, ShowsSolid}
 use Rattle.completeness_logs.specs.Logs.LogTree.{fails, whole, forces, splits}
 
 -- two lists without repeats, no member of the one being one of the other
 apart : {A : Type 0} (xs ys : List A) → Ascends ◌≢◌ xs → Ascends ◌≢◌ ys → ((x : A) → Member xs x → Member ys x → ⊥) → Ascends ◌≢◌ (xs ++ ys)
 apart xs ys once once_too none = ascends-append ◌≢◌ xs ys once once_too
     (each-from (λ x. Each (λ y. x ≢ y) ys) xs (λ x m. each-from (λ y. x ≢ y) ys (λ y k e. none x m (subst (λ z. Member ys z) (sym e) k))))
+
+-- ---- what an entry lists
+
+pub listed_count : (p : ProblemParts) (known : KnownBlocks) (e : LogEntry) → length (listed_at p known e) ≡ listed_by e
+listed_count p known (Fail l) = refl
+listed_count p known Whole = refl
+listed_count p known (Force block full l) = refl
+listed_count p known (Split block) = refl
 
 -- ---- the choice that decisions make
 

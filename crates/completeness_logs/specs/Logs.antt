@@ -113,6 +113,13 @@ listed_at p known Whole = choice_known p known ∷ []
 listed_at p known (Force block full place) = []
 listed_at p known (Split block) = []
 
+-- how many solids an entry lists
+abbrev pub listed_by : LogEntry → ℕ
+listed_by (Fail place) = 0
+listed_by Whole = 1
+listed_by (Force block full place) = 0
+listed_by (Split block) = 0
+
 -- these entries are those of a tree under each of the states, and all they claim is so
 abbrev pub AreTreesUnder : ProblemParts → List KnownBlocks → List LogEntry → Type 0
 AreTreesUnder p [] [] = Unit {0}

@@ -1,11 +1,12 @@
 -- A step that only adds to what is published keeps the rule.
-use Rattle.std.proofs.Common.{◌≡◌, ◌≢◌, ◌≤◌, ◌+◌, ℕ, [], ◌++◌, Option, Some, None, refl, sym, ◌∙◌, ap, subst, ⊎_elim, append-nil, append_assoc, arith}
+use Rattle.std.proofs.Common.{◌≡◌, ◌≢◌, ◌≤◌, ◌+◌, ℕ, [], Option, Some, None, refl, sym, ◌∙◌, subst, ⊎_elim, append-nil, arith}
 use mathlib.Core.Option.{some}
 use lib.ListN.{get_elem?}
 use Rattle.crossbeam_utils.specs.Register.{Admits, TurnsAt, Turns}
 use Rattle.atomic_table.proofs.Lists.{at_set, at_snoc}
 use Rattle.solution_book.specs.Editions.{EditionParts, ReaderParts, knows_nothing, Begins, Looked}
 use Rattle.solution_book.specs.Rule.{Keeps, Sees}
+use Rattle.solution_book.proofs.Pages.{starts_on}
 
 -- an edition goes on from itself
 pub begins_itself : (e : EditionParts) → Begins e (Some e)
@@ -15,7 +16,7 @@ begins_itself e = (refl, ([], sym (append-nil e.solids)))
 pub begins_on : (later e : EditionParts) (known : Option EditionParts) → Begins later (Some e) → Begins e known → Begins later known
 begins_on later e None h k = tt
 begins_on later e (Some v) (same, (more, longer)) (same', (rest, starts)) =
-    (same ∙ same', (rest ++ more, longer ∙ ap (λ l. l ++ more) starts ∙ append_assoc v.solids rest more))
+    (same ∙ same', starts_on later.solids e.solids v.solids (more, longer) (rest, starts))
 
 -- a step from one edition to one that goes on from it
 pub grows : (seat : ℕ) (v : ReaderParts) (e later : EditionParts) → Begins later (Some e) → TurnsAt Keeps seat v e later Sees

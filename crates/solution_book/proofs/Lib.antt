@@ -1,3 +1,3 @@
+pub mod Pages
 mod Known
 mod Parts
-mod Pages

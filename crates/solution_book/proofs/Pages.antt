@@ -13,6 +13,10 @@ short_at_the_end from most list page is =
     ap length is.part ∙ length-take most (drop from list) ∙ ap (λ n. min most n) (length-drop from list) in
     ((λ lt. (omega (arith, long, lt), omega (arith, long, lt))), (λ h. omega (arith, long, h.0, h.1)))
 
+-- a list that begins with one that begins with a third begins with that
+pub starts_on : (xs ys zs : List (List Bool)) → StartsWith xs ys → StartsWith ys zs → StartsWith xs zs
+starts_on xs ys zs (more, e) (rest, f) = (rest ++ more, e ∙ ap (λ l. l ++ more) f ∙ append_assoc zs rest more)
+
 -- what is left of a list that goes on begins with what was left
 drop_starts : (n : ℕ) (xs ys : List (List Bool)) → StartsWith (drop n (xs ++ ys)) (drop n xs)
 drop_starts zero xs ys = (ys, refl)
