@@ -1,47 +1,20 @@
 -- Lines are read as they are spelled.
-use Rattle.std.proofs.Common.{◌≡◌, ◌==◌, Bool, true, false, ℕ, zero, suc, ◌<◌, nat_lt, nat_le, List, [], ◌∷◌, ◌++◌, length, get_or, Option, Some, None, option_map, if◌then◌else◌, refl, ap, ap₂, sym, subst, ◌∙◌, codes, arith}
+use Rattle.std.proofs.Common.{◌≡◌, Bool, true, false, ℕ, ◌<◌, nat_lt, nat_le, List, [], ◌∷◌, ◌++◌, Option, Some, None, option_map, if◌then◌else◌, refl, ap, sym, subst, ◌∙◌, codes, arith}
 use Rattle.std.specs.Option.{option_and_then}
-use Rattle.std.specs.Char.{is_ascii_digit}
 use Rattle.std.specs.Fmt.{decimal}
-use Rattle.std.specs.Str.{all_ascii_digits, bytes_eq}
-use Rattle.std.proofs.lemmas.Bool.{and_parts, and_from, ltb-true, leb-true, eqb-true, false≢true}
-use Rattle.std.proofs.lemmas.Fmt.{digits_decimal}
+use Rattle.std.specs.Str.{bytes_eq}
+use Rattle.std.proofs.lemmas.Bool.{and_parts, and_from, ltb-true, leb-true}
 use Rattle.std.proofs.lemmas.Option.{none-some, same_Some}
-use Rattle.std.proofs.lemmas.Slice.Eq.{bytes_eq-Decides}
 use Rattle.text_lines.specs.Numbers.{number_of_word}
 use Rattle.text_lines.specs.Words.{Cut, cut, joined, joined_behind, of_both}
-use Rattle.text_lines.proofs.Cuts.{cut_by, back, cut_back}
-use Rattle.text_lines.proofs.NumberWords.{own, number_written, number_read}
+use Rattle.text_lines.proofs.Cuts.{back, cut_back}
+use Rattle.text_lines.proofs.NumberWords.{number_written, number_read}
+use Rattle.text_lines.proofs.Spaces.{cut_word, decimal_no_space, map_some, both_some, back_as, is_that}
 use Rattle.query_session.specs.declared.ask.Ask.{Ask}
 use Rattle.query_session.specs.declared.ask.Ask.TheVariants as ask
 use Rattle.query_session.specs.declared.ask.Asking.{Asking}
 use Rattle.query_session.specs.Askings.{is_in, may_be_asked, may_stand, ask_words, asking_line, readers_line, may_read}
 use Rattle.query_session.specs.Reading.{kept_in, number_within, page_from, page_of, wait_of, ask_behind, ask_of_cut, ask_of_line, asking_with, asking_of_line, readers_of_cut, readers_of_line}
-
--- ---- words without a space
-
-abbrev HasNoSpace : List ℕ → Type 0
-HasNoSpace w = (k : ℕ) → k < length w → (get_or w k 0 == 32) ≡ false
-
-cut_word : (w rest : List ℕ) → HasNoSpace w → cut (w ++ 32 ∷ rest) ≡ record { word = w; rest = Some rest }
-cut_word [] rest none = refl
-cut_word (c ∷ w) rest none = ap (λ b. cut_by b c (w ++ 32 ∷ rest)) (none 0 (omega arith))
-    ∙ ap (λ (k : Cut). record { word = c ∷ k.word; rest = k.rest }) (cut_word w rest (λ k m. none (suc k) (omega (arith, m))))
-
-digit_no_space : (c : ℕ) → is_ascii_digit c ≡ true → (c == 32) ≡ false
-digit_no_space c h = by (c == 32) refl
-  where
-    by : (b : Bool) → (c == 32) ≡ b → (c == 32) ≡ false
-    by false f = f
-    by true f = absurd (false≢true (subst (λ d. is_ascii_digit d ≡ true) (eqb-true c 32 f) h))
-
-digits_no_space : (w : List ℕ) → all_ascii_digits w ≡ true → HasNoSpace w
-digits_no_space [] h k l = absurd (omega (arith, l))
-digits_no_space (c ∷ w) h zero l = digit_no_space c (and_parts (is_ascii_digit c) _ h).0
-digits_no_space (c ∷ w) h (suc k) l = digits_no_space w (and_parts (is_ascii_digit c) _ h).1 k (omega (arith, l))
-
-decimal_no_space : (n : ℕ) → n < 10000000000 → HasNoSpace (decimal n)
-decimal_no_space n l = digits_no_space (decimal n) (digits_decimal own n (omega (arith, l)))
 
 -- ---- spelled, then read
 
@@ -96,24 +69,9 @@ readers_read n h = readers_step (decimal n) ∙ number_in_read 1 16 n (omega ari
 
 -- ---- read, so it was spelled
 
-map_some : {A B : Type 0} (f : A → B) (o : Option A) (y : B) → option_map f o ≡ Some y → (x : A) × (o ≡ Some x) × (f x ≡ y)
-map_some f None y e = absurd (none-some y e)
-map_some f (Some x) y e = (x, refl, same_Some (f x) y e)
-
-both_some : {A B C : Type 0} (f : A → B → Option C) (a : Option A) (b : Option B) (z : C) → of_both f a b ≡ Some z → (x : A) × (y : B) × (a ≡ Some x) × (b ≡ Some y) × (f x y ≡ Some z)
-both_some f None b z e = absurd (none-some z e)
-both_some f (Some x) None z e = absurd (none-some z e)
-both_some f (Some x) (Some y) z e = (x, y, refl, refl, e)
-
 kept_some : {A : Type 0} (b : Bool) (o : Option A) (y : A) → (if b then o else None) ≡ Some y → (b ≡ true) × (o ≡ Some y)
 kept_some true o y e = (refl, e)
 kept_some false o y e = absurd (none-some y e)
-
-back_as : (line w rest : List ℕ) → (cut line).word ≡ w → (cut line).rest ≡ Some rest → line ≡ w ++ 32 ∷ rest
-back_as line w rest e f = cut_back line ∙ ap₂ back e f
-
-is_that : (w v : List ℕ) → bytes_eq w v ≡ true → w ≡ v
-is_that w v h = (bytes_eq-Decides w v).0 h
 
 number_in_written : (least most : ℕ) (w : List ℕ) (n : ℕ) → number_within least most w ≡ Some n → (is_in least most n ≡ true) × (w ≡ decimal n)
 number_in_written least most w n e = by (number_of_word w) refl e

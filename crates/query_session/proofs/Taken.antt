@@ -1,10 +1,11 @@
 -- Pages that are taken one after another.
-use Rattle.std.proofs.Common.{◌<◌, ◌+◌, length, take, get_or, ◌≡◌, Bool, ℕ, List, [], ◌∷◌, ◌++◌, Option, Some, None, refl, sym, ◌∙◌, ap, subst, append_assoc, append-nil}
+use Rattle.std.proofs.Common.{◌<◌, ◌+◌, length, take, get_or, ◌≡◌, Bool, ℕ, List, [], ◌∷◌, ◌++◌, Option, Some, None, refl, sym, ◌∙◌, ap, subst, append-nil}
 use Rattle.std.proofs.lemmas.List.{take_more}
 use Rattle.solid_model.specs.Blocks.{ProblemParts}
 use Rattle.solid_model.specs.Solutions.{AreSolutions}
 use Rattle.solution_book.specs.declared.reader.Page.{Page}
 use Rattle.solution_book.specs.Editions.{EditionParts, ReaderParts, Begins, GoesOn, StartsWith, Looked}
+use Rattle.solution_book.proofs.Pages.{starts_on}
 use Rattle.query_session.specs.declared.ask.Ask.{Ask}
 use Rattle.query_session.specs.declared.ask.Ask.TheVariants as ask
 use Rattle.query_session.specs.declared.ask.ReaderTale.{ReaderTale}
@@ -18,10 +19,6 @@ taken_on a b c (ask.Page from most ∷ asks) more [] qs h k = absurd h
 taken_on a b c (ask.Page from most ∷ asks) more (p ∷ ps) qs (next, e, look, is, rest) k = (next, e, look, is, taken_on next b c asks more ps qs rest k)
 taken_on a b c (ask.Wait count ∷ asks) more ps qs h k = taken_on a b c asks more ps qs h k
 taken_on a b c (ask.Stop ∷ asks) more ps qs h k = taken_on a b c asks more ps qs h k
-
--- a list that begins with one that begins with a third begins with that
-starts_on : (xs ys zs : List (List Bool)) → StartsWith xs ys → StartsWith ys zs → StartsWith xs zs
-starts_on xs ys zs (more, e) (rest, f) = (rest ++ more, e ∙ ap (λ l. l ++ more) f ∙ append_assoc zs rest more)
 
 -- what goes on from what is known begins with what is known to be published
 begins_listed : (e : EditionParts) (known : Option EditionParts) → Begins e known → StartsWith e.solids (seen_solids known)
