@@ -1,9 +1,9 @@
 -- Which lines are doubted, while decisions are taken and lines are asked.
-use Rattle.std.proofs.Common.{◌≡◌, ◌≢◌, ◌==◌, replicate, inl, inr, Bool, true, false, ℕ, ◌<◌, ◌≤◌, List, [], ◌∷◌, ◌++◌, length, take, get_or, set, slice_get, None, Some, IsTrue, refl, ap, sym, subst, ◌∙◌, arith}
+use Rattle.std.proofs.Common.{◌≡◌, ◌≢◌, ◌==◌, replicate, inl, inr, Bool, true, false, ℕ, ◌<◌, ◌≤◌, List, [], ◌∷◌, ◌++◌, length, take, get_or, set, slice_get, None, Some, IsTrue, ap, sym, subst, ◌∙◌, arith}
 use Rattle.std.proofs.lemmas.Bool.{both_ways, cases_Bool, eqb-true, eqb-false}
 use Rattle.std.proofs.lemmas.List.{length-set, length-take-le, length-replicate, get_or-replicate, get_or-set_same, get_or-set_other, get_or-take}
 use Rattle.std.proofs.lemmas.Option.{same_Some, slice_get_within, get_or_from_slice_get, slice_get-get_or}
-use Rattle.column_laws.proofs.AllLines.{lines_are_listed, lines_are_there}
+use Rattle.column_laws.proofs.AllLines.{lines_are_there}
 use Rattle.line_demands.specs.Free.{LeavesFree}
 use Rattle.line_demands.specs.Touching.{touches}
 use Rattle.propagate.specs.Doubting.{AreDoubted}

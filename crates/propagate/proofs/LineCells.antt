@@ -1,5 +1,5 @@
 -- The least that a line forces is the least that the cells of its two columns force.
-use Rattle.std.proofs.Common.{◌≡◌, ◌⊎◌, inl, inr, Bool, true, false, not, ◌<◌, ◌≤◌, ℕ, pos, negsuc, Option, Some, None, ap, sym, ◌∙◌, arith}
+use Rattle.std.proofs.Common.{◌≡◌, ◌⊎◌, inl, inr, Bool, true, false, not, ◌<◌, ℕ, pos, Option, None, ap, sym, ◌∙◌}
 use Rattle.std.proofs.lemmas.Bool.{cases_Bool, cases_lt}
 use Rattle.std.proofs.lemmas.Option.{none-some}
 use Rattle.line_demands.specs.declared.seen.SeenLine.{SeenLine}
@@ -13,9 +13,8 @@ use Rattle.line_demands.specs.Excluding.{ExcludesOpen}
 use Rattle.propagate.specs.Looking.{TellsLeast, lesser_decision}
 use Rattle.propagate.proofs.Least.{told_alike, told_lesser}
 use Rattle.solid_model.specs.declared.decision.Decision.{Decision}
-use Rattle.solid_model.specs.declared.line_id.LineId.{LineId}
 use Rattle.lemmas.specs.Bits.{is_set}
-use Rattle.solid_model.specs.Blocks.{ProblemParts, IsBlocksOf, block_at}
+use Rattle.solid_model.specs.Blocks.{ProblemParts, IsBlocksOf}
 use Rattle.solid_model.specs.Demands.{known_in}
 use Rattle.solid_model.specs.Frames.{frame_of}
 use Rattle.solid_model.specs.GridBox.{grid_sizes}

@@ -1,5 +1,5 @@
 -- What the lines of a grid force, one after another.
-use Rattle.std.specs.Prelude.{◌≡◌, Bool, ℕ, List, [], ◌∷◌, ◌++◌, Option, None}
+use Rattle.std.specs.Prelude.{◌≡◌, Bool, ℕ, List, [], ◌∷◌, ◌++◌, Option}
 use Rattle.propagate.specs.declared.stepping.Forcing.{Forcing}
 use Rattle.propagate.specs.declared.stepping.Forcing.TheVariants.{Forced, Stable, Conflict}
 use Rattle.propagate.specs.Looking.{IsLeastIn}

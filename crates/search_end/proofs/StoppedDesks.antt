@@ -10,14 +10,15 @@ use Rattle.lemmas.specs.Lists.{Each, Ascends}
 use Rattle.solid_model.specs.Search.{SearchLimits}
 use Rattle.solid_model.specs.Solutions.{IsSolutionOf, AreSolutions}
 use Rattle.solid_model.specs.Tree.{PrefixTest, live_count, extensions}
-use Rattle.solid_model.proofs.ComparedChoices.{precedes_one_way}
-use Rattle.lemmas.proofs.Lists.{each-at, each-from, each-weaker}
+use Rattle.solid_model.proofs.ComparedChoices.{precedes_another}
+use Rattle.lemmas.proofs.Lists.{each-at, each-from}
 use Rattle.column_laws.proofs.LiveTree.{problem_tree}
 use Rattle.search_core.specs.Conserves.{EndsRightly, LeavesRightly, IsConserved}
 use Rattle.search_core.specs.Core.{Core}
 use Rattle.search_core.specs.Desk.{DeskParts, IsDesk, desk_state}
 use Rattle.search_core.proofs.Desks.{desk_conserved}
 use Rattle.lemmas.proofs.Permutations.{member-permutation}
+use Rattle.lemmas.proofs.WithoutRepeats.{ascends-weaker}
 use Rattle.search_end.specs.Answers.{is_new, new_ones}
 use Rattle.search_end.proofs.AnswerLists.{filter_all}
 use Rattle.search_end.proofs.DeskFound.{found_few}
@@ -49,17 +50,10 @@ desk_open d desk blocks going =
     (omega (arith, desk.opened, few), omega (arith, desk.opened, within))
 
 -- different solutions in another order, which is that in which they are stated, are different solutions
-differ : (x y : List Bool) → ChoicePrecedes x y → x ≢ y
-differ x y h e = precedes_one_way y y (subst (λ z. ChoicePrecedes z y) e h) (subst (λ z. ChoicePrecedes z y) e h)
-
-ascends-weaker : (xs : List (List Bool)) → Ascends ChoicePrecedes xs → Ascends ◌≢◌ xs
-ascends-weaker [] h = tt
-ascends-weaker (x ∷ xs) h = (each-weaker (ChoicePrecedes x) (λ y. x ≢ y) xs (λ y. differ x y) h.0, ascends-weaker xs h.1)
-
 pub moved_solutions : (p : ProblemParts) (list sorted : List (List Bool)) → IsPermutation list sorted → Ascends ChoicePrecedes sorted → AreSolutions p list → AreSolutions p sorted
 moved_solutions p list sorted moved ordered h = record {
   each = each-from (IsSolutionOf p) sorted (λ x k. each-at (IsSolutionOf p) list x h.each (member-permutation sorted list x (IsPermutation-sym list sorted moved) k));
-  once = ascends-weaker sorted ordered;
+  once = ascends-weaker ChoicePrecedes ◌≢◌ sorted precedes_another ordered;
 }
 
 -- where nothing was handed out, all that a desk has found is listed

@@ -1,5 +1,5 @@
 -- What is published of what a desk has found are solutions, and stays a beginning of it.
-use Rattle.std.proofs.Common.{◌≡◌, ◌≢◌, Bool, ℕ, List, [], ◌-◌, ◌++◌, append_assoc, append-nil, length, take, drop, sym, ◌∙◌, ap, subst}
+use Rattle.std.proofs.Common.{◌≡◌, ◌≢◌, Bool, ℕ, List, [], ◌-◌, ◌++◌, append-nil, length, take, drop, sym, ◌∙◌, ap, subst}
 use Rattle.std.proofs.Math.Seq.{drop-append_seam}
 use Rattle.solid_model.specs.Blocks.{IsBlocksOf}
 use Rattle.lemmas.specs.Lists.{Each, Ascends}
@@ -11,13 +11,10 @@ use Rattle.search_core.specs.declared.desk.Reported.TheVariants.{Taken, Stranger
 use Rattle.search_core.specs.Desk.{DeskParts, IsDesk}
 use Rattle.search_core.specs.Reported.{IsReported}
 use Rattle.solution_book.specs.Editions.{EditionParts, StartsWith}
+use Rattle.solution_book.proofs.Pages.{starts_on}
 use Rattle.search_run.specs.Shared.{IsShared}
 use Rattle.search_end.proofs.AnswerLists.{part_whole}
 use Rattle.search_end.proofs.DeskFound.{found_solutions, found_once, found_grows}
-
--- a list that begins with one that begins with a third begins with that
-pub starts_on : (xs ys zs : List (List Bool)) → StartsWith xs ys → StartsWith ys zs → StartsWith xs zs
-starts_on xs ys zs (more, e) (rest, f) = (rest ++ more, e ∙ ap (λ l. l ++ more) f ∙ append_assoc zs rest more)
 
 -- and goes on with what follows its beginning
 starts_split : (xs ys : List (List Bool)) → StartsWith xs ys → (n : ℕ) → n ≡ length ys → xs ≡ ys ++ drop n xs

@@ -4,9 +4,9 @@ use Rattle.std.proofs.Math.Seq.{drop-append_seam}
 use Rattle.solid_model.specs.Blocks.{ProblemParts}
 use Rattle.solid_model.specs.Solutions.{AreSolutions}
 use Rattle.solution_book.specs.Editions.{EditionParts, ReaderParts, Begins, Looked}
+use Rattle.solution_book.proofs.Pages.{starts_on}
 use Rattle.search_run.specs.Reading.{IsReadUpTo}
 use Rattle.search_end.proofs.PageCalls.{solutions_left}
-use Rattle.search_run.proofs.Published.{starts_on}
 
 -- what was handed out are solutions
 pub read_solutions : (p : ProblemParts) (known : ReaderParts) (handed : List (List Bool)) → IsReadUpTo p known handed → AreSolutions p handed

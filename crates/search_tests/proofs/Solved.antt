@@ -1,7 +1,6 @@
 -- What a search on one thread finds are solutions of the problem, none twice.
-use Rattle.std.proofs.Common.{◌≡◌, ◌≢◌, Bool, ℕ, List, [], length, filter, sym, subst, arith}
+use Rattle.std.proofs.Common.{◌≡◌, ◌≢◌, Bool, ℕ, List, [], length, sym, subst}
 use Rattle.std.proofs.lemmas.Bool.{eqb-true}
-use Rattle.std.proofs.lemmas.List.{take_all}
 use Rattle.solid_model.specs.declared.ended.EndKind.{EndKind}
 use Rattle.solid_model.specs.declared.ended.EndKind.TheVariants.{Whole, CutNodes, CutSolids}
 use Rattle.solid_model.specs.Blocks.{ProblemParts, IsBlocksOf}
@@ -12,11 +11,11 @@ use Rattle.solid_model.specs.Search.{SearchLimits}
 use Rattle.solid_model.specs.SearchEnds.{AreSomeOf, EndsAs}
 use Rattle.solid_model.specs.Solutions.{IsSolutionOf, AreSolutions}
 use Rattle.solid_model.specs.Tree.{live_from, live_below, is_whole}
-use Rattle.solid_model.proofs.ComparedChoices.{precedes_one_way}
+use Rattle.solid_model.proofs.ComparedChoices.{precedes_another}
 use Rattle.lemmas.proofs.Lists.{each-weaker, member-from_filter}
 use Rattle.lemmas.proofs.WithoutRepeats.{ascends-weaker}
 use Rattle.column_laws.proofs.LivePrefixes.{live_keeps_matching}
-use Rattle.search_tree.proofs.SearchEnds.{some_found}
+use Rattle.search_tree.proofs.SearchEnds.{all_some}
 
 module _ (p : ProblemParts) (blocks : IsBlocksOf p.grid p.blocks) where
   abbrev n : ℕ
@@ -34,15 +33,10 @@ module _ (p : ProblemParts) (blocks : IsBlocksOf p.grid p.blocks) where
   some_solve : (choices : List (List Bool)) → AreSomeOf (is_live p) n choices → AreSolutions p choices
   some_solve choices some = record {
     each = each-weaker (Member (live_below (is_live p) n [])) (IsSolutionOf p) choices solution some.listed;
-    once = ascends-weaker ChoicePrecedes ◌≢◌ choices (λ x y h e. let itself = subst (ChoicePrecedes x) (sym e) h in precedes_one_way x x itself itself) some.ordered;
+    once = ascends-weaker ChoicePrecedes ◌≢◌ choices precedes_another some.ordered;
   }
 
-  -- all of them are some
-  all_some : AreSomeOf (is_live p) n (live_below (is_live p) n [])
-  all_some = subst (λ xs. AreSomeOf (is_live p) n (filter (is_whole n) xs)) (take_all (length (live_from (is_live p) n [])) (live_from (is_live p) n []) (omega arith))
-      (some_found (is_live p) n (length (live_from (is_live p) n [])))
-
   pub ends_solve : (limits : SearchLimits) (kind : EndKind) (opened : ℕ) (solids : List (List Bool)) → EndsAs (is_live p) n limits kind opened solids → AreSolutions p solids
-  ends_solve limits Whole opened solids e = some_solve solids (subst (AreSomeOf (is_live p) n) (sym e.3) all_some)
+  ends_solve limits Whole opened solids e = some_solve solids (subst (AreSomeOf (is_live p) n) (sym e.3) (all_some (is_live p) n))
   ends_solve limits CutNodes opened solids e = some_solve solids e.2
   ends_solve limits CutSolids opened solids e = some_solve solids e.2

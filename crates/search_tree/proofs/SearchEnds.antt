@@ -1,7 +1,7 @@
 -- The ends of a search.
 use Rattle.std.proofs.Common.{◌≡◌, Bool, true, false, ℕ, ◌+◌, ◌<◌, ◌≤◌, List, [], ◌∷◌, ◌++◌, length, take, drop, filter, cond, IsTrue, refl, sym, ◌∙◌, ap, subst, append-nil, length-append, arith}
 use Rattle.std.proofs.lemmas.Bool.{eqb-true}
-use Rattle.std.proofs.lemmas.List.{take-append-drop}
+use Rattle.std.proofs.lemmas.List.{take_all, take-append-drop}
 use Rattle.std.proofs.lemmas.List.Elements.{filter-append}
 use Rattle.solid_model.specs.declared.ended.EndKind.TheVariants.{Whole, CutNodes, CutSolids}
 use Rattle.solid_model.specs.Choices.{ChoicePrecedes}
@@ -44,6 +44,11 @@ module _ (live : PrefixTest) (n : ℕ) where
     ordered = ascending_choices (opened_of live n [] k) (ascends-append_left Before (opened_of live n [] k) (drop k (live_from live n []))
         (subst (Ascends Before) (sym (take-append-drop k (live_from live n []))) (ascending_tree live n [])));
   }
+
+  -- all live choices are some
+  pub all_some : AreSomeOf live n (live_below live n [])
+  all_some = let all = live_from live n [] in
+      subst (λ xs. AreSomeOf live n (filter (is_whole n) xs)) (take_all (length all) all (omega arith)) (some_found (length all))
 
 -- So many live prefixes are opened, within the limits, and these choices are found; where there are more, the path stands at
 -- the first of them.

@@ -1,6 +1,5 @@
 -- What the end of a search lists.
-use Rattle.std.proofs.Common.{◌≡◌, ◌≢◌, ◌≤◌, Bool, ℕ, List, [], length, filter, sym, subst, arith}
-use Rattle.std.proofs.lemmas.List.{take_all}
+use Rattle.std.proofs.Common.{◌≢◌, ◌≤◌, Bool, ℕ, List, [], length, sym, subst, arith}
 use Rattle.solid_model.specs.declared.ended.EndKind.{EndKind}
 use Rattle.solid_model.specs.declared.ended.EndKind.TheVariants.{Whole, CutNodes, CutSolids}
 use Rattle.solid_model.specs.Blocks.{ProblemParts, IsBlocksOf}
@@ -9,26 +8,17 @@ use Rattle.solid_model.specs.Forcing.{is_live}
 use Rattle.solid_model.specs.Search.{SearchLimits}
 use Rattle.solid_model.specs.SearchEnds.{AreSomeOf, EndsAs}
 use Rattle.solid_model.specs.Solutions.{IsSolutionOf, AreSolutions}
-use Rattle.solid_model.specs.Tree.{PrefixTest, live_from, is_whole, live_below}
-use Rattle.solid_model.proofs.ComparedChoices.{precedes_one_way}
-use Rattle.lemmas.specs.Lists.{Member, Each, Ascends}
+use Rattle.solid_model.specs.Tree.{live_below}
+use Rattle.solid_model.proofs.ComparedChoices.{precedes_another}
+use Rattle.lemmas.specs.Lists.{Member, Ascends}
 use Rattle.lemmas.proofs.Lists.{each-weaker}
 use Rattle.lemmas.proofs.WithoutRepeats.{ascends-weaker}
 use Rattle.search_end.specs.declared.stopping.SearchEnd.{SearchEnd}
 use Rattle.search_end.specs.declared.stopping.SearchEnd.TheVariants.{Ended, Stopped}
 use Rattle.search_end.specs.Stopped.{IsEndOf, end_found, end_solids}
 use Rattle.search_end.proofs.DeskAnswers.{solution_of}
-use Rattle.search_tree.proofs.SearchEnds.{some_found}
+use Rattle.search_tree.proofs.SearchEnds.{all_some}
 use Rattle.session_run.specs.Session.{AreAmong}
-
--- a choice doesn't precede itself
-differ : (x y : List Bool) → ChoicePrecedes x y → x ≢ y
-differ x y h e = precedes_one_way y y (subst (λ z. ChoicePrecedes z y) e h) (subst (λ z. ChoicePrecedes z y) e h)
-
--- all live choices are some of them
-all_some : (live : PrefixTest) (n : ℕ) → AreSomeOf live n (live_below live n [])
-all_some live n = let all = live_from live n [] in
-    subst (λ xs. AreSomeOf live n (filter (is_whole n) xs)) (take_all (length all) all (omega arith)) (some_found live n (length all))
 
 module _ (p : ProblemParts) (blocks : IsBlocksOf p.grid p.blocks) (limits : SearchLimits) where
   -- some of the live choices, as many as the limit at most, however the search has ended
@@ -41,7 +31,7 @@ module _ (p : ProblemParts) (blocks : IsBlocksOf p.grid p.blocks) (limits : Sear
   solutions : (solids : List (List Bool)) → AreSomeOf (is_live p) p.blocks.count solids → AreSolutions p solids
   solutions solids some = record {
     each = each-weaker (Member (live_below (is_live p) p.blocks.count [])) (IsSolutionOf p) solids (solution_of p blocks) some.listed;
-    once = ascends-weaker ChoicePrecedes ◌≢◌ solids differ some.ordered;
+    once = ascends-weaker ChoicePrecedes ◌≢◌ solids precedes_another some.ordered;
   }
 
   pub end_lists : (e : SearchEnd) → IsEndOf p limits e

@@ -1,5 +1,5 @@
 -- Choices that are listed, or so many that there is no room for more.
-use Rattle.std.proofs.Common.{◌≡◌, ◌⊎◌, inl, inr, Bool, ℕ, ◌-◌, ◌≤◌, List, [], ◌∷◌, ◌++◌, length, take, drop, IsPermutation, sym, ap, subst, arith, length-append, length-take, take-append-drop}
+use Rattle.std.proofs.Common.{◌≡◌, inl, inr, Bool, ℕ, ◌-◌, ◌≤◌, List, ◌++◌, length, take, drop, IsPermutation, sym, ap, subst, arith, length-append, length-take, take-append-drop}
 use Rattle.std.proofs.lemmas.List.Sorted.{length_permutation}
 use Rattle.lemmas.specs.Lists.{Member, Each}
 use Rattle.lemmas.proofs.Lists.{each-at, each-from, each-weaker, member-append_left, member-append_right}

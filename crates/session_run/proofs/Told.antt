@@ -1,15 +1,15 @@
 -- What readers tell.
-use Rattle.std.proofs.Common.{◌≡◌, Bool, true, false, true≢false, not, ℕ, zero, suc, ◌<◌, List, [], ◌∷◌, ◌++◌, length, Option, Some, None, refl, sym, ◌∙◌, ap, subst, arith, append_assoc, append-nil, slice_index_or}
+use Rattle.std.proofs.Common.{◌≡◌, Bool, true, false, true≢false, not, ℕ, suc, ◌<◌, List, [], ◌∷◌, ◌++◌, length, refl, sym, ◌∙◌, ap, subst, arith, append_assoc, append-nil, slice_index_or}
 use Rattle.solid_model.specs.Blocks.{ProblemParts}
 use Rattle.solid_model.specs.Solutions.{AreSolutions}
 use Rattle.lemmas.specs.Lists.{Member, Each}
-use Rattle.lemmas.proofs.Lists.{each-from, each-weaker, member-append_left, each-at}
+use Rattle.lemmas.proofs.Lists.{each-weaker, member-append_left}
 use Rattle.solution_book.specs.declared.reader.Page.{Page}
 use Rattle.solution_book.specs.Editions.{StartsWith}
 use Rattle.query_session.specs.declared.ask.Ask.{Ask}
 use Rattle.query_session.specs.declared.ask.Ask.TheVariants as ask
 use Rattle.query_session.specs.declared.ask.ReaderTale.{ReaderTale}
-use Rattle.query_session.specs.Tales.{ArePagesOfOneList, IsReaderOf, IsTale, AreTales}
+use Rattle.query_session.specs.Tales.{ArePagesOfOneList, IsTale, AreTales}
 use Rattle.session_run.specs.Session.{AreAmong}
 use Rattle.session_run.specs.Players.{PlayerParts, HasPlayed, HaveAllPlayed}
 use Rattle.session_run.proofs.Listed.{listed_part, part_within}
