@@ -7,20 +7,13 @@ use Rattle.solid_model.specs.Demands.{has_line, CanBeMet}
 use Rattle.solid_model.specs.Forcing.{LineExcludes}
 use Rattle.completeness_logs.specs.declared.entry.LinePlace.{LinePlace}
 use Rattle.completeness_logs.specs.Logs.{KnownBlocks, line_placed, ShowsFail, ShowsForce}
-
-not_true : (r : Bool) → r ≡ true → not r ≡ true → ⊥
-not_true true e f = false≢true f
-not_true false e f = absurd (false≢true e)
-
-true_of : (r : Bool) → (r ≡ true → ⊥) → not r ≡ true
-true_of true none = absurd (none refl)
-true_of false none = refl
+use Rattle.lemmas.proofs.Truth.{never_both, not_from_never}
 
 pub fails_judged : (p : ProblemParts) (known : KnownBlocks) (s : LinePlace) (l : LineId) (r : Bool) → IsTrue (has_line p.grid l) → l ≡ line_placed s
     → (IsTrue r ↔ CanBeMet p known l) → (IsTrue (not r) ↔ ShowsFail p known s)
 fails_judged p known s l r has e same = (
-  (λ t. (subst (λ m. IsTrue (has_line p.grid m)) e has, λ met. not_true r (same.1 (subst (λ m. CanBeMet p known m) (sym e) met)) t)),
-  (λ shows. true_of r (λ t. shows.1 (subst (λ m. CanBeMet p known m) e (same.0 t)))),
+  (λ t. (subst (λ m. IsTrue (has_line p.grid m)) e has, λ met. never_both r (same.1 (subst (λ m. CanBeMet p known m) (sym e) met)) t)),
+  (λ shows. not_from_never r (λ t. shows.1 (subst (λ m. CanBeMet p known m) e (same.0 t)))),
 )
 
 pub force_judged : (p : ProblemParts) (known : KnownBlocks) (block : ℕ) (full : Bool) (s : LinePlace) (l : LineId) (r : Bool) → IsTrue (has_line p.grid l) → l ≡ line_placed s

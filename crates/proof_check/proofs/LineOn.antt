@@ -8,12 +8,13 @@ use Rattle.completeness_logs.specs.declared.entry.LogEntry.{LogEntry}
 use Rattle.completeness_logs.specs.declared.entry.LogEntry.TheVariants.{Fail, Whole, Force, Split}
 use Rattle.proof_check.specs.declared.fault.LogKind.{LogKind}
 use Rattle.proof_check.specs.declared.fault.LogKind.TheVariants.{BadLine, Short}
-use Rattle.completeness_logs.specs.Logs.{KnownBlocks, IsRightEntry, after_entry, listed_at}
+use Rattle.completeness_logs.specs.Logs.{KnownBlocks, IsRightEntry, after_entry, listed_at, listed_by}
 use Rattle.dxf_groups.specs.TextLines.{text_lines}
 use Rattle.completeness_logs.specs.LogTexts.{most_listed}
 use Rattle.completeness_logs.specs.SplitMarks.{sides_to_come, all_to_come}
+use Rattle.completeness_logs.proofs.Listed.{listed_count}
 use Rattle.proof_check.specs.Checks.{IsRestOfLog, IsRefusedFrom, found_along, found_at, states_after}
-use Rattle.proof_check.specs.Refusals.{IsWrongEntry, listed_count_of}
+use Rattle.proof_check.specs.Refusals.{IsWrongEntry}
 use Rattle.proof_check.specs.Reading.{LogReading}
 use Rattle.proof_check.specs.Walks.{LogPlace, LeadsTo}
 
@@ -27,15 +28,9 @@ goes_far p r a b c f g = record {
   found = g.found ∙ f.found;
 }
 
-pub listed_count : (p : ProblemParts) (known : KnownBlocks) (e : LogEntry) → length (listed_at p known e) ≡ listed_count_of e
-listed_count p known (Fail l) = refl
-listed_count p known Whole = refl
-listed_count p known (Force block full l) = refl
-listed_count p known (Split block) = refl
-
 module _ (p : ProblemParts) (r : LogReading) (known : KnownBlocks) (rest : List KnownBlocks) (listed : List (List Bool)) (number : ℕ) (line : List ℕ) (lines : List (List ℕ)) (e : LogEntry)
-    (said : r.entry line ≡ Some e) (right : IsRightEntry p known e) (few : length listed + listed_count_of e ≤ most_listed) where
-  count : length (listed ++ listed_at p known e) ≡ length listed + listed_count_of e
+    (said : r.entry line ≡ Some e) (right : IsRightEntry p known e) (few : length listed + listed_by e ≤ most_listed) where
+  count : length (listed ++ listed_at p known e) ≡ length listed + listed_by e
   count = length-append listed (listed_at p known e) ∙ ap (λ n. length listed + n) (listed_count p known e)
 
   pub goes_line : LeadsTo p r (record { coming = known ∷ rest; listed = listed; number = number; lines = line ∷ lines })
@@ -74,7 +69,7 @@ module _ (p : ProblemParts) (r : LogReading) (from : LogPlace) (open_ : Bool) (d
         pub refused_entry : (kind : LogKind) → IsWrongEntry q (decided_by ds) (length listed) e kind → IsRefusedFrom p r from.coming (length from.listed) from.number from.lines kind number
         refused_entry kind wrong = at_line.refused kind number (inr (e, said, inl (refl, subst (λ s. IsWrongEntry s (decided_by ds) (length listed) e kind) same wrong)))
 
-        pub goes_next : IsRightEntry q (decided_by ds) e → length listed + listed_count_of e ≤ most_listed
+        pub goes_next : IsRightEntry q (decided_by ds) e → length listed + listed_by e ≤ most_listed
             → (now : List KnownBlocks) → now ≡ after_entry e (decided_by ds) (sides_to_come ds ms) → (more : List (List Bool)) → more ≡ listed ++ listed_at q (decided_by ds) e → (next : ℕ) → next ≡ number + 1
             → LeadsTo p r from (record { coming = now; listed = more; number = next; lines = text_lines after })
         goes_next right few now is_now more is_more next is_next =

@@ -5,10 +5,10 @@ use Rattle.solid_model.specs.Blocks.{ProblemParts}
 use Rattle.completeness_logs.specs.declared.entry.LogEntry.{LogEntry}
 use Rattle.completeness_logs.specs.declared.entry.LogEntry.TheVariants.{Fail, Whole, Force, Split}
 use Rattle.proof_check.specs.declared.fault.LogKind.{LogKind}
-use Rattle.completeness_logs.specs.Logs.{KnownBlocks, IsRightEntry, after_entry}
+use Rattle.completeness_logs.specs.Logs.{KnownBlocks, IsRightEntry, after_entry, listed_by}
 use Rattle.completeness_logs.specs.LogTexts.{most_listed}
 use Rattle.proof_check.specs.Checks.{IsRestOfLog, IsRefusedFrom, IsWrongEnd}
-use Rattle.proof_check.specs.Refusals.{IsWrongEntry, listed_count_of}
+use Rattle.proof_check.specs.Refusals.{IsWrongEntry}
 use Rattle.proof_check.specs.Reading.{LogReading}
 
 same_entry : (o : Option LogEntry) (e f : LogEntry) → o ≡ Some e → o ≡ Some f → e ≡ f
@@ -18,7 +18,7 @@ no_entry : (o : Option LogEntry) (e : LogEntry) → o ≡ None → o ≡ Some e 
 no_entry o e g h = none-some e (sym g ∙ h)
 
 module _ (p : ProblemParts) (r : LogReading) where
-  wrong_or_right : (known : KnownBlocks) (n : ℕ) (e : LogEntry) (kind : LogKind) → IsWrongEntry p known n e kind → IsRightEntry p known e → n + listed_count_of e ≤ most_listed → ⊥
+  wrong_or_right : (known : KnownBlocks) (n : ℕ) (e : LogEntry) (kind : LogKind) → IsWrongEntry p known n e kind → IsRightEntry p known e → n + listed_by e ≤ most_listed → ⊥
   wrong_or_right known n (Fail s) kind (is, not_so) right few = not_so right
   wrong_or_right known n Whole kind (inl (is, not_so)) right few = not_so right
   wrong_or_right known n Whole kind (inr (is, solid, many)) right few = omega (arith, many, few)
@@ -40,8 +40,8 @@ module _ (p : ProblemParts) (r : LogReading) where
   refused_or_right (l ∷ ls) (k ∷ ks) n number kind line (inr (f, says, inl (at, wrong))) (e, said, right, few, rest) =
       wrong_or_right k n e kind (subst (λ x. IsWrongEntry p k n x kind) (same_entry (r.entry l) f e says said) wrong) right few
   refused_or_right (l ∷ ls) (k ∷ ks) n number kind line (inr (f, says, inr (too, fewer, more))) (e, said, right, few, rest) =
-      refused_or_right ls (after_entry e k ks) (n + listed_count_of e) (suc number) kind line
-      (subst (λ x. IsRefusedFrom p r (after_entry x k ks) (n + listed_count_of x) (suc number) ls kind line) (same_entry (r.entry l) f e says said) more) rest
+      refused_or_right ls (after_entry e k ks) (n + listed_by e) (suc number) kind line
+      (subst (λ x. IsRefusedFrom p r (after_entry x k ks) (n + listed_by x) (suc number) ls kind line) (same_entry (r.entry l) f e says said) more) rest
 
   -- ---- and it is refused in one way
 
@@ -74,9 +74,9 @@ module _ (p : ProblemParts) (r : LogReading) where
   one_refusal (l ∷ ls) (k ∷ ks) n number a b i j (inr (e, said, inl (u, x))) (inr (f, says, inl (v, y))) =
       (wrong_once k n e a b x (subst (λ z. IsWrongEntry p k n z b) (same_entry (r.entry l) f e says said) y), u ∙ sym v)
   one_refusal (l ∷ ls) (k ∷ ks) n number a b i j (inr (e, said, inl (u, x))) (inr (f, says, inr (right, few, more))) =
-      absurd (wrong_or_right k n e a x (subst (λ z. IsRightEntry p k z) (same_entry (r.entry l) f e says said) right) (subst (λ z. n + listed_count_of z ≤ most_listed) (same_entry (r.entry l) f e says said) few))
+      absurd (wrong_or_right k n e a x (subst (λ z. IsRightEntry p k z) (same_entry (r.entry l) f e says said) right) (subst (λ z. n + listed_by z ≤ most_listed) (same_entry (r.entry l) f e says said) few))
   one_refusal (l ∷ ls) (k ∷ ks) n number a b i j (inr (e, said, inr (right, few, more))) (inr (f, says, inl (v, y))) =
       absurd (wrong_or_right k n e b (subst (λ z. IsWrongEntry p k n z b) (same_entry (r.entry l) f e says said) y) right few)
   one_refusal (l ∷ ls) (k ∷ ks) n number a b i j (inr (e, said, inr (right, few, more))) (inr (f, says, inr (too, fewer, rest))) =
-      one_refusal ls (after_entry e k ks) (n + listed_count_of e) (suc number) a b i j more
-      (subst (λ z. IsRefusedFrom p r (after_entry z k ks) (n + listed_count_of z) (suc number) ls b j) (same_entry (r.entry l) f e says said) rest)
+      one_refusal ls (after_entry e k ks) (n + listed_by e) (suc number) a b i j more
+      (subst (λ z. IsRefusedFrom p r (after_entry z k ks) (n + listed_by z) (suc number) ls b j) (same_entry (r.entry l) f e says said) rest)

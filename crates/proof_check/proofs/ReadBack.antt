@@ -19,31 +19,7 @@ use Rattle.text_lines.specs.Words.{Cut, cut, of_both, either_word}
 use Rattle.proof_check.specs.Reading.{view_of_word, place_with, place_along, place_seen_in, place_named, force_with, force_on, force_of, fail_of, split_of, entry_behind, entry_of_cut, entry_of_line, closing_count_of_cut, closing_count}
 use Rattle.text_lines.proofs.Cuts.{cut_by, back, cut_back}
 use Rattle.text_lines.proofs.NumberWords.{own, number_written, number_read}
-
--- ---- words without a space
-
-abbrev HasNoSpace : List ℕ → Type 0
-HasNoSpace w = (k : ℕ) → k < length w → (get_or w k 0 == 32) ≡ false
-
-cut_word : (w rest : List ℕ) → HasNoSpace w → cut (w ++ 32 ∷ rest) ≡ record { word = w; rest = Some rest }
-cut_word [] rest none = refl
-cut_word (c ∷ w) rest none = ap (λ b. cut_by b c (w ++ 32 ∷ rest)) (none 0 (omega arith))
-    ∙ ap (λ (k : Cut). record { word = c ∷ k.word; rest = k.rest }) (cut_word w rest (λ k m. none (suc k) (omega (arith, m))))
-
-digit_no_space : (c : ℕ) → is_ascii_digit c ≡ true → (c == 32) ≡ false
-digit_no_space c h = by (c == 32) refl
-  where
-    by : (b : Bool) → (c == 32) ≡ b → (c == 32) ≡ false
-    by false f = f
-    by true f = absurd (false≢true (subst (λ d. is_ascii_digit d ≡ true) (eqb-true c 32 f) h))
-
-digits_no_space : (w : List ℕ) → all_ascii_digits w ≡ true → HasNoSpace w
-digits_no_space [] h k l = absurd (omega (arith, l))
-digits_no_space (c ∷ w) h zero l = digit_no_space c (and_parts (is_ascii_digit c) _ h).0
-digits_no_space (c ∷ w) h (suc k) l = digits_no_space w (and_parts (is_ascii_digit c) _ h).1 k (omega (arith, l))
-
-decimal_no_space : (n : ℕ) → n < 10000000000 → HasNoSpace (decimal n)
-decimal_no_space n l = digits_no_space (decimal n) (digits_decimal own n (omega (arith, l)))
+use Rattle.text_lines.proofs.Spaces.{cut_word, decimal_no_space, map_some, both_some, back_as, is_that}
 
 -- ---- spelled, then read
 
@@ -106,21 +82,6 @@ pub end_read : (n : ℕ) → n ≤ most_listed → closing_count (closing_line n
 end_read n l = end_read_short n (omega (arith, l))
 
 -- ---- read, so it was spelled
-
-map_some : {A B : Type 0} (f : A → B) (o : Option A) (y : B) → option_map f o ≡ Some y → (x : A) × (o ≡ Some x) × (f x ≡ y)
-map_some f None y e = absurd (none-some y e)
-map_some f (Some x) y e = (x, refl, same_Some (f x) y e)
-
-both_some : {A B C : Type 0} (f : A → B → Option C) (a : Option A) (b : Option B) (z : C) → of_both f a b ≡ Some z → (x : A) × (y : B) × (a ≡ Some x) × (b ≡ Some y) × (f x y ≡ Some z)
-both_some f None b z e = absurd (none-some z e)
-both_some f (Some x) None z e = absurd (none-some z e)
-both_some f (Some x) (Some y) z e = (x, y, refl, refl, e)
-
-back_as : (line w rest : List ℕ) → (cut line).word ≡ w → (cut line).rest ≡ Some rest → line ≡ w ++ 32 ∷ rest
-back_as line w rest e f = cut_back line ∙ ap₂ back e f
-
-is_that : (w v : List ℕ) → bytes_eq w v ≡ true → w ≡ v
-is_that w v h = (bytes_eq-Decides w v).0 h
 
 either_spelled : (off on w : List ℕ) (b : Bool) → either_word off on w ≡ Some b → w ≡ (if b then on else off)
 either_spelled off on w b e = by (bytes_eq w off) (bytes_eq w on) refl refl e

@@ -5,7 +5,7 @@ use Rattle.std.proofs.lemmas.Option.{none-some}
 use Rattle.solid_model.specs.Blocks.{ProblemParts}
 use Rattle.dxf_groups.specs.TextLines.{text_lines}
 use Rattle.completeness_logs.specs.declared.entry.LogEntry.{LogEntry}
-use Rattle.completeness_logs.specs.Logs.{KnownBlocks, after_entry, nothing_known}
+use Rattle.completeness_logs.specs.Logs.{KnownBlocks, after_entry, nothing_known, listed_by}
 use Rattle.completeness_logs.specs.LogTexts.{IsLog, opening_line}
 use Rattle.proof_check.specs.declared.fault.LogKind.{LogKind}
 use Rattle.proof_check.specs.declared.fault.LogKind.TheVariants.{BadLine, Short}
@@ -13,7 +13,7 @@ use Rattle.proof_check.specs.declared.fault.LogRefused.{LogRefused}
 use Rattle.proof_check.specs.declared.fault.LogRefused.TheVariants.{Fault, Memory}
 use Rattle.proof_check.specs.Checks.{IsRefusedFrom, IsWrongEnd, AreReadRefused}
 use Rattle.proof_check.specs.Reading.{log_reading, entry_of_line, closing_count}
-use Rattle.proof_check.specs.Refusals.{SaysEntry, SaysEnd, IsWrongCount, IsFirstRefused, AreRefused, IsLogRefused, TellsRefusal, listed_count_of}
+use Rattle.proof_check.specs.Refusals.{SaysEntry, SaysEnd, IsWrongCount, IsFirstRefused, AreRefused, IsLogRefused, TellsRefusal}
 use Rattle.proof_check.proofs.ReadBack.{entry_read, entry_spelled, end_read_short, end_as}
 use Rattle.proof_check.proofs.WholeLogs.{one_whole_refusal, whole_refused_or_right}
 
@@ -69,7 +69,7 @@ module _ (p : ProblemParts) where
   said_refused (l ∷ ls) (k ∷ ks) n number kind line (inl (none, is, at)) = inl ((λ e says. none-some e (sym none ∙ entry_says l e says)), is, at)
   said_refused (l ∷ ls) (k ∷ ks) n number kind line (inr (e, said, inl wrong)) = inr (e, entry_spelled l e said, inl wrong)
   said_refused (l ∷ ls) (k ∷ ks) n number kind line (inr (e, said, inr (right, few, more))) =
-      inr (e, entry_spelled l e said, inr (right, few, said_refused ls (after_entry e k ks) (n + listed_count_of e) (suc number) kind line more))
+      inr (e, entry_spelled l e said, inr (right, few, said_refused ls (after_entry e k ks) (n + listed_by e) (suc number) kind line more))
 
   read_refused : (ls : List (List ℕ)) (ks : List KnownBlocks) (n number : ℕ) (kind : LogKind) (line : ℕ)
       → IsFirstRefused p ks n number ls kind line → IsRefusedFrom p log_reading ks n number ls kind line
@@ -79,7 +79,7 @@ module _ (p : ProblemParts) where
   read_refused (l ∷ ls) (k ∷ ks) n number kind line (inl (none, is, at)) = inl (no_entry l none, is, at)
   read_refused (l ∷ ls) (k ∷ ks) n number kind line (inr (e, says, inl wrong)) = inr (e, entry_says l e says, inl wrong)
   read_refused (l ∷ ls) (k ∷ ks) n number kind line (inr (e, says, inr (right, few, more))) =
-      inr (e, entry_says l e says, inr (right, few, read_refused ls (after_entry e k ks) (n + listed_count_of e) (suc number) kind line more))
+      inr (e, entry_says l e says, inr (right, few, read_refused ls (after_entry e k ks) (n + listed_by e) (suc number) kind line more))
 
   -- ---- all lines
 

@@ -4,12 +4,12 @@ use Rattle.lemmas.specs.Lists.{Each}
 use Rattle.solid_model.specs.Blocks.{ProblemParts}
 use Rattle.dxf_groups.specs.TextLines.{text_lines}
 use Rattle.completeness_logs.specs.declared.entry.LogEntry.{LogEntry}
-use Rattle.completeness_logs.specs.Logs.{KnownBlocks, IsRightEntry, after_entry, listed_at, AreTreesUnder, listed_along, nothing_known}
+use Rattle.completeness_logs.specs.Logs.{KnownBlocks, IsRightEntry, after_entry, listed_at, AreTreesUnder, listed_along, nothing_known, listed_by}
 use Rattle.completeness_logs.specs.LogTexts.{most_listed, opening_line}
 use Rattle.proof_check.specs.declared.fault.LogKind.{LogKind}
 use Rattle.proof_check.specs.declared.fault.LogKind.TheVariants.{BadLine, Short}
 use Rattle.proof_check.specs.Reading.{LogReading, log_reading}
-use Rattle.proof_check.specs.Refusals.{IsWrongCount, IsWrongEntry, listed_count_of}
+use Rattle.proof_check.specs.Refusals.{IsWrongCount, IsWrongEntry}
 
 -- ---- what is wrong, as lines are read
 
@@ -26,8 +26,8 @@ IsRefusedFrom p r (known ∷ rest) listed number [] kind line = (kind ≡ Short)
 IsRefusedFrom p r (known ∷ rest) listed number (l ∷ ls) kind line =
     ((r.entry l ≡ None) × (kind ≡ BadLine) × (line ≡ number))
     ⊎ ((e : LogEntry) × (r.entry l ≡ Some e) × (((line ≡ number) × IsWrongEntry p known listed e kind)
-    ⊎ (IsRightEntry p known e × (listed + listed_count_of e ≤ most_listed)
-    × IsRefusedFrom p r (after_entry e known rest) (listed + listed_count_of e) (suc number) ls kind line)))
+    ⊎ (IsRightEntry p known e × (listed + listed_by e ≤ most_listed)
+    × IsRefusedFrom p r (after_entry e known rest) (listed + listed_by e) (suc number) ls kind line)))
 
 -- of these lines this is the first that is refused, and that is why
 abbrev pub AreReadRefused : ProblemParts → List (List ℕ) → LogKind → ℕ → Type 0
@@ -46,8 +46,8 @@ abbrev pub IsRestOfLog : ProblemParts → LogReading → List KnownBlocks → �
 IsRestOfLog p r [] listed [] = ⊥
 IsRestOfLog p r [] listed (l ∷ ls) = (r.end l ≡ Some listed) × (ls ≡ [])
 IsRestOfLog p r (known ∷ rest) listed [] = ⊥
-IsRestOfLog p r (known ∷ rest) listed (l ∷ ls) = (e : LogEntry) × (r.entry l ≡ Some e) × IsRightEntry p known e × (listed + listed_count_of e ≤ most_listed)
-    × IsRestOfLog p r (after_entry e known rest) (listed + listed_count_of e) ls
+IsRestOfLog p r (known ∷ rest) listed (l ∷ ls) = (e : LogEntry) × (r.entry l ≡ Some e) × IsRightEntry p known e × (listed + listed_by e ≤ most_listed)
+    × IsRestOfLog p r (after_entry e known rest) (listed + listed_by e) ls
 
 -- the choices that a line lists
 abbrev pub found_at : ProblemParts → KnownBlocks → Option LogEntry → List (List Bool)

@@ -5,7 +5,7 @@ use Rattle.dxf_groups.specs.TextLines.{text_lines}
 use Rattle.text_lines.specs.Numbers.{has_ten_digits}
 use Rattle.completeness_logs.specs.declared.entry.LogEntry.{LogEntry}
 use Rattle.completeness_logs.specs.declared.entry.LogEntry.TheVariants.{Fail, Whole, Force, Split}
-use Rattle.completeness_logs.specs.Logs.{KnownBlocks, IsUndecided, ShowsFail, ShowsForce, ShowsSolid, IsRightEntry, after_entry, nothing_known}
+use Rattle.completeness_logs.specs.Logs.{KnownBlocks, IsUndecided, ShowsFail, ShowsForce, ShowsSolid, IsRightEntry, after_entry, nothing_known, listed_by}
 use Rattle.completeness_logs.specs.LogTexts.{closing_line, entry_line, is_short_entry, most_listed, opening_line}
 use Rattle.proof_check.specs.declared.fault.LogKind.{LogKind}
 use Rattle.proof_check.specs.declared.fault.LogKind.TheVariants.{BadLine, BadBlock, Unproved, Unsolid, TooMany, BadCount, Short, Long}
@@ -19,13 +19,6 @@ SaysEntry line e = IsTrue (is_short_entry e) × (line ≡ entry_line e)
 -- a line is a last one and tells this number, which has at most ten digits
 abbrev pub SaysEnd : List ℕ → ℕ → Type 0
 SaysEnd line n = IsTrue (has_ten_digits n) × (line ≡ closing_line n)
-
--- how many solids an entry lists
-abbrev pub listed_count_of : LogEntry → ℕ
-listed_count_of (Fail place) = 0
-listed_count_of Whole = 1
-listed_count_of (Force block full place) = 0
-listed_count_of (Split block) = 0
 
 -- What is wrong with an entry, where so many solids are listed before it: its block isn't there or is decided; its line isn't
 -- there, or doesn't show what is claimed; at a solid a block is undecided or a line can't be met, or it is one too many.
@@ -54,8 +47,8 @@ IsFirstRefused p (known ∷ others) listed number [] kind line = (kind ≡ Short
 IsFirstRefused p (known ∷ others) listed number (l ∷ ls) kind line =
     (((e : LogEntry) → SaysEntry l e → ⊥) × (kind ≡ BadLine) × (line ≡ number))
     ⊎ ((e : LogEntry) × SaysEntry l e × (((line ≡ number) × IsWrongEntry p known listed e kind)
-    ⊎ (IsRightEntry p known e × (listed + listed_count_of e ≤ most_listed)
-    × IsFirstRefused p (after_entry e known others) (listed + listed_count_of e) (suc number) ls kind line)))
+    ⊎ (IsRightEntry p known e × (listed + listed_by e ≤ most_listed)
+    × IsFirstRefused p (after_entry e known others) (listed + listed_by e) (suc number) ls kind line)))
 
 -- the same of all lines, of which the first is that of the problem's blocks
 abbrev pub AreRefused : ProblemParts → List (List ℕ) → LogKind → ℕ → Type 0

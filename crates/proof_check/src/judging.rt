@@ -3,9 +3,9 @@
 ghost use Rattle.std.specs.Prelude.{◌≡◌, ◌↔◌, ◌+◌, ◌≤◌, None, IsTrue, MatchOption};
 ghost use Rattle.solid_model.specs.Decisions.{decided_by};
 ghost use Rattle.completeness_logs.specs.declared.entry.LogEntry.TheVariants.{Whole, Force};
-ghost use Rattle.completeness_logs.specs.Logs.{IsUndecided, ShowsFail, ShowsForce, ShowsSolid, IsRightEntry};
+ghost use Rattle.completeness_logs.specs.Logs.{IsUndecided, ShowsFail, ShowsForce, ShowsSolid, IsRightEntry, listed_by};
 ghost use Rattle.completeness_logs.specs.LogTexts.{most_listed};
-ghost use Rattle.proof_check.specs.Refusals.{IsWrongEntry, listed_count_of};
+ghost use Rattle.proof_check.specs.Refusals.{IsWrongEntry};
 
 use crate::asking::{all_decided, all_met, line_at};
 use crate::fault::LogKind;
@@ -100,7 +100,7 @@ pub fn judge(partial: &Partial<'_>, entry: LogEntry, listed: usize) -> Option<Lo
     requires { listed ≤ most_listed }
     ensures { MatchOption result
         (IsRightEntry partial.now.problem (decided_by partial.now.decisions) entry
-        × (listed + listed_count_of entry ≤ most_listed))
+        × (listed + listed_by entry ≤ most_listed))
         (IsWrongEntry partial.now.problem (decided_by partial.now.decisions) listed entry) }
 {
     match entry {

@@ -4,19 +4,18 @@ use Rattle.std.proofs.lemmas.Bool.{lt-ltb}
 use Rattle.std.proofs.lemmas.List.{length-append}
 use Rattle.std.proofs.lemmas.Option.{none-some}
 use Rattle.column_laws.proofs.LivePrefixes.{met_matching}
+use Rattle.column_laws.specs.Undecided.{undecided}
 use Rattle.completeness_logs.specs.declared.entry.LogEntry.{LogEntry}
-use Rattle.completeness_logs.specs.declared.entry.LogEntry.TheVariants.{Fail, Whole, Force, Split}
-use Rattle.completeness_logs.specs.Logs.{KnownBlocks, LogTree, IsTreeUnder, IsRightEntry, AreTreesUnder, after_entry, listed_along, listed_at, listed_choices, nothing_known, tree_entries}
+use Rattle.completeness_logs.specs.Logs.{KnownBlocks, LogTree, IsTreeUnder, IsRightEntry, AreTreesUnder, after_entry, listed_along, listed_at, listed_choices, nothing_known, tree_entries, listed_by}
 use Rattle.completeness_logs.specs.LogTexts.{IsLog, closing_line, entry_line, is_short_entry, most_listed, opening_line}
-use Rattle.completeness_logs.proofs.Listed.{AreUnder, listed_under}
+use Rattle.completeness_logs.proofs.Listed.{AreUnder, listed_under, listed_count}
 use Rattle.completeness_logs.proofs.Trees.{follows_tree, tree_follows, tree_listed}
 use Rattle.dxf_groups.specs.TextLines.{text_lines}
 use Rattle.lemmas.specs.Lists.{Each}
 use Rattle.lemmas.proofs.Lists.{each-append, each-from}
 use Rattle.proof_log.specs.Few.{HasFewMatching}
 use Rattle.proof_log.specs.Lines.{fed, text_of_lines}
-use Rattle.proof_log.specs.Weights.{undecided}
-use Rattle.proof_log.specs.Writing.{Counts, WritesLog, listed_by}
+use Rattle.proof_log.specs.Writing.{Counts, WritesLog}
 use Rattle.proof_log.proofs.LineTexts.{log_lines_read}
 use Rattle.proof_log.proofs.SomeTrees.{some_tree}
 use Rattle.solid_model.specs.declared.cell.Axis.{Axis}
@@ -39,12 +38,6 @@ pub record IsBegun (p : ProblemParts) (coming : List KnownBlocks) (text : List �
   pub follow : (rest : List LogEntry) → AreTreesUnder p coming rest → AreTreesUnder p (nothing_known ∷ []) (entries ++ rest)
   pub found : (rest : List LogEntry) → length (listed_along p (nothing_known ∷ []) (entries ++ rest)) ≡ listed + length (listed_along p coming rest)
   pub is : text ≡ begun_text p entries
-
-listed_once : (p : ProblemParts) (known : KnownBlocks) (e : LogEntry) → length (listed_at p known e) ≡ listed_by e
-listed_once p known (Fail place) = refl
-listed_once p known Whole = refl
-listed_once p known (Force block full place) = refl
-listed_once p known (Split block) = refl
 
 entry_more : (es : List LogEntry) (e : LogEntry) → text_of_lines (map entry_line (es ++ e ∷ [])) ≡ text_of_lines (map entry_line es) ++ fed (entry_line e)
 entry_more [] e = append-nil (fed (entry_line e))
@@ -71,7 +64,7 @@ module _ (p : ProblemParts) where
     found = λ rest.
         let all = ap (λ es. length (listed_along p (nothing_known ∷ []) es)) (append_assoc b.entries (e ∷ []) rest) ∙ b.found (e ∷ rest) in
         let both = length-append (listed_at p known e) (listed_along p (after_entry e known others) rest) in
-        let one = listed_once p known e in
+        let one = listed_count p known e in
         omega (arith, all, both, one);
     is = ap (λ t. t ++ fed (entry_line e)) b.is ∙ append_assoc (fed (opening_line p.blocks.count)) (text_of_lines (map entry_line b.entries)) (fed (entry_line e))
         ∙ ap (λ t. fed (opening_line p.blocks.count) ++ t) (sym (entry_more b.entries e));

@@ -4,10 +4,11 @@ use Rattle.std.proofs.lemmas.Bool.{eq-eqb, ne_eqb, cases_lt}
 use Rattle.completeness_logs.specs.declared.entry.LogEntry.{LogEntry}
 use Rattle.completeness_logs.specs.declared.entry.LogEntry.TheVariants.{Fail, Whole, Force, Split}
 use Rattle.completeness_logs.specs.Logs.{KnownBlocks, with_block, IsRightEntry, after_entry}
-use Rattle.proof_log.specs.Weights.{one_if_none, undecided, triple, weight}
+use Rattle.proof_log.specs.Weights.{triple, weight}
 use Rattle.solid_model.specs.declared.decision.Decision.{Decision}
 use Rattle.solid_model.specs.Blocks.{ProblemParts}
 use Rattle.solid_model.specs.Forcing.{known_with}
+use Rattle.column_laws.specs.Undecided.{one_if_none, undecided}
 
 module _ (known : KnownBlocks) (d : Decision) (none : known d.block ≡ None) where
   same_before : (n : ℕ) → n ≤ d.block → undecided (known_with known d) n ≡ undecided known n

@@ -4,13 +4,13 @@ use Rattle.std.proofs.lemmas.Bool.{and_parts, and_from, both_ways, cases_lt, lt-
 use Rattle.std.proofs.lemmas.Option.{none-some}
 use Rattle.column_laws.proofs.AllLines.{lines_are_there, lines_are_listed}
 use Rattle.column_laws.proofs.MetLines.{AreSized, met_computed}
+use Rattle.column_laws.specs.Undecided.{undecided}
 use Rattle.completeness_logs.specs.declared.entry.LinePlace.{LinePlace}
 use Rattle.completeness_logs.specs.Logs.{KnownBlocks, with_block, LogTree, IsTreeUnder, tree_entries}
 use Rattle.completeness_logs.specs.Logs.LogTree.{fails, whole, splits}
 use Rattle.completeness_logs.specs.LogTexts.{has_short_numbers, is_short_entry}
 use Rattle.lemmas.specs.Lists.{Member, Each}
 use Rattle.lemmas.proofs.Lists.{each-append}
-use Rattle.proof_log.specs.Weights.{undecided}
 use Rattle.proof_log.proofs.Lighter.{one_less}
 use Rattle.solid_model.specs.declared.cell.Axis.{Axis}
 use Rattle.solid_model.specs.declared.line_id.LineId.{LineId}

@@ -1,7 +1,5 @@
 -- What is told of a log while it is written.
 use Rattle.std.specs.Prelude.{◌≡◌, ◌≤◌, Bool, ℕ, List, Option}
-use Rattle.completeness_logs.specs.declared.entry.LogEntry.{LogEntry}
-use Rattle.completeness_logs.specs.declared.entry.LogEntry.TheVariants.{Fail, Whole, Force, Split}
 use Rattle.completeness_logs.specs.LogTexts.{IsLog, most_listed}
 use Rattle.solid_model.specs.Blocks.{ProblemParts}
 use Rattle.tv_base.specs.Pieces.{AppendsPrefix}
@@ -13,10 +11,3 @@ WritesLog p held now = (text : List ℕ) × (choices : List (List Bool)) × IsLo
 -- a count tells how many are listed, as far as so many may be
 abbrev pub Counts : ℕ → ℕ → Type 0
 Counts count listed = listed ≤ most_listed → count ≡ listed
-
--- how many solids an entry lists
-abbrev pub listed_by : LogEntry → ℕ
-listed_by (Fail place) = 0
-listed_by Whole = 1
-listed_by (Force block full place) = 0
-listed_by (Split block) = 0

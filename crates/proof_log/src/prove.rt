@@ -3,9 +3,10 @@
 ghost use Rattle.std.specs.Prelude.{◌≡◌, ◌∷◌, ◌++◌, ◌+◌, ◌≤◌, [], Bool, ℕ, List, length, IfOk, IsErrOf, OnErr, OnOk};
 ghost use Rattle.std.specs.Io.KnownBytes.{Appends};
 ghost use Rattle.completeness_logs.specs.LogTexts.{IsLog, closing_line, entry_line, opening_line};
+ghost use Rattle.completeness_logs.specs.Logs.{listed_by};
 ghost use Rattle.proof_log.specs.Few.{HasFewMatching};
 ghost use Rattle.proof_log.specs.Lines.{fed};
-ghost use Rattle.proof_log.specs.Writing.{WritesLog, Counts, listed_by};
+ghost use Rattle.proof_log.specs.Writing.{WritesLog, Counts};
 ghost use Rattle.solid_model.specs.Blocks.{IsBlocksOf};
 ghost use Rattle.solid_model.specs.Panels.{IsGrid};
 ghost use Rattle.text_pieces.specs.Pieces.{WritesOn};

@@ -3,7 +3,7 @@ use Rattle.std.proofs.Common.{◌≡◌, ◌⊎◌, inl, inr, ⊎_elim, Bool, �
 use Rattle.std.proofs.lemmas.Bool.{cases_lt}
 use Rattle.completeness_logs.specs.declared.entry.LogEntry.{LogEntry}
 use Rattle.completeness_logs.specs.declared.entry.LogEntry.TheVariants.{Fail, Whole, Force, Split}
-use Rattle.completeness_logs.specs.Logs.{KnownBlocks, IsRightEntry, IsUndecided, ShowsFail, ShowsForce, ShowsSolid, after_entry, nothing_known}
+use Rattle.completeness_logs.specs.Logs.{KnownBlocks, IsRightEntry, IsUndecided, ShowsFail, ShowsForce, ShowsSolid, after_entry, nothing_known, listed_by}
 use Rattle.completeness_logs.specs.LogTexts.{IsLog, most_listed, opening_line}
 use Rattle.dxf_entities.specs.Entries.{before_entries, entries_of}
 use Rattle.dxf_entities.specs.declared.layer_line.LayerLine.{LayerLine}
@@ -19,7 +19,7 @@ use Rattle.proof_check.specs.declared.fault.LogKind.{LogKind}
 use Rattle.proof_check.specs.declared.fault.LogKind.TheVariants.{BadLine, BadBlock, Unproved, Unsolid, TooMany, BadCount, Short, Long}
 use Rattle.proof_check.specs.Checks.{IsRefusedFrom, IsRestOfLog, IsWrongEnd, found_along}
 use Rattle.proof_check.specs.Reading.{closing_count, entry_of_line, log_reading}
-use Rattle.proof_check.specs.Refusals.{IsLogRefused, IsWrongEntry, listed_count_of}
+use Rattle.proof_check.specs.Refusals.{IsLogRefused, IsWrongEntry}
 use Rattle.proof_check.proofs.SaidRefusals.{head_refused, rest_refused}
 use Rattle.proof_check.proofs.WholeLogs.{log_from}
 use Rattle.solid_model.specs.declared.fault.Fault.{Fault}
@@ -64,7 +64,7 @@ either P never = never (inr (λ p. never (inl p)))
 module _ (p : ProblemParts) where
   -- an entry that isn't right is wrong
   entry_judged : (known : KnownBlocks) (n : ℕ) (e : LogEntry) → n ≤ most_listed
-      → ((IsRightEntry p known e × (n + listed_count_of e ≤ most_listed)) → ⊥) → ((kind : LogKind) → IsWrongEntry p known n e kind → ⊥) → ⊥
+      → ((IsRightEntry p known e × (n + listed_by e ≤ most_listed)) → ⊥) → ((kind : LogKind) → IsWrongEntry p known n e kind → ⊥) → ⊥
   entry_judged known n (Fail place) few right wrong =
       either (ShowsFail p known place) (λ s. ⊎_elim (λ is. right (is, omega (arith, few))) (λ not_so. wrong Unproved (refl, not_so)) s)
   entry_judged known n Whole few right wrong = either (ShowsSolid p known) (λ s. ⊎_elim
@@ -102,7 +102,7 @@ module _ (p : ProblemParts) where
           → (Unit {0} → (js : List KnownBlocks) (m i : ℕ) → m ≤ most_listed → (IsRestOfLog p log_reading js m ls → ⊥) → ((kind : LogKind) (line : ℕ) → IsRefusedFrom p log_reading js m i ls kind line → ⊥) → ⊥) → ⊥
       by None none again = wrong BadLine number (inl (none, refl, refl))
       by (Some e) is again = entry_judged k n e few
-          (λ (so, within). again tt (after_entry e k ks) (n + listed_count_of e) (suc number) within
+          (λ (so, within). again tt (after_entry e k ks) (n + listed_by e) (suc number) within
           (λ rest. right (e, is, so, within, rest))
           (λ kind line refused. wrong kind line (inr (e, is, inr (so, within, refused)))))
           (λ kind bad. wrong kind number (inr (e, is, inl (refl, bad))))

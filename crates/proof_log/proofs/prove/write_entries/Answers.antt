@@ -1,10 +1,9 @@
 -- One entry more.
 use Rattle.std.proofs.Common.{◌++◌, ◌+◌, ◌≤◌, [], Bool, List, refl, sym, subst, ap, ◌∙◌, true, arith}
-use Rattle.completeness_logs.specs.Logs.{IsRightEntry, KnownBlocks}
+use Rattle.completeness_logs.specs.Logs.{IsRightEntry, KnownBlocks, listed_by}
 use Rattle.completeness_logs.specs.LogTexts.{entry_line, opening_line}
 use Rattle.completeness_logs.specs.SplitMarks.{all_to_come, sides_to_come}
 use Rattle.proof_log.specs.Lines.{fed}
-use Rattle.proof_log.specs.Writing.{listed_by}
 use Rattle.proof_log.proofs.Begun.{IsBegun, begun_first, begun_next, begun_prefix, counted_log}
 use Rattle.proof_log.proofs.Lighter.{lighter_next}
 use Rattle.solid_model.specs.Blocks.{ProblemParts}
