@@ -6,14 +6,11 @@ use Rattle.std.proofs.lemmas.List.{at_drop_more, at_drop_all}
 use Rattle.solid_model.specs.declared.frame.View.{View}
 use Rattle.solid_model.specs.Drawings.{same_view, has_length, covering_lines, extreme, least_right, least_up}
 use Rattle.solid_model.specs.Line.{Line, IsNear}
+use Rattle.solid_model.proofs.Sheets.{near_in_code}
 use Rattle.views.specs.declared.corner.Corner.{Corner}
 use Rattle.views.specs.Corners.{IsCornerOf, IsCornerOfLine, IsLeastOf}
 
 -- ---- in code
-
--- a near number is the same in code
-pub near_in_code : (k : ℤ) → IsNear k → to_z w64 (of_z w64 k) ≡ k
-near_in_code k near = to_z-of_z w64 k (omega (arith, ints))
 
 -- the lesser of two near numbers, as the code finds it
 pub least_in_code : (a b r : ℤ) → IsNear a → IsNear b → SFits w64 r

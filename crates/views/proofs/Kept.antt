@@ -28,12 +28,6 @@ views_draw ls d front top side g = by g.view refl
     by Top e = top g e
     by Side e = side g e
 
--- what holds in each view
-pub in_each_view : (P : View → Type 0) → P Front → P Top → P Side → (v : View) → P v
-in_each_view P front top side Front = front
-in_each_view P front top side Top = top
-in_each_view P front top side Side = side
-
 -- a view with a line that has length isn't empty
 pub some_shown : (ls : List Line) → Each IsKept ls → (v : View) → covering_lines v ls ≢ [] → IsEmptyView ls v → ⊥
 some_shown ls kept v some empty = some (empty-without_lines ls kept v empty)

@@ -8,6 +8,7 @@ use Rattle.std.proofs.lemmas.Cmp.{int_eq_equiv}
 use Rattle.std.proofs.lemmas.Int.{ints, clamps}
 use Rattle.std.proofs.lemmas.List.{at_drop_more}
 use Rattle.std.proofs.lemmas.List.Folds.{list_any-append}
+use Rattle.std.proofs.Math.Bool.{and_assoc}
 use Rattle.solid_model.specs.declared.frame.View.{View}
 use Rattle.solid_model.specs.declared.frame.View.TheVariants.{Front, Top, Side}
 use Rattle.solid_model.specs.declared.segment.Segment.{Segment}
@@ -92,11 +93,6 @@ same_view-turned Side Front = refl
 same_view-turned Side Top = refl
 same_view-turned Side Side = refl
 
--- three tests in either grouping
-and_grouped : (a b c : Bool) → (a && (b && c)) ≡ ((a && b) && c)
-and_grouped true b c = refl
-and_grouped false b c = refl
-
 -- level or upright
 kind_tests : (upright : Bool) (x0 y0 x1 y1 right up left bottom : ℤ)
     → (int_eq (across_of upright x0 y0) (if upright then (right +ℤ left) else (up +ℤ bottom))
@@ -115,7 +111,7 @@ pub covers_is : (corner : Corner) (l : Line) (g : Segment)
     → covers l (from_corner corner g) ≡ (covers_along g.view g.upright l && stroke_covers (line_of g) (start_of g) (stroke_of corner g.upright l))
 covers_is corner l g =
     ap₂ ◌&&◌ (same_view-turned l.of g.view) (kind_tests g.upright l.x0 l.y0 l.x1 l.y1 g.right g.up corner.right corner.up)
-    ∙ and_grouped (same_view g.view l.of) _ _
+    ∙ sym (and_assoc (same_view g.view l.of) _ _)
 
 -- ---- from line to line
 

@@ -1,8 +1,9 @@
 -- What `clap` makes of a table, and which argument it finds by a name.
-use Rattle.std.proofs.Common.{◌≡◌, ◌∙◌, refl, sym, ap, ap₂, ℕ, Bool, true, false, cond, not, ◌&&◌, ◌||◌, ◌==◌, List, [], ◌∷◌, ◌++◌, map, Option, Some, None, is_some, codes, true≢false}
+use Rattle.std.proofs.Common.{◌≡◌, ◌∙◌, refl, sym, ap, ap₂, ℕ, Bool, true, false, cond, not, ◌&&◌, ◌==◌, List, [], ◌∷◌, ◌++◌, map, Option, Some, None, is_some, codes, true≢false}
 use Rattle.std.specs.List.{find, list_all}
 use Rattle.std.specs.Option.{option_map, option_map_or}
 use Rattle.std.specs.Str.{bytes_eq}
+use Rattle.std.proofs.Math.Bool.{or-false}
 use Rattle.clap.specs.Simple.{Shape, filled, filled_from, index_after, new_shape, with_index}
 use Rattle.clap.specs.Walk.{Rule, arg_by_id, arg_by_index, arg_by_long, arg_by_short, has_long, has_short}
 use Rattle.clap.proofs.WalkLemmas.{both}
@@ -81,14 +82,10 @@ none_found : (fs : List Field) → find (λ (f : Field). false) fs ≡ None
 none_found [] = refl
 none_found (f ∷ fs) = none_found fs
 
-or_false : (b : Bool) → (b || false) ≡ b
-or_false true = refl
-or_false false = refl
-
 long_test : (name other : Text) (range : Option Range) → (not (is_some (filled (rule_by name range)).index)
     && has_long (filled (rule_by name range)) other) ≡ bytes_eq name other
-long_test name other None = or_false (bytes_eq name other)
-long_test name other (Some r) = or_false (bytes_eq name other)
+long_test name other None = or-false (bytes_eq name other)
+long_test name other (Some r) = or-false (bytes_eq name other)
 
 no_number_by : (p : Rule → Bool) → ((r : Range) → p (built_number r) ≡ false) → (n : Option Range) → find p (built_numbers n)
     ≡ None

@@ -3,19 +3,12 @@ use Rattle.std.proofs.Common.{◌≡◌, ◌∙◌, refl, sym, ap, Bool, true, f
 use Rattle.std.specs.List.{list_all, find}
 use Rattle.std.specs.Str.{bytes_eq}
 use Rattle.std.proofs.lemmas.Slice.Eq.{bytes_eq-Decides}
+use Rattle.std.proofs.Math.Bool.{and_assoc, and-true}
 use Rattle.clap.specs.Walk.{Row}
 use Rattle.clap.proofs.WalkLemmas.{both}
 use Rattle.words.proofs.OneUse.{use_row}
 use Rattle.words.specs.Rows.{is_range}
 use Rattle.words.specs.Words.{Field, Text, Use, fits_after, is_used, number_name, put, suits}
-
-and_assoc : (a b c : Bool) → (a && (b && c)) ≡ ((a && b) && c)
-and_assoc true b c = refl
-and_assoc false b c = refl
-
-and_true : (a : Bool) → (a && true) ≡ a
-and_true true = refl
-and_true false = refl
 
 pub fits-append : (seen us vs : List Use) → fits_after seen (us ++ vs) ≡ (fits_after seen us && fits_after (seen ++ us) vs)
 fits-append seen [] vs = ap (λ xs. fits_after xs vs) (sym (append-nil seen))
@@ -23,12 +16,12 @@ fits-append seen (u ∷ us) vs =
     let one = not (is_used u.0.name seen) && suits u in
     ap (λ b. one && b) (fits-append (seen ++ u ∷ []) us vs ∙ ap (λ xs. fits_after (seen ++ u ∷ []) us && fits_after xs vs)
     (append_assoc seen (u ∷ []) us))
-    ∙ and_assoc one (fits_after (seen ++ u ∷ []) us) (fits_after (seen ++ (u ∷ us)) vs)
+    ∙ sym (and_assoc one (fits_after (seen ++ u ∷ []) us) (fits_after (seen ++ (u ∷ us)) vs))
 
 -- one more use
 pub fits_one : (us : List Use) (u : Use) → fits_after [] (us ++ u ∷ [])
     ≡ (fits_after [] us && (not (is_used u.0.name us) && suits u))
-fits_one us u = fits-append [] us (u ∷ []) ∙ ap (λ b. fits_after [] us && b) (and_true (not (is_used u.0.name us) && suits u))
+fits_one us u = fits-append [] us (u ∷ []) ∙ ap (λ b. fits_after [] us && b) (and-true (not (is_used u.0.name us) && suits u))
 
 pub unsuited : (us : List Use) (u : Use) → suits u ≡ false → fits_after [] (us ++ u ∷ []) ≡ false
 unsuited us u e = fits_one us u ∙ go (fits_after [] us) (not (is_used u.0.name us)) (suits u) e

@@ -8,6 +8,8 @@ use Rattle.std.specs.Str.Parse.{digits_value, without_leading_plus}
 use Rattle.std.proofs.lemmas.Slice.Eq.{bytes_eq-Decides}
 use Rattle.std.proofs.lemmas.Str.{digit_value_digit}
 use Rattle.std.proofs.lemmas.Str.Parse.{digit_from_value}
+use Rattle.std.proofs.lemmas.Bool.{false_from_ne_true}
+use Rattle.std.proofs.Math.Bool.{or-false}
 use Rattle.clap.specs.Lexer.{has_byte, long_of, long_of_rest, name_and_value, short_of, short_of_rest, strip_byte}
 use Rattle.clap.specs.ValueTests.{is_numeral, is_unsigned_in}
 use Rattle.clap.proofs.WalkLemmas.{both}
@@ -225,16 +227,8 @@ given_at x p v e is =
     (sym (ap (λ (q : Text × Option Text). q.1) form.3) ∙ is) in
     (form.0, form.1, form.2, parts.1)
 
-or_false : (b : Bool) → (b || false) ≡ b
-or_false true = refl
-or_false false = refl
-
 barred_long : (y : ℕ) (ys : Text) → is_barred_word (45 ∷ 45 ∷ y ∷ ys) ≡ has_equals_plus (y ∷ ys)
-barred_long y ys = or_false (has_equals_plus (y ∷ ys))
-
-not_true : (b : Bool) → (b ≡ true → ⊥) → b ≡ false
-not_true true f = absurd (f refl)
-not_true false f = refl
+barred_long y ys = or-false (has_equals_plus (y ∷ ys))
 
 pub neither : (a b : Bool) → (a || b) ≡ false → (a ≡ false) × (b ≡ false)
 neither true b e = absurd (true≢false e)
@@ -246,7 +240,7 @@ pub clear_value : (x : Text) (p : Text × Option Text) (v : Text) → is_barred_
 clear_value x p v clear e is =
     let at = given_at x p v e is in
     let clean : has_equals_plus (at.0 ∷ at.1) ≡ false = sym (barred_long at.0 at.1) ∙ ap is_barred_word (sym at.2) ∙ clear in
-    not_true (begins_with_plus v) (λ h. true≢false (sym (value_plus_first (at.0 ∷ at.1) (ap begins_with_plus at.3 ∙ h)) ∙ clean))
+    false_from_ne_true (begins_with_plus v) (λ h. true≢false (sym (value_plus_first (at.0 ∷ at.1) (ap begins_with_plus at.3 ∙ h)) ∙ clean))
 
 -- and that of one that is barred has a `+`
 pub barred_value : (x : Text) (p : Text × Option Text) (v : Text) → is_barred_word x ≡ true → long_of x ≡ Some p → p.1 ≡ Some v
@@ -263,7 +257,7 @@ clear_flag x p e is =
     let without = no_value (has_byte 61 (form.0 ∷ form.1)) (after_equals (form.0 ∷ form.1))
     (sym (ap (λ (q : Text × Option Text). q.1) form.3) ∙ is) in
     ap is_barred_word form.2 ∙ barred_long form.0 form.1
-    ∙ not_true (has_equals_plus (form.0 ∷ form.1)) (λ h. true≢false (sym (value_has_plus (form.0 ∷ form.1) h).0 ∙ without))
+    ∙ false_from_ne_true (has_equals_plus (form.0 ∷ form.1)) (λ h. true≢false (sym (value_has_plus (form.0 ∷ form.1) h).0 ∙ without))
 
 -- a word that isn't barred begins with no `+` and isn't `--`
 pub clear_word : (x : Text) → is_barred_word x ≡ false → (begins_with_plus x ≡ false) × (bytes_eq x (codes "--") ≡ false)

@@ -1,16 +1,11 @@
 -- The line to the next point is the next of those that are owed.
-use Rattle.std.proofs.Common.{◌≡◌, ◌+◌, true, ◌||◌, ◌++◌, [], ◌∷◌, drop, int_eq, ℤ, w64, to_z, of_z, arith, sym, subst, ◌∙◌}
+use Rattle.std.proofs.Common.{◌≡◌, ◌+◌, true, ◌||◌, ◌++◌, [], ◌∷◌, drop, int_eq, sym, subst, ◌∙◌}
 use Rattle.std.proofs.lemmas.Bool.{and_parts}
-use Rattle.std.proofs.lemmas.Int.{ints, to_z-of_z}
-use Rattle.solid_model.specs.Line.{IsNear}
+use Rattle.solid_model.proofs.Sheets.{near_in_code}
 use Rattle.dxf_entities.specs.Known.{Point}
 use Rattle.dxf_entities.specs.DrawnLines.{are_straight_from, line_between, lines_from}
 use Rattle.dxf_entities.proofs.NextPoints.{straight_next, line_pushed}
 use Rattle.dxf_entities.proofs.drawn_lines.push_lines.Goals as goal
-
--- a near number is the same in code
-in_code : (k : ℤ) → IsNear k → to_z w64 (of_z w64 k) ≡ k
-in_code k near = to_z-of_z w64 k (omega (arith, ints))
 
 pub loop-to-preserved : goal.loop-to-preserved
 loop-to-preserved c =
@@ -37,7 +32,7 @@ loop-to-preserved c =
       straight =
           subst (λ (b : Point). are_straight_from b (drop (i + 1) rest) ≡ true) (sym c.to.view_is) both.1;
       lines =
-          rw (c.in_ok-push.ensures.items, in_code c.from.inside.x near_from.x, in_code c.from.inside.y near_from.y, in_code c.to.inside.x near_to.x, in_code c.to.inside.y near_to.y)
+          rw (c.in_ok-push.ensures.items, near_in_code c.from.inside.x near_from.x, near_in_code c.from.inside.y near_from.y, near_in_code c.to.inside.x near_to.x, near_in_code c.to.inside.y near_to.y)
           (subst
           (λ (a : Point). (items ++ line_between c.args.line c.args.pen a seen ∷ [])
           ++ lines_from c.args.line c.args.pen seen (drop (i + 1) rest) ≡ all) (sym c.from.view_is) to_seen);

@@ -2,7 +2,8 @@ use Rattle.std.proofs.Common.{◌-ℤ◌, ap, ap₂, ◌∙◌, arith}
 use Rattle.std.specs.Int.{int_min, int_max}
 use Rattle.std.proofs.lemmas.Int.{ints, clamps}
 use Rattle.solid_model.specs.Line.{Line, IsNear}
-use Rattle.views.proofs.CornerSteps.{near_in_code, less_fits, less_in_code}
+use Rattle.solid_model.proofs.Sheets.{near_in_code}
+use Rattle.views.proofs.CornerSteps.{less_fits, less_in_code}
 use Rattle.views.proofs.strokes.stroke_of.Goals as goal
 
 pub overflow_sub-result : goal.overflow_sub-result

@@ -3,7 +3,8 @@ use Rattle.std.proofs.lemmas.Result.{err_from_is_err_and}
 use Rattle.solid_model.specs.declared.frame.View.TheVariants.{Front, Top, Side}
 use Rattle.solid_model.specs.Drawings.{covering_lines, IsEmptyView}
 use Rattle.solid_model.proofs.Sheets.{without_lines-empty}
-use Rattle.views.proofs.Kept.{views_draw, in_each_view, some_shown, are_drawing}
+use Rattle.solid_model.proofs.Views.{in_each_view}
+use Rattle.views.proofs.Kept.{views_draw, some_shown, are_drawing}
 use Rattle.views.proofs.views.drawing.Goals as goal
 
 pub returns-in_err-front-clause-fault : goal.returns-in_err-front-clause-fault

@@ -1,7 +1,7 @@
 use Rattle.std.proofs.Common.{ap₂, ◌∙◌}
 use Rattle.std.specs.Int.{int_min}
-use Rattle.views.proofs.CornerSteps.{near_in_code}
 use Rattle.views.proofs.corner.Corner.of_line.Goals as goal
+use Rattle.solid_model.proofs.Sheets.{near_in_code}
 
 pub returns : goal.returns
 returns c =
