@@ -1,5 +1,5 @@
 -- The loops of a plane, in groups, are its faces.
-use Rattle.std.proofs.Common.{◌≡◌, ◌↔◌, Bool, true, false, not, ◌&&◌, nat_eq, nat_lt, ◌||◌, ℕ, zero, suc, List, [], ◌∷◌, map, ℤ, pos, negsuc, ◌+ℤ◌, ◌-ℤ◌, ◌≤ℤ◌, int_lt, IsTrue, refl, sym, ◌∙◌, ap, ap₂, subst, arith}
+use Rattle.std.proofs.Common.{◌≡◌, ◌↔◌, Bool, true, false, not, ◌&&◌, nat_eq, nat_lt, ◌||◌, ℕ, zero, suc, List, [], ◌∷◌, map, ℤ, pos, negsuc, ◌≤ℤ◌, int_lt, IsTrue, refl, sym, ◌∙◌, ap, ap₂, subst, arith}
 use Rattle.std.proofs.lemmas.Bool.{false_from_ne_true, false≢true, and_from}
 use Rattle.std.proofs.lemmas.Bool.Decides.{Decides-eqb}
 use Rattle.std.proofs.lemmas.Int.{ints}

@@ -6,27 +6,15 @@ use Rattle.cell_rows.proofs.BitPlaces.{bit_there}
 use Rattle.lemmas.specs.Bits.{bit_of}
 use Rattle.lemmas.specs.Chains.{Reaches}
 use Rattle.solid_model.specs.Rooms.{place_of_number}
-use Rattle.solid_model.specs.Rounds.{Spot, Heading, East, North, West, South, spot_after, AreNeighbours, AreJoined}
+use Rattle.solid_model.specs.Rounds.{Spot, spot_after, AreNeighbours, AreJoined}
 use Rattle.lemmas.proofs.Chains.{reaches-map, reaches-step}
 use Rattle.face_laws.proofs.JoinedSides.{neighbours-back}
 use Rattle.flood.specs.Graph.{Leads, GoesBack, AreComponentsOf}
 use Rattle.faces.specs.PlaneSquares.{SquareTable, square_place, is_there}
-use Rattle.faces.specs.Ways.{heading_at}
+use Rattle.faces.specs.Ways.{heading_number, heading_at}
 use Rattle.faces.specs.SquareSteps.{place_count, square_at_place, IsSquareStep, next_square, AreSquareComponents}
 use Rattle.faces.proofs.SquarePlaces.{in_table-numbers, there-parts, square_own, place_there, place_own}
-
--- the way that leads in a heading
-abbrev way_to : Heading → ℕ
-way_to East = 0
-way_to North = 1
-way_to West = 2
-way_to South = 3
-
-way_leads : (h : Heading) → (way_to h < 4) × (heading_at (way_to h) ≡ h)
-way_leads East = (omega arith, refl)
-way_leads North = (omega arith, refl)
-way_leads West = (omega arith, refl)
-way_leads South = (omega arith, refl)
+use Rattle.faces.proofs.SideNumbers.{heading-below, heading-number}
 
 some_if : (b : Bool) (n : ℕ) → b ≡ true → (if b then Some n else None) ≡ Some n
 some_if true n e = refl
@@ -53,13 +41,14 @@ module _ (t : SquareTable) where
       leads : IsSquareStep t a b → Leads 4 (next_square t) a b
       leads step =
           let (here_there, b_there, (h, e)) = step.neighbours in
-          let (few, is) = way_leads h in
-          let next : spot_after (heading_at (way_to h)) here ≡ square_at_place b = ap (λ k. spot_after k here) is ∙ sym e in
-          let both : (is_there t here && is_there t (spot_after (heading_at (way_to h)) here)) ≡ true =
-          and_from (is_there t here) (is_there t (spot_after (heading_at (way_to h)) here)) here_there (ap (is_there t) next ∙ b_there) in (
-            way_to h,
+          let few = heading-below h in
+          let is = heading-number h in
+          let next : spot_after (heading_at (heading_number h)) here ≡ square_at_place b = ap (λ k. spot_after k here) is ∙ sym e in
+          let both : (is_there t here && is_there t (spot_after (heading_at (heading_number h)) here)) ≡ true =
+          and_from (is_there t here) (is_there t (spot_after (heading_at (heading_number h)) here)) here_there (ap (is_there t) next ∙ b_there) in (
+            heading_number h,
             few,
-            some_if (is_there t here && is_there t (spot_after (heading_at (way_to h)) here)) (square_place (spot_after (heading_at (way_to h)) here)) both
+            some_if (is_there t here && is_there t (spot_after (heading_at (heading_number h)) here)) (square_place (spot_after (heading_at (heading_number h)) here)) both
                 ∙ ap Some (ap (square_place) next ∙ place_own b),
           )
 

@@ -55,13 +55,6 @@ impl Squares {
         self.rows.get(v).copied().unwrap_or(0)
     }
 
-    /// The rows are the same.
-    pub fn same(&self, other: &Squares) -> bool
-        ensures { IsTrue result → self.now ≡ other.now }
-    {
-        self.rows() == other.rows()
-    }
-
     /// Surely no square is there, since each row is 0.
     pub fn is_empty(&self) -> bool
         ensures { IsTrue result → (q : Spot) → is_there self.now q ≡ false }

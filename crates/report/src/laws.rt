@@ -6,20 +6,21 @@ ghost use Rattle.solid_model.specs.declared.ended.EndKind.TheVariants.{CutNodes,
 ghost use Rattle.solid_model.specs.declared.face.Out.TheVariants.{MinusX, MinusY, MinusZ, PlusX, PlusY, PlusZ};
 ghost use Rattle.solid_model.specs.declared.fault.Fault.TheVariants as fault;
 ghost use Rattle.solid_model.specs.declared.frame.View.TheVariants.{Side};
+ghost use Rattle.solid_model.specs.Cells.{cell_at};
 ghost use Rattle.report.specs.FaultText.{fault_text};
-ghost use Rattle.report.specs.SmallTexts.{face_on, corner_at};
+ghost use Rattle.report.specs.SmallTexts.{face_on};
 ghost use Rattle.report.specs.Texts.{face_text, head_text, no_solid_text, page_text, solid_line, trial_text};
 
 /// The lines of faces on each outward side, written out by hand: without decimals, and with some.
 pub fn small_face_texts()
-    ensures minus_x { face_text 0 (face_on MinusX (pos 0) ((corner_at 0 0 0 ∷ corner_at 0 0 1
-        ∷ corner_at 0 1 1 ∷ corner_at 0 1 0 ∷ []) ∷ []))
+    ensures minus_x { face_text 0 (face_on MinusX (pos 0) ((cell_at 0 0 0 ∷ cell_at 0 0 1
+        ∷ cell_at 0 1 1 ∷ cell_at 0 1 0 ∷ []) ∷ []))
         ≡ codes "face -x at 0 loop 0,0,0 0,0,1 0,1,1 0,1,0\n" }
-    ensures plus_x { face_text 0 (face_on PlusX (pos 3) ((corner_at 3 0 0 ∷ corner_at 3 3 0
-        ∷ corner_at 3 3 3 ∷ corner_at 3 0 3 ∷ []) ∷ []))
+    ensures plus_x { face_text 0 (face_on PlusX (pos 3) ((cell_at 3 0 0 ∷ cell_at 3 3 0
+        ∷ cell_at 3 3 3 ∷ cell_at 3 0 3 ∷ []) ∷ []))
         ≡ codes "face +x at 3 loop 3,0,0 3,3,0 3,3,3 3,0,3\n" }
-    ensures minus_y { face_text 0 (face_on MinusY (pos 30) ((corner_at 0 30 10 ∷ corner_at 60 30 10
-        ∷ corner_at 60 30 50 ∷ corner_at 0 30 50 ∷ []) ∷ []))
+    ensures minus_y { face_text 0 (face_on MinusY (pos 30) ((cell_at 0 30 10 ∷ cell_at 60 30 10
+        ∷ cell_at 60 30 50 ∷ cell_at 0 30 50 ∷ []) ∷ []))
         ≡ codes "face -y at 30 loop 0,30,10 60,30,10 60,30,50 0,30,50\n" }
     ensures plus_y { face_text 0 (face_on PlusY (negsuc 0) ((
         record { x = negsuc 8; y = negsuc 0; z = pos 0 }
@@ -28,14 +29,14 @@ pub fn small_face_texts()
         ∷ record { x = negsuc 1; y = negsuc 0; z = pos 0 } ∷ []) ∷ []))
         ≡ codes "face +y at -1 loop -9,-1,0 -9,-1,7 -2,-1,7 -2,-1,0\n" }
     ensures minus_z { face_text 0 (face_on MinusZ (pos 2000000000)
-        ((corner_at 0 0 2000000000 ∷ []) ∷ []))
+        ((cell_at 0 0 2000000000 ∷ []) ∷ []))
         ≡ codes "face -z at 2000000000 loop 0,0,2000000000\n" }
-    ensures plus_z { face_text 0 (face_on PlusZ (pos 1) ((corner_at 0 0 1 ∷ corner_at 3 0 1
-        ∷ corner_at 3 3 1 ∷ corner_at 0 3 1 ∷ []) ∷ (corner_at 1 1 1 ∷ corner_at 1 2 1
-        ∷ corner_at 2 2 1 ∷ corner_at 2 1 1 ∷ []) ∷ []))
+    ensures plus_z { face_text 0 (face_on PlusZ (pos 1) ((cell_at 0 0 1 ∷ cell_at 3 0 1
+        ∷ cell_at 3 3 1 ∷ cell_at 0 3 1 ∷ []) ∷ (cell_at 1 1 1 ∷ cell_at 1 2 1
+        ∷ cell_at 2 2 1 ∷ cell_at 2 1 1 ∷ []) ∷ []))
         ≡ codes "face +z at 1 loop 0,0,1 3,0,1 3,3,1 0,3,1 loop 1,1,1 1,2,1 2,2,1 2,1,1\n" }
-    ensures half { face_text 1 (face_on MinusX (pos 0) ((corner_at 0 0 0 ∷ corner_at 0 0 5
-        ∷ corner_at 0 5 5 ∷ corner_at 0 5 0 ∷ []) ∷ []))
+    ensures half { face_text 1 (face_on MinusX (pos 0) ((cell_at 0 0 0 ∷ cell_at 0 0 5
+        ∷ cell_at 0 5 5 ∷ cell_at 0 5 0 ∷ []) ∷ []))
         ≡ codes "face -x at 0.0 loop 0.0,0.0,0.0 0.0,0.0,0.5 0.0,0.5,0.5 0.0,0.5,0.0\n" }
     ensures decimals { face_text 3 (face_on PlusY (negsuc 24) ((
         record { x = negsuc 12499; y = negsuc 24; z = pos 1000 } ∷ []) ∷ []))

@@ -1,6 +1,5 @@
 -- Texts that go to a sink piece by piece.
-use Rattle.std.specs.Prelude.{◌≡◌, ℕ, List, ◌++◌, Option}
-use Rattle.std.specs.Io.KnownBytes.{Appends}
+use Rattle.std.specs.Prelude.{ℕ, List}
 use Rattle.std.specs.List.{flat_map}
 use Rattle.face_laws.specs.GridFaces.{Planes}
 use Rattle.stl_out.specs.declared.rectangle.Rectangle.{Rectangle}
