@@ -20,19 +20,13 @@ use Rattle.lemmas.specs.Lists.{Member, Ascends}
 use Rattle.solid_model.proofs.OnGrid.{StaysOnGrid}
 use Rattle.solid_model.specs.Segments.{segment_at}
 use Rattle.solid_model.proofs.ColumnRule.{beside_blank}
-use Rattle.solid_model.proofs.InGrid.{gap_or_none}
+use Rattle.solid_model.proofs.InGrid.{StandsBefore, gap_or_none}
 use Rattle.solid_model.proofs.SameOnGrid.{member_or_not}
 use Rattle.solid_model.proofs.Styles.{drawn_style_drawn}
 use Rattle.solid_model.proofs.UnionDrawing.{same_gaps_before}
 use Rattle.solid_model.proofs.Views.{views_are_frames, cell_at_its_places}
 
 -- ---- cells that differ
-
--- d stands just before c across the segments of a kind
-record StandsBefore (v : View) (upright : Bool) (d c : Cell) : Type 0 where
-  same_along : place_of (along (frame_of v) upright) d ≡ place_of (along (frame_of v) upright) c
-  before : place_of (across (frame_of v) upright) d ≡ place_of (across (frame_of v) upright) c -ℤ pos 1
-  same_away : place_of (frame_of v).away d ≡ place_of (frame_of v).away c
 
 module _ (s : List Cell) where
   -- the segment between the two columns that they stand in isn't blank

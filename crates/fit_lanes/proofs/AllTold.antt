@@ -11,8 +11,7 @@ use Rattle.solid_model.specs.Runs.{ViewRuns}
 use Rattle.solid_model.proofs.Unions.{some_union}
 use Rattle.redraw.proofs.DrawnRuns.{grid_ascends}
 use Rattle.dxf_entities.specs.declared.extra.Extra.{Extra}
-use Rattle.dxf_entities.specs.declared.extra.Extra.TheVariants.{Left, Rear, Bottom}
-use Rattle.further_views.specs.Further.{FurtherParts, FurtherRuns, further_runs}
+use Rattle.further_views.specs.Further.{FurtherRuns}
 use Rattle.six_views.specs.Further.{ShowsAsked, FitsRuns, FitsChoice}
 use Rattle.fit_lanes.specs.Tests.{ViewAsked, view_asked, TellsIfAsked}
 
@@ -27,12 +26,6 @@ pub asked_told : (p : ProblemParts) (x : Extra) (asked : Option ViewRuns) (test 
     → IsTrue told ↔ ShowsAsked asked s x
 asked_told p x None test choice told same tells s union = let here = subst (λ o. TellsIfAsked o choice told) same tells in ((λ _. tt), (λ _. here))
 asked_told p x (Some v) test choice told same tells s union = subst (λ o. TellsIfAsked o choice told) same tells s union
-
--- each view is shown
-pub all_shown : (p : FurtherParts) (s : List Cell) → ShowsAsked p.left s Left → ShowsAsked p.rear s Rear → ShowsAsked p.bottom s Bottom → FitsRuns (further_runs p) s
-all_shown p s left rear bottom Left = left
-all_shown p s left rear bottom Rear = rear
-all_shown p s left rear bottom Bottom = bottom
 
 -- a choice has a solid
 pub of_solids : (p : ProblemParts) → IsGrid p.grid → (e : FurtherRuns) (choice : List Bool) (told : Bool)

@@ -1,13 +1,14 @@
 -- Lists by lines, and the bytes that they have at the points of a grid.
-use Rattle.std.proofs.Common.{◌≡◌, Bool, true, false, if◌then◌else◌, ℕ, zero, suc, ◌+◌, ◌*◌, ◌/◌, ◌%◌, ◌<◌, ◌≤◌, List, length, slice_index_or, refl, ap, sym, subst, ◌∙◌, arith}
+use Rattle.std.proofs.Common.{◌≡◌, Bool, true, false, if◌then◌else◌, ℕ, zero, suc, ◌+◌, ◌*◌, ◌/◌, ◌%◌, ◌<◌, ◌≤◌, List, length, slice_index_or, ap, sym, subst, ◌∙◌, arith}
 use Rattle.std.proofs.lemmas.Bool.{lt-ltb}
 use Rattle.std.proofs.lemmas.List.{ext_get_or}
 use Rattle.std.proofs.lemmas.Nat.{div-add-mod', div_below, mod_below}
 use Rattle.std.proofs.Math.Nat.{mul_comm}
 use Rattle.solid_model.specs.declared.segment.Style.{Style}
-use Rattle.solid_model.specs.declared.segment.Style.TheVariants.{Blank, Dashed, Solid}
+use Rattle.solid_model.specs.declared.segment.Style.TheVariants.{Blank}
 use Rattle.solid_model.specs.Segments.{along_of, across_of}
 use Rattle.column_lanes.specs.Styles.{style_byte}
+use Rattle.column_lanes.proofs.StyleBytes.{same_style}
 use Rattle.fit_lanes.specs.Points.{point_byte, ArePointBytes}
 
 -- where there is a place in lines of so many, they have some length
@@ -27,18 +28,6 @@ pub same_by_lines : {A : Type 0} (d : A) (xs ys : List A) (n w : ℕ) → length
 same_by_lines {A} d xs ys n w long long_too same = ext_get_or d xs ys (long ∙ sym long_too) (λ p l.
     let at = on_line p n w (omega arith) in
     subst (λ q. slice_index_or xs q d ≡ slice_index_or ys q d) at.1.1 (same (p / w) (p % w) at.0 at.1.0))
-
--- styles with the same byte are the same
-same_style : (s t : Style) → style_byte s ≡ style_byte t → s ≡ t
-same_style Blank Blank e = refl
-same_style Blank Dashed e = absurd (omega (arith, e))
-same_style Blank Solid e = absurd (omega (arith, e))
-same_style Dashed Blank e = absurd (omega (arith, e))
-same_style Dashed Dashed e = refl
-same_style Dashed Solid e = absurd (omega (arith, e))
-same_style Solid Blank e = absurd (omega (arith, e))
-same_style Solid Dashed e = absurd (omega (arith, e))
-same_style Solid Solid e = refl
 
 module _ (w h : ℕ) (upright : Bool) (styles others : List Style) (bytes more : List ℕ)
     (of : ArePointBytes w h upright styles bytes) (of_others : ArePointBytes w h upright others more) where

@@ -1,16 +1,13 @@
 -- What a grid keeps of its coordinates.
-use Rattle.std.proofs.Common.{◌≡◌, ◌<◌, ◌≤◌, List, [], ◌∷◌, length, ℤ, ◌<ℤ◌, refl, arith}
+use Rattle.std.proofs.Common.{◌<◌, ◌≤◌, length, ℤ, ◌<ℤ◌, refl, arith}
 use Rattle.lemmas.specs.Lists.{Ascends}
+use Rattle.lemmas.proofs.Lists.{some_length}
 use Rattle.solid_model.specs.declared.cell.Axis.{Axis}
 use Rattle.solid_model.specs.Panels.{GridParts, coordinates_of, IsGrid}
 use Rattle.solid_model.proofs.SomeLines.{some_coordinates}
 use Rattle.redraw.proofs.DrawnRuns.{grid_ascends}
 use Rattle.six_views.specs.Turned.{turned_coordinates}
 use Rattle.six_views.proofs.TurnedGrid.{count-turned, counts-turned}
-
-some_length : (zs : List ℤ) → (zs ≡ [] → ⊥) → 0 < length zs
-some_length [] none = absurd (none refl)
-some_length (z ∷ zs) none = omega arith
 
 module _ (g : GridParts) (is : IsGrid g) where
   pub ordered : (a : Axis) → Ascends ◌<ℤ◌ (coordinates_of g a)

@@ -16,7 +16,6 @@ use Rattle.sink_pages.specs.Gained.{GainedText, HasGained, pages_of}
 use Rattle.sink_pages.specs.PageTexts.{Page, choices_on, pages_text}
 use Rattle.sink_pages.proofs.Gained.{choices_append}
 use Rattle.six_views.specs.Further.{FitsChoice}
-use Rattle.six_views.proofs.FitsDecided.{Decided}
 use Rattle.six_views.proofs.SiftedChoices.{sifted}
 use Rattle.recon_run.proofs.PossibleEnds.{can_list, ordered_once, rearranged}
 use Rattle.page_calls.specs.Pages.{AreNumbered, Call, HasAllPaged, HasPaged, choices_of}
@@ -38,6 +37,7 @@ use Rattle.lemmas.specs.Truth.{same_values}
 use Rattle.lemmas.proofs.Lists.{IsWithin, each-append, each-at, each-from, each-weaker, member-append_right}
 use Rattle.lemmas.proofs.Permutations.{member-permutation, once-permutation}
 use Rattle.lemmas.proofs.Truth.{Decides-same_values}
+use Rattle.lemmas.proofs.Decisions.{IsDecided}
 use Rattle.solid_model.specs.declared.segment.Segment.{Segment}
 use Rattle.solid_model.specs.declared.segment.Style.{Style}
 use Rattle.solid_model.specs.Runs.{IsDrawing}
@@ -164,14 +164,14 @@ module _ (sought : Sought) (limits : SearchLimits) (blocks : IsBlocksOf sought.p
   ordered (drawing, is, of) = (matching drawing is of).ordered
 
   -- of each choice that matches it is decided whether it fits
-  decided : IsGrid p.grid → (choice : List Bool) → Member all choice → Decided (Fitting choice)
+  decided : IsGrid p.grid → (choice : List Bool) → Member all choice → IsDecided (Fitting choice)
   decided (drawing, is, of) choice member =
       let has = each-at (λ c. (length c ≡ p.blocks.count) × IsMatchingChoice drawing (coordinates_of p.grid) p.blocks.numbers c) all choice (matching drawing is of).each member in
       let (solids, match, fill) = some_solids_of_blocks drawing p.grid of p.blocks.numbers p.blocks.count blocks.blocks (choice ∷ []) (has, tt) (tt, tt) in
       let (kept, left) = sifted p (λ a. (of.coordinates a).ordered) (further_runs sought.further) runs (choice ∷ []) solids fill
       (each-weaker (λ s. Matches drawing s × IsInStatedForm s) IsSolid solids (λ s h. h.0.0) match.matching) in by kept left
     where
-      by : (kept : List (List Bool)) → AreThose (FitsChoice p (further_runs sought.further)) (choice ∷ []) kept → Decided (Fitting choice)
+      by : (kept : List (List Bool)) → AreThose (FitsChoice p (further_runs sought.further)) (choice ∷ []) kept → IsDecided (Fitting choice)
       by kept (inl (none, rest)) = inr (λ fits. none ((alike choice).1 fits))
       by kept (inr (holds, rest)) = inl ((alike choice).0 holds)
 

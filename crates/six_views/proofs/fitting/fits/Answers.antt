@@ -8,8 +8,9 @@ use Rattle.solid_model.specs.Grid.{IsUnionOf}
 use Rattle.solid_model.specs.Panels.{GridParts, coordinates_of}
 use Rattle.dxf_entities.specs.declared.extra.Extra.TheVariants.{Left, Rear, Bottom}
 use Rattle.further_views.specs.Further.{FurtherParts, further_runs}
-use Rattle.six_views.specs.Further.{ShowsAsked, FitsRuns}
+use Rattle.six_views.specs.Further.{FitsRuns}
 use Rattle.six_views.proofs.fitting.fits.Goals as goal
+use Rattle.six_views.proofs.FitsDecided.{all_shown}
 
 -- a union of the cells of a grid is one of equal cells of an equal grid
 same_union : (g h : GridParts) (chosen cells : List Bool) (s : List Cell) → h ≡ g → cells ≡ chosen → IsUnionOf (coordinates_of g) chosen (is_full s)
@@ -17,12 +18,6 @@ same_union : (g h : GridParts) (chosen cells : List Bool) (s : List Cell) → h 
 same_union g h chosen cells s same_grid same union =
     subst (λ (k : GridParts). IsUnionOf (coordinates_of k) cells (is_full s)) (sym same_grid)
     (subst (λ (cs : List Bool). IsUnionOf (coordinates_of g) cs (is_full s)) (sym same) union)
-
--- each view is shown
-each_shown : (p : FurtherParts) (s : List Cell) → ShowsAsked p.left s Left → ShowsAsked p.rear s Rear → ShowsAsked p.bottom s Bottom → FitsRuns (further_runs p) s
-each_shown p s left rear bottom Left = left
-each_shown p s left rear bottom Rear = rear
-each_shown p s left rear bottom Bottom = bottom
 
 pub returns-then-not-branch : goal.returns-then-not-branch
 returns-then-not-branch c = λ s union.
@@ -46,6 +41,6 @@ returns c = IfOk-weaker c.shows_asked-3.result _ _ (λ yes told s union.
     let second = same_union _ _ _ _ s c.grid-grid.ensures.grid (c.deref-2.ensures.value ∙ c.in_ok-cells.ensures) union in
     let third = same_union _ _ _ _ s c.grid-grid.ensures.grid (c.deref-3.ensures.value ∙ c.in_ok-cells.ensures) union in
     subst (λ (p : FurtherParts). IsTrue yes ↔ FitsRuns (further_runs p) s) c.further.view_is (
-      (λ y. each_shown _ s ((c.in_ok-shows_asked.ensures s first).0 c.if-not-branch.false) ((c.in_ok-shows_asked-2.ensures s second).0 c.if-not-branch-2.false) ((told s third).0 y)),
+      (λ y. all_shown _ s ((c.in_ok-shows_asked.ensures s first).0 c.if-not-branch.false) ((c.in_ok-shows_asked-2.ensures s second).0 c.if-not-branch-2.false) ((told s third).0 y)),
       (λ fits. (told s third).1 (fits Bottom)),
     )) c.shows_asked-3.ensures

@@ -3,8 +3,9 @@ use Rattle.std.proofs.Common.{false, subst}
 use Rattle.std.proofs.lemmas.Bool.{false≢true, both_ways}
 use Rattle.dxf_entities.specs.declared.extra.Extra.TheVariants.{Left, Rear, Bottom}
 use Rattle.six_views.specs.Further.{SieveParts}
+use Rattle.six_views.proofs.FitsDecided.{all_shown}
 use Rattle.fit_lanes.specs.Tests.{TellsFit}
-use Rattle.fit_lanes.proofs.AllTold.{if_some_weaker, asked_told, all_shown}
+use Rattle.fit_lanes.proofs.AllTold.{if_some_weaker, asked_told}
 use Rattle.fit_lanes.proofs.further_sieve.FurtherSieve.shows_all.Goals as goal
 
 pub returns-then-not-branch-clause-told : goal.returns-then-not-branch-clause-told
