@@ -5,7 +5,6 @@ use Rattle.solid_model.specs.declared.decision.Decision.{Decision}
 use Rattle.solid_model.specs.Decisions.{decided_by}
 use Rattle.solid_model.specs.Blocks.{ProblemParts}
 use Rattle.completeness_logs.specs.declared.entry.LogEntry.{LogEntry}
-use Rattle.completeness_logs.specs.declared.entry.LogEntry.TheVariants.{Fail, Whole, Force, Split}
 use Rattle.proof_check.specs.declared.fault.LogKind.{LogKind}
 use Rattle.proof_check.specs.declared.fault.LogKind.TheVariants.{BadLine, Short}
 use Rattle.completeness_logs.specs.Logs.{KnownBlocks, IsRightEntry, after_entry, listed_at, listed_by}

@@ -1,12 +1,9 @@
 -- Lines are read as they are spelled.
-use Rattle.std.proofs.Common.{◌≡◌, ◌==◌, Bool, true, false, ℕ, zero, suc, ◌<◌, ◌≤◌, nat_lt, List, [], ◌∷◌, ◌++◌, length, get_or, Option, Some, None, option_map, if◌then◌else◌, refl, ap, ap₂, subst, ◌∙◌, codes, arith}
-use Rattle.std.specs.Char.{is_ascii_digit}
+use Rattle.std.proofs.Common.{◌≡◌, Bool, true, false, ℕ, ◌<◌, ◌≤◌, nat_lt, List, [], ◌∷◌, ◌++◌, Option, Some, None, option_map, if◌then◌else◌, refl, ap, subst, ◌∙◌, codes, arith}
 use Rattle.std.specs.Fmt.{decimal}
-use Rattle.std.specs.Str.{all_ascii_digits, bytes_eq}
-use Rattle.std.proofs.lemmas.Bool.{and_parts, and_from, lt-ltb, ltb-true, eqb-true, false≢true}
-use Rattle.std.proofs.lemmas.Fmt.{digits_decimal}
+use Rattle.std.specs.Str.{bytes_eq}
+use Rattle.std.proofs.lemmas.Bool.{and_parts, and_from, lt-ltb, ltb-true}
 use Rattle.std.proofs.lemmas.Option.{none-some, same_Some}
-use Rattle.std.proofs.lemmas.Slice.Eq.{bytes_eq-Decides}
 use Rattle.solid_model.specs.declared.frame.View.{View}
 use Rattle.solid_model.specs.declared.frame.View.TheVariants.{Front, Top, Side}
 use Rattle.completeness_logs.specs.declared.entry.LogEntry.{LogEntry}
@@ -17,8 +14,8 @@ use Rattle.completeness_logs.specs.LogTexts.{view_word, upright_word, full_word,
 use Rattle.text_lines.specs.Numbers.{number_of_word}
 use Rattle.text_lines.specs.Words.{Cut, cut, of_both, either_word}
 use Rattle.proof_check.specs.Reading.{view_of_word, place_with, place_along, place_seen_in, place_named, force_with, force_on, force_of, fail_of, split_of, entry_behind, entry_of_cut, entry_of_line, closing_count_of_cut, closing_count}
-use Rattle.text_lines.proofs.Cuts.{cut_by, back, cut_back}
-use Rattle.text_lines.proofs.NumberWords.{own, number_written, number_read}
+use Rattle.text_lines.proofs.Cuts.{back, cut_back}
+use Rattle.text_lines.proofs.NumberWords.{number_written, number_read}
 use Rattle.text_lines.proofs.Spaces.{cut_word, decimal_no_space, map_some, both_some, back_as, is_that}
 
 -- ---- spelled, then read
