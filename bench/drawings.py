@@ -109,6 +109,29 @@ def lattice(across, deep, high):
     return lattices((across, deep, high))
 
 
+def combed(across, side, teeth):
+    """A box with so many voids in a row along each axis, cubes of this side that lie as far apart; and, if there are teeth, along
+    each axis a row of unit cubes 1 off each other beside it, whose coordinates run through all of the box: each block then has
+    many grid cells."""
+    length = (2 * across + 1) * side
+    solid, hidden = [((0, 0, 0), (length,) * 3)], []
+    for at in itertools.product(range(side, length, 2 * side), repeat=3):
+        hidden.append((at, tuple(place + side for place in at)))
+    for axis in range(3) if teeth else ():
+        for place in range(0, length, 2):
+            least = tuple(place if other == axis else length + 2 * axis + 1 for other in range(3))
+            solid.append((least, tuple(one + 1 for one in least)))
+
+    def view(name, right, up):
+        return "".join(
+            rectangle(name, least[right], least[up], most[right], most[up], linetype)
+            for boxes, linetype in ((solid, None), (hidden, "DASHED"))
+            for least, most in boxes
+        )
+
+    return drawing(view("FRONT", 0, 2), view("TOP", 0, 1), view("SIDE", 1, 2))
+
+
 def diagonal(cubes):
     """So many unit cubes on the diagonal of space, each 1 off the next."""
 

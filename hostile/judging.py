@@ -11,11 +11,13 @@ sys.path.append(str(pathlib.Path(__file__).resolve().parent.parent / "bench"))
 Job = collections.namedtuple("Job", "words text")
 # What an undisturbed run gave: its status, what it wrote without the pages, and the choices that it lists.
 Answer = collections.namedtuple("Answer", "status text choices")
+# A page that a reader is asked for: its number, from which place on, and how many choices at most.
+Asked = collections.namedtuple("Asked", "reader first most")
 
 
 def answer(path, job):
-    """The answer of an undisturbed run, without pages and by one worker."""
-    words = [word for word in job.words if word != "--pages"]
+    """The answer of an undisturbed run, without pages and readers."""
+    words = ["solve" if word == "ask" else word for word in job.words if word != "--pages"]
     ended = subprocess.run([path, *words], input=job.text, stdout=subprocess.PIPE, stderr=subprocess.PIPE)
     if ended.stderr:
         sys.exit(f"{words}: {ended.stderr[:200]!r} on standard error, undisturbed")
@@ -64,17 +66,56 @@ def walk_pages(wrote, choices):
     return at, not left
 
 
-def is_prefix(wrote, paged, answer):
-    """Whether what was written is a prefix of a right text: pages whose choices are the answer's, where pages are asked for,
-    and then the answer."""
-    if not paged:
-        return answer.text.startswith(wrote)
+def pages_asked(text):
+    """The pages that are asked for behind a drawing, in the order in which they are told: reader by reader."""
+    lines = [line.split() for line in text[text.rindex(b"\nEOF\n") :].splitlines()]
+    asked = [Asked(int(words[0]), int(words[2]), int(words[3])) for words in lines if words[1:2] == [b"page"]]
+    return sorted(asked, key=lambda page: page.reader)
+
+
+def walk_readers(wrote, choices, asked):
+    """The number of bytes of the readers' pages that a text begins with, and whether each page that is asked for stands in them;
+    or None where they aren't right as far as they come. What a page told a later one of that reader tells at the same place."""
+    lines, at, told = iter(wrote.splitlines(keepends=True)), 0, collections.defaultdict(dict)
+
+    def is_cut(line, whole):
+        return at + len(line) == len(wrote) and any(one.startswith(line) for one in whole)
+
+    for page in asked:
+        begins = b"reader %d page %d solids " % (page.reader, page.first)
+        counts = {b"%s%d ends %d\n" % (begins, count, ends): count for count in range(page.most + 1) for ends in (0, 1)}
+        line, seen = next(lines, b""), told[page.reader]
+        if line not in counts:
+            return (len(wrote), False) if is_cut(line, counts) else None
+        at += len(line)
+        for place in range(page.first, page.first + counts[line]):
+            others = {one for other, one in seen.items() if other != place}
+            may = {b"choice %s\n" % one: one for one in choices if one not in others and seen.get(place, one) == one}
+            line = next(lines, b"")
+            if line not in may:
+                return (len(wrote), False) if is_cut(line, may) else None
+            seen[place] = may[line]
+            at += len(line)
+    return at, True
+
+
+def walk(wrote, job, answer):
+    """The same of what a job writes before its answer: pages, what readers tell, or nothing."""
     if wrote and answer.text.startswith(wrote) and not answer.choices:
-        return True
-    walked = walk_pages(wrote, answer.choices)
+        return 0, True
+    if job.words[0] == "ask":
+        return walk_readers(wrote, answer.choices, pages_asked(job.text))
+    return walk_pages(wrote, answer.choices) if "--pages" in job.words else (0, True)
+
+
+def is_prefix(wrote, job, answer):
+    """Whether what was written is a prefix of a right text: what comes before the answer, whose choices are the answer's, and
+    then the answer."""
+    walked = walk(wrote, job, answer)
     return walked is not None and (walked[0] == len(wrote) or walked[1] and answer.text.startswith(wrote[walked[0] :]))
 
 
-def is_right(wrote, paged, answer):
+def is_right(wrote, job, answer):
     """Whether what was written is a right text, whole."""
-    return is_prefix(wrote, paged, answer) and wrote.endswith(answer.text)
+    walked = walk(wrote, job, answer)
+    return walked is not None and walked[1] and wrote[walked[0] :] == answer.text
