@@ -10,7 +10,7 @@
 
 use crate::shared::{Answered, Shared};
 use search_core::{Desk, ReadyReport};
-use solid_model::Prefix;
+use solid_model::{Memory, Prefix};
 use std::alloc::Global;
 use std::sync::atomic::{AtomicU32, Ordering};
 use std::sync::{Condvar, Mutex, MutexGuard, Wait};
@@ -121,13 +121,14 @@ impl<B: Wait + Drop> Room<B> {
         self.wake_all();
     }
 
-    /// Reports. The rest is handed over; `None`: the worker is to leave.
+    /// Reports. The rest is handed over; `None`: the worker is to leave. An `Err` is out of memory
+    /// before the report is taken.
     pub fn report<R: Wait>(
         &self,
         rt: &R,
         alloc: Global,
         report: ReadyReport,
-    ) -> Option<Vec<Prefix>> {
+    ) -> Result<Option<Vec<Prefix>>, Memory> {
         let Answered { rest, news } = self.enter(rt).report(alloc, report);
         if news {
             self.news.notify_all();
@@ -161,11 +162,11 @@ impl<B: Wait + Drop> Room<B> {
         self.news.notify_all();
     }
 
-    /// The desk, once all workers have left. `None`: memory ran out.
-    pub fn into_desk(self) -> Option<Desk> {
+    /// The desk, once all workers have left.
+    pub fn into_desk(self) -> Desk {
         let Room { shared, .. } = self;
-        let (desk, book, failed) = shared.into_inner().into_parts();
+        let (desk, book) = shared.into_inner().into_parts();
         book.end();
-        if failed { None } else { Some(desk) }
+        desk
     }
 }

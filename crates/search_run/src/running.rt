@@ -103,10 +103,7 @@ pub fn run_search<R: Threads + Wait + Sync, G: Gate, P: PageOut>(
         search_together(rt, alloc, &shop, path, seats, reader, pages)
     };
     match handed {
-        Ok(handed) => match room.into_desk() {
-            Some(desk) => finish(alloc, &problem, limits, desk, handed, pages),
-            None => Err(RunFault::Memory),
-        },
+        Ok(handed) => finish(alloc, &problem, limits, room.into_desk(), handed, pages),
         Err(fault) => Err(fault),
     }
 }

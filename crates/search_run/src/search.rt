@@ -117,11 +117,11 @@ impl<B: Wait + Drop> Search<B> {
     }
 
     /// Ends it, once all workers have returned, and gives its desk, for a caller who has choices
-    /// to list before those of the desk. An `Err` is out of memory. It may wait for readers, and
-    /// what a reader calls afterwards may never return.
-    pub fn close(self) -> Result<Desk, Memory> {
+    /// to list before those of the desk. It may wait for readers, and what a reader calls
+    /// afterwards may never return.
+    pub fn close(self) -> Desk {
         let Search { room, .. } = self;
-        room.into_desk().ok_or(Memory)
+        room.into_desk()
     }
 
     /// Ends it, once all workers have returned, and given all its seats. Where it is to go on, the
@@ -141,7 +141,7 @@ impl<B: Wait + Drop> Search<B> {
         ensures found { IfOk result ListsFound }
     {
         drop(seats);
-        let desk = self.close()?;
+        let desk = self.close();
         end_search(alloc, problem, limits, desk, Vec::new(alloc), go_on)
     }
 }

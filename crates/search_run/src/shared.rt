@@ -19,24 +19,24 @@ const QUIET: u32 = 64;
 /// What a report comes to.
 #[derive(Drop)]
 pub struct Answered {
-    /// The rest, of a report that is taken. `None`: the worker is to leave, since the desk has
-    /// ended, all are to stop or memory ran out; it signals that change when it leaves.
-    pub rest: Option<Vec<Prefix>>,
+    /// The rest, of a report that is taken. `None`: the worker is to leave, since the desk has ended
+    /// or all are to stop; it signals that change when it leaves. An `Err` is out of memory before
+    /// the report is taken.
+    pub rest: Result<Option<Vec<Prefix>>, Memory>,
     /// Whether the caller is to be told of solids now.
     pub news: bool,
 }
 
 /// The value under the lock: the desk, the writer of its book, how many workers are at work,
-/// whether all are to stop, whether memory ran out, and how many changes were signalled, which goes
-/// on from 0 after the greatest `u64`. One hold of the lock makes one report at most. Contracts see
-/// it as the desk and the edition that is published.
+/// whether all are to stop, and how many changes were signalled, which goes on from 0 after the
+/// greatest `u64`. One hold of the lock makes one report at most. Contracts see it as the desk and
+/// the edition that is published.
 #[derive(Drop)]
 pub struct Shared<B: Wait + Drop> {
     desk: Desk,
     book: BookWriter<B>,
     at_work: u32,
     stop: bool,
-    failed: bool,
     changes: u64,
     /// How many solids were published when the caller was last told.
     told: usize,
@@ -68,7 +68,6 @@ impl<B: Wait + Drop> Shared<B> {
             book,
             at_work: workers,
             stop: false,
-            failed: false,
             changes: 0,
             told: 0,
             quiet: QUIET,
@@ -91,9 +90,9 @@ impl<B: Wait + Drop> Shared<B> {
         self.book.published()
     }
 
-    /// Whether workers are to leave: the desk has ended, all are to stop, or memory ran out.
+    /// Whether workers are to leave: the desk has ended, or all are to stop.
     fn is_over(&self) -> bool {
-        self.stop || self.failed || self.desk.end().is_some()
+        self.stop || self.desk.end().is_some()
     }
 
     /// Whether nothing more will be published: it is over, or nobody is at work, who could find
@@ -154,14 +153,22 @@ impl<B: Wait + Drop> Shared<B> {
         Ok(())
     }
 
-    /// Takes a report and publishes what is new. The rest is handed over, of a report that is
-    /// taken. An `Err` is out of memory.
-    fn take_in(&mut self, alloc: Global, report: ReadyReport) -> Result<Vec<Prefix>, Memory> {
+    /// Takes a report and publishes what is new. What can't be published, out of memory, the book
+    /// lacks from then on, and the desk has. The rest is handed over, unless the worker is to leave.
+    /// An `Err` is out of memory before the report is taken.
+    fn take_in(
+        &mut self,
+        alloc: Global,
+        report: ReadyReport,
+    ) -> Result<Option<Vec<Prefix>>, Memory> {
         let answer = self.note(report)?;
-        self.publish_new(alloc)?;
+        let _published = self.publish_new(alloc);
+        if self.is_over() {
+            return Ok(None);
+        }
         match answer {
-            Reported::Taken { rest } => Ok(rest),
-            _ => Ok(Vec::new(alloc)),
+            Reported::Taken { rest } => Ok(Some(rest)),
+            _ => Ok(Some(Vec::new(alloc))),
         }
     }
 
@@ -178,37 +185,19 @@ impl<B: Wait + Drop> Shared<B> {
         true
     }
 
-    /// Takes a report and publishes what is new. The rest is handed over, unless the worker is to
-    /// leave.
-    fn rest_of(&mut self, alloc: Global, report: ReadyReport) -> Option<Vec<Prefix>> {
-        match self.take_in(alloc, report) {
-            Ok(_) if self.is_over() => None,
-            Ok(rest) => Some(rest),
-            Err(Memory) => {
-                self.failed = true;
-                None
-            }
-        }
-    }
-
     /// Takes a report and publishes what is new.
     pub fn report(&mut self, alloc: Global, report: ReadyReport) -> Answered {
-        let rest = self.rest_of(alloc, report);
+        let rest = self.take_in(alloc, report);
         let news = self.tell();
         Answered { rest, news }
     }
 
-    /// The desk and its book, and whether memory ran out.
-    pub fn into_parts(self) -> (Desk, BookWriter<B>, bool)
+    /// The desk and its book.
+    pub fn into_parts(self) -> (Desk, BookWriter<B>)
         ensures desk { result.0 ≡ self.desk }
         ensures book { result.1.edition ≡ self.edition }
     {
-        let Shared {
-            desk,
-            book,
-            failed,
-            ..
-        } = self;
-        (desk, book, failed)
+        let Shared { desk, book, .. } = self;
+        (desk, book)
     }
 }

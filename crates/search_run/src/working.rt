@@ -41,7 +41,7 @@ fn report_of(
 }
 
 /// Expands a piece and reports it. The rest is handed over; `None`: the worker is to leave. An
-/// `Err` is out of memory before the report.
+/// `Err` is out of memory before the report is taken.
 fn work_at<B: Wait + Drop, R: Wait, G: Gate>(
     rt: &R,
     alloc: Global,
@@ -56,7 +56,7 @@ fn work_at<B: Wait + Drop, R: Wait, G: Gate>(
     shop.gate.pass(worker, Point::BeforeExpand);
     match report_of(alloc, path, shop.problem, worker, piece)? {
         Some(report) => {
-            let rest = shop.room.report(rt, alloc, report);
+            let rest = shop.room.report(rt, alloc, report)?;
             shop.gate.pass(worker, Point::AfterReport);
             Ok(rest)
         }

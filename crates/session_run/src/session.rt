@@ -94,7 +94,7 @@ pub fn run_session<R: Threads + Wait + Sync, G: Gate>(
     let own = Arc::try_clone(&problem)?;
     let (search, seats, readers) = Search::open(rt, alloc, own, limits, workers, readers)?;
     let tales = tell_together(rt, alloc, &search, seats, gate, scripts, readers)?;
-    let desk = search.close()?;
+    let desk = search.close();
     let end = end_of(
         alloc,
         &problem,
