@@ -6,7 +6,6 @@ ghost use Rattle.solid_model.specs.Limits.{most_grid_coordinates};
 ghost use Rattle.solid_model.specs.PerAxis.{numbers_of};
 ghost use Rattle.solid_model.specs.Known.{LiesWithin};
 
-use crate::cells::{cells, numbers};
 use crate::grids::grid_in;
 use column_lanes::{Column, style_of};
 use columns::{ColumnSet, columns_in, columns_of, draw_cells, draw_in};
@@ -15,7 +14,7 @@ use solid_model::{Grid, Panel, Panels, PerAxis, Style, View};
 use std::alloc::Global;
 use std::fmt::Write;
 use std::test::Fail;
-use test_files::{Row, row_of};
+use test_files::{Row, cells, numbers, row_of};
 
 /// A row a drawing: the numbers of coordinates along x, y and z, a digit each; the cells, layer by
 /// layer from the bottom, in each row by row from the front, a `#` for each that is chosen; and for

@@ -1,11 +1,9 @@
-//! Tests of the stages by their public calls: what no clause says. Expected values were found by
-//! hand.
+//! Tests of the stages from a file to its columns by their public calls: what no clause says.
+//! Expected values were found by hand.
 #![tactic(auto)]
 
 #[cfg(test)]
 mod arguments;
-#[cfg(test)]
-mod cells;
 #[cfg(test)]
 mod column_styles;
 #[cfg(test)]
@@ -13,26 +11,14 @@ mod columns_met;
 #[cfg(test)]
 mod drawn_columns;
 #[cfg(test)]
-mod face_lists;
-#[cfg(test)]
-mod fitting_solids;
-#[cfg(test)]
 mod graphs;
 #[cfg(test)]
 mod grids;
-#[cfg(test)]
-mod planes;
 #[cfg(test)]
 mod six_layers;
 #[cfg(test)]
 mod sources;
 #[cfg(test)]
 mod successions;
-#[cfg(test)]
-mod surface_texts;
-#[cfg(test)]
-mod surfaces;
-#[cfg(test)]
-mod texts;
 #[cfg(test)]
 mod view_runs;

@@ -1,8 +1,10 @@
-//! What the tables of tests are made of: rows, and the files that they tell in steps.
+//! What the tables of tests are made of: rows, the boxes of cells, and the files, that they tell.
 #![tactic(auto)]
 
+mod boxes;
 mod files;
 mod rows;
 
+pub use boxes::{cells, numbers, rows_of};
 pub use files::{drawing_file, file_bytes, file_of, layer_of, padded_file};
 pub use rows::{Row, row_of};

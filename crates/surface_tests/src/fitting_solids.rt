@@ -1,8 +1,10 @@
 //! Solids, and the further views that they fit.
 
 use crate::surfaces::{choice_of, problem_at};
+use choice_sieves::Sieve;
 use dxf_entities::entities;
 use dxf_groups::Groups;
+use fit_lanes::FurtherSieve;
 use further_views::Further;
 use six_views::fits;
 use solid_model::{Problem, View, ViewLines};
@@ -127,6 +129,41 @@ fn fitting_in(alloc: Global, row: Row<'_>) -> Result<String, Fail> {
     fitting(alloc, &problem, &further, row.parts[4])
 }
 
+/// Whether a sieve says of a choice that is told so what is said by runs.
+fn agrees(
+    alloc: Global,
+    sieve: &mut FurtherSieve<'_>,
+    told: &str,
+    fits: bool,
+) -> Result<bool, Fail> {
+    let choice = choice_of(alloc, told)?;
+    Ok(sieve.fits(alloc, &choice)? == fits)
+}
+
+/// Whether the sieve of further views says of each of the choices what is said by runs.
+fn all_agree(
+    alloc: Global,
+    problem: &Problem,
+    further: &Further,
+    choices: &str,
+) -> Result<bool, Fail> {
+    let mut sieve = FurtherSieve::of(alloc, problem, further)?;
+    for told in choices.split(' ') {
+        let fits = choice_fits(alloc, problem, further, told)?;
+        if !agrees(alloc, &mut sieve, told, fits)? {
+            return Ok(false);
+        }
+    }
+    Ok(true)
+}
+
+/// The same of a row's choices.
+fn all_agree_in(alloc: Global, row: Row<'_>) -> Result<bool, Fail> {
+    let problem = problem_at(alloc, drawing_named(row.parts[0]))?;
+    let further = further_in(alloc, row)?;
+    all_agree(alloc, &problem, &further, row.parts[4])
+}
+
 #[test]
 fn solids_fit_their_further_views_alone(rt: HostRuntime) -> Result<(), Fail> {
     for line in FURTHER.lines() {
@@ -136,6 +173,14 @@ fn solids_fit_their_further_views_alone(rt: HostRuntime) -> Result<(), Fail> {
             row.wanted,
             "{line}"
         );
+    }
+    Ok(())
+}
+
+#[test]
+fn lanes_tell_what_runs_do(rt: HostRuntime) -> Result<(), Fail> {
+    for line in FURTHER.lines() {
+        assert!(rt; all_agree_in(rt.alloc(), row_of(line))?, "{line}");
     }
     Ok(())
 }

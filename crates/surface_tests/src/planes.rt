@@ -1,12 +1,11 @@
 //! Squares whose loops were found by hand.
 
-use crate::cells::{numbers, rows_of};
 use faces::{PlaneLoop, Squares, plane_loops, plane_squares};
 use solid_model::Out;
 use std::alloc::Global;
 use std::fmt::Write;
 use std::test::Fail;
-use test_files::{Row, row_of};
+use test_files::{Row, numbers, row_of, rows_of};
 
 /// The sizes of a plate, a digit each; its squares, row by row from the lowest one up; whether
 /// points come by v, then u (`up`), or by u, then v (`right`); and the loops. Each loop is told by

@@ -1,13 +1,12 @@
 //! Solids whose faces were found by hand.
 
-use crate::cells::{cells, numbers, rows_of};
 use crate::surfaces::problem_at;
 use faces::{counted_faces, faces_of_rows, faces_of_solid};
 use solid_model::{Face, Grid, Loop, Out};
 use std::alloc::Global;
 use std::fmt::Write;
 use std::test::Fail;
-use test_files::{Row, row_of};
+use test_files::{Row, cells, numbers, row_of, rows_of};
 
 /// How many cells there are along each axis, the cells, x fastest and z slowest, and the faces:
 /// each is told by its outward side, the coordinate of its plane, and its loops, a digit a
