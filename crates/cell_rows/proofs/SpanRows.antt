@@ -31,21 +31,9 @@ all_spans b a rows count held all = record {
       choice n within refl k l;
 }
 
--- one row more is filled
-pub filled_more : (choice : List Bool) (spans : List (List Span)) (rows : List ℕ) (place word : ℕ) → AreFilled choice spans rows place
-    → place < length rows → ((k : ℕ) → is_set word k ≡ is_filled choice (get_or spans place []) k)
-    → AreFilled choice spans (set rows place word) (place + 1)
-filled_more choice spans rows place word so_far there filled p k l =
-    elim (cases_lt p place) as (λ _. is_set (get_or (set rows place word) p 0) k ≡ is_filled choice (get_or spans p []) k) [
-      | inl earlier ↦ ap (λ w. is_set w k) (get_or-set_other rows place p word 0 (omega arith)) ∙ so_far p k earlier
-      | inr later ↦ (let at : place ≡ p = omega arith in
-          subst (λ q. is_set (get_or (set rows place word) q 0) k ≡ is_filled choice (get_or spans q []) k) at
-          (ap (λ w. is_set w k) (get_or-set_same rows place word 0 there) ∙ filled k))
-    ]
-
 -- filled rows are those of the choice's marks
 pub filled_rows : (b : BlockNumbers) (a : Axis) (choice : List Bool) (spans : List (List Span)) (rows : List ℕ) → AreRowSpans b a spans
-    → length rows ≡ length spans → AreFilled choice spans rows (length spans) → AreRows (chosen_marks b choice) a rows
+    → length rows ≡ length spans → AreFilled choice spans rows → AreRows (chosen_marks b choice) a rows
 filled_rows b a choice spans rows are same filled = record {
   listed = same ∙ are.listed choice;
   each = λ n within k l.

@@ -1,14 +1,15 @@
 //! The rows of a box by the blocks to which its cells belong.
 
-ghost use Rattle.std.specs.Prelude.{◌≡◌, ◌≢◌, ◌≤◌, ◌<◌, ◌++◌, ◌∷◌, ◌||◌, [], ℕ, Bool, List, map, IsTrue, IfOk};
+ghost use Rattle.std.specs.Prelude.{◌≡◌, ◌≢◌, ◌≤◌, ◌<◌, ◌++◌, ◌∷◌, ◌||◌, [], ℕ, Bool, List, IsTrue, IfOk};
 ghost use Rattle.cell_rows.specs.Rows.{is_marked_at};
 ghost use Rattle.cell_rows.specs.Spans.{is_filled, chosen_marks, AreRowSpans};
 ghost use Rattle.lemmas.specs.Bits.{is_set};
 ghost use Rattle.solid_model.specs.Choices.{is_chosen};
 ghost use Rattle.solid_model.specs.PerAxis.{numbers_of};
 
+use crate::row_spans::RowSpans;
 use crate::span::Span;
-use solid_model::{Axis, Blocks, Choice, Memory, PerAxis, Problem};
+use solid_model::{Axis, Blocks, Memory, PerAxis, Problem};
 use std::alloc::Global;
 use std::marker::Model;
 
@@ -17,13 +18,12 @@ use std::marker::Model;
 #[derive(Debug, Drop)]
 pub struct BlockRows<'a> {
     blocks: &'a Blocks,
-    x: Vec<Vec<Span>>,
-    y: Vec<Vec<Span>>,
-    z: Vec<Vec<Span>>,
+    x: RowSpans,
+    y: RowSpans,
+    z: RowSpans,
 }
 
 impl<'a> Model for BlockRows<'a> {
-    ghost use Rattle.std.specs.Prelude.{map};
     ghost use Rattle.cell_rows.specs.Spans.{AreAllRowSpans};
     ghost use Rattle.solid_model.specs.Blocks.{BlockNumbers};
 
@@ -31,8 +31,7 @@ impl<'a> Model for BlockRows<'a> {
 
     ghost view = { λ s. s.blocks.now };
 
-    ghost invariant = { λ s. AreAllRowSpans s.blocks.now (map (λ r. r.items) s.x.items)
-        (map (λ r. r.items) s.y.items) (map (λ r. r.items) s.z.items) };
+    ghost invariant = { λ s. AreAllRowSpans s.blocks.now s.x s.y s.z };
 }
 
 /// Both are the same.
@@ -119,30 +118,17 @@ fn spans_along(
     blocks: &Blocks,
     sizes: PerAxis,
     axis: Axis,
-) -> Result<Vec<Vec<Span>>, Memory>
+) -> Result<RowSpans, Memory>
     requires sizes { sizes ≡ blocks.now.sizes }
     requires few { (a : Axis) → numbers_of sizes a ≤ 63 }
-    ensures { IfOk result (λ rows. AreRowSpans blocks.now axis (map (λ r. r.items) rows.items)) }
+    ensures { IfOk result (AreRowSpans blocks.now axis) }
 {
     let ends = sizes.numbered(axis, 1);
     let mut rows = Vec::with_capacity(alloc, ends.count())?;
     for place in 0..ends.count() {
         rows.push(spans_of(alloc, blocks, sizes, axis, ends.cell(place))?)?;
     }
-    Ok(rows)
-}
-
-/// The cells of a row that a choice fills.
-pub fn filled_row(spans: &[Span], choice: &Choice) -> u64
-    ensures { (k : ℕ) → is_set result k ≡ is_filled choice.now spans.now k }
-{
-    let mut row = 0;
-    for span in spans {
-        if choice.fills(span.block) {
-            row |= span.cells;
-        }
-    }
-    row
+    RowSpans::new(alloc, rows)
 }
 
 impl<'a> BlockRows<'a> {
@@ -162,20 +148,20 @@ impl<'a> BlockRows<'a> {
 }
 
 impl BlockRows<'_> {
-    ghost use Rattle.std.specs.Prelude.{◌≡◌, length, map};
+    ghost use Rattle.std.specs.Prelude.{◌≡◌, length};
     ghost use Rattle.cell_rows.specs.Spans.{AreRowSpans};
     ghost use Rattle.solid_model.specs.PerAxis.{numbers_of};
     ghost use Rattle.solid_model.specs.Rooms.{box_count};
 
     /// The spans of all rows along an axis.
-    pub fn along(&self, axis: Axis) -> &[Vec<Span>]
-        ensures spans { AreRowSpans self.now axis (map (λ r. r.items) result.now) }
+    pub fn along(&self, axis: Axis) -> &RowSpans
+        ensures spans { AreRowSpans self.now axis result.now }
         ensures all { length self.now.numbers ≡ box_count (numbers_of self.now.sizes) }
     {
         match axis {
-            Axis::X => self.x.as_slice(),
-            Axis::Y => self.y.as_slice(),
-            Axis::Z => self.z.as_slice(),
+            Axis::X => &self.x,
+            Axis::Y => &self.y,
+            Axis::Z => &self.z,
         }
     }
 }

@@ -7,11 +7,13 @@
 mod bit_places;
 mod block_rows;
 mod layer_rows;
+mod row_spans;
 mod rows;
 mod span;
 
 pub use bit_places::{has_bit, next_place};
 pub use block_rows::BlockRows;
 pub use layer_rows::LayerRows;
-pub use rows::{CellRows, fill_rows};
+pub use row_spans::RowSpans;
+pub use rows::CellRows;
 pub use span::Span;

@@ -1,14 +1,12 @@
 //! The rows of a box of marked cells.
 
-ghost use Rattle.std.specs.Prelude.{◌≡◌, ◌≤◌, ◌<◌, ℕ, length, map, IfOk};
+ghost use Rattle.std.specs.Prelude.{◌≡◌, ◌≤◌, ◌<◌, ℕ, IfOk};
 ghost use Rattle.cell_rows.specs.Rows.{is_marked_at, stride_along, AreRows};
-ghost use Rattle.cell_rows.specs.Spans.{AreFilled};
 ghost use Rattle.lemmas.specs.Bits.{is_set};
 ghost use Rattle.solid_model.specs.PerAxis.{numbers_of, AreFew};
 
-use crate::block_rows::{BlockRows, filled_row};
+use crate::block_rows::BlockRows;
 use crate::layer_rows::LayerRows;
-use crate::span::Span;
 use solid_model::{Axis, Choice, Marks, Memory, Out, PerAxis, Problem};
 use std::alloc::Global;
 use std::marker::Model;
@@ -82,18 +80,6 @@ fn rows_along(alloc: Global, marks: &Marks, axis: Axis) -> Result<Vec<u64>, Memo
     Ok(rows)
 }
 
-/// Puts what a choice fills of each row in the row's place.
-pub fn fill_rows(rows: &mut Vec<u64>, spans: &[Vec<Span>], choice: &Choice)
-    requires { length rows.old.items ≡ length spans.now }
-    ensures count { length rows.new.items ≡ length rows.old.items }
-    ensures filled { AreFilled choice.now (map (λ r. r.items) spans.now) rows.new.items
-        (length spans.now) }
-{
-    for place in 0..spans.len() {
-        rows[place] = filled_row(spans[place].as_slice(), choice);
-    }
-}
-
 impl CellRows {
     ghost use Rattle.std.specs.Prelude.{◌≡◌, ◌≤◌, ◌<◌, ℕ, pos, ◌-ℤ◌, IfOk};
     ghost use Rattle.cell_rows.specs.Layers.{AreLayer};
@@ -132,9 +118,9 @@ impl CellRows {
         requires { self.old.sizes ≡ blocks.now.sizes }
         ensures { self.new ≡ chosen_marks blocks.now choice.now }
     {
-        fill_rows(&mut self.x, blocks.along(Axis::X), choice);
-        fill_rows(&mut self.y, blocks.along(Axis::Y), choice);
-        fill_rows(&mut self.z, blocks.along(Axis::Z), choice);
+        blocks.along(Axis::X).fill(choice, self.x.as_mut_slice());
+        blocks.along(Axis::Y).fill(choice, self.y.as_mut_slice());
+        blocks.along(Axis::Z).fill(choice, self.z.as_mut_slice());
     }
 
     /// How many cells there are along each axis.

@@ -38,7 +38,7 @@ no_bits n none = λ t k. by k t
     by (negsuc k) = refl
 
 module _ (x : Extra) (sizes : Sizes) (numbers : List (Option ℕ)) (sights : List (List Span)) (are : AreSights x sizes numbers sights)
-    (choice : List Bool) (columns : List ℕ) (filled : AreFilled choice sights columns (length sights)) where
+    (choice : List Bool) (columns : List ℕ) (filled : AreFilled choice sights columns) where
   abbrev f : Frame
   f = further_frame x
 

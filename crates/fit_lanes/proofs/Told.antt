@@ -37,7 +37,7 @@ rows_more h w =
     ap (λ n. n * (w + 1)) next ∙ suc-mul (h + 1) (w + 1)
 
 module _ (g : GridParts) (is : IsGrid g) (numbers : List (Option ℕ)) (x : Extra) (sights : List (List Span)) (are : AreSights x (grid_sizes g) numbers sights)
-    (choice : List Bool) (columns : List ℕ) (filled : AreFilled choice sights columns (length sights)) (s : List Cell)
+    (choice : List Bool) (columns : List ℕ) (filled : AreFilled choice sights columns) (s : List Cell)
     (union : IsUnionOf (coordinates_of g) (cells_of_choice numbers choice) (is_full s)) where
   abbrev sizes : Sizes
   sizes = grid_sizes g

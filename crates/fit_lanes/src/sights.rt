@@ -1,6 +1,6 @@
 //! The grid cells that stand behind the points of a view's grid, by their blocks.
 
-ghost use Rattle.std.specs.Prelude.{◌≡◌, ◌≤◌, ◌<◌, ◌&&◌, Bool, ℕ, List, map, nat_lt, pos, IfOk};
+ghost use Rattle.std.specs.Prelude.{◌≡◌, ◌≤◌, ◌<◌, ◌&&◌, Bool, ℕ, List, nat_lt, pos, IfOk};
 ghost use Rattle.cell_rows.specs.Spans.{is_filled};
 ghost use Rattle.column_laws.specs.GridColumns.{grid_column};
 ghost use Rattle.fit_lanes.specs.Sights.{IsSightAt, AreSights};
@@ -11,7 +11,7 @@ ghost use Rattle.solid_model.specs.GridPlaces.{number_on};
 ghost use Rattle.solid_model.specs.PerAxis.{numbers_of};
 ghost use Rattle.six_views.specs.FurtherFrames.{further_frame};
 
-use cell_rows::{BlockRows, Span, has_bit};
+use cell_rows::{BlockRows, RowSpans, Span, has_bit};
 use further_views::Extra;
 use six_views::frame_of;
 use solid_model::{Direction, Memory, PerAxis, cell_in, number_on};
@@ -75,7 +75,7 @@ fn sight(
     let axis = frame.away.axis;
     let cell = cell_in(frame, sizes, right, up, 0).numbered(axis, 0);
     let place = sizes.numbered(axis, 1).place(cell);
-    seen_spans(alloc, sizes, frame.away, rows.along(axis)[place].as_slice())
+    seen_spans(alloc, sizes, frame.away, rows.along(axis).row(place))
 }
 
 /// The spans behind a place of a view's points with a row more before them.
@@ -107,11 +107,10 @@ pub fn sights(
     rows: &BlockRows<'_>,
     sizes: PerAxis,
     extra: Extra,
-) -> Result<Vec<Vec<Span>>, Memory>
+) -> Result<RowSpans, Memory>
     requires sizes { sizes ≡ rows.now.sizes }
     requires few { (a : Axis) → numbers_of sizes a ≤ 63 }
-    ensures { IfOk result (λ sights. AreSights extra (numbers_of sizes) rows.now.numbers
-        (map (λ r. r.items) sights.items)) }
+    ensures { IfOk result (AreSights extra (numbers_of sizes) rows.now.numbers) }
 {
     let frame = frame_of(extra);
     let stride = sizes.along(frame.right.axis) + 1;
@@ -120,5 +119,5 @@ pub fn sights(
     for place in 0..places {
         sights.push(sight_at(alloc, rows, sizes, extra, place)?)?;
     }
-    Ok(sights)
+    RowSpans::new(alloc, sights)
 }

@@ -6,7 +6,7 @@ ghost use Rattle.fit_lanes.specs.Tests.{AreDrawn, DrawsFirst};
 use crate::points::{begins, draw};
 use crate::sights::sights;
 use crate::wanted::wanted_bytes;
-use cell_rows::{BlockRows, Span, fill_rows};
+use cell_rows::{BlockRows, RowSpans};
 use further_views::Extra;
 use six_views::frame_of;
 use solid_model::{Axis, Choice, Memory, Problem, ViewLines};
@@ -20,7 +20,7 @@ pub struct ViewTest<'a> {
     problem: &'a Problem,
     extra: Extra,
     shown: &'a ViewLines,
-    sights: Vec<Vec<Span>>,
+    sights: RowSpans,
     level: Option<Vec<u8>>,
     upright: Option<Vec<u8>>,
     columns: Vec<u64>,
@@ -28,7 +28,7 @@ pub struct ViewTest<'a> {
 }
 
 impl<'a> Model for ViewTest<'a> {
-    ghost use Rattle.std.specs.Prelude.{map, true, false, MatchOption};
+    ghost use Rattle.std.specs.Prelude.{true, false, MatchOption};
     ghost use Rattle.fit_lanes.specs.Kept.{IsRoomOf};
     ghost use Rattle.fit_lanes.specs.Tests.{ViewAsked};
     ghost use Rattle.fit_lanes.specs.Wanted.{AreWantedBytes, AreNeverDrawn};
@@ -39,8 +39,7 @@ impl<'a> Model for ViewTest<'a> {
     ghost view = { λ s. record { problem = s.problem.now; extra = s.extra; shown = s.shown.now } };
 
     ghost invariant = { λ s.
-        IsRoomOf s.problem.now s.extra s.shown.now (map (λ r. r.items) s.sights.items)
-        s.columns.items s.drawn.items
+        IsRoomOf s.problem.now s.extra s.shown.now s.sights s.columns.items s.drawn.items
         × MatchOption s.level
         (AreNeverDrawn (coordinates_of s.problem.now.grid) s.extra false s.shown.now)
         (λ v. AreWantedBytes (coordinates_of s.problem.now.grid) s.extra false s.shown.now
@@ -118,7 +117,7 @@ impl<'a> ViewTest<'a> {
         let frame = frame_of(extra);
         let points = (sizes.along(frame.up.axis) + 1) * (sizes.along(frame.right.axis) + 1);
         let sights = sights(alloc, rows, sizes, extra)?;
-        let columns = vec![in alloc; 0; sights.len()]?;
+        let columns = vec![in alloc; 0; sights.count()]?;
         let drawn = vec![in alloc; 0; points]?;
         Ok(ViewTest {
             problem,
@@ -143,7 +142,7 @@ impl ViewTest<'_> {
         ensures same { self.new ≡ self.old }
         ensures told { IfSome result (λ yes. TellsShown self.old choice.now yes) }
     {
-        fill_rows(&mut self.columns, &self.sights, choice);
+        self.sights.fill(choice, self.columns.as_mut_slice());
         let frame = frame_of(self.extra);
         let sizes = self.problem.grid().sizes();
         let (width, height) = (sizes.along(frame.right.axis), sizes.along(frame.up.axis));

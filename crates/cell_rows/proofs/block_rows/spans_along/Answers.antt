@@ -1,10 +1,11 @@
 -- One row more; and all of them.
 use Rattle.std.proofs.Common.{◌≡◌, Bool, List, ◌∷◌, [], map, refl, ap, sym, subst, ◌∙◌, arith}
 use Rattle.std.proofs.lemmas.List.{map-append}
+use Rattle.std.proofs.lemmas.Result.{IfOk-weaker}
 use Rattle.solid_model.specs.PerAxis.{numbers_of, numbered, AreFew}
 use Rattle.solid_model.specs.Rooms.{box_count}
 use Rattle.lemmas.proofs.Pushed.{HoldsSoFar, holds_more}
-use Rattle.cell_rows.specs.Spans.{is_filled, chosen_marks}
+use Rattle.cell_rows.specs.Spans.{is_filled, chosen_marks, AreRowSpans}
 use Rattle.cell_rows.specs.Rows.{row_sizes}
 use Rattle.cell_rows.proofs.RowCells.{few_rows, row_at}
 use Rattle.cell_rows.proofs.SpanRows.{AreSpansAt, all_spans}
@@ -36,5 +37,7 @@ pub returns : goal.returns
 returns c =
     let same : (choice : List Bool) → numbers_of c.numbered-ends.result ≡ row_sizes (chosen_marks c.args.blocks.now choice) c.args.axis =
     λ choice. c.numbered-ends.ensures ∙ (λ i. numbered c.args.axis 1 (numbers_of (c.requires.sizes i))) in
-    all_spans c.args.blocks.now c.args.axis _ c.loop-place.place c.loop-place.invariant
-    (λ choice. omega (arith, c.loop-place-test.false) ∙ c.count-place-end.ensures ∙ ap box_count (same choice))
+    let all = all_spans c.args.blocks.now c.args.axis _ c.loop-place.place c.loop-place.invariant
+    (λ choice. omega (arith, c.loop-place-test.false) ∙ c.count-place-end.ensures ∙ ap box_count (same choice)) in
+    IfOk-weaker c.new.result _ (AreRowSpans c.args.blocks.now c.args.axis) (λ spans is. subst (AreRowSpans c.args.blocks.now c.args.axis) (sym is) all)
+    c.new.ensures

@@ -65,36 +65,25 @@ place-place-requires-clause-within c =
     (subst (Within x c.args.right c.args.up) (sym c.requires.sizes) (within x c.args.rows.now c.args.right c.args.up) c.numbered-cell.result first c.requires.right c.requires.up
     (c.requires.few (further_frame x).away.axis))
 
-pub offset_bounds-along-place : goal.offset_bounds-along-place
-offset_bounds-along-place c =
-    let few = few_cells (numbers_of c.numbered.result) (λ a. subst (λ (n : Axis → ℕ). n a ≤ 63) (sym c.numbered.ensures)
-    (few_numbered c.frame_of-frame.result.away.axis (numbers_of c.args.sizes) c.requires.few a)) in
-    omega (arith, few, c.place-place.ensures.there)
-
-pub bounds-along-place : goal.bounds-along-place
-bounds-along-place c =
+pub row-requires : goal.row-requires
+row-requires c =
     let axis = c.frame_of-frame.result.away.axis in
     let boxed : box_count (numbers_of c.numbered.result) ≡ box_count (numbered axis 1 (numbers_of c.args.rows.now.sizes)) = ap box_count (c.numbered.ensures
     ∙ ap (λ (s : PerAxis). numbered axis 1 (numbers_of s)) c.requires.sizes) in
-    let listed = sym (length-map c.along.result.now _) ∙ c.along.ensures.spans.listed [] in
-    omega (arith, boxed, listed, c.place-place.ensures.there)
+    omega (arith, boxed, c.along.ensures.spans.listed [], c.place-place.ensures.there)
 
 pub returns : goal.returns
 returns c = IfOk-weaker c.seen_spans.result _ _ (λ spans told.
     let x = c.args.extra in
     let e = c.frame_of-frame.ensures in
     let axis = c.frame_of-frame.result.away.axis in
-    let rows : List (List Span) = map (λ r. r.items) c.along.result.now in
+    let rows : List (List Span) = c.along.result.now in
     let first = first_in x c.frame_of-frame.result c.args.sizes c.args.right c.args.up c.cell_in.result c.numbered-cell.result e c.cell_in.ensures.same c.numbered-cell.ensures in
     let boxed = rows_in x c.frame_of-frame.result c.args.sizes c.numbered.result e c.numbered.ensures in
-    let listed = sym (length-map c.along.result.now _) ∙ c.along.ensures.spans.listed [] in
-    let counted : box_count (numbers_of c.numbered.result) ≡ box_count (numbered axis 1 (numbers_of c.args.rows.now.sizes)) = ap box_count (c.numbered.ensures
-    ∙ ap (λ (s : PerAxis). numbered axis 1 (numbers_of s)) c.requires.sizes) in
-    let there : c.place-place.result < length c.along.result.now = omega (arith, counted, listed, c.place-place.ensures.there) in
     let place : c.place-place.result ≡ box_place (numbered (further_frame x).away.axis 1 (numbers_of c.args.sizes)) (cell_of c.numbered-cell.result) =
     c.place-place.ensures.place ∙ ap (λ (n : Axis → ℕ). box_place n (cell_of c.numbered-cell.result)) boxed in
-    let row : c.as_slice.result.now ≡ slice_index_or rows (box_place (numbered (further_frame x).away.axis 1 (numbers_of c.args.sizes)) (cell_of c.numbered-cell.result)) [] =
-    c.as_slice.ensures.value ∙ ap (λ r. r.items) c.index-along-place.is ∙ sym (get_or-map (λ r. r.items) c.along.result.now c.place-place.result _ [] there) ∙ ap (λ p. slice_index_or rows p []) place in
+    let row : c.row.result.now ≡ slice_index_or rows (box_place (numbered (further_frame x).away.axis 1 (numbers_of c.args.sizes)) (cell_of c.numbered-cell.result)) [] =
+    c.row.ensures ∙ ap (λ p. slice_index_or rows p []) place in
     subst (Seen x c.args.rows.now c.args.right c.args.up) (sym c.requires.sizes) (seen x c.args.rows.now c.args.right c.args.up) c.numbered-cell.result first c.requires.right c.requires.up
     (c.requires.few (further_frame x).away.axis) rows (subst (λ (a : Axis). AreRowSpans c.args.rows.now a rows) (λ t. (e t).away.axis) c.along.ensures.spans) spans.items
     (λ choice k. told choice k ∙ (λ t. nat_lt k (numbers_of c.args.sizes (e t).away.axis) && is_filled choice (row t) (number_on (numbers_of c.args.sizes) (e t).away k)))) c.seen_spans.ensures

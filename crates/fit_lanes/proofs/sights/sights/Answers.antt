@@ -4,7 +4,8 @@ use Rattle.std.proofs.lemmas.List.{map-append}
 use Rattle.lemmas.proofs.Pushed.{HoldsSoFar, holds_more}
 use Rattle.solid_model.specs.declared.frame.Frame.{Frame}
 use Rattle.solid_model.specs.PerAxis.{numbers_of}
-use Rattle.fit_lanes.specs.Sights.{IsSightAt, width, height}
+use Rattle.std.proofs.lemmas.Result.{IfOk-weaker}
+use Rattle.fit_lanes.specs.Sights.{IsSightAt, AreSights, width, height}
 use Rattle.fit_lanes.proofs.sights.sights.Goals as goal
 
 pub loop-place-init : goal.loop-place-init
@@ -22,7 +23,7 @@ returns c =
     let wide : c.along-stride.result ≡ width c.args.extra sizes = c.along-stride.ensures ∙ ap (λ (f : Frame). sizes f.right.axis) c.frame_of-frame.ensures in
     let high : c.along.result ≡ height c.args.extra sizes = c.along.ensures ∙ ap (λ (f : Frame). sizes f.up.axis) c.frame_of-frame.ensures in
     let whole : c.loop-place.place ≡ (c.along.result + 2) * (c.along-stride.result + 1) = omega arith in
-    record {
+    IfOk-weaker c.new.result _ (AreSights c.args.extra sizes c.args.rows.now.numbers) (λ sights is. subst (AreSights c.args.extra sizes c.args.rows.now.numbers) (sym is) (record {
       count = c.loop-place.invariant.count ∙ whole ∙ (λ t. (high t + 2) * (wide t + 1));
       each = λ p l. c.loop-place.invariant.each p [] (omega (arith, l, c.loop-place.invariant.count));
-    }
+    })) c.new.ensures

@@ -1,7 +1,6 @@
 -- The test keeps what its room is for.
 use Rattle.std.proofs.Common.{◌≡◌, ◌+◌, ◌*◌, Bool, true, false, ℕ, List, map, length, ap, sym, subst, ◌∙◌, arith}
 use Rattle.std.specs.Prelude.{MatchOption}
-use Rattle.std.proofs.lemmas.List.{length-map}
 use Rattle.cell_rows.specs.declared.span.Span.{Span}
 use Rattle.solid_model.specs.declared.cell.Axis.{Axis}
 use Rattle.solid_model.specs.declared.cell.Axis.TheVariants.{X, Y, Z}
@@ -35,17 +34,17 @@ invariant_of-result c =
     let x = c.args.extra in
     let at_grid = c.grid-grid.ensures.grid in
     let sizes : numbers_of c.sizes-sizes.result ≡ grid_sizes p.grid = c.sizes-sizes.ensures.sizes ∙ ap grid_sizes at_grid in
-    let spans : List (List Span) = map (λ r. r.items) c.in_ok-sights.sights.items in
+    let spans : List (List Span) = c.in_ok-sights.sights in
     let wide : c.along-4.result ≡ width x (grid_sizes p.grid) = c.along-4.ensures ∙ (λ t. sizes t (c.frame_of-frame.ensures t).right.axis) in
     let high : c.along-3.result ≡ height x (grid_sizes p.grid) = c.along-3.ensures ∙ (λ t. sizes t (c.frame_of-frame.ensures t).up.axis) in
-    let columns : length c.in_ok-columns.columns.items ≡ length c.in_ok-sights.sights.items = omega (arith, c.in_ok-columns.ensures.len, c.len.ensures) in
+    let columns : length c.in_ok-columns.columns.items ≡ length spans = omega (arith, c.in_ok-columns.ensures.len, c.count.ensures) in
     let drawn : length c.in_ok-drawn.drawn.items ≡ (c.along-3.result + 1) * (c.along-4.result + 1) = omega (arith, c.in_ok-drawn.ensures.len) in (
       record {
         grid = subst IsGrid at_grid c.coordinates-xs.ensures.kept;
         blocks = c.grid-grid.ensures.kept;
         sights_of = subst (λ (b : BlockNumbers). AreSights x (grid_sizes p.grid) b.numbers spans) c.requires
             (subst (λ (n : Axis → ℕ). AreSights x n c.args.rows.now.numbers spans) sizes c.in_ok-sights.ensures);
-        columns_for = columns ∙ sym (length-map c.in_ok-sights.sights.items _);
+        columns_for = columns;
         drawn_for = drawn ∙ (λ t. (high t + 1) * (wide t + 1));
         kept = both_kept c.args.shown.now (subst AreRuns c.along.ensures c.as_slice-level.ensures.kept) (subst AreRuns c.along-2.ensures c.as_slice-upright.ensures.kept);
       },

@@ -1,6 +1,7 @@
 -- The columns of a choice draw what is wanted exactly where its solid shows it.
 use Rattle.std.proofs.Common.{◌≡◌, ◌↔◌, ◌+◌, ◌*◌, Bool, true, false, if◌then◌else◌, ℕ, List, Option, ◌++◌, take, drop, map, length, IsTrue, ap, sym, subst, ◌∙◌, arith}
-use Rattle.std.proofs.lemmas.List.{length-map, length-append, length-take, length-drop}
+use Rattle.std.specs.Vec.{with_items}
+use Rattle.std.proofs.lemmas.List.{length-append, length-take, length-drop, with_items_is}
 use Rattle.cell_rows.specs.declared.span.Span.{Span}
 use Rattle.cell_rows.specs.Spans.{AreFilled}
 use Rattle.solid_model.specs.declared.cell.Axis.{Axis}
@@ -43,7 +44,8 @@ draws-requires-clause-columns c =
       room.sights_of.count,
       room.drawn_for,
       rows_more (height x (grid_sizes g)) (width x (grid_sizes g)),
-      c.fill_rows.ensures.count,
+      c.fill.ensures.count,
+      c.as_mut_slice.ensures.len,
       c.as_slice-columns.ensures.len,
       c.as_mut_slice-drawn.ensures.len,
     )
@@ -61,7 +63,8 @@ draws-requires-2-clause-columns c =
       room.sights_of.count,
       room.drawn_for,
       rows_more (height x (grid_sizes g)) (width x (grid_sizes g)),
-      c.fill_rows.ensures.count,
+      c.fill.ensures.count,
+      c.as_mut_slice.ensures.len,
       c.as_slice-columns.ensures.len,
       c.as_mut_slice-drawn.ensures.len,
       c.in_ok-level.ensures.length,
@@ -69,7 +72,7 @@ draws-requires-2-clause-columns c =
 
 -- what is told of columns in rows of so many places, of a view's columns
 seen_in : (x : Extra) (g : GridParts) (numbers : List (Option ℕ)) (sights : List (List Span)) (are : AreSights x (grid_sizes g) numbers sights) (is : IsGrid g)
-    (choice : List Bool) (columns shown_columns : List ℕ) (filled : AreFilled choice sights columns (length sights)) (s : List Cell)
+    (choice : List Bool) (columns shown_columns : List ℕ) (filled : AreFilled choice sights columns) (s : List Cell)
     (union : IsUnionOf (coordinates_of g) (cells_of_choice numbers choice) (is_full s)) (upright : Bool) (bytes : List ℕ) (w h : ℕ)
     → w ≡ width x (grid_sizes g) → h ≡ height x (grid_sizes g) → shown_columns ≡ columns → length bytes ≡ (height x (grid_sizes g) + 1) * (width x (grid_sizes g) + 1)
     → AreDrawn shown_columns (w + 1) upright bytes → DrawsFirst bytes (if upright then w + 1 else 1) (if upright then h + 1 else w + 1)
@@ -89,12 +92,10 @@ returns-clause-told c = subst (λ (a : ViewAsked). TellsShown a c.args.choice.no
     let g = p.grid in
     let wide = size_is x (λ f. f.right.axis) c.frame_of-frame.result (numbers_of c.sizes-sizes.result) _ g _ c.frame_of-frame.ensures c.sizes-sizes.ensures.sizes c.grid.ensures.grid c.along-width.ensures in
     let high = size_is x (λ f. f.up.axis) c.frame_of-frame.result (numbers_of c.sizes-sizes.result) _ g _ c.frame_of-frame.ensures c.sizes-sizes.ensures.sizes c.grid.ensures.grid c.along-height.ensures in
-    let sights : List (List Span) = map (λ r. r.items) c.self.inside.sights.items in
-    let columns = c.fill_rows.new.rows.items in
-    let spans : map (λ r. r.items) c.deref.result.now ≡ sights = ap (map (λ r. r.items)) c.deref.ensures.value in
-    let counted : length c.deref.result.now ≡ length sights = ap length c.deref.ensures.value ∙ sym (length-map c.self.inside.sights.items _) in
-    let filled : AreFilled c.args.choice.now sights columns (length sights) = subst (λ n. AreFilled c.args.choice.now sights columns n) counted
-    (subst (λ ss. AreFilled c.args.choice.now ss columns (length c.deref.result.now)) spans c.fill_rows.ensures.filled) in
+    let sights : List (List Span) = c.self.inside.sights in
+    let columns = (with_items c.self.inside.columns c.fill.new.rows).items in
+    let filled : AreFilled c.args.choice.now sights columns = subst (AreFilled c.args.choice.now sights)
+    (sym (with_items_is c.self.inside.columns c.fill.new.rows (c.fill.ensures.count ∙ c.as_mut_slice.ensures.len))) c.fill.ensures.filled in
     let long : length c.draws.new.drawn ≡ (height x (grid_sizes g) + 1) * (width x (grid_sizes g) + 1) = c.in_ok-level.ensures.length ∙ ap length c.as_mut_slice-drawn.ensures.value ∙ room.drawn_for in
     let long_too : length c.draws-2.new.drawn ≡ (height x (grid_sizes g) + 1) * (width x (grid_sizes g) + 1) = c.in_ok-upright.ensures.length ∙ long in
     let level = c.in_ok-level.ensures.told in

@@ -8,8 +8,8 @@ use Rattle.cell_rows.specs.declared.span.Span.{Span}
 use Rattle.cell_rows.specs.Spans.{is_filled}
 use Rattle.cell_rows.proofs.FilledSpans.{filled-last}
 use Rattle.lemmas.proofs.WordBits.{set_either}
-use Rattle.cell_rows.proofs.block_rows.filled_row.Goals as goal
-use Rattle.cell_rows.proofs.block_rows.filled_row.Goals.{then-fills, else-fills}
+use Rattle.cell_rows.proofs.row_spans.filled_row.Goals as goal
+use Rattle.cell_rows.proofs.row_spans.filled_row.Goals.{then-fills, else-fills}
 
 pub loop-span-preserved : goal.loop-span-preserved
 loop-span-preserved c k =
