@@ -1,5 +1,5 @@
 -- What a grid keeps of its coordinates.
-use Rattle.std.proofs.Common.{◌<◌, ◌≤◌, length, ℤ, ◌<ℤ◌, refl, arith}
+use Rattle.std.proofs.Common.{◌<◌, ◌≤◌, length, ◌<ℤ◌, refl, arith}
 use Rattle.lemmas.specs.Lists.{Ascends}
 use Rattle.lemmas.proofs.Lists.{some_length}
 use Rattle.solid_model.specs.declared.cell.Axis.{Axis}

@@ -1,6 +1,5 @@
 -- The row of the view's cells stands at its place, and what is seen of it is their column.
-use Rattle.std.proofs.Common.{◌≡◌, ◌&&◌, ◌<◌, ◌≤◌, nat_lt, Bool, true, ℕ, List, [], length, map, slice_index_or, pos, ap, sym, subst, ◌∙◌, arith}
-use Rattle.std.proofs.lemmas.List.{length-map, get_or-map}
+use Rattle.std.proofs.Common.{◌≡◌, ◌&&◌, ◌<◌, ◌≤◌, nat_lt, Bool, true, ℕ, List, [], slice_index_or, pos, ap, sym, subst, ◌∙◌, arith}
 use Rattle.std.proofs.lemmas.Result.{IfOk-weaker}
 use Rattle.cell_rows.specs.declared.span.Span.{Span}
 use Rattle.cell_rows.specs.Spans.{is_filled, AreRowSpans}
@@ -16,7 +15,7 @@ use Rattle.solid_model.specs.Rooms.{is_within, box_place, box_count}
 use Rattle.column_laws.specs.GridColumns.{grid_column}
 use Rattle.dxf_entities.specs.declared.extra.Extra.{Extra}
 use Rattle.six_views.specs.FurtherFrames.{further_frame}
-use Rattle.fit_lanes.proofs.SightRows.{first_cell, row_within, column_seen, few_numbered, few_cells}
+use Rattle.fit_lanes.proofs.SightRows.{first_cell, row_within, column_seen, few_numbered}
 use Rattle.fit_lanes.proofs.sights.sight.Goals as goal
 
 -- the first cell of the row, in the view's own frame

@@ -1,5 +1,5 @@
 -- The test keeps what its room is for.
-use Rattle.std.proofs.Common.{◌≡◌, ◌+◌, ◌*◌, Bool, true, false, ℕ, List, map, length, ap, sym, subst, ◌∙◌, arith}
+use Rattle.std.proofs.Common.{◌≡◌, ◌+◌, ◌*◌, Bool, true, false, ℕ, List, length, ap, sym, subst, ◌∙◌, arith}
 use Rattle.std.specs.Prelude.{MatchOption}
 use Rattle.cell_rows.specs.declared.span.Span.{Span}
 use Rattle.solid_model.specs.declared.cell.Axis.{Axis}
@@ -10,6 +10,7 @@ use Rattle.solid_model.specs.GridBox.{grid_sizes}
 use Rattle.solid_model.specs.Panels.{GridParts, coordinates_of, IsGrid}
 use Rattle.solid_model.specs.PerAxis.{numbers_of}
 use Rattle.solid_model.specs.Runs.{AreRuns, ViewRuns, runs_along}
+use Rattle.fit_lanes.specs.Kept.{IsRoomOf}
 use Rattle.fit_lanes.specs.Sights.{AreSights, width, height}
 use Rattle.fit_lanes.specs.Wanted.{AreWantedBytes, AreNeverDrawn}
 use Rattle.fit_lanes.proofs.view_test.ViewTest.of.Goals as goal
@@ -28,18 +29,19 @@ sights-requires-clause-sizes c = same_numbers c.sizes-sizes.result c.args.rows.n
     (λ t. c.sizes-sizes.ensures.sizes t a) ∙ (λ t. grid_sizes (c.grid-grid.ensures.grid t) a) ∙ sym (c.grid-grid.ensures.kept.sized a)
     ∙ ap (λ (b : BlockNumbers). numbers_of b.sizes a) (sym c.requires))
 
-pub invariant_of-result : goal.invariant_of-result
-invariant_of-result c =
+pub invariant_of-result-2 : goal.invariant_of-result-2
+invariant_of-result-2 c =
     let p = c.args.problem.now in
     let x = c.args.extra in
     let at_grid = c.grid-grid.ensures.grid in
     let sizes : numbers_of c.sizes-sizes.result ≡ grid_sizes p.grid = c.sizes-sizes.ensures.sizes ∙ ap grid_sizes at_grid in
     let spans : List (List Span) = c.in_ok-sights.sights in
+    let same = sym c.sights-2.view_is in
     let wide : c.along-4.result ≡ width x (grid_sizes p.grid) = c.along-4.ensures ∙ (λ t. sizes t (c.frame_of-frame.ensures t).right.axis) in
     let high : c.along-3.result ≡ height x (grid_sizes p.grid) = c.along-3.ensures ∙ (λ t. sizes t (c.frame_of-frame.ensures t).up.axis) in
     let columns : length c.in_ok-columns.columns.items ≡ length spans = omega (arith, c.in_ok-columns.ensures.len, c.count.ensures) in
     let drawn : length c.in_ok-drawn.drawn.items ≡ (c.along-3.result + 1) * (c.along-4.result + 1) = omega (arith, c.in_ok-drawn.ensures.len) in (
-      record {
+      subst (λ sights. IsRoomOf p x c.args.shown.now sights c.in_ok-columns.columns.items c.in_ok-drawn.drawn.items) same (record {
         grid = subst IsGrid at_grid c.coordinates-xs.ensures.kept;
         blocks = c.grid-grid.ensures.kept;
         sights_of = subst (λ (b : BlockNumbers). AreSights x (grid_sizes p.grid) b.numbers spans) c.requires
@@ -47,7 +49,7 @@ invariant_of-result c =
         columns_for = columns;
         drawn_for = drawn ∙ (λ t. (high t + 1) * (wide t + 1));
         kept = both_kept c.args.shown.now (subst AreRuns c.along.ensures c.as_slice-level.ensures.kept) (subst AreRuns c.along-2.ensures c.as_slice-upright.ensures.kept);
-      },
+      }),
       subst (λ (g : GridParts). MatchOption c.in_ok-wanted_bytes.field-0 (AreNeverDrawn (coordinates_of g) x false c.args.shown.now) (λ v. AreWantedBytes (coordinates_of g) x false c.args.shown.now v.items))
           at_grid c.in_ok-wanted_bytes.ensures,
       subst (λ (g : GridParts). MatchOption c.in_ok-wanted_bytes-2.field-0 (AreNeverDrawn (coordinates_of g) x true c.args.shown.now) (λ v. AreWantedBytes (coordinates_of g) x true c.args.shown.now v.items))

@@ -1,5 +1,5 @@
 -- The columns of a choice draw what is wanted exactly where its solid shows it.
-use Rattle.std.proofs.Common.{◌≡◌, ◌↔◌, ◌+◌, ◌*◌, Bool, true, false, if◌then◌else◌, ℕ, List, Option, ◌++◌, take, drop, map, length, IsTrue, ap, sym, subst, ◌∙◌, arith}
+use Rattle.std.proofs.Common.{◌≡◌, ◌↔◌, ◌+◌, ◌*◌, Bool, true, false, if◌then◌else◌, ℕ, List, Option, ◌++◌, take, drop, length, IsTrue, ap, sym, subst, ◌∙◌, arith}
 use Rattle.std.specs.Vec.{with_items}
 use Rattle.std.proofs.lemmas.List.{length-append, length-take, length-drop, with_items_is}
 use Rattle.cell_rows.specs.declared.span.Span.{Span}
