@@ -79,12 +79,26 @@ impl<'a> FurtherSieve<'a> {
             ≡ record { problem = problem.now; further = further.now }) }
     {
         let rows = BlockRows::of(alloc, problem)?;
+        FurtherSieve::over(alloc, problem, &rows, further)
+    }
+
+    /// The same, over the rows of the problem's grid cells.
+    fn over(
+        alloc: Global,
+        problem: &'a Problem,
+        rows: &BlockRows<'_>,
+        further: &'a Further,
+    ) -> Result<FurtherSieve<'a>, Memory>
+        requires { rows.now ≡ problem.now.blocks }
+        ensures { IfOk result (λ test. test
+            ≡ record { problem = problem.now; further = further.now }) }
+    {
         Ok(FurtherSieve {
             problem,
             further,
-            left: test_of(alloc, problem, &rows, Extra::Left, &further.left)?,
-            rear: test_of(alloc, problem, &rows, Extra::Rear, &further.rear)?,
-            bottom: test_of(alloc, problem, &rows, Extra::Bottom, &further.bottom)?,
+            left: test_of(alloc, problem, rows, Extra::Left, &further.left)?,
+            rear: test_of(alloc, problem, rows, Extra::Rear, &further.rear)?,
+            bottom: test_of(alloc, problem, rows, Extra::Bottom, &further.bottom)?,
         })
     }
 }

@@ -4,7 +4,7 @@ use crate::rows::is_text;
 use crate::runs::{Runtime, run_words};
 use std::alloc::{AllocError, Global};
 use std::test::Fail;
-use test_files::{Row, drawing_file, row_of};
+use test_files::{Row, drawing_file, lines_hold, row_of};
 
 /// A row a run of `ask`: the strokes in front, from the top and from the side, the words, and what
 /// stands behind the drawing, with ` / ` for the end of a line; and then what is written. A reader
@@ -38,19 +38,22 @@ fn lines_of(alloc: Global, told: &str) -> Result<String, AllocError> {
     Ok(lines)
 }
 
+/// The file of a row's drawing, and the askings behind it.
+fn file_in(alloc: Global, row: Row<'_>) -> Result<String, AllocError> {
+    let [_, _, _, _, askings] = row.parts;
+    let mut file = drawing_file(alloc, row.views())?;
+    file.push_str(lines_of(alloc, askings)?.as_str())?;
+    Ok(file)
+}
+
 /// Whether a run writes what the row wants.
-fn is_answered<R: Runtime>(rt: &R, row: Row<'_>) -> Result<bool, AllocError> {
-    let [_, _, _, words, askings] = row.parts;
-    let mut file = drawing_file(rt.alloc(), row.views())?;
-    file.push_str(lines_of(rt.alloc(), askings)?.as_str())?;
-    let wrote = run_words(rt, words, file)?;
-    is_text(rt.alloc(), wrote.as_str(), row.wanted)
+fn is_answered<R: Runtime>(rt: &R, row: Row<'_>) -> Result<bool, Fail> {
+    let [_, _, _, words, _] = row.parts;
+    let wrote = run_words(rt, words, file_in(rt.alloc(), row)?)?;
+    Ok(is_text(rt.alloc(), wrote.as_str(), row.wanted)?)
 }
 
 #[test]
 fn readers_are_answered(rt: HostRuntime) -> Result<(), Fail> {
-    for line in ASKED.lines() {
-        assert!(rt; is_answered(&rt, row_of(line))?, "{line}");
-    }
-    Ok(())
+    lines_hold(ASKED, |line| is_answered(&rt, row_of(line)))
 }

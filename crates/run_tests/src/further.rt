@@ -2,9 +2,8 @@
 
 use crate::rows::is_text;
 use crate::runs::{Runtime, run_words};
-use std::alloc::AllocError;
 use std::test::Fail;
-use test_files::{Row, file_of, row_of};
+use test_files::{Row, file_of, lines_hold, row_of};
 
 /// Files with further views: of the unit cube, which stands anywhere on the sheet, and of eight voids
 /// whose depth is shortened, of which four solids show the rear with two open. The bar lies along x,
@@ -72,15 +71,12 @@ const VOIDS: &str =
     rect S 1 3 2 4, rect D 1 1 2 2, rect D 3 3 4 4, 0 ENDSEC, 0 EOF";
 
 /// Whether a run with the row's words writes what it wants.
-fn is_told<R: Runtime>(rt: &R, row: Row<'_>) -> Result<bool, AllocError> {
+fn is_told<R: Runtime>(rt: &R, row: Row<'_>) -> Result<bool, Fail> {
     let wrote = run_words(rt, row.told, file_of(rt.alloc(), VOIDS)?)?;
-    is_text(rt.alloc(), wrote.as_str(), row.wanted)
+    Ok(is_text(rt.alloc(), wrote.as_str(), row.wanted)?)
 }
 
 #[test]
 fn further_views_go_with_every_option(rt: HostRuntime) -> Result<(), Fail> {
-    for line in RUNS.lines() {
-        assert!(rt; is_told(&rt, row_of(line))?, "{line}");
-    }
-    Ok(())
+    lines_hold(RUNS, |line| is_told(&rt, row_of(line)))
 }

@@ -3,7 +3,7 @@
 use crate::runs::{Runtime, run_words};
 use std::alloc::{AllocError, Global};
 use std::test::Fail;
-use test_files::{Row, drawing_file, row_of};
+use test_files::{Row, drawing_file, lines_hold, row_of};
 
 /// A row a run of `prove`: the strokes in front, from the top and from the side, and the words; and
 /// then what is written, with ` / ` for the end of a line.
@@ -57,7 +57,7 @@ fn lines_of(alloc: Global, told: &str) -> Result<String, AllocError> {
 }
 
 /// Whether that is what the row has.
-fn is_proved<R: Runtime>(rt: &R, row: Row<'_>) -> Result<bool, AllocError> {
+fn is_proved<R: Runtime>(rt: &R, row: Row<'_>) -> Result<bool, Fail> {
     let [_, _, _, words, _] = row.parts;
     let wrote = run_words(rt, words, drawing_file(rt.alloc(), row.views())?)?;
     let wanted = lines_of(rt.alloc(), row.wanted)?;
@@ -66,10 +66,7 @@ fn is_proved<R: Runtime>(rt: &R, row: Row<'_>) -> Result<bool, AllocError> {
 
 #[test]
 fn logs_are_written(rt: HostRuntime) -> Result<(), Fail> {
-    for line in PROOFS.lines() {
-        assert!(rt; is_proved(&rt, row_of(line))?, "{line}");
-    }
-    Ok(())
+    lines_hold(PROOFS, |line| is_proved(&rt, row_of(line)))
 }
 
 /// What `check` writes for a drawing with a log behind it.
@@ -80,7 +77,7 @@ fn checked<R: Runtime>(rt: &R, views: [&str; 3], log: &str) -> Result<String, Al
 }
 
 /// Whether that is what the row has.
-fn is_checked<R: Runtime>(rt: &R, row: Row<'_>) -> Result<bool, AllocError> {
+fn is_checked<R: Runtime>(rt: &R, row: Row<'_>) -> Result<bool, Fail> {
     let [_, _, _, told, _] = row.parts;
     let log = lines_of(rt.alloc(), told)?;
     let wrote = checked(rt, row.views(), log.as_str())?;
@@ -90,10 +87,7 @@ fn is_checked<R: Runtime>(rt: &R, row: Row<'_>) -> Result<bool, AllocError> {
 
 #[test]
 fn logs_are_checked(rt: HostRuntime) -> Result<(), Fail> {
-    for line in CHECKS.lines() {
-        assert!(rt; is_checked(&rt, row_of(line))?, "{line}");
-    }
-    Ok(())
+    lines_hold(CHECKS, |line| is_checked(&rt, row_of(line)))
 }
 
 /// What `check` writes for a drawing and the log that `prove` writes for it.

@@ -1,9 +1,8 @@
 //! Searches within limits that the words give.
 
 use crate::runs::{Runtime, run_words};
-use std::alloc::AllocError;
 use std::test::Fail;
-use test_files::{Row, drawing_file, row_of};
+use test_files::{Row, drawing_file, lines_hold, row_of};
 
 /// A row a run, by the strokes in each view, the words, with `|` behind each, and then the status
 /// and the first line, and how many solids are told, where that is given: of a search that is cut
@@ -31,7 +30,7 @@ fn solid_count(text: &str) -> u32 {
 }
 
 /// Whether a row's run writes what the row has.
-fn is_told<R: Runtime>(rt: &R, row: Row<'_>) -> Result<bool, AllocError> {
+fn is_told<R: Runtime>(rt: &R, row: Row<'_>) -> Result<bool, Fail> {
     let [strokes, words, ..] = row.parts;
     let wrote = run_words(rt, words, drawing_file(rt.alloc(), [strokes; 3])?)?;
     let (head, rest) = wrote.as_str().split_once('\n').unwrap_or(("", ""));
@@ -42,10 +41,7 @@ fn is_told<R: Runtime>(rt: &R, row: Row<'_>) -> Result<bool, AllocError> {
 
 #[test]
 fn limits_are_those_that_are_asked_for(rt: HostRuntime) -> Result<(), Fail> {
-    for line in RUNS.lines() {
-        assert!(rt; is_told(&rt, row_of(line))?, "{line}");
-    }
-    Ok(())
+    lines_hold(RUNS, |line| is_told(&rt, row_of(line)))
 }
 
 /// A lattice of voids with 4,096 blocks.

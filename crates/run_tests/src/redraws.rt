@@ -8,7 +8,7 @@ use drawing_maker::make;
 use recon_run::problem_of;
 use std::alloc::{AllocError, Global};
 use std::test::Fail;
-use test_files::{Row, drawing_file, file_bytes, row_of};
+use test_files::{Row, drawing_file, file_bytes, lines_hold, row_of, rows_tell};
 
 /// A row a run: the strokes in front, from the top and from the side, and the words; and then what
 /// is written, in one piece: after `0 drawing ` the strokes of a file in front, from the top and
@@ -59,7 +59,7 @@ fn told_run<R: Runtime>(rt: &R, row: Row<'_>) -> Result<String, AllocError> {
 }
 
 /// Whether that is what the row has.
-fn is_redrawn<R: Runtime>(rt: &R, row: Row<'_>) -> Result<bool, AllocError> {
+fn is_redrawn<R: Runtime>(rt: &R, row: Row<'_>) -> Result<bool, Fail> {
     let wanted = wanted_text(rt.alloc(), row.wanted)?;
     let wrote = told_run(rt, row)?;
     Ok(wrote.as_str() == wanted.as_str())
@@ -67,10 +67,7 @@ fn is_redrawn<R: Runtime>(rt: &R, row: Row<'_>) -> Result<bool, AllocError> {
 
 #[test]
 fn drawings_are_redrawn(rt: HostRuntime) -> Result<(), Fail> {
-    for line in REDRAWS.lines() {
-        assert!(rt; is_redrawn(&rt, row_of(line))?, "{line}");
-    }
-    Ok(())
+    lines_hold(REDRAWS, |line| is_redrawn(&rt, row_of(line)))
 }
 
 /// A slab with a block on its corner, unequal along all three axes.
@@ -169,11 +166,7 @@ fn told_made(alloc: Global, row: Row<'_>) -> Result<String, Fail> {
 
 #[test]
 fn numbers_make_grids_of_so_many_cells(rt: HostRuntime) -> Result<(), Fail> {
-    for line in MADE.lines() {
-        let row = row_of(line);
-        assert_eq!(rt; told_made(rt.alloc(), row)?.as_str(), row.wanted, "{line}");
-    }
-    Ok(())
+    rows_tell(MADE, |row| told_made(rt.alloc(), row))
 }
 
 /// A row a trial: its words, and the status and the line that it writes, with the figures that
@@ -189,15 +182,12 @@ trial|7|--workers=2| -> 0 trial 7 pieces 14 blocks 34 solids 1225 nodes 22299 vo
 trial|7|--workers|8| -> 0 trial 7 pieces 14 blocks 34 solids 1225 nodes 22299 volume 24245";
 
 /// Whether a row's trial writes its line.
-fn tries_so<R: Runtime>(rt: &R, row: Row<'_>) -> Result<bool, AllocError> {
+fn tries_so<R: Runtime>(rt: &R, row: Row<'_>) -> Result<bool, Fail> {
     let wrote = run_words(rt, row.told, String::new(rt.alloc()))?;
     Ok(wrote.as_str().strip_suffix("\n") == Some(row.wanted))
 }
 
 #[test]
 fn trials_find_their_figures(rt: HostRuntime) -> Result<(), Fail> {
-    for line in TRIALS.lines() {
-        assert!(rt; tries_so(&rt, row_of(line))?, "{line}");
-    }
-    Ok(())
+    lines_hold(TRIALS, |line| tries_so(&rt, row_of(line)))
 }

@@ -5,7 +5,7 @@ use std::alloc::{AllocError, Global};
 use std::sync::Wait;
 use std::test::Fail;
 use std::thread::Threads;
-use test_files::{Row, file_of, row_of};
+use test_files::{Row, file_of, lines_hold, row_of};
 use tv_base::{Gate, MemSink, MemSource, OpenGate};
 
 /// What a run is given to run on.
@@ -104,7 +104,7 @@ fn writes<R: Runtime>(
     words: &str,
     [read, write]: [u32; 2],
     [first, second]: [&str; 2],
-) -> Result<bool, AllocError> {
+) -> Result<bool, Fail> {
     let mut source = cube_source(rt.alloc(), read)?;
     let wrote = wrote(rt, words, &mut source, write)?;
     let rest = run_over(rt, "solve|", &mut source, Vec::new(rt.alloc()))?;
@@ -159,16 +159,13 @@ const NOTHING_LEFT: &str = "1 fault F4 NoEof line 1\n";
 
 /// Whether words aren't taken, the source isn't read, and the sink is called once: its second call
 /// would fail.
-fn is_usage<R: Runtime>(rt: &R, words: &str) -> Result<bool, AllocError> {
+fn is_usage<R: Runtime>(rt: &R, words: &str) -> Result<bool, Fail> {
     writes(rt, words, [0, 2], [USAGE, UNIT_CUBE])
 }
 
 #[test]
 fn other_words_are_not_taken(rt: HostRuntime) -> Result<(), Fail> {
-    for words in OTHER_WORDS.lines() {
-        assert!(rt; is_usage(&rt, words)?, "{words}");
-    }
-    Ok(())
+    lines_hold(OTHER_WORDS, |words| is_usage(&rt, words))
 }
 
 /// A row a run in which a call fails, or would fail if it were made: the number of the source's
@@ -192,7 +189,7 @@ fn text_of_left(left: &str) -> &'static str {
 }
 
 /// Whether a run ends as its row has it, and leaves of the source what the row says.
-fn ends_so<R: Runtime>(rt: &R, row: Row<'_>) -> Result<bool, AllocError> {
+fn ends_so<R: Runtime>(rt: &R, row: Row<'_>) -> Result<bool, Fail> {
     let [read, write, words, left, _] = row.parts;
     let calls = [read.parse().unwrap_or(0), write.parse().unwrap_or(0)];
     let wanted = row.wanted.replace(rt.alloc(), "|", "\n")?;
@@ -201,8 +198,5 @@ fn ends_so<R: Runtime>(rt: &R, row: Row<'_>) -> Result<bool, AllocError> {
 
 #[test]
 fn faulty_runs_end_so(rt: HostRuntime) -> Result<(), Fail> {
-    for line in FAULTS.lines() {
-        assert!(rt; ends_so(&rt, row_of(line))?, "{line}");
-    }
-    Ok(())
+    lines_hold(FAULTS, |line| ends_so(&rt, row_of(line)))
 }

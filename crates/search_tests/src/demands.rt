@@ -6,7 +6,7 @@ use solid_model::{LineId, Problem};
 use std::alloc::Global;
 use std::fmt::Write;
 use std::test::Fail;
-use test_files::{Row, drawing_file, file_bytes, layer_of, row_of};
+use test_files::{Row, drawing_file, file_bytes, layer_of, rows_tell};
 
 /// A row a drawing, by its strokes in front, from the top and from the side; how many lines touch
 /// each of its blocks; and the first line that can't be met where the first block is empty: its
@@ -80,9 +80,5 @@ fn demands_in(alloc: Global, row: Row<'_>) -> Result<String, Fail> {
 
 #[test]
 fn lines_demand_so(rt: HostRuntime) -> Result<(), Fail> {
-    for line in DEMANDS.lines() {
-        let row = row_of(line);
-        assert_eq!(rt; demands_in(rt.alloc(), row)?.as_str(), row.wanted, "{line}");
-    }
-    Ok(())
+    rows_tell(DEMANDS, |row| demands_in(rt.alloc(), row))
 }

@@ -9,7 +9,7 @@ use solid_model::{LineId, Problem};
 use std::alloc::Global;
 use std::fmt::Write;
 use std::test::Fail;
-use test_files::{Row, row_of};
+use test_files::{Row, rows_tell};
 
 /// A row a drawing, by its strokes in front, from the top and from the side, and which of its first
 /// blocks are decided: a `1` for a full one, a `0` for an empty one. Wanted are the steps that its
@@ -188,9 +188,5 @@ fn forced_in(alloc: Global, row: Row<'_>) -> Result<String, Fail> {
 
 #[test]
 fn lines_force_so(rt: HostRuntime) -> Result<(), Fail> {
-    for line in FORCED.lines() {
-        let row = row_of(line);
-        assert_eq!(rt; forced_in(rt.alloc(), row)?.as_str(), row.wanted, "{line}");
-    }
-    Ok(())
+    rows_tell(FORCED, |row| forced_in(rt.alloc(), row))
 }

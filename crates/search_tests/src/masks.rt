@@ -10,7 +10,7 @@ use line_demands::Partial;
 use solid_model::{PerAxis, View};
 use std::alloc::Global;
 use std::test::Fail;
-use test_files::{Row, row_of};
+use test_files::{Row, rows_tell};
 
 /// The hollow cube. Its second block is the void.
 const HOLLOW_CUBE: [&str; 3] = ["rect S 0 0 3 3, rect D 1 1 2 2"; 3];
@@ -107,9 +107,5 @@ fn told_mask(alloc: Global, row: Row<'_>) -> Result<String, Fail> {
 
 #[test]
 fn columns_are_known_so(rt: HostRuntime) -> Result<(), Fail> {
-    for line in MASKS.lines() {
-        let row = row_of(line);
-        assert_eq!(rt; told_mask(rt.alloc(), row)?.as_str(), row.wanted, "{line}");
-    }
-    Ok(())
+    rows_tell(MASKS, |row| told_mask(rt.alloc(), row))
 }

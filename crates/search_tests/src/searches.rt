@@ -9,7 +9,7 @@ use solid_model::{EndKind, Ended, Expansion, Limits, Prefix, Problem};
 use std::alloc::Global;
 use std::sync::Arc;
 use std::test::Fail;
-use test_files::{Row, drawing_file, file_bytes, row_of};
+use test_files::{Row, drawing_file, file_bytes, lines_hold, row_of, rows_tell};
 
 /// The hollow cube.
 const HOLLOW_CUBE: [&str; 3] = ["rect S 0 0 3 3, rect D 1 1 2 2"; 3];
@@ -96,10 +96,7 @@ fn end_so(alloc: Global, row: Row<'_>) -> Result<bool, Fail> {
 
 #[test]
 fn searches_end_so(rt: HostRuntime) -> Result<(), Fail> {
-    for line in ENDS.lines() {
-        assert!(rt; end_so(rt.alloc(), row_of(line))?, "{line}");
-    }
-    Ok(())
+    lines_hold(ENDS, |line| end_so(rt.alloc(), row_of(line)))
 }
 
 /// A prefix, by its values as 1 and 0.
@@ -160,15 +157,7 @@ fn told_expansion(alloc: Global, row: Row<'_>) -> Result<String, Fail> {
 
 #[test]
 fn pieces_expand_so(rt: HostRuntime) -> Result<(), Fail> {
-    for line in EXPANSIONS.lines() {
-        let row = row_of(line);
-        assert_eq!(rt;
-            told_expansion(rt.alloc(), row)?.as_str(),
-            row.wanted,
-            "{line}"
-        );
-    }
-    Ok(())
+    rows_tell(EXPANSIONS, |row| told_expansion(rt.alloc(), row))
 }
 
 /// A row a desk of the hollow cube, or of the cube with eight voids: for each report to it the
@@ -327,9 +316,5 @@ fn told_desk(alloc: Global, row: Row<'_>) -> Result<String, Fail> {
 
 #[test]
 fn a_desk_takes_reports_so(rt: HostRuntime) -> Result<(), Fail> {
-    for line in REPORTS.lines() {
-        let row = row_of(line);
-        assert_eq!(rt; told_desk(rt.alloc(), row)?.as_str(), row.wanted, "{line}");
-    }
-    Ok(())
+    rows_tell(REPORTS, |row| told_desk(rt.alloc(), row))
 }

@@ -9,7 +9,7 @@ use solid_model::{Choice, Ended, Limits, Memory, Prefix};
 use std::alloc::Global;
 use std::fmt::Write;
 use std::test::Fail;
-use test_files::{Row, row_of};
+use test_files::{Row, row_of, rows_tell};
 
 /// A row a tree: the number of blocks, and a `#` for each live prefix, level by level, in each
 /// level in the stated order; and then the live prefixes in the stated order, a `1` for full and a
@@ -262,13 +262,5 @@ fn told_search(alloc: Global, row: Row<'_>) -> Result<String, Fail> {
 
 #[test]
 fn searches_end_at_their_limits(rt: HostRuntime) -> Result<(), Fail> {
-    for line in SEARCHES.lines() {
-        let row = row_of(line);
-        assert_eq!(rt;
-            told_search(rt.alloc(), row)?.as_str(),
-            row.wanted,
-            "{line}"
-        );
-    }
-    Ok(())
+    rows_tell(SEARCHES, |row| told_search(rt.alloc(), row))
 }

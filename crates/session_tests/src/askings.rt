@@ -3,7 +3,7 @@
 use query_session::{Ask, AskFault, AskKind, AskRefused, asks_of};
 use std::alloc::{AllocError, Global};
 use std::test::Fail;
-use test_files::row_of;
+use test_files::{lines_hold, row_of};
 
 /// A row some lines, `|` between two of them, of which one may stand so many times; and what is
 /// asked of each reader, `; ` between two of them, or which line is refused and why.
@@ -170,8 +170,5 @@ fn is_so(alloc: Global, line: &str) -> Result<bool, Fail> {
 
 #[test]
 fn askings_and_refusals(rt: HostRuntime) -> Result<(), Fail> {
-    for line in SESSIONS.lines() {
-        assert!(rt; is_so(rt.alloc(), line)?, "{line}");
-    }
-    Ok(())
+    lines_hold(SESSIONS, |line| is_so(rt.alloc(), line))
 }

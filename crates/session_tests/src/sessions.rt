@@ -14,7 +14,7 @@ use std::cmp::Ordering;
 use std::sync::{Arc, Wait};
 use std::test::*;
 use std::thread::Threads;
-use test_files::{Row, drawing_file, file_bytes, row_of};
+use test_files::{Row, drawing_file, file_bytes, lines_hold, row_of};
 use tv_base::OpenGate;
 
 /// A cube of 5 with eight voids: 35 solids, 109 nodes.
@@ -88,10 +88,7 @@ fn ends_so<R: Threads + Wait + Sync>(rt: &R, alloc: Global, row: Row<'_>) -> Res
 
 #[test]
 fn sessions_end_so(rt: HostRuntime) -> Result<(), Fail> {
-    for line in SESSIONS.lines() {
-        assert!(rt; ends_so(&rt, rt.alloc(), row_of(line))?, "{line}");
-    }
-    Ok(())
+    lines_hold(SESSIONS, |line| ends_so(&rt, rt.alloc(), row_of(line)))
 }
 
 /// Whether two choices are the same.

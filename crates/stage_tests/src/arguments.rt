@@ -3,7 +3,7 @@
 use solid_model::Limits;
 use std::alloc::Global;
 use std::test::Fail;
-use test_files::row_of;
+use test_files::rows_tell;
 use words::{Job, WordFault, job_of};
 
 /// Words, divided by commas, and what they ask for: of a search how many work at it, the limits of
@@ -272,9 +272,5 @@ fn asked(alloc: Global, told: &str) -> Result<String, Fail> {
 
 #[test]
 fn words_ask_for_jobs(rt: HostRuntime) -> Result<(), Fail> {
-    for line in WORDS.lines() {
-        let row = row_of(line);
-        assert_eq!(rt; asked(rt.alloc(), row.told)?.as_str(), row.wanted, "{line}");
-    }
-    Ok(())
+    rows_tell(WORDS, |row| asked(rt.alloc(), row.told))
 }

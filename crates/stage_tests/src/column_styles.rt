@@ -3,7 +3,7 @@
 use column_lanes::{Column, style_byte, style_of, styles};
 use std::alloc::Global;
 use std::test::Fail;
-use test_files::{Row, row_of};
+use test_files::{Row, rows_tell};
 
 /// A row some pairs: the columns after the segments, those before them, and the bytes of the
 /// styles, 0 for Blank, 1 for Dashed and 2 for Solid. The great number of the second row is the
@@ -51,15 +51,7 @@ fn told_styles(alloc: Global, row: Row<'_>) -> Result<String, Fail> {
 
 #[test]
 fn pairs_of_columns_have_their_styles(rt: HostRuntime) -> Result<(), Fail> {
-    for line in STYLES.lines() {
-        let row = row_of(line);
-        assert_eq!(rt;
-            told_styles(rt.alloc(), row)?.as_str(),
-            row.wanted,
-            "{line}"
-        );
-    }
-    Ok(())
+    rows_tell(STYLES, |row| told_styles(rt.alloc(), row))
 }
 
 /// A pair of columns, of which each kind comes: equal ones, one with a farther cell more, and such

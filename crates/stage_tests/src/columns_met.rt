@@ -9,7 +9,7 @@ use line_demands::{KnownColumn, can_draw};
 use solid_model::Style;
 use std::alloc::Global;
 use std::test::Fail;
-use test_files::{Row, row_of};
+use test_files::{Row, rows_tell};
 
 /// A row some pairs: of the columns after the segments the cells that are full for certain and
 /// those that may be full, the same of the columns before them, the wanted styles, 0 for Blank, 1
@@ -117,11 +117,7 @@ fn told_bytes(alloc: Global, row: Row<'_>) -> Result<String, Fail> {
 
 #[test]
 fn pairs_of_columns_meet_what_was_found_by_hand(rt: HostRuntime) -> Result<(), Fail> {
-    for line in MET.lines() {
-        let row = row_of(line);
-        assert_eq!(rt; told_bytes(rt.alloc(), row)?.as_str(), row.wanted, "{line}");
-    }
-    Ok(())
+    rows_tell(MET, |row| told_bytes(rt.alloc(), row))
 }
 
 /// What is known of a column whose cells are those of both numbers, and some of those of one.

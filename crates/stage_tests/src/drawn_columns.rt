@@ -14,7 +14,7 @@ use solid_model::{Grid, Panel, Panels, PerAxis, Style, View};
 use std::alloc::Global;
 use std::fmt::Write;
 use std::test::Fail;
-use test_files::{Row, cells, numbers, row_of};
+use test_files::{Row, cells, lines_hold, numbers, row_of, rows_tell};
 
 /// A row a drawing: the numbers of coordinates along x, y and z, a digit each; the cells, layer by
 /// layer from the bottom, in each row by row from the front, a `#` for each that is chosen; and for
@@ -182,10 +182,7 @@ fn is_drawn(alloc: Global, row: Row<'_>) -> Result<bool, Fail> {
 
 #[test]
 fn solids_have_their_columns_and_drawings(rt: HostRuntime) -> Result<(), Fail> {
-    for line in SOLIDS.lines() {
-        assert!(rt; is_drawn(rt.alloc(), row_of(line))?, "{line}");
-    }
-    Ok(())
+    lines_hold(SOLIDS, |line| is_drawn(rt.alloc(), row_of(line)))
 }
 
 /// The depths at which a text has one of two marks.
@@ -239,11 +236,7 @@ fn drawable(alloc: Global, row: Row<'_>) -> Result<String, Fail> {
 
 #[test]
 fn known_columns_can_draw_what_was_found_by_hand(rt: HostRuntime) -> Result<(), Fail> {
-    for line in KNOWN.lines() {
-        let row = row_of(line);
-        assert_eq!(rt; drawable(rt.alloc(), row)?.as_str(), row.wanted, "{line}");
-    }
-    Ok(())
+    rows_tell(KNOWN, |row| drawable(rt.alloc(), row))
 }
 
 /// The styles between a cell at a depth and itself, between it and itself with the farthest cell,

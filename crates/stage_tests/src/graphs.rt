@@ -6,7 +6,7 @@ use flood::{Graph, components, reached};
 use std::alloc::Global;
 use std::fmt::Write;
 use std::test::Fail;
-use test_files::row_of;
+use test_files::rows_tell;
 
 /// A row a graph: for each node the letters of the nodes to which it is joined, and a comma, where
 /// each joint is told once; how many components it has; and for each node the number of its
@@ -117,13 +117,5 @@ fn told_graph(alloc: Global, text: &str) -> Result<String, Fail> {
 
 #[test]
 fn reached_nodes_and_components_are_those_found_by_hand(rt: HostRuntime) -> Result<(), Fail> {
-    for line in GRAPHS.lines() {
-        let row = row_of(line);
-        assert_eq!(rt;
-            told_graph(rt.alloc(), row.told)?.as_str(),
-            row.wanted,
-            "{line}"
-        );
-    }
-    Ok(())
+    rows_tell(GRAPHS, |row| told_graph(rt.alloc(), row.told))
 }

@@ -4,10 +4,12 @@ use dxf_entities::entities;
 use dxf_groups::Groups;
 use grid::grid_of;
 use pseudo_wire::wire_of;
-use solid_model::{Axis, FaceMap, Grid, Panel, Panels, PerAxis, SheetLine, Style, View, Wire};
-use std::alloc::Global;
+use solid_model::{
+    Axis, Drawing, FaceMap, Grid, Panel, Panels, PerAxis, SheetLine, Style, View, Wire,
+};
+use std::alloc::{AllocError, Global};
 use std::test::Fail;
-use test_files::{Row, drawing_file, file_bytes, row_of};
+use test_files::{Row, drawing_file, file_bytes, rows_tell};
 use views::drawing;
 use virtual_faces::faces_of;
 
@@ -33,10 +35,15 @@ fn lines_in(alloc: Global, row: Row<'_>) -> Result<Vec<SheetLine>, Fail> {
     Ok(entities(alloc, &mut Groups::new(file), 0)?)
 }
 
+/// A row's drawing.
+fn drawing_in(alloc: Global, row: Row<'_>) -> Result<Drawing, Fail> {
+    let lines = lines_in(alloc, row)?;
+    Ok(drawing(alloc, lines.as_slice())?)
+}
+
 /// The grid of a row's drawing.
 pub fn grid_in(alloc: Global, row: Row<'_>) -> Result<Grid, Fail> {
-    let lines = lines_in(alloc, row)?;
-    let drawing = drawing(alloc, lines.as_slice())?;
+    let drawing = drawing_in(alloc, row)?;
     Ok(grid_of(alloc, &drawing)?)
 }
 
@@ -71,21 +78,27 @@ fn push_views(text: &mut String, panels: &Panels) -> Result<(), Fail> {
     push_view(text, " side ", panels.view(View::Side))
 }
 
-/// The grid of a row's drawing, as the row has it.
-fn told_grid(alloc: Global, row: Row<'_>) -> Result<String, Fail> {
-    let grid = grid_in(alloc, row)?;
-    let mut text = format!(in alloc; "{:?} {:?} {:?}", grid.xs(), grid.ys(), grid.zs())?;
+/// The coordinates of a grid, as in the table.
+fn told_coordinates(alloc: Global, grid: &Grid) -> Result<String, AllocError> {
+    format!(in alloc; "{:?} {:?} {:?}", grid.xs(), grid.ys(), grid.zs())
+}
+
+/// A grid, as in the table.
+fn told_of(alloc: Global, grid: &Grid) -> Result<String, Fail> {
+    let mut text = told_coordinates(alloc, grid)?;
     push_views(&mut text, grid.panels())?;
     Ok(text)
 }
 
+/// The grid of a row's drawing, as the row has it.
+fn told_grid(alloc: Global, row: Row<'_>) -> Result<String, Fail> {
+    let grid = grid_in(alloc, row)?;
+    told_of(alloc, &grid)
+}
+
 #[test]
 fn drawings_have_their_grids(rt: HostRuntime) -> Result<(), Fail> {
-    for line in GRIDS.lines() {
-        let row = row_of(line);
-        assert_eq!(rt; told_grid(rt.alloc(), row)?.as_str(), row.wanted, "{line}");
-    }
-    Ok(())
+    rows_tell(GRIDS, |row| told_grid(rt.alloc(), row))
 }
 
 /// A row a drawing, by its strokes in front, from the top and from the side; and how many pseudo
@@ -150,9 +163,5 @@ fn counts_in(alloc: Global, row: Row<'_>) -> Result<String, Fail> {
 
 #[test]
 fn edges_and_faces_are_as_many_as_by_hand(rt: HostRuntime) -> Result<(), Fail> {
-    for line in COUNTS.lines() {
-        let row = row_of(line);
-        assert_eq!(rt; counts_in(rt.alloc(), row)?.as_str(), row.wanted, "{line}");
-    }
-    Ok(())
+    rows_tell(COUNTS, |row| counts_in(rt.alloc(), row))
 }

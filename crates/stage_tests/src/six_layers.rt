@@ -6,7 +6,7 @@ use report::fault_text;
 use solid_model::{Fault, Refused};
 use std::alloc::Global;
 use std::test::Fail;
-use test_files::{Row, file_bytes, file_of, row_of};
+use test_files::{Row, file_bytes, file_of, row_of, rows_tell};
 
 /// A row the entities of a file; and then how many lines are kept of it in three views, and how many
 /// of the views and of further views in six, or the fault.
@@ -63,11 +63,7 @@ fn told(alloc: Global, row: Row<'_>) -> Result<String, Fail> {
 
 #[test]
 fn six_layers_are_read_where_six_are_asked_for(rt: HostRuntime) -> Result<(), Fail> {
-    for line in LAYERS.lines() {
-        let row = row_of(line);
-        assert_eq!(rt; told(rt.alloc(), row)?.as_str(), row.wanted, "{line}");
-    }
-    Ok(())
+    rows_tell(LAYERS, |row| told(rt.alloc(), row))
 }
 
 #[test]

@@ -8,7 +8,7 @@ use rounds::{Succession, all_rounds};
 use std::alloc::Global;
 use std::fmt::Write;
 use std::test::Fail;
-use test_files::row_of;
+use test_files::rows_tell;
 
 /// A row a succession: for each node, from 0 on, the digit of the node that follows it, or a point
 /// for a node that isn't inside; and its rounds, a digit a node. The first has no node.
@@ -134,13 +134,5 @@ fn told_rounds(alloc: Global, text: &str) -> Result<String, Fail> {
 
 #[test]
 fn rounds_are_those_found_by_hand(rt: HostRuntime) -> Result<(), Fail> {
-    for line in SUCCESSIONS.lines() {
-        let row = row_of(line);
-        assert_eq!(rt;
-            told_rounds(rt.alloc(), row.told)?.as_str(),
-            row.wanted,
-            "{line}"
-        );
-    }
-    Ok(())
+    rows_tell(SUCCESSIONS, |row| told_rounds(rt.alloc(), row.told))
 }

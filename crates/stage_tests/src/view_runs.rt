@@ -5,7 +5,7 @@ use dxf_groups::Groups;
 use solid_model::{Run, Style, View, ViewLines};
 use std::alloc::Global;
 use std::test::Fail;
-use test_files::{Row, drawing_file, file_bytes, row_of};
+use test_files::{Row, drawing_file, file_bytes, rows_tell};
 use views::drawing;
 
 /// What it is, the strokes of each view, and the runs that it has then. Each is told by its style,
@@ -88,9 +88,5 @@ fn told_runs(alloc: Global, row: Row<'_>) -> Result<String, Fail> {
 
 #[test]
 fn views_have_the_runs_found_by_hand(rt: HostRuntime) -> Result<(), Fail> {
-    for line in SHEETS.lines() {
-        let row = row_of(line);
-        assert_eq!(rt; told_runs(rt.alloc(), row)?.as_str(), row.wanted, "{line}");
-    }
-    Ok(())
+    rows_tell(SHEETS, |row| told_runs(rt.alloc(), row))
 }

@@ -6,7 +6,7 @@ use solid_model::{Face, Grid, Loop, Out};
 use std::alloc::Global;
 use std::fmt::Write;
 use std::test::Fail;
-use test_files::{Row, cells, numbers, row_of, rows_of};
+use test_files::{Row, cells, numbers, rows_of, rows_tell};
 
 /// How many cells there are along each axis, the cells, x fastest and z slowest, and the faces:
 /// each is told by its outward side, the coordinate of its plane, and its loops, a digit a
@@ -80,11 +80,7 @@ fn told_faces(alloc: Global, row: Row<'_>) -> Result<String, Fail> {
 
 #[test]
 fn faces_are_those_found_by_hand(rt: HostRuntime) -> Result<(), Fail> {
-    for line in SOLIDS.lines() {
-        let row = row_of(line);
-        assert_eq!(rt; told_faces(rt.alloc(), row)?.as_str(), row.wanted, "{line}");
-    }
-    Ok(())
+    rows_tell(SOLIDS, |row| told_faces(rt.alloc(), row))
 }
 
 /// Strokes of three views, the cells of their grid that a solid fills, and its faces, as above. It
@@ -123,9 +119,5 @@ fn told_solid(alloc: Global, row: Row<'_>) -> Result<String, Fail> {
 
 #[test]
 fn faces_of_drawn_solids_are_those_found_by_hand(rt: HostRuntime) -> Result<(), Fail> {
-    for line in DRAWN.lines() {
-        let row = row_of(line);
-        assert_eq!(rt; told_solid(rt.alloc(), row)?.as_str(), row.wanted, "{line}");
-    }
-    Ok(())
+    rows_tell(DRAWN, |row| told_solid(rt.alloc(), row))
 }

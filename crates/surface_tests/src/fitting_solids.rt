@@ -10,7 +10,7 @@ use six_views::fits;
 use solid_model::{Problem, View, ViewLines};
 use std::alloc::Global;
 use std::test::Fail;
-use test_files::{Row, drawing_file, file_bytes, row_of};
+use test_files::{Row, drawing_file, file_bytes, lines_hold, row_of};
 use views::view_of;
 
 /// A row the name of a drawing, the strokes of its left, its rear and its bottom view, nothing where
@@ -179,8 +179,5 @@ fn solids_fit_their_further_views_alone(rt: HostRuntime) -> Result<(), Fail> {
 
 #[test]
 fn lanes_tell_what_runs_do(rt: HostRuntime) -> Result<(), Fail> {
-    for line in FURTHER.lines() {
-        assert!(rt; all_agree_in(rt.alloc(), row_of(line))?, "{line}");
-    }
-    Ok(())
+    lines_hold(FURTHER, |line| all_agree_in(rt.alloc(), row_of(line)))
 }

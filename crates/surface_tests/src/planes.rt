@@ -5,7 +5,7 @@ use solid_model::Out;
 use std::alloc::Global;
 use std::fmt::Write;
 use std::test::Fail;
-use test_files::{Row, numbers, row_of, rows_of};
+use test_files::{Row, numbers, rows_of, rows_tell};
 
 /// The sizes of a plate, a digit each; its squares, row by row from the lowest one up; whether
 /// points come by v, then u (`up`), or by u, then v (`right`); and the loops. Each loop is told by
@@ -56,9 +56,5 @@ fn told_loops(alloc: Global, row: Row<'_>) -> Result<String, Fail> {
 
 #[test]
 fn loops_are_those_found_by_hand(rt: HostRuntime) -> Result<(), Fail> {
-    for line in PLANES.lines() {
-        let row = row_of(line);
-        assert_eq!(rt; told_loops(rt.alloc(), row)?.as_str(), row.wanted, "{line}");
-    }
-    Ok(())
+    rows_tell(PLANES, |row| told_loops(rt.alloc(), row))
 }

@@ -4,7 +4,7 @@ use crate::surfaces::{choice_of, problem_at};
 use std::alloc::Global;
 use std::test::Fail;
 use stl_out::write_stl;
-use test_files::{Row, row_of};
+use test_files::{Row, rows_tell};
 use tv_base::{MemSink, SinkError};
 
 /// A row a text: the strokes in front, from the top and from the side, and which blocks are full;
@@ -53,11 +53,7 @@ fn told_text(alloc: Global, row: Row<'_>) -> Result<String, Fail> {
 
 #[test]
 fn texts_have_so_many_lines(rt: HostRuntime) -> Result<(), Fail> {
-    for line in TEXTS.lines() {
-        let row = row_of(line);
-        assert_eq!(rt; told_text(rt.alloc(), row)?.as_str(), row.wanted, "{line}");
-    }
-    Ok(())
+    rows_tell(TEXTS, |row| told_text(rt.alloc(), row))
 }
 
 /// A row a text, as above, which call of the sink fails, and after how many bytes: and then how
@@ -81,13 +77,5 @@ fn told_failure(alloc: Global, row: Row<'_>) -> Result<String, Fail> {
 
 #[test]
 fn failing_sinks_have_what_came_before(rt: HostRuntime) -> Result<(), Fail> {
-    for line in FAILURES.lines() {
-        let row = row_of(line);
-        assert_eq!(rt;
-            told_failure(rt.alloc(), row)?.as_str(),
-            row.wanted,
-            "{line}"
-        );
-    }
-    Ok(())
+    rows_tell(FAILURES, |row| told_failure(rt.alloc(), row))
 }

@@ -7,7 +7,7 @@ use std::alloc::Global;
 use std::fmt::Write;
 use std::test::Fail;
 use stl_out::{Triangle, triangles};
-use test_files::{Row, drawing_file, file_bytes, row_of};
+use test_files::{Row, drawing_file, file_bytes, rows_tell};
 
 /// A row a solid: its strokes in front, from the top and from the side, and which blocks are full;
 /// and then its rectangles, each by its outward side and the corners p, q, r and s of its triangles
@@ -99,15 +99,7 @@ fn told_surface(alloc: Global, row: Row<'_>) -> Result<String, Fail> {
 
 #[test]
 fn boundaries_are_triangles(rt: HostRuntime) -> Result<(), Fail> {
-    for line in SURFACES.lines() {
-        let row = row_of(line);
-        assert_eq!(rt;
-            told_surface(rt.alloc(), row)?.as_str(),
-            row.wanted,
-            "{line}"
-        );
-    }
-    Ok(())
+    rows_tell(SURFACES, |row| told_surface(rt.alloc(), row))
 }
 
 /// How often triangles go from one point straight to another.

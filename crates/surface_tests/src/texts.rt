@@ -5,7 +5,7 @@ use report::{SolidTexts, page_text, solid_text, trial_text};
 use solid_model::{Choice, EndKind, Ended, Problem};
 use std::alloc::Global;
 use std::test::Fail;
-use test_files::{Row, row_of};
+use test_files::{Row, rows_tell};
 
 /// Two choices of three blocks.
 fn choices(alloc: Global) -> Result<Vec<Choice>, Fail> {
@@ -71,9 +71,5 @@ fn told_solid(alloc: Global, row: Row<'_>) -> Result<String, Fail> {
 
 #[test]
 fn solids_are_told(rt: HostRuntime) -> Result<(), Fail> {
-    for line in SOLIDS.lines() {
-        let row = row_of(line);
-        assert_eq!(rt; told_solid(rt.alloc(), row)?.as_str(), row.wanted, "{line}");
-    }
-    Ok(())
+    rows_tell(SOLIDS, |row| told_solid(rt.alloc(), row))
 }

@@ -7,4 +7,4 @@ mod rows;
 
 pub use boxes::{cells, numbers, rows_of};
 pub use files::{drawing_file, file_bytes, file_of, layer_of, padded_file};
-pub use rows::{Row, row_of};
+pub use rows::{Row, lines_hold, row_of, rows_tell};

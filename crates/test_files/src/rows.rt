@@ -1,6 +1,7 @@
 //! Rows of tables.
 
 use std::str::Split;
+use std::test::Fail;
 
 /// A row of a table: what is told, and after ` -> ` what is wanted of it. What is told has up to
 /// five parts, `; ` between two of them; a part that isn't told is empty, and so is what isn't
@@ -41,4 +42,36 @@ pub fn row_of(line: &str) -> Row<'_> {
         ],
         wanted,
     }
+}
+
+/// Fails at the first line of a table for which a test doesn't hold.
+pub fn lines_hold<'a, F: FnMut(&'a str) -> Result<bool, Fail>>(
+    table: &'a str,
+    mut holds: F,
+) -> Result<(), Fail>
+    requires { F.IsAlwaysCallable holds }
+{
+    for line in table.lines() {
+        if !holds(line)? {
+            return Err(Fail::new(line));
+        }
+    }
+    Ok(())
+}
+
+/// Fails at the first row of a table of which something else is told than the row wants.
+pub fn rows_tell<'a, F: FnMut(Row<'a>) -> Result<String, Fail>>(
+    table: &'a str,
+    mut told: F,
+) -> Result<(), Fail>
+    requires { F.IsAlwaysCallable told }
+{
+    for line in table.lines() {
+        let row = row_of(line);
+        let text = told(row)?;
+        if text.as_str() != row.wanted {
+            return Err(Fail::new(format_args!("{line}: {text}")));
+        }
+    }
+    Ok(())
 }

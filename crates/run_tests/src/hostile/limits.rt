@@ -4,9 +4,8 @@ use crate::drawings::DRAWINGS;
 use crate::rows::wrong_row;
 use crate::runs::{Runtime, run_words, solve};
 use crate::texts::SIZES;
-use std::alloc::AllocError;
 use std::test::Fail;
-use test_files::{Row, drawing_file, row_of};
+use test_files::{Row, drawing_file, lines_hold, row_of};
 
 /// A row a run: the strokes in each view, a limit, and then the status and the first line, and how
 /// many solids are told, where that is given.
@@ -35,7 +34,7 @@ fn count_of_some(text: &str, whole: &str) -> Option<u32> {
 }
 
 /// Whether a row's run writes what the row has: some of the solids that are found without a limit.
-fn is_told<R: Runtime>(rt: &R, row: Row<'_>) -> Result<bool, AllocError> {
+fn is_told<R: Runtime>(rt: &R, row: Row<'_>) -> Result<bool, Fail> {
     let [strokes, limit, ..] = row.parts;
     let (head, solids) = row.wanted.split_once(';').unwrap_or((row.wanted, ""));
     let words = format!(in rt.alloc(); "solve|--workers|3|{limit}|")?;
@@ -49,10 +48,7 @@ fn is_told<R: Runtime>(rt: &R, row: Row<'_>) -> Result<bool, AllocError> {
 
 #[test]
 fn three_workers_keep_the_limits(rt: HostRuntime) -> Result<(), Fail> {
-    for line in LIMITS.lines() {
-        assert!(rt; is_told(&rt, row_of(line))?, "{line}");
-    }
-    Ok(())
+    lines_hold(LIMITS, |line| is_told(&rt, row_of(line)))
 }
 
 #[test]

@@ -8,7 +8,7 @@ use std::alloc::{AllocError, Global};
 use std::sync::Wait;
 use std::test::*;
 use std::thread::Threads;
-use test_files::{Row, row_of};
+use test_files::{Row, lines_hold, row_of};
 use tv_base::OpenGate;
 
 /// A row a drawing of a cube's views, by the strokes of each; a number of workers; the limits of
@@ -48,8 +48,5 @@ fn ends_so<R: Threads + Wait + Sync>(rt: &R, alloc: Global, row: Row<'_>) -> Res
 
 #[test]
 fn workers_end_so(rt: HostRuntime) -> Result<(), Fail> {
-    for line in ENDS.lines() {
-        assert!(rt; ends_so(&rt, rt.alloc(), row_of(line))?, "{line}");
-    }
-    Ok(())
+    lines_hold(ENDS, |line| ends_so(&rt, rt.alloc(), row_of(line)))
 }

@@ -8,7 +8,7 @@ use std::alloc::Global;
 use std::sync::Wait;
 use std::test::*;
 use std::thread::Threads;
-use test_files::{Row, row_of};
+use test_files::{Row, lines_hold, row_of};
 use tv_base::{OpenGate, SinkError};
 
 /// Takes so many pages and refuses the next one.
@@ -67,8 +67,5 @@ const REFUSED: &str = "\
 
 #[test]
 fn a_refused_page_ends_the_search(rt: HostRuntime) -> Result<(), Fail> {
-    for line in REFUSED.lines() {
-        assert!(rt; ends_so(&rt, rt.alloc(), row_of(line))?, "{line}");
-    }
-    Ok(())
+    lines_hold(REFUSED, |line| ends_so(&rt, rt.alloc(), row_of(line)))
 }
