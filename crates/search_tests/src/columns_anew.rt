@@ -6,7 +6,7 @@ ghost use Rattle.solid_model.specs.Demands.{has_line};
 
 use crate::demands::problem_in;
 use line_demands::{KnownColumn, Partial, can_draw};
-use solid_model::{LineId, PerAxis, View};
+use solid_model::{LineId, PerAxis, Problem, View};
 use std::alloc::Global;
 use std::test::Fail;
 use test_files::row_of;
@@ -169,12 +169,17 @@ fn met_on_the_way(partial: &mut Partial<'_>) -> Option<u32> {
     Some(met)
 }
 
-/// With how many prefixes of the cube every line can be met, where each line stands as its columns
-/// tell after each decision and after each that is taken back.
+/// With how many prefixes of a problem's blocks every line can be met, where each line stands as its
+/// columns tell after each decision and after each that is taken back.
+fn met_prefixes_of(alloc: Global, problem: &Problem) -> Result<Option<u32>, Fail> {
+    let mut partial = Partial::new(alloc, problem)?;
+    Ok(met_on_the_way(&mut partial))
+}
+
+/// The same of the cube.
 fn met_prefixes(alloc: Global) -> Result<Option<u32>, Fail> {
     let problem = problem_in(alloc, row_of(EIGHT_VOIDS))?;
-    let mut partial = Partial::new(alloc, &problem)?;
-    Ok(met_on_the_way(&mut partial))
+    met_prefixes_of(alloc, &problem)
 }
 
 #[test]

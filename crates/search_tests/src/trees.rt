@@ -9,7 +9,7 @@ use solid_model::{Choice, Ended, Limits, Memory, Prefix};
 use std::alloc::Global;
 use std::fmt::Write;
 use std::test::Fail;
-use test_files::{Row, row_of, rows_tell};
+use test_files::{Row, rows_tell};
 
 /// A row a tree: the number of blocks, and a `#` for each live prefix, level by level, in each
 /// level in the stated order; and then the live prefixes in the stated order, a `1` for full and a
@@ -229,15 +229,7 @@ fn told_tree(alloc: Global, row: Row<'_>) -> Result<String, Fail> {
 
 #[test]
 fn trees_are_walked_and_expanded_as_by_hand(rt: HostRuntime) -> Result<(), Fail> {
-    for line in TREES.lines() {
-        let row = row_of(line);
-        assert_eq!(rt;
-            told_tree(rt.alloc(), row)?.as_str().trim_start(),
-            row.wanted,
-            "{line}"
-        );
-    }
-    Ok(())
+    rows_tell(TREES, |row| told_tree(rt.alloc(), row))
 }
 
 /// The search of the first of the trees within limits.

@@ -14,7 +14,7 @@ use std::cmp::Ordering;
 use std::sync::{Arc, Wait};
 use std::test::*;
 use std::thread::Threads;
-use test_files::{Row, drawing_file, file_bytes, lines_hold, row_of};
+use test_files::{Row, drawing_file, file_bytes, rows_tell};
 use tv_base::OpenGate;
 
 /// A cube of 5 with eight voids: 35 solids, 109 nodes.
@@ -79,16 +79,16 @@ const SESSIONS: &str = "\
 64; readers 16|0 wait 35|15 wait 35|7 page 0 1|go \
     -> 35 35 35 35 35 35 35 35 35 35 35 35 35 35 35 35 of 35";
 
-/// Whether the session of a row ends as the row has it.
-fn ends_so<R: Threads + Wait + Sync>(rt: &R, alloc: Global, row: Row<'_>) -> Result<bool, Fail> {
+/// How the session of a row ends, as the row has it.
+fn told_in<R: Threads + Wait + Sync>(rt: &R, alloc: Global, row: Row<'_>) -> Result<String, Fail> {
     let [workers, lines, ..] = row.parts;
     let session = session_of(rt, alloc, workers.parse().unwrap_or(1), lines)?;
-    Ok(told(alloc, &session)?.as_str() == row.wanted)
+    Ok(told(alloc, &session)?)
 }
 
 #[test]
 fn sessions_end_so(rt: HostRuntime) -> Result<(), Fail> {
-    lines_hold(SESSIONS, |line| ends_so(&rt, rt.alloc(), row_of(line)))
+    rows_tell(SESSIONS, |row| told_in(&rt, rt.alloc(), row))
 }
 
 /// Whether two choices are the same.

@@ -123,15 +123,7 @@ fn shown_in(alloc: Global, row: Row<'_>) -> Result<String, Fail> {
 
 #[test]
 fn chosen_cells_draw_what_was_found_by_hand(rt: HostRuntime) -> Result<(), Fail> {
-    for line in DRAWINGS.lines() {
-        let row = row_of(line);
-        assert_eq!(rt;
-            shown_in(rt.alloc(), row)?.as_str().trim_start(),
-            row.wanted,
-            "{line}"
-        );
-    }
-    Ok(())
+    rows_tell(DRAWINGS, |row| shown_in(rt.alloc(), row))
 }
 
 /// A row a solid: its drawing, by its strokes in front, from the top and from the side; its cells,
@@ -173,11 +165,16 @@ fn stand_so(alloc: Global, grid: &Grid, cells: &[bool], wanted: &str) -> Result<
     Ok(columns.as_str().trim_start() == wanted && draw_it(alloc, grid, cells)?)
 }
 
-/// Whether a row's solid has its columns, and draws its drawing.
+/// Whether a row's solid has its columns on this grid, and draws its drawing.
+fn is_drawn_on(alloc: Global, grid: &Grid, row: Row<'_>) -> Result<bool, Fail> {
+    let cells = cells(alloc, row.parts[3])?;
+    stand_so(alloc, grid, cells.as_slice(), row.wanted)
+}
+
+/// The same on the grid of its drawing.
 fn is_drawn(alloc: Global, row: Row<'_>) -> Result<bool, Fail> {
     let grid = grid_in(alloc, row)?;
-    let cells = cells(alloc, row.parts[3])?;
-    stand_so(alloc, &grid, cells.as_slice(), row.wanted)
+    is_drawn_on(alloc, &grid, row)
 }
 
 #[test]

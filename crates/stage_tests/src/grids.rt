@@ -29,21 +29,21 @@ line S 0 0 5 0, line D 0 3 2 3, line S 2 3 5 3, line S 0 4 2 4, line S 0 0 0 4, 
 line D 0 0 1 0, line S 1 0 3 0; line S 0 0 2 0; line S 0 0 1 0 \
     -> [0, 1, 2, 3] [0, 1] [0] front -==/ top ==..../.... side =/";
 
-/// The lines of a row's drawing.
-fn lines_in(alloc: Global, row: Row<'_>) -> Result<Vec<SheetLine>, Fail> {
-    let file = file_bytes(drawing_file(alloc, row.views())?)?;
+/// The lines of a drawing by its strokes in front, from the top and from the side.
+fn lines_in(alloc: Global, views: [&str; 3]) -> Result<Vec<SheetLine>, Fail> {
+    let file = file_bytes(drawing_file(alloc, views)?)?;
     Ok(entities(alloc, &mut Groups::new(file), 0)?)
 }
 
-/// A row's drawing.
-fn drawing_in(alloc: Global, row: Row<'_>) -> Result<Drawing, Fail> {
-    let lines = lines_in(alloc, row)?;
+/// The drawing.
+pub fn drawing_in(alloc: Global, views: [&str; 3]) -> Result<Drawing, Fail> {
+    let lines = lines_in(alloc, views)?;
     Ok(drawing(alloc, lines.as_slice())?)
 }
 
 /// The grid of a row's drawing.
 pub fn grid_in(alloc: Global, row: Row<'_>) -> Result<Grid, Fail> {
-    let drawing = drawing_in(alloc, row)?;
+    let drawing = drawing_in(alloc, row.views())?;
     Ok(grid_of(alloc, &drawing)?)
 }
 

@@ -1,12 +1,10 @@
 //! Runs that were found by hand.
 
-use dxf_entities::entities;
-use dxf_groups::Groups;
+use crate::grids::drawing_in;
 use solid_model::{Run, Style, View, ViewLines};
 use std::alloc::Global;
 use std::test::Fail;
-use test_files::{Row, drawing_file, file_bytes, rows_tell};
-use views::drawing;
+use test_files::{Row, rows_tell};
 
 /// What it is, the strokes of each view, and the runs that it has then. Each is told by its style,
 /// its kind, where it lies across, and where it begins and ends along.
@@ -80,9 +78,7 @@ fn told_view(alloc: Global, view: &ViewLines) -> Result<String, Fail> {
 /// The runs of the top view, where all views have a row's strokes, as the row has them.
 fn told_runs(alloc: Global, row: Row<'_>) -> Result<String, Fail> {
     let [_, strokes, ..] = row.parts;
-    let file = file_bytes(drawing_file(alloc, [strokes; 3])?)?;
-    let lines = entities(alloc, &mut Groups::new(file), 0)?;
-    let drawing = drawing(alloc, lines.as_slice())?;
+    let drawing = drawing_in(alloc, [strokes; 3])?;
     told_view(alloc, drawing.view(View::Top))
 }
 

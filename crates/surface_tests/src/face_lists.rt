@@ -102,19 +102,33 @@ fn by_cells(alloc: Global, grid: &Grid, filled: &str) -> Result<Vec<Face>, Fail>
     Ok(faces_of_solid(alloc, grid, filled.as_slice())?)
 }
 
-/// The faces of a row's solid, as the row has them, if they are found alike by rows and by cells.
-fn told_solid(alloc: Global, row: Row<'_>) -> Result<String, Fail> {
-    let [_, _, _, filled, _] = row.parts;
-    let problem = problem_at(alloc, row.views())?;
-    let grid = problem.grid();
+/// These, as a row has them.
+fn told_by_cells(alloc: Global, grid: &Grid, filled: &str) -> Result<String, Fail> {
+    let faces = by_cells(alloc, grid, filled)?;
+    told_list(alloc, faces.as_slice())
+}
+
+/// The same, found by rows.
+fn told_by_rows(alloc: Global, grid: &Grid, filled: &str) -> Result<String, Fail> {
     let rows = rows_of(alloc, grid.sizes(), filled)?;
     let faces = faces_of_rows(alloc, grid, &rows)?;
-    let told = told_list(alloc, faces.as_slice())?;
-    let other = by_cells(alloc, grid, filled)?;
-    if told.as_str() != told_list(alloc, other.as_slice())?.as_str() {
+    told_list(alloc, faces.as_slice())
+}
+
+/// The same, if they are found alike.
+fn told_alike(alloc: Global, grid: &Grid, filled: &str) -> Result<String, Fail> {
+    let told = told_by_rows(alloc, grid, filled)?;
+    let other = told_by_cells(alloc, grid, filled)?;
+    if told.as_str() != other.as_str() {
         return Err(Fail::new("other faces by cells"));
     }
     Ok(told)
+}
+
+/// The faces of a row's solid, as the row has them.
+fn told_solid(alloc: Global, row: Row<'_>) -> Result<String, Fail> {
+    let problem = problem_at(alloc, row.views())?;
+    told_alike(alloc, problem.grid(), row.parts[3])
 }
 
 #[test]

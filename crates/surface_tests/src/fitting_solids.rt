@@ -10,7 +10,7 @@ use six_views::fits;
 use solid_model::{Problem, View, ViewLines};
 use std::alloc::Global;
 use std::test::Fail;
-use test_files::{Row, drawing_file, file_bytes, lines_hold, row_of};
+use test_files::{Row, drawing_file, file_bytes, lines_hold, row_of, rows_tell};
 use views::view_of;
 
 /// A row the name of a drawing, the strokes of its left, its rear and its bottom view, nothing where
@@ -122,25 +122,41 @@ fn fitting(
     Ok(told)
 }
 
+/// Those of a row's choices of a problem's blocks that fit.
+fn fitting_of(alloc: Global, problem: &Problem, row: Row<'_>) -> Result<String, Fail> {
+    let further = further_in(alloc, row)?;
+    fitting(alloc, problem, &further, row.parts[4])
+}
+
 /// Those of a row's choices that fit, as the row has them.
 fn fitting_in(alloc: Global, row: Row<'_>) -> Result<String, Fail> {
     let problem = problem_at(alloc, drawing_named(row.parts[0]))?;
-    let further = further_in(alloc, row)?;
-    fitting(alloc, &problem, &further, row.parts[4])
+    fitting_of(alloc, &problem, row)
 }
 
-/// Whether a sieve says of a choice that is told so what is said by runs.
-fn agrees(
-    alloc: Global,
-    sieve: &mut FurtherSieve<'_>,
-    told: &str,
-    fits: bool,
-) -> Result<bool, Fail> {
+/// Whether a choice that is told so passes a sieve.
+fn passes(alloc: Global, sieve: &mut FurtherSieve<'_>, told: &str) -> Result<bool, Fail> {
     let choice = choice_of(alloc, told)?;
-    Ok(sieve.fits(alloc, &choice)? == fits)
+    Ok(sieve.fits(alloc, &choice)?)
 }
 
-/// Whether the sieve of further views says of each of the choices what is said by runs.
+/// Whether a sieve says of each of the choices what is said by runs.
+fn agrees_on(
+    alloc: Global,
+    problem: &Problem,
+    further: &Further,
+    sieve: &mut FurtherSieve<'_>,
+    choices: &str,
+) -> Result<bool, Fail> {
+    for told in choices.split(' ') {
+        if passes(alloc, sieve, told)? != choice_fits(alloc, problem, further, told)? {
+            return Ok(false);
+        }
+    }
+    Ok(true)
+}
+
+/// The same of the sieve of further views.
 fn all_agree(
     alloc: Global,
     problem: &Problem,
@@ -148,33 +164,24 @@ fn all_agree(
     choices: &str,
 ) -> Result<bool, Fail> {
     let mut sieve = FurtherSieve::of(alloc, problem, further)?;
-    for told in choices.split(' ') {
-        let fits = choice_fits(alloc, problem, further, told)?;
-        if !agrees(alloc, &mut sieve, told, fits)? {
-            return Ok(false);
-        }
-    }
-    Ok(true)
+    agrees_on(alloc, problem, further, &mut sieve, choices)
 }
 
-/// The same of a row's choices.
+/// The same of those of a row, and of its choices of a problem's blocks.
+fn all_agree_of(alloc: Global, problem: &Problem, row: Row<'_>) -> Result<bool, Fail> {
+    let further = further_in(alloc, row)?;
+    all_agree(alloc, problem, &further, row.parts[4])
+}
+
+/// The same of a row.
 fn all_agree_in(alloc: Global, row: Row<'_>) -> Result<bool, Fail> {
     let problem = problem_at(alloc, drawing_named(row.parts[0]))?;
-    let further = further_in(alloc, row)?;
-    all_agree(alloc, &problem, &further, row.parts[4])
+    all_agree_of(alloc, &problem, row)
 }
 
 #[test]
 fn solids_fit_their_further_views_alone(rt: HostRuntime) -> Result<(), Fail> {
-    for line in FURTHER.lines() {
-        let row = row_of(line);
-        assert_eq!(rt;
-            fitting_in(rt.alloc(), row)?.as_str().trim_start(),
-            row.wanted,
-            "{line}"
-        );
-    }
-    Ok(())
+    rows_tell(FURTHER, |row| fitting_in(rt.alloc(), row))
 }
 
 #[test]

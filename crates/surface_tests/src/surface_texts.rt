@@ -1,6 +1,7 @@
 //! Texts of solids' triangles, and sinks that fail.
 
 use crate::surfaces::{choice_of, problem_at};
+use solid_model::Problem;
 use std::alloc::Global;
 use std::test::Fail;
 use stl_out::write_stl;
@@ -20,16 +21,25 @@ rect S 0 0 3 3, rect D 1 1 2 2; rect S 0 0 3 3, rect D 1 1 2 2; rect S 0 0 3 3, 
 rect S 0 0 2 1, line S 1 0 1 1; rect S 0 0 1 1, rect S 1 1 2 2; rect S 0 0 2 1, line S 1 0 1 1; \
     11 -> 170 solid recon|";
 
-/// How the text of a row's solid is written to a sink.
-fn written(alloc: Global, row: Row<'_>, sink: &mut MemSink) -> Result<&'static str, Fail> {
-    let [_, _, _, full, _] = row.parts;
-    let problem = problem_at(alloc, row.views())?;
+/// How the text of a problem's solid, by its full blocks, is written to a sink.
+fn written_of(
+    alloc: Global,
+    problem: &Problem,
+    full: &str,
+    sink: &mut MemSink,
+) -> Result<&'static str, Fail> {
     let choice = choice_of(alloc, full)?;
-    Ok(match write_stl(alloc, &problem, &choice, sink) {
+    Ok(match write_stl(alloc, problem, &choice, sink) {
         Ok(()) => "written",
         Err(SinkError::Failed) => "failed",
         Err(SinkError::Memory) => "memory",
     })
+}
+
+/// The same of a row's solid.
+fn written(alloc: Global, row: Row<'_>, sink: &mut MemSink) -> Result<&'static str, Fail> {
+    let problem = problem_at(alloc, row.views())?;
+    written_of(alloc, &problem, row.parts[3], sink)
 }
 
 /// How many lines a text has; and what it begins with, if that is this beginning and it ends as it

@@ -83,11 +83,16 @@ fn told_rectangles(alloc: Global, triangles: &[Triangle]) -> Result<String, Fail
     Ok(told)
 }
 
-/// The triangles of a drawing's solid, by its full blocks.
+/// The triangles of a problem's solid, by its full blocks.
+fn surface_of(alloc: Global, problem: &Problem, full: &str) -> Result<Vec<Triangle>, Fail> {
+    let choice = choice_of(alloc, full)?;
+    Ok(triangles(alloc, problem, &choice)?)
+}
+
+/// The same of a drawing's solid.
 fn surface(alloc: Global, views: [&str; 3], full: &str) -> Result<Vec<Triangle>, Fail> {
     let problem = problem_at(alloc, views)?;
-    let choice = choice_of(alloc, full)?;
-    Ok(triangles(alloc, &problem, &choice)?)
+    surface_of(alloc, &problem, full)
 }
 
 /// The triangles of a row's solid, as the row has them.

@@ -59,7 +59,8 @@ pub fn lines_hold<'a, F: FnMut(&'a str) -> Result<bool, Fail>>(
     Ok(())
 }
 
-/// Fails at the first row of a table of which something else is told than the row wants.
+/// Fails at the first row of a table of which something else is told than the row wants. Blanks
+/// before what is told don't count.
 pub fn rows_tell<'a, F: FnMut(Row<'a>) -> Result<String, Fail>>(
     table: &'a str,
     mut told: F,
@@ -69,7 +70,7 @@ pub fn rows_tell<'a, F: FnMut(Row<'a>) -> Result<String, Fail>>(
     for line in table.lines() {
         let row = row_of(line);
         let text = told(row)?;
-        if text.as_str() != row.wanted {
+        if text.as_str().trim_start() != row.wanted {
             return Err(Fail::new(format_args!("{line}: {text}")));
         }
     }
