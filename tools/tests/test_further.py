@@ -148,6 +148,7 @@ class Solids(InAFolder):
         self.assertIn("warning: logs are of the three main views: what LEFT would rule out isn't asked", ended.said)
         self.assertEqual(draft("check", FROM_LEFT, "-", data=ended.out.encode()).out, "Yes: 3 solids have these views, and no others.\n")
 
+    @needs_module("ezdxf", "python3-ezdxf")
     def test_layers_that_name_a_view_otherwise(self) -> None:
         self.file.write_text(FROM_LEFT.read_text().replace("\nLEFT\n", "\nLEFT_VIEW\n"))
         ended = draft("solve", self.file)
