@@ -1,8 +1,9 @@
 -- What a choice fills of spans, and the marks that it makes.
-use Rattle.std.proofs.Common.{◌≡◌, ◌≢◌, inl, inr, Bool, true, false, ◌&&◌, ◌||◌, if◌then◌else◌, ℕ, ◌+◌, ◌<◌, ◌≤◌, List, [], ◌∷◌, ◌++◌, slice_index_or, Option, None, refl, ap, sym, subst, ◌∙◌, arith}
+use Rattle.std.proofs.Common.{◌≡◌, ◌≢◌, inl, inr, Bool, true, false, ◌&&◌, ◌||◌, if◌then◌else◌, ℕ, ◌+◌, ◌<◌, ◌≤◌, List, [], ◌∷◌, ◌++◌, slice_index_or, Option, None, Some, refl, ap, sym, subst, ◌∙◌, arith}
 use Rattle.std.proofs.Math.Bool.{or_assoc, or-false}
 use Rattle.std.proofs.Math.ListN.{get_or-map}
-use Rattle.std.proofs.lemmas.Bool.{cases_lt}
+use Rattle.std.proofs.lemmas.Bool.{cases_lt, true≢false}
+use Rattle.std.specs.Option.{is_some}
 use Rattle.cell_rows.specs.declared.span.Span.{Span}
 use Rattle.cell_rows.specs.Rows.{cell_numbered, is_marked_at}
 use Rattle.cell_rows.specs.Spans.{is_filled, chosen_marks}
@@ -29,6 +30,16 @@ pub filled-last : (choice : List Bool) (xs : List Span) (s : Span) (k : ℕ)
     → is_filled choice (xs ++ s ∷ []) k ≡ (is_filled choice xs k || (is_chosen choice s.block && is_set s.cells k))
 filled-last choice xs s k = filled-append choice xs (s ∷ []) k
     ∙ ap (λ b. is_filled choice xs k || b) (or-false (is_chosen choice s.block && is_set s.cells k))
+
+-- a span of no block can be left out: no choice fills anything of it
+pub filled_without : (choice : List Bool) (xs : List Span) (s : Span) (k : ℕ) → is_some s.block ≡ false
+    → is_filled choice xs k ≡ is_filled choice (xs ++ s ∷ []) k
+filled_without choice xs s k none = sym (filled-last choice xs s k
+    ∙ ap (λ b. is_filled choice xs k || (b && is_set s.cells k)) (none_chosen s.block none) ∙ or-false (is_filled choice xs k))
+  where
+    none_chosen : (block : Option ℕ) → is_some block ≡ false → is_chosen choice block ≡ false
+    none_chosen None none = refl
+    none_chosen (Some b) none = absurd (true≢false none)
 
 -- ---- one cell more
 

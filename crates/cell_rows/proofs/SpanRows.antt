@@ -1,13 +1,10 @@
 -- Rows of spans, and the words that a choice fills of them.
-use Rattle.std.proofs.Common.{◌≡◌, inl, inr, Bool, ℕ, ◌+◌, ◌<◌, List, [], length, get_or, set, refl, ap, sym, subst, ◌∙◌, arith}
-use Rattle.std.proofs.lemmas.Bool.{cases_lt}
-use Rattle.std.proofs.lemmas.List.{get_or-set_same, get_or-set_other}
+use Rattle.std.proofs.Common.{◌≡◌, Bool, ℕ, ◌<◌, List, [], length, refl, ap, sym, subst, ◌∙◌}
 use Rattle.cell_rows.specs.declared.span.Span.{Span}
 use Rattle.cell_rows.specs.Rows.{cell_numbered, row_sizes, AreRows}
 use Rattle.cell_rows.specs.Spans.{is_filled, chosen_marks, AreRowSpans, AreFilled}
 use Rattle.cell_rows.proofs.RowCells.{AreBitsAt}
 use Rattle.solid_model.specs.declared.cell.Axis.{Axis}
-use Rattle.lemmas.specs.Bits.{is_set}
 use Rattle.solid_model.specs.Blocks.{BlockNumbers}
 use Rattle.solid_model.specs.Marks.{BoxMarks}
 use Rattle.solid_model.specs.PerAxis.{numbers_of, numbered}

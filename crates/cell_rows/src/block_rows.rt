@@ -54,6 +54,18 @@ fn with_bit(word: u64, bit: usize) -> u64
     word | (1 << bit)
 }
 
+/// Puts a span at the end of others, unless it is of no block: no choice fills anything of such a
+/// one, and a row that keeps none takes no memory.
+fn put_span(spans: &mut Vec<Span>, span: Span) -> Result<(), Memory>
+    ensures { IfOk result (λ done. (choice : List Bool) (k : ℕ)
+        → is_filled choice spans.new.items k ≡ is_filled choice (spans.old.items ++ span ∷ []) k) }
+{
+    if span.block.is_some() {
+        spans.push(span)?;
+    }
+    Ok(())
+}
+
 /// The last span of a row with the next cell, which belongs to this block; where the span is
 /// another's it is put at the end of the others, and a new one begins.
 fn with_cell(
@@ -76,7 +88,7 @@ fn with_cell(
             cells: with_bit(last.cells, number),
         })
     } else {
-        spans.push(last)?;
+        put_span(spans, last)?;
         Ok(Span {
             block,
             cells: with_bit(0, number),
@@ -107,7 +119,7 @@ fn spans_of(
         let block = blocks.of(cell.numbered(axis, number));
         last = with_cell(&mut spans, last, block, number)?;
     }
-    spans.push(last)?;
+    put_span(&mut spans, last)?;
     Ok(spans)
 }
 

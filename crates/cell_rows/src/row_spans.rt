@@ -1,6 +1,6 @@
 //! The spans of rows of cells, and the words that a choice fills of them.
 
-ghost use Rattle.std.specs.Prelude.{◌≡◌, ℕ, Bool, List, false, map, IfOk};
+ghost use Rattle.std.specs.Prelude.{◌≡◌, ℕ, map, IfOk};
 ghost use Rattle.cell_rows.specs.Spans.{is_filled, AreFillable};
 ghost use Rattle.lemmas.specs.Bits.{is_set};
 
@@ -9,8 +9,8 @@ use solid_model::{Choice, Memory};
 use std::alloc::Global;
 use std::marker::Model;
 
-/// The spans of each of some rows, and the places of the rows that have some of a block: of the
-/// others no choice fills anything. Contracts see the spans.
+/// The spans of each of some rows, and the places of the rows that have some: of the others no
+/// choice fills anything. Contracts see the spans.
 #[derive(Debug, Drop)]
 pub struct RowSpans {
     rows: Vec<Vec<Span>>,
@@ -29,25 +29,13 @@ impl Model for RowSpans {
     ghost invariant = { λ s. AreFillable (map (λ r. r.items) s.rows.items) s.places.items };
 }
 
-/// Some of the spans is one of a block; of others no choice fills anything.
-fn has_block(spans: &[Span]) -> bool
-    ensures { result ≡ false → (choice : List Bool) (k : ℕ) → is_filled choice spans.now k ≡ false }
-{
-    for span in spans {
-        if span.block.is_some() {
-            return true;
-        }
-    }
-    false
-}
-
-/// The places of the rows that have some span of a block.
+/// The places of the rows that have some span.
 fn fillable_places(alloc: Global, rows: &[Vec<Span>]) -> Result<Vec<usize>, Memory>
     ensures { IfOk result (λ places. AreFillable (map (λ r. r.items) rows.now) places.items) }
 {
     let mut places = Vec::new(alloc);
     for place in 0..rows.len() {
-        if has_block(rows[place].as_slice()) {
+        if !rows[place].is_empty() {
             places.push(place)?;
         }
     }

@@ -2,7 +2,6 @@
 use Rattle.std.proofs.Common.{◌≤◌, ◌++◌, ◌∷◌, [], None, refl, ap, sym, subst, ◌∙◌, arith}
 use Rattle.solid_model.specs.Blocks.{block_at}
 use Rattle.solid_model.specs.PerAxis.{numbers_of}
-use Rattle.cell_rows.specs.Spans.{is_filled}
 use Rattle.cell_rows.proofs.FilledSpans.{IsRowSoFar, row_more, row_whole}
 use Rattle.cell_rows.proofs.RowCells.{numbered_cell}
 use Rattle.cell_rows.proofs.block_rows.spans_of.Goals as goal
@@ -20,7 +19,7 @@ loop-number-preserved c =
 
 pub returns : goal.returns
 returns c choice k l =
-    ap (λ xs. is_filled choice xs k) c.in_ok-push.ensures.items
+    c.in_ok-put_span.ensures choice k
     ∙ row_whole c.args.blocks.now c.args.axis c.args.cell _ c.loop-number.number c.loop-number.invariant
     (subst (λ s. numbers_of s c.args.axis ≤ c.loop-number.number) c.requires.sizes
     (omega (arith, c.along-number-end.ensures, c.loop-number-test.false))) choice k

@@ -2,7 +2,6 @@
 use Rattle.std.proofs.Common.{◌==◌, ◌||◌, ap, ◌∙◌}
 use Rattle.std.proofs.lemmas.Nat.Bits.{bit_at-zero}
 use Rattle.cell_rows.specs.declared.span.Span.{Span}
-use Rattle.cell_rows.specs.Spans.{is_filled}
 use Rattle.solid_model.specs.Choices.{is_chosen}
 use Rattle.cell_rows.proofs.FilledSpans.{grown_here, grown_elsewhere, begun_here, begun_elsewhere}
 use Rattle.cell_rows.proofs.block_rows.with_cell.Goals as goal
@@ -15,15 +14,15 @@ pub returns-then-is_same-clause-others : goal.returns-then-is_same-clause-others
 returns-then-is_same-clause-others c choice k apart =
     grown_elsewhere choice c.args.spans.now.items c.args.last _ k (c.is_same.ensures c.if-is_same.true) (c.with_bit.ensures.others k apart)
 
-pub returns-in_ok-push-clause-here : goal.returns-in_ok-push-clause-here
-returns-in_ok-push-clause-here c choice =
+pub returns-in_ok-put_span-clause-here : goal.returns-in_ok-put_span-clause-here
+returns-in_ok-put_span-clause-here c choice =
     let next : Span = record { block = c.args.block; cells = c.with_bit-else-is_same.result } in
-    begun_here choice c.push.new.self.items next c.args.number c.with_bit-else-is_same.ensures.here
-    ∙ ap (λ xs. is_filled choice xs c.args.number || is_chosen choice c.args.block) c.in_ok-push.ensures.items
+    begun_here choice c.put_span.new.spans.items next c.args.number c.with_bit-else-is_same.ensures.here
+    ∙ ap (λ b. b || is_chosen choice c.args.block) (c.in_ok-put_span.ensures choice c.args.number)
 
-pub returns-in_ok-push-clause-others : goal.returns-in_ok-push-clause-others
-returns-in_ok-push-clause-others c choice k apart =
+pub returns-in_ok-put_span-clause-others : goal.returns-in_ok-put_span-clause-others
+returns-in_ok-put_span-clause-others c choice k apart =
     let next : Span = record { block = c.args.block; cells = c.with_bit-else-is_same.result } in
-    begun_elsewhere choice c.push.new.self.items next k
+    begun_elsewhere choice c.put_span.new.spans.items next k
     (c.with_bit-else-is_same.ensures.others k apart ∙ ap (λ b. b == 1) (bit_at-zero k))
-    ∙ ap (λ xs. is_filled choice xs k) c.in_ok-push.ensures.items
+    ∙ c.in_ok-put_span.ensures choice k
