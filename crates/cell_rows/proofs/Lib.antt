@@ -6,3 +6,4 @@ pub mod FillablePlaces
 pub mod SpanRows
 pub mod ProblemSizes
 pub mod LayerCells
+pub mod BoundaryPlanes

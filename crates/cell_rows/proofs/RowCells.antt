@@ -1,11 +1,12 @@
 -- The cells of rows.
-use Rattle.std.proofs.Common.{◌≡◌, Bool, true, false, ◌&&◌, ℕ, ◌+◌, ◌*◌, ◌<◌, ◌≤◌, List, slice_index_or, pos, refl, ap, sym, subst, ◌∙◌, arith}
+use Rattle.std.proofs.Common.{◌≡◌, Bool, true, false, ◌&&◌, ℕ, ◌+◌, ◌*◌, ◌<◌, ◌≤◌, List, slice_index_or, ℤ, pos, refl, ap, sym, subst, ◌∙◌, arith}
 use Rattle.std.proofs.lemmas.Bool.{false_from_ne_true, both_ways, and_parts}
 use Rattle.solid_model.specs.declared.cell.Axis.{Axis}
 use Rattle.solid_model.specs.declared.cell.Axis.TheVariants.{X, Y, Z}
 use Rattle.solid_model.specs.declared.per_axis.PerAxis.{PerAxis}
 use Rattle.lemmas.specs.Bits.{is_set}
-use Rattle.solid_model.specs.Cells.{coordinate, cell_at}
+use Rattle.solid_model.specs.declared.cell.Cell.{Cell}
+use Rattle.solid_model.specs.Cells.{coordinate, placed, cell_at}
 use Rattle.solid_model.specs.Marks.{BoxMarks, is_marked}
 use Rattle.solid_model.specs.PerAxis.{numbers_of, cell_of, numbered, AreFew}
 use Rattle.solid_model.specs.Rooms.{Sizes, is_below, is_within, box_place, box_count}
@@ -124,13 +125,13 @@ few_rows sizes Z few X = few X
 few_rows sizes Z few Y = few Y
 few_rows sizes Z few Z = omega arith
 
--- a cell of the box stands in a row of it
-pub within_row : (sizes : Sizes) (a : Axis) (k : ℕ) (n : PerAxis) → is_within sizes (cell_numbered a k n) ≡ true
-    → is_within (numbered a 1 sizes) (cell_numbered a 0 n) ≡ true
-within_row sizes a k n within = below-within (numbered a 1 sizes) (cell_numbered a 0 n) (by a (within-below sizes (cell_numbered a k n) within))
+-- where the box has a cell, it has the row along an axis in which the cell stands
+pub row_within : (sizes : Sizes) (a : Axis) (z : ℤ) (c : Cell) → is_within sizes (placed a z c) ≡ true
+    → is_within (numbered a 1 sizes) (placed a (pos 0) c) ≡ true
+row_within sizes a z c within = below-within (numbered a 1 sizes) (placed a (pos 0) c) (by a (within-below sizes (placed a z c) within))
   where
-    by : (a : Axis) → ((b : Axis) → is_below (sizes b) (coordinate b (cell_numbered a k n)) ≡ true)
-        → (b : Axis) → is_below (numbered a 1 sizes b) (coordinate b (cell_numbered a 0 n)) ≡ true
+    by : (a : Axis) → ((b : Axis) → is_below (sizes b) (coordinate b (placed a z c)) ≡ true)
+        → (b : Axis) → is_below (numbered a 1 sizes b) (coordinate b (placed a (pos 0) c)) ≡ true
     by X h X = refl
     by X h Y = h Y
     by X h Z = h Z
@@ -140,6 +141,12 @@ within_row sizes a k n within = below-within (numbered a 1 sizes) (cell_numbered
     by Z h X = h X
     by Z h Y = h Y
     by Z h Z = refl
+
+pub within_row : (sizes : Sizes) (a : Axis) (k : ℕ) (n : PerAxis) → is_within sizes (cell_numbered a k n) ≡ true
+    → is_within (numbered a 1 sizes) (cell_numbered a 0 n) ≡ true
+within_row sizes X k n within = row_within sizes X (pos k) (cell_of n) within
+within_row sizes Y k n within = row_within sizes Y (pos k) (cell_of n) within
+within_row sizes Z k n within = row_within sizes Z (pos k) (cell_of n) within
 
 -- so where there is no row there is no mark
 pub none_without_row : (m : BoxMarks) (a : Axis) (n : PerAxis) → is_within (row_sizes m a) (cell_numbered a 0 n) ≡ false

@@ -6,6 +6,7 @@
 
 mod bit_places;
 mod block_rows;
+mod changed_planes;
 mod layer_rows;
 mod row_spans;
 mod rows;
@@ -13,6 +14,7 @@ mod span;
 
 pub use bit_places::{has_bit, next_place};
 pub use block_rows::BlockRows;
+pub use changed_planes::{ChangedPlanes, PlanesAcross};
 pub use layer_rows::LayerRows;
 pub use row_spans::RowSpans;
 pub use rows::CellRows;

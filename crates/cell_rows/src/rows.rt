@@ -6,6 +6,7 @@ ghost use Rattle.lemmas.specs.Bits.{is_set};
 ghost use Rattle.solid_model.specs.PerAxis.{numbers_of, AreFew};
 
 use crate::block_rows::BlockRows;
+use crate::changed_planes::{ChangedPlanes, planes_between};
 use crate::layer_rows::LayerRows;
 use solid_model::{Axis, Choice, Marks, Memory, Out, PerAxis, Problem};
 use std::alloc::Global;
@@ -83,6 +84,7 @@ fn rows_along(alloc: Global, marks: &Marks, axis: Axis) -> Result<Vec<u64>, Memo
 impl CellRows {
     ghost use Rattle.std.specs.Prelude.{◌≡◌, ◌≤◌, ◌<◌, ℕ, pos, ◌-ℤ◌, IfOk};
     ghost use Rattle.cell_rows.specs.Layers.{AreLayer};
+    ghost use Rattle.cell_rows.specs.Planes.{AreSameBeside};
     ghost use Rattle.cell_rows.specs.Rows.{is_marked_at, AreRows};
     ghost use Rattle.cell_rows.specs.Spans.{chosen_marks};
     ghost use Rattle.solid_model.specs.declared.cell.Axis.{Axis};
@@ -103,14 +105,22 @@ impl CellRows {
         Ok(CellRows { sizes, x, y, z })
     }
 
-    /// Rows for the cells of a problem's grid, none of which has a mark. An `Err` is out of memory.
-    pub fn blank(alloc: Global, problem: &Problem) -> Result<CellRows, Memory>
-        ensures { IfOk result (λ rows. rows.sizes ≡ problem.now.blocks.sizes) }
+    /// Rows for the cells of a box of these sizes, none of which has a mark. An `Err` is out of
+    /// memory.
+    pub fn unmarked(alloc: Global, sizes: PerAxis) -> Result<CellRows, Memory>
+        requires { (a : Axis) → numbers_of sizes a ≤ 63 }
+        ensures { IfOk result (λ rows. rows.sizes ≡ sizes) }
     {
-        let sizes = problem.grid().sizes();
         let none = vec![in alloc; false; sizes.count()]?;
         let marks = Marks::new(sizes, none);
         CellRows::of(alloc, &marks)
+    }
+
+    /// The same for the cells of a problem's grid.
+    pub fn blank(alloc: Global, problem: &Problem) -> Result<CellRows, Memory>
+        ensures { IfOk result (λ rows. rows.sizes ≡ problem.now.blocks.sizes) }
+    {
+        CellRows::unmarked(alloc, problem.grid().sizes())
     }
 
     /// Marks the cells that a choice of blocks fills, and no others, in the room of the rows.
@@ -121,6 +131,25 @@ impl CellRows {
         blocks.along(Axis::X).fill(choice, self.x.as_mut_slice());
         blocks.along(Axis::Y).fill(choice, self.y.as_mut_slice());
         blocks.along(Axis::Z).fill(choice, self.z.as_mut_slice());
+    }
+
+    /// Marks the cells that others mark, and no others, and tells in which planes boundary squares
+    /// have come or gone: in every other plane they are the same as before.
+    pub fn follow(&mut self, cells: &CellRows) -> ChangedPlanes
+        requires { numbers_of self.old.sizes ≡ numbers_of cells.now.sizes }
+        ensures same { self.new ≡ cells.now }
+        ensures beside { AreSameBeside result self.old cells.now }
+    {
+        let changed = ChangedPlanes {
+            x: planes_between(self.x.as_slice(), cells.x.as_slice()),
+            y: planes_between(self.y.as_slice(), cells.y.as_slice()),
+            z: planes_between(self.z.as_slice(), cells.z.as_slice()),
+        };
+        self.sizes = cells.sizes;
+        self.x.as_mut_slice().copy_from_slice(cells.x.as_slice());
+        self.y.as_mut_slice().copy_from_slice(cells.y.as_slice());
+        self.z.as_mut_slice().copy_from_slice(cells.z.as_slice());
+        changed
     }
 
     /// How many cells there are along each axis.

@@ -1,22 +1,11 @@
--- There are so many cells, and the sizes are those of the blocks.
-use Rattle.std.proofs.Common.{rules, ◌≡◌, ◌≤◌, ◌∙◌, ap, sym, subst, arith}
+-- The sizes are those of the blocks.
+use Rattle.std.proofs.Common.{◌≡◌, ◌∙◌}
 use Rattle.std.proofs.lemmas.Result.{IfOk-weaker}
 use Rattle.solid_model.specs.Marks.{BoxMarks}
-use Rattle.solid_model.specs.PerAxis.{numbers_of}
 use Rattle.cell_rows.proofs.ProblemSizes.{sizes_of_blocks}
 use Rattle.cell_rows.proofs.rows.CellRows.blank.Goals as goal
 
-pub new-marks-requires : goal.new-marks-requires
-new-marks-requires c = record {
-  few = λ a. let l = c.sizes-sizes.ensures.few a in omega arith;
-  listed = search rules ∙ c.count.ensures;
-}
-
-pub of-requires : goal.of-requires
-of-requires c = λ a. subst (λ (m : BoxMarks). numbers_of m.sizes a ≤ 63) (sym c.new-marks.ensures) (c.sizes-sizes.ensures.few a)
-
 pub returns : goal.returns
-returns c = IfOk-weaker c.of.result (λ (m : BoxMarks). m ≡ c.new-marks.result) (λ (m : BoxMarks). m.sizes ≡ c.args.problem.now.blocks.sizes)
-    (λ m is. ap (λ (n : BoxMarks). n.sizes) (is ∙ c.new-marks.ensures)
-    ∙ sizes_of_blocks c.args.problem.now c.grid.result.now c.sizes-sizes.result c.grid.ensures.kept c.grid.ensures.grid c.sizes-sizes.ensures.sizes)
-    c.of.ensures
+returns c = IfOk-weaker c.unmarked.result (λ (m : BoxMarks). m.sizes ≡ c.sizes.result) (λ (m : BoxMarks). m.sizes ≡ c.args.problem.now.blocks.sizes)
+    (λ m is. is ∙ sizes_of_blocks c.args.problem.now c.grid.result.now c.sizes.result c.grid.ensures.kept c.grid.ensures.grid c.sizes.ensures.sizes)
+    c.unmarked.ensures
