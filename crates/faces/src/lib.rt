@@ -24,7 +24,7 @@ mod way;
 pub use counted::counted_faces;
 pub use joined::square_components;
 pub use loops::plane_loops;
-pub use plane::{are_plane_squares, plane_squares};
+pub use plane::plane_squares;
 pub use plane_faces::faces_of_squares;
 pub use plane_loop::PlaneLoop;
 pub use point::Point;

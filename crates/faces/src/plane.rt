@@ -1,7 +1,6 @@
 //! The boundary squares of a plane.
 
-ghost use Rattle.std.specs.Prelude.{◌≡◌, ◌<◌, ◌&&◌, not, ℕ, pos, slice_index_or, IsTrue, IfOk};
-ghost use Rattle.faces.specs.PlaneFaces.{AreBoundary};
+ghost use Rattle.std.specs.Prelude.{◌≡◌, ◌<◌, ◌&&◌, not, ℕ, pos, slice_index_or, IfOk};
 ghost use Rattle.faces.specs.PlaneSquares.{is_there};
 ghost use Rattle.lemmas.specs.Bits.{is_set};
 ghost use Rattle.solid_model.specs.Faces.{inner_cell, outer_cell, is_boundary};
@@ -64,22 +63,4 @@ pub fn plane_squares(
         rows.push(boundary_row(&inner, &outer, v))?;
     }
     Ok(Squares::new(rows))
-}
-
-/// Surely these are those squares, since each row is the same.
-pub fn are_plane_squares(cells: &CellRows, out: Out, at: usize, squares: &Squares) -> bool
-    ensures { IsTrue result → AreBoundary (is_marked cells.now) out (pos at) squares.now }
-{
-    let height = cells.sizes().along(out.up());
-    if squares.rows().len() != height {
-        return false;
-    }
-    let inner = inner_rows(cells, out, at);
-    let outer = outer_rows(cells, out, at);
-    for v in 0..height {
-        if boundary_row(&inner, &outer, v) != squares.row(v) {
-            return false;
-        }
-    }
-    true
 }

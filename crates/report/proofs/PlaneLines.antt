@@ -1,5 +1,5 @@
 -- The lines of one plane more, of one side more, and of all.
-use Rattle.std.proofs.Common.{◌≡◌, ℕ, zero, suc, ◌+◌, ◌<◌, ◌++◌, ◌∷◌, ◌&&◌, ◌<ℤ◌, Bool, false, List, [], map, length, take, set, slice_index_or, pos, refl, sym, ◌∙◌, ap, subst, arith}
+use Rattle.std.proofs.Common.{◌≡◌, ℕ, ◌+◌, ◌<◌, ◌++◌, ◌∷◌, ◌&&◌, ◌<ℤ◌, Bool, false, List, [], map, length, take, slice_index_or, pos, refl, sym, ◌∙◌, ap, subst, arith}
 use Rattle.std.specs.List.{flat_map}
 use Rattle.std.proofs.lemmas.Grind.{flat_map-append}
 use Rattle.std.proofs.lemmas.List.{append-nil, length-append, length-map, map-append}
@@ -15,27 +15,43 @@ use Rattle.solid_model.specs.Marks.{BoxMarks, is_marked}
 use Rattle.solid_model.specs.PerAxis.{numbers_of}
 use Rattle.solid_model.specs.Rooms.{is_within, box_place}
 use Rattle.lemmas.proofs.Lists.{each-push}
+use Rattle.cell_rows.specs.declared.changed_planes.ChangedPlanes.{ChangedPlanes}
+use Rattle.cell_rows.specs.Planes.{AreSameBeside}
 use Rattle.face_laws.specs.GridFaces.{face_in_space, grid_planes, numbered_fullness}
 use Rattle.face_laws.proofs.GridPlanes.{union_faces}
-use Rattle.faces.specs.PlaneFaces.{AreBoundary, AreFacesOfSquares, AreFacesInPlane}
+use Rattle.faces.specs.PlaneFaces.{AreFacesInPlane}
 use Rattle.faces.proofs.MoreFaces.{no_faces_yet, plane_more, side_done, all_faces}
 use Rattle.report.specs.Texts.{face_text}
-use Rattle.report.specs.PlaneTexts.{PlaneLines, AreLines, AreLinesIn, AreLinesBefore, AreFirstLines, AreAllLines, GridLines, listed}
+use Rattle.report.specs.PlaneTexts.{PlaneLines, AreLines, AreLinesIn, AreLinesUnlessChanged, AreLinesBefore, AreFirstLines, AreAllLines, GridLines, AreLinesOfRows, listed}
 
--- another member in the place of one
-pub each-set : {A : Type 0} (P : A → Type 0) (xs : List A) (i : ℕ) (y : A) → Each P xs → P y → Each P (set xs i y)
-each-set P [] i y each is = tt
-each-set P (x ∷ xs) zero y each is = (is, each.1)
-each-set P (x ∷ xs) (suc i) y each is = (each.0, each-set P xs i y each.1 is)
-
--- coordinates stay when planes change
-pub other_planes : (g : GridLines) (planes : List PlaneLines) → listed (record { decimals = g.decimals; xs = g.xs; ys = g.ys; zs = g.zs; planes = planes }) ≡ listed g
-other_planes g planes = λ i a. by a i
+-- lines have the coordinates that they list
+pub listed_is : (g : GridLines) (coordinates : Coordinates) → g.xs ≡ coordinates X → g.ys ≡ coordinates Y → g.zs ≡ coordinates Z
+    → listed g ≡ coordinates
+listed_is g coordinates x y z = λ i a. by a i
   where
-    by : (a : Axis) → listed (record { decimals = g.decimals; xs = g.xs; ys = g.ys; zs = g.zs; planes = planes }) a ≡ listed g a
-    by X = refl
-    by Y = refl
-    by Z = refl
+    by : (a : Axis) → listed g a ≡ coordinates a
+    by X = x
+    by Y = y
+    by Z = z
+
+-- coordinates stay when rows and planes change
+pub other_lines : (g : GridLines) (rows : BoxMarks) (planes : List PlaneLines)
+    → listed (record { decimals = g.decimals; xs = g.xs; ys = g.ys; zs = g.zs; rows = rows; planes = planes }) ≡ listed g
+other_lines g rows planes =
+    listed_is (record { decimals = g.decimals; xs = g.xs; ys = g.ys; zs = g.zs; rows = rows; planes = planes }) (listed g) refl refl refl
+
+-- lines of marked cells, kept with their rows in the place of others
+pub lines_of_rows : (g : GridLines) (rows : BoxMarks) (planes : List PlaneLines) (decimals : ℕ) (coordinates : Coordinates) (m : BoxMarks)
+    → listed g ≡ coordinates → g.decimals ≡ decimals → rows ≡ m → numbers_of m.sizes ≡ gaps_along coordinates
+    → Each (AreLines decimals coordinates (is_marked m)) planes
+    → AreLinesOfRows (record { decimals = g.decimals; xs = g.xs; ys = g.ys; zs = g.zs; rows = rows; planes = planes })
+lines_of_rows g rows planes decimals coordinates m on counted marks sized each =
+    let same = other_lines g rows planes ∙ on in
+    record {
+      sized = ap (λ (b : BoxMarks). numbers_of b.sizes) marks ∙ sized ∙ sym (ap gaps_along same);
+      each = subst (λ (t : ℕ × Coordinates × BoxMarks). Each (AreLines t.0 t.1 (is_marked t.2)) planes)
+          (λ i. (sym counted i, sym same i, sym marks i)) each;
+    }
 
 module _ (decimals : ℕ) (coordinates : Coordinates) (m : BoxMarks) where
   abbrev Before : ℕ → ℕ → List PlaneLines → Type 0
@@ -49,10 +65,12 @@ module _ (decimals : ℕ) (coordinates : Coordinates) (m : BoxMarks) where
   no_lines_yet = record { faces = []; are = no_faces_yet m; count = refl; text = refl; each = tt }
 
   pub lines_more : (n k : ℕ) (planes : List PlaneLines) → Before n k planes → (out : Out) → out_number out ≡ n → (p : PlaneLines)
-      → p.out ≡ out → p.at ≡ k → AreLines decimals coordinates p → AreBoundary (is_marked m) out (pos k) p.squares → Before n (k + 1) (planes ++ p ∷ [])
-  lines_more n k planes so_far out side p o a lines boundary =
+      → AreLinesIn decimals coordinates (is_marked m) out k p → Before n (k + 1) (planes ++ p ∷ [])
+  lines_more n k planes so_far out side p own =
+      let lines = own.lines in
       let new : AreFacesInPlane (is_marked m) out (pos k) lines.faces =
-      subst (λ (x : Out × ℕ). AreFacesOfSquares p.squares x.0 (pos x.1) lines.faces) (λ i. (o i, a i)) lines.are (is_marked m) boundary in
+      subst (λ (x : Out × ℕ). AreFacesInPlane (is_marked m) x.0 (pos x.1) lines.faces) (λ i. (own.out_is i, own.at_is i))
+      (lines.are (is_marked m) lines.boundary) in
       record {
         faces = so_far.faces ++ lines.faces;
         are = plane_more (is_marked m) n k so_far.faces so_far.are out side lines.faces new;
@@ -62,15 +80,29 @@ module _ (decimals : ℕ) (coordinates : Coordinates) (m : BoxMarks) where
         text = flat_map-append (λ (q : PlaneLines). q.text) planes (p ∷ [])
             ∙ (λ i. so_far.text i ++ (append-nil p.text ∙ lines.text) i)
             ∙ sym (ap (flat_map (face_text decimals)) (map-append put so_far.faces lines.faces) ∙ flat_map-append (face_text decimals) (map put so_far.faces) (map put lines.faces));
-        each = each-push (AreLines decimals coordinates) planes p so_far.each lines;
+        each = each-push (AreLines decimals coordinates (is_marked m)) planes p so_far.each lines;
       }
+
+  -- lines that a plane keeps are those of these cells too, where it hasn't changed
+  pub unchanged_lines : (old : BoxMarks) (changed : ChangedPlanes) → AreSameBeside changed old m → (p : PlaneLines)
+      → AreLines decimals coordinates (is_marked old) p → AreLinesUnlessChanged decimals coordinates (is_marked m) changed p
+  unchanged_lines old changed same p lines = record {
+    kept = λ l told. record {
+      squares = lines.squares;
+      boundary = λ q. lines.boundary q ∙ same p.out p.at l told q;
+      faces = lines.faces;
+      are = lines.are;
+      count = lines.count;
+      text = lines.text;
+    };
+  }
 
   -- the first of a list, and the next one
   pub first_more : (n k : ℕ) (planes more : List PlaneLines) (count : ℕ) → AreFirstLines decimals coordinates (is_marked m) n k planes count
       → (out : Out) → out_number out ≡ n → (p : PlaneLines) → take (count + 1) more ≡ take count planes ++ p ∷ [] → count < length more
       → AreLinesIn decimals coordinates (is_marked m) out k p → AreFirstLines decimals coordinates (is_marked m) n (k + 1) more (count + 1)
   first_more n k planes more count first out side p is within lines = record {
-    before = subst (Before n (k + 1)) (sym is) (lines_more n k (take count planes) first.before out side p lines.out_is lines.at_is lines.lines lines.boundary);
+    before = subst (Before n (k + 1)) (sym is) (lines_more n k (take count planes) first.before out side p lines);
     within = omega arith;
   }
 

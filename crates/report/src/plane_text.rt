@@ -2,17 +2,16 @@
 
 use crate::solid::push_faces;
 use cell_rows::CellRows;
-use faces::{Squares, are_plane_squares, faces_of_squares, plane_squares};
+use faces::{faces_of_squares, plane_squares};
 use solid_model::{Grid, Memory, Out};
 use std::alloc::Global;
 use std::marker::Model;
 
-/// The lines of the faces of squares in a plane, and how many they are.
+/// The lines of the faces in a plane, and how many they are.
 #[derive(Debug, Drop)]
 pub struct PlaneText {
     out: Out,
     at: usize,
-    squares: Squares,
     count: usize,
     text: Vec<u8>,
 }
@@ -25,15 +24,13 @@ impl Model for PlaneText {
     ghost view = { λ s. record {
       out = s.out;
       at = s.at;
-      squares = s.squares;
       count = s.count;
       text = s.text.items;
     } };
 }
 
 impl PlaneText {
-    ghost use Rattle.std.specs.Prelude.{◌≡◌, ◌≤◌, ◌^◌, ◌<◌, pos, IsTrue, IfOk};
-    ghost use Rattle.faces.specs.PlaneFaces.{AreBoundary};
+    ghost use Rattle.std.specs.Prelude.{◌≡◌, ◌≤◌, ◌^◌, ◌<◌, IsTrue, IfOk};
     ghost use Rattle.report.specs.PlaneTexts.{AreLinesIn};
     ghost use Rattle.solid_model.specs.GridBox.{grid_sizes};
     ghost use Rattle.solid_model.specs.Limits.{most_decimals};
@@ -64,19 +61,16 @@ impl PlaneText {
         Ok(PlaneText {
             out,
             at,
-            squares,
             count: faces.len(),
             text,
         })
     }
 
-    /// They are those of the faces of marked cells in this plane, since these have the same squares
-    /// there.
-    pub fn tells(&self, cells: &CellRows, out: Out, at: usize) -> bool
-        ensures { IsTrue result → (self.now.out ≡ out) × (self.now.at ≡ at)
-            × AreBoundary (is_marked cells.now) out (pos at) self.now.squares }
+    /// They are those of this plane.
+    pub fn is_in(&self, out: Out, at: usize) -> bool
+        ensures { IsTrue result → (self.now.out ≡ out) × (self.now.at ≡ at) }
     {
-        self.out == out && self.at == at && are_plane_squares(cells, out, at, &self.squares)
+        self.out == out && self.at == at
     }
 
     /// How many lines there are.

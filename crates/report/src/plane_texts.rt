@@ -1,11 +1,15 @@
 //! The lines of a solid's faces, which are kept by their planes for the next solid.
 //!
+//! One pass over the rows of both solids' cells tells in which planes boundary squares have come or
+//! gone. Only these are made anew: the other planes keep their lines, and aren't looked at again.
+//!
 //! They keep the coordinates of their grid and the decimals with which they were printed, and are
 //! forgotten where either is another: so no condition is laid on whose lines they are, and no
 //! caller has to see to it.
 
-ghost use Rattle.std.specs.Prelude.{◌≡◌, ◌≤◌, ◌<◌, ◌+◌, ◌++◌, ◌∷◌, [], ℕ, length, take, IsTrue, IfOk, OnOk};
-ghost use Rattle.report.specs.PlaneTexts.{PlaneLines, AreLines, AreLinesIn, AreLinesBefore, AreFirstLines, line_count, all_lines};
+ghost use Rattle.std.specs.Prelude.{◌≡◌, ◌≤◌, ◌<◌, ◌+◌, ◌++◌, ◌∷◌, [], ℕ, Bool, length, take, IsTrue, IfOk, OnOk};
+ghost use Rattle.report.specs.PlaneTexts.{PlaneLines, AreLinesIn, AreLinesUnlessChanged, AreLinesBefore, AreFirstLines, line_count, all_lines};
+ghost use Rattle.solid_model.specs.declared.cell.Cell.{Cell};
 ghost use Rattle.solid_model.specs.Faces.{out_number};
 ghost use Rattle.solid_model.specs.Grid.{Coordinates};
 ghost use Rattle.solid_model.specs.GridBox.{grid_sizes};
@@ -16,18 +20,20 @@ ghost use Rattle.solid_model.specs.Panels.{coordinates_of};
 ghost use Rattle.solid_model.specs.PerAxis.{numbers_of};
 
 use crate::plane_text::PlaneText;
-use cell_rows::CellRows;
+use cell_rows::{CellRows, ChangedPlanes};
 use solid_model::{Axis, Grid, Memory, Out, same_coordinates};
 use std::alloc::Global;
 use std::marker::Model;
+use std::mem;
 
 /// Puts lines in their place of a list, or at its end.
 fn set_plane(planes: &mut Vec<PlaneText>, place: usize, plane: PlaneText) -> Result<(), Memory>
     requires { place ≤ length planes.old.items }
-    ensures each { (decimals : ℕ) (coordinates : Coordinates)
-        → Each (AreLines decimals coordinates) planes.old.items
-        → AreLines decimals coordinates plane
-        → Each (AreLines decimals coordinates) planes.new.items }
+    ensures each { (decimals : ℕ) (coordinates : Coordinates) (full : Cell → Bool)
+        (changed : ChangedPlanes)
+        → Each (AreLinesUnlessChanged decimals coordinates full changed) planes.old.items
+        → AreLinesUnlessChanged decimals coordinates full changed plane
+        → Each (AreLinesUnlessChanged decimals coordinates full changed) planes.new.items }
     ensures put { IfOk result (λ done. (place < length planes.new.items)
         × (take (place + 1) planes.new.items ≡ take place planes.old.items ++ plane ∷ [])) }
 {
@@ -40,29 +46,32 @@ fn set_plane(planes: &mut Vec<PlaneText>, place: usize, plane: PlaneText) -> Res
 }
 
 /// Puts the lines of the faces of marked cells in a plane in their place of a list, where those
-/// stand that another solid had there: they stay if they are of the same squares. Their coordinates
-/// have so many decimals.
+/// stand that another solid had there: they stay if the plane hasn't changed. Their coordinates have
+/// so many decimals.
 fn put_plane(
     alloc: Global,
     grid: &Grid,
     decimals: u8,
     cells: &CellRows,
+    changed: ChangedPlanes,
     out: Out,
     at: usize,
     planes: &mut Vec<PlaneText>,
     place: usize,
 ) -> Result<(), Memory>
-    requires at { at ≤ 1024 }
+    requires at { at < 64 }
     requires sizes { numbers_of cells.now.sizes ≡ grid_sizes grid.now }
     requires decimals { decimals ≤ most_decimals }
     requires place { place ≤ length planes.old.items }
-    requires each { Each (AreLines decimals (coordinates_of grid.now)) planes.old.items }
-    ensures each { Each (AreLines decimals (coordinates_of grid.now)) planes.new.items }
+    requires each { Each (AreLinesUnlessChanged decimals (coordinates_of grid.now)
+        (is_marked cells.now) changed) planes.old.items }
+    ensures each { Each (AreLinesUnlessChanged decimals (coordinates_of grid.now)
+        (is_marked cells.now) changed) planes.new.items }
     ensures put { IfOk result (λ done. (place < length planes.new.items) × ((p : PlaneLines)
         × (take (place + 1) planes.new.items ≡ take place planes.old.items ++ p ∷ [])
         × AreLinesIn decimals (coordinates_of grid.now) (is_marked cells.now) out at p)) }
 {
-    if place < planes.len() && planes[place].tells(cells, out, at) {
+    if place < planes.len() && planes[place].is_in(out, at) && !changed.has(out, at) {
         return Ok(());
     }
     let plane = PlaneText::of(alloc, grid, decimals, cells, out, at)?;
@@ -75,22 +84,35 @@ fn put_side(
     grid: &Grid,
     decimals: u8,
     cells: &CellRows,
+    changed: ChangedPlanes,
     out: Out,
     planes: &mut Vec<PlaneText>,
     first: usize,
 ) -> Result<usize, Memory>
     requires sizes { numbers_of cells.now.sizes ≡ grid_sizes grid.now }
     requires decimals { decimals ≤ most_decimals }
-    requires each { Each (AreLines decimals (coordinates_of grid.now)) planes.old.items }
+    requires each { Each (AreLinesUnlessChanged decimals (coordinates_of grid.now)
+        (is_marked cells.now) changed) planes.old.items }
     requires before { AreFirstLines decimals (coordinates_of grid.now) (is_marked cells.now)
         (out_number out) 0 planes.old.items first }
-    ensures each { Each (AreLines decimals (coordinates_of grid.now)) planes.new.items }
+    ensures each { Each (AreLinesUnlessChanged decimals (coordinates_of grid.now)
+        (is_marked cells.now) changed) planes.new.items }
     ensures put { IfOk result (AreFirstLines decimals (coordinates_of grid.now)
         (is_marked cells.now) (out_number out + 1) 0 planes.new.items) }
 {
     let count = cells.sizes().along(out.direction().axis) + 1;
     for at in 0..count {
-        put_plane(alloc, grid, decimals, cells, out, at, planes, first + at)?;
+        put_plane(
+            alloc,
+            grid,
+            decimals,
+            cells,
+            changed,
+            out,
+            at,
+            planes,
+            first + at,
+        )?;
     }
     Ok(first + count)
 }
@@ -101,18 +123,19 @@ fn put_all(
     grid: &Grid,
     decimals: u8,
     cells: &CellRows,
+    changed: ChangedPlanes,
     planes: &mut Vec<PlaneText>,
 ) -> Result<(), Memory>
     requires sizes { numbers_of cells.now.sizes ≡ grid_sizes grid.now }
     requires decimals { decimals ≤ most_decimals }
-    requires each { Each (AreLines decimals (coordinates_of grid.now)) planes.old.items }
-    ensures each { Each (AreLines decimals (coordinates_of grid.now)) planes.new.items }
-    ensures all { IfOk result (λ done. AreLinesBefore decimals (coordinates_of grid.now)
+    requires each { Each (AreLinesUnlessChanged decimals (coordinates_of grid.now)
+        (is_marked cells.now) changed) planes.old.items }
+    ensures { IfOk result (λ done. AreLinesBefore decimals (coordinates_of grid.now)
         (is_marked cells.now) 6 0 planes.new.items) }
 {
     let mut place = 0;
     for out in Out::ALL {
-        place = put_side(alloc, grid, decimals, cells, out, planes, place)?;
+        place = put_side(alloc, grid, decimals, cells, changed, out, planes, place)?;
     }
     planes.truncate(place);
     Ok(())
@@ -139,20 +162,20 @@ fn push_lines(text: &mut Vec<u8>, planes: &[PlaneText]) -> Result<(), Memory>
     Ok(())
 }
 
-/// The lines of the faces of a solid of a grid, kept by their planes: those of planes that have the
-/// same squares serve for the next solid too.
+/// The lines of the faces of a solid of a grid, kept by their planes, with the rows of its cells:
+/// planes beside which nothing changes keep their lines for the next solid.
 #[derive(Debug, Drop)]
 pub struct PlaneTexts {
     decimals: u8,
     xs: Vec<i64>,
     ys: Vec<i64>,
     zs: Vec<i64>,
+    rows: CellRows,
     planes: Vec<PlaneText>,
 }
 
 impl Model for PlaneTexts {
-    ghost use Rattle.report.specs.PlaneTexts.{GridLines, AreLines, listed};
-    ghost use Rattle.lemmas.specs.Lists.{Each};
+    ghost use Rattle.report.specs.PlaneTexts.{GridLines, AreLinesOfRows};
 
     ghost Value = { GridLines };
 
@@ -161,16 +184,18 @@ impl Model for PlaneTexts {
       xs = s.xs.items;
       ys = s.ys.items;
       zs = s.zs.items;
+      rows = s.rows;
       planes = s.planes.items;
     } };
 
-    ghost invariant = { λ s. Each (AreLines s.decimals (listed record {
+    ghost invariant = { λ s. AreLinesOfRows record {
       decimals = s.decimals;
       xs = s.xs.items;
       ys = s.ys.items;
       zs = s.zs.items;
+      rows = s.rows;
       planes = s.planes.items;
-    })) s.planes.items };
+    } };
 }
 
 impl PlaneTexts {
@@ -190,11 +215,13 @@ impl PlaneTexts {
         let xs = Vec::from_slice(alloc, grid.xs())?;
         let ys = Vec::from_slice(alloc, grid.ys())?;
         let zs = Vec::from_slice(alloc, grid.zs())?;
+        let rows = CellRows::unmarked(alloc, grid.sizes())?;
         Ok(PlaneTexts {
             decimals,
             xs,
             ys,
             zs,
+            rows,
             planes: Vec::new(alloc),
         })
     }
@@ -237,7 +264,12 @@ impl PlaneTexts {
         // A look at the grid tells that its coordinates are in order.
         let _ = grid.coordinates(Axis::X);
         self.put_on(alloc, grid, decimals)?;
-        put_all(alloc, grid, decimals, cells, &mut self.planes)
+        // Where memory ends in the middle, no lines are kept.
+        let mut planes = mem::replace(&mut self.planes, Vec::new(alloc));
+        let changed = self.rows.follow(cells);
+        put_all(alloc, grid, decimals, cells, changed, &mut planes)?;
+        self.planes = planes;
+        Ok(())
     }
 
     /// How many lines there are.

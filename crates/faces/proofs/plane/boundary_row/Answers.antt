@@ -1,5 +1,5 @@
 -- Bit by bit.
-use Rattle.std.proofs.Common.{◌&&◌, not, ap, ◌∙◌, arith}
+use Rattle.std.proofs.Common.{◌&&◌, not, ◌∙◌, arith}
 use Rattle.lemmas.specs.Bits.{is_set}
 use Rattle.lemmas.proofs.WordBits.{set_without}
 use Rattle.faces.proofs.plane.boundary_row.Goals as goal

@@ -1,5 +1,5 @@
 -- No side yet.
-use Rattle.std.proofs.Common.{◌≤◌, arith}
+use Rattle.std.proofs.Common.{arith}
 use Rattle.solid_model.specs.Panels.{coordinates_of}
 use Rattle.report.proofs.PlaneLines.{no_lines_yet}
 use Rattle.report.proofs.plane_texts.put_all.Goals as goal
