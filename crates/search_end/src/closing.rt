@@ -68,6 +68,41 @@ fn own_desk(
     }
 }
 
+/// This desk, or a new one where it is of another search, once the events that are missing are
+/// made, and how it has ended. An `Err` is out of memory.
+fn ended_by(
+    alloc: Global,
+    path: &mut BlockPath,
+    problem: &Arc<Problem>,
+    limits: Limits,
+    desk: Desk,
+) -> Result<(Desk, EndKind), Memory>
+    requires way { IsWayOf (arc_value problem.now) path.old }
+    ensures problem { IfOk result (λ r. r.0.problem ≡ arc_value problem.now) }
+    ensures limits { IfOk result (λ r. r.0.limits ≡ limits) }
+    ensures end { IfOk result (λ r. r.0.end ≡ Some r.1) }
+    ensures kept { IfOk result (λ r. IsDesk r.0) }
+{
+    let desk = own_desk(alloc, path, problem, limits, desk)?;
+    go_on(alloc, path, problem, desk)
+}
+
+/// The same by a way down the tree of its own.
+fn ended_anew(
+    alloc: Global,
+    problem: &Arc<Problem>,
+    limits: Limits,
+    desk: Desk,
+) -> Result<(Desk, EndKind), Memory>
+    ensures problem { IfOk result (λ r. r.0.problem ≡ arc_value problem.now) }
+    ensures limits { IfOk result (λ r. r.0.limits ≡ limits) }
+    ensures end { IfOk result (λ r. r.0.end ≡ Some r.1) }
+    ensures kept { IfOk result (λ r. IsDesk r.0) }
+{
+    let mut path = BlockPath::new(alloc, problem)?;
+    ended_by(alloc, &mut path, problem, limits, desk)
+}
+
 /// A desk of this search that has ended, and how: this one, or a new one where it is of another
 /// search. The events that are missing are made, by a way down the tree of their own. An `Err` is
 /// out of memory.
@@ -85,9 +120,7 @@ pub fn ended_desk(
     if let Some(kind) = end_of(&desk, problem, limits) {
         return Ok((desk, kind));
     }
-    let mut path = BlockPath::new(alloc, problem)?;
-    let desk = own_desk(alloc, &mut path, problem, limits, desk)?;
-    go_on(alloc, &mut path, problem, desk)
+    ended_anew(alloc, problem, limits, desk)
 }
 
 /// A desk of this search that has ended, how it has, and what it has found besides what was handed
