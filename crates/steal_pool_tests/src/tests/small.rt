@@ -64,6 +64,30 @@ fn played_and_closed<R: Wait>(rt: &R, alloc: Global) -> Option<Answers> {
     })
 }
 
+/// Puts five pieces into the deque of a seat.
+fn put_five(alloc: Global, seat: &mut WorkerSeat) -> Option<()>
+    ensures { seat_of seat.new ≡ seat_of seat.old }
+{
+    for number in 0..5 {
+        seat.owner.put(piece(alloc, number).ok()?).ok()?;
+    }
+    Some(())
+}
+
+/// How many of five pieces are left in the only deque of a pool, of which none was taken. `None`
+/// where memory was lacking.
+fn left_of_five(alloc: Global) -> Option<usize> {
+    let Ok((pool, mut seats)) = Pool::open(alloc, 1, 2) else {
+        return None;
+    };
+    let mut only = seats.pop()?;
+    put_five(alloc, &mut only)?;
+    let Ok(()) = seats.push(only) else {
+        return None;
+    };
+    Some(pool.close(seats).ok()?.left.len())
+}
+
 /// How many pieces the only deque of a pool with room for two takes in before one comes back, where
 /// at most so many are put. `None` where none comes back, or memory was lacking.
 fn taken_in(alloc: Global, most: u32) -> Option<u32> {
@@ -82,6 +106,12 @@ fn taken_in(alloc: Global, most: u32) -> Option<u32> {
 #[test]
 fn a_deque_hands_back_what_is_put_behind_16_384_pieces(rt: HostRuntime) -> Result<(), Fail> {
     assert_eq!(rt; taken_in(rt.alloc(), 16_400), Some(16_384));
+    Ok(())
+}
+
+#[test]
+fn a_closed_pool_leaves_all_that_nobody_took(rt: HostRuntime) -> Result<(), Fail> {
+    assert_eq!(rt; left_of_five(rt.alloc()), Some(5));
     Ok(())
 }
 

@@ -1,12 +1,7 @@
-use Rattle.std.proofs.Common.{◌≡◌, List, [], ◌∷◌, ◌++◌, map, ap, refl, sym, ◌∙◌}
-use Rattle.std.proofs.lemmas.List.{map-append}
-use Rattle.steal_pool.specs.declared.seat.WorkerSeat.{WorkerSeat}
+use Rattle.std.proofs.Common.{map, ap, refl, sym, ◌∙◌}
 use Rattle.steal_pool.specs.WorkerSeats.{seat_of}
+use Rattle.steal_pool_tests.proofs.SeatLists.{ends_alike}
 use Rattle.steal_pool_tests.proofs.tests.small.played_and_closed.Goals as goal
-
--- seats that end with the same one
-ends_alike : (old new : List WorkerSeat) (s t : WorkerSeat) → map seat_of new ≡ map seat_of old → seat_of t ≡ seat_of s → map seat_of (new ++ t ∷ []) ≡ map seat_of (old ++ s ∷ [])
-ends_alike old new s t e f = map-append seat_of new (t ∷ []) ∙ (λ i. e i ++ f i ∷ []) ∙ sym (map-append seat_of old (s ∷ []))
 
 pub close-requires : goal.close-requires
 close-requires g c =
