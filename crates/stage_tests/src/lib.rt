@@ -11,6 +11,8 @@ mod columns_met;
 #[cfg(test)]
 mod drawn_columns;
 #[cfg(test)]
+mod faults_again;
+#[cfg(test)]
 mod graphs;
 #[cfg(test)]
 mod grids;
