@@ -13,9 +13,10 @@ use std::alloc::{AllocError, Global};
 use std::cmp::Ordering;
 use std::sync::{Arc, Wait};
 use std::test::*;
+use std::thread;
 use std::thread::Threads;
 use test_files::{Row, drawing_file, file_bytes, rows_tell};
-use tv_base::OpenGate;
+use tv_base::{Gate, OpenGate, Point};
 
 /// A cube of 5 with eight voids: 35 solids, 109 nodes.
 const EIGHT_VOIDS: &str = "lattice 2 2";
@@ -29,11 +30,13 @@ fn scripts_of(alloc: Global, lines: &str) -> Result<Vec<Vec<Ask>>, Fail> {
     }
 }
 
-/// The session of these lines beside the search of the eight voids by so many workers.
-fn session_of<R: Threads + Wait + Sync>(
+/// The session of these lines beside the search of the eight voids by so many workers, who pass a
+/// gate.
+fn gated_session<R: Threads + Wait + Sync, G: Gate>(
     rt: &R,
     alloc: Global,
     workers: u32,
+    gate: &G,
     lines: &str,
 ) -> Result<Session, Fail> {
     let file = file_bytes(drawing_file(alloc, [EIGHT_VOIDS; 3])?)?;
@@ -43,18 +46,20 @@ fn session_of<R: Threads + Wait + Sync>(
         return Err(Fail::new("readers"));
     }
     let workers = workers.clamp(1, 64);
-    match run_session(
-        rt,
-        alloc,
-        problem,
-        Limits::DEFAULT,
-        workers,
-        &OpenGate,
-        &scripts,
-    ) {
+    match run_session(rt, alloc, problem, Limits::DEFAULT, workers, gate, &scripts) {
         Ok(session) => Ok(session),
         Err(_) => Err(Fail::new("memory")),
     }
+}
+
+/// The same, where workers are let through at once.
+fn session_of<R: Threads + Wait + Sync>(
+    rt: &R,
+    alloc: Global,
+    workers: u32,
+    lines: &str,
+) -> Result<Session, Fail> {
+    gated_session(rt, alloc, workers, &OpenGate, lines)
 }
 
 /// How many choices each reader saw at last, and how many are listed of a search that has ended.
@@ -132,5 +137,48 @@ fn two_readers_beside_two_workers(rt: HostRuntime) -> Result<(), Fail> {
     let lines = "readers 2|0 wait 1|0 page 0 10|1 wait 35|1 page 0 256|0 page 0 256|go";
     let session = session_of(&rt, rt.alloc(), 2, lines)?;
     assert!(rt; sees_all(&session.tales));
+    Ok(())
+}
+
+/// A worker is held for so many turns before each expansion. A turn is one yield.
+const TURNS: u32 = 20_000;
+
+/// In so many sessions a reader asked to stop before the search had ended.
+const TRIALS: u32 = 40;
+
+/// Holds each worker for some turns at an expansion's beginning.
+#[derive(Clone, Copy)]
+struct Slow;
+
+impl Gate for Slow {
+    fn pass(&self, _worker: u32, point: Point) {
+        if point != Point::BeforeExpand {
+            return;
+        }
+        for _ in 0..TURNS {
+            thread::yield_now();
+        }
+    }
+}
+
+/// Whether a session in which a reader asks to stop, while workers are held, ends stopped.
+fn is_stopped<R: Threads + Wait + Sync>(rt: &R, alloc: Global) -> Result<bool, Fail> {
+    let session = gated_session(rt, alloc, 2, &Slow, "readers 1|0 stop|go")?;
+    Ok(matches!(session.end, SearchEnd::Stopped { .. }))
+}
+
+/// Whether one of some such sessions does.
+fn is_stopped_in_time<R: Threads + Wait + Sync>(rt: &R, alloc: Global) -> Result<bool, Fail> {
+    for _ in 0..TRIALS {
+        if is_stopped(rt, alloc)? {
+            return Ok(true);
+        }
+    }
+    Ok(false)
+}
+
+#[test]
+fn a_reader_stops_a_search(rt: HostRuntime) -> Result<(), Fail> {
+    assert!(rt; is_stopped_in_time(&rt, rt.alloc())?);
     Ok(())
 }
