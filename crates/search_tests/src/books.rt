@@ -6,8 +6,9 @@ mod pages;
 mod problems;
 mod threads;
 
-ghost use Rattle.std.specs.Prelude.{IfOk};
+ghost use Rattle.std.specs.Prelude.{◌≤◌, IfOk};
 ghost use Rattle.std.specs.Arc.{arc_value};
+ghost use Rattle.solid_model.specs.Limits.{most_solid_limit};
 ghost use Rattle.solid_model.specs.Solutions.{AreSolutions};
 
 use search_tree::solve_alone;
@@ -22,15 +23,16 @@ const SIXTEEN_VOIDS: [&str; 3] = ["lattice 2 4", "lattice 2 2", "lattice 2 4"];
 /// How many solids are searched for at most: two full batches of 256, and 88.
 const THREE_BATCHES: u32 = 600;
 
-/// The first solids of a problem, at most three batches.
-fn solved(alloc: Global, problem: &Arc<Problem>) -> Result<Vec<Choice>, Memory>
+/// The first solids of a problem, at most so many.
+pub fn solved(alloc: Global, problem: &Arc<Problem>, solids: u32) -> Result<Vec<Choice>, Memory>
+    requires { (1 ≤ solids) × (solids ≤ most_solid_limit) }
     ensures { IfOk result (λ solids. AreSolutions (arc_value problem.now) solids.items) }
 {
     // A look at the problem tells that its blocks are those of its grid.
     let _grid = problem.grid();
     let limits = Limits {
         nodes: 4_000_000,
-        solids: THREE_BATCHES,
+        solids,
     };
     Ok(solve_alone(alloc, problem, limits)?.solids)
 }

@@ -10,6 +10,8 @@ mod deep;
 #[cfg(test)]
 mod demands;
 #[cfg(test)]
+mod ends;
+#[cfg(test)]
 mod forced;
 #[cfg(test)]
 mod masks;

@@ -286,7 +286,7 @@ fn push_report(
 }
 
 /// Adds what a desk says to the reports that are told so.
-fn push_reports(
+pub fn push_reports(
     text: &mut String,
     desk: &mut Desk,
     own: &Arc<Problem>,

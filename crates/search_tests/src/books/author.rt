@@ -2,7 +2,7 @@
 
 ghost use Rattle.std.specs.Prelude.{◌<◌, ◌≤◌};
 
-use super::solved;
+use super::{THREE_BATCHES, solved};
 use crate::searches::problem;
 use solid_model::{Choice, Memory};
 use solution_book::{Book, BookReader, BookWriter, Receipt};
@@ -38,7 +38,7 @@ pub fn begin<'a, R: Wait>(
     requires { (0 < readers) × (readers ≤ 16) }
 {
     let problem = problem(alloc, views)?;
-    let solids = solved(alloc, &problem)?;
+    let solids = solved(alloc, &problem, THREE_BATCHES)?;
     let (writer, others) = Book::begin(rt, alloc, problem, readers)?;
     Ok((Author { writer, solids }, others))
 }

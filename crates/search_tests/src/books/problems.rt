@@ -5,7 +5,7 @@ use solution_book::{Book, BookReader, BookWriter};
 use std::alloc::Global;
 use std::sync::Wait;
 use std::test::Fail;
-use test_files::{Row, row_of};
+use test_files::{Row, rows_tell};
 
 /// A row two drawings of a cube's views, by the strokes of each: the book's, and one whose problem
 /// is asked for; and whether the book is of that, as its writer says and as its reader says. Of the
@@ -40,9 +40,5 @@ fn told<R: Wait>(rt: &R, alloc: Global, row: Row<'_>) -> Result<String, Fail> {
 
 #[test]
 fn a_book_knows_its_problem(rt: HostRuntime) -> Result<(), Fail> {
-    for line in ASKED.lines() {
-        let told = told(&rt, rt.alloc(), row_of(line))?;
-        assert!(rt; told.as_str() == row_of(line).wanted, "{line}");
-    }
-    Ok(())
+    rows_tell(ASKED, |row| told(&rt, rt.alloc(), row))
 }

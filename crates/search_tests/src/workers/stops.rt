@@ -15,6 +15,9 @@ use std::thread;
 use std::thread::Threads;
 use tv_base::{Gate, OpenGate, Point};
 
+/// What the unit cube shows in each view.
+const UNIT_SQUARE: &str = "rect S 0 0 1 1";
+
 /// Holds each worker at an expansion's beginning until the search was stopped, and counts those that
 /// were held and those that gave up.
 #[derive(Drop)]
@@ -95,16 +98,22 @@ fn found_by(end: &SearchEnd) -> Option<usize> {
     }
 }
 
-/// How a search of the unit cube ends by one worker, whom nobody stops, though it isn't to go on.
-fn end_of_unit_cube<R: Threads + Wait + Sync>(rt: &R, alloc: Global) -> Result<SearchEnd, Fail> {
-    let problem = problem(alloc, ["rect S 0 0 1 1"; 3])?;
-    let own = Arc::try_clone(&problem)?;
+/// How a search of the unit cube by one worker, whom nobody stops, ends where it is taken for that
+/// of a cube with these strokes, to go on or not.
+fn end_as<R: Threads + Wait + Sync>(
+    rt: &R,
+    alloc: Global,
+    view: &str,
+    go_on: bool,
+) -> Result<SearchEnd, Fail> {
+    let own = problem(alloc, [UNIT_SQUARE; 3])?;
     let (search, seats, _readers) = Search::open(rt, alloc, own, Limits::DEFAULT, 1, 1)?;
     let mut back = Vec::new(alloc);
     for seat in seats {
         back.push(search.work(rt, alloc, 0, seat, &OpenGate))?;
     }
-    Ok(search.finish(alloc, back, &problem, Limits::DEFAULT, false)?)
+    let problem = problem(alloc, [view; 3])?;
+    Ok(search.finish(alloc, back, &problem, Limits::DEFAULT, go_on)?)
 }
 
 #[test]
@@ -124,6 +133,14 @@ fn a_stopped_search_goes_on(rt: HostRuntime) -> Result<(), Fail> {
 
 #[test]
 fn a_search_that_nobody_stops_ends(rt: HostRuntime) -> Result<(), Fail> {
-    assert_eq!(rt; found_by(&end_of_unit_cube(&rt, rt.alloc())?), Some(1));
+    let end = end_as(&rt, rt.alloc(), UNIT_SQUARE, false)?;
+    assert_eq!(rt; found_by(&end), Some(1));
+    Ok(())
+}
+
+#[test]
+fn a_search_of_another_problem_is_made_anew(rt: HostRuntime) -> Result<(), Fail> {
+    let end = end_as(&rt, rt.alloc(), "lattice 2 2", true)?;
+    assert_eq!(rt; found_by(&end), Some(35));
     Ok(())
 }
