@@ -1,7 +1,7 @@
 //! The end of a search, at which several may have worked: the calling thread makes the events that
 //! are missing, and hands out in pages what was found.
 //!
-//! A crate of its own below the workers: half of the proofs and the edits need nothing of threads.
+//! A crate of its own below the workers: half of the proofs need nothing of threads.
 #![tactic(auto)]
 
 mod by_desk;
