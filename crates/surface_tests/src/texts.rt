@@ -1,7 +1,9 @@
 //! Texts that memory is found for.
 
+ghost use Rattle.std.specs.Prelude.{◌≡◌};
+
 use crate::surfaces::{choice_of, problem_at};
-use report::{SolidTexts, page_text, solid_text, trial_text};
+use report::{SolidRoom, SolidTexts, page_text, solid_text, trial_text};
 use solid_model::{Choice, EndKind, Ended, Problem};
 use std::alloc::Global;
 use std::test::Fail;
@@ -72,4 +74,70 @@ fn told_solid(alloc: Global, row: Row<'_>) -> Result<String, Fail> {
 #[test]
 fn solids_are_told(rt: HostRuntime) -> Result<(), Fail> {
     rows_tell(SOLIDS, |row| told_solid(rt.alloc(), row))
+}
+
+/// A row a drawing, and some of its solids, by their full blocks, one after another in one room;
+/// and then the first line of each. Of a hollow cube they are the hull, the whole, the core and
+/// nothing: planes stay, and others get squares or lose them.
+const SOLIDS_IN_TURN: &str = "\
+rect S 0 0 3 3, rect D 1 1 2 2; rect S 0 0 3 3, rect D 1 1 2 2; rect S 0 0 3 3, rect D 1 1 2 2; \
+    10 11 01 00 10 10 -> solid 1 choice 10 volume 26 faces 12|solid 1 choice 11 volume 27 faces 6|\
+    solid 1 choice 01 volume 1 faces 6|solid 1 choice 00 volume 0 faces 0|\
+    solid 1 choice 10 volume 26 faces 12|solid 1 choice 10 volume 26 faces 12|";
+
+/// Adds the first line of the text of a solid, told in a room after others, if it is told so alone.
+fn push_in_turn(
+    alloc: Global,
+    problem: &Problem,
+    texts: &SolidTexts<'_>,
+    full: &str,
+    room: &mut SolidRoom,
+    told: &mut String,
+) -> Result<(), Fail>
+    requires { room.old.rows.sizes ≡ texts.now.problem.blocks.sizes }
+    ensures { room.new.rows.sizes ≡ texts.now.problem.blocks.sizes }
+{
+    let choice = choice_of(alloc, full)?;
+    texts.tell(alloc, 1, &choice, room)?;
+    if room.text.as_slice() != solid_text(alloc, problem, 1, &choice, 0)?.as_slice() {
+        return Err(Fail::new("another text after others"));
+    }
+    let text = std::str::from_utf8(room.text.as_slice()).unwrap_or("no text");
+    told.push_str(text.lines().next().unwrap_or(""))?;
+    Ok(told.push_str("|")?)
+}
+
+/// The first lines of the texts of a problem's solids, told one after another in a room.
+fn told_in_turn(
+    alloc: Global,
+    problem: &Problem,
+    texts: &SolidTexts<'_>,
+    solids: &str,
+    room: &mut SolidRoom,
+) -> Result<String, Fail>
+    requires { room.old.rows.sizes ≡ texts.now.problem.blocks.sizes }
+{
+    let mut told = String::new(alloc);
+    for full in solids.split(' ') {
+        push_in_turn(alloc, problem, texts, full, room, &mut told)?;
+    }
+    Ok(told)
+}
+
+/// Those of a problem, in a new room.
+fn told_in_room(alloc: Global, problem: &Problem, solids: &str) -> Result<String, Fail> {
+    let texts = SolidTexts::of(alloc, problem, 0)?;
+    let mut room = texts.room(alloc)?;
+    told_in_turn(alloc, problem, &texts, solids, &mut room)
+}
+
+/// Those of a row, as the row has them.
+fn told_in_turn_of(alloc: Global, row: Row<'_>) -> Result<String, Fail> {
+    let problem = problem_at(alloc, row.views())?;
+    told_in_room(alloc, &problem, row.parts[3])
+}
+
+#[test]
+fn solids_are_told_one_after_another(rt: HostRuntime) -> Result<(), Fail> {
+    rows_tell(SOLIDS_IN_TURN, |row| told_in_turn_of(rt.alloc(), row))
 }
