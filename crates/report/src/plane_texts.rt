@@ -46,8 +46,8 @@ fn set_plane(planes: &mut Vec<PlaneText>, place: usize, plane: PlaneText) -> Res
 }
 
 /// Puts the lines of the faces of marked cells in a plane in their place of a list, where those
-/// stand that another solid had there: they stay if the plane hasn't changed. Their coordinates have
-/// so many decimals.
+/// stand that another solid had there: they stay if the plane hasn't changed. Their coordinates
+/// have so many decimals.
 fn put_plane(
     alloc: Global,
     grid: &Grid,
