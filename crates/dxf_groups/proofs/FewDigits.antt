@@ -6,7 +6,7 @@ use Rattle.std.proofs.lemmas.Bool.Decides.{nat_tests}
 use Rattle.dxf_groups.specs.Codes.{are_few_digits}
 
 -- the value of a digit
-ascii_value : (b : ℕ) → is_ascii_digit b ≡ true → digit_value b ≡ b - 48
+pub ascii_value : (b : ℕ) → is_ascii_digit b ≡ true → digit_value b ≡ b - 48
 ascii_value b is = grind (arith, nat_tests, is)
 
 -- the number of four values, one after another

@@ -16,7 +16,7 @@ one_more k b bytes lines is =
     rw (is, line, after) refl
 
 -- a text that has a byte is its first line, up to the line feed, and the lines after that
-lines-first : (text : List ℕ) → 0 < length text
+pub lines-first : (text : List ℕ) → 0 < length text
     → text_lines text ≡ before_first is_feed text ∷ text_lines (after_first is_feed text)
 lines-first [] some = absurd (omega arith)
 lines-first (b ∷ []) some = at (is_feed b)
@@ -45,7 +45,7 @@ first_content : (text : List ℕ) (feed : ℕ) → 0 < length text → feed ≡ 
 first_content text feed some is = rw is (ap (map content_of) (lines-first text some))
 
 -- a part of a prefix of a list is that part of the list
-part_of_prefix : (xs : List ℕ) (start len m : ℕ) → start + len ≤ m
+pub part_of_prefix : (xs : List ℕ) (start len m : ℕ) → start + len ≤ m
     → take len (drop start (take m xs)) ≡ take len (drop start xs)
 part_of_prefix xs start len m le =
     let split : m ≡ start + (m - start) = omega arith in

@@ -1,9 +1,11 @@
 pub mod BehindLines
+pub mod ColumnCodes
 pub mod FewDigits
 pub mod FirstBlanks
 pub mod FirstLines
 pub mod FirstPairs
 pub mod NearBytes
+pub mod NearLines
 pub mod NumeralDigits
 pub mod NumeralGrammar
 pub mod NumeralReach

@@ -1,11 +1,13 @@
 //! The pairs of a text.
 
-ghost use Rattle.std.specs.Prelude.{◌≡◌, false, IfOk};
-ghost use Rattle.dxf_groups.specs.Codes.{is_comment, is_end};
+ghost use Rattle.std.specs.Prelude.{◌≡◌, ◌<◌, ◌≤◌, Some, false, length, drop, IfOk, IfSome};
+ghost use Rattle.std.specs.List.{after_first, before_first};
+ghost use Rattle.dxf_groups.specs.Codes.{group_code_of, is_comment, is_end};
 ghost use Rattle.dxf_groups.specs.ReadPairs.{IsPlaceIn, IsReading};
 ghost use Rattle.dxf_groups.specs.Spans.{IsSpanIn, span_of};
+ghost use Rattle.dxf_groups.specs.TextLines.{content_of, is_feed};
 
-use crate::codes::{COMMENT, group_code};
+use crate::codes::{COMMENT, code_in_columns, group_code};
 use crate::pair::Pair;
 use crate::text_lines::text_line_at;
 use solid_model::Fault;
@@ -15,6 +17,68 @@ use solid_model::Fault;
 pub struct ReadPair {
     pub pair: Pair,
     pub after: usize,
+}
+
+/// The group code of a line, where that is one, and where the next line begins.
+#[derive(Clone, Copy)]
+struct CodeLine {
+    code: Option<i32>,
+    after: usize,
+}
+
+/// The group code of the line that begins at `start`, whatever it is. It is a call of its own, since
+/// most lines are three columns.
+#[inline(never)]
+fn other_code_line(text: &[u8], start: usize) -> CodeLine
+    requires { start < length text.now }
+    ensures code { result.code
+        ≡ group_code_of (content_of (before_first is_feed (drop start text.now))) }
+    ensures next { drop result.after text.now ≡ after_first is_feed (drop start text.now) }
+    ensures goes_on { start < result.after }
+    ensures within { result.after ≤ length text.now }
+{
+    let line = text_line_at(text, start);
+    CodeLine {
+        code: group_code(&text[line.content.start..line.content.end]),
+        after: line.after,
+    }
+}
+
+/// The group code of the text's first line, where that is three columns.
+#[inline(always)]
+fn columns_code(text: &[u8]) -> Option<i32>
+    ensures within { IfSome result (λ _. 4 ≤ length text.now) }
+    ensures code { IfSome result (λ code.
+        group_code_of (content_of (before_first is_feed text.now)) ≡ Some code) }
+    ensures next { IfSome result (λ _. after_first is_feed text.now ≡ drop 4 text.now) }
+{
+    if text.len() < 4 {
+        return None;
+    }
+    if text[3] != b'\n' {
+        return None;
+    }
+    let code = code_in_columns(text[0], text[1], text[2])?;
+    Some(code)
+}
+
+/// The group code of the line that begins at `start`.
+#[inline(always)]
+fn code_line_at(text: &[u8], start: usize) -> CodeLine
+    requires { start < length text.now }
+    ensures code { result.code
+        ≡ group_code_of (content_of (before_first is_feed (drop start text.now))) }
+    ensures next { drop result.after text.now ≡ after_first is_feed (drop start text.now) }
+    ensures goes_on { start < result.after }
+    ensures within { result.after ≤ length text.now }
+{
+    match columns_code(&text[start..]) {
+        Some(code) => CodeLine {
+            code: Some(code),
+            after: start + 4,
+        },
+        None => other_code_line(text, start),
+    }
 }
 
 /// The pair that begins at `start`, with line `line`. `NoEof` comes at the end of the text,
@@ -27,8 +91,8 @@ fn pair_at(text: &[u8], start: usize, line: u32) -> Result<ReadPair, Fault>
     if start == text.len() {
         return Err(Fault::NoEof { line });
     }
-    let code_line = text_line_at(text, start);
-    let Some(code) = group_code(&text[code_line.content.start..code_line.content.end]) else {
+    let code_line = code_line_at(text, start);
+    let Some(code) = code_line.code else {
         return Err(Fault::BadCode { line });
     };
     if code_line.after == text.len() {

@@ -20,8 +20,9 @@ pub struct TextLine {
 const NEAR: usize = 16;
 
 /// Where the first line feed stands, if that is one of the first sixteen bytes of sixteen or more.
+#[inline(always)]
 fn near_feed(text: &[u8]) -> Option<usize>
-    ensures within { IfSome result (λ place. place ≤ length text.now) }
+    ensures within { IfSome result (λ place. place < length text.now) }
     ensures place { IfSome result (λ place. place ≡ position_or_len is_feed text.now) }
 {
     if text.len() < NEAR {
@@ -63,6 +64,7 @@ pub fn feed_place(text: &[u8]) -> usize
 }
 
 /// The line without the carriage return at its end, if one stands there.
+#[inline(always)]
 fn without_return(line: &[u8]) -> &[u8]
     ensures { result.now ≡ without_return line.now }
 {
@@ -80,6 +82,7 @@ fn is_blank(byte: u8) -> bool
 }
 
 /// How many spaces the text begins with, of the first sixteen bytes of sixteen or more.
+#[inline(always)]
 fn near_spaces(text: &[u8]) -> usize
     ensures within { result ≤ length text.now }
     ensures blank { (k : ℕ) → k < result → is_blank (slice_index text.now k) ≡ true }
@@ -145,9 +148,48 @@ fn content_span(text: &[u8], feed: usize) -> Span
     }
 }
 
-/// The line that begins at `start`.
+/// The first line of a text: where that stands which counts of it, and its line feed.
+#[derive(Clone, Copy)]
+struct NearLine {
+    content: Span,
+    feed: usize,
+}
+
+/// The first line of a text, where a look at sixteen bytes tells it: its line feed is one of them,
+/// and nothing but spaces stands before what counts, and nothing but a carriage return behind it.
 #[inline(always)]
-pub fn text_line_at(text: &[u8], start: usize) -> TextLine
+fn near_line(text: &[u8]) -> Option<NearLine>
+    ensures within { IfSome result (λ line. line.feed < length text.now) }
+    ensures place { IfSome result (λ line. line.feed ≡ position_or_len is_feed text.now) }
+    ensures span { IfSome result (λ line. IsSpanIn (take line.feed text.now) line.content) }
+    ensures content { IfSome result (λ line. span_of (take line.feed text.now) line.content
+        ≡ content_of (take line.feed text.now)) }
+{
+    let feed = near_feed(text)?;
+    let start = near_spaces(text);
+    let bare = without_return(&text[..feed]);
+    let end = bare.len();
+    if start >= end {
+        return None;
+    }
+    // Neither is a blank, which a byte above the space can't be.
+    if bare[start] <= b' ' {
+        return None;
+    }
+    if bare[end - 1] <= b' ' {
+        return None;
+    }
+    Some(NearLine {
+        content: Span { start, end },
+        feed,
+    })
+}
+
+/// The line that begins at `start`, whatever it is. It is a call of its own, since most lines are
+/// told by one look.
+#[cold]
+#[inline(never)]
+fn other_text_line(text: &[u8], start: usize) -> TextLine
     requires { start < length text.now }
     ensures span { IsSpanIn text.now result.content }
     ensures content { contents_of (drop start text.now)
@@ -166,4 +208,27 @@ pub fn text_line_at(text: &[u8], start: usize) -> TextLine
     let end = start + feed;
     let after = if end < text.len() { end + 1 } else { end };
     TextLine { content, after }
+}
+
+/// The line that begins at `start`.
+#[inline(always)]
+pub fn text_line_at(text: &[u8], start: usize) -> TextLine
+    requires { start < length text.now }
+    ensures span { IsSpanIn text.now result.content }
+    ensures content { contents_of (drop start text.now)
+        ≡ span_of text.now result.content ∷ contents_of (drop result.after text.now) }
+    ensures next { drop result.after text.now ≡ after_first is_feed (drop start text.now) }
+    ensures goes_on { start < result.after }
+    ensures within { result.after ≤ length text.now }
+{
+    match near_line(&text[start..]) {
+        Some(line) => TextLine {
+            content: Span {
+                start: start + line.content.start,
+                end: start + line.content.end,
+            },
+            after: start + line.feed + 1,
+        },
+        None => other_text_line(text, start),
+    }
 }

@@ -1,5 +1,5 @@
 -- The lowest bit that is set tells the first line feed.
-use Rattle.std.proofs.Common.{◌≤◌, length, take, eqb, sym, ap, subst, ◌∙◌, arith, w8}
+use Rattle.std.proofs.Common.{◌<◌, length, take, eqb, sym, ap, subst, ◌∙◌, arith, w8}
 use Rattle.std.specs.Int.Count.{count_trailing_zeros}
 use Rattle.std.proofs.lemmas.List.{length-take-le}
 use Rattle.std.proofs.lemmas.Simd.{bitmask_splat}
@@ -13,7 +13,7 @@ returns-clause-within c =
     let long = length-take-le 16 text (omega arith) in
     let feeds = bitmask_splat w8 eqb (take 16 text) 16 10 long (omega arith) in
     let within = near_within is_feed text (omega arith) (omega arith) in
-    subst (λ n. n ≤ length text) (sym (ap (count_trailing_zeros 64) feeds)) (omega arith)
+    subst (λ n. n < length text) (sym (ap (count_trailing_zeros 64) feeds)) (omega arith)
 
 pub returns-clause-place : goal.returns-clause-place
 returns-clause-place c =

@@ -1,31 +1,16 @@
 -- The line is the text up to its line feed.
-use Rattle.std.proofs.Common.{refl, ◌∙◌, sym, arith}
-use Rattle.std.proofs.lemmas.List.{take_rest, drop_all}
+use Rattle.std.proofs.Common.{refl, arith}
+use Rattle.std.proofs.lemmas.List.{take_rest}
 use Rattle.dxf_groups.proofs.FirstLines.{line_found, next_line}
 use Rattle.dxf_groups.proofs.text_lines.text_line_at.Goals as goal
 
-pub returns-then-end-text-clause-content : goal.returns-then-end-text-clause-content
-returns-then-end-text-clause-content c =
-    line_found c.args.text.now _ c.args.start c.feed_place-feed.result c.content_span-span.result _
-    (take_rest c.args.text.now c.args.start) c.requires
-    c.feed_place-feed.ensures.place c.content_span-span.ensures.span
-    c.content_span-span.ensures.content refl
+pub returns-in-Some-clause-content : goal.returns-in-Some-clause-content
+returns-in-Some-clause-content c =
+    let line = c.in-Some.ensures in
+    line_found c.args.text.now _ c.args.start c.in-Some.line.feed c.in-Some.line.content _
+    (take_rest c.args.text.now c.args.start) c.requires line.place line.span line.content refl
 
-pub returns-else-end-text-clause-content : goal.returns-else-end-text-clause-content
-returns-else-end-text-clause-content c =
-    line_found c.args.text.now _ c.args.start c.feed_place-feed.result c.content_span-span.result _
-    (take_rest c.args.text.now c.args.start) c.requires
-    c.feed_place-feed.ensures.place c.content_span-span.ensures.span
-    c.content_span-span.ensures.content
-    (drop_all _ c.args.text.now (omega arith) ∙ sym (drop_all _ c.args.text.now (omega arith)))
-
-pub returns-then-end-text-clause-next : goal.returns-then-end-text-clause-next
-returns-then-end-text-clause-next c =
-    next_line c.args.text.now _ c.args.start c.feed_place-feed.result _
-    (take_rest c.args.text.now c.args.start) c.feed_place-feed.ensures.place refl
-
-pub returns-else-end-text-clause-next : goal.returns-else-end-text-clause-next
-returns-else-end-text-clause-next c =
-    next_line c.args.text.now _ c.args.start c.feed_place-feed.result _
-    (take_rest c.args.text.now c.args.start) c.feed_place-feed.ensures.place
-    (drop_all _ c.args.text.now (omega arith) ∙ sym (drop_all _ c.args.text.now (omega arith)))
+pub returns-in-Some-clause-next : goal.returns-in-Some-clause-next
+returns-in-Some-clause-next c =
+    next_line c.args.text.now _ c.args.start c.in-Some.line.feed _
+    (take_rest c.args.text.now c.args.start) c.in-Some.ensures.place refl
