@@ -69,7 +69,9 @@ impl Facts {
         }
     }
 
-    /// Takes one more pair, which has this value and belongs to no application.
+    /// Takes one more pair, which has this value and belongs to no application. It is a call of its
+    /// own, so that its values aren't made for the pairs that are passed over.
+    #[inline(never)]
     pub fn take(&mut self, pair: &Pair, value: &[u8], form: ReadingForm) -> Result<(), Memory>
         ensures { OnOk result (self.new ≡ with_fact form (text_pair pair.now value.now) self.old) }
     {

@@ -84,6 +84,7 @@ pub fn linetype_of(value: &[u8]) -> Linetype
 }
 
 /// A linetype, where it is known, or one more pair with this value tells it.
+#[inline(always)]
 pub fn first_linetype(known: Option<Linetype>, pair: &Pair, value: &[u8]) -> Option<Linetype>
     ensures { result ≡ or_first 6 linetype_of (text_pair pair.now value.now) known }
 {

@@ -59,6 +59,7 @@ pub fn layer_on(six: bool, value: &[u8]) -> Option<Layer>
 
 /// The layer of an entry, where its name is known, or one more pair with this value and this code
 /// tells it.
+#[inline(always)]
 pub fn first_layer(
     known: Option<Option<Layer>>,
     code: u16,

@@ -1,7 +1,6 @@
 pub mod BehindLines
 pub mod ColumnCodes
 pub mod FewDigits
-pub mod FirstBlanks
 pub mod FirstLines
 pub mod FirstPairs
 pub mod NearBytes

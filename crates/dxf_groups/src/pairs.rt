@@ -9,7 +9,7 @@ ghost use Rattle.dxf_groups.specs.TextLines.{content_of, is_feed};
 
 use crate::codes::{COMMENT, code_in_columns, group_code};
 use crate::pair::Pair;
-use crate::text_lines::text_line_at;
+use crate::text_lines::{near_line_at, text_line_at};
 use solid_model::Fault;
 
 /// A pair, and where the next one begins in the text.
@@ -98,7 +98,7 @@ fn pair_at(text: &[u8], start: usize, line: u32) -> Result<ReadPair, Fault>
     if code_line.after == text.len() {
         return Err(Fault::NoValue { line });
     }
-    let value_line = text_line_at(text, code_line.after);
+    let value_line = near_line_at(text, code_line.after);
     Ok(ReadPair {
         pair: Pair {
             code,
@@ -111,6 +111,7 @@ fn pair_at(text: &[u8], start: usize, line: u32) -> Result<ReadPair, Fault>
 
 /// The first pair from `start` on that is no comment; the line there is line `line`. The faults are
 /// those of `pair_at`.
+#[inline(always)]
 pub fn pair_from(text: &[u8], start: usize, line: u32) -> Result<ReadPair, Fault>
     requires { IsPlaceIn text.now start line }
     ensures read { IsReading text.now start line result }

@@ -99,12 +99,13 @@ fn near_spaces(text: &[u8]) -> usize
     others.trailing_zeros() as usize
 }
 
-/// How many blanks the text begins with.
-fn leading_blanks(text: &[u8]) -> usize
-    ensures { result ≡ prefix_len is_blank text.now }
+/// How many blanks the line begins with.
+fn leading_blanks(line: &[u8]) -> usize
+    ensures within { result ≤ length line.now }
+    ensures count { result ≡ prefix_len is_blank line.now }
 {
-    let mut place = near_spaces(text);
-    while place < text.len() && is_blank(text[place]) {
+    let mut place = 0;
+    while place < line.len() && is_blank(line[place]) {
         place += 1;
     }
     place
@@ -121,26 +122,13 @@ fn len_before_trailing_blanks(line: &[u8]) -> usize
     len
 }
 
-/// How many blanks the text's first line begins with, without its carriage return: those of the
-/// text, since neither that nor a line feed is blank.
-fn first_line_blanks(text: &[u8], feed: usize) -> usize
-    requires { feed ≡ position_or_len is_feed text.now }
-    ensures within { result ≤ length (without_return (take feed text.now)) }
-    ensures count { result ≡ prefix_len is_blank (without_return (take feed text.now)) }
+/// Where what counts of a line stands in it.
+fn content_span(line: &[u8]) -> Span
+    ensures span { IsSpanIn line.now result }
+    ensures content { span_of line.now result ≡ content_of line.now }
 {
-    leading_blanks(text)
-}
-
-/// Where what counts of the text's first line stands in it. So many bytes stand before its line
-/// feed.
-fn content_span(text: &[u8], feed: usize) -> Span
-    requires within { feed ≤ length text.now }
-    requires place { feed ≡ position_or_len is_feed text.now }
-    ensures span { IsSpanIn (take feed text.now) result }
-    ensures content { span_of (take feed text.now) result ≡ content_of (take feed text.now) }
-{
-    let bare = without_return(&text[..feed]);
-    let start = first_line_blanks(text, feed);
+    let bare = without_return(line);
+    let start = leading_blanks(bare);
     let len = len_before_trailing_blanks(&bare[start..]);
     Span {
         start,
@@ -185,12 +173,12 @@ fn near_line(text: &[u8]) -> Option<NearLine>
     })
 }
 
-/// The line that begins at `start`, whatever it is. It is a call of its own, since most lines are
-/// told by one look.
-#[cold]
-#[inline(never)]
-fn other_text_line(text: &[u8], start: usize) -> TextLine
-    requires { start < length text.now }
+/// The line that begins at `start`, where so many bytes stand before its line feed.
+#[inline(always)]
+fn line_to(text: &[u8], start: usize, feed: usize) -> TextLine
+    requires some { start < length text.now }
+    requires within { feed ≤ length (drop start text.now) }
+    requires place { feed ≡ position_or_len is_feed (drop start text.now) }
     ensures span { IsSpanIn text.now result.content }
     ensures content { contents_of (drop start text.now)
         ≡ span_of text.now result.content ∷ contents_of (drop result.after text.now) }
@@ -199,8 +187,7 @@ fn other_text_line(text: &[u8], start: usize) -> TextLine
     ensures within { result.after ≤ length text.now }
 {
     let rest = &text[start..];
-    let feed = feed_place(rest);
-    let span = content_span(rest, feed);
+    let span = content_span(&rest[..feed]);
     let content = Span {
         start: start + span.start,
         end: start + span.end,
@@ -210,9 +197,39 @@ fn other_text_line(text: &[u8], start: usize) -> TextLine
     TextLine { content, after }
 }
 
-/// The line that begins at `start`.
+/// The line that begins at `start`, whatever it is.
 #[inline(always)]
 pub fn text_line_at(text: &[u8], start: usize) -> TextLine
+    requires { start < length text.now }
+    ensures span { IsSpanIn text.now result.content }
+    ensures content { contents_of (drop start text.now)
+        ≡ span_of text.now result.content ∷ contents_of (drop result.after text.now) }
+    ensures next { drop result.after text.now ≡ after_first is_feed (drop start text.now) }
+    ensures goes_on { start < result.after }
+    ensures within { result.after ≤ length text.now }
+{
+    line_to(text, start, feed_place(&text[start..]))
+}
+
+/// The line that begins at `start`, which a look at sixteen bytes didn't tell. It is a call of its
+/// own, since most lines are told by that.
+#[cold]
+#[inline(never)]
+fn other_line_at(text: &[u8], start: usize) -> TextLine
+    requires { start < length text.now }
+    ensures span { IsSpanIn text.now result.content }
+    ensures content { contents_of (drop start text.now)
+        ≡ span_of text.now result.content ∷ contents_of (drop result.after text.now) }
+    ensures next { drop result.after text.now ≡ after_first is_feed (drop start text.now) }
+    ensures goes_on { start < result.after }
+    ensures within { result.after ≤ length text.now }
+{
+    line_to(text, start, far_feed_place(&text[start..]))
+}
+
+/// The same as `text_line_at`, quicker where the line is short and has few blanks at its ends.
+#[inline(always)]
+pub fn near_line_at(text: &[u8], start: usize) -> TextLine
     requires { start < length text.now }
     ensures span { IsSpanIn text.now result.content }
     ensures content { contents_of (drop start text.now)
@@ -229,6 +246,6 @@ pub fn text_line_at(text: &[u8], start: usize) -> TextLine
             },
             after: start + line.feed + 1,
         },
-        None => other_text_line(text, start),
+        None => other_line_at(text, start),
     }
 }

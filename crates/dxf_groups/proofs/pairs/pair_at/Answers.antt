@@ -9,7 +9,7 @@ use Rattle.dxf_groups.proofs.pairs.pair_at.Goals as goal
 pub returns : goal.returns
 returns c =
     let code_line = c.code_line_at-code_line.ensures in
-    let value_line = c.text_line_at-value_line.ensures in
+    let value_line = c.near_line_at-value_line.ensures in
     record {
       span = value_line.span;
       goes_on = omega (arith, code_line.goes_on, value_line.goes_on);
@@ -20,7 +20,7 @@ returns c =
         some = omega (arith, c.requires.some);
         begins =
             two_lines_on c.args.text.now _ c.args.start c.code_line_at-code_line.result.after
-            c.text_line_at-value_line.result.after c.args.line c.requires.some c.requires.begins
+            c.near_line_at-value_line.result.after c.args.line c.requires.some c.requires.begins
             code_line.next value_line.next;
       };
       pairs =

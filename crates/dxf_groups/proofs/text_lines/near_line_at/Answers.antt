@@ -2,7 +2,7 @@
 use Rattle.std.proofs.Common.{refl, arith}
 use Rattle.std.proofs.lemmas.List.{take_rest}
 use Rattle.dxf_groups.proofs.FirstLines.{line_found, next_line}
-use Rattle.dxf_groups.proofs.text_lines.text_line_at.Goals as goal
+use Rattle.dxf_groups.proofs.text_lines.near_line_at.Goals as goal
 
 pub returns-in-Some-clause-content : goal.returns-in-Some-clause-content
 returns-in-Some-clause-content c =
