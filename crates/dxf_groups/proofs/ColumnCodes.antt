@@ -122,3 +122,31 @@ behind_columns (a ∷ []) long isa isb isc feed = absurd (omega arith)
 behind_columns (a ∷ b ∷ []) long isa isb isc feed = absurd (omega arith)
 behind_columns (a ∷ b ∷ c ∷ []) long isa isb isc feed = absurd (omega arith)
 behind_columns (a ∷ b ∷ c ∷ d ∷ bytes) long isa isb isc feed = rw (isa, isb, isc, feed) refl
+
+-- the same behind a carriage return, which doesn't count
+pub returned_columns : (text : List ℕ) → 5 ≤ length text → is_feed (slice_index text 0) ≡ false
+    → is_feed (slice_index text 1) ≡ false → is_feed (slice_index text 2) ≡ false
+    → eqb (slice_index text 2) 13 ≡ false → slice_index text 3 ≡ 13 → slice_index text 4 ≡ 10
+    → content_of (before_first is_feed text)
+    ≡ content_of (slice_index text 0 ∷ slice_index text 1 ∷ slice_index text 2 ∷ [])
+returned_columns [] long isa isb isc bare return feed = absurd (omega arith)
+returned_columns (a ∷ []) long isa isb isc bare return feed = absurd (omega arith)
+returned_columns (a ∷ b ∷ []) long isa isb isc bare return feed = absurd (omega arith)
+returned_columns (a ∷ b ∷ c ∷ []) long isa isb isc bare return feed = absurd (omega arith)
+returned_columns (a ∷ b ∷ c ∷ d ∷ []) long isa isb isc bare return feed = absurd (omega arith)
+returned_columns (a ∷ b ∷ c ∷ d ∷ e ∷ bytes) long isa isb isc bare return feed =
+    let line : before_first is_feed (a ∷ b ∷ c ∷ d ∷ e ∷ bytes) ≡ a ∷ b ∷ c ∷ 13 ∷ [] =
+    rw (isa, isb, isc, return, feed) refl in
+    let same : content_of (a ∷ b ∷ c ∷ 13 ∷ []) ≡ content_of (a ∷ b ∷ c ∷ []) = rw bare refl in
+    ap content_of line ∙ same
+
+pub behind_returned : (text : List ℕ) → 5 ≤ length text → is_feed (slice_index text 0) ≡ false
+    → is_feed (slice_index text 1) ≡ false → is_feed (slice_index text 2) ≡ false
+    → slice_index text 3 ≡ 13 → slice_index text 4 ≡ 10 → after_first is_feed text ≡ drop 5 text
+behind_returned [] long isa isb isc return feed = absurd (omega arith)
+behind_returned (a ∷ []) long isa isb isc return feed = absurd (omega arith)
+behind_returned (a ∷ b ∷ []) long isa isb isc return feed = absurd (omega arith)
+behind_returned (a ∷ b ∷ c ∷ []) long isa isb isc return feed = absurd (omega arith)
+behind_returned (a ∷ b ∷ c ∷ d ∷ []) long isa isb isc return feed = absurd (omega arith)
+behind_returned (a ∷ b ∷ c ∷ d ∷ e ∷ bytes) long isa isb isc return feed =
+    rw (isa, isb, isc, return, feed) refl

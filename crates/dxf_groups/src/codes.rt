@@ -44,7 +44,7 @@ pub fn code_in_columns(a: u8, b: u8, c: u8) -> Option<i32>
     ensures code { IfSome result (λ code. group_code_of (content_of (a ∷ b ∷ c ∷ []))
         ≡ Some code) }
     ensures line { IfSome result (λ _. (is_feed a ≡ false) × (is_feed b ≡ false)
-        × (is_feed c ≡ false)) }
+        × (is_feed c ≡ false) × ((c == 13) ≡ false)) }
 {
     let number = number_of(b'0', digit_behind(b' ', a), digit_behind(a, b), c)?;
     Some(i32::from(number))

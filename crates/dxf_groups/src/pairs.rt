@@ -26,25 +26,7 @@ struct CodeLine {
     after: usize,
 }
 
-/// The group code of the line that begins at `start`, whatever it is. It is a call of its own, since
-/// most lines are three columns.
-#[inline(never)]
-fn other_code_line(text: &[u8], start: usize) -> CodeLine
-    requires { start < length text.now }
-    ensures code { result.code
-        ≡ group_code_of (content_of (before_first is_feed (drop start text.now))) }
-    ensures next { drop result.after text.now ≡ after_first is_feed (drop start text.now) }
-    ensures goes_on { start < result.after }
-    ensures within { result.after ≤ length text.now }
-{
-    let line = text_line_at(text, start);
-    CodeLine {
-        code: group_code(&text[line.content.start..line.content.end]),
-        after: line.after,
-    }
-}
-
-/// The group code of the text's first line, where that is three columns.
+/// The group code of the text's first line, where that is three columns and its line feed.
 #[inline(always)]
 fn columns_code(text: &[u8]) -> Option<i32>
     ensures within { IfSome result (λ _. 4 ≤ length text.now) }
@@ -60,6 +42,62 @@ fn columns_code(text: &[u8]) -> Option<i32>
     }
     let code = code_in_columns(text[0], text[1], text[2])?;
     Some(code)
+}
+
+/// The same where a carriage return stands behind the three columns.
+fn returned_columns_code(text: &[u8]) -> Option<i32>
+    ensures within { IfSome result (λ _. 5 ≤ length text.now) }
+    ensures code { IfSome result (λ code.
+        group_code_of (content_of (before_first is_feed text.now)) ≡ Some code) }
+    ensures next { IfSome result (λ _. after_first is_feed text.now ≡ drop 5 text.now) }
+{
+    if text.len() < 5 {
+        return None;
+    }
+    if text[3] != b'\r' {
+        return None;
+    }
+    if text[4] != b'\n' {
+        return None;
+    }
+    let code = code_in_columns(text[0], text[1], text[2])?;
+    Some(code)
+}
+
+/// The group code of the line that begins at `start`, whatever it is.
+fn any_code_line(text: &[u8], start: usize) -> CodeLine
+    requires { start < length text.now }
+    ensures code { result.code
+        ≡ group_code_of (content_of (before_first is_feed (drop start text.now))) }
+    ensures next { drop result.after text.now ≡ after_first is_feed (drop start text.now) }
+    ensures goes_on { start < result.after }
+    ensures within { result.after ≤ length text.now }
+{
+    let line = text_line_at(text, start);
+    CodeLine {
+        code: group_code(&text[line.content.start..line.content.end]),
+        after: line.after,
+    }
+}
+
+/// The same, quicker where it is three columns and a carriage return. It is a call of its own, since
+/// most texts have none.
+#[inline(never)]
+fn other_code_line(text: &[u8], start: usize) -> CodeLine
+    requires { start < length text.now }
+    ensures code { result.code
+        ≡ group_code_of (content_of (before_first is_feed (drop start text.now))) }
+    ensures next { drop result.after text.now ≡ after_first is_feed (drop start text.now) }
+    ensures goes_on { start < result.after }
+    ensures within { result.after ≤ length text.now }
+{
+    match returned_columns_code(&text[start..]) {
+        Some(code) => CodeLine {
+            code: Some(code),
+            after: start + 5,
+        },
+        None => any_code_line(text, start),
+    }
 }
 
 /// The group code of the line that begins at `start`.
