@@ -16,9 +16,9 @@ fn number_of(a: u8, b: u8, c: u8, d: u8) -> Option<u16>
         (Some ((((a - 48) * 10 + (b - 48)) * 10 + (c - 48)) * 10 + (d - 48))) None }
 {
     let are_digits = a.is_ascii_digit()
-        & b.is_ascii_digit()
-        & c.is_ascii_digit()
-        & d.is_ascii_digit();
+        && b.is_ascii_digit()
+        && c.is_ascii_digit()
+        && d.is_ascii_digit();
     if !are_digits {
         return None;
     }
@@ -30,7 +30,7 @@ fn number_of(a: u8, b: u8, c: u8, d: u8) -> Option<u16>
 fn digit_behind(before: u8, byte: u8) -> u8
     ensures { result ≡ cond (before == 32 && byte == 32) 48 byte }
 {
-    if (before == b' ') & (byte == b' ') {
+    if before == b' ' && byte == b' ' {
         b'0'
     } else {
         byte

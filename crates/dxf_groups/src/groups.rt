@@ -82,6 +82,7 @@ impl Groups {
     /// and one to four digits; `NoValue` where the text ends after a group code; `NoEof` where a
     /// pair should begin and the text is at its end. It copies nothing and takes no memory, and
     /// over all calls each byte of the text is looked at no more than eight times.
+    // Of a call for each pair the answer would go through memory.
     #[inline(always)]
     pub fn next(&mut self) -> Result<Option<Pair>, Fault>
         ensures { Gives self.old result self.new }

@@ -44,8 +44,8 @@ fn columns_code(text: &[u8]) -> Option<i32>
     Some(code)
 }
 
-/// The same where a carriage return stands behind the three columns.
-fn returned_columns_code(text: &[u8]) -> Option<i32>
+/// The same where a carriage return stands between the columns and the line feed.
+fn columns_code_before_return(text: &[u8]) -> Option<i32>
     ensures within { IfSome result (λ _. 5 ≤ length text.now) }
     ensures code { IfSome result (λ code.
         group_code_of (content_of (before_first is_feed text.now)) ≡ Some code) }
@@ -80,8 +80,8 @@ fn any_code_line(text: &[u8], start: usize) -> CodeLine
     }
 }
 
-/// The same, quicker where it is three columns and a carriage return. It is a call of its own, since
-/// most texts have none.
+/// The same, quicker where it is three columns and a carriage return. It is a call of its own, so
+/// that it takes no room where there are none.
 #[inline(never)]
 fn other_code_line(text: &[u8], start: usize) -> CodeLine
     requires { start < length text.now }
@@ -91,7 +91,7 @@ fn other_code_line(text: &[u8], start: usize) -> CodeLine
     ensures goes_on { start < result.after }
     ensures within { result.after ≤ length text.now }
 {
-    match returned_columns_code(&text[start..]) {
+    match columns_code_before_return(&text[start..]) {
         Some(code) => CodeLine {
             code: Some(code),
             after: start + 5,

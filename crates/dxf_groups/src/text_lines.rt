@@ -160,7 +160,7 @@ fn near_line(text: &[u8]) -> Option<NearLine>
     if start >= end {
         return None;
     }
-    // Neither is a blank, which a byte above the space can't be.
+    // A byte above the space is no blank.
     if bare[start] <= b' ' {
         return None;
     }

@@ -1,5 +1,5 @@
 -- The text's first line is that which begins at the place.
-use Rattle.std.proofs.Common.{◌≡◌, rules, Some, length, take, drop, w32, FitsSigned, sym, subst, ◌∙◌}
+use Rattle.std.proofs.Common.{◌≡◌, rules, Some, drop, w32, FitsSigned, sym, subst, ◌∙◌}
 use Rattle.std.specs.List.{after_first, before_first}
 use Rattle.std.proofs.lemmas.Int.{to_z-of_z}
 use Rattle.std.proofs.lemmas.List.{drop-drop, take_rest}

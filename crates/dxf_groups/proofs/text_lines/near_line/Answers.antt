@@ -1,4 +1,3 @@
-use Rattle.std.proofs.Common.{arith}
 use Rattle.dxf_groups.proofs.NearLines.{near_content}
 use Rattle.dxf_groups.proofs.text_lines.near_line.Goals as goal
 

@@ -1,5 +1,5 @@
 -- The line is the text up to its line feed.
-use Rattle.std.proofs.Common.{refl, arith}
+use Rattle.std.proofs.Common.{refl}
 use Rattle.std.proofs.lemmas.List.{take_rest}
 use Rattle.dxf_groups.proofs.FirstLines.{line_found, next_line}
 use Rattle.dxf_groups.proofs.text_lines.near_line_at.Goals as goal

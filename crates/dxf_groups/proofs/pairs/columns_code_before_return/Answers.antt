@@ -3,7 +3,7 @@ use Rattle.std.proofs.Common.{rules, w32, FitsSigned, ap, ◌∙◌}
 use Rattle.std.proofs.lemmas.Int.{to_z-of_z}
 use Rattle.dxf_groups.specs.Codes.{group_code_of}
 use Rattle.dxf_groups.proofs.ColumnCodes.{behind_returned, returned_columns}
-use Rattle.dxf_groups.proofs.pairs.returned_columns_code.Goals as goal
+use Rattle.dxf_groups.proofs.pairs.columns_code_before_return.Goals as goal
 
 pub returns-clause-code : goal.returns-clause-code
 returns-clause-code c =
