@@ -30,7 +30,7 @@ blank_alike column Dashed draws = absurd (draws.0.1 refl)
 blank_alike column Solid draws = absurd (draws (λ k. (λ e. e, λ e. e)))
 
 -- a number with no bit has those of 0
-no_bits : (n : ℕ) → ((k : ℕ) → is_set n k ≡ false) → bits n ≡ bits 0
+pub no_bits : (n : ℕ) → ((k : ℕ) → is_set n k ≡ false) → bits n ≡ bits 0
 no_bits n none = λ t k. by k t
   where
     by : (k : ℤ) → bits n k ≡ bits 0 k

@@ -2,6 +2,7 @@ pub mod ByLines
 pub mod WantedRuns
 pub mod WantedBytes
 pub mod DrawnBytes
+pub mod BusyPoints
 pub mod ShownOnGrid
 pub mod GridFacts
 pub mod SightRows

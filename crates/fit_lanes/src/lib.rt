@@ -9,6 +9,7 @@
 //! where the line is upright, and one row before it where it is level.
 #![tactic(auto)]
 
+mod busy_points;
 mod further_sieve;
 mod points;
 mod sights;

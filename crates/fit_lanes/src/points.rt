@@ -1,10 +1,12 @@
 //! What is drawn on the segments that begin at the points of a view's grid, as bytes.
 
-ghost use Rattle.std.specs.Prelude.{◌≡◌, ◌≤◌, ◌+◌, length, IsTrue, IfOk};
+ghost use Rattle.std.specs.Prelude.{◌≡◌, ◌≤◌, ◌<◌, ◌+◌, length, IsTrue, IfOk};
+ghost use Rattle.fit_lanes.specs.Busy.{AreAlikeBeyond, AreBlankBeyond};
 ghost use Rattle.fit_lanes.specs.Points.{point_byte, ArePointBytes};
 ghost use Rattle.fit_lanes.specs.Tests.{AreDrawn, DrawsFirst};
+ghost use Rattle.lemmas.specs.Lists.{Each};
 
-use column_lanes::{style_byte, styles};
+use column_lanes::{Column, style_byte, style_of};
 use solid_model::{Memory, Style};
 use std::alloc::Global;
 
@@ -59,16 +61,24 @@ pub fn point_bytes(
     Ok(bytes)
 }
 
-/// Puts the bytes of the styles that columns draw on the segments that begin at all points.
-pub fn draw(columns: &[u64], stride: usize, upright: bool, drawn: &mut [u8])
+/// Puts the bytes of the styles that columns draw on the segments that begin at these points, where
+/// beyond them the columns are the same, and nothing was drawn.
+pub fn draw(columns: &[u64], stride: usize, upright: bool, points: &[usize], drawn: &mut [u8])
     requires stride { 1 ≤ stride }
     requires room { length columns.now ≡ length drawn.old + stride }
+    requires inside { Each (λ p. p < length drawn.old) points.now }
+    requires alike { AreAlikeBeyond columns.now stride upright points.now (length drawn.old) }
+    requires blank { AreBlankBeyond points.now drawn.old }
     ensures length { length drawn.new ≡ length drawn.old }
+    ensures blank { AreBlankBeyond points.now drawn.new }
     ensures drawn { AreDrawn columns.now stride upright drawn.new }
 {
-    let points = columns.len() - stride;
-    let before = if upright { stride - 1 } else { 0 };
-    styles(&columns[stride..], &columns[before..before + points], drawn);
+    let before = if upright { 1 } else { stride };
+    for point in points {
+        let after = *point + stride;
+        let style = style_of(Column(columns[after]), Column(columns[after - before]));
+        drawn[*point] = style_byte(style);
+    }
 }
 
 /// Whether something is drawn at one of the first points, so many, each so far from the one before

@@ -1,8 +1,11 @@
 //! The test of one further view.
 
-ghost use Rattle.std.specs.Prelude.{◌≡◌, ◌≤◌, ◌+◌, ◌↔◌, ◌&&◌, length, IsTrue, IfOk, IfSome, MatchOption, if◌then◌else◌};
+ghost use Rattle.std.specs.Prelude.{◌≡◌, ◌≤◌, ◌<◌, ◌+◌, ◌↔◌, ◌&&◌, length, IsTrue, IfOk, IfSome, MatchOption, if◌then◌else◌};
+ghost use Rattle.fit_lanes.specs.Busy.{AreAlikeBeyond, AreBlankBeyond};
 ghost use Rattle.fit_lanes.specs.Tests.{AreDrawn, DrawsFirst};
+ghost use Rattle.lemmas.specs.Lists.{Each};
 
+use crate::busy_points::busy_points;
 use crate::points::{begins, draw};
 use crate::sights::sights;
 use crate::wanted::wanted_bytes;
@@ -23,6 +26,7 @@ pub struct ViewTest<'a> {
     sights: RowSpans,
     level: Option<Vec<u8>>,
     upright: Option<Vec<u8>>,
+    points: Vec<usize>,
     columns: Vec<u64>,
     drawn: Vec<u8>,
 }
@@ -39,7 +43,8 @@ impl<'a> Model for ViewTest<'a> {
     ghost view = { λ s. record { problem = s.problem.now; extra = s.extra; shown = s.shown.now } };
 
     ghost invariant = { λ s.
-        IsRoomOf s.problem.now s.extra s.shown.now s.sights s.columns.items s.drawn.items
+        IsRoomOf s.problem.now s.extra s.shown.now s.sights s.points.items s.columns.items
+        s.drawn.items
         × MatchOption s.level
         (AreNeverDrawn (coordinates_of s.problem.now.grid) s.extra false s.shown.now)
         (λ v. AreWantedBytes (coordinates_of s.problem.now.grid) s.extra false s.shown.now
@@ -51,32 +56,39 @@ impl<'a> Model for ViewTest<'a> {
 }
 
 /// Whether columns draw the wanted bytes on the level, or the upright, segments of a grid of so
-/// many cells. It isn't told where they draw nothing on the first line.
+/// many cells; beyond these points they draw nothing, and nothing was drawn. It isn't told where
+/// they draw nothing on the first line.
 fn draws(
     columns: &[u64],
     width: usize,
     height: usize,
     upright: bool,
+    points: &[usize],
     wanted: &Option<Vec<u8>>,
     drawn: &mut [u8],
 ) -> Option<bool>
     requires width { width ≤ 63 }
     requires height { height ≤ 63 }
     requires columns { length columns.now ≡ length drawn.old + (width + 1) }
+    requires inside { Each (λ p. p < length drawn.old) points.now }
+    requires alike { AreAlikeBeyond columns.now (width + 1) upright points.now
+        (length drawn.old) }
+    requires blank { AreBlankBeyond points.now drawn.old }
     ensures length { length drawn.new ≡ length drawn.old }
+    ensures blank { AreBlankBeyond points.now drawn.new }
     ensures told { IfSome result (λ yes. AreDrawn columns.now (width + 1) upright drawn.new
         × DrawsFirst drawn.new (if upright then width + 1 else 1)
         (if upright then height + 1 else width + 1)
         × (IsTrue yes ↔ MatchOption wanted.now ⊥ (λ bytes. drawn.new ≡ bytes.items))) }
 {
     let stride = width + 1;
-    draw(columns, stride, upright, drawn);
-    let (apart, points) = if upright {
+    draw(columns, stride, upright, points, drawn);
+    let (apart, firsts) = if upright {
         (stride, height + 1)
     } else {
         (1, stride)
     };
-    if !begins(drawn, apart, points) {
+    if !begins(drawn, apart, firsts) {
         return None;
     }
     match wanted {
@@ -117,6 +129,7 @@ impl<'a> ViewTest<'a> {
         let frame = frame_of(extra);
         let points = (sizes.along(frame.up.axis) + 1) * (sizes.along(frame.right.axis) + 1);
         let sights = sights(alloc, rows, sizes, extra)?;
+        let busy = busy_points(alloc, &sights, sizes.along(frame.right.axis) + 1)?;
         let columns = vec![in alloc; 0; sights.count()]?;
         let drawn = vec![in alloc; 0; points]?;
         Ok(ViewTest {
@@ -126,6 +139,7 @@ impl<'a> ViewTest<'a> {
             sights,
             level: wanted_bytes(alloc, grid, extra, shown, false)?,
             upright: wanted_bytes(alloc, grid, extra, shown, true)?,
+            points: busy,
             columns,
             drawn,
         })
@@ -147,8 +161,9 @@ impl ViewTest<'_> {
         let sizes = self.problem.grid().sizes();
         let (width, height) = (sizes.along(frame.right.axis), sizes.along(frame.up.axis));
         let (columns, drawn) = (self.columns.as_slice(), self.drawn.as_mut_slice());
-        let level = draws(columns, width, height, false, &self.level, drawn)?;
-        let upright = draws(columns, width, height, true, &self.upright, drawn)?;
+        let points = self.points.as_slice();
+        let level = draws(columns, width, height, false, points, &self.level, drawn)?;
+        let upright = draws(columns, width, height, true, points, &self.upright, drawn)?;
         Some(both(level, upright))
     }
 }

@@ -1,31 +1,52 @@
 -- The column after a line stands a row on, and the one before it a place or a row before that.
-use Rattle.std.proofs.Common.{◌≡◌, ◌+◌, ◌-◌, ◌<◌, take, drop, length, slice_index_or, ap, subst, ◌∙◌, arith}
-use Rattle.std.proofs.lemmas.List.{length-take, length-drop, get_or-take, get_or-drop}
+use Rattle.std.proofs.Common.{◌≡◌, ◌+◌, ◌-◌, ◌<◌, ℕ, List, take, length, get_or, set, ap, sym, subst, arith}
+use Rattle.std.proofs.lemmas.List.{take_more, take_all}
 use Rattle.lemmas.specs.Bits.{bits}
+use Rattle.lemmas.proofs.ListPlaces.{each-all}
 use Rattle.solid_model.specs.Columns.{ColumnsDraw}
 use Rattle.fit_lanes.specs.Points.{places_before}
+use Rattle.fit_lanes.proofs.BusyPoints.{AreSetAt, IsDrawnAt, set_none, set_more, blank_still, all_drawn}
 use Rattle.fit_lanes.proofs.points.draw.Goals as goal
 use Rattle.fit_lanes.proofs.points.draw.Goals.{then-upright, else-upright}
 
-pub returns-clause-drawn : goal.returns-clause-drawn
-returns-clause-drawn c p l =
-    let s = c.args.stride in
-    let columns = c.args.columns.now in
-    let b = c.if-upright.before in
-    let n = (b + (length columns - s)) - b in
-    let within : p < n = omega arith in
-    let after : slice_index_or (take (length columns - s) (drop s columns)) p 0 ≡ slice_index_or columns (p + s) 0 =
-    get_or-take (length columns - s) (drop s columns) p 0 (omega arith) ∙ get_or-drop s columns p 0 ∙ ap (λ q. slice_index_or columns q 0) (omega arith) in
-    let from : b + p ≡ p + s - places_before s c.args.upright = elim c.if-upright.branch as (λ _. b + p ≡ p + s - places_before s c.args.upright) [
+pub loop-point-init : goal.loop-point-init
+loop-point-init c = set_none (IsDrawnAt c.args.columns.now c.args.stride c.args.upright) c.args.drawn.now
+
+pub loop-point-preserved : goal.loop-point-preserved
+loop-point-preserved c = subst (λ places. AreSetAt (IsDrawnAt columns s c.args.upright) c.args.drawn.now places (set c.loop-point.drawn q c.style_byte.result))
+    (sym (take_more c.args.points.now c.loop-point.point-index 0 c.loop-point-test.true))
+    (set_more (IsDrawnAt columns s c.args.upright) c.args.drawn.now (take c.loop-point.point-index c.args.points.now) c.loop-point.drawn q c.style_byte.result
+    c.loop-point.invariant (omega (arith, inside, c.loop-point.invariant.count)) (
+      c.style_of-style.result,
+      subst (λ p. ColumnsDraw (bits (get_or columns (q + s) 0)) (bits (get_or columns p 0)) c.style_of-style.result) from c.style_of-style.ensures,
+      c.style_byte.ensures,
+    ))
+  where
+    s : ℕ
+    s = c.args.stride
+
+    columns : List ℕ
+    columns = c.args.columns.now
+
+    q : ℕ
+    q = get_or c.args.points.now c.loop-point.point-index 0
+
+    inside : q < length c.args.drawn.now
+    inside = each-all (λ p. p < length c.args.drawn.now) c.args.points.now c.requires.inside c.loop-point.point-index 0 c.loop-point-test.true
+
+    from : q + s - c.if-upright.before ≡ q + s - places_before s c.args.upright
+    from = elim c.if-upright.branch as (λ _. q + s - c.if-upright.before ≡ q + s - places_before s c.args.upright) [
       | then-upright w ↦ (let t : places_before s c.args.upright ≡ 1 = ap (places_before s) w.if-upright.true in omega (arith, t, w.before-is))
       | else-upright w ↦ (let t : places_before s c.args.upright ≡ s = ap (places_before s) w.if-upright.false in omega (arith, t, w.before-is))
-    ] in
-    let before : slice_index_or (take n (drop b columns)) p 0 ≡ slice_index_or columns (p + s - places_before s c.args.upright) 0 =
-    get_or-take n (drop b columns) p 0 within ∙ get_or-drop b columns p 0 ∙ ap (λ q. slice_index_or columns q 0) from in
-    let byte = c.styles.ensures p (omega (arith, length-drop s columns, length-take (length columns - s) (drop s columns))) in
-    let one = bits (slice_index_or columns (p + s) 0) in
-    let two = bits (slice_index_or (take n (drop b columns)) p 0) in (
-      byte.0,
-      subst (λ m. ColumnsDraw one (bits m) byte.0) before (subst (λ m. ColumnsDraw (bits m) two byte.0) after byte.1),
-      byte.2,
-    )
+    ]
+
+-- each of the points was gone to
+whole : (c : goal.After-loop-point) → AreSetAt (IsDrawnAt c.args.columns.now c.args.stride c.args.upright) c.args.drawn.now c.args.points.now c.loop-point.drawn
+whole c = subst (λ places. AreSetAt (IsDrawnAt c.args.columns.now c.args.stride c.args.upright) c.args.drawn.now places c.loop-point.drawn)
+    (take_all c.loop-point.point-index c.args.points.now c.loop-point-test.false) c.loop-point.invariant
+
+pub returns-clause-blank : goal.returns-clause-blank
+returns-clause-blank c = blank_still _ c.args.drawn.now c.args.points.now c.loop-point.drawn (whole c) c.requires.blank
+
+pub returns-clause-drawn : goal.returns-clause-drawn
+returns-clause-drawn c = all_drawn c.args.columns.now c.args.stride c.args.upright c.args.drawn.now c.args.points.now c.loop-point.drawn (whole c) c.requires.alike c.requires.blank

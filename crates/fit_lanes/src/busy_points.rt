@@ -1,0 +1,50 @@
+//! The points of a view's grid at which something may be drawn. On a fine grid they are few: no
+//! block stands beside most points, so that no choice draws anything there.
+
+ghost use Rattle.std.specs.Prelude.{◌≡◌, ◌≤◌, ◌<◌, ◌+◌, ◌-◌, [], length, slice_index_or, IsTrue, IfOk};
+ghost use Rattle.fit_lanes.specs.Busy.{IsBare, AreBusy};
+
+use cell_rows::RowSpans;
+use solid_model::Memory;
+use std::alloc::Global;
+
+/// The column at a place is of no block.
+fn is_empty(sights: &RowSpans, place: usize) -> bool
+    requires { place < length sights.now }
+    ensures { IsTrue result → slice_index_or sights.now place [] ≡ [] }
+{
+    sights.row(place).is_empty()
+}
+
+/// The columns beside a point are of no block: that at this place, after the lines that begin there,
+/// and those before them.
+fn is_bare(sights: &RowSpans, stride: usize, after: usize) -> bool
+    requires stride { 1 ≤ stride }
+    requires apart { stride ≤ after }
+    requires there { after < length sights.now }
+    ensures { IsTrue result → IsBare sights.now stride (after - stride) }
+{
+    if !is_empty(sights, after) {
+        return false;
+    }
+    if !is_empty(sights, after - 1) {
+        return false;
+    }
+    is_empty(sights, after - stride)
+}
+
+/// The points that aren't so, in rows of so many.
+pub fn busy_points(alloc: Global, sights: &RowSpans, stride: usize) -> Result<Vec<usize>, Memory>
+    requires stride { 1 ≤ stride }
+    requires room { stride ≤ length sights.now }
+    ensures { IfOk result (λ points. AreBusy sights.now stride (length sights.now - stride)
+        points.items) }
+{
+    let mut points = Vec::new(alloc);
+    for after in stride..sights.count() {
+        if !is_bare(sights, stride, after) {
+            points.push(after - stride)?;
+        }
+    }
+    Ok(points)
+}
