@@ -1,5 +1,5 @@
-//! The points of a view's grid at which something may be drawn. On a fine grid they are few: no
-//! block stands beside most points, so that no choice draws anything there.
+//! The points of a view's grid at which something may be drawn. On a fine grid they are few: beside
+//! most points no block stands, so that no choice draws anything there.
 
 ghost use Rattle.std.specs.Prelude.{◌≡◌, ◌≤◌, ◌<◌, ◌+◌, ◌-◌, [], length, slice_index_or, IsTrue, IfOk};
 ghost use Rattle.fit_lanes.specs.Busy.{IsBare, AreBusy};
@@ -16,8 +16,8 @@ fn is_empty(sights: &RowSpans, place: usize) -> bool
     sights.row(place).is_empty()
 }
 
-/// The columns beside a point are of no block: that at this place, after the lines that begin there,
-/// and those before them.
+/// The columns beside a point are of no block: that after the lines that begin there, which stands
+/// at this place, and those before them.
 fn is_bare(sights: &RowSpans, stride: usize, after: usize) -> bool
     requires stride { 1 ≤ stride }
     requires apart { stride ≤ after }
@@ -33,7 +33,7 @@ fn is_bare(sights: &RowSpans, stride: usize, after: usize) -> bool
     is_empty(sights, after - stride)
 }
 
-/// The points that aren't so, in rows of so many.
+/// The points of which that isn't so, in rows of so many.
 pub fn busy_points(alloc: Global, sights: &RowSpans, stride: usize) -> Result<Vec<usize>, Memory>
     requires stride { 1 ≤ stride }
     requires room { stride ≤ length sights.now }

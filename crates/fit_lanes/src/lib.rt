@@ -1,5 +1,5 @@
-//! A fast test whether solids fit further views: what a view shows is computed by words and lanes
-//! on the grid, and compared with what is wanted there.
+//! A fast test whether solids fit further views: what a view shows is computed by words, at those
+//! points of the grid alone beside which there are blocks, and compared with what is wanted there.
 //!
 //! A view's grid points stand in rows from below upwards, each from the left to the right; so many
 //! to a row as there are grid cells side by side, and one more. What belongs to the level, or the

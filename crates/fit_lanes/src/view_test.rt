@@ -26,7 +26,7 @@ pub struct ViewTest<'a> {
     sights: RowSpans,
     level: Option<Vec<u8>>,
     upright: Option<Vec<u8>>,
-    points: Vec<usize>,
+    busy: Vec<usize>,
     columns: Vec<u64>,
     drawn: Vec<u8>,
 }
@@ -43,7 +43,7 @@ impl<'a> Model for ViewTest<'a> {
     ghost view = { λ s. record { problem = s.problem.now; extra = s.extra; shown = s.shown.now } };
 
     ghost invariant = { λ s.
-        IsRoomOf s.problem.now s.extra s.shown.now s.sights s.points.items s.columns.items
+        IsRoomOf s.problem.now s.extra s.shown.now s.sights s.busy.items s.columns.items
         s.drawn.items
         × MatchOption s.level
         (AreNeverDrawn (coordinates_of s.problem.now.grid) s.extra false s.shown.now)
@@ -139,7 +139,7 @@ impl<'a> ViewTest<'a> {
             sights,
             level: wanted_bytes(alloc, grid, extra, shown, false)?,
             upright: wanted_bytes(alloc, grid, extra, shown, true)?,
-            points: busy,
+            busy,
             columns,
             drawn,
         })
@@ -161,7 +161,7 @@ impl ViewTest<'_> {
         let sizes = self.problem.grid().sizes();
         let (width, height) = (sizes.along(frame.right.axis), sizes.along(frame.up.axis));
         let (columns, drawn) = (self.columns.as_slice(), self.drawn.as_mut_slice());
-        let points = self.points.as_slice();
+        let points = self.busy.as_slice();
         let level = draws(columns, width, height, false, points, &self.level, drawn)?;
         let upright = draws(columns, width, height, true, points, &self.upright, drawn)?;
         Some(both(level, upright))

@@ -1,7 +1,7 @@
 -- The columns of a choice draw what is wanted exactly where its solid shows it.
-use Rattle.std.proofs.Common.{◌≡◌, ◌↔◌, ◌+◌, ◌*◌, ◌<◌, ◌≤◌, Bool, true, false, if◌then◌else◌, ℕ, List, Option, ◌++◌, take, drop, length, IsTrue, ap, sym, subst, ◌∙◌, arith}
+use Rattle.std.proofs.Common.{◌≡◌, ◌↔◌, ◌+◌, ◌*◌, ◌<◌, ◌≤◌, Bool, true, false, if◌then◌else◌, ℕ, List, Option, length, IsTrue, ap, sym, subst, ◌∙◌, arith}
 use Rattle.std.specs.Vec.{with_items}
-use Rattle.std.proofs.lemmas.List.{length-append, length-take, length-drop, with_items_is}
+use Rattle.std.proofs.lemmas.List.{with_items_is}
 use Rattle.cell_rows.specs.declared.span.Span.{Span}
 use Rattle.cell_rows.specs.Spans.{AreFilled}
 use Rattle.solid_model.specs.declared.cell.Axis.{Axis}
@@ -32,10 +32,6 @@ use Rattle.fit_lanes.proofs.view_test.ViewTest.shows.Goals as goal
 size_is : (x : Extra) (which : Frame → Axis) (frame : Frame) (numbers : Axis → ℕ) (g h : GridParts) (n : ℕ) → frame ≡ further_frame x → numbers ≡ grid_sizes g → g ≡ h
     → n ≡ numbers (which frame) → n ≡ grid_sizes h (which (further_frame x))
 size_is x which frame numbers g h n same sizes grid is = is ∙ (λ t. sizes t (which (same t))) ∙ (λ t. grid_sizes (grid t) (which (further_frame x)))
-
--- what is written into a list leaves it as long
-written_back : (xs ys : List ℕ) (n : ℕ) → n ≡ length ys → length xs ≡ length ys → length (take n (xs ++ drop (length xs) ys)) ≡ length ys
-written_back xs ys n whole same = omega (arith, length-take n (xs ++ drop (length xs) ys), length-append xs (drop (length xs) ys), length-drop (length xs) ys)
 
 pub draws-requires-clause-columns : goal.draws-requires-clause-columns
 draws-requires-clause-columns c =
