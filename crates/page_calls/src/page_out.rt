@@ -19,6 +19,12 @@ pub trait PageOut {
     /// How often it has failed. The count stands still at the greatest `u64`.
     ghost faults: { Self → ℕ };
 
+    /// Whether pages are wanted while a search goes on. Where they aren't, all come at its end. No
+    /// clause rests on it.
+    fn listens(&self) -> bool {
+        true
+    }
+
     /// Takes a page: its number, how many choices it and those before it have, and its choices. At
     /// an `Err` the call was added as a refused one, or none was: `Failed` comes only where the
     /// count of faults rose in this call, `Memory` where memory ran out.
@@ -67,6 +73,10 @@ impl PageOut for NoPages {
     ghost calls = { λ _. None };
 
     ghost faults = { λ _. 0 };
+
+    fn listens(&self) -> bool {
+        false
+    }
 
     fn page(&mut self, _number: u32, _total: usize, _more: &[Choice]) -> Result<(), SinkError> {
         Ok(())

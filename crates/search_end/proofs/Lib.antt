@@ -1,3 +1,4 @@
+mod MovedParts
 pub mod PageCalls
 pub mod AnswerLists
 pub mod DeskAnswers

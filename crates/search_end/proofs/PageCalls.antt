@@ -1,5 +1,5 @@
 -- Calls that hand out pages, one after another.
-use Rattle.std.proofs.Common.{◌≡◌, ◌≢◌, inl, inr, Bool, true, ℕ, ◌+◌, ◌≤◌, List, [], ◌∷◌, ◌++◌, length, Option, Some, None, IsPermutation, refl, sym, ◌∙◌, ap, subst, append_assoc, append-nil, length-append, take, drop, take-append-drop, arith}
+use Rattle.std.proofs.Common.{◌≡◌, ◌≢◌, inl, inr, Bool, true, ℕ, ◌+◌, ◌≤◌, List, [], ◌∷◌, ◌++◌, length, Option, Some, None, IsPermutation, refl, sym, ◌∙◌, ap, subst, append_assoc, append-nil, length-append, arith}
 use Rattle.std.proofs.lemmas.Grind.{flat_map-append}
 use Rattle.solid_model.specs.Blocks.{ProblemParts}
 use Rattle.solid_model.specs.Limits.{most_page_choices}
@@ -112,10 +112,6 @@ module _ (before old now : Option (List Call)) (h : HandedParts) (more : List (L
           pages = accepted_pages p left.0;
           few = subst (λ (xs : List (List Bool)). length xs ≤ most) (sym out.all) left.1;
         }
-
--- what is handed out with what is then left is what it was before
-pub page_part : (n : ℕ) (h l whole part rest : List (List Bool)) → h ++ l ≡ whole → part ≡ take n l → rest ≡ drop n l → (h ++ part) ++ rest ≡ whole
-page_part n h l whole part rest e f k = append_assoc h part rest ∙ ap (λ xs. h ++ xs) (rw (f, k) (take-append-drop n l)) ∙ e
 
 -- at first nothing is handed out
 pub none_yet : (b : Option (List Call)) → IsHandedOut b b record { choices = []; pages = 0 }

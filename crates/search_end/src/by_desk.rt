@@ -65,7 +65,7 @@ fn search_alone<P: PageOut>(
     match search_whole(alloc, problem, limits) {
         Ok(desk) => {
             let handed = Handed::new(alloc);
-            finish(alloc, problem, limits, desk, handed, pages)
+            finish(alloc, problem, limits, desk, &[], handed, pages)
         }
         Err(_) => Err(RunFault::Memory),
     }

@@ -5,11 +5,12 @@
 //! out, and lists what was handed out in the stated order. A worker that did nothing, or that
 //! couldn't be started, costs time and no answer.
 
-ghost use Rattle.std.specs.Prelude.{◌≡◌, ◌≤◌, ◌++◌, ℕ, List, Option, Some, length, IsTrue, IfOk, IfSome, OnOk, IsPermutation, MatchResult};
+ghost use Rattle.std.specs.Prelude.{◌≡◌, ◌≤◌, ◌++◌, [], ℕ, List, Option, Some, length, IsTrue, IfOk, IfSome, OnOk, IsPermutation, MatchResult};
+ghost use Rattle.std.specs.Vec.Iter.{into_iter_items};
 ghost use Rattle.std.specs.Arc.{arc_value};
 ghost use Rattle.solid_model.specs.Blocks.{ProblemParts};
 ghost use Rattle.solid_model.specs.Forcing.{is_live};
-ghost use Rattle.solid_model.specs.Limits.{most_solid_limit};
+ghost use Rattle.solid_model.specs.Limits.{most_page_choices, most_solid_limit};
 ghost use Rattle.solid_model.specs.SearchEnds.{EndsSearch};
 ghost use Rattle.search_core.specs.Desk.{IsDesk};
 ghost use Rattle.search_tree.specs.BlockPaths.{IsWayOf};
@@ -17,15 +18,17 @@ ghost use Rattle.search_end.specs.Answers.{IsAnswer, IsAnswerList};
 ghost use Rattle.search_end.specs.Handed.{AreFewSolutions, BreaksOff, HandsOn, IsHandedOut};
 ghost use Rattle.page_calls.specs.Pages.{Call, CountsFaults, HasPaged, HasAllPaged};
 
+use crate::ascents::in_order;
 use crate::desk_search::{begin_from, go_on};
 use crate::handed::{Handed, PAGE};
 use crate::left::left_over;
 use page_calls::{PageOut, RunFault};
 use search_core::Desk;
 use search_tree::BlockPath;
-use solid_model::{Axis, Choice, EndKind, Ended, Limits, Memory, Problem, sort_choices};
+use solid_model::{Axis, Choice, EndKind, Ended, Limits, Memory, Problem};
 use std::alloc::Global;
 use std::sync::Arc;
+use std::vec::IntoIter;
 
 /// Whether a desk is of this problem and within these limits.
 pub fn is_of(desk: &Desk, problem: &Problem, limits: Limits) -> bool
@@ -150,8 +153,27 @@ fn settled(
     Ok((desk, kind, left))
 }
 
+/// The next page of what is left: as many choices as a page may have, or all if they are fewer. An
+/// `Err` is out of memory.
+fn next_page(alloc: Global, left: &mut IntoIter<Choice>) -> Result<Vec<Choice>, Memory>
+    ensures parts { IfOk result (λ page.
+        into_iter_items left.old ≡ page.items ++ into_iter_items left.new) }
+    ensures few { IfOk result (λ page. length page.items ≤ most_page_choices) }
+    ensures all { IfOk result (λ page. page.items ≡ [] → into_iter_items left.new ≡ []) }
+{
+    let mut page = Vec::new(alloc);
+    for _ in 0..PAGE {
+        let Some(choice) = left.next() else {
+            return Ok(page);
+        };
+        page.push(choice)?;
+    }
+    Ok(page)
+}
+
 /// Hands out what is left, page by page. An `Err` is that of a page, or out of memory.
 fn hand_rest<P: PageOut>(
+    alloc: Global,
     pages: &mut P,
     handed: &mut Handed,
     left: Vec<Choice>,
@@ -166,59 +188,62 @@ fn hand_rest<P: PageOut>(
     ensures faults { CountsFaults (P.faults pages.old) (P.faults pages.new) result
         RunFault.PageFault }
 {
-    let mut left = left;
-    while left.len() > PAGE {
-        let Ok(later) = left.split_off(PAGE) else {
+    let mut left = left.into_iter();
+    loop {
+        let Ok(page) = next_page(alloc, &mut left) else {
             return Err(RunFault::Memory);
         };
-        match handed.hand_out(pages, left) {
-            Ok(()) => left = later,
-            Err(fault) => return Err(fault),
+        if page.is_empty() {
+            return Ok(());
+        }
+        if let Err(fault) = handed.hand_out(pages, page) {
+            return Err(fault);
         }
     }
-    if left.is_empty() {
-        return Ok(());
-    }
-    handed.hand_out(pages, left)
 }
 
-/// The answer of a desk that has ended so, where these are listed.
+/// The answer of a desk that has ended so, where these are listed, which were found by reports that
+/// may end where so many are found. An `Err` is out of memory.
 pub fn answer(
+    alloc: Global,
     problem: &Problem,
     limits: Limits,
     desk: &Desk,
     kind: EndKind,
     solids: Vec<Choice>,
-) -> Ended
+    ends: &[usize],
+) -> Result<Ended, Memory>
     requires problem { desk.now.problem ≡ problem.now }
     requires limits { desk.now.limits ≡ limits }
     requires end { desk.now.end ≡ Some kind }
     requires solids { IsAnswerList problem.now limits desk.now.found solids.items }
-    ensures answer { EndsSearch (is_live problem.now) problem.now.blocks.count limits result }
-    ensures desk { IsAnswer problem.now limits result desk.now }
-    ensures moved { IsPermutation solids.items result.solids }
+    ensures answer { IfOk result
+        (EndsSearch (is_live problem.now) problem.now.blocks.count limits) }
+    ensures desk { IfOk result (λ e. IsAnswer problem.now limits e desk.now) }
+    ensures moved { IfOk result (λ e. IsPermutation solids.items e.solids) }
 {
     // Looks at the problem tell that its blocks are those of its grid, and its grid a drawing's.
     let _coordinates = problem.grid().coordinates(Axis::X);
     let opened = desk.opened();
-    let mut solids = solids;
-    sort_choices(&mut solids);
-    Ended {
+    let solids = in_order(alloc, solids, ends)?;
+    Ok(Ended {
         kind,
         opened,
         solids,
-    }
+    })
 }
 
 /// Ends a search by its desk, or by a new one where that is of another problem or within other
 /// limits: makes the events that are missing, by a way of its own, and hands out what was found and
 /// not yet handed out, as far as the limit of solids has room. The answer lists what was handed
-/// out. An `Err` is that of a page, or out of memory.
+/// out. Where reports ended, by how many choices were found then, is a hint for its sort. An `Err`
+/// is that of a page, or out of memory.
 pub fn finish<P: PageOut>(
     alloc: Global,
     problem: &Arc<Problem>,
     limits: Limits,
     desk: Desk,
+    ends: &[usize],
     handed: Handed,
     pages: &mut P,
 ) -> Result<(Ended, Desk), RunFault>
@@ -239,10 +264,13 @@ pub fn finish<P: PageOut>(
         Ok(settled) => settled,
         Err(_) => return Err(RunFault::Memory),
     };
-    match hand_rest(pages, &mut handed, left) {
+    match hand_rest(alloc, pages, &mut handed, left) {
         Ok(()) => {
-            let ended = answer(problem, limits, &desk, kind, handed.into_choices());
-            Ok((ended, desk))
+            let listed = handed.into_choices();
+            match answer(alloc, problem, limits, &desk, kind, listed, ends) {
+                Ok(ended) => Ok((ended, desk)),
+                Err(_) => Err(RunFault::Memory),
+            }
         }
         Err(fault) => Err(fault),
     }

@@ -4,6 +4,7 @@
 //! A crate of its own below the workers: half of the proofs need nothing of threads.
 #![tactic(auto)]
 
+mod ascents;
 mod by_desk;
 mod closing;
 mod desk_search;

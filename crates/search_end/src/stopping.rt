@@ -7,11 +7,12 @@ ghost use Rattle.search_end.specs.Answers.{IsAnswerList, new_ones};
 ghost use Rattle.search_end.specs.Handed.{AreFewSolutions};
 ghost use Rattle.search_end.specs.Stopped.{IsEndOf, IsStopped, ListsAll, ListsFound, WasStopped};
 
+use crate::ascents::in_order;
 use crate::closing::{answer, ended_desk, is_of};
 use crate::desk_search::begin;
 use crate::left::left_over;
 use search_core::Desk;
-use solid_model::{Axis, Choice, EndKind, Ended, Limits, Memory, Problem, sort_choices};
+use solid_model::{Axis, Choice, EndKind, Ended, Limits, Memory, Problem};
 use std::alloc::Global;
 use std::sync::Arc;
 
@@ -95,21 +96,27 @@ fn list_of(
     Ok(list)
 }
 
-/// The list of a search that was stopped at this desk, in the stated order.
-fn stopped_list(problem: &Problem, limits: Limits, desk: &Desk, list: Vec<Choice>) -> Vec<Choice>
+/// The list of a search that was stopped at this desk, in the stated order. An `Err` is out of
+/// memory.
+fn stopped_list(
+    alloc: Global,
+    problem: &Problem,
+    limits: Limits,
+    desk: &Desk,
+    list: Vec<Choice>,
+) -> Result<Vec<Choice>, Memory>
     requires problem { desk.now.problem ≡ problem.now }
     requires limits { desk.now.limits ≡ limits }
     requires going { desk.now.end ≡ None }
     requires list { IsAnswerList problem.now limits desk.now.found list.items }
-    ensures stopped { IsStopped problem.now limits desk.now result.items }
-    ensures moved { IsPermutation list.items result.items }
+    ensures stopped { IfOk result (λ solids. IsStopped problem.now limits desk.now solids.items) }
+    ensures moved { IfOk result (λ solids. IsPermutation list.items solids.items) }
 {
     // Looks at the problem tell that its blocks are those of its grid, and its grid a drawing's.
     let _coordinates = problem.grid().coordinates(Axis::X);
     let _opened = desk.opened();
-    let mut solids = list;
-    sort_choices(&mut solids);
-    solids
+    let solids = in_order(alloc, list, &[])?;
+    Ok(solids)
 }
 
 /// Ends a search by its desk, or by a new one where that is of another problem or within other
@@ -134,11 +141,11 @@ pub fn end_search(
     let list = list_of(alloc, problem, limits, &desk, handed)?;
     match end {
         Some(kind) => {
-            let ended = answer(problem, limits, &desk, kind, list);
+            let ended = answer(alloc, problem, limits, &desk, kind, list, &[])?;
             Ok(SearchEnd::Ended { ended, desk })
         }
         None => {
-            let solids = stopped_list(problem, limits, &desk, list);
+            let solids = stopped_list(alloc, problem, limits, &desk, list)?;
             Ok(SearchEnd::Stopped { desk, solids })
         }
     }

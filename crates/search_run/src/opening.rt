@@ -69,14 +69,15 @@ pub fn readers_of<B: Wait + Drop>(
     Ok(own)
 }
 
-/// A room for so many workers at a desk, with its book, and so many readers of that. An `Err` is
-/// out of memory.
+/// A room for so many workers at a desk, with its book, and so many readers of that, who read it or
+/// don't. An `Err` is out of memory.
 pub fn room_for<'a, R: Wait>(
     rt: &'a R,
     alloc: Global,
     problem: &Arc<Problem>,
     workers: u32,
     readers: u32,
+    is_read: bool,
     desk: Desk,
 ) -> Result<(Room<&'a R>, Vec<BookReader<&'a R>>), Memory>
     requires problem { desk.problem ≡ arc_value problem.now }
@@ -84,5 +85,8 @@ pub fn room_for<'a, R: Wait>(
     ensures { IfOk result (λ r. length r.1.items ≡ readers) }
 {
     let (book, others) = Book::begin(rt, alloc, Arc::try_clone(problem)?, readers)?;
-    Ok((Room::new(Shared::new(desk, book, workers)), others))
+    Ok((
+        Room::new(Shared::new(alloc, desk, book, is_read, workers)),
+        others,
+    ))
 }

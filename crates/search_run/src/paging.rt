@@ -117,6 +117,9 @@ fn page_all<B: Wait + Drop, R: Wait, G: Gate, P: PageOut>(
 {
     let mut reader = reader;
     let handed = Handed::new(alloc);
+    if !pages.listens() {
+        return Ok(handed);
+    }
     if !is_book_of(&mut reader, shop.problem) {
         return Ok(handed);
     }

@@ -162,11 +162,12 @@ impl<B: Wait + Drop> Room<B> {
         self.news.notify_all();
     }
 
-    /// The desk, once all workers have left.
-    pub fn into_desk(self) -> Desk {
+    /// The desk, once all workers have left, and where reports ended, by how many choices were found
+    /// then.
+    pub fn into_desk(self) -> (Desk, Vec<usize>) {
         let Room { shared, .. } = self;
-        let (desk, book) = shared.into_inner().into_parts();
+        let (desk, book, ends) = shared.into_inner().into_parts();
         book.end();
-        desk
+        (desk, ends)
     }
 }

@@ -42,17 +42,19 @@ fn seats_for(alloc: Global, workers: u32, desk: &Desk) -> Result<Vec<WorkerSeat>
     seats_at(alloc, workers, desk)
 }
 
-/// A room for so many workers at a desk, and a reader of its book. An `Err` is out of memory.
+/// A room for so many workers at a desk, and a reader of its book, who reads it or doesn't. An `Err`
+/// is out of memory.
 fn room_and_reader<'a, R: Wait>(
     rt: &'a R,
     alloc: Global,
     problem: &Arc<Problem>,
     workers: u32,
+    is_read: bool,
     desk: Desk,
 ) -> Result<(Room<&'a R>, BookReader<&'a R>), Memory>
     requires { desk.problem ≡ arc_value problem.now }
 {
-    let (room, mut readers) = room_for(rt, alloc, problem, workers, 1, desk)?;
+    let (room, mut readers) = room_for(rt, alloc, problem, workers, 1, is_read, desk)?;
     match readers.pop() {
         Some(reader) => Ok((room, reader)),
         None => Err(Memory),
@@ -89,7 +91,8 @@ pub fn run_search<R: Threads + Wait + Sync, G: Gate, P: PageOut>(
     let Ok(seats) = seats_for(alloc, workers, &desk) else {
         return Err(RunFault::Memory);
     };
-    let Ok((room, reader)) = room_and_reader(rt, alloc, &problem, workers, desk) else {
+    let is_read = pages.listens();
+    let Ok((room, reader)) = room_and_reader(rt, alloc, &problem, workers, is_read, desk) else {
         return Err(RunFault::Memory);
     };
     let handed = {
@@ -103,7 +106,10 @@ pub fn run_search<R: Threads + Wait + Sync, G: Gate, P: PageOut>(
         search_together(rt, alloc, &shop, path, seats, reader, pages)
     };
     match handed {
-        Ok(handed) => finish(alloc, &problem, limits, room.into_desk(), handed, pages),
+        Ok(handed) => {
+            let (desk, ends) = room.into_desk();
+            finish(alloc, &problem, limits, desk, &ends, handed, pages)
+        }
         Err(fault) => Err(fault),
     }
 }

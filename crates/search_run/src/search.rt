@@ -74,7 +74,7 @@ impl<'a, R: Wait> Search<&'a R> {
     {
         let (_, desk) = set_up(alloc, &problem, limits)?;
         let seats = search_seats(alloc, seats_at(alloc, workers, &desk)?)?;
-        let (room, others) = room_for(rt, alloc, &problem, workers, readers, desk)?;
+        let (room, others) = room_for(rt, alloc, &problem, workers, readers, true, desk)?;
         let others = readers_of(alloc, &problem, others)?;
         let search = Search {
             problem,
@@ -121,7 +121,8 @@ impl<B: Wait + Drop> Search<B> {
     /// afterwards may never return.
     pub fn close(self) -> Desk {
         let Search { room, .. } = self;
-        room.into_desk()
+        let (desk, _) = room.into_desk();
+        desk
     }
 
     /// Ends it, once all workers have returned, and given all its seats. Where it is to go on, the

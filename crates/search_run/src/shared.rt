@@ -35,6 +35,11 @@ pub struct Answered {
 pub struct Shared<B: Wait + Drop> {
     desk: Desk,
     book: BookWriter<B>,
+    /// Whether somebody reads the book; else nothing is published.
+    is_read: bool,
+    /// How many choices were found where a report ended that found some, as far as there was memory
+    /// for it.
+    ends: Vec<usize>,
     at_work: u32,
     stop: bool,
     changes: u64,
@@ -58,14 +63,23 @@ impl<B: Wait + Drop> Shared<B> {
     ghost use Rattle.std.specs.Prelude.{◌≡◌};
     ghost use Rattle.search_run.specs.Shared.{IsShared};
 
-    /// What so many workers share when they start, all of whom count as at work.
-    pub fn new(desk: Desk, book: BookWriter<B>, workers: u32) -> Shared<B>
+    /// What so many workers share when they start, all of whom count as at work, and whether
+    /// somebody reads the book.
+    pub fn new(
+        alloc: Global,
+        desk: Desk,
+        book: BookWriter<B>,
+        is_read: bool,
+        workers: u32,
+    ) -> Shared<B>
         requires { IsShared record { desk = desk; edition = book.edition } }
         ensures { result ≡ record { desk = desk; edition = book.edition } }
     {
         Shared {
             desk,
             book,
+            is_read,
+            ends: Vec::new(alloc),
             at_work: workers,
             stop: false,
             changes: 0,
@@ -141,6 +155,14 @@ impl<B: Wait + Drop> Shared<B> {
         }
     }
 
+    /// Marks where a report ended that found some choices.
+    fn mark_end(&mut self) {
+        let found = self.desk.found().len();
+        if self.ends.last().copied().unwrap_or(0) < found {
+            let _marked = self.ends.push(found);
+        }
+    }
+
     /// Publishes what is found and not yet published. An `Err` is out of memory.
     fn publish_new(&mut self, alloc: Global) -> Result<(), Memory> {
         // A look at the problem tells that its blocks are those of its grid.
@@ -162,7 +184,10 @@ impl<B: Wait + Drop> Shared<B> {
         report: ReadyReport,
     ) -> Result<Option<Vec<Prefix>>, Memory> {
         let answer = self.note(report)?;
-        let _published = self.publish_new(alloc);
+        self.mark_end();
+        if self.is_read {
+            let _published = self.publish_new(alloc);
+        }
         if self.is_over() {
             return Ok(None);
         }
@@ -192,12 +217,17 @@ impl<B: Wait + Drop> Shared<B> {
         Answered { rest, news }
     }
 
-    /// The desk and its book.
-    pub fn into_parts(self) -> (Desk, BookWriter<B>)
+    /// The desk and its book, and where reports ended.
+    pub fn into_parts(self) -> (Desk, BookWriter<B>, Vec<usize>)
         ensures desk { result.0 ≡ self.desk }
         ensures book { result.1.edition ≡ self.edition }
     {
-        let Shared { desk, book, .. } = self;
-        (desk, book)
+        let Shared {
+            desk,
+            book,
+            ends,
+            ..
+        } = self;
+        (desk, book, ends)
     }
 }

@@ -75,7 +75,7 @@ fn are_in_order(choices: &[Choice]) -> bool {
 fn listed(alloc: Global, own: &Arc<Problem>, limits: Limits) -> Result<Vec<Choice>, Fail> {
     let desk = desk_of(alloc, own, limits)?;
     let handed = handed(alloc, own, limits)?;
-    match finish(alloc, own, limits, desk, handed, &mut NoPages) {
+    match finish(alloc, own, limits, desk, &[], handed, &mut NoPages) {
         Ok((ended, _desk)) => Ok(ended.solids),
         Err(_) => Err(Fail::new("no answer")),
     }
