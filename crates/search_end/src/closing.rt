@@ -18,10 +18,10 @@ ghost use Rattle.search_end.specs.Answers.{IsAnswer, IsAnswerList};
 ghost use Rattle.search_end.specs.Handed.{AreFewSolutions, BreaksOff, HandsOn, IsHandedOut};
 ghost use Rattle.page_calls.specs.Pages.{Call, CountsFaults, HasPaged, HasAllPaged};
 
-use crate::ascents::in_order;
 use crate::desk_search::{begin_from, go_on};
 use crate::handed::{Handed, PAGE};
 use crate::left::left_over;
+use crate::turns::{Mark, in_order};
 use page_calls::{PageOut, RunFault};
 use search_core::Desk;
 use search_tree::BlockPath;
@@ -203,7 +203,7 @@ fn hand_rest<P: PageOut>(
 }
 
 /// The answer of a desk that has ended so, where these are listed, which were found by reports that
-/// may end where so many are found. An `Err` is out of memory.
+/// are marked so. An `Err` is out of memory.
 pub fn answer(
     alloc: Global,
     problem: &Problem,
@@ -211,7 +211,7 @@ pub fn answer(
     desk: &Desk,
     kind: EndKind,
     solids: Vec<Choice>,
-    ends: &[usize],
+    marks: &[Mark],
 ) -> Result<Ended, Memory>
     requires problem { desk.now.problem ≡ problem.now }
     requires limits { desk.now.limits ≡ limits }
@@ -225,7 +225,7 @@ pub fn answer(
     // Looks at the problem tell that its blocks are those of its grid, and its grid a drawing's.
     let _coordinates = problem.grid().coordinates(Axis::X);
     let opened = desk.opened();
-    let solids = in_order(alloc, solids, ends)?;
+    let solids = in_order(alloc, solids, marks)?;
     Ok(Ended {
         kind,
         opened,
@@ -236,14 +236,14 @@ pub fn answer(
 /// Ends a search by its desk, or by a new one where that is of another problem or within other
 /// limits: makes the events that are missing, by a way of its own, and hands out what was found and
 /// not yet handed out, as far as the limit of solids has room. The answer lists what was handed
-/// out. Where reports ended, by how many choices were found then, is a hint for its sort. An `Err`
-/// is that of a page, or out of memory.
+/// out. The marks of the reports are a hint for its sort. An `Err` is that of a page, or out of
+/// memory.
 pub fn finish<P: PageOut>(
     alloc: Global,
     problem: &Arc<Problem>,
     limits: Limits,
     desk: Desk,
-    ends: &[usize],
+    marks: &[Mark],
     handed: Handed,
     pages: &mut P,
 ) -> Result<(Ended, Desk), RunFault>
@@ -267,7 +267,7 @@ pub fn finish<P: PageOut>(
     match hand_rest(alloc, pages, &mut handed, left) {
         Ok(()) => {
             let listed = handed.into_choices();
-            match answer(alloc, problem, limits, &desk, kind, listed, ends) {
+            match answer(alloc, problem, limits, &desk, kind, listed, marks) {
                 Ok(ended) => Ok((ended, desk)),
                 Err(_) => Err(RunFault::Memory),
             }

@@ -4,7 +4,6 @@
 //! A crate of its own below the workers: half of the proofs need nothing of threads.
 #![tactic(auto)]
 
-mod ascents;
 mod by_desk;
 mod closing;
 mod desk_search;
@@ -14,6 +13,7 @@ mod kept;
 mod laws;
 mod left;
 mod stopping;
+mod turns;
 
 pub use by_desk::{search_by_desk, set_up};
 pub use closing::finish;
@@ -23,3 +23,4 @@ pub use joined::join_choices;
 pub use kept::keep_all;
 pub use laws::stopped_searches_are_open;
 pub use stopping::{SearchEnd, end_search};
+pub use turns::Mark;

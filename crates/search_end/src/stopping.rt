@@ -7,10 +7,10 @@ ghost use Rattle.search_end.specs.Answers.{IsAnswerList, new_ones};
 ghost use Rattle.search_end.specs.Handed.{AreFewSolutions};
 ghost use Rattle.search_end.specs.Stopped.{IsEndOf, IsStopped, ListsAll, ListsFound, WasStopped};
 
-use crate::ascents::in_order;
 use crate::closing::{answer, ended_desk, is_of};
 use crate::desk_search::begin;
 use crate::left::left_over;
+use crate::turns::in_order;
 use search_core::Desk;
 use solid_model::{Axis, Choice, EndKind, Ended, Limits, Memory, Problem};
 use std::alloc::Global;

@@ -10,6 +10,7 @@
 
 use crate::shared::{Answered, Shared};
 use search_core::{Desk, ReadyReport};
+use search_end::Mark;
 use solid_model::{Memory, Prefix};
 use std::alloc::Global;
 use std::sync::atomic::{AtomicU32, Ordering};
@@ -29,6 +30,8 @@ pub struct Room<B: Wait + Drop> {
     news: Condvar,
     /// How many workers have found no piece: they look once more, or wait.
     idle: AtomicU32,
+    /// How many turns were begun. It goes on from 0 after the greatest `u32`.
+    turns: AtomicU32,
 }
 
 /// What the caller is told of a search: how many solids are published, and whether there will be no
@@ -47,6 +50,7 @@ impl<B: Wait + Drop> Room<B> {
             changed: Condvar::new(),
             news: Condvar::new(),
             idle: AtomicU32::new(0),
+            turns: AtomicU32::new(0),
         }
     }
 
@@ -76,6 +80,11 @@ impl<B: Wait + Drop> Room<B> {
     /// It has found one, or leaves.
     pub fn end_idle(&self) {
         self.idle.fetch_sub(1, Ordering::SeqCst);
+    }
+
+    /// A worker begins a turn with a piece of the pool: the number of the turn.
+    pub fn begin_turn(&self) -> u32 {
+        self.turns.fetch_add(1, Ordering::SeqCst)
     }
 
     /// How many workers are idle.
@@ -121,15 +130,16 @@ impl<B: Wait + Drop> Room<B> {
         self.wake_all();
     }
 
-    /// Reports. The rest is handed over; `None`: the worker is to leave. An `Err` is out of memory
-    /// before the report is taken.
+    /// Reports in a turn. The rest is handed over; `None`: the worker is to leave. An `Err` is out
+    /// of memory before the report is taken.
     pub fn report<R: Wait>(
         &self,
         rt: &R,
         alloc: Global,
         report: ReadyReport,
+        turn: u32,
     ) -> Result<Option<Vec<Prefix>>, Memory> {
-        let Answered { rest, news } = self.enter(rt).report(alloc, report);
+        let Answered { rest, news } = self.enter(rt).report(alloc, report, turn);
         if news {
             self.news.notify_all();
         }
@@ -162,12 +172,11 @@ impl<B: Wait + Drop> Room<B> {
         self.news.notify_all();
     }
 
-    /// The desk, once all workers have left, and where reports ended, by how many choices were found
-    /// then.
-    pub fn into_desk(self) -> (Desk, Vec<usize>) {
+    /// The desk, once all workers have left, and the marks of its reports.
+    pub fn into_desk(self) -> (Desk, Vec<Mark>) {
         let Room { shared, .. } = self;
-        let (desk, book, ends) = shared.into_inner().into_parts();
+        let (desk, book, marks) = shared.into_inner().into_parts();
         book.end();
-        (desk, ends)
+        (desk, marks)
     }
 }

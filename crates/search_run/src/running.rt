@@ -107,8 +107,8 @@ pub fn run_search<R: Threads + Wait + Sync, G: Gate, P: PageOut>(
     };
     match handed {
         Ok(handed) => {
-            let (desk, ends) = room.into_desk();
-            finish(alloc, &problem, limits, desk, &ends, handed, pages)
+            let (desk, marks) = room.into_desk();
+            finish(alloc, &problem, limits, desk, &marks, handed, pages)
         }
         Err(fault) => Err(fault),
     }

@@ -6,6 +6,7 @@
 //! a report that finds none wakes no caller.
 
 use search_core::{Desk, ReadyReport, Reported};
+use search_end::Mark;
 use solid_model::{Memory, Prefix};
 use solution_book::BookWriter;
 use std::alloc::Global;
@@ -37,9 +38,8 @@ pub struct Shared<B: Wait + Drop> {
     book: BookWriter<B>,
     /// Whether somebody reads the book; else nothing is published.
     is_read: bool,
-    /// How many choices were found where a report ended that found some, as far as there was memory
-    /// for it.
-    ends: Vec<usize>,
+    /// The marks of the reports that found some choices, as far as there was memory for them.
+    marks: Vec<Mark>,
     at_work: u32,
     stop: bool,
     changes: u64,
@@ -79,7 +79,7 @@ impl<B: Wait + Drop> Shared<B> {
             desk,
             book,
             is_read,
-            ends: Vec::new(alloc),
+            marks: Vec::new(alloc),
             at_work: workers,
             stop: false,
             changes: 0,
@@ -155,11 +155,15 @@ impl<B: Wait + Drop> Shared<B> {
         }
     }
 
-    /// Marks where a report ended that found some choices.
-    fn mark_end(&mut self) {
+    /// Marks a report of a turn, once it is made, if some choices were found with it.
+    fn mark(&mut self, turn: u32) {
         let found = self.desk.found().len();
-        if self.ends.last().copied().unwrap_or(0) < found {
-            let _marked = self.ends.push(found);
+        let before = match self.marks.last() {
+            Some(mark) => mark.found,
+            None => 0,
+        };
+        if before < found {
+            let _marked = self.marks.push(Mark { found, turn });
         }
     }
 
@@ -175,16 +179,17 @@ impl<B: Wait + Drop> Shared<B> {
         Ok(())
     }
 
-    /// Takes a report and publishes what is new. What can't be published, out of memory, the book
-    /// lacks from then on, and the desk has. The rest is handed over, unless the worker is to leave.
-    /// An `Err` is out of memory before the report is taken.
+    /// Takes a report of a turn and publishes what is new, if somebody reads it. What can't be
+    /// published, out of memory, the book lacks from then on, and the desk has. The rest is handed
+    /// over, unless the worker is to leave. An `Err` is out of memory before the report is taken.
     fn take_in(
         &mut self,
         alloc: Global,
         report: ReadyReport,
+        turn: u32,
     ) -> Result<Option<Vec<Prefix>>, Memory> {
         let answer = self.note(report)?;
-        self.mark_end();
+        self.mark(turn);
         if self.is_read {
             let _published = self.publish_new(alloc);
         }
@@ -210,24 +215,24 @@ impl<B: Wait + Drop> Shared<B> {
         true
     }
 
-    /// Takes a report and publishes what is new.
-    pub fn report(&mut self, alloc: Global, report: ReadyReport) -> Answered {
-        let rest = self.take_in(alloc, report);
+    /// Takes a report of a turn and publishes what is new.
+    pub fn report(&mut self, alloc: Global, report: ReadyReport, turn: u32) -> Answered {
+        let rest = self.take_in(alloc, report, turn);
         let news = self.tell();
         Answered { rest, news }
     }
 
-    /// The desk and its book, and where reports ended.
-    pub fn into_parts(self) -> (Desk, BookWriter<B>, Vec<usize>)
+    /// The desk and its book, and the marks of its reports.
+    pub fn into_parts(self) -> (Desk, BookWriter<B>, Vec<Mark>)
         ensures desk { result.0 ≡ self.desk }
         ensures book { result.1.edition ≡ self.edition }
     {
         let Shared {
             desk,
             book,
-            ends,
+            marks,
             ..
         } = self;
-        (desk, book, ends)
+        (desk, book, marks)
     }
 }

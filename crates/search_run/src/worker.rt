@@ -18,6 +18,8 @@ use steal_pool::WorkerSeat;
 #[derive(Drop)]
 pub struct Worker {
     number: u32,
+    /// The number of its turn: what it does from a piece of the pool on until it takes another one.
+    turn: u32,
     bench: Bench,
     kept: VecDeque<Prefix>,
 }
@@ -77,6 +79,7 @@ impl Worker {
     {
         Worker {
             number,
+            turn: 0,
             bench: Bench::new(number, seat),
             kept: VecDeque::new(alloc),
         }
@@ -85,6 +88,11 @@ impl Worker {
     /// Its number.
     pub fn number(&self) -> u32 {
         self.number
+    }
+
+    /// The number of its turn.
+    pub fn turn(&self) -> u32 {
+        self.turn
     }
 
     /// Its seats, handed back.
@@ -101,7 +109,10 @@ impl Worker {
     {
         match self.kept.pop_back() {
             Some(piece) => Some(piece),
-            None => find_or_idle(rt, room, &mut self.bench),
+            None => {
+                self.turn = room.begin_turn();
+                find_or_idle(rt, room, &mut self.bench)
+            }
         }
     }
 

@@ -40,14 +40,15 @@ fn report_of(
     }
 }
 
-/// Expands a piece and reports it. The rest is handed over; `None`: the worker is to leave. An
-/// `Err` is out of memory before the report is taken.
+/// Expands a piece and reports it in a turn. The rest is handed over; `None`: the worker is to
+/// leave. An `Err` is out of memory before the report is taken.
 fn work_at<B: Wait + Drop, R: Wait, G: Gate>(
     rt: &R,
     alloc: Global,
     shop: &Workshop<'_, B, G>,
     path: &mut BlockPath,
     worker: u32,
+    turn: u32,
     piece: &Prefix,
 ) -> Result<Option<Vec<Prefix>>, Memory>
     requires way { IsWayOf (arc_value shop.now.problem.now) path.old }
@@ -56,7 +57,7 @@ fn work_at<B: Wait + Drop, R: Wait, G: Gate>(
     shop.gate.pass(worker, Point::BeforeExpand);
     match report_of(alloc, path, shop.problem, worker, piece)? {
         Some(report) => {
-            let rest = shop.room.report(rt, alloc, report)?;
+            let rest = shop.room.report(rt, alloc, report, turn)?;
             shop.gate.pass(worker, Point::AfterReport);
             Ok(rest)
         }
@@ -80,7 +81,8 @@ fn go_round<B: Wait + Drop, R: Wait, G: Gate>(
         let Some(piece) = worker.next_piece(rt, shop.room) else {
             return;
         };
-        match work_at(rt, alloc, shop, path, worker.number(), &piece) {
+        let (number, turn) = (worker.number(), worker.turn());
+        match work_at(rt, alloc, shop, path, number, turn, &piece) {
             Ok(Some(rest)) => {
                 worker.keep_rest(rest);
                 worker.share(rt, shop.room);

@@ -7,7 +7,7 @@ use Rattle.lemmas.specs.Truth.{same_values}
 use Rattle.lemmas.proofs.Truth.{Decides-same_values}
 use Rattle.lemmas.proofs.Lists.{each-at, each-from}
 use Rattle.lemmas.proofs.Permutations.{member-permutation, once-permutation}
-use Rattle.search_end.proofs.ascents.in_order.Goals as goal
+use Rattle.search_end.proofs.turns.in_order.Goals as goal
 
 pub sort_choices-requires-clause-lengths : goal.sort_choices-requires-clause-lengths
 sort_choices-requires-clause-lengths c =
