@@ -1,8 +1,8 @@
 //! Gates that hold workers up until others have come as far, or give up.
 
+use super::pages::Refusing;
 use super::{TWICE_EIGHT_VOIDS, searched};
 use crate::searches::problem;
-use search_run::NoPages;
 use solid_model::Limits;
 use std::alloc::Global;
 use std::sync::Wait;
@@ -102,7 +102,8 @@ fn found_by_two<R: Threads + Wait + Sync, G: Gate>(
     gate: &G,
 ) -> Result<usize, Fail> {
     let problem = problem(alloc, [TWICE_EIGHT_VOIDS; 3])?;
-    match searched(rt, alloc, problem, Limits::DEFAULT, 2, gate, &mut NoPages) {
+    let mut pages = Refusing::after(u32::MAX);
+    match searched(rt, alloc, problem, Limits::DEFAULT, 2, gate, &mut pages) {
         Ok(ended) => Ok(ended.solids.len()),
         Err(_) => Err(Fail::from("no answer")),
     }

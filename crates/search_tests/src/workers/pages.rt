@@ -13,10 +13,21 @@ use tv_base::{OpenGate, SinkError};
 
 /// Takes so many pages and refuses the next one.
 #[derive(Drop)]
-struct Refusing {
+pub struct Refusing {
     taken: u32,
     most: u32,
     faults: u64,
+}
+
+impl Refusing {
+    /// Takes so many pages.
+    pub fn after(most: u32) -> Refusing {
+        Refusing {
+            taken: 0,
+            most,
+            faults: 0,
+        }
+    }
 }
 
 impl PageOut for Refusing {
@@ -42,11 +53,7 @@ impl PageOut for Refusing {
 fn ends_so<R: Threads + Wait + Sync>(rt: &R, alloc: Global, row: Row<'_>) -> Result<bool, Fail> {
     let [workers, most, ..] = row.parts;
     let most = most.parse().unwrap_or(0);
-    let mut pages = Refusing {
-        taken: 0,
-        most,
-        faults: 0,
-    };
+    let mut pages = Refusing::after(most);
     let problem = problem(alloc, [TWICE_EIGHT_VOIDS; 3])?;
     let limits = Limits::DEFAULT;
     let workers = workers_of(workers);
