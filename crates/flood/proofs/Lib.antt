@@ -8,3 +8,6 @@ pub mod LeadingOut
 pub mod RingRooms
 pub mod RingPassages
 pub mod PassageRooms
+pub mod RowPulls
+pub mod RowFloods
+pub mod RowCells

@@ -7,14 +7,18 @@
 mod cell_bars;
 mod flood;
 mod graph;
+mod leading;
 mod numbering;
 mod passages;
 mod ring;
 mod rooms;
+mod row_flood;
+mod row_words;
 mod walls;
 
 pub use flood::reached;
 pub use graph::Graph;
 pub use numbering::{Numbering, components, components_of};
-pub use rooms::{RoomNumbers, leading_out, rooms_of};
+pub use leading::leading_out;
+pub use rooms::{RoomNumbers, rooms_of};
 pub use walls::Walls;

@@ -1,18 +1,16 @@
 //! The rooms of a box with walls.
 
-ghost use Rattle.std.specs.Prelude.{◌≡◌, ◌≤◌, false, length, slice_index_or, IsTrue, IfOk};
+ghost use Rattle.std.specs.Prelude.{◌≡◌, ◌≤◌, IsTrue, IfOk};
 ghost use Rattle.flood.specs.Graph.{component};
 ghost use Rattle.flood.specs.Ring.{ring_place, room_of, AreRoomNumbers};
 ghost use Rattle.solid_model.specs.declared.cell.Axis.{Axis};
-ghost use Rattle.solid_model.specs.Marks.{AreMarksOf};
 ghost use Rattle.solid_model.specs.PerAxis.{numbers_of, cell_of};
-ghost use Rattle.solid_model.specs.Rooms.{is_within, LeadsOut, AreRooms};
+ghost use Rattle.solid_model.specs.Rooms.{is_within, AreRooms};
 
-use crate::flood::reached;
 use crate::numbering::components;
 use crate::ring::{outer, passages, ringed};
 use crate::walls::Walls;
-use solid_model::{Marks, Memory, PerAxis};
+use solid_model::{Memory, PerAxis};
 use std::alloc::Global;
 
 /// The node of the ringed box that stands for a cell of the box.
@@ -22,40 +20,6 @@ fn node_of(sizes: PerAxis, cell: PerAxis) -> usize
     ensures { result ≡ ring_place (numbers_of sizes) (cell_of cell) }
 {
     ringed(sizes).place(outer(cell))
-}
-
-/// A node is told as reached.
-fn is_reached(nodes: &[bool], node: usize) -> bool
-    ensures { result ≡ slice_index_or nodes.now node false }
-{
-    node < nodes.len() && nodes[node]
-}
-
-/// The marks on the cells of a box whose nodes in the ringed box are reached.
-fn reached_cells(alloc: Global, sizes: PerAxis, nodes: &[bool]) -> Result<Marks, Memory>
-    requires { (a : Axis) → numbers_of sizes a ≤ 1022 }
-    ensures { IfOk result (λ marks. AreMarksOf (numbers_of sizes)
-        (λ n. IsTrue (slice_index_or nodes.now (ring_place (numbers_of sizes) n) false)) marks) }
-{
-    let count = sizes.count();
-    let mut values = Vec::with_capacity(alloc, count)?;
-    let mut cell = PerAxis::FIRST;
-    for place in 0..count {
-        cell = sizes.next_cell(cell, place);
-        values.push_reserved(is_reached(nodes, node_of(sizes, cell)));
-    }
-    Ok(Marks::new(sizes, values))
-}
-
-/// The cells of a box from which a chain of steps that pass no wall leads out of it, in time that
-/// grows with its cells. An `Err` is out of memory.
-pub fn leading_out<W: Walls>(alloc: Global, walls: &W) -> Result<Marks, Memory>
-    ensures { IfOk result (λ marks. AreMarksOf (W.sizes walls.now)
-        (LeadsOut (W.sizes walls.now) (λ a n. IsTrue (W.stands walls.now a n))) marks) }
-{
-    let reached = reached(alloc, &passages(alloc, walls)?, 0)?;
-    let marks = reached_cells(alloc, walls.sizes(), reached.as_slice())?;
-    Ok(marks)
 }
 
 /// The rooms of a box: for each cell, z slowest and x fastest, the number of its room, or none

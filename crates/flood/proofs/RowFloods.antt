@@ -1,0 +1,184 @@
+-- Rows of cells that grow by steps.
+use Rattle.std.proofs.Common.{◌≡◌, ◌≢◌, ◌⊎◌, inl, inr, Bool, true, false, ◌||◌, ◌&&◌, nat_le, ℕ, zero, suc, ◌+◌, ◌-◌, ◌<◌, ◌≤◌, ◌^◌, List, [], ◌∷◌, length, slice_index_or, get_or, set, IsTrue, refl, ap, sym, subst, ◌∙◌, arith}
+use Rattle.std.proofs.lemmas.Bool.{false≢true, and_parts, or_left, or_cases, cases_eq, leb-true}
+use Rattle.std.proofs.lemmas.List.{length-set, get_or-set_same, get_or-set_other}
+use Rattle.lemmas.specs.Bits.{is_set}
+use Rattle.lemmas.specs.Chains.{Reaches}
+use Rattle.lemmas.proofs.Chains.{reaches-itself, reaches-step, reaches-onward}
+use Rattle.flood.specs.RowFlood.{RowParts, has_cell, IsNext, Joins, is_across, is_along, is_pulled, IsClosedRow, room, Grows, Pulls, Sweeps, Floods}
+
+-- a chain of steps leads to a cell from one of these
+abbrev pub IsReached : RowParts → List ℕ → ℕ × ℕ → Type 0
+IsReached w rows q = (p : ℕ × ℕ) × IsTrue (has_cell rows p.0 p.1) × Reaches (Joins w) p q
+
+module _ (w : RowParts) (rows : List ℕ) where
+  one_step : (p q : ℕ × ℕ) → IsTrue (has_cell rows p.0 p.1) → Joins w p q → IsReached w rows q
+  one_step p q has step = (p, has, reaches-step (Joins w) p q step)
+
+  -- a step across rows
+  across_reached : (ways : List ℕ) (stride r k : ℕ)
+      → ((p q : ℕ × ℕ) → q ≡ (p.0 + stride, p.1) → IsTrue (has_cell ways q.0 q.1) → IsNext w p q)
+      → is_across ways stride rows r k ≡ true → IsReached w rows (r, k)
+  across_reached ways stride r k next e = by (or_cases _ _ e)
+    where
+      by : ((nat_le stride r && (has_cell rows (r - stride) k && has_cell ways r k)) ≡ true) ⊎ ((has_cell rows (r + stride) k && has_cell ways (r + stride) k) ≡ true)
+          → IsReached w rows (r, k)
+      by (inl before) =
+          let far = and_parts (nat_le stride r) (has_cell rows (r - stride) k && has_cell ways r k) before in
+          let both = and_parts (has_cell rows (r - stride) k) (has_cell ways r k) far.1 in
+          let l = leb-true stride r far.0 in
+          let back : r ≡ (r - stride) + stride = omega arith in
+          one_step (r - stride, k) (r, k) both.0 (inl (next (r - stride, k) (r, k) (ap (λ n. (n, k)) back) both.1))
+      by (inr after) =
+          let both = and_parts (has_cell rows (r + stride) k) (has_cell ways (r + stride) k) after in
+          one_step (r + stride, k) (r, k) both.0 (inr (next (r, k) (r + stride, k) refl both.1))
+
+  along_reached : (r k : ℕ) → is_along w.along rows r k ≡ true → IsReached w rows (r, k)
+  along_reached r zero e = absurd (false≢true e)
+  along_reached r (suc k) e =
+      let both = and_parts (has_cell rows r k) (has_cell w.along r (suc k)) e in
+      one_step (r, k) (r, suc k) both.0 (inl (inl (refl, both.1)))
+
+  -- each cell that is pulled is reached
+  pub pulled_reached : (r k : ℕ) → is_pulled w rows r k ≡ true → IsReached w rows (r, k)
+  pulled_reached r k e = own (or_cases _ _ e)
+    where
+      across : (is_across w.beside 1 rows r k ≡ true) ⊎ (is_across w.behind w.layer rows r k ≡ true) → IsReached w rows (r, k)
+      across (inl e) = across_reached w.beside 1 r k (λ p q next way. inr (inl (next, way))) e
+      across (inr e) = across_reached w.behind w.layer r k (λ p q next way. inr (inr (next, way))) e
+
+      back : ((has_cell rows r (suc k) && has_cell w.along r (suc k)) ≡ true)
+          ⊎ ((is_across w.beside 1 rows r k || is_across w.behind w.layer rows r k) ≡ true) → IsReached w rows (r, k)
+      back (inl e) =
+          let both = and_parts (has_cell rows r (suc k)) (has_cell w.along r (suc k)) e in
+          one_step (r, suc k) (r, k) both.0 (inr (inl (refl, both.1)))
+      back (inr e) = across (or_cases _ _ e)
+
+      along : (is_along w.along rows r k ≡ true)
+          ⊎ (((has_cell rows r (suc k) && has_cell w.along r (suc k)) || (is_across w.beside 1 rows r k || is_across w.behind w.layer rows r k)) ≡ true)
+          → IsReached w rows (r, k)
+      along (inl e) = along_reached r k e
+      along (inr e) = back (or_cases _ _ e)
+
+      own : (has_cell rows r k ≡ true) ⊎ ((is_along w.along rows r k
+          || ((has_cell rows r (suc k) && has_cell w.along r (suc k)) || (is_across w.beside 1 rows r k || is_across w.behind w.layer rows r k))) ≡ true)
+          → IsReached w rows (r, k)
+      own (inl e) = ((r, k), e, reaches-itself (Joins w) (r, k))
+      own (inr e) = along (or_cases _ _ e)
+
+-- ---- room
+
+-- a word that isn't smaller takes none more,
+room_kept : (rows : List ℕ) (r word : ℕ) → get_or rows r 0 ≤ word → room (set rows r word) ≤ room rows
+room_kept [] r word l = omega arith
+room_kept (n ∷ rows) zero word l = omega arith
+room_kept (n ∷ rows) (suc r) word l = let rest = room_kept rows r word l in omega arith
+
+-- and a greater one leaves less
+room_less : (rows : List ℕ) (r word : ℕ) → r < length rows → get_or rows r 0 < word → word < 2 ^ 64 → room (set rows r word) < room rows
+room_less [] r word within l fits = absurd (omega arith)
+room_less (n ∷ rows) zero word within l fits = omega arith
+room_less (n ∷ rows) (suc r) word within l fits = let rest = room_less rows r word (omega arith) l fits in omega arith
+
+-- ---- growth
+
+module _ (w : RowParts) where
+  pub grows_none : (rows : List ℕ) → Grows w rows rows
+  grows_none rows = record {
+    size = refl;
+    kept = λ r k h. h;
+    reached = λ r k h. ((r, k), h, reaches-itself (Joins w) (r, k));
+    room = omega arith;
+  }
+
+  pub grows_then : (a b c : List ℕ) → Grows w a b → Grows w b c → Grows w a c
+  grows_then a b c first then = record {
+    size = then.size ∙ first.size;
+    kept = λ r k h. then.kept r k (first.kept r k h);
+    reached = λ r k h.
+        let late = then.reached r k h in
+        let early = first.reached late.0.0 late.0.1 late.1 in
+        (early.0, early.1, reaches-onward (Joins w) early.0 late.0 (r, k) early.2 late.2);
+    room = let l = first.room in let m = then.room in omega arith;
+  }
+
+  -- a row with the cells to which one step leads
+  pub grows_one : (rows : List ℕ) (r word : ℕ) → r < length rows → get_or rows r 0 ≤ word → ((k : ℕ) → is_set word k ≡ is_pulled w rows r k)
+      → Grows w rows (set rows r word)
+  grows_one rows r word within more cells = record {
+    size = length-set rows r word;
+    kept = λ s k h. elim (cases_eq s r) as (λ _. IsTrue (has_cell (set rows r word) s k)) [
+      | inl e ↦ here s k e ∙ or_left (has_cell rows r k) _ (ap (λ t. has_cell rows t k) (sym e) ∙ h)
+      | inr apart ↦ there s k apart ∙ h
+    ];
+    reached = λ s k h. elim (cases_eq s r) as (λ _. IsReached w rows (s, k)) [
+      | inl e ↦ subst (λ t. IsReached w rows (t, k)) (sym e) (pulled_reached w rows r k (sym (here s k e) ∙ h))
+      | inr apart ↦ ((s, k), sym (there s k apart) ∙ h, reaches-itself (Joins w) (s, k))
+    ];
+    room = room_kept rows r word more;
+  }
+    where
+      here : (s k : ℕ) → s ≡ r → has_cell (set rows r word) s k ≡ is_pulled w rows r k
+      here s k e = ap (λ t. has_cell (set rows r word) t k) e ∙ ap (λ n. is_set n k) (get_or-set_same rows r word 0 within) ∙ cells k
+
+      there : (s k : ℕ) → s ≢ r → has_cell (set rows r word) s k ≡ has_cell rows s k
+      there s k apart = ap (λ n. is_set n k) (get_or-set_other rows r s word 0 apart)
+
+  -- a row that stays as it is,
+  pub pulls_none : (rows : List ℕ) (r word : ℕ) → ((k : ℕ) → is_set word k ≡ is_pulled w rows r k) → word ≡ get_or rows r 0 → Pulls w r rows rows false
+  pulls_none rows r word cells same = record {
+    grows = grows_none rows;
+    same = λ _. refl;
+    closed = λ _ k h. ap (λ n. is_set n k) (sym same) ∙ cells k ∙ h;
+    more = λ e. absurd (false≢true e);
+  }
+
+  -- and one that gets more cells
+  pub pulls_more : (rows : List ℕ) (r word : ℕ) → r < length rows → get_or rows r 0 ≤ word → word ≢ get_or rows r 0 → word < 2 ^ 64
+      → ((k : ℕ) → is_set word k ≡ is_pulled w rows r k) → Pulls w r rows (set rows r word) true
+  pulls_more rows r word within more other fits cells = record {
+    grows = grows_one rows r word within more cells;
+    same = λ e. absurd (false≢true (sym e));
+    closed = λ e. absurd (false≢true (sym e));
+    more = λ _. room_less rows r word within (omega (arith, more, other)) fits;
+  }
+
+  -- ---- sweeps
+
+  pub sweeps_none : (rows : List ℕ) → Sweeps w 0 rows rows false
+  sweeps_none rows = record {
+    grows = grows_none rows;
+    same = λ _. refl;
+    closed = λ _ r l. absurd (omega arith);
+    more = λ e. absurd (false≢true e);
+  }
+
+  -- a row has grown,
+  pub sweeps_grown : (turn r : ℕ) (a b c : List ℕ) (grown : Bool) → Sweeps w turn a b grown → Pulls w r b c true → Sweeps w turn a c true
+  sweeps_grown turn r a b c grown so_far pulls = record {
+    grows = grows_then a b c so_far.grows pulls.grows;
+    same = λ e. absurd (false≢true (sym e));
+    closed = λ e. absurd (false≢true (sym e));
+    more = λ _. (let l = so_far.grows.room in let m = pulls.more refl in omega arith);
+  }
+
+  -- or the next one has its turn
+  pub sweeps_on : (turn r : ℕ) (a b c : List ℕ) (grown : Bool) → Sweeps w turn a b grown → Pulls w r b c false → (turn < length a → r ≡ turn)
+      → Sweeps w (turn + 1) a c grown
+  sweeps_on turn r a b c grown so_far pulls early = record {
+    grows = grows_then a b c so_far.grows pulls.grows;
+    same = λ e. pulls.same refl ∙ so_far.same e;
+    closed = λ e s l within. elim (cases_eq s turn) as (λ _. IsClosedRow w a s) [
+      | inl is ↦ subst (IsClosedRow w a) (early (omega (arith, is, within)) ∙ sym is) (subst (λ rows. IsClosedRow w rows r) (so_far.same e) (pulls.closed refl))
+      | inr other ↦ so_far.closed e s (omega (arith, l, other)) within
+    ];
+    more = λ e. (let l = so_far.more e in let m = pulls.grows.room in omega arith);
+  }
+
+  -- the last sweep leads to no further cells
+  pub floods_end : (rows b c : List ℕ) (turns : ℕ) → Grows w rows b → Sweeps w turns b c false → turns ≡ length b → Floods w rows c
+  floods_end rows b c turns so_far last all = record {
+    grows = grows_then rows b c so_far last.grows;
+    closed = λ r l. subst (λ cells. IsClosedRow w cells r) (sym (last.same refl))
+        (let size = ap length (last.same refl) in last.closed refl r (omega (arith, l, size, all)) (omega (arith, l, size)));
+  }

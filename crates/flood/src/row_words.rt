@@ -1,0 +1,112 @@
+//! What is true of the cells of a box with walls, as words: a word is a row of cells along x, and a
+//! bit of it a cell.
+
+ghost use Rattle.std.specs.Prelude.{◌≡◌, ◌≤◌, ◌<◌, ◌+◌, ℕ, pos, IsTrue, IfOk};
+ghost use Rattle.flood.specs.RowWords.{opens_back, opens_out, leads_at_once, is_told, AreRowWords, row_bit};
+ghost use Rattle.lemmas.specs.Bits.{is_set};
+ghost use Rattle.solid_model.specs.Cells.{cell_at, cell_before, cell_after};
+ghost use Rattle.solid_model.specs.declared.cell.Axis.TheVariants.{X, Y, Z};
+ghost use Rattle.solid_model.specs.PerAxis.{numbers_of, cell_of, AreFew};
+ghost use Rattle.solid_model.specs.Rooms.{is_within};
+
+use crate::walls::Walls;
+use solid_model::{Axis, Memory, PerAxis};
+use std::alloc::Global;
+
+/// What a bit tells of its cell.
+#[derive(Clone, Copy, Debug)]
+pub enum Told {
+    /// Nothing stands between it and the cell before it in the box, along an axis.
+    OpensBack(Axis),
+    /// Nothing stands between it and a cell outside.
+    LeadsOut,
+}
+
+/// The cell before one along an axis is one of the box.
+fn has_before(sizes: PerAxis, axis: Axis, cell: PerAxis) -> bool
+    ensures { result ≡ is_within (numbers_of sizes) (cell_before axis (cell_of cell)) }
+{
+    match cell.before(axis) {
+        Some(before) => sizes.has(before),
+        None => false,
+    }
+}
+
+/// Nothing stands between a cell and the one before it in the box.
+fn opens_back<W: Walls>(walls: &W, sizes: PerAxis, axis: Axis, cell: PerAxis) -> bool
+    requires sizes { numbers_of sizes ≡ W.sizes walls.now }
+    requires within { IsTrue (is_within (W.sizes walls.now) (cell_of cell)) }
+    ensures { result ≡ opens_back (W.sizes walls.now) (W.stands walls.now) axis (cell_of cell) }
+{
+    has_before(sizes, axis, cell) && !walls.stands(axis, cell)
+}
+
+/// Nothing stands between a cell and one outside, along an axis.
+fn opens_out<W: Walls>(walls: &W, sizes: PerAxis, axis: Axis, cell: PerAxis) -> bool
+    requires sizes { numbers_of sizes ≡ W.sizes walls.now }
+    requires few { AreFew (numbers_of sizes) }
+    requires within { IsTrue (is_within (W.sizes walls.now) (cell_of cell)) }
+    ensures { result ≡ opens_out (W.sizes walls.now) (W.stands walls.now) axis (cell_of cell) }
+{
+    if !has_before(sizes, axis, cell) && !walls.stands(axis, cell) {
+        return true;
+    }
+    let after = cell.after(axis);
+    !sizes.has(after) && !walls.stands(axis, after)
+}
+
+/// What is told of a cell.
+fn is_told<W: Walls>(walls: &W, sizes: PerAxis, told: Told, cell: PerAxis) -> bool
+    requires sizes { numbers_of sizes ≡ W.sizes walls.now }
+    requires few { AreFew (numbers_of sizes) }
+    requires within { IsTrue (is_within (W.sizes walls.now) (cell_of cell)) }
+    ensures { result ≡ is_told (W.sizes walls.now) (W.stands walls.now) told (cell_of cell) }
+{
+    match told {
+        Told::OpensBack(axis) => opens_back(walls, sizes, axis, cell),
+        Told::LeadsOut => {
+            opens_out(walls, sizes, Axis::X, cell)
+                || opens_out(walls, sizes, Axis::Y, cell)
+                || opens_out(walls, sizes, Axis::Z, cell)
+        }
+    }
+}
+
+/// The word of the row of a cell.
+fn row_word<W: Walls>(walls: &W, sizes: PerAxis, told: Told, cell: PerAxis) -> u64
+    requires sizes { numbers_of sizes ≡ W.sizes walls.now }
+    requires few { AreFew (numbers_of sizes) }
+    requires word { sizes.x ≤ 64 }
+    requires y { cell.y < sizes.y }
+    requires z { cell.z < sizes.z }
+    ensures { (k : ℕ) → is_set result k ≡ row_bit (W.sizes walls.now)
+        (is_told (W.sizes walls.now) (W.stands walls.now) told) cell.y cell.z k }
+{
+    let mut word: u64 = 0;
+    for x in 0..sizes.x {
+        if is_told(walls, sizes, told, PerAxis { x, ..cell }) {
+            word |= 1 << x;
+        }
+    }
+    word
+}
+
+/// The words of all rows, z slowest. An `Err` is out of memory.
+pub fn row_words<W: Walls>(alloc: Global, walls: &W, told: Told) -> Result<Vec<u64>, Memory>
+    requires { W.sizes walls.now X ≤ 64 }
+    ensures { IfOk result (λ words. AreRowWords (W.sizes walls.now)
+        (is_told (W.sizes walls.now) (W.stands walls.now) told) words.items) }
+{
+    let sizes = walls.sizes();
+    let rows = sizes.z * sizes.y;
+    let mut words = Vec::with_capacity(alloc, rows)?;
+    for row in 0..rows {
+        let first = PerAxis {
+            x: 0,
+            y: row % sizes.y,
+            z: row / sizes.y,
+        };
+        words.push_reserved(row_word(walls, sizes, told, first));
+    }
+    Ok(words)
+}
