@@ -11,3 +11,4 @@ pub mod PassageRooms
 pub mod RowPulls
 pub mod RowFloods
 pub mod RowCells
+pub mod RowLeads

@@ -1,6 +1,6 @@
 -- Rows of cells that grow by steps.
 use Rattle.std.proofs.Common.{◌≡◌, ◌≢◌, ◌⊎◌, inl, inr, Bool, true, false, ◌||◌, ◌&&◌, nat_le, ℕ, zero, suc, ◌+◌, ◌-◌, ◌<◌, ◌≤◌, ◌^◌, List, [], ◌∷◌, length, slice_index_or, get_or, set, IsTrue, refl, ap, sym, subst, ◌∙◌, arith}
-use Rattle.std.proofs.lemmas.Bool.{false≢true, and_parts, or_left, or_cases, cases_eq, leb-true}
+use Rattle.std.proofs.lemmas.Bool.{false≢true, and_parts, and_from, or_left, or_right, or_cases, cases_eq, leb-true, le-leb}
 use Rattle.std.proofs.lemmas.List.{length-set, get_or-set_same, get_or-set_other}
 use Rattle.lemmas.specs.Bits.{is_set}
 use Rattle.lemmas.specs.Chains.{Reaches}
@@ -65,6 +65,40 @@ module _ (w : RowParts) (rows : List ℕ) where
           → IsReached w rows (r, k)
       own (inl e) = ((r, k), e, reaches-itself (Joins w) (r, k))
       own (inr e) = along (or_cases _ _ e)
+
+  -- ---- and the other way round
+
+  by_across : (r k : ℕ) → (is_across w.beside 1 rows r k || is_across w.behind w.layer rows r k) ≡ true → IsTrue (is_pulled w rows r k)
+  by_across r k e = or_right (has_cell rows r k) _ (or_right (is_along w.along rows r k) _ (or_right (has_cell rows r (suc k) && has_cell w.along r (suc k)) _ e))
+
+  forth : (ways : List ℕ) (stride : ℕ) (p : ℕ × ℕ) → IsTrue (has_cell ways (p.0 + stride) p.1) → IsTrue (has_cell rows p.0 p.1)
+      → is_across ways stride rows (p.0 + stride) p.1 ≡ true
+  forth ways stride p way has =
+      let before : (p.0 + stride) - stride ≡ p.0 = omega arith in
+      or_left _ _ (and_from _ _ (le-leb stride (p.0 + stride) (omega arith)) (and_from _ _ (ap (λ r. has_cell rows r p.1) before ∙ has) way))
+
+  back : (ways : List ℕ) (stride : ℕ) (p : ℕ × ℕ) → IsTrue (has_cell ways (p.0 + stride) p.1) → IsTrue (has_cell rows (p.0 + stride) p.1)
+      → is_across ways stride rows p.0 p.1 ≡ true
+  back ways stride p way has = or_right (nat_le stride p.0 && (has_cell rows (p.0 - stride) p.1 && has_cell ways p.0 p.1)) _ (and_from _ _ has way)
+
+  -- where nothing stands between, the later cell is pulled by the earlier one,
+  pub next_pulled : (p q : ℕ × ℕ) → IsNext w p q → IsTrue (has_cell rows p.0 p.1) → IsTrue (is_pulled w rows q.0 q.1)
+  next_pulled p q (inl (e, way)) has = subst (λ t. IsTrue (is_pulled w rows t.0 t.1)) (sym e)
+      (or_right (has_cell rows p.0 (suc p.1)) _ (or_left _ _ (and_from _ _ has (ap (λ t. has_cell w.along t.0 t.1) (sym e) ∙ way))))
+  next_pulled p q (inr (inl (e, way))) has = subst (λ t. IsTrue (is_pulled w rows t.0 t.1)) (sym e)
+      (by_across (p.0 + 1) p.1 (or_left _ _ (forth w.beside 1 p (ap (λ t. has_cell w.beside t.0 t.1) (sym e) ∙ way) has)))
+  next_pulled p q (inr (inr (e, way))) has = subst (λ t. IsTrue (is_pulled w rows t.0 t.1)) (sym e)
+      (by_across (p.0 + w.layer) p.1 (or_right _ _ (forth w.behind w.layer p (ap (λ t. has_cell w.behind t.0 t.1) (sym e) ∙ way) has)))
+
+  -- and the earlier one by the later one
+  pub back_pulled : (p q : ℕ × ℕ) → IsNext w p q → IsTrue (has_cell rows q.0 q.1) → IsTrue (is_pulled w rows p.0 p.1)
+  back_pulled p q (inl (e, way)) has =
+      or_right (has_cell rows p.0 p.1) _ (or_right (is_along w.along rows p.0 p.1) _ (or_left _ _
+      (and_from _ _ (ap (λ t. has_cell rows t.0 t.1) (sym e) ∙ has) (ap (λ t. has_cell w.along t.0 t.1) (sym e) ∙ way))))
+  back_pulled p q (inr (inl (e, way))) has =
+      by_across p.0 p.1 (or_left _ _ (back w.beside 1 p (ap (λ t. has_cell w.beside t.0 t.1) (sym e) ∙ way) (ap (λ t. has_cell rows t.0 t.1) (sym e) ∙ has)))
+  back_pulled p q (inr (inr (e, way))) has =
+      by_across p.0 p.1 (or_right _ _ (back w.behind w.layer p (ap (λ t. has_cell w.behind t.0 t.1) (sym e) ∙ way) (ap (λ t. has_cell rows t.0 t.1) (sym e) ∙ has)))
 
 -- ---- room
 
