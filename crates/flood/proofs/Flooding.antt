@@ -1,5 +1,5 @@
 -- What holds of a flood from its beginning to its end.
-use Rattle.std.proofs.Common.{◌≡◌, ◌⊎◌, inl, inr, ◌↔◌, ℕ, ◌<◌, List, [], ◌∷◌, ◌++◌, length, set, Some, refl, sym, subst, ◌∙◌}
+use Rattle.std.proofs.Common.{◌≡◌, ◌⊎◌, inl, inr, ℕ, ◌<◌, List, [], ◌∷◌, ◌++◌, length, set, Some, refl, sym, subst, ◌∙◌}
 use Rattle.std.proofs.lemmas.List.{get_or-set_same}
 use Rattle.std.proofs.lemmas.Option.{same_Some}
 use Rattle.lemmas.specs.Chains.{Reaches}
@@ -91,10 +91,3 @@ module _ (step : ℕ → ℕ → Type 0) (start number : ℕ) (small : number < 
     -- and what a chain leads to has a mark
     pub floods_there : (b : ℕ) → Reaches step start b → IsMarked marks b
     floods_there b chain = reaches-keeps step (IsMarked marks) floods_closed start b (subst (λ n. n < no_mark) (sym h.seeded) small) chain
-
-    -- where no node had a mark, a node has one exactly where a chain leads to it
-    pub floods_exactly : ((a : ℕ) → IsMarked before a → ⊥) → (b : ℕ) → IsMarked marks b ↔ Reaches step start b
-    floods_exactly none b = (
-      λ m. elim (h.fresh b m) as (λ _. Reaches step start b) [ inl old ↦ absurd (none b old) | inr (e, r) ↦ r ],
-      λ chain. floods_there b chain,
-    )

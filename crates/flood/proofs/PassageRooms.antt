@@ -1,37 +1,17 @@
 -- What is found of the ways between nodes, told of the box's cells.
-use Rattle.std.proofs.Common.{◌≡◌, ◌↔◌, Bool, false, ℕ, zero, suc, ◌-◌, ◌<◌, List, slice_index_or, Option, Some, None, IsTrue, refl, ap, sym, subst, ◌∙◌, arith}
+use Rattle.std.proofs.Common.{◌≡◌, Bool, ℕ, zero, suc, ◌-◌, ◌<◌, List, Option, Some, None, IsTrue, refl, ap, sym, subst, ◌∙◌, arith}
 use Rattle.solid_model.specs.declared.cell.Axis.{Axis}
 use Rattle.solid_model.specs.declared.cell.Cell.{Cell}
-use Rattle.lemmas.specs.Chains.{Reaches}
-use Rattle.solid_model.specs.Marks.{BoxMarks, AreMarksOf}
-use Rattle.solid_model.specs.Rooms.{Sizes, is_within, box_place, LeadsOut, AreRooms}
+use Rattle.solid_model.specs.Rooms.{Sizes, is_within, box_place, AreRooms}
 use Rattle.solid_model.proofs.BoxPlaces.{one_cell}
 use Rattle.lemmas.proofs.Chains.{same_chains}
 use Rattle.flood.specs.Graph.{component, AreComponents}
 use Rattle.flood.specs.Passages.{PassageParts, StepsAlong}
 use Rattle.flood.specs.Ring.{ring_count, ring_place, RingStep, ArePassages, room_of, AreRoomNumbers}
 use Rattle.flood.proofs.RingPassages.{Standing, steps_iff_ring}
-use Rattle.flood.proofs.RingPlaces.{within-ringed, ring_place-below}
-use Rattle.flood.proofs.RingRooms.{first_node_iff_leads_out, rooms_of_components}
+use Rattle.flood.proofs.RingRooms.{rooms_of_components}
 
 module _ (sizes : Sizes) (stands : Axis → Cell → Bool) (g : PassageParts) (are : ArePassages sizes stands g) where
-  -- the nodes that are reached from the ring's first are those of the cells that lead out
-  pub reached_lead_out : (reached : List Bool)
-      → ((b : ℕ) → b < g.count → IsTrue (slice_index_or reached b false) ↔ Reaches (StepsAlong g) 0 b)
-      → (m : BoxMarks) → AreMarksOf sizes (λ n. IsTrue (slice_index_or reached (ring_place sizes n) false)) m
-      → AreMarksOf sizes (LeadsOut sizes (Standing stands)) m
-  reached_lead_out reached found m marks = record {
-    sized = marks.sized;
-    exact = λ n within.
-        let ringed = within-ringed sizes n within in
-        let node = ring_place sizes n in
-        let told = found node (subst (λ c. node < c) (sym are.count) (ring_place-below sizes n ringed)) in
-        let chains = same_chains (StepsAlong g) (RingStep sizes (Standing stands)) (steps_iff_ring sizes stands g are) 0 node in
-        let leads = first_node_iff_leads_out sizes (Standing stands) n ringed in
-        let is = marks.exact n within in
-        (λ marked. leads.0 (chains.0 (told.0 (is.0 marked))), λ out. is.1 (told.1 (chains.1 (leads.1 out))));
-  }
-
   -- the components of the nodes, with the numbers of the rooms, are the rooms
   pub components_rooms : (numbers : List ℕ) (count : ℕ) → AreComponents (StepsAlong g) g.count numbers count
       → (rooms : List (Option ℕ)) → AreRoomNumbers sizes (component numbers) rooms

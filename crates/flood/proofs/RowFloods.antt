@@ -1,11 +1,11 @@
 -- Rows of cells that grow by steps.
-use Rattle.std.proofs.Common.{◌≡◌, ◌≢◌, ◌⊎◌, inl, inr, Bool, true, false, ◌||◌, ◌&&◌, nat_le, ℕ, zero, suc, ◌+◌, ◌-◌, ◌<◌, ◌≤◌, ◌^◌, List, [], ◌∷◌, length, slice_index_or, get_or, set, IsTrue, refl, ap, sym, subst, ◌∙◌, arith}
+use Rattle.std.proofs.Common.{◌≡◌, ◌≢◌, ◌⊎◌, inl, inr, Bool, true, false, ◌||◌, ◌&&◌, nat_le, ℕ, zero, suc, ◌+◌, ◌-◌, ◌<◌, ◌≤◌, ◌^◌, List, [], ◌∷◌, length, get_or, set, IsTrue, refl, ap, sym, subst, ◌∙◌, arith}
 use Rattle.std.proofs.lemmas.Bool.{false≢true, and_parts, and_from, or_left, or_right, or_cases, cases_eq, leb-true, le-leb}
 use Rattle.std.proofs.lemmas.List.{length-set, get_or-set_same, get_or-set_other}
 use Rattle.lemmas.specs.Bits.{is_set}
 use Rattle.lemmas.specs.Chains.{Reaches}
 use Rattle.lemmas.proofs.Chains.{reaches-itself, reaches-step, reaches-onward}
-use Rattle.flood.specs.RowFlood.{RowParts, has_cell, IsNext, Joins, is_across, is_along, is_pulled, IsClosedRow, room, Grows, Pulls, Sweeps, Floods}
+use Rattle.flood.specs.RowFlood.{RowParts, has_cell, IsNext, Joins, is_across, is_along, is_pulled, IsClosedRow, room, Grows, Pulls, Sweeps, FloodsRows}
 
 -- a chain of steps leads to a cell from one of these
 abbrev pub IsReached : RowParts → List ℕ → ℕ × ℕ → Type 0
@@ -210,7 +210,7 @@ module _ (w : RowParts) where
   }
 
   -- the last sweep leads to no further cells
-  pub floods_end : (rows b c : List ℕ) (turns : ℕ) → Grows w rows b → Sweeps w turns b c false → turns ≡ length b → Floods w rows c
+  pub floods_end : (rows b c : List ℕ) (turns : ℕ) → Grows w rows b → Sweeps w turns b c false → turns ≡ length b → FloodsRows w rows c
   floods_end rows b c turns so_far last all = record {
     grows = grows_then rows b c so_far last.grows;
     closed = λ r l. subst (λ cells. IsClosedRow w cells r) (sym (last.same refl))

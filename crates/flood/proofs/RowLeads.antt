@@ -1,5 +1,5 @@
 -- What rows are flooded with from the cells that lead out at once is what leads out.
-use Rattle.std.proofs.Common.{◌≡◌, ◌⊎◌, inl, inr, Bool, true, false, not, ◌||◌, ◌&&◌, ℕ, zero, suc, ◌+◌, ◌*◌, ◌%◌, ◌<◌, pos, ◌-ℤ◌, ◌+ℤ◌, List, length, IsTrue, refl, ap, sym, subst, ◌∙◌, arith}
+use Rattle.std.proofs.Common.{◌≡◌, ◌⊎◌, inl, inr, Bool, true, false, not, ◌||◌, ◌&&◌, ℕ, zero, suc, ◌+◌, ◌%◌, ◌<◌, pos, ◌-ℤ◌, ◌+ℤ◌, List, IsTrue, refl, ap, sym, subst, ◌∙◌, arith}
 use Rattle.std.proofs.lemmas.Bool.{false≢true, and_parts, and_from, or_left, or_right, or_cases, both_ways, false_from_ne_true}
 use Rattle.std.proofs.lemmas.Int.{ints}
 use Rattle.solid_model.specs.declared.cell.Axis.{Axis}
@@ -10,13 +10,13 @@ use Rattle.solid_model.specs.Marks.{BoxMarks, AreMarksOf}
 use Rattle.solid_model.specs.Rooms.{Sizes, is_within, place_of_number, Walls, Passes, LeadsOut}
 use Rattle.solid_model.proofs.BoxCells.{place-below, within-below}
 use Rattle.solid_model.proofs.InGrid.{before_after}
-use Rattle.lemmas.specs.Chains.{Chain, Reaches}
+use Rattle.lemmas.specs.Chains.{Chain}
 use Rattle.lemmas.proofs.Chains.{reaches-keeps}
-use Rattle.flood.specs.RowFlood.{RowParts, has_cell, IsNext, Joins, is_pulled, IsClosedRow, Grows, Floods}
+use Rattle.flood.specs.RowFlood.{RowParts, IsNext, Joins, is_pulled, FloodsRows}
 use Rattle.flood.specs.RowWords.{opens_back, opens_out, leads_at_once, AreRowWords, row_of, is_in_rows}
 use Rattle.flood.proofs.LeadingOut.{outside-leads_out, step-leads_out}
 use Rattle.flood.proofs.RowFloods.{next_pulled, back_pulled}
-use Rattle.flood.proofs.RowCells.{some_row, row_cell, place_in_rows, row_within, own_row_cell, cell_told, told_cell, before_along, before_beside, before_behind, place_along, place_beside, place_behind}
+use Rattle.flood.proofs.RowCells.{row_cell, place_in_rows, row_within, own_row_cell, cell_told, told_cell, before_along, before_beside, before_behind, place_along, place_beside, place_behind}
 
 not_true : (b : Bool) → b ≡ false → not b ≡ true
 not_true true e = absurd (false≢true (sym e))
@@ -130,7 +130,7 @@ module _ (sizes : Sizes) (stands : Axis → Cell → Bool) where
     next_place Z n within before none = inr (inr (place_behind sizes n before ∙ ap (λ r. (row_of sizes (cell_before Z n) + r, place_of_number n.x)) (sym layer),
         cell_told sizes (opens_back sizes stands Z) w.behind behind n within ∙ and_from _ _ before (not_true _ none)))
 
-    module _ (first rows : List ℕ) (leading : AreRowWords sizes (leads_at_once sizes stands) first) (floods : Floods w first rows) where
+    module _ (first rows : List ℕ) (leading : AreRowWords sizes (leads_at_once sizes stands) first) (floods : FloodsRows w first rows) where
       -- a cell that the flood reaches leads out
       reached_leads : (n : Cell) → is_within sizes n ≡ true → IsTrue (is_in_rows sizes rows n) → LeadsOut sizes Standing n
       reached_leads n within has =

@@ -1,7 +1,7 @@
 -- Marks that are given one after another.
-use Rattle.std.proofs.Common.{◌≡◌, ◌⊎◌, inl, inr, ℕ, ◌<◌, List, [], ◌∷◌, ◌++◌, length, set, replicate, Option, Some, sym, ap, subst, ◌∙◌, arith}
+use Rattle.std.proofs.Common.{◌≡◌, ◌⊎◌, inl, inr, ℕ, ◌<◌, List, [], ◌∷◌, ◌++◌, length, set, Option, Some, sym, ap, subst, ◌∙◌, arith}
 use Rattle.std.proofs.lemmas.Bool.{cases_lt, cases_eq}
-use Rattle.std.proofs.lemmas.List.{get_or-set_same, get_or-set_other, get_or_past, get_or-replicate, length-set, length-replicate}
+use Rattle.std.proofs.lemmas.List.{get_or-set_same, get_or-set_other, get_or_past, length-set}
 use Rattle.std.proofs.lemmas.Option.{same_Some}
 use Rattle.lemmas.specs.Lists.{Member}
 use Rattle.lemmas.proofs.Lists.{member-append_left, member-push_last, member-push}
@@ -13,14 +13,6 @@ marked_within marks a m = elim (cases_lt a (length marks)) as (λ _. a < length 
   | inl l ↦ l
   | inr past ↦ (let none : mark_of marks a ≡ no_mark = get_or_past marks a no_mark past in absurd (omega arith))
 ]
-
--- no node has a mark before any is given
-pub none_marked : (size a : ℕ) → IsMarked (replicate size no_mark) a → ⊥
-none_marked size a m =
-    let within = marked_within (replicate size no_mark) a m in
-    let none : mark_of (replicate size no_mark) a ≡ no_mark =
-    get_or-replicate size a no_mark no_mark (omega (arith, within, length-replicate size no_mark)) in
-    omega arith
 
 -- a node whose mark stays still has a mark
 pub still_marked : (marks more : List ℕ) (a : ℕ) → mark_of more a ≡ mark_of marks a → IsMarked marks a → IsMarked more a

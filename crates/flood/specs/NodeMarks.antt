@@ -1,5 +1,5 @@
 -- Marks on the nodes of a graph, and what a flood makes of them.
-use Rattle.std.specs.Prelude.{◌≡◌, ◌⊎◌, ◌==◌, ◌↔◌, Bool, nat_lt, ℕ, ◌<◌, ◌≤◌, List, length, slice_index_or, IsTrue}
+use Rattle.std.specs.Prelude.{◌≡◌, ◌⊎◌, ◌==◌, ◌↔◌, Bool, ℕ, ◌<◌, ◌≤◌, List, length, slice_index_or, IsTrue}
 use Rattle.std.specs.List.{count_by}
 use Rattle.lemmas.specs.Chains.{Reaches}
 use Rattle.lemmas.specs.Lists.{Member}
@@ -15,10 +15,6 @@ mark_of marks a = slice_index_or marks a no_mark
 -- a node has a mark
 abbrev pub IsMarked : List ℕ → ℕ → Type 0
 IsMarked marks a = mark_of marks a < no_mark
-
--- this is a mark
-abbrev pub is_mark : ℕ → Bool
-is_mark mark = nat_lt mark no_mark
 
 -- how many nodes have none
 abbrev pub unmarked : List ℕ → ℕ

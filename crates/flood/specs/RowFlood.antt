@@ -1,4 +1,4 @@
--- Floods over rows of cells. A row is a word, whose bit k is its cell of number k; rows are listed layer by layer.
+-- FloodsRows over rows of cells. A row is a word, whose bit k is its cell of number k; rows are listed layer by layer.
 use Rattle.std.specs.Prelude.{◌≡◌, ◌⊎◌, ◌||◌, ◌&&◌, Bool, true, false, nat_le, ℕ, zero, suc, ◌+◌, ◌-◌, ◌<◌, ◌≤◌, ◌^◌, List, [], ◌∷◌, length, slice_index_or, IsTrue}
 use Rattle.lemmas.specs.Bits.{is_set}
 use Rattle.lemmas.specs.Chains.{Reaches}
@@ -83,6 +83,6 @@ pub record Sweeps (w : RowParts) (rows : ℕ) (before after : List ℕ) (grown :
   pub more : grown ≡ true → room after < room before
 
 -- all cells to which chains of steps lead from those before
-pub record Floods (w : RowParts) (before after : List ℕ) : Type 0 where
+pub record FloodsRows (w : RowParts) (before after : List ℕ) : Type 0 where
   pub grows : Grows w before after
   pub closed : (r : ℕ) → r < length after → IsClosedRow w after r

@@ -1,12 +1,9 @@
-//! Which nodes a chain of steps leads to: a flood over a graph.
+//! Marks on the nodes to which a chain of steps leads: a flood over a graph.
 
-ghost use Rattle.std.specs.Prelude.{◌≡◌, ◌↔◌, ◌≤◌, ◌++◌, [], ◌∷◌, ℕ, ◌+◌, ◌<◌, Some, false, IsTrue, length, map, slice_set, slice_index_or, vec_len, vec_capacity, IfSome, IfOk};
-ghost use Rattle.flood.specs.NodeMarks.{no_mark, mark_of, is_mark, unmarked, AreClosed, Spreads, Floods};
-ghost use Rattle.lemmas.specs.Chains.{Reaches};
+ghost use Rattle.std.specs.Prelude.{◌≡◌, ◌≤◌, ◌++◌, [], ◌∷◌, ◌+◌, ◌<◌, Some, length, slice_set, vec_len, vec_capacity, IfSome};
+ghost use Rattle.flood.specs.NodeMarks.{no_mark, mark_of, unmarked, AreClosed, Spreads, Floods};
 
 use crate::graph::Graph;
-use solid_model::Memory;
-use std::alloc::Global;
 
 /// What stands in place of a mark.
 pub const UNMARKED: u32 = u32::MAX;
@@ -86,32 +83,4 @@ pub fn flood<G: Graph>(
     while let Some(node) = stack.pop() {
         spread(graph, node, number, marks, stack);
     }
-}
-
-/// Tells of each node whether it has a mark.
-fn tell(marks: &[u32], reached: &mut Vec<bool>)
-    requires empty { vec_len reached.old ≡ 0 }
-    requires room { length marks.now ≤ vec_capacity reached.old }
-    ensures { reached.new.items ≡ map is_mark marks.now }
-{
-    for mark in marks {
-        reached.push_reserved(*mark < UNMARKED);
-    }
-}
-
-/// Which nodes a chain of steps leads to from a node, in time that grows with the nodes and their
-/// ways. Memory is taken once, at the beginning; an `Err` is out of memory.
-pub fn reached<G: Graph>(alloc: Global, graph: &G, start: usize) -> Result<Vec<bool>, Memory>
-    requires start { start < G.nodes graph.now }
-    ensures { IfOk result (λ reached. (length reached.items ≡ G.nodes graph.now)
-        × ((b : ℕ) → b < G.nodes graph.now
-        → IsTrue (slice_index_or reached.items b false) ↔ Reaches (G.steps graph.now) start b)) }
-{
-    let size = graph.node_count();
-    let mut marks = vec![in alloc; UNMARKED; size]?;
-    let mut stack = Vec::with_capacity(alloc, size)?;
-    let mut reached = Vec::with_capacity(alloc, size)?;
-    flood(graph, start, 0, marks.as_mut_slice(), &mut stack);
-    tell(marks.as_slice(), &mut reached);
-    Ok(reached)
 }

@@ -1,4 +1,4 @@
-//! Which nodes of a finite graph a chain of steps reaches, and the rooms of a box with walls.
+//! The components of a finite graph, and the rooms of a box with walls and what leads out of it.
 //!
 //! A crate of its own, on `cell_rows` and `solid_model` alone: virtual faces, blocks and the faces
 //! of solids are floods, and none of their crates has to stand on another one for it.
@@ -16,9 +16,8 @@ mod row_flood;
 mod row_words;
 mod walls;
 
-pub use flood::reached;
 pub use graph::Graph;
-pub use numbering::{Numbering, components, components_of};
 pub use leading::leading_out;
+pub use numbering::{Numbering, components, components_of};
 pub use rooms::{RoomNumbers, rooms_of};
 pub use walls::Walls;

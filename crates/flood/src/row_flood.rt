@@ -1,8 +1,8 @@
-//! Floods over rows of cells. A row is a word, whose bit k is its cell of number k; rows are listed
+//! FloodsRows over rows of cells. A row is a word, whose bit k is its cell of number k; rows are listed
 //! layer by layer.
 
 ghost use Rattle.std.specs.Prelude.{◌≡◌, ◌||◌, ◌&&◌, nat_le, ◌-◌, ◌+◌, ◌<◌, ◌≤◌, ◌^◌, ℕ, false, length, slice_index_or, IsTrue};
-ghost use Rattle.flood.specs.RowFlood.{ways_of, AreAsMany, has_cell, is_across, is_pulled, IsClosedRow, Pulls, Sweeps, Floods};
+ghost use Rattle.flood.specs.RowFlood.{ways_of, AreAsMany, has_cell, is_across, is_pulled, IsClosedRow, Pulls, Sweeps, FloodsRows};
 ghost use Rattle.lemmas.specs.Bits.{is_set};
 
 /// The ways back from the cells of rows: a bit of a word is set where nothing stands between its
@@ -100,10 +100,10 @@ fn sweep(ways: &RowWays, reached: &mut [u64]) -> bool
     grown
 }
 
-/// Floods on from reached cells to all to which chains of steps lead.
+/// FloodsRows on from reached cells to all to which chains of steps lead.
 pub fn flood_rows(ways: &RowWays, reached: &mut [u64])
     requires count { AreAsMany (ways_of ways.now) (length reached.old) }
-    ensures { Floods (ways_of ways.now) reached.old reached.new }
+    ensures { FloodsRows (ways_of ways.now) reached.old reached.new }
 {
     while sweep(ways, reached) {}
 }

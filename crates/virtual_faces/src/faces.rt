@@ -76,6 +76,8 @@ fn faces_across(alloc: Global, grid: &Grid, wire: &Wire, axis: Axis) -> Result<M
     ensures { IfOk result (λ marks. AreMarksOf (face_sizes (grid_sizes grid.now) axis)
         (IsVirtual grid.now axis) marks) }
 {
+    // A look at the sizes tells that no row is longer than a word.
+    let _ = grid.sizes();
     let leading = leading_out(alloc, &FacesAcross { grid, wire, axis })?;
     let marks = others(alloc, &leading)?;
     Ok(marks)

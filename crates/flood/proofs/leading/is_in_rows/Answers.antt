@@ -1,7 +1,7 @@
 -- There are few rows.
-use Rattle.std.proofs.Common.{◌*◌, ◌≤◌, IsTrue, arith}
+use Rattle.std.proofs.Common.{arith}
 use Rattle.std.proofs.lemmas.Nat.{mul-le}
-use Rattle.solid_model.specs.declared.cell.Axis.TheVariants.{X, Y, Z}
+use Rattle.solid_model.specs.declared.cell.Axis.TheVariants.{Y, Z}
 use Rattle.solid_model.specs.PerAxis.{numbers_of}
 use Rattle.solid_model.proofs.BoxPlaces.{numbers_below}
 use Rattle.flood.proofs.leading.is_in_rows.Goals as goal

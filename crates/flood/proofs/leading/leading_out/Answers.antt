@@ -1,12 +1,12 @@
 -- The words are those of the box, and the flood over them reaches what leads out.
-use Rattle.std.proofs.Common.{◌≡◌, ◌≤◌, ◌*◌, length, List, ℕ, IsTrue, ap, sym, subst, ◌∙◌, arith}
+use Rattle.std.proofs.Common.{◌≡◌, ◌≤◌, length, IsTrue, ap, sym, subst, ◌∙◌, arith}
 use Rattle.std.proofs.lemmas.List.{with_items_is}
 use Rattle.std.proofs.lemmas.Nat.{mul-le}
 use Rattle.solid_model.specs.declared.cell.Axis.TheVariants.{Y, Z}
 use Rattle.solid_model.specs.Marks.{AreMarksOf}
 use Rattle.solid_model.specs.PerAxis.{numbers_of}
 use Rattle.solid_model.specs.Rooms.{Sizes}
-use Rattle.flood.specs.RowFlood.{ways_of, Floods}
+use Rattle.flood.specs.RowFlood.{ways_of, FloodsRows}
 use Rattle.flood.specs.RowWords.{is_in_rows}
 use Rattle.flood.proofs.RowLeads.{leading_marked}
 use Rattle.flood.proofs.leading.leading_out.Goals as goal
@@ -37,6 +37,6 @@ returns g c =
     c.as_slice.ensures.value ∙ with_items_is c.in_ok-reached.reached rows (c.flood_rows.auto.reached ∙ c.as_mut_slice.ensures.len) in
     leading_marked sizes (g.W.Walls.stands c.args.walls.now) w (λ t. c.sizes-sizes.ensures.sizes t Y)
     c.in_ok-row_words.ensures c.in_ok-row_words-2.ensures c.in_ok-row_words-3.ensures c.in_ok-reached.reached.items rows c.in_ok-reached.ensures
-    (subst (λ first. Floods w first rows) c.as_mut_slice.ensures.value c.flood_rows.ensures) marks
+    (subst (λ first. FloodsRows w first rows) c.as_mut_slice.ensures.value c.flood_rows.ensures) marks
     (subst (λ (s : Sizes). AreMarksOf s (λ n. IsTrue (is_in_rows s rows n)) marks) c.sizes-sizes.ensures.sizes
     (subst (λ words. AreMarksOf (numbers_of c.sizes-sizes.result) (λ n. IsTrue (is_in_rows (numbers_of c.sizes-sizes.result) words n)) marks) kept c.in_ok-marks.ensures))

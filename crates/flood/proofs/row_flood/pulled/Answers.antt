@@ -1,5 +1,5 @@
 -- The word only gets more bits, each by a step.
-use Rattle.std.proofs.Common.{◌≡◌, ◌||◌, ◌&&◌, ◌*◌, ◌/◌, ◌%◌, ◌^◌, ◌<◌, ℕ, suc, List, slice_index_or, bit_and, bit_or, ap, ap₂, ◌∙◌, rules}
+use Rattle.std.proofs.Common.{◌||◌, ◌&&◌, ◌*◌, ◌/◌, ◌%◌, ◌^◌, ◌<◌, ℕ, suc, List, slice_index_or, bit_and, bit_or, ap, ap₂, ◌∙◌, rules}
 use Rattle.std.proofs.lemmas.Nat.{le_or_l}
 use Rattle.lemmas.proofs.WordBits.{set_either}
 use Rattle.flood.specs.RowFlood.{has_cell, is_along, is_across}

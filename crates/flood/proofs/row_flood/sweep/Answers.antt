@@ -1,5 +1,5 @@
 -- A row has grown, or the next one has its turn; and all rows have had theirs.
-use Rattle.std.proofs.Common.{◌≡◌, ◌<◌, length, refl, ap, sym, subst, ◌∙◌, arith}
+use Rattle.std.proofs.Common.{refl, subst}
 use Rattle.flood.specs.RowFlood.{ways_of, Pulls}
 use Rattle.flood.proofs.RowFloods.{sweeps_none, sweeps_grown, sweeps_on}
 use Rattle.flood.proofs.row_flood.sweep.Goals as goal

@@ -1,5 +1,5 @@
 -- One word more; and all of them.
-use Rattle.std.proofs.Common.{◌≡◌, ◌/◌, ◌%◌, ℕ, ap, ◌∙◌, arith}
+use Rattle.std.proofs.Common.{◌≡◌, ◌/◌, ◌%◌, ap, ◌∙◌, arith}
 use Rattle.std.proofs.lemmas.Nat.{mul-le}
 use Rattle.solid_model.specs.declared.cell.Axis.TheVariants.{Y, Z}
 use Rattle.lemmas.proofs.Pushed.{holds_more}
