@@ -88,9 +88,11 @@ module _ (sizes : Sizes) where
     pub told_cell : (p : ℕ × ℕ) → has_cell words p.0 p.1 ≡ true → IsTrue (is_within sizes (row_cell sizes p)) × IsTrue (holds (row_cell sizes p))
     told_cell p has = elim (cases_lt p.0 (sizes Z * sizes Y)) as (λ _. IsTrue (is_within sizes (row_cell sizes p)) × IsTrue (holds (row_cell sizes p))) [
       | inl within ↦ (let both = and_parts _ _ (sym (are.each p.0 within p.1) ∙ has) in
-          let some = some_row p.0 (sizes Z) (sizes Y) within in
-          (within_box sizes p.1 (p.0 % sizes Y) (p.0 / sizes Y) (ltb-true p.1 (sizes X) both.0)
-          (mod_below p.0 (sizes Y) some) (div_below p.0 (sizes Y) (sizes Z) some within), both.1))
+          let some = some_row p.0 (sizes Z) (sizes Y) within in (
+            within_box sizes p.1 (p.0 % sizes Y) (p.0 / sizes Y) (ltb-true p.1 (sizes X) both.0)
+                (mod_below p.0 (sizes Y) some) (div_below p.0 (sizes Y) (sizes Z) some within),
+            both.1,
+          ))
       | inr past ↦ (let none : has_cell words p.0 p.1 ≡ false = ap (λ n. is_set n p.1) (get_or_past words p.0 0 (subst (λ m. m ≤ p.0) (sym are.listed) past)) ∙ ap (λ b. b == 1) (bit_at-zero p.1) in
           absurd (false≢true (sym none ∙ has)))
     ]

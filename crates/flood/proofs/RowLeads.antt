@@ -123,12 +123,18 @@ module _ (sizes : Sizes) (stands : Axis → Cell → Bool) where
     -- and a step of cells is one of rows
     next_place : (a : Axis) (n : Cell) → is_within sizes n ≡ true → is_within sizes (cell_before a n) ≡ true → stands a n ≡ false
         → IsNext w (place_in_rows sizes (cell_before a n)) (place_in_rows sizes n)
-    next_place X n within before none = inl (place_along sizes n before,
-        cell_told sizes (opens_back sizes stands X) w.along along n within ∙ and_from _ _ before (not_true _ none))
-    next_place Y n within before none = inr (inl (place_beside sizes n before,
-        cell_told sizes (opens_back sizes stands Y) w.beside beside n within ∙ and_from _ _ before (not_true _ none)))
-    next_place Z n within before none = inr (inr (place_behind sizes n before ∙ ap (λ r. (row_of sizes (cell_before Z n) + r, place_of_number n.x)) (sym layer),
-        cell_told sizes (opens_back sizes stands Z) w.behind behind n within ∙ and_from _ _ before (not_true _ none)))
+    next_place X n within before none = inl (
+      place_along sizes n before,
+      cell_told sizes (opens_back sizes stands X) w.along along n within ∙ and_from _ _ before (not_true _ none),
+    )
+    next_place Y n within before none = inr (inl (
+      place_beside sizes n before,
+      cell_told sizes (opens_back sizes stands Y) w.beside beside n within ∙ and_from _ _ before (not_true _ none),
+    ))
+    next_place Z n within before none = inr (inr (
+      place_behind sizes n before ∙ ap (λ r. (row_of sizes (cell_before Z n) + r, place_of_number n.x)) (sym layer),
+      cell_told sizes (opens_back sizes stands Z) w.behind behind n within ∙ and_from _ _ before (not_true _ none),
+    ))
 
     module _ (first rows : List ℕ) (leading : AreRowWords sizes (leads_at_once sizes stands) first) (floods : FloodsRows w first rows) where
       -- a cell that the flood reaches leads out

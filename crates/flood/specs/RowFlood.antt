@@ -1,4 +1,4 @@
--- FloodsRows over rows of cells. A row is a word, whose bit k is its cell of number k; rows are listed layer by layer.
+-- Floods over rows of cells. A row is a word, whose bit k is its cell of number k; rows are listed layer by layer.
 use Rattle.std.specs.Prelude.{◌≡◌, ◌⊎◌, ◌||◌, ◌&&◌, Bool, true, false, nat_le, ℕ, zero, suc, ◌+◌, ◌-◌, ◌<◌, ◌≤◌, ◌^◌, List, [], ◌∷◌, length, slice_index_or, IsTrue}
 use Rattle.lemmas.specs.Bits.{is_set}
 use Rattle.lemmas.specs.Chains.{Reaches}

@@ -1,4 +1,4 @@
-//! FloodsRows over rows of cells. A row is a word, whose bit k is its cell of number k; rows are listed
+//! Floods over rows of cells. A row is a word, whose bit k is its cell of number k; rows are listed
 //! layer by layer.
 
 ghost use Rattle.std.specs.Prelude.{◌≡◌, ◌||◌, ◌&&◌, nat_le, ◌-◌, ◌+◌, ◌<◌, ◌≤◌, ◌^◌, ℕ, false, length, slice_index_or, IsTrue};
@@ -28,7 +28,11 @@ fn across(ways: &[u64], stride: usize, reached: &[u64], row: usize) -> u64
     requires stride { stride ≤ 2 ^ 32 }
     ensures { (k : ℕ) → is_set result k ≡ is_across ways.now stride reached.now row k }
 {
-    let before = if row >= stride { reached[row - stride] & ways[row] } else { 0 };
+    let before = if row >= stride {
+        reached[row - stride] & ways[row]
+    } else {
+        0
+    };
     let after = if row + stride < reached.len() {
         reached[row + stride] & ways[row + stride]
     } else {

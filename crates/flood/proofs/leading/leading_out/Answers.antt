@@ -19,13 +19,15 @@ flood_rows-requires g c =
     let few_rows = subst (λ n. n ≤ 1022) (own Y) (c.sizes-sizes.ensures.few Y) in
     let few_layers = subst (λ n. n ≤ 1022) (own Z) (c.sizes-sizes.ensures.few Z) in
     let few = mul-le (sizes Z) (sizes Y) 1022 1022 few_layers few_rows in
-    record { count = record {
-      few = omega (arith, rows, few);
-      layer = let l = c.sizes-sizes.ensures.few Y in omega arith;
-      along = c.in_ok-row_words.ensures.listed ∙ sym rows;
-      beside = c.in_ok-row_words-2.ensures.listed ∙ sym rows;
-      behind = c.in_ok-row_words-3.ensures.listed ∙ sym rows;
-    } }
+    record {
+      count = record {
+        few = omega (arith, rows, few);
+        layer = let l = c.sizes-sizes.ensures.few Y in omega arith;
+        along = c.in_ok-row_words.ensures.listed ∙ sym rows;
+        beside = c.in_ok-row_words-2.ensures.listed ∙ sym rows;
+        behind = c.in_ok-row_words-3.ensures.listed ∙ sym rows;
+      };
+    }
 
 pub returns : goal.returns
 returns g c =
