@@ -3,13 +3,8 @@ use Rattle.std.proofs.Common.{◌≡◌, ◌≢◌, ◌⊎◌, inl, inr, Bool, t
 use Rattle.std.proofs.lemmas.Bool.{false≢true, and_parts, and_from, or_left, or_right, or_cases, cases_eq, leb-true, le-leb}
 use Rattle.std.proofs.lemmas.List.{length-set, get_or-set_same, get_or-set_other}
 use Rattle.lemmas.specs.Bits.{is_set}
-use Rattle.lemmas.specs.Chains.{Reaches}
 use Rattle.lemmas.proofs.Chains.{reaches-itself, reaches-step, reaches-onward}
-use Rattle.flood.specs.RowFlood.{RowParts, has_cell, IsNext, Joins, is_across, is_along, is_pulled, IsClosedRow, room, Grows, Pulls, Sweeps, FloodsRows}
-
--- a chain of steps leads to a cell from one of these
-abbrev pub IsReached : RowParts → List ℕ → ℕ × ℕ → Type 0
-IsReached w rows q = (p : ℕ × ℕ) × IsTrue (has_cell rows p.0 p.1) × Reaches (Joins w) p q
+use Rattle.flood.specs.RowFlood.{RowParts, has_cell, IsNext, Joins, IsReached, is_across, is_along, is_pulled, IsClosedRow, room, Grows, Pulls, Sweeps, FloodsRows}
 
 module _ (w : RowParts) (rows : List ℕ) where
   one_step : (p q : ℕ × ℕ) → IsTrue (has_cell rows p.0 p.1) → Joins w p q → IsReached w rows q

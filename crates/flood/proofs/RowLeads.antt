@@ -1,6 +1,6 @@
 -- What rows are flooded with from the cells that lead out at once is what leads out.
 use Rattle.std.proofs.Common.{◌≡◌, ◌⊎◌, inl, inr, Bool, true, false, not, ◌||◌, ◌&&◌, ℕ, zero, suc, ◌+◌, ◌%◌, ◌<◌, pos, ◌-ℤ◌, ◌+ℤ◌, List, IsTrue, refl, ap, sym, subst, ◌∙◌, arith}
-use Rattle.std.proofs.lemmas.Bool.{false≢true, and_parts, and_from, or_left, or_right, or_cases, both_ways, false_from_ne_true}
+use Rattle.std.proofs.lemmas.Bool.{and_parts, and_from, or_left, or_right, or_cases, both_ways, false_from_ne_true, not_from_false, not-true}
 use Rattle.std.proofs.lemmas.Int.{ints}
 use Rattle.solid_model.specs.declared.cell.Axis.{Axis}
 use Rattle.solid_model.specs.declared.cell.Axis.TheVariants.{X, Y, Z}
@@ -17,14 +17,6 @@ use Rattle.flood.specs.RowWords.{opens_back, opens_out, leads_at_once, AreRowWor
 use Rattle.flood.proofs.LeadingOut.{outside-leads_out, step-leads_out}
 use Rattle.flood.proofs.RowFloods.{next_pulled, back_pulled}
 use Rattle.flood.proofs.RowCells.{row_cell, place_in_rows, row_within, own_row_cell, cell_told, told_cell, before_along, before_beside, before_behind, place_along, place_beside, place_behind}
-
-not_true : (b : Bool) → b ≡ false → not b ≡ true
-not_true true e = absurd (false≢true (sym e))
-not_true false e = refl
-
-true_not : (b : Bool) → not b ≡ true → b ≡ false
-true_not true e = absurd (false≢true e)
-true_not false e = refl
 
 -- the cell after the one before is the cell itself
 after_before : (a : Axis) (c : Cell) → cell_after a (cell_before a c) ≡ c
@@ -49,12 +41,12 @@ module _ (sizes : Sizes) (stands : Axis → Cell → Bool) where
           ⊎ ((not (is_within sizes (cell_after a n)) && not (stands a (cell_after a n))) ≡ true) → LeadsOut sizes Standing n
       by (inl back) =
           let both = and_parts (not (is_within sizes (cell_before a n))) (not (stands a n)) back in
-          step-leads_out sizes Standing n (cell_before a n) (a, inl (refl, free a n (true_not _ both.1)))
-          (outside-leads_out sizes Standing (cell_before a n) (true_not _ both.0))
+          step-leads_out sizes Standing n (cell_before a n) (a, inl (refl, free a n (not-true _ both.1)))
+          (outside-leads_out sizes Standing (cell_before a n) (not-true _ both.0))
       by (inr forth) =
           let both = and_parts (not (is_within sizes (cell_after a n))) (not (stands a (cell_after a n))) forth in
-          step-leads_out sizes Standing n (cell_after a n) (a, inr (sym (before_after a n), free a (cell_after a n) (true_not _ both.1)))
-          (outside-leads_out sizes Standing (cell_after a n) (true_not _ both.0))
+          step-leads_out sizes Standing n (cell_after a n) (a, inr (sym (before_after a n), free a (cell_after a n) (not-true _ both.1)))
+          (outside-leads_out sizes Standing (cell_after a n) (not-true _ both.0))
 
   at_once_leads : (n : Cell) → leads_at_once sizes stands n ≡ true → LeadsOut sizes Standing n
   at_once_leads n e = by (or_cases _ _ e)
@@ -75,12 +67,12 @@ module _ (sizes : Sizes) (stands : Axis → Cell → Bool) where
   -- a step out of the box
   out_at_once : (n m : Cell) → Passes Standing n m → is_within sizes m ≡ false → leads_at_once sizes stands n ≡ true
   out_at_once n m (a, inl (e, no_wall)) out = along_any a n (or_left _ _
-      (and_from _ _ (not_true _ (ap (is_within sizes) (sym e) ∙ out)) (not_true _ (false_from_ne_true (stands a n) no_wall))))
+      (and_from _ _ (not_from_false _ (ap (is_within sizes) (sym e) ∙ out)) (not_from_false _ (false_from_ne_true (stands a n) no_wall))))
   out_at_once n m (a, inr (e, no_wall)) out =
       let after : m ≡ cell_after a n = sym (after_before a m) ∙ ap (cell_after a) (sym e) in
       along_any a n (or_right (not (is_within sizes (cell_before a n)) && not (stands a n)) _
-      (and_from _ _ (not_true _ (ap (is_within sizes) (sym after) ∙ out))
-      (not_true _ (ap (stands a) (sym after) ∙ false_from_ne_true (stands a m) no_wall))))
+      (and_from _ _ (not_from_false _ (ap (is_within sizes) (sym after) ∙ out))
+      (not_from_false _ (ap (stands a) (sym after) ∙ false_from_ne_true (stands a m) no_wall))))
 
   module _ (w : RowParts) (layer : w.layer ≡ sizes Y) (along : AreRowWords sizes (opens_back sizes stands X) w.along)
       (beside : AreRowWords sizes (opens_back sizes stands Y) w.beside) (behind : AreRowWords sizes (opens_back sizes stands Z) w.behind) where
@@ -99,17 +91,17 @@ module _ (sizes : Sizes) (stands : Axis → Cell → Bool) where
     next_cell p q (inl (e, way)) =
         let told = told_cell sizes (opens_back sizes stands X) w.along along q way in
         let open_way = and_parts (is_within sizes (cell_before X (row_cell sizes q))) (not (stands X (row_cell sizes q))) told.1 in
-        (X, before_along sizes p.0 p.1 ∙ ap (λ t. cell_before X (row_cell sizes t)) (sym e), true_not _ open_way.1)
+        (X, before_along sizes p.0 p.1 ∙ ap (λ t. cell_before X (row_cell sizes t)) (sym e), not-true _ open_way.1)
     next_cell p q (inr (inl (e, way))) =
         let told = told_cell sizes (opens_back sizes stands Y) w.beside beside q way in
         let open_way = and_parts (is_within sizes (cell_before Y (row_cell sizes q))) (not (stands Y (row_cell sizes q))) told.1 in
         let within = ap (λ t. is_within sizes (cell_before Y (row_cell sizes t))) (sym e) ∙ open_way.0 in
-        (Y, before_beside sizes p.0 p.1 within (some_below q told.0) ∙ ap (λ t. cell_before Y (row_cell sizes t)) (sym e), true_not _ open_way.1)
+        (Y, before_beside sizes p.0 p.1 within (some_below q told.0) ∙ ap (λ t. cell_before Y (row_cell sizes t)) (sym e), not-true _ open_way.1)
     next_cell p q (inr (inr (e, way))) =
         let told = told_cell sizes (opens_back sizes stands Z) w.behind behind q way in
         let open_way = and_parts (is_within sizes (cell_before Z (row_cell sizes q))) (not (stands Z (row_cell sizes q))) told.1 in
         let at : q ≡ (p.0 + sizes Y, p.1) = e ∙ ap (λ n. (p.0 + n, p.1)) layer in
-        (Z, before_behind sizes p.0 p.1 (some_below q told.0) ∙ ap (λ t. cell_before Z (row_cell sizes t)) (sym at), true_not _ open_way.1)
+        (Z, before_behind sizes p.0 p.1 (some_below q told.0) ∙ ap (λ t. cell_before Z (row_cell sizes t)) (sym at), not-true _ open_way.1)
 
     -- a step of rows keeps what leads out
     step_leads : (p q : ℕ × ℕ) → LeadsOut sizes Standing (row_cell sizes p) → Joins w p q → LeadsOut sizes Standing (row_cell sizes q)
@@ -125,15 +117,15 @@ module _ (sizes : Sizes) (stands : Axis → Cell → Bool) where
         → IsNext w (place_in_rows sizes (cell_before a n)) (place_in_rows sizes n)
     next_place X n within before none = inl (
       place_along sizes n before,
-      cell_told sizes (opens_back sizes stands X) w.along along n within ∙ and_from _ _ before (not_true _ none),
+      cell_told sizes (opens_back sizes stands X) w.along along n within ∙ and_from _ _ before (not_from_false _ none),
     )
     next_place Y n within before none = inr (inl (
       place_beside sizes n before,
-      cell_told sizes (opens_back sizes stands Y) w.beside beside n within ∙ and_from _ _ before (not_true _ none),
+      cell_told sizes (opens_back sizes stands Y) w.beside beside n within ∙ and_from _ _ before (not_from_false _ none),
     ))
     next_place Z n within before none = inr (inr (
       place_behind sizes n before ∙ ap (λ r. (row_of sizes (cell_before Z n) + r, place_of_number n.x)) (sym layer),
-      cell_told sizes (opens_back sizes stands Z) w.behind behind n within ∙ and_from _ _ before (not_true _ none),
+      cell_told sizes (opens_back sizes stands Z) w.behind behind n within ∙ and_from _ _ before (not_from_false _ none),
     ))
 
     module _ (first rows : List ℕ) (leading : AreRowWords sizes (leads_at_once sizes stands) first) (floods : FloodsRows w first rows) where

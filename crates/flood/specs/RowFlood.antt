@@ -37,6 +37,10 @@ IsNext w p q = ((q ≡ (p.0, suc p.1)) × IsTrue (has_cell w.along q.0 q.1))
 abbrev pub Joins : RowParts → ℕ × ℕ → ℕ × ℕ → Type 0
 Joins w p q = IsNext w p q ⊎ IsNext w q p
 
+-- a chain of steps leads to a cell from one of these
+abbrev pub IsReached : RowParts → List ℕ → ℕ × ℕ → Type 0
+IsReached w rows q = (p : ℕ × ℕ) × IsTrue (has_cell rows p.0 p.1) × Reaches (Joins w) p q
+
 -- one step leads to a cell from a row that stands so far before or after its own
 abbrev pub is_across : List ℕ → ℕ → List ℕ → ℕ → ℕ → Bool
 is_across ways stride rows r k =
@@ -61,11 +65,11 @@ abbrev pub room : List ℕ → ℕ
 room [] = 0
 room (word ∷ rows) = (2 ^ 64 - word) + room rows
 
--- The cells before are among those after, and a chain of steps leads to each of these from one of those.
+-- The cells before are among those after, and a chain of steps leads to each of these from one of those; words are no less full.
 pub record Grows (w : RowParts) (before after : List ℕ) : Type 0 where
   pub size : length after ≡ length before
   pub kept : (r k : ℕ) → IsTrue (has_cell before r k) → IsTrue (has_cell after r k)
-  pub reached : (r k : ℕ) → IsTrue (has_cell after r k) → (p : ℕ × ℕ) × IsTrue (has_cell before p.0 p.1) × Reaches (Joins w) p (r, k)
+  pub reached : (r k : ℕ) → IsTrue (has_cell after r k) → IsReached w before (r, k)
   pub room : room after ≤ room before
 
 -- nothing has grown, and no step leads to further cells of this row; or something has

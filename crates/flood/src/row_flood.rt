@@ -104,7 +104,7 @@ fn sweep(ways: &RowWays, reached: &mut [u64]) -> bool
     grown
 }
 
-/// FloodsRows on from reached cells to all to which chains of steps lead.
+/// Floods on from reached cells to all to which chains of steps lead.
 pub fn flood_rows(ways: &RowWays, reached: &mut [u64])
     requires count { AreAsMany (ways_of ways.now) (length reached.old) }
     ensures { FloodsRows (ways_of ways.now) reached.old reached.new }
