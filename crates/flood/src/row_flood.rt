@@ -1,8 +1,8 @@
 //! Floods over rows of cells. A row is a word, whose bit k is its cell of number k; rows are listed
 //! layer by layer.
 
-ghost use Rattle.std.specs.Prelude.{◌≡◌, ◌||◌, ◌&&◌, nat_le, ◌-◌, ◌+◌, ◌<◌, ◌≤◌, ◌^◌, ℕ, false, length, slice_index_or, IsTrue};
-ghost use Rattle.flood.specs.RowFlood.{ways_of, AreAsMany, has_cell, is_across, is_pulled, IsClosedRow, Pulls, Sweeps, FloodsRows};
+ghost use Rattle.std.specs.Prelude.{◌≡◌, ◌+◌, ◌<◌, ◌≤◌, ◌^◌, ℕ, length, slice_index_or};
+ghost use Rattle.flood.specs.RowFlood.{ways_of, AreAsMany, is_across, is_pulled, Pulls, Sweeps, FloodsRows};
 ghost use Rattle.lemmas.specs.Bits.{is_set};
 
 /// The ways back from the cells of rows: a bit of a word is set where nothing stands between its

@@ -1,11 +1,11 @@
 //! What is true of the cells of a box with walls, as words: a word is a row of cells along x, and a
 //! bit of it a cell.
 
-ghost use Rattle.std.specs.Prelude.{◌≡◌, ◌≤◌, ◌<◌, ◌+◌, ℕ, pos, IsTrue, IfOk};
-ghost use Rattle.flood.specs.RowWords.{opens_back, opens_out, leads_at_once, is_told, AreRowWords, row_bit};
+ghost use Rattle.std.specs.Prelude.{◌≡◌, ◌≤◌, ◌<◌, ℕ, IsTrue, IfOk};
+ghost use Rattle.flood.specs.RowWords.{opens_back, opens_out, is_told, AreRowWords, row_bit};
 ghost use Rattle.lemmas.specs.Bits.{is_set};
-ghost use Rattle.solid_model.specs.Cells.{cell_at, cell_before, cell_after};
-ghost use Rattle.solid_model.specs.declared.cell.Axis.TheVariants.{X, Y, Z};
+ghost use Rattle.solid_model.specs.Cells.{cell_before};
+ghost use Rattle.solid_model.specs.declared.cell.Axis.TheVariants.{X};
 ghost use Rattle.solid_model.specs.PerAxis.{numbers_of, cell_of, AreFew};
 ghost use Rattle.solid_model.specs.Rooms.{is_within};
 
@@ -14,7 +14,7 @@ use solid_model::{Axis, Memory, PerAxis};
 use std::alloc::Global;
 
 /// What a bit tells of its cell.
-#[derive(Clone, Copy, Debug)]
+#[derive(Clone, Copy)]
 pub enum Told {
     /// Nothing stands between it and the cell before it in the box, along an axis.
     OpensBack(Axis),
