@@ -46,7 +46,7 @@ fn marks_in_rows(alloc: Global, sizes: PerAxis, rows: &[u64]) -> Result<Marks, M
 /// has at most 64 cells, so that it is a word: steps lead from all cells of a row at once. An `Err`
 /// is out of memory.
 pub fn leading_out<W: Walls>(alloc: Global, walls: &W) -> Result<Marks, Memory>
-    requires { W.sizes walls.now X ≤ 64 }
+    requires word { W.sizes walls.now X ≤ 64 }
     ensures { IfOk result (λ marks. AreMarksOf (W.sizes walls.now)
         (LeadsOut (W.sizes walls.now) (λ a n. IsTrue (W.stands walls.now a n))) marks) }
 {

@@ -93,7 +93,7 @@ fn row_word<W: Walls>(walls: &W, sizes: PerAxis, told: Told, cell: PerAxis) -> u
 
 /// The words of all rows, z slowest. An `Err` is out of memory.
 pub fn row_words<W: Walls>(alloc: Global, walls: &W, told: Told) -> Result<Vec<u64>, Memory>
-    requires { W.sizes walls.now X ≤ 64 }
+    requires word { W.sizes walls.now X ≤ 64 }
     ensures { IfOk result (λ words. AreRowWords (W.sizes walls.now)
         (is_told (W.sizes walls.now) (W.stands walls.now) told) words.items) }
 {

@@ -9,8 +9,9 @@ use Rattle.virtual_faces.proofs.EnclosedFaces.{enclosed_virtual}
 use Rattle.virtual_faces.proofs.faces.faces_across.Goals as goal
 
 pub leading_out-requires : goal.leading_out-requires
-leading_out-requires c = few_faces (grid_sizes c.args.grid.now)
-    (subst (λ (s : Sizes). (a : Axis) → s a ≤ 63) c.sizes.ensures.sizes c.sizes.ensures.few) c.args.axis X
+leading_out-requires c = record {
+  word = few_faces (grid_sizes c.args.grid.now) (subst (λ (s : Sizes). (a : Axis) → s a ≤ 63) c.sizes.ensures.sizes c.sizes.ensures.few) c.args.axis X;
+}
 
 pub returns : goal.returns
 returns c = enclosed_virtual c.args.grid.now c.args.wire.now c.requires c.args.axis c.in_ok-leading.leading c.in_ok-marks.marks c.in_ok-leading.ensures c.in_ok-marks.ensures
