@@ -1,10 +1,11 @@
 -- Rows of cells that grow by steps.
-use Rattle.std.proofs.Common.{◌≡◌, ◌≢◌, ◌⊎◌, inl, inr, Bool, true, false, ◌||◌, ◌&&◌, nat_le, ℕ, zero, suc, ◌+◌, ◌-◌, ◌<◌, ◌≤◌, ◌^◌, List, [], ◌∷◌, length, get_or, set, IsTrue, refl, ap, sym, subst, ◌∙◌, arith}
+use Rattle.std.proofs.Common.{◌≡◌, ◌≢◌, ◌⊎◌, inl, inr, Bool, true, false, ◌||◌, ◌&&◌, nat_le, ℕ, zero, suc, ◌+◌, ◌-◌, ◌*◌, ◌<◌, ◌≤◌, ◌^◌, List, [], ◌∷◌, length, get_or, set, IsTrue, refl, ap, ap₂, sym, subst, ◌∙◌, arith}
 use Rattle.std.proofs.lemmas.Bool.{false≢true, and_parts, and_from, or_left, or_right, or_cases, cases_eq, leb-true, le-leb}
 use Rattle.std.proofs.lemmas.List.{length-set, get_or-set_same, get_or-set_other}
+use Rattle.std.proofs.Math.Nat.{mul-le-mul_right, suc-mul}
 use Rattle.lemmas.specs.Bits.{is_set}
 use Rattle.lemmas.proofs.Chains.{reaches-itself, reaches-step, reaches-onward}
-use Rattle.flood.specs.RowFlood.{RowParts, has_cell, IsNext, Joins, IsReached, is_across, is_along, is_pulled, IsClosedRow, room, Grows, Pulls, Sweeps, FloodsRows}
+use Rattle.flood.specs.RowFlood.{RowParts, has_cell, IsNext, Joins, IsReached, is_across, is_along, is_pulled, IsClosedRow, AreClosedRows, AreClosedBut, room, Grows, Pulls}
 
 module _ (w : RowParts) (rows : List ℕ) where
   one_step : (p q : ℕ × ℕ) → IsTrue (has_cell rows p.0 p.1) → Joins w p q → IsReached w rows q
@@ -157,6 +158,7 @@ module _ (w : RowParts) where
   pub pulls_none : (rows : List ℕ) (r word : ℕ) → ((k : ℕ) → is_set word k ≡ is_pulled w rows r k) → word ≡ get_or rows r 0 → Pulls w r rows rows false
   pulls_none rows r word cells same = record {
     grows = grows_none rows;
+    others = λ s apart. refl;
     same = λ _. refl;
     closed = λ _ k h. ap (λ n. is_set n k) (sym same) ∙ cells k ∙ h;
     more = λ e. absurd (false≢true e);
@@ -167,47 +169,52 @@ module _ (w : RowParts) where
       → ((k : ℕ) → is_set word k ≡ is_pulled w rows r k) → Pulls w r rows (set rows r word) true
   pulls_more rows r word within more other fits cells = record {
     grows = grows_one rows r word within more cells;
+    others = λ s apart. get_or-set_other rows r s word 0 apart;
     same = λ e. absurd (false≢true (sym e));
     closed = λ e. absurd (false≢true (sym e));
     more = λ _. room_less rows r word within (omega (arith, more, other)) fits;
   }
 
-  -- ---- sweeps
+  -- ---- rows that are closed
 
-  pub sweeps_none : (rows : List ℕ) → Sweeps w 0 rows rows false
-  sweeps_none rows = record {
-    grows = grows_none rows;
-    same = λ _. refl;
-    closed = λ _ r l. absurd (omega arith);
-    more = λ e. absurd (false≢true e);
-  }
+  -- where another row than these has grown, no step leads to them from there
+  module _ (before after : List ℕ) (row : ℕ) (others : (s : ℕ) → s ≢ row → get_or after s 0 ≡ get_or before s 0) where
+    same : (s k : ℕ) → s ≢ row → has_cell after s k ≡ has_cell before s k
+    same s k apart = ap (λ n. is_set n k) (others s apart)
 
-  -- a row has grown,
-  pub sweeps_grown : (turn r : ℕ) (a b c : List ℕ) (grown : Bool) → Sweeps w turn a b grown → Pulls w r b c true → Sweeps w turn a c true
-  sweeps_grown turn r a b c grown so_far pulls = record {
-    grows = grows_then a b c so_far.grows pulls.grows;
-    same = λ e. absurd (false≢true (sym e));
-    closed = λ e. absurd (false≢true (sym e));
-    more = λ _. (let l = so_far.grows.room in let m = pulls.more refl in omega arith);
-  }
+    same_before : (s k : ℕ) → s < row → has_cell after s k ≡ has_cell before s k
+    same_before s k l = same s k (λ e. omega (arith, l, e))
 
-  -- or the next one has its turn
-  pub sweeps_on : (turn r : ℕ) (a b c : List ℕ) (grown : Bool) → Sweeps w turn a b grown → Pulls w r b c false → (turn < length a → r ≡ turn)
-      → Sweeps w (turn + 1) a c grown
-  sweeps_on turn r a b c grown so_far pulls early = record {
-    grows = grows_then a b c so_far.grows pulls.grows;
-    same = λ e. pulls.same refl ∙ so_far.same e;
-    closed = λ e s l within. elim (cases_eq s turn) as (λ _. IsClosedRow w a s) [
-      | inl is ↦ subst (IsClosedRow w a) (early (omega (arith, is, within)) ∙ sym is) (subst (λ rows. IsClosedRow w rows r) (so_far.same e) (pulls.closed refl))
-      | inr other ↦ so_far.closed e s (omega (arith, l, other)) within
-    ];
-    more = λ e. (let l = so_far.more e in let m = pulls.grows.room in omega arith);
-  }
+    across_same : (ways : List ℕ) (stride r k : ℕ) → r < row → r + stride ≢ row → is_across ways stride after r k ≡ is_across ways stride before r k
+    across_same ways stride r k l apart = ap₂ (λ s t. (nat_le stride r && (s && has_cell ways r k)) || (t && has_cell ways (r + stride) k))
+        (same_before (r - stride) k (omega (arith, l))) (same (r + stride) k apart)
 
-  -- the last sweep leads to no further cells
-  pub floods_end : (rows b c : List ℕ) (turns : ℕ) → Grows w rows b → Sweeps w turns b c false → turns ≡ length b → FloodsRows w rows c
-  floods_end rows b c turns so_far last all = record {
-    grows = grows_then rows b c so_far last.grows;
-    closed = λ r l. subst (λ cells. IsClosedRow w cells r) (sym (last.same refl))
-        (let size = ap length (last.same refl) in last.closed refl r (omega (arith, l, size, all)) (omega (arith, l, size)));
-  }
+    along_same : (r k : ℕ) → r < row → is_along w.along after r k ≡ is_along w.along before r k
+    along_same r zero l = refl
+    along_same r (suc k) l = ap (λ t. t && has_cell w.along r (suc k)) (same_before r k l)
+
+    pulled_same : (r k : ℕ) → r < row → r + 1 ≢ row → r + w.layer ≢ row → is_pulled w after r k ≡ is_pulled w before r k
+    pulled_same r k l one layer =
+        ap₂ (λ s t. s || t) (same_before r k l)
+        (ap₂ (λ s t. s || t) (along_same r k l)
+        (ap₂ (λ s t. s || t) (ap (λ t. t && has_cell w.along r (suc k)) (same_before r (suc k) l))
+        (ap₂ (λ s t. s || t) (across_same w.beside 1 r k l one) (across_same w.behind w.layer r k l layer))))
+
+    pub closed_still : AreClosedRows w before row → AreClosedBut w after row
+    closed_still closed r l one layer k pulled =
+        same_before r k l ∙ closed r l k (sym (pulled_same r k l one layer) ∙ pulled)
+
+  -- one row more is closed
+  pub closed_one_more : (rows : List ℕ) (n : ℕ) → AreClosedRows w rows n → IsClosedRow w rows n → AreClosedRows w rows (n + 1)
+  closed_one_more rows n closed last r l = elim (cases_eq r n) as (λ _. IsClosedRow w rows r) [
+    | inl is ↦ subst (IsClosedRow w rows) (sym is) last
+    | inr other ↦ closed r (omega (arith, l, other))
+  ]
+
+-- ---- how far it is to the end
+
+-- where a row has grown, however far back it goes on,
+pub nearer_grown : (left less count row first : ℕ) → less < left → less * (count + 1) + (count - first) < left * (count + 1) + (count - row)
+nearer_grown left less count row first l =
+    let far : suc less * (count + 1) ≤ left * (count + 1) = mul-le-mul_right (count + 1) (omega (arith, l)) in
+    omega (arith, far, suc-mul less (count + 1))

@@ -1,5 +1,5 @@
 -- Floods over rows of cells. A row is a word, whose bit k is its cell of number k; rows are listed layer by layer.
-use Rattle.std.specs.Prelude.{◌≡◌, ◌⊎◌, ◌||◌, ◌&&◌, Bool, true, false, nat_le, ℕ, zero, suc, ◌+◌, ◌-◌, ◌<◌, ◌≤◌, ◌^◌, List, [], ◌∷◌, length, slice_index_or, IsTrue}
+use Rattle.std.specs.Prelude.{◌≡◌, ◌≢◌, ◌⊎◌, ◌||◌, ◌&&◌, Bool, true, false, nat_le, ℕ, zero, suc, ◌+◌, ◌-◌, ◌<◌, ◌≤◌, ◌^◌, List, [], ◌∷◌, length, slice_index_or, IsTrue}
 use Rattle.lemmas.specs.Bits.{is_set}
 use Rattle.lemmas.specs.Chains.{Reaches}
 use Rattle.flood.specs.declared.row_flood.RowWays.{RowWays}
@@ -72,21 +72,23 @@ pub record Grows (w : RowParts) (before after : List ℕ) : Type 0 where
   pub reached : (r k : ℕ) → IsTrue (has_cell after r k) → IsReached w before (r, k)
   pub room : room after ≤ room before
 
--- nothing has grown, and no step leads to further cells of this row; or something has
+-- nothing has grown, and no step leads to further cells of this row; or it has, and no other one
 pub record Pulls (w : RowParts) (r : ℕ) (before after : List ℕ) (grown : Bool) : Type 0 where
   pub grows : Grows w before after
+  pub others : (s : ℕ) → s ≢ r → slice_index_or after s 0 ≡ slice_index_or before s 0
   pub same : grown ≡ false → after ≡ before
   pub closed : grown ≡ false → IsClosedRow w before r
   pub more : grown ≡ true → room after < room before
 
--- the same of so many first rows, as far as there are so many
-pub record Sweeps (w : RowParts) (rows : ℕ) (before after : List ℕ) (grown : Bool) : Type 0 where
-  pub grows : Grows w before after
-  pub same : grown ≡ false → after ≡ before
-  pub closed : grown ≡ false → (r : ℕ) → r < rows → r < length before → IsClosedRow w before r
-  pub more : grown ≡ true → room after < room before
+-- no step leads to further cells of so many first rows
+abbrev pub AreClosedRows : RowParts → List ℕ → ℕ → Type 0
+AreClosedRows w rows n = (r : ℕ) → r < n → IsClosedRow w rows r
+
+-- the same of those to which no step leads from the next one
+abbrev pub AreClosedBut : RowParts → List ℕ → ℕ → Type 0
+AreClosedBut w rows n = (r : ℕ) → r < n → r + 1 ≢ n → r + w.layer ≢ n → IsClosedRow w rows r
 
 -- all cells to which chains of steps lead from those before
 pub record FloodsRows (w : RowParts) (before after : List ℕ) : Type 0 where
   pub grows : Grows w before after
-  pub closed : (r : ℕ) → r < length after → IsClosedRow w after r
+  pub closed : AreClosedRows w after (length after)

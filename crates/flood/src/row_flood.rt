@@ -1,8 +1,8 @@
 //! Floods over rows of cells. A row is a word, whose bit k is its cell of number k; rows are listed
 //! layer by layer.
 
-ghost use Rattle.std.specs.Prelude.{◌≡◌, ◌+◌, ◌<◌, ◌≤◌, ◌^◌, ℕ, length, slice_index_or};
-ghost use Rattle.flood.specs.RowFlood.{ways_of, AreAsMany, is_across, is_pulled, Pulls, Sweeps, FloodsRows};
+ghost use Rattle.std.specs.Prelude.{◌≡◌, true, false, ◌+◌, ◌<◌, ◌≤◌, ◌^◌, ℕ, length, slice_index_or};
+ghost use Rattle.flood.specs.RowFlood.{ways_of, AreAsMany, AreClosedBut, AreClosedRows, IsClosedRow, is_across, is_pulled, Pulls, FloodsRows};
 ghost use Rattle.lemmas.specs.Bits.{is_set};
 
 /// The ways back from the cells of rows: a bit of a word is set where nothing stands between its
@@ -71,43 +71,62 @@ fn pull(ways: &RowWays, row: usize, reached: &mut [u64]) -> bool
     true
 }
 
-/// The row that has its turn: each row, and then each once more from the last one on.
-fn row_of_turn(turn: usize, rows: usize) -> usize
-    requires few { rows ≤ 2 ^ 32 }
-    requires turn { turn < rows + rows }
-    ensures within { result < rows }
-    ensures early { turn < rows → result ≡ turn }
+/// One step leads to further cells of a row.
+fn is_open(ways: &RowWays, reached: &[u64], row: usize) -> bool
+    requires count { AreAsMany (ways_of ways.now) (length reached.now) }
+    requires row { row < length reached.now }
+    ensures { result ≡ false → IsClosedRow (ways_of ways.now) reached.now row }
 {
-    if turn < rows {
-        turn
-    } else {
-        rows + rows - 1 - turn
-    }
+    pulled(ways, reached, row) != reached[row]
 }
 
-/// Steps to the cells of each row for as long as they lead to any, forth and back over the rows;
-/// and whether one did.
-fn sweep(ways: &RowWays, reached: &mut [u64]) -> bool
-    requires count { AreAsMany (ways_of ways.now) (length reached.old) }
-    ensures { Sweeps (ways_of ways.now) (length reached.old) reached.old reached.new result }
+/// One step leads to further cells of the row that stands so far before another one.
+fn is_open_before(ways: &RowWays, reached: &[u64], row: usize, stride: usize) -> bool
+    requires count { AreAsMany (ways_of ways.now) (length reached.now) }
+    requires row { row < length reached.now }
+    ensures there { result ≡ true → (0 < stride) × (stride ≤ row) }
+    ensures closed { result ≡ false → (r : ℕ) → r < row → r + stride ≡ row
+        → IsClosedRow (ways_of ways.now) reached.now r }
 {
-    let rows = reached.len();
-    let mut grown = false;
-    let mut turn = 0;
-    while turn < rows + rows {
-        if pull(ways, row_of_turn(turn, rows), reached) {
-            grown = true;
-        } else {
-            turn += 1;
-        }
+    if stride == 0 {
+        return false;
     }
-    grown
+    if row < stride {
+        return false;
+    }
+    is_open(ways, reached, row - stride)
 }
 
-/// Floods on from reached cells to all to which chains of steps lead.
+/// The first row to which one step may lead further cells, once a row has grown: one of the two
+/// before it to which a step leads from it, or else the row itself.
+fn first_open(ways: &RowWays, reached: &[u64], row: usize) -> usize
+    requires count { AreAsMany (ways_of ways.now) (length reached.now) }
+    requires row { row < length reached.now }
+    requires closed { AreClosedBut (ways_of ways.now) reached.now row }
+    ensures within { result ≤ row }
+    ensures closed { AreClosedRows (ways_of ways.now) reached.now result }
+{
+    if is_open_before(ways, reached, row, ways.layer) {
+        return row - ways.layer;
+    }
+    if is_open_before(ways, reached, row, 1) {
+        return row - 1;
+    }
+    row
+}
+
+/// Floods on from reached cells to all to which chains of steps lead. A row is looked at once, and
+/// a few times more for each time that it or one beside it grows.
 pub fn flood_rows(ways: &RowWays, reached: &mut [u64])
     requires count { AreAsMany (ways_of ways.now) (length reached.old) }
     ensures { FloodsRows (ways_of ways.now) reached.old reached.new }
 {
-    while sweep(ways, reached) {}
+    let mut row = 0;
+    while row < reached.len() {
+        if pull(ways, row, reached) {
+            row = first_open(ways, reached, row);
+        } else {
+            row += 1;
+        }
+    }
 }

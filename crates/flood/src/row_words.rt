@@ -4,7 +4,7 @@
 ghost use Rattle.std.specs.Prelude.{◌≡◌, ◌≤◌, ◌<◌, ℕ, IsTrue, IfOk};
 ghost use Rattle.flood.specs.RowWords.{opens_back, opens_out, is_told, AreRowWords, row_bit};
 ghost use Rattle.lemmas.specs.Bits.{is_set};
-ghost use Rattle.solid_model.specs.Cells.{cell_before};
+ghost use Rattle.solid_model.specs.Cells.{cell_before, cell_after};
 ghost use Rattle.solid_model.specs.declared.cell.Axis.TheVariants.{X};
 ghost use Rattle.solid_model.specs.PerAxis.{numbers_of, cell_of, AreFew};
 ghost use Rattle.solid_model.specs.Rooms.{is_within};
@@ -22,14 +22,21 @@ pub enum Told {
     LeadsOut,
 }
 
-/// The cell before one along an axis is one of the box.
+/// The cell before one of the box along an axis is one of the box too.
 fn has_before(sizes: PerAxis, axis: Axis, cell: PerAxis) -> bool
+    requires { IsTrue (is_within (numbers_of sizes) (cell_of cell)) }
     ensures { result ≡ is_within (numbers_of sizes) (cell_before axis (cell_of cell)) }
 {
-    match cell.before(axis) {
-        Some(before) => sizes.has(before),
-        None => false,
-    }
+    0 < cell.along(axis)
+}
+
+/// The cell after one of the box along an axis is one of the box too.
+fn has_after(sizes: PerAxis, axis: Axis, cell: PerAxis) -> bool
+    requires few { AreFew (numbers_of sizes) }
+    requires within { IsTrue (is_within (numbers_of sizes) (cell_of cell)) }
+    ensures { result ≡ is_within (numbers_of sizes) (cell_after axis (cell_of cell)) }
+{
+    cell.along(axis) + 1 < sizes.along(axis)
 }
 
 /// Nothing stands between a cell and the one before it in the box.
@@ -51,8 +58,7 @@ fn opens_out<W: Walls>(walls: &W, sizes: PerAxis, axis: Axis, cell: PerAxis) -> 
     if !has_before(sizes, axis, cell) && !walls.stands(axis, cell) {
         return true;
     }
-    let after = cell.after(axis);
-    !sizes.has(after) && !walls.stands(axis, after)
+    !has_after(sizes, axis, cell) && !walls.stands(axis, cell.after(axis))
 }
 
 /// What is told of a cell.
