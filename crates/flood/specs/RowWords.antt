@@ -13,6 +13,10 @@ use Rattle.flood.specs.RowFlood.{has_cell}
 abbrev pub opens_back : Sizes → (Axis → Cell → Bool) → Axis → Cell → Bool
 opens_back sizes stands a n = is_within sizes (cell_before a n) && not (stands a n)
 
+-- both neighbours of a cell along an axis are in the box
+abbrev pub is_inner : Sizes → Axis → Cell → Bool
+is_inner sizes a n = is_within sizes (cell_before a n) && is_within sizes (cell_after a n)
+
 -- nothing stands between a cell and one outside, along an axis
 abbrev pub opens_out : Sizes → (Axis → Cell → Bool) → Axis → Cell → Bool
 opens_out sizes stands a n = (not (is_within sizes (cell_before a n)) && not (stands a n))

@@ -2,7 +2,7 @@
 //! bit of it a cell.
 
 ghost use Rattle.std.specs.Prelude.{◌≡◌, ◌≤◌, ◌<◌, ℕ, IsTrue, IfOk};
-ghost use Rattle.flood.specs.RowWords.{opens_back, opens_out, is_told, AreRowWords, row_bit};
+ghost use Rattle.flood.specs.RowWords.{is_inner, opens_back, opens_out, leads_at_once, is_told, AreRowWords, row_bit};
 ghost use Rattle.lemmas.specs.Bits.{is_set};
 ghost use Rattle.solid_model.specs.Cells.{cell_before, cell_after};
 ghost use Rattle.solid_model.specs.declared.cell.Axis.TheVariants.{X};
@@ -23,6 +23,7 @@ pub enum Told {
 }
 
 /// The cell before one of the box along an axis is one of the box too.
+#[inline(always)]
 fn has_before(sizes: PerAxis, axis: Axis, cell: PerAxis) -> bool
     requires { IsTrue (is_within (numbers_of sizes) (cell_of cell)) }
     ensures { result ≡ is_within (numbers_of sizes) (cell_before axis (cell_of cell)) }
@@ -31,6 +32,7 @@ fn has_before(sizes: PerAxis, axis: Axis, cell: PerAxis) -> bool
 }
 
 /// The cell after one of the box along an axis is one of the box too.
+#[inline(always)]
 fn has_after(sizes: PerAxis, axis: Axis, cell: PerAxis) -> bool
     requires few { AreFew (numbers_of sizes) }
     requires within { IsTrue (is_within (numbers_of sizes) (cell_of cell)) }
@@ -39,7 +41,18 @@ fn has_after(sizes: PerAxis, axis: Axis, cell: PerAxis) -> bool
     cell.along(axis) + 1 < sizes.along(axis)
 }
 
+/// Both neighbours of a cell of the box along an axis are cells of the box too.
+#[inline(always)]
+fn is_inner(sizes: PerAxis, axis: Axis, cell: PerAxis) -> bool
+    requires few { AreFew (numbers_of sizes) }
+    requires within { IsTrue (is_within (numbers_of sizes) (cell_of cell)) }
+    ensures { result ≡ is_inner (numbers_of sizes) axis (cell_of cell) }
+{
+    has_before(sizes, axis, cell) && has_after(sizes, axis, cell)
+}
+
 /// Nothing stands between a cell and the one before it in the box.
+#[inline(always)]
 fn opens_back<W: Walls>(walls: &W, sizes: PerAxis, axis: Axis, cell: PerAxis) -> bool
     requires sizes { numbers_of sizes ≡ W.sizes walls.now }
     requires within { IsTrue (is_within (W.sizes walls.now) (cell_of cell)) }
@@ -61,7 +74,27 @@ fn opens_out<W: Walls>(walls: &W, sizes: PerAxis, axis: Axis, cell: PerAxis) -> 
     !has_after(sizes, axis, cell) && !walls.stands(axis, cell.after(axis))
 }
 
+/// Nothing stands between a cell and one outside. Of most cells all neighbours are in the box.
+#[inline(always)]
+fn leads_at_once<W: Walls>(walls: &W, sizes: PerAxis, cell: PerAxis) -> bool
+    requires sizes { numbers_of sizes ≡ W.sizes walls.now }
+    requires few { AreFew (numbers_of sizes) }
+    requires within { IsTrue (is_within (W.sizes walls.now) (cell_of cell)) }
+    ensures { result ≡ leads_at_once (W.sizes walls.now) (W.stands walls.now) (cell_of cell) }
+{
+    if is_inner(sizes, Axis::X, cell)
+        && is_inner(sizes, Axis::Y, cell)
+        && is_inner(sizes, Axis::Z, cell)
+    {
+        return false;
+    }
+    opens_out(walls, sizes, Axis::X, cell)
+        || opens_out(walls, sizes, Axis::Y, cell)
+        || opens_out(walls, sizes, Axis::Z, cell)
+}
+
 /// What is told of a cell.
+#[inline(always)]
 fn is_told<W: Walls>(walls: &W, sizes: PerAxis, told: Told, cell: PerAxis) -> bool
     requires sizes { numbers_of sizes ≡ W.sizes walls.now }
     requires few { AreFew (numbers_of sizes) }
@@ -70,11 +103,7 @@ fn is_told<W: Walls>(walls: &W, sizes: PerAxis, told: Told, cell: PerAxis) -> bo
 {
     match told {
         Told::OpensBack(axis) => opens_back(walls, sizes, axis, cell),
-        Told::LeadsOut => {
-            opens_out(walls, sizes, Axis::X, cell)
-                || opens_out(walls, sizes, Axis::Y, cell)
-                || opens_out(walls, sizes, Axis::Z, cell)
-        }
+        Told::LeadsOut => leads_at_once(walls, sizes, cell),
     }
 }
 
