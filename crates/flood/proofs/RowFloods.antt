@@ -1,8 +1,7 @@
 -- Rows of cells that grow by steps.
-use Rattle.std.proofs.Common.{◌≡◌, ◌≢◌, ◌⊎◌, inl, inr, Bool, true, false, ◌||◌, ◌&&◌, nat_le, ℕ, zero, suc, ◌+◌, ◌-◌, ◌*◌, ◌<◌, ◌≤◌, ◌^◌, List, [], ◌∷◌, length, get_or, set, IsTrue, refl, ap, ap₂, sym, subst, ◌∙◌, arith}
+use Rattle.std.proofs.Common.{◌≡◌, ◌≢◌, ◌⊎◌, inl, inr, true, false, ◌||◌, ◌&&◌, nat_le, ℕ, zero, suc, ◌+◌, ◌-◌, ◌<◌, ◌≤◌, ◌^◌, List, [], ◌∷◌, length, get_or, set, IsTrue, refl, ap, ap₂, sym, subst, ◌∙◌, arith}
 use Rattle.std.proofs.lemmas.Bool.{false≢true, and_parts, and_from, or_left, or_right, or_cases, cases_eq, leb-true, le-leb}
 use Rattle.std.proofs.lemmas.List.{length-set, get_or-set_same, get_or-set_other}
-use Rattle.std.proofs.Math.Nat.{mul-le-mul_right, suc-mul}
 use Rattle.lemmas.specs.Bits.{is_set}
 use Rattle.lemmas.proofs.Chains.{reaches-itself, reaches-step, reaches-onward}
 use Rattle.flood.specs.RowFlood.{RowParts, has_cell, IsNext, Joins, IsReached, is_across, is_along, is_pulled, IsClosedRow, AreClosedRows, AreClosedBut, room, Grows, Pulls}
@@ -210,11 +209,3 @@ module _ (w : RowParts) where
     | inl is ↦ subst (IsClosedRow w rows) (sym is) last
     | inr other ↦ closed r (omega (arith, l, other))
   ]
-
--- ---- how far it is to the end
-
--- where a row has grown, however far back it goes on,
-pub nearer_grown : (left less count row first : ℕ) → less < left → less * (count + 1) + (count - first) < left * (count + 1) + (count - row)
-nearer_grown left less count row first l =
-    let far : suc less * (count + 1) ≤ left * (count + 1) = mul-le-mul_right (count + 1) (omega (arith, l)) in
-    omega (arith, far, suc-mul less (count + 1))

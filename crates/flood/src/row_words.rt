@@ -108,6 +108,7 @@ fn is_told<W: Walls>(walls: &W, sizes: PerAxis, told: Told, cell: PerAxis) -> bo
 }
 
 /// The word of the row of a cell.
+#[inline(always)]
 fn row_word<W: Walls>(walls: &W, sizes: PerAxis, told: Told, cell: PerAxis) -> u64
     requires sizes { numbers_of sizes ≡ W.sizes walls.now }
     requires few { AreFew (numbers_of sizes) }
@@ -127,6 +128,8 @@ fn row_word<W: Walls>(walls: &W, sizes: PerAxis, told: Told, cell: PerAxis) -> u
 }
 
 /// The words of all rows, z slowest. An `Err` is out of memory.
+// Each call has a question of its own, which it doesn't ask anew at each cell.
+#[inline(always)]
 pub fn row_words<W: Walls>(alloc: Global, walls: &W, told: Told) -> Result<Vec<u64>, Memory>
     requires word { W.sizes walls.now X ≤ 64 }
     ensures { IfOk result (λ words. AreRowWords (W.sizes walls.now)

@@ -1,5 +1,5 @@
 -- The rows before are closed: no step leads to them from the row that has grown, or it leads to no further cells.
-use Rattle.std.proofs.Common.{inl, inr, ◌+◌, ℕ, arith}
+use Rattle.std.proofs.Common.{inl, inr, ◌+◌, arith}
 use Rattle.std.proofs.lemmas.Bool.{cases_eq}
 use Rattle.flood.specs.RowFlood.{ways_of, IsClosedRow}
 use Rattle.flood.proofs.row_flood.first_open.Goals as goal

@@ -1,7 +1,7 @@
 -- A row has grown, or one more is closed.
-use Rattle.std.proofs.Common.{◌≡◌, ◌-◌, ◌+◌, ◌*◌, length, sym, subst, ap, ◌∙◌, arith}
-use Rattle.flood.specs.RowFlood.{ways_of, room, AreClosedRows, IsClosedRow}
-use Rattle.flood.proofs.RowFloods.{grows_none, grows_then, closed_still, closed_one_more, nearer_grown}
+use Rattle.std.proofs.Common.{◌+◌, sym, subst, arith}
+use Rattle.flood.specs.RowFlood.{ways_of, AreClosedRows}
+use Rattle.flood.proofs.RowFloods.{grows_none, grows_then, closed_still, closed_one_more}
 use Rattle.flood.proofs.row_flood.flood_rows.Goals as goal
 
 pub loop-row-init : goal.loop-row-init
