@@ -1,12 +1,12 @@
 -- How a reader's steps go on with what is left.
-use Rattle.std.proofs.Common.{◌≡◌, ℕ, Bool, true, false, List, [], ◌∷◌, Option, Some, None, Result, Ok, Err, if◌then◌else◌, codes, IsErrOf, refl, sym, ap, ap₂, ◌∙◌}
+use Rattle.std.proofs.Common.{◌≡◌, ℕ, Bool, true, false, cond, List, [], ◌∷◌, Option, Some, None, Result, Ok, Err, if◌then◌else◌, codes, IsErrOf, refl, sym, ap, ap₂, ◌∙◌}
 use Rattle.std.specs.Option.{option_map, option_or}
 use Rattle.solid_model.specs.declared.fault.Fault.{Fault}
 use Rattle.solid_model.specs.declared.fault.Fault.TheVariants.{BadSection}
 use Rattle.solid_model.specs.declared.fault.Refused.{Refused}
 use Rattle.solid_model.specs.declared.fault.Refused.TheVariants as refused
 use Rattle.dxf_groups.specs.declared.pair.Pair.{Pair}
-use Rattle.dxf_groups.specs.Groups.{GroupsState, Gives, IsReadThrough}
+use Rattle.dxf_groups.specs.Groups.{GroupsState, Gives, IsReadThrough, from_zero}
 use Rattle.dxf_groups.specs.Spans.{span_of}
 use Rattle.dxf_entities.specs.declared.facts.Facts.{Facts}
 use Rattle.dxf_entities.specs.declared.layer.Layer.{Layer as ReadLayer}
@@ -207,6 +207,32 @@ unfolding resumed
 goes_on r section inside ps ending =
     ap (λ place. then_entries ps ending
     (advanced place (is_ended (entries_of ps) ending) (before_entries ps) r)) inside
+
+-- no entry begins before the first pair with code 0,
+entries_on : (ps : List TextPair) → entries_of (from_zero ps) ≡ entries_of ps
+entries_on [] = refl
+entries_on (p ∷ ps) = by (has_code 0 p) refl (entries_on ps)
+  where
+    by : (b : Bool) → has_code 0 p ≡ b → entries_of (from_zero ps) ≡ entries_of ps → entries_of (cond b (p ∷ ps) (from_zero ps))
+        ≡ (if b then record { name = p.value; line = p.line; pairs = before_entries ps } ∷ entries_of ps else entries_of ps)
+    by true is same = rw is refl
+    by false is same = same
+
+-- and what is passed over is closed with any pairs
+passed_closes : (b : Bool) (ps : List TextPair) (r : Reader) → r.entry ≡ Passed
+    → closed_where b ps r ≡ Ok (progress_of r)
+passed_closes true ps r is = ap (λ entry. entry_closed entry r.in_application ps (progress_of r)) is
+passed_closes false ps r is = refl
+
+-- so in a section, where an entry is passed over, its pairs count for nothing
+pub passes_on : (r : Reader) (section : Section) → r.place ≡ Inside section → r.entry ≡ Passed
+    → (ps : List TextPair) (ending : Result ℕ Fault) → resumed ps ending r ≡ resumed (from_zero ps) ending r
+passes_on r section inside is ps ending =
+    at ps ∙ ap (λ es. Ok (progress_of r) >>= entries_read es ending) (sym (entries_on ps)) ∙ sym (at (from_zero ps))
+  where
+    at : (qs : List TextPair) → resumed qs ending r ≡ (Ok (progress_of r) >>= entries_read (entries_of qs) ending)
+    at qs = goes_on r section inside qs ending
+        ∙ ap (then_entries qs ending) (passed_closes (is_ended (entries_of qs) ending) (before_entries qs) r is)
 
 -- in a section, where the entry that it ends is closed
 module _ (p : TextPair) (zero : has_code 0 p ≡ true) (old new : Reader) (section : Section)

@@ -8,6 +8,7 @@
 ghost use Rattle.std.specs.Prelude.{◌≡◌, ℕ, List, [], ◌∷◌, Result, Ok, Err, IfOk, OnOk, IsErrOf, true, false, IsTrue};
 ghost use Rattle.solid_model.specs.declared.fault.Fault.{Fault};
 ghost use Rattle.solid_model.specs.declared.fault.Refused.TheVariants as refused;
+ghost use Rattle.dxf_groups.specs.Groups.{from_zero};
 ghost use Rattle.dxf_groups.specs.Pairs.{TextPair, Pairs, text_pair};
 ghost use Rattle.dxf_entities.specs.Entries.{has_code, opens_application, closes_application};
 ghost use Rattle.dxf_entities.specs.Reading.{pairs_read};
@@ -169,6 +170,18 @@ impl Reader {
                 Ok(())
             }
             _ => Err(Refused::Fault(Fault::BadSection { line: pair.line })),
+        }
+    }
+
+    /// Whether the pairs up to the next one with code 0 count for nothing: the open entry is passed
+    /// over.
+    pub fn passes(&self) -> bool
+        ensures { IsTrue result → (ps : List TextPair) (ending : Result ℕ Fault)
+            → resumed ps ending self.now ≡ resumed (from_zero ps) ending self.now }
+    {
+        match (&self.place, &self.entry) {
+            (Place::Inside(_), Open::Passed) => true,
+            _ => false,
         }
     }
 

@@ -1,8 +1,9 @@
 -- What a reader of pairs has left, and what it gives.
-use Rattle.std.specs.Prelude.{◌≡◌, ℕ, List, Option, Some, None, Result, Ok, Err}
+use Rattle.std.specs.Prelude.{◌≡◌, ℕ, pos, cond, List, [], ◌∷◌, Option, Some, None, Result, Ok, Err}
+use Rattle.std.specs.Ordering.{int_eq}
 use Rattle.solid_model.specs.declared.fault.Fault.{Fault}
 use Rattle.dxf_groups.specs.declared.pair.Pair.{Pair}
-use Rattle.dxf_groups.specs.Pairs.{Pairs, ended, pairs_of, text_pair, with_pair}
+use Rattle.dxf_groups.specs.Pairs.{TextPair, Pairs, ended, pairs_of, text_pair, with_pair}
 use Rattle.dxf_groups.specs.Spans.{IsSpanIn, span_of}
 
 -- a reader's text, the pairs that it hasn't given yet, and the line of the end pair's code, once that
@@ -11,6 +12,15 @@ pub record GroupsState : Type 0 where
   pub text : List ℕ
   pub left : Pairs
   pub end_line : Option ℕ
+
+-- the pairs from the first one with group code 0 on
+abbrev pub from_zero : List TextPair → List TextPair
+from_zero [] = []
+from_zero (p ∷ ps) = cond (int_eq p.code (pos 0)) (p ∷ ps) (from_zero ps)
+
+-- the same of the pairs that are left, which end as they do
+abbrev pub zero_on : Pairs → Pairs
+zero_on ps = record { pairs = from_zero ps.pairs; ending = ps.ending }
 
 -- a reader gives the first pair that is left, and has the others left
 pub record GivesPair (old : GroupsState) (pair : Pair) (new : GroupsState) : Type 0 where

@@ -3,13 +3,13 @@
 //! A pair is read at a place in the text; its value is a span, and nothing is copied.
 
 ghost use Rattle.std.specs.Prelude.{◌≡◌, ◌↔◌, ◌≤◌, length, drop, Some, None, IfSome};
-ghost use Rattle.dxf_groups.specs.Groups.{GroupsState, Gives};
+ghost use Rattle.dxf_groups.specs.Groups.{GroupsState, Gives, zero_on};
 ghost use Rattle.dxf_groups.specs.Pairs.{pairs_of, rest_of_text, without_mark};
 ghost use Rattle.dxf_groups.specs.Spans.{IsSpanIn, span_of};
 ghost use Rattle.solid_model.specs.Limits.{most_text_bytes};
 
 use crate::pair::Pair;
-use crate::pairs::{is_end, pair_from};
+use crate::pairs::{is_end, pair_from, zero_from};
 use solid_model::Fault;
 use std::marker::Model;
 
@@ -107,6 +107,19 @@ impl Groups {
             return Ok(None);
         }
         Ok(Some(read.pair))
+    }
+
+    /// Passes over the pairs up to the next one with group code 0, which `next` gives then, as it
+    /// gives the fault where there is none. What counts of their values isn't found.
+    #[inline(always)]
+    pub fn pass_to_zero(&mut self)
+        ensures { self.new ≡ record self.old { left = zero_on self.old.left } }
+    {
+        if self.ending.is_none() {
+            let place = zero_from(self.text.as_slice(), self.place, self.line);
+            self.place = place.start;
+            self.line = place.line;
+        }
     }
 
     /// The number of the line of the end pair's code; None where the end pair wasn't read.

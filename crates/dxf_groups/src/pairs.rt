@@ -1,15 +1,16 @@
 //! The pairs of a text.
 
-ghost use Rattle.std.specs.Prelude.{◌≡◌, ◌<◌, ◌≤◌, Some, false, length, drop, IfOk, IfSome};
+ghost use Rattle.std.specs.Prelude.{◌≡◌, ◌+◌, ◌<◌, ◌≤◌, Some, None, false, length, drop, IfOk, IfSome};
 ghost use Rattle.std.specs.List.{after_first, before_first};
 ghost use Rattle.dxf_groups.specs.Codes.{group_code_of, is_comment, is_end};
-ghost use Rattle.dxf_groups.specs.ReadPairs.{IsPlaceIn, IsReading};
+ghost use Rattle.dxf_groups.specs.Groups.{zero_on};
+ghost use Rattle.dxf_groups.specs.ReadPairs.{IsPlaceIn, IsReading, pairs_at};
 ghost use Rattle.dxf_groups.specs.Spans.{IsSpanIn, span_of};
 ghost use Rattle.dxf_groups.specs.TextLines.{content_of, is_feed};
 
 use crate::codes::{COMMENT, code_in_columns, group_code};
 use crate::pair::Pair;
-use crate::text_lines::{near_line_at, text_line_at};
+use crate::text_lines::{near_line_at, next_line_at, text_line_at};
 use solid_model::Fault;
 
 /// A pair, and where the next one begins in the text.
@@ -17,6 +18,13 @@ use solid_model::Fault;
 pub struct ReadPair {
     pub pair: Pair,
     pub after: usize,
+}
+
+/// Where a pair begins in the text, and the number of its line.
+#[derive(Clone, Copy)]
+pub struct PairPlace {
+    pub start: usize,
+    pub line: u32,
 }
 
 /// The group code of a line, where that is one, and where the next line begins.
@@ -160,6 +168,50 @@ pub fn pair_from(text: &[u8], start: usize, line: u32) -> Result<ReadPair, Fault
         read = pair_at(text, read.after, read.pair.line + 2)?;
     }
     Ok(read)
+}
+
+/// Where the next pair begins, where one with a group code other than 0 begins at `start`, with
+/// line `line`.
+#[inline(always)]
+fn past_other(text: &[u8], start: usize, line: u32) -> Option<usize>
+    requires { IsPlaceIn text.now start line }
+    ensures place { IfSome result (λ after. IsPlaceIn text.now after (line + 2)) }
+    ensures goes_on { IfSome result (λ after. start < after) }
+    ensures passed { IfSome result (λ after.
+        zero_on (pairs_at text.now start line) ≡ zero_on (pairs_at text.now after (line + 2))) }
+    ensures stays { result ≡ None
+        → zero_on (pairs_at text.now start line) ≡ pairs_at text.now start line }
+{
+    if start == text.len() {
+        return None;
+    }
+    let code_line = code_line_at(text, start);
+    let code = code_line.code?;
+    if code == 0 {
+        return None;
+    }
+    if code_line.after == text.len() {
+        return None;
+    }
+    Some(next_line_at(text, code_line.after))
+}
+
+/// Where the first pair with group code 0 begins from `start` on, or else what is no pair.
+#[inline(always)]
+pub fn zero_from(text: &[u8], start: usize, line: u32) -> PairPlace
+    requires { IsPlaceIn text.now start line }
+    ensures place { IsPlaceIn text.now result.start result.line }
+    ensures pairs { pairs_at text.now result.start result.line
+        ≡ zero_on (pairs_at text.now start line) }
+{
+    let mut place = PairPlace { start, line };
+    while let Some(after) = past_other(text, place.start, place.line) {
+        place = PairPlace {
+            start: after,
+            line: place.line + 2,
+        };
+    }
+    place
 }
 
 /// Whether the pair ends the text.

@@ -63,6 +63,32 @@ pub fn feed_place(text: &[u8]) -> usize
     }
 }
 
+/// Where the line behind that begins which begins at `start`, where so many bytes stand before its
+/// line feed.
+#[inline(always)]
+fn behind_feed(text: &[u8], start: usize, feed: usize) -> usize
+    requires some { start < length text.now }
+    requires within { feed ≤ length (drop start text.now) }
+    requires place { feed ≡ position_or_len is_feed (drop start text.now) }
+    ensures next { drop result text.now ≡ after_first is_feed (drop start text.now) }
+    ensures goes_on { start < result }
+    ensures within { result ≤ length text.now }
+{
+    let end = start + feed;
+    if end < text.len() { end + 1 } else { end }
+}
+
+/// Where the line behind that begins which begins at `start`.
+#[inline(always)]
+pub fn next_line_at(text: &[u8], start: usize) -> usize
+    requires { start < length text.now }
+    ensures next { drop result text.now ≡ after_first is_feed (drop start text.now) }
+    ensures goes_on { start < result }
+    ensures within { result ≤ length text.now }
+{
+    behind_feed(text, start, feed_place(&text[start..]))
+}
+
 /// The line without the carriage return at its end, if one stands there.
 #[inline(always)]
 fn without_return(line: &[u8]) -> &[u8]
@@ -192,9 +218,10 @@ fn line_to(text: &[u8], start: usize, feed: usize) -> TextLine
         start: start + span.start,
         end: start + span.end,
     };
-    let end = start + feed;
-    let after = if end < text.len() { end + 1 } else { end };
-    TextLine { content, after }
+    TextLine {
+        content,
+        after: behind_feed(text, start, feed),
+    }
 }
 
 /// The line that begins at `start`, whatever it is.

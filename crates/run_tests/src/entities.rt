@@ -16,6 +16,12 @@ pub const ENTITIES: &str = "\
 0 TRACE, 8 TOP, 6 PHANTOM, 10 x -> unit cube
 0 MLINE, 8 FRONT, 10 0, 20 0 -> unit cube
 0 REGION, 8 SIDE -> unit cube
+0 TEXT, 8 TOP, 999 0, 10 x -> unit cube
+0 TEXT, 8 TOP, -5 0, 1071 0, 0005 0 -> unit cube
+-- Pairs are told from what is none there too, and an application's end with it.
+0 TEXT, 8 TOP, 10 x, x 1 -> 1 fault F2 BadCode line 11
+0 LINE, 8 NOTES, 10 x, 00005 1 -> 1 fault F2 BadCode line 11
+0 TEXT, 8 TOP, 102 {A, 0 LINE, 8 FRONT -> 1 fault F9 Missing line 11 code 10
 -- What a line may tell in any order, or twice, or isn't read of it.
 0 LINE, 8 FRONT, 10 5, 20 5, 11 5, 21 5 -> unit cube
 0 LINE, 21 0, 11 1, 20 0, 10 0, 8 FRONT -> unit cube
@@ -87,6 +93,7 @@ pub const ENTITIES: &str = "\
 0 SECTION, 2 BLOCKS, 0 ENDSEC, 0 SECTION, 2 ENTITIES; 0 ENDSEC, 0 EOF, x, 0 SECTION -> unit cube
 0 SECTION, 2 ENTITIES; 0 ENDSEC, 0 SECTION, 2 OBJECTS, 0 ARC, 8 TOP, 0 ENDSEC, 0 EOF -> unit cube
 0 SECTION, 2 ENTITIES; 0 ENDSEC, 0 SECTION, 2 OBJECTS, 0 ENDSEC -> 1 fault F4 NoEof line 229
+0 SECTION, 2 ENTITIES; 0 TEXT, 8 SIDE -> 1 fault F4 NoEof line 225
 0 SECTION, 2 ENTITIES; 0 ARC, 8 SIDE, 0 ENDSEC, 0 EOF -> 1 fault F13 Geometry line 221
 0 SECTION, 2 ENTITIES; 0 LINE, 8 SIDE, 0 EOF -> 1 fault F9 Missing line 221 code 10
 0 SECTION, 2 ENTITIES, 0 LINE, 8 TOP, 10 0, 20 0, 11 1, 21 0; \

@@ -47,6 +47,10 @@ x -> 1 fault F2 BadCode line 1
 0\r\r|EOF| -> 1 fault F2 BadCode line 1
 0\r |EOF| -> 1 fault F2 BadCode line 1
 0\rEOF| -> 1 fault F2 BadCode line 1
+-- Entities that are passed over, up to a code that is 0.
+0|SECTION|2|ENTITIES|0|TEXT|1|x|8| -> 1 fault F3 NoValue line 9
+0\r|SECTION\r|2\r|ENTITIES\r|0\r|TEXT\r|  1\r|more than sixteen bytes\r|-0|EOF -> \
+    1 fault F5 BadSection line 9
 -- Vertical tabs and form feeds are no blanks.
 0|\u{b}EOF| -> 1 fault F5 BadSection line 1
 0|EOF\u{c}| -> 1 fault F5 BadSection line 1

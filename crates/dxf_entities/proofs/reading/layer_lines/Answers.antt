@@ -30,7 +30,7 @@ loop-reader-smaller c =
     let gives =
     subst (λ r. Gives c.loop-reader.groups r c.next.new.self)
     (c.in_ok-pair.was ∙ ap Ok c.in-Some.is) c.next.ensures in
-    let l = ap (λ (ps : Pairs). length ps.pairs) gives.first in omega (arith, l)
+    let l = ap (λ (ps : Pairs). length ps.pairs) gives.first in omega (arith, l, c.pass_over.ensures.fewer)
 
 pub loop-reader-preserved : goal.loop-reader-preserved
 loop-reader-preserved c =
@@ -43,11 +43,13 @@ loop-reader-preserved c =
           ∙ (pair_read c.loop-reader.groups c.next.new.self c.loop-reader.reader c.in-Some.pair
           c.value_of.result.now
           gives c.value_of.ensures
-          ∙ c.in_ok-take.ensures.taken c.next.new.self.left.pairs c.next.new.self.left.ending);
-      same_text = gives.same_text ∙ c.loop-reader.invariant.same_text;
+          ∙ (c.in_ok-take.ensures.taken c.next.new.self.left.pairs c.next.new.self.left.ending
+          ∙ sym c.pass_over.ensures.read));
+      same_text = c.pass_over.ensures.text ∙ gives.same_text ∙ c.loop-reader.invariant.same_text;
       same_ending =
           c.loop-reader.invariant.same_ending
-          ∙ ap (λ (ps : Pairs). ps.ending) gives.first;
+          ∙ ap (λ (ps : Pairs). ps.ending) gives.first
+          ∙ sym c.pass_over.ensures.ending;
     }
 
 pub returns-in_err-take-clause-fault : goal.returns-in_err-take-clause-fault
