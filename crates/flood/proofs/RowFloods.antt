@@ -4,7 +4,7 @@ use Rattle.std.proofs.lemmas.Bool.{false≢true, and_parts, and_from, or_left, o
 use Rattle.std.proofs.lemmas.List.{length-set, get_or-set_same, get_or-set_other}
 use Rattle.lemmas.specs.Bits.{is_set}
 use Rattle.lemmas.proofs.Chains.{reaches-itself, reaches-step, reaches-onward}
-use Rattle.flood.specs.RowFlood.{RowParts, has_cell, IsNext, Joins, IsReached, is_across, is_along, is_pulled, IsClosedRow, AreClosedRows, AreClosedBut, room, Grows, Pulls}
+use Rattle.flood.specs.RowFlood.{RowParts, has_cell, IsOpenNext, Joins, IsReached, leads_across, leads_along, is_pulled, IsClosedRow, AreClosedRows, AreClosedBut, room, RowsGrow, Pulls}
 
 module _ (w : RowParts) (rows : List ℕ) where
   one_step : (p q : ℕ × ℕ) → IsTrue (has_cell rows p.0 p.1) → Joins w p q → IsReached w rows q
@@ -12,8 +12,8 @@ module _ (w : RowParts) (rows : List ℕ) where
 
   -- a step across rows
   across_reached : (ways : List ℕ) (stride r k : ℕ)
-      → ((p q : ℕ × ℕ) → q ≡ (p.0 + stride, p.1) → IsTrue (has_cell ways q.0 q.1) → IsNext w p q)
-      → is_across ways stride rows r k ≡ true → IsReached w rows (r, k)
+      → ((p q : ℕ × ℕ) → q ≡ (p.0 + stride, p.1) → IsTrue (has_cell ways q.0 q.1) → IsOpenNext w p q)
+      → leads_across ways stride rows r k ≡ true → IsReached w rows (r, k)
   across_reached ways stride r k next e = by (or_cases _ _ e)
     where
       by : ((nat_le stride r && (has_cell rows (r - stride) k && has_cell ways r k)) ≡ true) ⊎ ((has_cell rows (r + stride) k && has_cell ways (r + stride) k) ≡ true)
@@ -28,7 +28,7 @@ module _ (w : RowParts) (rows : List ℕ) where
           let both = and_parts (has_cell rows (r + stride) k) (has_cell ways (r + stride) k) after in
           one_step (r + stride, k) (r, k) both.0 (inr (next (r, k) (r + stride, k) refl both.1))
 
-  along_reached : (r k : ℕ) → is_along w.along rows r k ≡ true → IsReached w rows (r, k)
+  along_reached : (r k : ℕ) → leads_along w.along rows r k ≡ true → IsReached w rows (r, k)
   along_reached r zero e = absurd (false≢true e)
   along_reached r (suc k) e =
       let both = and_parts (has_cell rows r k) (has_cell w.along r (suc k)) e in
@@ -38,46 +38,46 @@ module _ (w : RowParts) (rows : List ℕ) where
   pub pulled_reached : (r k : ℕ) → is_pulled w rows r k ≡ true → IsReached w rows (r, k)
   pulled_reached r k e = own (or_cases _ _ e)
     where
-      across : (is_across w.beside 1 rows r k ≡ true) ⊎ (is_across w.behind w.layer rows r k ≡ true) → IsReached w rows (r, k)
+      across : (leads_across w.beside 1 rows r k ≡ true) ⊎ (leads_across w.behind w.layer rows r k ≡ true) → IsReached w rows (r, k)
       across (inl e) = across_reached w.beside 1 r k (λ p q next way. inr (inl (next, way))) e
       across (inr e) = across_reached w.behind w.layer r k (λ p q next way. inr (inr (next, way))) e
 
       back : ((has_cell rows r (suc k) && has_cell w.along r (suc k)) ≡ true)
-          ⊎ ((is_across w.beside 1 rows r k || is_across w.behind w.layer rows r k) ≡ true) → IsReached w rows (r, k)
+          ⊎ ((leads_across w.beside 1 rows r k || leads_across w.behind w.layer rows r k) ≡ true) → IsReached w rows (r, k)
       back (inl e) =
           let both = and_parts (has_cell rows r (suc k)) (has_cell w.along r (suc k)) e in
           one_step (r, suc k) (r, k) both.0 (inr (inl (refl, both.1)))
       back (inr e) = across (or_cases _ _ e)
 
-      along : (is_along w.along rows r k ≡ true)
-          ⊎ (((has_cell rows r (suc k) && has_cell w.along r (suc k)) || (is_across w.beside 1 rows r k || is_across w.behind w.layer rows r k)) ≡ true)
+      along : (leads_along w.along rows r k ≡ true)
+          ⊎ (((has_cell rows r (suc k) && has_cell w.along r (suc k)) || (leads_across w.beside 1 rows r k || leads_across w.behind w.layer rows r k)) ≡ true)
           → IsReached w rows (r, k)
       along (inl e) = along_reached r k e
       along (inr e) = back (or_cases _ _ e)
 
-      own : (has_cell rows r k ≡ true) ⊎ ((is_along w.along rows r k
-          || ((has_cell rows r (suc k) && has_cell w.along r (suc k)) || (is_across w.beside 1 rows r k || is_across w.behind w.layer rows r k))) ≡ true)
+      own : (has_cell rows r k ≡ true) ⊎ ((leads_along w.along rows r k
+          || ((has_cell rows r (suc k) && has_cell w.along r (suc k)) || (leads_across w.beside 1 rows r k || leads_across w.behind w.layer rows r k))) ≡ true)
           → IsReached w rows (r, k)
       own (inl e) = ((r, k), e, reaches-itself (Joins w) (r, k))
       own (inr e) = along (or_cases _ _ e)
 
   -- ---- and the other way round
 
-  by_across : (r k : ℕ) → (is_across w.beside 1 rows r k || is_across w.behind w.layer rows r k) ≡ true → IsTrue (is_pulled w rows r k)
-  by_across r k e = or_right (has_cell rows r k) _ (or_right (is_along w.along rows r k) _ (or_right (has_cell rows r (suc k) && has_cell w.along r (suc k)) _ e))
+  by_across : (r k : ℕ) → (leads_across w.beside 1 rows r k || leads_across w.behind w.layer rows r k) ≡ true → IsTrue (is_pulled w rows r k)
+  by_across r k e = or_right (has_cell rows r k) _ (or_right (leads_along w.along rows r k) _ (or_right (has_cell rows r (suc k) && has_cell w.along r (suc k)) _ e))
 
   forth : (ways : List ℕ) (stride : ℕ) (p : ℕ × ℕ) → IsTrue (has_cell ways (p.0 + stride) p.1) → IsTrue (has_cell rows p.0 p.1)
-      → is_across ways stride rows (p.0 + stride) p.1 ≡ true
+      → leads_across ways stride rows (p.0 + stride) p.1 ≡ true
   forth ways stride p way has =
       let before : (p.0 + stride) - stride ≡ p.0 = omega arith in
       or_left _ _ (and_from _ _ (le-leb stride (p.0 + stride) (omega arith)) (and_from _ _ (ap (λ r. has_cell rows r p.1) before ∙ has) way))
 
   back : (ways : List ℕ) (stride : ℕ) (p : ℕ × ℕ) → IsTrue (has_cell ways (p.0 + stride) p.1) → IsTrue (has_cell rows (p.0 + stride) p.1)
-      → is_across ways stride rows p.0 p.1 ≡ true
+      → leads_across ways stride rows p.0 p.1 ≡ true
   back ways stride p way has = or_right (nat_le stride p.0 && (has_cell rows (p.0 - stride) p.1 && has_cell ways p.0 p.1)) _ (and_from _ _ has way)
 
   -- where nothing stands between, the later cell is pulled by the earlier one,
-  pub next_pulled : (p q : ℕ × ℕ) → IsNext w p q → IsTrue (has_cell rows p.0 p.1) → IsTrue (is_pulled w rows q.0 q.1)
+  pub next_pulled : (p q : ℕ × ℕ) → IsOpenNext w p q → IsTrue (has_cell rows p.0 p.1) → IsTrue (is_pulled w rows q.0 q.1)
   next_pulled p q (inl (e, way)) has = subst (λ t. IsTrue (is_pulled w rows t.0 t.1)) (sym e)
       (or_right (has_cell rows p.0 (suc p.1)) _ (or_left _ _ (and_from _ _ has (ap (λ t. has_cell w.along t.0 t.1) (sym e) ∙ way))))
   next_pulled p q (inr (inl (e, way))) has = subst (λ t. IsTrue (is_pulled w rows t.0 t.1)) (sym e)
@@ -86,9 +86,9 @@ module _ (w : RowParts) (rows : List ℕ) where
       (by_across (p.0 + w.layer) p.1 (or_right _ _ (forth w.behind w.layer p (ap (λ t. has_cell w.behind t.0 t.1) (sym e) ∙ way) has)))
 
   -- and the earlier one by the later one
-  pub back_pulled : (p q : ℕ × ℕ) → IsNext w p q → IsTrue (has_cell rows q.0 q.1) → IsTrue (is_pulled w rows p.0 p.1)
+  pub back_pulled : (p q : ℕ × ℕ) → IsOpenNext w p q → IsTrue (has_cell rows q.0 q.1) → IsTrue (is_pulled w rows p.0 p.1)
   back_pulled p q (inl (e, way)) has =
-      or_right (has_cell rows p.0 p.1) _ (or_right (is_along w.along rows p.0 p.1) _ (or_left _ _
+      or_right (has_cell rows p.0 p.1) _ (or_right (leads_along w.along rows p.0 p.1) _ (or_left _ _
       (and_from _ _ (ap (λ t. has_cell rows t.0 t.1) (sym e) ∙ has) (ap (λ t. has_cell w.along t.0 t.1) (sym e) ∙ way))))
   back_pulled p q (inr (inl (e, way))) has =
       by_across p.0 p.1 (or_left _ _ (back w.beside 1 p (ap (λ t. has_cell w.beside t.0 t.1) (sym e) ∙ way) (ap (λ t. has_cell rows t.0 t.1) (sym e) ∙ has)))
@@ -112,7 +112,7 @@ room_less (n ∷ rows) (suc r) word within l fits = let rest = room_less rows r 
 -- ---- growth
 
 module _ (w : RowParts) where
-  pub grows_none : (rows : List ℕ) → Grows w rows rows
+  pub grows_none : (rows : List ℕ) → RowsGrow w rows rows
   grows_none rows = record {
     size = refl;
     kept = λ r k h. h;
@@ -120,7 +120,7 @@ module _ (w : RowParts) where
     room = omega arith;
   }
 
-  pub grows_then : (a b c : List ℕ) → Grows w a b → Grows w b c → Grows w a c
+  pub grows_then : (a b c : List ℕ) → RowsGrow w a b → RowsGrow w b c → RowsGrow w a c
   grows_then a b c first then = record {
     size = then.size ∙ first.size;
     kept = λ r k h. then.kept r k (first.kept r k h);
@@ -133,7 +133,7 @@ module _ (w : RowParts) where
 
   -- a row with the cells to which one step leads
   pub grows_one : (rows : List ℕ) (r word : ℕ) → r < length rows → get_or rows r 0 ≤ word → ((k : ℕ) → is_set word k ≡ is_pulled w rows r k)
-      → Grows w rows (set rows r word)
+      → RowsGrow w rows (set rows r word)
   grows_one rows r word within more cells = record {
     size = length-set rows r word;
     kept = λ s k h. elim (cases_eq s r) as (λ _. IsTrue (has_cell (set rows r word) s k)) [
@@ -184,11 +184,11 @@ module _ (w : RowParts) where
     same_before : (s k : ℕ) → s < row → has_cell after s k ≡ has_cell before s k
     same_before s k l = same s k (λ e. omega (arith, l, e))
 
-    across_same : (ways : List ℕ) (stride r k : ℕ) → r < row → r + stride ≢ row → is_across ways stride after r k ≡ is_across ways stride before r k
+    across_same : (ways : List ℕ) (stride r k : ℕ) → r < row → r + stride ≢ row → leads_across ways stride after r k ≡ leads_across ways stride before r k
     across_same ways stride r k l apart = ap₂ (λ s t. (nat_le stride r && (s && has_cell ways r k)) || (t && has_cell ways (r + stride) k))
         (same_before (r - stride) k (omega (arith, l))) (same (r + stride) k apart)
 
-    along_same : (r k : ℕ) → r < row → is_along w.along after r k ≡ is_along w.along before r k
+    along_same : (r k : ℕ) → r < row → leads_along w.along after r k ≡ leads_along w.along before r k
     along_same r zero l = refl
     along_same r (suc k) l = ap (λ t. t && has_cell w.along r (suc k)) (same_before r k l)
 

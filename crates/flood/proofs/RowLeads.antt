@@ -12,7 +12,7 @@ use Rattle.solid_model.proofs.BoxCells.{place-below, within-below}
 use Rattle.solid_model.proofs.InGrid.{before_after}
 use Rattle.lemmas.specs.Chains.{Chain}
 use Rattle.lemmas.proofs.Chains.{reaches-keeps}
-use Rattle.flood.specs.RowFlood.{RowParts, IsNext, Joins, is_pulled, FloodsRows}
+use Rattle.flood.specs.RowFlood.{RowParts, IsOpenNext, Joins, is_pulled, FloodsRows}
 use Rattle.flood.specs.RowWords.{opens_back, opens_out, leads_at_once, AreRowWords, row_of, is_in_rows}
 use Rattle.flood.proofs.LeadingOut.{outside-leads_out, step-leads_out}
 use Rattle.flood.proofs.RowFloods.{next_pulled, back_pulled}
@@ -87,7 +87,7 @@ module _ (sizes : Sizes) (stands : Axis → Cell → Bool) where
     abbrev IsNextCell : ℕ × ℕ → ℕ × ℕ → Type 0
     IsNextCell p q = (a : Axis) × (row_cell sizes p ≡ cell_before a (row_cell sizes q)) × (stands a (row_cell sizes q) ≡ false)
 
-    next_cell : (p q : ℕ × ℕ) → IsNext w p q → IsNextCell p q
+    next_cell : (p q : ℕ × ℕ) → IsOpenNext w p q → IsNextCell p q
     next_cell p q (inl (e, way)) =
         let told = told_cell sizes (opens_back sizes stands X) w.along along q way in
         let open_way = and_parts (is_within sizes (cell_before X (row_cell sizes q))) (not (stands X (row_cell sizes q))) told.1 in
@@ -114,7 +114,7 @@ module _ (sizes : Sizes) (stands : Axis → Cell → Bool) where
 
     -- and a step of cells is one of rows
     next_place : (a : Axis) (n : Cell) → is_within sizes n ≡ true → is_within sizes (cell_before a n) ≡ true → stands a n ≡ false
-        → IsNext w (place_in_rows sizes (cell_before a n)) (place_in_rows sizes n)
+        → IsOpenNext w (place_in_rows sizes (cell_before a n)) (place_in_rows sizes n)
     next_place X n within before none = inl (
       place_along sizes n before,
       cell_told sizes (opens_back sizes stands X) w.along along n within ∙ and_from _ _ before (not_from_false _ none),

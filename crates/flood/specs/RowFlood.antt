@@ -29,32 +29,32 @@ abbrev pub has_cell : List ℕ → ℕ → ℕ → Bool
 has_cell rows r k = is_set (slice_index_or rows r 0) k
 
 -- q comes right after p along an axis, and nothing stands between
-abbrev pub IsNext : RowParts → ℕ × ℕ → ℕ × ℕ → Type 0
-IsNext w p q = ((q ≡ (p.0, suc p.1)) × IsTrue (has_cell w.along q.0 q.1))
+abbrev pub IsOpenNext : RowParts → ℕ × ℕ → ℕ × ℕ → Type 0
+IsOpenNext w p q = ((q ≡ (p.0, suc p.1)) × IsTrue (has_cell w.along q.0 q.1))
     ⊎ (((q ≡ (p.0 + 1, p.1)) × IsTrue (has_cell w.beside q.0 q.1)) ⊎ ((q ≡ (p.0 + w.layer, p.1)) × IsTrue (has_cell w.behind q.0 q.1)))
 
 -- one step, forth or back
 abbrev pub Joins : RowParts → ℕ × ℕ → ℕ × ℕ → Type 0
-Joins w p q = IsNext w p q ⊎ IsNext w q p
+Joins w p q = IsOpenNext w p q ⊎ IsOpenNext w q p
 
 -- a chain of steps leads to a cell from one of these
 abbrev pub IsReached : RowParts → List ℕ → ℕ × ℕ → Type 0
 IsReached w rows q = (p : ℕ × ℕ) × IsTrue (has_cell rows p.0 p.1) × Reaches (Joins w) p q
 
 -- one step leads to a cell from a row that stands so far before or after its own
-abbrev pub is_across : List ℕ → ℕ → List ℕ → ℕ → ℕ → Bool
-is_across ways stride rows r k =
+abbrev pub leads_across : List ℕ → ℕ → List ℕ → ℕ → ℕ → Bool
+leads_across ways stride rows r k =
     (nat_le stride r && (has_cell rows (r - stride) k && has_cell ways r k)) || (has_cell rows (r + stride) k && has_cell ways (r + stride) k)
 
 -- or from the cell before it in its own row
-abbrev pub is_along : List ℕ → List ℕ → ℕ → ℕ → Bool
-is_along ways rows r zero = false
-is_along ways rows r (suc k) = has_cell rows r k && has_cell ways r (suc k)
+abbrev pub leads_along : List ℕ → List ℕ → ℕ → ℕ → Bool
+leads_along ways rows r zero = false
+leads_along ways rows r (suc k) = has_cell rows r k && has_cell ways r (suc k)
 
 -- a cell is one of these, or one step leads to it from one of these
 abbrev pub is_pulled : RowParts → List ℕ → ℕ → ℕ → Bool
-is_pulled w rows r k = has_cell rows r k || (is_along w.along rows r k
-    || ((has_cell rows r (suc k) && has_cell w.along r (suc k)) || (is_across w.beside 1 rows r k || is_across w.behind w.layer rows r k)))
+is_pulled w rows r k = has_cell rows r k || (leads_along w.along rows r k
+    || ((has_cell rows r (suc k) && has_cell w.along r (suc k)) || (leads_across w.beside 1 rows r k || leads_across w.behind w.layer rows r k)))
 
 -- no step leads to further cells of a row
 abbrev pub IsClosedRow : RowParts → List ℕ → ℕ → Type 0
@@ -66,7 +66,7 @@ room [] = 0
 room (word ∷ rows) = (2 ^ 64 - word) + room rows
 
 -- The cells before are among those after, and a chain of steps leads to each of these from one of those; words are no less full.
-pub record Grows (w : RowParts) (before after : List ℕ) : Type 0 where
+pub record RowsGrow (w : RowParts) (before after : List ℕ) : Type 0 where
   pub size : length after ≡ length before
   pub kept : (r k : ℕ) → IsTrue (has_cell before r k) → IsTrue (has_cell after r k)
   pub reached : (r k : ℕ) → IsTrue (has_cell after r k) → IsReached w before (r, k)
@@ -74,7 +74,7 @@ pub record Grows (w : RowParts) (before after : List ℕ) : Type 0 where
 
 -- nothing has grown, and no step leads to further cells of this row; or it has, and no other one
 pub record Pulls (w : RowParts) (r : ℕ) (before after : List ℕ) (grown : Bool) : Type 0 where
-  pub grows : Grows w before after
+  pub grows : RowsGrow w before after
   pub others : (s : ℕ) → s ≢ r → slice_index_or after s 0 ≡ slice_index_or before s 0
   pub same : grown ≡ false → after ≡ before
   pub closed : grown ≡ false → IsClosedRow w before r
@@ -90,5 +90,5 @@ AreClosedBut w rows n = (r : ℕ) → r < n → r + 1 ≢ n → r + w.layer ≢ 
 
 -- all cells to which chains of steps lead from those before
 pub record FloodsRows (w : RowParts) (before after : List ℕ) : Type 0 where
-  pub grows : Grows w before after
+  pub grows : RowsGrow w before after
   pub closed : AreClosedRows w after (length after)

@@ -2,7 +2,7 @@
 //! layer by layer.
 
 ghost use Rattle.std.specs.Prelude.{◌≡◌, true, false, ◌+◌, ◌<◌, ◌≤◌, ◌^◌, ℕ, length, slice_index_or};
-ghost use Rattle.flood.specs.RowFlood.{ways_of, AreAsMany, AreClosedBut, AreClosedRows, IsClosedRow, is_across, is_pulled, Pulls, FloodsRows};
+ghost use Rattle.flood.specs.RowFlood.{ways_of, AreAsMany, AreClosedBut, AreClosedRows, IsClosedRow, leads_across, is_pulled, Pulls, FloodsRows};
 ghost use Rattle.lemmas.specs.Bits.{is_set};
 
 /// The ways back from the cells of rows: a bit of a word is set where nothing stands between its
@@ -26,7 +26,7 @@ fn across(ways: &[u64], stride: usize, reached: &[u64], row: usize) -> u64
     requires few { length reached.now ≤ 2 ^ 32 }
     requires row { row < length reached.now }
     requires stride { stride ≤ 2 ^ 32 }
-    ensures { (k : ℕ) → is_set result k ≡ is_across ways.now stride reached.now row k }
+    ensures { (k : ℕ) → is_set result k ≡ leads_across ways.now stride reached.now row k }
 {
     let before = if row >= stride {
         reached[row - stride] & ways[row]

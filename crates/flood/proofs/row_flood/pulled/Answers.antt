@@ -2,7 +2,7 @@
 use Rattle.std.proofs.Common.{◌||◌, ◌&&◌, ◌*◌, ◌/◌, ◌%◌, ◌^◌, ◌<◌, ℕ, suc, List, slice_index_or, bit_and, bit_or, ap, ap₂, ◌∙◌, rules}
 use Rattle.std.proofs.lemmas.Nat.{le_or_l}
 use Rattle.lemmas.proofs.WordBits.{set_either}
-use Rattle.flood.specs.RowFlood.{has_cell, is_along, is_across}
+use Rattle.flood.specs.RowFlood.{has_cell, leads_along, leads_across}
 use Rattle.flood.proofs.RowPulls.{forth_bits, back_bits}
 use Rattle.flood.proofs.row_flood.pulled.Goals as goal
 
@@ -13,12 +13,12 @@ pub returns-clause-cells : goal.returns-clause-cells
 returns-clause-cells c k =
     set_either own (bit_or forth (bit_or back (bit_or beside behind))) k
     ∙ ap (λ t. has_cell rows r k || t) (set_either forth (bit_or back (bit_or beside behind)) k
-    ∙ ap₂ (λ s t. s || t) (forth_bits along rows r k fits ∙ ap (λ ws. is_along ws rows r k) c.as_slice.ensures.value)
+    ∙ ap₂ (λ s t. s || t) (forth_bits along rows r k fits ∙ ap (λ ws. leads_along ws rows r k) c.as_slice.ensures.value)
     (set_either back (bit_or beside behind) k
     ∙ ap₂ (λ s t. s || t) (back_bits own (slice_index_or along r 0) k ∙ ap (λ ws. has_cell rows r (suc k) && has_cell ws r (suc k)) c.as_slice.ensures.value)
     (set_either beside behind k
-    ∙ ap₂ (λ s t. s || t) (c.across-beside.ensures k ∙ ap (λ ws. is_across ws 1 rows r k) c.as_slice-2.ensures.value)
-    (c.across-behind.ensures k ∙ ap (λ ws. is_across ws c.args.ways.now.layer rows r k) c.as_slice-3.ensures.value))))
+    ∙ ap₂ (λ s t. s || t) (c.across-beside.ensures k ∙ ap (λ ws. leads_across ws 1 rows r k) c.as_slice-2.ensures.value)
+    (c.across-behind.ensures k ∙ ap (λ ws. leads_across ws c.args.ways.now.layer rows r k) c.as_slice-3.ensures.value))))
   where
     rows : List ℕ
     rows = c.args.reached.now
