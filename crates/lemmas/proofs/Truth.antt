@@ -15,6 +15,12 @@ pub not_from_never : (r : Bool) → (r ≡ true → ⊥) → not r ≡ true
 not_from_never true none = absurd (none refl)
 not_from_never false none = refl
 
+-- two values that are true together are the same
+pub same_truth : (a b : Bool) → (a ≡ true → b ≡ true) → (b ≡ true → a ≡ true) → a ≡ b
+same_truth true b to from = sym (to refl)
+same_truth false true to from = from refl
+same_truth false false to from = refl
+
 -- two values agree where they are the same
 pub Decides-agree : (x y : Bool) → Decides (agree x y) (x ≡ y)
 Decides-agree true true = (λ e. refl, λ e. refl)

@@ -1,6 +1,7 @@
 -- The marks on the points of the views, and the edges between them.
-use Rattle.std.proofs.Common.{◌≡◌, ◌↔◌, ◌&&◌, Bool, true, false, ℕ, ◌+◌, ◌≤◌, ℤ, pos, negsuc, ◌+ℤ◌, IsTrue, refl, sym, ◌∙◌, subst, ap₂, arith}
+use Rattle.std.proofs.Common.{◌≡◌, ◌↔◌, ◌&&◌, Bool, true, ℕ, ◌+◌, ◌≤◌, ℤ, pos, negsuc, ◌+ℤ◌, IsTrue, refl, ◌∙◌, subst, ap₂, arith}
 use Rattle.std.proofs.lemmas.Bool.{false≢true, lt-ltb, ltb-true}
+use Rattle.lemmas.proofs.Truth.{same_truth}
 use Rattle.solid_model.specs.declared.cell.Axis.{Axis}
 use Rattle.solid_model.specs.declared.cell.Axis.TheVariants.{X, Y, Z}
 use Rattle.solid_model.specs.declared.cell.Cell.{Cell}
@@ -92,18 +93,12 @@ shown_projected g Front n = refl
 shown_projected g Top n = refl
 shown_projected g Side n = refl
 
--- two truth values that hold together are the same
-same_truth : (a b : Bool) → IsTrue a ↔ IsTrue b → a ≡ b
-same_truth true true both = refl
-same_truth false false both = refl
-same_truth true false both = sym (both.0 refl)
-same_truth false true both = both.1 refl
-
 -- so a point has a mark in a view where the view shows something of it
 marked_in : (g : GridParts) (v : View) (marks : BoxMarks) → AreDrawnIn g v marks → (n : Cell) → is_within (point_sizes (grid_sizes g)) n ≡ true
     → is_marked marks (projected v n) ≡ is_on_drawn g n v
 marked_in g v marks are n within =
-    same_truth (is_marked marks (projected v n)) (is_on_drawn g (projected v n) v) (are.exact (projected v n) (projects_within (grid_sizes g) v n within)) ∙ shown_projected g v n
+    let both = are.exact (projected v n) (projects_within (grid_sizes g) v n within) in
+    same_truth (is_marked marks (projected v n)) (is_on_drawn g (projected v n) v) both.0 both.1 ∙ shown_projected g v n
 
 -- and has one in each where it is a pseudo vertex
 point_marked : (g : GridParts) (points : PerView BoxMarks) → AreDrawnPoints g points → (n : Cell) → is_within (point_sizes (grid_sizes g)) n ≡ true

@@ -1,9 +1,10 @@
 -- The texts of readers, page after page.
-use Rattle.std.proofs.Common.{◌≡◌, ◌+◌, ◌<◌, Bool, true, false, ℕ, List, [], ◌∷◌, ◌++◌, length, map, take, drop, nat_le, refl, sym, ap, ap₂, ◌∙◌, append-nil, append_assoc, arith}
+use Rattle.std.proofs.Common.{◌≡◌, ◌+◌, ◌<◌, Bool, ℕ, List, [], ◌∷◌, ◌++◌, length, map, take, drop, nat_le, refl, sym, ap, ap₂, ◌∙◌, append-nil, append_assoc, arith}
 use Rattle.std.proofs.lemmas.Bool.{le-leb, leb-true}
 use Rattle.std.proofs.lemmas.Grind.{flat_map-append}
 use Rattle.std.proofs.lemmas.List.{length-take-le, take_at, take-append-drop}
 use Rattle.std.specs.List.{flat_map}
+use Rattle.lemmas.proofs.Truth.{same_truth}
 use Rattle.query_session.specs.declared.ask.Ask.{Ask}
 use Rattle.query_session.specs.declared.ask.Ask.TheVariants as ask
 use Rattle.query_session.specs.declared.ask.ReaderTale.{ReaderTale}
@@ -80,11 +81,6 @@ module _ (tales : List ReaderTale) (i : ℕ) (tale : ReaderTale) (within : i < l
       (m, e ∙ ap (take m) (sym (append_assoc (tales_text 0 (take i tales)) piece others) ∙ sym tale_split))
 
 -- ---- what is told
-
-same_truth : (a b : Bool) → (a ≡ true → b ≡ true) → (b ≡ true → a ≡ true) → a ≡ b
-same_truth true b to from = sym (to refl)
-same_truth false true to from = from refl
-same_truth false false to from = refl
 
 -- a page that is one of a list is told as one
 page_is_told : (reader from most : ℕ) (list : List (List Bool)) (page : Page) → IsPageOf from most list page → page_text_of reader page ≡ page_told reader from most list
