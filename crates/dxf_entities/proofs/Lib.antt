@@ -1,4 +1,5 @@
 pub mod OwnFacts
+pub mod Counted
 pub mod Resumes
 pub mod KeptLines
 pub mod NearPoints

@@ -1,13 +1,16 @@
 -- How a reader's steps go on with what is left.
 use Rattle.std.proofs.Common.{◌≡◌, ℕ, Bool, true, false, cond, List, [], ◌∷◌, Option, Some, None, Result, Ok, Err, if◌then◌else◌, codes, IsErrOf, refl, sym, ap, ap₂, ◌∙◌}
 use Rattle.std.specs.Option.{option_map, option_or}
+use Rattle.std.proofs.lemmas.Bool.{or_right}
 use Rattle.solid_model.specs.declared.fault.Fault.{Fault}
 use Rattle.solid_model.specs.declared.fault.Fault.TheVariants.{BadSection}
 use Rattle.solid_model.specs.declared.fault.Refused.{Refused}
 use Rattle.solid_model.specs.declared.fault.Refused.TheVariants as refused
 use Rattle.dxf_groups.specs.declared.pair.Pair.{Pair}
-use Rattle.dxf_groups.specs.Groups.{GroupsState, Gives, IsReadThrough, from_zero}
+use Rattle.dxf_groups.specs.Groups.{GroupsState, Gives, IsReadThrough, from_wanted, is_wanted}
 use Rattle.dxf_groups.specs.Spans.{span_of}
+use Rattle.dxf_entities.specs.declared.counting.Counting.{Counting}
+use Rattle.dxf_entities.specs.declared.counting.Counting.TheVariants.{Each}
 use Rattle.dxf_entities.specs.declared.facts.Facts.{Facts}
 use Rattle.dxf_entities.specs.declared.layer.Layer.{Layer as ReadLayer}
 use Rattle.dxf_entities.specs.declared.layer_line.LayerLine.{LayerLine}
@@ -20,6 +23,7 @@ use Rattle.dxf_entities.specs.declared.place.Place.TheVariants.{Outside, Unnamed
 use Rattle.dxf_entities.specs.declared.open.Open.{Open}
 use Rattle.dxf_entities.specs.declared.open.Open.TheVariants.{Passed, Layer, Entity}
 use Rattle.dxf_entities.specs.declared.reader.Reader.{Reader}
+use Rattle.dxf_entities.specs.Counting.{counts}
 use Rattle.dxf_entities.specs.Steps.{◌>>=◌}
 use Rattle.dxf_groups.specs.Pairs.{TextPair, Pairs, pairs_of, text_pair}
 use Rattle.dxf_entities.specs.Entries.{Entry, has_code, before_entries, entries_of, own_pairs, first_value, opens_application}
@@ -29,6 +33,7 @@ use Rattle.dxf_entities.specs.Forms.{FormParts}
 use Rattle.dxf_entities.specs.Names.{is_name, layer_on, kind_of, section_of}
 use Rattle.dxf_entities.specs.Reading.{Progress, between, opened, with_layer, layer_added, nothing_read, entity_read, entry_read, read_at, end_read, is_ended, entries_read, pairs_read}
 use Rattle.dxf_entities.specs.Resuming.{with_fact, with_layer_fact, with_own, begun_facts, nothing_told, opened_entity, opened_entry, unless_elsewhere, with_own_pair, with_pair_of, is_inside_after, fact_taken, entry_closed, closed, closed_where, layer_linetype, progress_of, advanced, resumed}
+use Rattle.dxf_entities.proofs.Counted.{TellsNothing, uncounted}
 use Rattle.dxf_entities.proofs.OwnFacts.{own_facts, own_layer_facts, elsewhere, no_geometry}
 
 -- a fault that is refused is known
@@ -208,31 +213,48 @@ goes_on r section inside ps ending =
     ap (λ place. then_entries ps ending
     (advanced place (is_ended (entries_of ps) ending) (before_entries ps) r)) inside
 
--- no entry begins before the first pair with code 0,
-entries_on : (ps : List TextPair) → entries_of (from_zero ps) ≡ entries_of ps
-entries_on [] = refl
-entries_on (p ∷ ps) = by (has_code 0 p) refl (entries_on ps)
-  where
-    by : (b : Bool) → has_code 0 p ≡ b → entries_of (from_zero ps) ≡ entries_of ps → entries_of (cond b (p ∷ ps) (from_zero ps))
-        ≡ (if b then record { name = p.value; line = p.line; pairs = before_entries ps } ∷ entries_of ps else entries_of ps)
-    by true is same = rw is refl
-    by false is same = same
+-- outside of sections each pair counts
+pub all_counted : (ps : List TextPair) → from_wanted (counts Each) ps ≡ ps
+all_counted [] = refl
+all_counted (p ∷ ps) = ap (λ b. cond b (p ∷ ps) (from_wanted (counts Each) ps)) (or_right (has_code 0 p) true refl)
 
--- and what is passed over is closed with any pairs
-passed_closes : (b : Bool) (ps : List TextPair) (r : Reader) → r.entry ≡ Passed
-    → closed_where b ps r ≡ Ok (progress_of r)
-passed_closes true ps r is = ap (λ entry. entry_closed entry r.in_application ps (progress_of r)) is
-passed_closes false ps r is = refl
+-- in a section, where pairs that don't count tell nothing of the open entry, they are passed over
+module _ (c : Counting) (r : Reader)
+    (nothing : (p : TextPair) → is_wanted (counts c) p.code ≡ false → TellsNothing p r.entry r.in_application (progress_of r)) where
+  entries_on : (ps : List TextPair) → entries_of (from_wanted (counts c) ps) ≡ entries_of ps
+  entries_on [] = refl
+  entries_on (p ∷ ps) = by (is_wanted (counts c) p.code) refl (entries_on ps)
+    where
+      by : (b : Bool) → is_wanted (counts c) p.code ≡ b → entries_of (from_wanted (counts c) ps) ≡ entries_of ps
+          → entries_of (cond b (p ∷ ps) (from_wanted (counts c) ps)) ≡ entries_of (p ∷ ps)
+      by true is same = refl
+      by false is same = rw ((uncounted c p is).0) same
 
--- so in a section, where an entry is passed over, its pairs count for nothing
-pub passes_on : (r : Reader) (section : Section) → r.place ≡ Inside section → r.entry ≡ Passed
-    → (ps : List TextPair) (ending : Result ℕ Fault) → resumed ps ending r ≡ resumed (from_zero ps) ending r
-passes_on r section inside is ps ending =
-    at ps ∙ ap (λ es. Ok (progress_of r) >>= entries_read es ending) (sym (entries_on ps)) ∙ sym (at (from_zero ps))
-  where
-    at : (qs : List TextPair) → resumed qs ending r ≡ (Ok (progress_of r) >>= entries_read (entries_of qs) ending)
-    at qs = goes_on r section inside qs ending
-        ∙ ap (then_entries qs ending) (passed_closes (is_ended (entries_of qs) ending) (before_entries qs) r is)
+  closes_on : (ps : List TextPair) → closed (before_entries (from_wanted (counts c) ps)) r ≡ closed (before_entries ps) r
+  closes_on [] = refl
+  closes_on (p ∷ ps) = by (is_wanted (counts c) p.code) refl (closes_on ps)
+    where
+      by : (b : Bool) → is_wanted (counts c) p.code ≡ b
+          → closed (before_entries (from_wanted (counts c) ps)) r ≡ closed (before_entries ps) r
+          → closed (before_entries (cond b (p ∷ ps) (from_wanted (counts c) ps))) r ≡ closed (before_entries (p ∷ ps)) r
+      by true is same = refl
+      by false is same = rw ((uncounted c p is).0) (same ∙ sym (nothing p is (before_entries ps)))
+
+  pub counted_on : (section : Section) → r.place ≡ Inside section → (ps : List TextPair) (ending : Result ℕ Fault)
+      → resumed ps ending r ≡ resumed (from_wanted (counts c) ps) ending r
+  counted_on section inside ps ending = goes_on r section inside ps ending ∙ sym (goes_on r section inside counted ending ∙ same)
+    where
+      counted : List TextPair
+      counted = from_wanted (counts c) ps
+
+      by : (b : Bool) → closed_where b (before_entries counted) r ≡ closed_where b (before_entries ps) r
+      by true = closes_on ps
+      by false = refl
+
+      same : then_entries counted ending (closed_where (is_ended (entries_of counted) ending) (before_entries counted) r)
+          ≡ then_entries ps ending (closed_where (is_ended (entries_of ps) ending) (before_entries ps) r)
+      same = ap (λ es. closed_where (is_ended es ending) (before_entries counted) r >>= entries_read es ending) (entries_on ps)
+          ∙ ap (then_entries ps ending) (by (is_ended (entries_of ps) ending))
 
 -- in a section, where the entry that it ends is closed
 module _ (p : TextPair) (zero : has_code 0 p ≡ true) (old new : Reader) (section : Section)

@@ -10,5 +10,6 @@ pub mod DrawnLines
 pub mod Judging
 pub mod Reading
 pub mod Extras
+pub mod Counting
 pub mod Resuming
 pub mod SmallFiles

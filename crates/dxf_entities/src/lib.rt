@@ -4,6 +4,7 @@
 
 mod codes;
 mod coordinates;
+mod counting;
 mod drawn_lines;
 mod extra;
 mod facts;

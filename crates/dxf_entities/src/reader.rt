@@ -1,20 +1,23 @@
 //! The reader that makes lines of a file's pairs. `dxf_groups::Groups` gives the pairs of a text.
 //!
 //! The reader keeps one entry that is open, and what counts of it, of a polyline its vertices so
-//! far; an entity on another layer is passed over from the pair on that says so. The definition
-//! cuts a file into entries; `proofs/Resumes.antt` shows that the reader goes on as the definition
-//! does with what is left.
+//! far; an entity on another layer is passed over from the pair on that says so. It says of which
+//! codes the next pairs may count, and the others aren't given to it. The definition cuts a file
+//! into entries; `proofs/Resumes.antt` shows that the reader goes on as the definition does with
+//! what is left.
 
 ghost use Rattle.std.specs.Prelude.{◌≡◌, ℕ, List, [], ◌∷◌, Result, Ok, Err, IfOk, OnOk, IsErrOf, true, false, IsTrue};
 ghost use Rattle.solid_model.specs.declared.fault.Fault.{Fault};
 ghost use Rattle.solid_model.specs.declared.fault.Refused.TheVariants as refused;
-ghost use Rattle.dxf_groups.specs.Groups.{from_zero};
+ghost use Rattle.dxf_groups.specs.Groups.{from_wanted};
 ghost use Rattle.dxf_groups.specs.Pairs.{TextPair, Pairs, text_pair};
+ghost use Rattle.dxf_entities.specs.Counting.{counts};
 ghost use Rattle.dxf_entities.specs.Entries.{has_code, opens_application, closes_application};
 ghost use Rattle.dxf_entities.specs.Reading.{pairs_read};
 ghost use Rattle.dxf_entities.specs.Resuming.{progress_of, closed, opened_entry, fact_taken, resumed};
 
 use crate::codes::has_code;
+use crate::counting::Counting;
 use crate::form::ReadingForm;
 use crate::layer_line::LayerLine;
 use crate::layers::Layers;
@@ -173,15 +176,20 @@ impl Reader {
         }
     }
 
-    /// Whether the pairs up to the next one with code 0 count for nothing: the open entry is passed
-    /// over.
-    pub fn passes(&self) -> bool
-        ensures { IsTrue result → (ps : List TextPair) (ending : Result ℕ Fault)
-            → resumed ps ending self.now ≡ resumed (from_zero ps) ending self.now }
+    /// Which of the next pairs count.
+    pub fn counting(&self) -> Counting
+        ensures { (ps : List TextPair) (ending : Result ℕ Fault) → resumed ps ending self.now
+            ≡ resumed (from_wanted (counts result) ps) ending self.now }
     {
-        match (&self.place, &self.entry) {
-            (Place::Inside(_), Open::Passed) => true,
-            _ => false,
+        let Place::Inside(_) = self.place else {
+            return Counting::Each;
+        };
+        match &self.entry {
+            Open::Passed => Counting::Nothing,
+            Open::Layer(facts) if facts.is_unread() => Counting::Nothing,
+            _ if self.in_application => Counting::Application,
+            Open::Layer(_) => Counting::Layer,
+            Open::Entity(_) => Counting::Entity,
         }
     }
 

@@ -1,6 +1,6 @@
 //! The lines that a file keeps.
 
-ghost use Rattle.std.specs.Prelude.{◌≡◌, ◌≤◌, false, length, map, Ok, Err, IfOk, OnOk, IsErrOf};
+ghost use Rattle.std.specs.Prelude.{◌≡◌, ◌≤◌, false, map, Ok, Err, IfOk, OnOk, IsErrOf};
 ghost use Rattle.solid_model.specs.declared.fault.Fault.{Fault};
 ghost use Rattle.solid_model.specs.declared.fault.Refused.TheVariants as refused;
 ghost use Rattle.solid_model.specs.Limits.{most_decimals};
@@ -9,7 +9,6 @@ ghost use Rattle.dxf_groups.specs.Pairs.{pairs_of};
 ghost use Rattle.dxf_entities.specs.Extras.{extra_line, extra_lines, lines_read};
 ghost use Rattle.dxf_entities.specs.Forms.{six_views};
 ghost use Rattle.dxf_entities.specs.Reading.{lines_on, read_of, text_read};
-ghost use Rattle.dxf_entities.specs.Resuming.{resumed};
 
 use crate::extra::{ExtraLine, opposite_to};
 use crate::form::ReadingForm;
@@ -93,19 +92,6 @@ pub fn entities_six(
     entities_in(alloc, groups, ReadingForm::six_views(decimals))
 }
 
-/// Passes over the pairs that count for nothing.
-fn pass_over(reader: &Reader, groups: &mut Groups)
-    ensures read { resumed groups.new.left.pairs groups.new.left.ending reader.now
-        ≡ resumed groups.old.left.pairs groups.old.left.ending reader.now }
-    ensures text { groups.new.text ≡ groups.old.text }
-    ensures ending { groups.new.left.ending ≡ groups.old.left.ending }
-    ensures fewer { length groups.new.left.pairs ≤ length groups.old.left.pairs }
-{
-    if reader.passes() {
-        groups.pass_to_zero();
-    }
-}
-
 /// The lines that a file keeps which is read in this form.
 fn layer_lines(
     alloc: Global,
@@ -119,9 +105,8 @@ fn layer_lines(
         → text_read form groups.old.text ≡ Err fault }
 {
     let mut reader = Reader::new(alloc, form);
-    while let Some(pair) = groups.next()? {
+    while let Some(pair) = groups.next(&reader.counting())? {
         reader.take(&pair, groups.value_of(&pair))?;
-        pass_over(&reader, groups);
     }
     let end = groups.end_line().unwrap();
     reader.finish(end)

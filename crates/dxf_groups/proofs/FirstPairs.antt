@@ -6,8 +6,8 @@ use Rattle.solid_model.specs.declared.fault.Fault.TheVariants.{BadCode, NoValue}
 use Rattle.dxf_groups.specs.Codes.{group_code_of, is_comment, is_end}
 use Rattle.dxf_groups.specs.declared.pairs.ReadPair.{ReadPair}
 use Rattle.dxf_groups.specs.Spans.{span_of}
-use Rattle.dxf_groups.specs.ReadPairs.{IsReadFrom, pairs_at}
-use Rattle.dxf_groups.specs.Pairs.{ended, pair_before, pairs_from}
+use Rattle.dxf_groups.specs.ReadPairs.{IsReadFrom}
+use Rattle.dxf_groups.specs.Pairs.{Pairs, ended, pair_before, pairs_from}
 use Rattle.dxf_groups.specs.TextLines.{content_of, contents_of, is_feed}
 use Rattle.dxf_groups.proofs.FirstLines.{lines-first}
 
@@ -20,11 +20,10 @@ pub pair_first : (n : ℕ) (lines : List (List ℕ)) (code value : List ℕ)
 pair_first n lines code value after rest z is next some = rw (is, next, some) refl
 
 -- the end pair is the last that is read
-pub end_pair_read : (text : List ℕ) (place line : ℕ) (read : ReadPair)
-    → IsReadFrom text place line read → is_comment read.pair.code ≡ false
-    → is_end read.pair.code (span_of text read.pair.value) ≡ true
-    → pairs_at text place line ≡ ended (Ok read.pair.line)
-end_pair_read text place line read is kept ends = rw (is.pairs, kept, ends) refl
+pub end_pair_read : (text : List ℕ) (left : Pairs) (read : ReadPair)
+    → IsReadFrom text left read → is_comment read.pair.code ≡ false
+    → is_end read.pair.code (span_of text read.pair.value) ≡ true → left ≡ ended (Ok read.pair.line)
+end_pair_read text left read is kept ends = rw (is.pairs, kept, ends) refl
 
 -- the first line that is left of a text, by what stands before its line feed
 pub first_line_read : (text : List ℕ) (start after : ℕ) → start < length text

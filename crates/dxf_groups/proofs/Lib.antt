@@ -10,4 +10,4 @@ pub mod NumeralGrammar
 pub mod NumeralReach
 pub mod NumeralReading
 pub mod NumeralScale
-pub mod ZeroPairs
+pub mod WantedPairs

@@ -1,8 +1,9 @@
 -- What a reader of pairs has left, and what it gives.
-use Rattle.std.specs.Prelude.{◌≡◌, ℕ, pos, cond, List, [], ◌∷◌, Option, Some, None, Result, Ok, Err}
+use Rattle.std.specs.Prelude.{◌≡◌, ℕ, ℤ, pos, Bool, not, ◌&&◌, ◌||◌, cond, List, [], ◌∷◌, Option, Some, None, Result, Ok, Err}
 use Rattle.std.specs.Ordering.{int_eq}
 use Rattle.solid_model.specs.declared.fault.Fault.{Fault}
 use Rattle.dxf_groups.specs.declared.pair.Pair.{Pair}
+use Rattle.dxf_groups.specs.Codes.{is_comment}
 use Rattle.dxf_groups.specs.Pairs.{TextPair, Pairs, ended, pairs_of, text_pair, with_pair}
 use Rattle.dxf_groups.specs.Spans.{IsSpanIn, span_of}
 
@@ -13,14 +14,22 @@ pub record GroupsState : Type 0 where
   pub left : Pairs
   pub end_line : Option ℕ
 
--- the pairs from the first one with group code 0 on
-abbrev pub from_zero : List TextPair → List TextPair
-from_zero [] = []
-from_zero (p ∷ ps) = cond (int_eq p.code (pos 0)) (p ∷ ps) (from_zero ps)
+-- a code is 0 or wanted
+abbrev pub is_wanted : (ℤ → Bool) → ℤ → Bool
+is_wanted wanted code = int_eq code (pos 0) || wanted code
+
+-- a reader gives pairs with these codes
+abbrev pub is_given : (ℤ → Bool) → ℤ → Bool
+is_given wanted code = not (is_comment code) && is_wanted wanted code
+
+-- the pairs from the first one on that has group code 0 or one that is wanted
+abbrev pub from_wanted : (ℤ → Bool) → List TextPair → List TextPair
+from_wanted wanted [] = []
+from_wanted wanted (p ∷ ps) = cond (is_wanted wanted p.code) (p ∷ ps) (from_wanted wanted ps)
 
 -- the same of the pairs that are left, which end as they do
-abbrev pub zero_on : Pairs → Pairs
-zero_on ps = record { pairs = from_zero ps.pairs; ending = ps.ending }
+abbrev pub wanted_on : (ℤ → Bool) → Pairs → Pairs
+wanted_on wanted ps = record { pairs = from_wanted wanted ps.pairs; ending = ps.ending }
 
 -- a reader gives the first pair that is left, and has the others left
 pub record GivesPair (old : GroupsState) (pair : Pair) (new : GroupsState) : Type 0 where

@@ -1,15 +1,17 @@
 //! The reader that gives the pairs of a text. The reader of `dxf_entities` makes lines of pairs.
 //!
-//! A pair is read at a place in the text; its value is a span, and nothing is copied.
+//! A pair is read at a place in the text; its value is a span, and nothing is copied. `next` is
+//! inlined where it is called, since its answer would go through memory for each pair.
 
 ghost use Rattle.std.specs.Prelude.{◌≡◌, ◌↔◌, ◌≤◌, length, drop, Some, None, IfSome};
-ghost use Rattle.dxf_groups.specs.Groups.{GroupsState, Gives, zero_on};
+ghost use Rattle.dxf_groups.specs.Groups.{GroupsState, Gives, wanted_on};
 ghost use Rattle.dxf_groups.specs.Pairs.{pairs_of, rest_of_text, without_mark};
 ghost use Rattle.dxf_groups.specs.Spans.{IsSpanIn, span_of};
 ghost use Rattle.solid_model.specs.Limits.{most_text_bytes};
 
+use crate::code_test::CodeTest;
 use crate::pair::Pair;
-use crate::pairs::{is_end, pair_from, zero_from};
+use crate::pairs::{is_end, pair_from};
 use solid_model::Fault;
 use std::marker::Model;
 
@@ -76,16 +78,19 @@ impl Groups {
         }
     }
 
-    /// The next pair that is no comment; None once the end pair was read, and at every later call.
-    /// A fault comes again at every later call: `Binary` where the text begins as a binary DXF file
-    /// does; `BadCode` where a pair should begin and the line is anything but a minus sign or none
-    /// and one to four digits; `NoValue` where the text ends after a group code; `NoEof` where a
-    /// pair should begin and the text is at its end. It copies nothing and takes no memory, and
-    /// over all calls each byte of the text is looked at no more than eight times.
-    // Of a call for each pair the answer would go through memory.
+    /// The next pair with group code 0 or one that is wanted; None once the end pair was read, and
+    /// at every later call. Pairs with other codes are passed over, and what counts of their values
+    /// isn't found; so are comments. A fault comes again at every later call: `Binary` where the
+    /// text begins as a binary DXF file does; `BadCode` where a pair should begin and the line is
+    /// anything but a minus sign or none and one to four digits; `NoValue` where the text ends
+    /// after a group code; `NoEof` where a pair should begin and the text is at its end. It copies
+    /// nothing and takes no memory, and over all calls each byte of the text is looked at no more
+    /// than eight times.
     #[inline(always)]
-    pub fn next(&mut self) -> Result<Option<Pair>, Fault>
-        ensures { Gives self.old result self.new }
+    pub fn next<T: CodeTest>(&mut self, test: &T) -> Result<Option<Pair>, Fault>
+        ensures { Gives
+            (record self.old { left = wanted_on (T.wanted test.now) self.old.left })
+            result self.new }
     {
         match self.ending {
             Some(Ok(_)) => return Ok(None),
@@ -93,7 +98,7 @@ impl Groups {
             None => {}
         }
         let text = self.text.as_slice();
-        let read = match pair_from(text, self.place, self.line) {
+        let read = match pair_from(text, self.place, self.line, test) {
             Ok(read) => read,
             Err(fault) => {
                 self.ending = Some(Err(fault));
@@ -107,19 +112,6 @@ impl Groups {
             return Ok(None);
         }
         Ok(Some(read.pair))
-    }
-
-    /// Passes over the pairs up to the next one with group code 0, which `next` gives then, as it
-    /// gives the fault where there is none. What counts of their values isn't found.
-    #[inline(always)]
-    pub fn pass_to_zero(&mut self)
-        ensures { self.new ≡ record self.old { left = zero_on self.old.left } }
-    {
-        if self.ending.is_none() {
-            let place = zero_from(self.text.as_slice(), self.place, self.line);
-            self.place = place.start;
-            self.line = place.line;
-        }
     }
 
     /// The number of the line of the end pair's code; None where the end pair wasn't read.

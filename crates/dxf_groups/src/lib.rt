@@ -1,6 +1,7 @@
 //! The pairs of a DXF text, and the numerals in them.
 #![tactic(auto)]
 
+mod code_test;
 mod codes;
 mod groups;
 mod laws;
@@ -10,6 +11,7 @@ mod pairs;
 mod span;
 mod text_lines;
 
+pub use code_test::CodeTest;
 pub use groups::Groups;
 pub use laws::{
     lines_behind_lines, numerals_are_spelled_so, small_decimals, small_numerals, small_rests,

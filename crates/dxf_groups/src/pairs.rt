@@ -1,13 +1,15 @@
 //! The pairs of a text.
 
-ghost use Rattle.std.specs.Prelude.{◌≡◌, ◌+◌, ◌<◌, ◌≤◌, Some, None, false, length, drop, IfOk, IfSome};
+ghost use Rattle.std.specs.Prelude.{◌≡◌, ◌<◌, ◌≤◌, ℤ, Bool, Some, Err, false, length, drop, IfOk, IfSome, MatchResult};
 ghost use Rattle.std.specs.List.{after_first, before_first};
 ghost use Rattle.dxf_groups.specs.Codes.{group_code_of, is_comment, is_end};
-ghost use Rattle.dxf_groups.specs.Groups.{zero_on};
-ghost use Rattle.dxf_groups.specs.ReadPairs.{IsPlaceIn, IsReading, pairs_at};
+ghost use Rattle.dxf_groups.specs.Groups.{is_given, wanted_on};
+ghost use Rattle.dxf_groups.specs.Pairs.{ended};
+ghost use Rattle.dxf_groups.specs.ReadPairs.{IsCodeAt, IsPlaceIn, IsReadFrom, IsReading, pairs_at};
 ghost use Rattle.dxf_groups.specs.Spans.{IsSpanIn, span_of};
 ghost use Rattle.dxf_groups.specs.TextLines.{content_of, is_feed};
 
+use crate::code_test::CodeTest;
 use crate::codes::{COMMENT, code_in_columns, group_code};
 use crate::pair::Pair;
 use crate::text_lines::{near_line_at, next_line_at, text_line_at};
@@ -22,9 +24,16 @@ pub struct ReadPair {
 
 /// Where a pair begins in the text, and the number of its line.
 #[derive(Clone, Copy)]
-pub struct PairPlace {
-    pub start: usize,
-    pub line: u32,
+struct PairPlace {
+    start: usize,
+    line: u32,
+}
+
+/// The group code of a pair, and where the line of its value begins.
+#[derive(Clone, Copy)]
+pub struct CodePlace {
+    pub code: i32,
+    pub after: usize,
 }
 
 /// The group code of a line, where that is one, and where the next line begins.
@@ -127,12 +136,13 @@ fn code_line_at(text: &[u8], start: usize) -> CodeLine
     }
 }
 
-/// The pair that begins at `start`, with line `line`. `NoEof` comes at the end of the text,
-/// `BadCode` where the line is no group code, and `NoValue` where no line follows it.
+/// The group code of the pair that begins at `start`, with line `line`. `NoEof` comes at the end
+/// of the text, `BadCode` where the line is no group code, and `NoValue` where no line follows it.
 #[inline(always)]
-fn pair_at(text: &[u8], start: usize, line: u32) -> Result<ReadPair, Fault>
+fn code_at(text: &[u8], start: usize, line: u32) -> Result<CodePlace, Fault>
     requires { IsPlaceIn text.now start line }
-    ensures { IsReading text.now start line result }
+    ensures { MatchResult result (IsCodeAt text.now start)
+        (λ fault. pairs_at text.now start line ≡ ended (Err fault)) }
 {
     if start == text.len() {
         return Err(Fault::NoEof { line });
@@ -144,74 +154,79 @@ fn pair_at(text: &[u8], start: usize, line: u32) -> Result<ReadPair, Fault>
     if code_line.after == text.len() {
         return Err(Fault::NoValue { line });
     }
-    let value_line = near_line_at(text, code_line.after);
-    Ok(ReadPair {
+    Ok(CodePlace {
+        code,
+        after: code_line.after,
+    })
+}
+
+/// The pair that begins at `start`, with line `line` and this code.
+#[inline(always)]
+fn pair_at(text: &[u8], start: usize, line: u32, read: CodePlace) -> ReadPair
+    requires place { IsPlaceIn text.now start line }
+    requires code { IsCodeAt text.now start read }
+    ensures read { IsReadFrom text.now (pairs_at text.now start line) result }
+    ensures code { result.pair.code ≡ read.code }
+{
+    let value_line = near_line_at(text, read.after);
+    ReadPair {
         pair: Pair {
-            code,
+            code: read.code,
             value: value_line.content,
             line,
         },
         after: value_line.after,
-    })
+    }
 }
 
-/// The first pair from `start` on that is no comment; the line there is line `line`. The faults are
-/// those of `pair_at`.
+/// Where the next pair begins behind the one that begins at `start`, with line `line` and this
+/// code. What counts of its value isn't found.
 #[inline(always)]
-pub fn pair_from(text: &[u8], start: usize, line: u32) -> Result<ReadPair, Fault>
+fn place_behind(text: &[u8], start: usize, line: u32, read: CodePlace) -> PairPlace
+    requires place { IsPlaceIn text.now start line }
+    requires code { IsCodeAt text.now start read }
+    ensures place { IsPlaceIn text.now result.start result.line }
+    ensures goes_on { start < result.start }
+    ensures passed { (wanted : ℤ → Bool) → is_given wanted read.code ≡ false
+        → wanted_on wanted (pairs_at text.now start line)
+        ≡ wanted_on wanted (pairs_at text.now result.start result.line) }
+{
+    PairPlace {
+        start: next_line_at(text, read.after),
+        line: line + 2,
+    }
+}
+
+/// Whether a reader gives a pair with this code: it is no comment's, and 0 or wanted.
+#[inline(always)]
+fn is_given<T: CodeTest>(test: &T, code: i32) -> bool
+    ensures { result ≡ is_given (T.wanted test.now) code }
+{
+    code != COMMENT && (code == 0 || test.wants(code))
+}
+
+/// The first pair from `start` on that is no comment and has code 0 or one that is wanted; the line
+/// there is line `line`. The faults are those of `code_at`.
+#[inline(always)]
+pub fn pair_from<T: CodeTest>(
+    text: &[u8],
+    start: usize,
+    line: u32,
+    test: &T,
+) -> Result<ReadPair, Fault>
     requires { IsPlaceIn text.now start line }
-    ensures read { IsReading text.now start line result }
+    ensures read { IsReading text.now
+        (wanted_on (T.wanted test.now) (pairs_at text.now start line)) result }
     ensures kept { IfOk result (λ read. is_comment read.pair.code ≡ false) }
 {
-    let mut read = pair_at(text, start, line)?;
-    while read.pair.code == COMMENT {
-        read = pair_at(text, read.after, read.pair.line + 2)?;
-    }
-    Ok(read)
-}
-
-/// Where the next pair begins, where one with a group code other than 0 begins at `start`, with
-/// line `line`.
-#[inline(always)]
-fn past_other(text: &[u8], start: usize, line: u32) -> Option<usize>
-    requires { IsPlaceIn text.now start line }
-    ensures place { IfSome result (λ after. IsPlaceIn text.now after (line + 2)) }
-    ensures goes_on { IfSome result (λ after. start < after) }
-    ensures passed { IfSome result (λ after.
-        zero_on (pairs_at text.now start line) ≡ zero_on (pairs_at text.now after (line + 2))) }
-    ensures stays { result ≡ None
-        → zero_on (pairs_at text.now start line) ≡ pairs_at text.now start line }
-{
-    if start == text.len() {
-        return None;
-    }
-    let code_line = code_line_at(text, start);
-    let code = code_line.code?;
-    if code == 0 {
-        return None;
-    }
-    if code_line.after == text.len() {
-        return None;
-    }
-    Some(next_line_at(text, code_line.after))
-}
-
-/// Where the first pair with group code 0 begins from `start` on, or else what is no pair.
-#[inline(always)]
-pub fn zero_from(text: &[u8], start: usize, line: u32) -> PairPlace
-    requires { IsPlaceIn text.now start line }
-    ensures place { IsPlaceIn text.now result.start result.line }
-    ensures pairs { pairs_at text.now result.start result.line
-        ≡ zero_on (pairs_at text.now start line) }
-{
     let mut place = PairPlace { start, line };
-    while let Some(after) = past_other(text, place.start, place.line) {
-        place = PairPlace {
-            start: after,
-            line: place.line + 2,
-        };
+    loop {
+        let read = code_at(text, place.start, place.line)?;
+        if is_given(test, read.code) {
+            return Ok(pair_at(text, place.start, place.line, read));
+        }
+        place = place_behind(text, place.start, place.line, read);
     }
-    place
 }
 
 /// Whether the pair ends the text.

@@ -11,8 +11,6 @@ mod columns_met;
 #[cfg(test)]
 mod drawn_columns;
 #[cfg(test)]
-mod faults_again;
-#[cfg(test)]
 mod graphs;
 #[cfg(test)]
 mod grids;
@@ -24,3 +22,5 @@ mod sources;
 mod successions;
 #[cfg(test)]
 mod view_runs;
+#[cfg(test)]
+mod wanted_pairs;
