@@ -1,5 +1,5 @@
 -- The solid that a choice fills draws on each line what the columns beside it draw.
-use Rattle.std.proofs.Common.{◌≡◌, Bool, nat_lt, ℕ, zero, suc, ◌<◌, ◌≤◌, List, length, ℤ, pos, negsuc, ◌-ℤ◌, Some, IsTrue, inl, inr, refl, ap, sym, subst, ◌∙◌, arith}
+use Rattle.std.proofs.Common.{◌≡◌, Bool, nat_lt, ℕ, zero, suc, ◌<◌, ◌≤◌, List, length, ℤ, pos, negsuc, ◌-ℤ◌, Some, IsTrue, inl, inr, refl, ap, sym, subst, ◌∙◌, arith, ◌&&◌, true, false}
 use Rattle.std.proofs.lemmas.Bool.{and_parts, cases_lt, ltb-true}
 use Rattle.std.proofs.lemmas.Int.{ints}
 use Rattle.solid_model.specs.declared.cell.Cell.{Cell}
@@ -11,6 +11,9 @@ use Rattle.solid_model.specs.Blocks.{BlockNumbers, IsBlocksOf}
 use Rattle.solid_model.specs.Cells.{is_full}
 use Rattle.solid_model.specs.Choices.{cells_of_choice}
 use Rattle.solid_model.specs.Columns.{ColumnsDraw}
+use Rattle.solid_model.specs.Wire.{is_drawn_view}
+use Rattle.solid_model.specs.Moved.{Shows}
+use Rattle.solid_model.proofs.PseudoEdges.{view_drawn}
 use Rattle.solid_model.specs.Demands.{has_line, line_style}
 use Rattle.solid_model.specs.DrawnStyle.{solid_drawing}
 use Rattle.solid_model.specs.Frames.{frame_of}
@@ -62,12 +65,22 @@ module _ (drawing : Segment → Style) (is : IsDrawing drawing) (g : GridParts) 
   first_segment = segment_at l.view l.upright
       (member (coordinates_of g (axis_along l.view l.upright)) l.cell) (member (coordinates_of g (axis_across l.view l.upright)) l.at)
 
+  fits : (nat_lt l.at (suc lines) && nat_lt l.cell cells) ≡ true
+  fits = (and_parts (is_drawn_view g l.view) (nat_lt l.at (suc lines) && nat_lt l.cell cells) has).1
+
+  shown : Shows drawing l.view
+  shown = view_drawn drawing g grid l.view (and_parts (is_drawn_view g l.view) (nat_lt l.at (suc lines) && nat_lt l.cell cells) has).0
+
+  at_view : (u : Bool) (a z : ℤ) → Shows drawing (segment_at l.view u a z).view
+  at_view true a z = shown
+  at_view false a z = shown
+
   cell_within : l.cell < cells
-  cell_within = ltb-true _ _ (and_parts (nat_lt l.at (suc lines)) _ has).1
+  cell_within = ltb-true _ _ (and_parts (nat_lt l.at (suc lines)) (nat_lt l.cell cells) fits).1
 
   line_within : l.at < length (coordinates_of g (axis_across l.view l.upright))
   line_within =
-      let least = ltb-true l.at (suc lines) (and_parts (nat_lt l.at (suc lines)) _ has).0 in
+      let least = ltb-true l.at (suc lines) (and_parts (nat_lt l.at (suc lines)) (nat_lt l.cell cells) fits).0 in
       omega (arith, least, some_across drawing is g grid l.view l.upright)
 
   -- ---- the columns as numbers
@@ -126,4 +139,4 @@ module _ (drawing : Segment → Style) (is : IsDrawing drawing) (g : GridParts) 
     where
       by : (style : Style) × ColumnsDraw own_after own_before style → ColumnsDraw own_after own_before (line_style g l)
       by (style, draws) = subst (ColumnsDraw own_after own_before)
-          (own_style_drawn s union style draws ∙ matching_draws_it drawing s matches first_segment ∙ sym line_drawing) draws
+          (own_style_drawn s union style draws ∙ matching_draws_it drawing s matches first_segment (at_view l.upright (member (coordinates_of g (axis_along l.view l.upright)) l.cell) (member (coordinates_of g (axis_across l.view l.upright)) l.at)) ∙ sym line_drawing) draws

@@ -1,5 +1,5 @@
 -- Live prefixes are a tree and end in matching solids.
-use Rattle.std.proofs.Common.{◌≡◌, Bool, ℕ, suc, ◌-◌, ◌<◌, List, [], ◌∷◌, ◌++◌, length, map, get_or, ℤ, pos, ◌-ℤ◌, Some, IsTrue, refl, ap, ap₂, sym, subst, ◌∙◌, arith}
+use Rattle.std.proofs.Common.{◌≡◌, Bool, ℕ, suc, ◌-◌, ◌<◌, List, [], ◌∷◌, ◌++◌, length, map, get_or, ℤ, pos, ◌-ℤ◌, Some, IsTrue, refl, ap, ap₂, sym, subst, ◌∙◌, arith, true}
 use Rattle.std.specs.List.{flat_map}
 use Rattle.std.proofs.lemmas.Bool.{and_from, lt-ltb}
 use Rattle.std.proofs.lemmas.List.{get_or-take}
@@ -13,17 +13,21 @@ use Rattle.solid_model.specs.Blocks.{ProblemParts, IsBlocksOf}
 use Rattle.solid_model.specs.Cells.{is_full}
 use Rattle.solid_model.specs.Choices.{cells_of_choice, IsMatchingChoice}
 use Rattle.solid_model.specs.Columns.{ColumnsDraw}
+use Rattle.solid_model.specs.PerView.{of_view}
+use Rattle.solid_model.specs.Wire.{is_drawn_view}
+use Rattle.solid_model.specs.declared.frame.View.{View}
 use Rattle.solid_model.specs.Demands.{has_line, line_style, said_by, known_in, CanDraw, CanBeMet, AllMet}
 use Rattle.solid_model.specs.Forcing.{IsStable, IsLive, is_live}
 use Rattle.solid_model.specs.DrawnStyle.{solid_drawing}
 use Rattle.solid_model.specs.Grid.{IsUnionOf}
-use Rattle.solid_model.specs.Panels.{coordinates_of, starts_of, AreGridStyles, IsGridOf}
+use Rattle.solid_model.specs.Panels.{coordinates_of, starts_of, IsGridOf, styles_along, grid_styles}
 use Rattle.solid_model.specs.Runs.{IsDrawing}
 use Rattle.solid_model.specs.Segments.{segment_at}
 use Rattle.solid_model.specs.Tree.{KeepsMatching}
 use Rattle.solid_model.specs.GridBox.{grid_sizes, axis_along, axis_across}
 use Rattle.solid_model.proofs.Corners.{length-starts_of}
 use Rattle.solid_model.proofs.Gaps.{member}
+use Rattle.solid_model.proofs.DrawnPanels.{drawn_panels, drawn_panels_are}
 use Rattle.solid_model.proofs.GridMatching.{matching_on_grid}
 use Rattle.column_laws.proofs.LiveTree.{problem_tree}
 use Rattle.column_laws.proofs.LiveComputed.{live_computed}
@@ -88,8 +92,8 @@ module _ (drawing : Segment → Style) (is : IsDrawing drawing) (p : ProblemPart
     drawn_at l has = sym (line_drawing drawing is p.grid grid p.blocks blocks choice l has)
         ∙ own_style_drawn drawing is p.grid grid p.blocks blocks choice l has s union (line_style p.grid l) (own_draws l has)
 
-    styles_drawn : AreGridStyles (solid_drawing s) (coordinates_of p.grid) p.grid.panels
-    styles_drawn v upright = grid.styles v upright ∙ sym (flat_map-map (λ styles. styles) _ lines)
+    styles_drawn : (v : View) (upright : Bool) → is_drawn_view p.grid v ≡ true → styles_along upright (of_view v p.grid.panels) ≡ grid_styles (solid_drawing s) (coordinates_of p.grid) v upright
+    styles_drawn v upright shown = grid.styles v upright ∙ sym (flat_map-map (λ styles. styles) _ lines)
         ∙ ap (flat_map (λ styles. styles)) (map_alike _ _ lines (pos 0) (λ j m. map_alike _ _ (starts_of all) (pos 0) (λ i l. at i j l m)))
         ∙ flat_map-map (λ styles. styles) _ lines
       where
@@ -109,7 +113,7 @@ module _ (drawing : Segment → Style) (is : IsDrawing drawing) (p : ProblemPart
             let line : LineId = record { view = v; upright = upright; at = j; cell = i } in
             let across = lt-ltb j (suc (grid_sizes p.grid (axis_across v upright))) (omega arith) in
             let along = lt-ltb i (grid_sizes p.grid (axis_along v upright)) within in
-            subst (λ z. Alike z (get_or lines j (pos 0))) (sym (get_or-take (length all - 1) all i (pos 0) within)) (drawn_at line (and_from _ _ across along))
+            subst (λ z. Alike z (get_or lines j (pos 0))) (sym (get_or-take (length all - 1) all i (pos 0) within)) (drawn_at line (and_from (is_drawn_view p.grid v) _ shown (and_from _ _ across along)))
 
   pub met_matching : (choice : List Bool) → length choice ≡ p.blocks.count → AllMet p (said_by choice) → IsMatching choice
   met_matching choice whole met = by (some_union (coordinates_of p.grid) (λ a. (grid.coordinates a).ordered) (cells_of_choice p.blocks.numbers choice))
@@ -117,8 +121,9 @@ module _ (drawing : Segment → Style) (is : IsDrawing drawing) (p : ProblemPart
       by : (s : List Cell) × IsUnionOf (coordinates_of p.grid) (cells_of_choice p.blocks.numbers choice) (is_full s)
           → IsMatching choice
       by (s, union) =
-          let same = matching_on_grid drawing is p.grid grid (cells_of_choice p.blocks.numbers choice) s union p.grid.panels (styles_drawn choice whole met s union) in
-          (s, union, same.0 refl)
+          let own = drawn_panels_are (solid_drawing s) (coordinates_of p.grid) in
+          let same = matching_on_grid drawing is p.grid grid (cells_of_choice p.blocks.numbers choice) s union (drawn_panels (solid_drawing s) (coordinates_of p.grid)) own in
+          (s, union, same.0 (λ v upright shown. own v upright ∙ sym (styles_drawn choice whole met s union v upright shown)))
 
   -- ---- all of it
 

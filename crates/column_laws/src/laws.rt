@@ -12,7 +12,7 @@ ghost use Rattle.solid_model.specs.Demands.{said_by, AllMet, CanBeMet, can_be_me
 ghost use Rattle.solid_model.specs.Forcing.{IsForced, IsLive, is_live};
 ghost use Rattle.solid_model.specs.Panels.{coordinates_of, IsGridOf};
 ghost use Rattle.solid_model.specs.Runs.{IsDrawing};
-ghost use Rattle.solid_model.specs.SmallLines.{two_cells, line};
+ghost use Rattle.solid_model.specs.SmallLines.{two_cells, told_first, missing, line};
 ghost use Rattle.solid_model.specs.Tree.{KeepsMatching};
 ghost use Rattle.column_laws.specs.DrawnDemands.{Meets};
 ghost use Rattle.column_laws.specs.SmallForcing.{quartered_half_hidden, upper_cells};
@@ -29,7 +29,7 @@ pub fn demands_are_computed()
 
 /// The lines of a grid of two cells along x and one along y and z, in their order: by view, the
 /// level ones before the upright ones, then by position and by cell. And those of the side view, of
-/// a grid of one cell along x and two along y and z.
+/// a grid of one cell along x and two along y and z. A view that shows nothing has no line.
 pub fn lines_in_order()
     ensures all { lines_of two_cells ≡
         line Front false 0 0 ∷ line Front false 0 1 ∷ line Front false 1 0 ∷ line Front false 1 1
@@ -44,6 +44,12 @@ pub fn lines_in_order()
         ∷ line Side false 2 0 ∷ line Side false 2 1
         ∷ line Side true 0 0 ∷ line Side true 0 1 ∷ line Side true 1 0 ∷ line Side true 1 1
         ∷ line Side true 2 0 ∷ line Side true 2 1 ∷ [] }
+    ensures two_views { lines_of (record two_cells
+        { panels = record { front = told_first; top = missing; side = told_first } }) ≡
+        line Front false 0 0 ∷ line Front false 0 1 ∷ line Front false 1 0 ∷ line Front false 1 1
+        ∷ line Front true 0 0 ∷ line Front true 1 0 ∷ line Front true 2 0
+        ∷ line Side false 0 0 ∷ line Side false 1 0
+        ∷ line Side true 0 0 ∷ line Side true 1 0 ∷ [] }
 {}
 
 /// A line can be met exactly where some cells that agree with what is known draw it: so that two

@@ -1,13 +1,12 @@
 -- Where a cell differs from the one before it along an axis, each view that shows the axis has something drawn on the line
--- between them. Where a drawing stays on a grid, its grid coordinates are some of the grid's.
-use Rattle.std.proofs.Common.{◌≡◌, ◌≢◌, ◌⊎◌, ⊎_elim, inl, inr, Bool, true, false, List, ℤ, pos, ◌-ℤ◌, ◌<ℤ◌, refl, ap, sym, subst, ◌∙◌}
+-- between them.
+use Rattle.std.proofs.Common.{◌≢◌, inl, Bool, true, false, List, refl, ap, sym, subst, ◌∙◌}
 use Rattle.solid_model.specs.declared.cell.Axis.{Axis}
 use Rattle.solid_model.specs.declared.cell.Axis.TheVariants.{X, Y, Z}
 use Rattle.solid_model.specs.declared.cell.Cell.{Cell}
 use Rattle.solid_model.specs.declared.frame.View.{View}
 use Rattle.solid_model.specs.declared.frame.View.TheVariants.{Front, Top, Side}
 use Rattle.solid_model.specs.declared.segment.Segment.{Segment}
-use Rattle.solid_model.specs.declared.segment.Style.{Style}
 use Rattle.solid_model.specs.declared.segment.Style.TheVariants.{Blank}
 use Rattle.solid_model.specs.Boxes.{place_of}
 use Rattle.solid_model.specs.Cells.{coordinate, cell_before, is_full}
@@ -15,18 +14,12 @@ use Rattle.solid_model.specs.Columns.{cell_in}
 use Rattle.solid_model.specs.Draws.{Draws}
 use Rattle.solid_model.specs.DrawnStyle.{solid_drawing}
 use Rattle.solid_model.specs.Frames.{frame_of, along, across}
-use Rattle.solid_model.specs.Grid.{Coordinates, IsDrawnAcross, ChangesAt, IsGridCoordinate, IsInSomeGap}
-use Rattle.lemmas.specs.Lists.{Member, Ascends}
-use Rattle.solid_model.proofs.OnGrid.{StaysOnGrid}
+use Rattle.solid_model.specs.Grid.{IsDrawnAcross, IsGridCoordinate}
 use Rattle.solid_model.specs.Segments.{segment_at}
 use Rattle.solid_model.proofs.ColumnRule.{beside_blank}
-use Rattle.solid_model.proofs.InGrid.{StandsBefore, gap_or_none}
-use Rattle.solid_model.proofs.SameOnGrid.{member_or_not}
+use Rattle.solid_model.proofs.InGrid.{StandsBefore}
 use Rattle.solid_model.proofs.Styles.{drawn_style_drawn}
-use Rattle.solid_model.proofs.UnionDrawing.{same_gaps_before}
 use Rattle.solid_model.proofs.Views.{views_are_frames, cell_at_its_places}
-
--- ---- cells that differ
 
 module _ (s : List Cell) where
   -- the segment between the two columns that they stand in isn't blank
@@ -63,30 +56,3 @@ module _ (s : List Cell) where
   coordinate_between X c differ = (Front, false, refl, inl (drawn_across Front false c differ))
   coordinate_between Y c differ = (Side, false, refl, inl (drawn_across Side false c differ))
   coordinate_between Z c differ = (Front, true, refl, inl (drawn_across Front true c differ))
-
--- ---- drawings that stay on a grid
-
-module _ (coordinates : Coordinates) (ascends : (a : Axis) → Ascends ◌<ℤ◌ (coordinates a)) (drawing : Segment → Style)
-    (stays : StaysOnGrid coordinates drawing) where
-  drawn_on_grid : (v : View) (upright : Bool) (z : ℤ) → IsDrawnAcross drawing v upright z → Member (coordinates (along (frame_of v) upright).axis) z
-  drawn_on_grid v true z (start, drawn) = ⊎_elim (λ m. m) (λ none. absurd (drawn (stays.off_lines v false start z none)))
-      (member_or_not (coordinates (along (frame_of v) true).axis) z)
-  drawn_on_grid v false z (start, drawn) = ⊎_elim (λ m. m) (λ none. absurd (drawn (stays.off_lines v true start z none)))
-      (member_or_not (coordinates (along (frame_of v) false).axis) z)
-
-  changes_on_grid : (v : View) (upright : Bool) (z : ℤ) → ChangesAt drawing v upright z → Member (coordinates (along (frame_of v) upright).axis) z
-  changes_on_grid v upright z (line, differ) = ⊎_elim (λ m. m) (λ none. absurd (differ (same none (gap_or_none zs (ascends (along (frame_of v) upright).axis) z))))
-      (member_or_not zs z)
-    where
-      zs : List ℤ
-      zs = coordinates (along (frame_of v) upright).axis
-
-      same : (Member zs z → ⊥) → IsInSomeGap zs z ⊎ (IsInSomeGap zs z → ⊥) → drawing (segment_at v upright (z -ℤ pos 1) line) ≡ drawing (segment_at v upright z line)
-      same none (inl gap) = stays.steady v upright gap.0 (z -ℤ pos 1) z line ((same_gaps_before zs z none gap.0).1 gap.1) gap.1
-      same none (inr out) = stays.off_ends v upright (z -ℤ pos 1) line (λ gap. out (gap.0, (same_gaps_before zs z none gap.0).0 gap.1))
-          ∙ sym (stays.off_ends v upright z line out)
-
-  -- a grid coordinate of the drawing is one of the grid's
-  pub coordinate_on_grid : (a : Axis) (z : ℤ) → IsGridCoordinate drawing a z → Member (coordinates a) z
-  coordinate_on_grid a z (v, upright, e, how) = subst (λ b. Member (coordinates b) z) e
-      (⊎_elim {C = Member (coordinates (along (frame_of v) upright).axis) z} (drawn_on_grid v upright z) (changes_on_grid v upright z) how)

@@ -15,6 +15,7 @@ use Rattle.solid_model.proofs.OnGrid.{StaysOnGrid}
 use Rattle.solid_model.specs.PerAxis.{by_axis}
 use Rattle.solid_model.specs.Runs.{IsDrawing}
 use Rattle.lemmas.proofs.Lists.{member-from_map, each-at}
+use Rattle.solid_model.proofs.StayingOnGrid.{coordinate_on_grid}
 use Rattle.solid_model.proofs.UnionDrawing.{union_on_grid}
 use Rattle.column_laws.specs.GridPanels.{ArePanels}
 use Rattle.drawing_maker.specs.declared.cube.Cube.{Cube}
@@ -23,7 +24,7 @@ use Rattle.drawing_maker.specs.Made.{generator_of, made_cubes, made_solid}
 use Rattle.drawing_maker.specs.Making.{IsMade}
 use Rattle.drawing_maker.specs.Rows.{row_ticks, coordinates_of_ticks, grid_over, cells_before, AreSmall}
 use Rattle.drawing_maker.proofs.Drawn.{first_by}
-use Rattle.drawing_maker.proofs.DrawnAcross.{drawn_across, coordinate_on_grid}
+use Rattle.drawing_maker.proofs.DrawnAcross.{drawn_across}
 use Rattle.drawing_maker.proofs.MadeRows.{made_stand, made_row, next_is_near, few_ticks}
 use Rattle.drawing_maker.proofs.RowCoordinates.{differs_at_tick, row_coordinate}
 use Rattle.drawing_maker.proofs.RowDrawing.{drawing_on_grid}
@@ -120,6 +121,7 @@ module _ (n : ℕ) (ticks : List Tick) (chosen : List Bool) (panels : PanelsStyl
     styles = panels_are (coordinates_of g)
         (record { ordered = λ a. (made_coordinates n (coordinates_of g) same_coordinates a).ordered; count = λ a. how_many a ∙ sym (counts_are a) })
         (made_solid n) union_of_chosen;
+    sees = (made_drawing n (coordinates_of g) same_coordinates).sees;
   }
 
   pub is_grid : IsGrid g

@@ -2,7 +2,9 @@
 use Rattle.std.proofs.Common.{◌≢◌, ⊎_elim, Bool, true, false, List, ℤ, pos, ◌≤ℤ◌, ◌<ℤ◌, refl, arith}
 use Rattle.std.proofs.lemmas.Int.{ints}
 use Rattle.solid_model.specs.declared.cell.Axis.{Axis}
+use Rattle.solid_model.specs.declared.cell.Axis.TheVariants.{X, Y, Z}
 use Rattle.solid_model.specs.declared.frame.View.{View}
+use Rattle.solid_model.specs.declared.frame.View.TheVariants.{Front, Top}
 use Rattle.solid_model.specs.declared.segment.Segment.{Segment}
 use Rattle.solid_model.specs.declared.segment.Style.{Style}
 use Rattle.solid_model.specs.declared.segment.Style.TheVariants.{Blank}
@@ -11,6 +13,7 @@ use Rattle.solid_model.specs.Grid.{Coordinates, IsInSomeGap, IsDrawnAcross}
 use Rattle.solid_model.specs.Limits.{farthest_in_view}
 use Rattle.lemmas.specs.Lists.{Member, Ascends}
 use Rattle.solid_model.proofs.OnGrid.{StaysOnGrid}
+use Rattle.solid_model.specs.Moved.{Shows, SeesEachAxis}
 use Rattle.solid_model.specs.Runs.{IsDrawing}
 use Rattle.solid_model.specs.Segments.{segment_at, far_right, far_up}
 use Rattle.solid_model.proofs.InGrid.{gap_or_none, between_members}
@@ -58,10 +61,19 @@ module _ (coordinates : Coordinates) (ascends : (a : Axis) → Ascends ◌<ℤ�
   -- Where each view has something drawn on its lines at 0, to the right and upwards, it is a drawing.
   pub drawing_on_grid : ((v : View) (upright : Bool) → IsDrawnAcross drawing v upright (pos 0)) → farthest ≤ℤ farthest_in_view → IsDrawing drawing
   drawing_on_grid at_zero near = record {
-    begins = λ v. record {
+    sees = sees;
+    begins = λ v shows. record {
       stands_from = λ g same drawn. let on = lies_on_grid g.view g.upright g.right g.up drawn in (on.right, on.up);
       at_left = (segment_at v true (at_zero v false).0 (pos 0), refl, (at_zero v false).1, refl);
       at_bottom = (segment_at v false (at_zero v true).0 (pos 0), refl, (at_zero v true).1, refl);
     };
     near = λ g drawn. let on = lies_on_grid g.view g.upright g.right g.up drawn in (omega (arith, ints, on.far_right, near), omega (arith, ints, on.far_up, near));
   }
+    where
+      shows_it : (v : View) → Shows drawing v
+      shows_it v = (segment_at v true (at_zero v false).0 (pos 0), refl, (at_zero v false).1)
+
+      sees : SeesEachAxis drawing
+      sees X = (Front, false, refl, shows_it Front)
+      sees Y = (Top, true, refl, shows_it Top)
+      sees Z = (Front, true, refl, shows_it Front)

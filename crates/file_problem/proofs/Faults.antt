@@ -1,5 +1,5 @@
 -- When an input has a fault, and when it has none.
-use Rattle.std.proofs.Common.{◌≡◌, refl, inl, inr, ◌≤◌, List, length, Result, Ok, Err, sym, subst, ap, ◌∙◌, arith}
+use Rattle.std.proofs.Common.{◌≡◌, refl, inl, inr, ◌≤◌, Bool, true, false, List, length, Result, Ok, Err, sym, subst, ap, ◌∙◌, arith}
 use Rattle.dxf_entities.specs.declared.extra.ExtraLine.{ExtraLine}
 use Rattle.dxf_entities.specs.Extras.{lines_read}
 use Rattle.dxf_entities.proofs.TextFaults.{reads_are_not_long}
@@ -11,15 +11,20 @@ use Rattle.solid_model.specs.declared.fault.Fault.TheVariants.{EmptyView, TooFin
 use Rattle.solid_model.specs.declared.frame.View.{View}
 use Rattle.solid_model.specs.declared.frame.View.TheVariants.{Front, Top, Side}
 use Rattle.solid_model.specs.Blocks.{ProblemParts}
-use Rattle.solid_model.specs.Drawings.{drawing_of, IsShown, IsFirstEmptyView}
+use Rattle.solid_model.specs.Drawings.{drawing_of, IsEmptyView, IsShown, IsFirstEmptyView, LacksView}
 use Rattle.solid_model.specs.Line.{Line}
 use Rattle.solid_model.specs.Panels.{GridParts, coordinates_of, IsGridOf}
 
--- where every view shows something, none is the first empty one
-shown_not_empty : (ls : List Line) (v : View) → IsShown ls → IsFirstEmptyView ls v → ⊥
-shown_not_empty ls Front shown empty = shown Front empty
-shown_not_empty ls Top shown empty = shown Top empty.1
-shown_not_empty ls Side shown empty = shown Side empty.2
+-- the first empty view is empty
+first_is_empty : (ls : List Line) (v : View) → IsFirstEmptyView ls v → IsEmptyView ls v
+first_is_empty ls Front empty = empty
+first_is_empty ls Top empty = empty.1
+first_is_empty ls Side empty = empty.2
+
+-- where as many views show something as are asked for, none is lacked
+shown_not_lacked : (two : Bool) (ls : List Line) (v : View) → IsShown two ls → LacksView two ls v → ⊥
+shown_not_lacked false ls v shown lacks = shown v (first_is_empty ls v lacks)
+shown_not_lacked true ls v shown (first, w, differs, empty) = shown v w (λ same. differs (sym same)) (first_is_empty ls v first) empty
 
 -- lines have at most one first empty view
 one_empty_view : (ls : List Line) (v w : View) → IsFirstEmptyView ls v → IsFirstEmptyView ls w → v ≡ w
@@ -33,67 +38,72 @@ one_empty_view ls Side Front a b = absurd (a.0 b)
 one_empty_view ls Side Top a b = absurd (a.1 b.1)
 one_empty_view ls Side Side a b = refl
 
+-- so they lack at most one
+one_lacked : (two : Bool) (ls : List Line) (v w : View) → LacksView two ls v → LacksView two ls w → v ≡ w
+one_lacked false ls v w a b = one_empty_view ls v w a b
+one_lacked true ls v w a b = one_empty_view ls v w a.0 b.0
+
 -- a drawing with a grid has no axis that is too fine
-not_fine : (ls : List Line) (g : GridParts) → IsGridOf (drawing_of ls) g → (f : Fault) → HasFineAxis ls f → ⊥
-not_fine ls g grid f (_, a, count, fine, _) =
+not_fine : (two : Bool) (ls : List Line) (g : GridParts) → IsGridOf (drawing_of ls) g → (f : Fault) → HasFineAxis two ls f → ⊥
+not_fine two ls g grid f (_, a, count, fine, _) =
     none_too_fine (drawing_of ls) (coordinates_of g) (coordinates_from_grid (drawing_of ls) g grid) a count fine
 
 -- the fault of lines is one
-one_lines_fault : (ls : List Line) (f g : Fault) → IsFaultOfLines ls f → IsFaultOfLines ls g → f ≡ g
-one_lines_fault ls f g (inl p) (inl q) = p.2 ∙ ap EmptyView (one_empty_view ls p.0 q.0 p.1 q.1) ∙ sym q.2
-one_lines_fault ls f g (inl p) (inr (inl q)) = absurd (shown_not_empty ls p.0 q.0 p.1)
-one_lines_fault ls f g (inl p) (inr (inr q)) = absurd (shown_not_empty ls p.0 q.0 p.1)
-one_lines_fault ls f g (inr (inl p)) (inl q) = absurd (shown_not_empty ls q.0 p.0 q.1)
-one_lines_fault ls f g (inr (inr p)) (inl q) = absurd (shown_not_empty ls q.0 p.0 q.1)
-one_lines_fault ls f g (inr (inl (shown, a, count, fine, is))) (inr (inl (shown_too, b, other, fine_too, is_too))) =
+one_lines_fault : (two : Bool) (ls : List Line) (f g : Fault) → IsFaultOfLines two ls f → IsFaultOfLines two ls g → f ≡ g
+one_lines_fault two ls f g (inl p) (inl q) = p.2 ∙ ap EmptyView (one_lacked two ls p.0 q.0 p.1 q.1) ∙ sym q.2
+one_lines_fault two ls f g (inl p) (inr (inl q)) = absurd (shown_not_lacked two ls p.0 q.0 p.1)
+one_lines_fault two ls f g (inl p) (inr (inr q)) = absurd (shown_not_lacked two ls p.0 q.0 p.1)
+one_lines_fault two ls f g (inr (inl p)) (inl q) = absurd (shown_not_lacked two ls q.0 p.0 q.1)
+one_lines_fault two ls f g (inr (inr p)) (inl q) = absurd (shown_not_lacked two ls q.0 p.0 q.1)
+one_lines_fault two ls f g (inr (inl (shown, a, count, fine, is))) (inr (inl (shown_too, b, other, fine_too, is_too))) =
     let one = one_too_fine (drawing_of ls) a b count other fine fine_too in
     is ∙ (λ t. TooFine (one.0 t) (one.1 t)) ∙ sym is_too
-one_lines_fault ls f g (inr (inl p)) (inr (inr (shown, grid, is_grid, count, many, is))) = absurd (not_fine ls grid is_grid f p)
-one_lines_fault ls f g (inr (inr (shown, grid, is_grid, count, many, is))) (inr (inl q)) = absurd (not_fine ls grid is_grid g q)
-one_lines_fault ls f g (inr (inr (shown, grid, is_grid, count, (numbers, are, many), is))) (inr (inr (shown_too, other, is_other, count_too, (others, are_too, many_too), is_too))) =
+one_lines_fault two ls f g (inr (inl p)) (inr (inr (shown, grid, is_grid, count, many, is))) = absurd (not_fine two ls grid is_grid f p)
+one_lines_fault two ls f g (inr (inr (shown, grid, is_grid, count, many, is))) (inr (inl q)) = absurd (not_fine two ls grid is_grid g q)
+one_lines_fault two ls f g (inr (inr (shown, grid, is_grid, count, (numbers, are, many), is))) (inr (inr (shown_too, other, is_other, count_too, (others, are_too, many_too), is_too))) =
     let same = one_grid (drawing_of ls) grid other is_grid is_other in
     is ∙ ap TooManyBlocks (one_block_count grid other same numbers others count count_too are are_too).1 ∙ sym is_too
 
 -- the fault of what a file reads as is one
-one_fault_after : (r : Result (List Line × List ExtraLine) Fault) (f g : Fault) → IsFaultAfter r f → IsFaultAfter r g → f ≡ g
-one_fault_after (Err found) f g p q = p ∙ sym q
-one_fault_after (Ok read) f g p q = one_lines_fault read.0 f g p q
+one_fault_after : (two : Bool) (r : Result (List Line × List ExtraLine) Fault) (f g : Fault) → IsFaultAfter two r f → IsFaultAfter two r g → f ≡ g
+one_fault_after two (Err found) f g p q = p ∙ sym q
+one_fault_after two (Ok read) f g p q = one_lines_fault two read.0 f g p q
 
 -- an input has at most one first fault
 pub one_fault : (t : Input) (f g : Fault) → IsFileFault t f → IsFileFault t g → f ≡ g
 one_fault t f g (inl p) (inl q) = p.1 ∙ sym q.1
 one_fault t f g (inl p) (inr q) = absurd (omega (arith, p.0, q.0))
 one_fault t f g (inr p) (inl q) = absurd (omega (arith, p.0, q.0))
-one_fault t f g (inr p) (inr q) = one_fault_after (lines_read (form_of t) t.bytes) f g p.1 q.1
+one_fault t f g (inr p) (inr q) = one_fault_after t.two (lines_read (form_of t) t.bytes) f g p.1 q.1
 
 -- a file that isn't too long has the fault of what it reads as
-pub file_fault : (t : Input) (r : Result (List Line × List ExtraLine) Fault) (f : Fault) → length t.bytes ≤ t.most → lines_read (form_of t) t.bytes ≡ r → IsFaultAfter r f → IsFileFault t f
-file_fault t r f short reads after = inr (short, subst (λ r. IsFaultAfter r f) (sym reads) after)
+pub file_fault : (t : Input) (r : Result (List Line × List ExtraLine) Fault) (f : Fault) → length t.bytes ≤ t.most → lines_read (form_of t) t.bytes ≡ r → IsFaultAfter t.two r f → IsFileFault t f
+file_fault t r f short reads after = inr (short, subst (λ r. IsFaultAfter t.two r f) (sym reads) after)
 
 -- an input with a problem has no fault
 pub no_fault : {t : Input} {p : ProblemParts} → HasProblem t p → HasNoFault t
 no_fault has f (inl long) = let short = has.short in absurd (omega (arith, long.0))
-no_fault {t} {p} has f (inr read) = by (subst (λ r. IsFaultAfter r f) has.reads read.1)
+no_fault {t} {p} has f (inr read) = by (subst (λ r. IsFaultAfter t.two r f) has.reads read.1)
   where
-    by : IsFaultOfLines has.lines f → ⊥
-    by (inl empty) = shown_not_empty has.lines empty.0 has.shown empty.1
-    by (inr (inl fine)) = not_fine has.lines p.grid has.grid f fine
+    by : IsFaultOfLines t.two has.lines f → ⊥
+    by (inl empty) = shown_not_lacked t.two has.lines empty.0 has.shown empty.1
+    by (inr (inl fine)) = not_fine t.two has.lines p.grid has.grid f fine
     by (inr (inr (shown, other, is_other, many, (others, are, above), is))) =
         let same = one_grid (drawing_of has.lines) other p.grid is_other has.grid in
         let counted = (one_block_count other p.grid same others p.blocks.numbers many p.blocks.count are has.blocks.blocks).1 in
         let few = has.few in omega (arith, above)
 
 -- no fault of lines is that their file is too long,
-lines_are_not_long : (ls : List Line) → IsFaultOfLines ls TooLong → ⊥
-lines_are_not_long ls (inl (v, empty, is)) = cc
-lines_are_not_long ls (inr (inl (shown, a, count, fine, is))) = cc
-lines_are_not_long ls (inr (inr (shown, g, grid, count, many, is))) = cc
+lines_are_not_long : (two : Bool) (ls : List Line) → IsFaultOfLines two ls TooLong → ⊥
+lines_are_not_long two ls (inl (v, empty, is)) = cc
+lines_are_not_long two ls (inr (inl (shown, a, count, fine, is))) = cc
+lines_are_not_long two ls (inr (inr (shown, g, grid, count, many, is))) = cc
 
 -- nor is it one of an input that isn't
 pub short_is_not_long : (t : Input) → length t.bytes ≤ t.most → IsFileFault t TooLong → ⊥
 short_is_not_long t short (inl long) = absurd (omega (arith, long.0))
 short_is_not_long t short (inr read) = by (lines_read (form_of t) t.bytes) refl read.1
   where
-    by : (r : Result (List Line × List ExtraLine) Fault) → lines_read (form_of t) t.bytes ≡ r → IsFaultAfter r TooLong → ⊥
+    by : (r : Result (List Line × List ExtraLine) Fault) → lines_read (form_of t) t.bytes ≡ r → IsFaultAfter t.two r TooLong → ⊥
     by (Err found) is after = reads_are_not_long (form_of t) t.bytes (is ∙ ap Err (sym after))
-    by (Ok read) is after = lines_are_not_long read.0 after
+    by (Ok read) is after = lines_are_not_long t.two read.0 after

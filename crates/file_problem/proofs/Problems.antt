@@ -17,12 +17,11 @@ use Rattle.solid_model.specs.VirtualFaces.{IsVirtual}
 use Rattle.solid_model.specs.GridBox.{grid_sizes}
 use Rattle.solid_model.proofs.KeptDrawings.{lines_are_drawing}
 use Rattle.solid_model.proofs.OneNumbering.{one_numbering}
-use Rattle.solid_model.proofs.Sheets.{without_lines-empty}
 
 -- the drawing of its lines keeps what a drawing of three views keeps
 pub problem_drawing : (t : Input) (p : ProblemParts) (has : HasProblem t p) → IsDrawing (drawing_of has.lines)
 problem_drawing t p has =
-    lines_are_drawing has.lines (lines_read_are_kept (form_of t) t.bytes has.lines has.further has.reads) (λ v none. has.shown v (without_lines-empty has.lines v none))
+    lines_are_drawing t.two has.lines (lines_read_are_kept (form_of t) t.bytes has.lines has.further has.reads) has.shown
 
 -- the blocks of one grid are one numbering
 pub one_block_count : (g h : GridParts) → g ≡ h → (numbers others : List (Option ℕ)) (count many : ℕ) → AreBlocksOf g numbers count → AreBlocksOf h others many

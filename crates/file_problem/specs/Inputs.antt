@@ -9,23 +9,24 @@ use Rattle.solid_model.specs.declared.fault.Fault.{Fault}
 use Rattle.solid_model.specs.declared.fault.Fault.TheVariants.{EmptyView, TooFine, TooLong, TooManyBlocks}
 use Rattle.solid_model.specs.declared.frame.View.{View}
 use Rattle.solid_model.specs.Blocks.{ProblemParts, IsBlocksOf, HasTooManyBlocks}
-use Rattle.solid_model.specs.Drawings.{drawing_of, IsShown, IsFirstEmptyView}
+use Rattle.solid_model.specs.Drawings.{drawing_of, IsShown, LacksView}
 use Rattle.solid_model.specs.Grid.{IsFirstTooFine}
 use Rattle.solid_model.specs.Limits.{most_blocks}
 use Rattle.solid_model.specs.Line.{Line}
 use Rattle.solid_model.specs.Panels.{GridParts, IsGridOf}
 
 -- an input: the bytes of a file, how many decimals its coordinates are read with, whether the layers of the further views are read
--- too, and how many bytes it may have at most
+-- too, whether one view may be missing, and how many bytes it may have at most
 pub record Input : Type 0 where
   pub bytes : List ℕ
   pub decimals : ℕ
   pub six : Bool
+  pub two : Bool
   pub most : ℕ
 
--- these bytes, at most so many, read in this form
-abbrev pub input_in : FormParts → ℕ → List ℕ → Input
-input_in form most bytes = record { bytes = bytes; decimals = form.decimals; six = form.six; most = most }
+-- these bytes, at most so many, read in this form, where one view may be missing or none
+abbrev pub input_in : FormParts → Bool → ℕ → List ℕ → Input
+input_in form two most bytes = record { bytes = bytes; decimals = form.decimals; six = form.six; two = two; most = most }
 
 -- the form in which it is read
 abbrev pub form_of : Input → FormParts
@@ -33,34 +34,34 @@ form_of t = record { decimals = t.decimals; six = t.six }
 
 -- ---- the faults of an input
 
--- lines have this first empty view
-abbrev pub HasEmptyView : List Line → Fault → Type 0
-HasEmptyView ls fault = (v : View) × IsFirstEmptyView ls v × (fault ≡ EmptyView v)
+-- lines lack this view
+abbrev pub HasEmptyView : Bool → List Line → Fault → Type 0
+HasEmptyView two ls fault = (v : View) × LacksView two ls v × (fault ≡ EmptyView v)
 
--- lines show something in each view, and this axis of their drawing is the first that is too fine
-abbrev pub HasFineAxis : List Line → Fault → Type 0
-HasFineAxis ls fault = IsShown ls × (a : Axis) × (count : ℕ) × IsFirstTooFine (drawing_of ls) a count × (fault ≡ TooFine a count)
+-- lines lack no view, and this axis of their drawing is the first that is too fine
+abbrev pub HasFineAxis : Bool → List Line → Fault → Type 0
+HasFineAxis two ls fault = IsShown two ls × (a : Axis) × (count : ℕ) × IsFirstTooFine (drawing_of ls) a count × (fault ≡ TooFine a count)
 
--- lines show something in each view, and the grid of their drawing has too many blocks
-abbrev pub HasManyBlocks : List Line → Fault → Type 0
-HasManyBlocks ls fault = IsShown ls × (g : GridParts) × IsGridOf (drawing_of ls) g
+-- lines lack no view, and the grid of their drawing has too many blocks
+abbrev pub HasManyBlocks : Bool → List Line → Fault → Type 0
+HasManyBlocks two ls fault = IsShown two ls × (g : GridParts) × IsGridOf (drawing_of ls) g
     × (count : ℕ) × HasTooManyBlocks g count × (fault ≡ TooManyBlocks count)
 
--- the first fault of lines that are kept: the first view of which they cover nothing; else the first axis that is too fine;
--- else too many blocks
-abbrev pub IsFaultOfLines : List Line → Fault → Type 0
-IsFaultOfLines ls fault = HasEmptyView ls fault ⊎ (HasFineAxis ls fault ⊎ HasManyBlocks ls fault)
+-- the first fault of lines that are kept, where one view may be missing or none: the view that they lack; else the first axis that
+-- is too fine; else too many blocks
+abbrev pub IsFaultOfLines : Bool → List Line → Fault → Type 0
+IsFaultOfLines two ls fault = HasEmptyView two ls fault ⊎ (HasFineAxis two ls fault ⊎ HasManyBlocks two ls fault)
 
 -- the first fault of a file that reads so: what the reading found, or that of the lines of the three views; those of further views
 -- have no fault beyond the reading's
-abbrev pub IsFaultAfter : Result (List Line × List ExtraLine) Fault → Fault → Type 0
-IsFaultAfter (Err found) fault = fault ≡ found
-IsFaultAfter (Ok read) fault = IsFaultOfLines read.0 fault
+abbrev pub IsFaultAfter : Bool → Result (List Line × List ExtraLine) Fault → Fault → Type 0
+IsFaultAfter two (Err found) fault = fault ≡ found
+IsFaultAfter two (Ok read) fault = IsFaultOfLines two read.0 fault
 
 -- the first fault of an input: its file is too long, or else that of what it reads as
 abbrev pub IsFileFault : Input → Fault → Type 0
 IsFileFault t fault = ((t.most < length t.bytes) × (fault ≡ TooLong))
-    ⊎ ((length t.bytes ≤ t.most) × IsFaultAfter (lines_read (form_of t) t.bytes) fault)
+    ⊎ ((length t.bytes ≤ t.most) × IsFaultAfter t.two (lines_read (form_of t) t.bytes) fault)
 
 -- the input has no fault
 abbrev pub HasNoFault : Input → Type 0
@@ -74,7 +75,7 @@ pub record HasProblem (t : Input) (p : ProblemParts) : Type 0 where
   pub lines : List Line
   pub further : List ExtraLine
   pub reads : lines_read (form_of t) t.bytes ≡ Ok (lines, further)
-  pub shown : IsShown lines
+  pub shown : IsShown t.two lines
   pub grid : IsGridOf (drawing_of lines) p.grid
   pub blocks : IsBlocksOf p.grid p.blocks
   pub few : p.blocks.count ≤ most_blocks

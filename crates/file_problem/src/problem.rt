@@ -2,7 +2,7 @@
 //! lines that it keeps, their drawing in three views, the drawing's grid, the grid's pseudo wire
 //! frame, virtual faces and blocks.
 
-ghost use Rattle.std.specs.Prelude.{◌≡◌, ◌⊎◌, ◌≤◌, ℕ, length, drop, Some, IfOk, OnOk, IsErrOf};
+ghost use Rattle.std.specs.Prelude.{◌≡◌, ◌⊎◌, ◌≤◌, ℕ, false, length, drop, Some, IfOk, OnOk, IsErrOf};
 ghost use Rattle.dxf_groups.specs.Groups.{IsReadThrough};
 ghost use Rattle.dxf_groups.specs.Pairs.{pairs_of, rest_of_text};
 ghost use Rattle.dxf_entities.specs.Forms.{six_views, three_views};
@@ -23,17 +23,17 @@ use grid::grid_of;
 use pseudo_wire::wire_of;
 use solid_model::{Blocks, Grid, Problem, Refused, SheetLine};
 use std::alloc::Global;
-use views::drawing;
+use views::drawing_of_views;
 use virtual_faces::faces_of;
 
 /// The grid of the drawing of lines.
-fn grid_of_lines(alloc: Global, lines: &[SheetLine]) -> Result<Grid, Refused>
+fn grid_of_lines(alloc: Global, lines: &[SheetLine], two_views: bool) -> Result<Grid, Refused>
     ensures grid { IfOk result (IsGridOf (drawing_of lines.now)) }
-    ensures shown { OnOk result (IsShown lines.now) }
+    ensures shown { OnOk result (IsShown two_views lines.now) }
     ensures fault { (fault : Fault) → IsErrOf result (refused.Fault fault)
-        → HasEmptyView lines.now fault ⊎ HasFineAxis lines.now fault }
+        → HasEmptyView two_views lines.now fault ⊎ HasFineAxis two_views lines.now fault }
 {
-    let drawing = drawing(alloc, lines)?;
+    let drawing = drawing_of_views(alloc, lines, two_views)?;
     grid_of(alloc, &drawing)
 }
 
@@ -50,15 +50,15 @@ fn blocks_of_grid(alloc: Global, grid: &Grid) -> Result<Blocks, Refused>
 }
 
 /// The grid and the blocks of the drawing of lines.
-fn problem_of_lines(alloc: Global, lines: &[SheetLine]) -> Result<Problem, Refused>
-    ensures shown { OnOk result (IsShown lines.now) }
+fn problem_of_lines(alloc: Global, lines: &[SheetLine], two_views: bool) -> Result<Problem, Refused>
+    ensures shown { OnOk result (IsShown two_views lines.now) }
     ensures grid { IfOk result (λ problem. IsGridOf (drawing_of lines.now) problem.grid) }
     ensures blocks { IfOk result (λ problem. IsBlocksOf problem.grid problem.blocks) }
     ensures few { IfOk result (λ problem. problem.blocks.count ≤ most_blocks) }
     ensures fault { (fault : Fault) → IsErrOf result (refused.Fault fault)
-        → IsFaultOfLines lines.now fault }
+        → IsFaultOfLines two_views lines.now fault }
 {
-    let grid = grid_of_lines(alloc, lines)?;
+    let grid = grid_of_lines(alloc, lines, two_views)?;
     let blocks = blocks_of_grid(alloc, &grid)?;
     Ok(Problem::new(grid, blocks))
 }
@@ -69,17 +69,19 @@ fn read(
     alloc: Global,
     groups: &mut Groups,
     form: ReadingForm,
+    two_views: bool,
 ) -> Result<(Problem, Further), Refused>
     requires { groups.old.left ≡ pairs_of groups.old.text }
     ensures problem { (most : ℕ) → length groups.old.text ≤ most
-        → IfOk result (λ found. HasFurther (input_in form most groups.old.text) found.0 found.1) }
+        → IfOk result (λ found.
+        HasFurther (input_in form two_views most groups.old.text) found.0 found.1) }
     ensures fault { (most : ℕ) → length groups.old.text ≤ most
         → (fault : Fault) → IsErrOf result (refused.Fault fault)
-        → IsFileFault (input_in form most groups.old.text) fault }
+        → IsFileFault (input_in form two_views most groups.old.text) fault }
     ensures through { OnOk result (IsReadThrough groups.old groups.new) }
 {
     let (lines, extra_lines) = entities_in(alloc, groups, form)?;
-    let problem = problem_of_lines(alloc, lines.as_slice())?;
+    let problem = problem_of_lines(alloc, lines.as_slice(), two_views)?;
     let further = further_of(alloc, extra_lines.as_slice())?;
     Ok((problem, further))
 }
@@ -91,12 +93,12 @@ pub fn problem_of(alloc: Global, file: Vec<u8>, decimals: u8) -> Result<Problem,
     requires short { length file.items ≤ most_file_bytes }
     requires decimals { decimals ≤ most_decimals }
     ensures problem { IfOk result (λ problem.
-        HasProblem (input_in (three_views decimals) most_file_bytes file.items) problem) }
+        HasProblem (input_in (three_views decimals) false most_file_bytes file.items) problem) }
     ensures fault { (fault : Fault) → IsErrOf result (Refused.Fault fault)
-        → IsFileFault (input_in (three_views decimals) most_file_bytes file.items) fault }
+        → IsFileFault (input_in (three_views decimals) false most_file_bytes file.items) fault }
 {
     let form = ReadingForm::three_views(decimals);
-    let (problem, _) = read(alloc, &mut Groups::new(file), form)?;
+    let (problem, _) = read(alloc, &mut Groups::new(file), form, false)?;
     Ok(problem)
 }
 
@@ -111,14 +113,16 @@ pub fn problem_of_six(
     requires short { length file.items ≤ most_file_bytes }
     requires decimals { decimals ≤ most_decimals }
     ensures problem { IfOk result (λ found.
-        HasFurther (input_in (six_views decimals) most_file_bytes file.items) found.0 found.1) }
+        HasFurther (input_in (six_views decimals) false most_file_bytes file.items)
+        found.0 found.1) }
     ensures fault { (fault : Fault) → IsErrOf result (Refused.Fault fault)
-        → IsFileFault (input_in (six_views decimals) most_file_bytes file.items) fault }
+        → IsFileFault (input_in (six_views decimals) false most_file_bytes file.items) fault }
 {
     read(
         alloc,
         &mut Groups::new(file),
         ReadingForm::six_views(decimals),
+        false,
     )
 }
 
@@ -135,24 +139,27 @@ fn bytes_from(text: Vec<u8>, place: usize) -> Vec<u8>
 }
 
 /// The grid and the blocks of the drawing of a text that is read in this form, its further views,
-/// and the bytes behind the line of its end pair's value; or the text's first fault. The text has at
-/// most 134,217,728 bytes. Memory comes when out of memory.
+/// and the bytes behind the line of its end pair's value; or the text's first fault. One view may
+/// be missing with `two_views`. The text has at most 134,217,728 bytes. Memory comes when out of
+/// memory.
 pub fn problem_with_rest(
     alloc: Global,
     text: Vec<u8>,
     form: ReadingForm,
+    two_views: bool,
 ) -> Result<(Problem, Further, Vec<u8>), Refused>
     requires { length text.items ≤ most_text_bytes }
     ensures problem { (most : ℕ) → length text.items ≤ most
-        → IfOk result (λ found. HasFurther (input_in form most text.items) found.0 found.1) }
+        → IfOk result (λ found.
+        HasFurther (input_in form two_views most text.items) found.0 found.1) }
     ensures rest { IfOk result (λ found. rest_of_text text.items ≡ Some found.2.items) }
     ensures few { IfOk result (λ found. length found.2.items ≤ most_text_bytes) }
     ensures fault { (most : ℕ) → length text.items ≤ most
         → (fault : Fault) → IsErrOf result (refused.Fault fault)
-        → IsFileFault (input_in form most text.items) fault }
+        → IsFileFault (input_in form two_views most text.items) fault }
 {
     let mut groups = Groups::new(text);
-    let (problem, further) = read(alloc, &mut groups, form)?;
+    let (problem, further) = read(alloc, &mut groups, form, two_views)?;
     let place = groups.after_end().unwrap();
     let rest = bytes_from(groups.into_text(), place);
     Ok((problem, further, rest))
@@ -163,13 +170,13 @@ pub fn problem_with_rest(
 pub fn problem_and_rest(alloc: Global, text: Vec<u8>) -> Result<(Problem, Vec<u8>), Refused>
     requires { length text.items ≤ most_text_bytes }
     ensures problem { IfOk result (λ found.
-        HasProblem (input_in (three_views 0) most_text_bytes text.items) found.0) }
+        HasProblem (input_in (three_views 0) false most_text_bytes text.items) found.0) }
     ensures rest { IfOk result (λ found. rest_of_text text.items ≡ Some found.1.items) }
     ensures fault { (fault : Fault) → IsErrOf result (refused.Fault fault)
-        → IsFileFault (input_in (three_views 0) most_text_bytes text.items) fault }
+        → IsFileFault (input_in (three_views 0) false most_text_bytes text.items) fault }
     ensures not_long { IsErrOf result (refused.Fault TooLong) → ⊥ }
 {
     let form = ReadingForm::three_views(0);
-    let (problem, _, rest) = problem_with_rest(alloc, text, form)?;
+    let (problem, _, rest) = problem_with_rest(alloc, text, form, false)?;
     Ok((problem, rest))
 }

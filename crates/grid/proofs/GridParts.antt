@@ -8,6 +8,7 @@ use Rattle.solid_model.specs.declared.segment.Style.{Style}
 use Rattle.solid_model.specs.Grid.{AreGridCoordinates, IsFineEnough}
 use Rattle.solid_model.specs.Limits.{most_grid_coordinates}
 use Rattle.solid_model.specs.Panels.{PanelsStyles, GridParts, coordinates_of, AreGridStyles, IsGridOf}
+use Rattle.solid_model.specs.Runs.{IsDrawing}
 use Rattle.lemmas.proofs.Lists.{same_ascending}
 use Rattle.grid.specs.declared.coordinates.Coordinates.{Coordinates}
 use Rattle.grid.specs.AxisCoordinates.{coordinates_in, AreFewCoordinates}
@@ -32,10 +33,11 @@ module _ (drawing : Segment → Style) (c : Coordinates) (panels : PanelsStyles)
   along_each Z = refl
 
   -- and is the grid of the drawing, where they are its own
-  pub is_grid_of : ((a : Axis) → AreFewCoordinates drawing a (coordinates_in c a)) → AreGridStyles drawing (coordinates_in c) panels
+  pub is_grid_of : IsDrawing drawing → ((a : Axis) → AreFewCoordinates drawing a (coordinates_in c a)) → AreGridStyles drawing (coordinates_in c) panels
       → IsGridOf drawing (parts_of c panels)
-  is_grid_of own styles = record {
+  is_grid_of is own styles = record {
     coordinates = λ a. subst (AreGridCoordinates drawing a) (along_each a) (own a).exact;
     few = λ a. subst (λ zs. length zs ≤ most_grid_coordinates) (along_each a) (own a).few;
     styles = subst (λ k. AreGridStyles drawing k panels) (λ i a. along_each a i) styles;
+    sees = is.sees;
   }

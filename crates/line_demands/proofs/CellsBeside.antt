@@ -1,6 +1,6 @@
 -- The blocks of the cells beside a line.
-use Rattle.std.proofs.Common.{◌≡◌, Bool, false, suc, if◌then◌else◌, ◌&&◌, ℕ, ◌<◌, ◌≤◌, ℤ, pos, None, IsTrue, ap, sym, subst, ◌∙◌, arith}
-use Rattle.std.proofs.lemmas.Bool.{and_parts, and_right, ltb-true}
+use Rattle.std.proofs.Common.{◌≡◌, Bool, false, if◌then◌else◌, ◌&&◌, ℕ, ◌<◌, ℤ, pos, None, ap, sym, subst, ◌∙◌}
+use Rattle.std.proofs.lemmas.Bool.{and_right}
 use Rattle.line_demands.specs.declared.gather.ColumnPlace.{ColumnPlace}
 use Rattle.line_demands.specs.Gathered.{block_of_place}
 use Rattle.line_demands.specs.Touching.{view_width, view_height}
@@ -8,20 +8,12 @@ use Rattle.line_demands.proofs.BoxSight.{shown_within}
 use Rattle.line_demands.proofs.KeptColumns.{same_shown, in_width, in_height}
 use Rattle.solid_model.specs.declared.line_id.LineId.{LineId}
 use Rattle.solid_model.specs.Blocks.{ProblemParts, IsBlocksOf, block_at}
-use Rattle.solid_model.specs.Demands.{has_line, box_cell_in}
+use Rattle.solid_model.specs.Demands.{box_cell_in}
 use Rattle.solid_model.specs.Forcing.{place_beside, cell_beside}
 use Rattle.solid_model.specs.Frames.{frame_of}
-use Rattle.solid_model.specs.Panels.{GridParts}
 use Rattle.solid_model.specs.PerAxis.{numbers_of}
 use Rattle.solid_model.specs.Rooms.{Sizes, is_within, is_below, number_at}
 use Rattle.solid_model.specs.GridBox.{grid_sizes, axis_along, axis_across}
-
--- a line that a grid has stands within it
-pub line_within : (g : GridParts) (l : LineId) → IsTrue (has_line g l) → (l.at ≤ grid_sizes g (axis_across l.view l.upright)) × (l.cell < grid_sizes g (axis_along l.view l.upright))
-line_within g l has =
-    let parts = and_parts _ _ has in
-    let at = ltb-true l.at (suc (grid_sizes g (axis_across l.view l.upright))) parts.0 in
-    (omega (arith, at), ltb-true l.cell (grid_sizes g (axis_along l.view l.upright)) parts.1)
 
 module _ (p : ProblemParts) (blocks : IsBlocksOf p.grid p.blocks) (l : LineId) where
   -- a cell beyond the box is in no block

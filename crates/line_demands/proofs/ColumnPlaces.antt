@@ -1,5 +1,5 @@
 -- The numbers of columns.
-use Rattle.std.proofs.Common.{◌≡◌, inl, inr, Bool, true, false, if◌then◌else◌, ℕ, suc, ◌+◌, ◌-◌, ◌*◌, ◌<◌, ◌≤◌, nat_lt, IsTrue, refl, ap, sym, subst, arith}
+use Rattle.std.proofs.Common.{◌≡◌, inl, inr, Bool, true, false, if◌then◌else◌, ℕ, suc, ◌+◌, ◌-◌, ◌*◌, ◌<◌, ◌≤◌, nat_lt, ◌&&◌, IsTrue, refl, ap, sym, subst, arith}
 use Rattle.std.proofs.lemmas.Bool.{and_parts, cases_lt, ltb-true, ltb-false}
 use Rattle.std.proofs.lemmas.Nat.{mul-add-lt}
 use Rattle.std.proofs.Math.Nat.{mul_comm, mod-lt, div-lt_iff_lt-mul}
@@ -13,6 +13,7 @@ use Rattle.solid_model.specs.declared.line_id.LineId.{LineId}
 use Rattle.solid_model.specs.Demands.{has_line}
 use Rattle.solid_model.specs.Panels.{GridParts}
 use Rattle.solid_model.specs.Rooms.{Sizes}
+use Rattle.solid_model.specs.Wire.{is_drawn_view}
 use Rattle.solid_model.specs.GridBox.{grid_sizes, axis_along, axis_across}
 
 pub in_view : (sizes : Sizes) (v : View) (right up : ℕ) → right < view_width sizes v → up < view_height sizes v
@@ -26,17 +27,21 @@ number_inside sizes Front right up l m = let a = in_view sizes Front right up l 
 number_inside sizes Top right up l m = let a = in_view sizes Top right up l m in omega arith
 number_inside sizes Side right up l m = let a = in_view sizes Side right up l m in omega arith
 
--- the places of a line that a grid has
+-- a line that a grid has stands within it
+pub line_within : (g : GridParts) (l : LineId) → IsTrue (has_line g l) → (l.at ≤ grid_sizes g (axis_across l.view l.upright)) × (l.cell < grid_sizes g (axis_along l.view l.upright))
+line_within g l has =
+    let at = nat_lt l.at (suc (grid_sizes g (axis_across l.view l.upright))) in
+    let cell = nat_lt l.cell (grid_sizes g (axis_along l.view l.upright)) in
+    let parts = and_parts at cell (and_parts (is_drawn_view g l.view) (at && cell) has).1 in
+    let few = ltb-true l.at (suc (grid_sizes g (axis_across l.view l.upright))) parts.0 in
+    (omega (arith, few), ltb-true l.cell (grid_sizes g (axis_along l.view l.upright)) parts.1)
+
+-- so it does within sizes that are the grid's
 pub line_cell : (g : GridParts) (sizes : Sizes) (l : LineId) → sizes ≡ grid_sizes g → IsTrue (has_line g l) → l.cell < sizes (axis_along l.view l.upright)
-line_cell g sizes l same has =
-    let parts = and_parts (nat_lt l.at (suc (grid_sizes g (axis_across l.view l.upright)))) (nat_lt l.cell (grid_sizes g (axis_along l.view l.upright))) has in
-    subst (λ (s : Sizes). l.cell < s (axis_along l.view l.upright)) (sym same) (ltb-true l.cell (grid_sizes g (axis_along l.view l.upright)) parts.1)
+line_cell g sizes l same has = subst (λ (s : Sizes). l.cell < s (axis_along l.view l.upright)) (sym same) (line_within g l has).1
 
 pub line_at : (g : GridParts) (sizes : Sizes) (l : LineId) → sizes ≡ grid_sizes g → IsTrue (has_line g l) → l.at ≤ sizes (axis_across l.view l.upright)
-line_at g sizes l same has =
-    let parts = and_parts (nat_lt l.at (suc (grid_sizes g (axis_across l.view l.upright)))) (nat_lt l.cell (grid_sizes g (axis_along l.view l.upright))) has in
-    let few = ltb-true l.at (suc (grid_sizes g (axis_across l.view l.upright))) parts.0 in
-    subst (λ (s : Sizes). l.at ≤ s (axis_across l.view l.upright)) (sym same) (omega arith)
+line_at g sizes l same has = subst (λ (s : Sizes). l.at ≤ s (axis_across l.view l.upright)) (sym same) (line_within g l has).0
 
 -- where a column stands
 positive : (h w n : ℕ) → n < h * w → 0 < w

@@ -1,5 +1,5 @@
 -- Lines are listed one after another, and marked as lines that can be met.
-use Rattle.std.proofs.Common.{◌≡◌, inl, inr, Bool, true, false, ℕ, ◌+◌, ◌*◌, ◌≤◌, List, [], ◌∷◌, ◌++◌, length, map, get_or, append_assoc, refl, ap, sym, subst, ◌∙◌, arith}
+use Rattle.std.proofs.Common.{◌≡◌, inl, inr, Bool, true, false, ℕ, ◌+◌, ◌*◌, ◌≤◌, List, [], ◌∷◌, ◌++◌, length, map, get_or, append_assoc, if◌then◌else◌, refl, ap, sym, subst, ◌∙◌, arith}
 use Rattle.std.specs.Prelude.{All}
 use Rattle.std.specs.List.{flat_map, range_with_len}
 use Rattle.std.proofs.lemmas.Bool.{cases_lt}
@@ -15,8 +15,10 @@ use Rattle.line_demands.specs.KeptColumns.{IsBeside, AreSides}
 use Rattle.line_demands.proofs.ListParts.{range_more}
 use Rattle.solid_model.specs.declared.line_id.LineId.{LineId}
 use Rattle.solid_model.specs.Blocks.{ProblemParts}
+use Rattle.solid_model.specs.declared.frame.View.{View}
 use Rattle.solid_model.specs.declared.frame.View.TheVariants.{Front, Top, Side}
 use Rattle.solid_model.specs.Demands.{lines_along, lines_in, lines_of}
+use Rattle.solid_model.specs.Wire.{is_drawn_view}
 use Rattle.lemmas.specs.Counts.{one_if, times_listed}
 
 module _ (p : ProblemParts) where
@@ -72,17 +74,19 @@ met_more n met so_far = (
 pub none_met : AreMarkedMet 0 []
 none_met = (refl, record { once = λ i l. absurd (omega arith); below = λ k d l. absurd (omega arith); counted = refl })
 
--- the six kinds of lines, one after another
-pub all_listed : (p : ProblemParts) (a b c d e f g : List Beside) → a ≡ []
-    → AreMoreSides p (lines_along p.grid Front false) 4032 a b → AreMoreSides p (lines_along p.grid Front true) 4032 b c
-    → AreMoreSides p (lines_along p.grid Top false) 4032 c d → AreMoreSides p (lines_along p.grid Top true) 4032 d e
-    → AreMoreSides p (lines_along p.grid Side false) 4032 e f → AreMoreSides p (lines_along p.grid Side true) 4032 f g → AreSides p g
-all_listed p a b c d e f g empty fl fu tl tu sl su =
-    let front = sides_both p (lines_along p.grid Front false) (lines_along p.grid Front true) 4032 4032 a b c fl fu in
-    let top = sides_both p (lines_along p.grid Top false) (lines_along p.grid Top true) 4032 4032 c d e tl tu in
-    let side = sides_both p (lines_along p.grid Side false) (lines_along p.grid Side true) 4032 4032 e f g sl su in
-    let rest = sides_both p (lines_in p.grid Top) (lines_in p.grid Side) 8064 8064 c e g top side in
-    let all = sides_both p (lines_in p.grid Front) (lines_in p.grid Top ++ lines_in p.grid Side) 8064 16128 a c g front rest in
+-- the level and the upright lines of a view that shows something
+pub view_listed : (p : ProblemParts) (v : View) → is_drawn_view p.grid v ≡ true → (old half new : List Beside)
+    → AreMoreSides p (lines_along p.grid v false) 4032 old half → AreMoreSides p (lines_along p.grid v true) 4032 half new → AreMoreSides p (lines_in p.grid v) 8064 old new
+view_listed p v shown old half new level upright =
+    subst (λ (t : Bool). AreMoreSides p (if t then (lines_along p.grid v false ++ lines_along p.grid v true) else []) 8064 old new) (sym shown)
+    (sides_both p (lines_along p.grid v false) (lines_along p.grid v true) 4032 4032 old half new level upright)
+
+-- the lines of the three views, one after another
+pub all_listed : (p : ProblemParts) (a b c d : List Beside) → a ≡ []
+    → AreMoreSides p (lines_in p.grid Front) 8064 a b → AreMoreSides p (lines_in p.grid Top) 8064 b c → AreMoreSides p (lines_in p.grid Side) 8064 c d → AreSides p d
+all_listed p a b c d empty front top side =
+    let rest = sides_both p (lines_in p.grid Top) (lines_in p.grid Side) 8064 8064 b c d top side in
+    let all = sides_both p (lines_in p.grid Front) (lines_in p.grid Top ++ lines_in p.grid Side) 8064 16128 a b d front rest in
     record {
       listed = all.listed ∙ ap (λ bs. map (λ x. x.line) bs ++ lines_of p.grid) empty;
       each = all.each (subst (All (IsBeside p)) (sym empty) (λ k x l. absurd (omega arith)));

@@ -1,7 +1,8 @@
 //! The plan of a problem: its columns, the cells of its blocks, and the lines beside them.
 
 ghost use Rattle.std.specs.Prelude.{◌≡◌, ◌==◌, ◌&&◌, ◌||◌, ◌<◌, ◌≤◌, ℕ, [], length, slice_index_or, All, None, is_some, vec_capacity, IsTrue, IfOk, IfSome};
-ghost use Rattle.solid_model.specs.Demands.{has_line, lines_at, lines_along};
+ghost use Rattle.solid_model.specs.Demands.{has_line, lines_at, lines_along, lines_in};
+ghost use Rattle.solid_model.specs.Wire.{is_drawn_view};
 ghost use Rattle.line_demands.specs.Gathered.{place_in_view, place_numbered, block_of_place, IsListed, AreAddedTo, IsGathered, AreGatheredTo, AreTouchedBy, AreTouchedTo, AllEmpty, AreMarkedMet, AreMoreSides, AreUndecided};
 ghost use Rattle.line_demands.specs.KeptColumns.{column_count, IsBeside, AreSides};
 ghost use Rattle.line_demands.specs.Touching.{view_width, view_height};
@@ -203,6 +204,7 @@ fn add_lines_at(
     at: usize,
     sides: &mut Vec<Beside>,
 ) -> Result<(), Memory>
+    requires shown { IsTrue (is_drawn_view problem.now.grid view) }
     requires there { at ≤ grid_sizes problem.now.grid (axis_across view upright) }
     requires few { at ≤ 63 }
     ensures { IfOk result (λ _. AreMoreSides problem.now (lines_at problem.now.grid view upright at)
@@ -236,6 +238,7 @@ fn add_lines(
     upright: bool,
     sides: &mut Vec<Beside>,
 ) -> Result<(), Memory>
+    requires { IsTrue (is_drawn_view problem.now.grid view) }
     ensures { IfOk result (λ _. AreMoreSides problem.now (lines_along problem.now.grid view upright)
         4032 sides.old.items sides.new.items) }
 {
@@ -245,18 +248,28 @@ fn add_lines(
     Ok(())
 }
 
+/// The lines of a view. One that is missing demands nothing, and has none.
+fn add_view(problem: &Problem, view: View, sides: &mut Vec<Beside>) -> Result<(), Memory>
+    ensures { IfOk result (λ _. AreMoreSides problem.now (lines_in problem.now.grid view)
+        8064 sides.old.items sides.new.items) }
+{
+    if !problem.grid().shows(view) {
+        return Ok(());
+    }
+    add_lines(problem, view, false, sides)?;
+    add_lines(problem, view, true, sides)?;
+    Ok(())
+}
+
 /// All lines, in their order.
 pub fn all_sides(alloc: Global, problem: &Problem) -> Result<Vec<Beside>, Memory>
     ensures sides { IfOk result (λ sides. AreSides problem.now sides.items) }
     ensures few { IfOk result (λ sides. length sides.items ≤ 24192) }
 {
     let mut sides = Vec::new(alloc);
-    add_lines(problem, View::Front, false, &mut sides)?;
-    add_lines(problem, View::Front, true, &mut sides)?;
-    add_lines(problem, View::Top, false, &mut sides)?;
-    add_lines(problem, View::Top, true, &mut sides)?;
-    add_lines(problem, View::Side, false, &mut sides)?;
-    add_lines(problem, View::Side, true, &mut sides)?;
+    add_view(problem, View::Front, &mut sides)?;
+    add_view(problem, View::Top, &mut sides)?;
+    add_view(problem, View::Side, &mut sides)?;
     Ok(sides)
 }
 

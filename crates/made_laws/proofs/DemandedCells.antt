@@ -134,7 +134,7 @@ module _ (before : List Cube) (p : Cube) (behind : List Cube) (q : ProblemParts)
         → HasValue (pos line_place) value → HasValue (pos (ticks_before before p behind + up)) value → ⊥
     apart m differ value after prior =
         let e : pos (ticks_before before p behind + up) ≡ pos line_place -ℤ pos 1 = omega (arith, ints) in
-        not_known_equal solid q is.grid v line_place cell_place on_line in_row (depth_of m) differ prefix live
+        not_known_equal solid is.drawing q is.grid v line_place cell_place on_line in_row (depth_of m) differ prefix live
         (known_equal before p behind q is v right in_right (said_by prefix) (pos line_place) (pos line_place -ℤ pos 1) value after
         (subst (λ j. HasValue j value) e prior))
 

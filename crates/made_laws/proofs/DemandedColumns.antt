@@ -13,6 +13,7 @@ use Rattle.solid_model.specs.Demands.{known_cell, known_in, coordinate_on, box_c
 use Rattle.solid_model.specs.DrawnStyle.{solid_drawing}
 use Rattle.solid_model.specs.Frames.{frame_of, along, across}
 use Rattle.solid_model.specs.Panels.{coordinates_of, IsGridOf}
+use Rattle.solid_model.specs.Runs.{IsDrawing}
 use Rattle.solid_model.specs.GridBox.{grid_sizes}
 use Rattle.solid_model.proofs.Views.{across_along, views_are_frames, HasCoordinates, coordinates_at, runs_forward, stands_forward}
 use Rattle.drawing_maker.specs.declared.cube.Cube.{Cube}
@@ -34,6 +35,7 @@ use Rattle.drawing_maker.proofs.RowTicks.{part_at}
 -- a row of cubes, its grid and its blocks
 pub record IsProblemOf (ps : List Cube) (q : ProblemParts) : Type 0 where
   pub row : IsRow ps
+  pub drawing : IsDrawing (solid_drawing (row_cells ps))
   pub grid : IsGridOf (solid_drawing (row_cells ps)) q.grid
   pub coordinates : (a : Axis) → coordinates_of q.grid a ≡ coordinates_of_ticks (row_ticks ps)
   pub blocks : IsBlocksOf q.grid q.blocks

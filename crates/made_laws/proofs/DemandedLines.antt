@@ -1,6 +1,6 @@
 -- A line of a solid's own grid can't be met where the solid's columns beside it differ, and what is known of the two columns makes
 -- them equal.
-use Rattle.std.proofs.Common.{◌≡◌, ◌≢◌, Bool, false, nat_lt, ℕ, suc, ◌<◌, List, [], length, ℤ, Option, Some, sym, subst, ◌∙◌, arith}
+use Rattle.std.proofs.Common.{◌≡◌, ◌≢◌, Bool, false, nat_lt, ℕ, suc, ◌<◌, List, [], length, ℤ, Option, Some, refl, sym, subst, ◌∙◌, arith}
 use Rattle.std.proofs.lemmas.Bool.{and_from, lt-ltb}
 use Rattle.solid_model.specs.declared.cell.Cell.{Cell}
 use Rattle.solid_model.specs.declared.frame.View.{View}
@@ -17,10 +17,13 @@ use Rattle.solid_model.specs.Draws.{Draws}
 use Rattle.solid_model.specs.DrawnStyle.{solid_drawing, drawn_style}
 use Rattle.solid_model.specs.Frames.{frame_of}
 use Rattle.solid_model.specs.Panels.{coordinates_of, IsGridOf}
+use Rattle.solid_model.specs.Runs.{IsDrawing}
 use Rattle.solid_model.specs.Segments.{segment_at}
+use Rattle.solid_model.specs.Wire.{is_drawn_view}
 use Rattle.solid_model.specs.GridBox.{grid_sizes, axis_along, axis_across}
 use Rattle.solid_model.proofs.ColumnRule.{columns_drawn}
 use Rattle.solid_model.proofs.Gaps.{member}
+use Rattle.solid_model.proofs.GridMatching.{shown_drawn}
 use Rattle.solid_model.proofs.GridStyle.{grid_style-drawing}
 use Rattle.solid_model.proofs.Styles.{one_style, drawn_style_drawn}
 use Rattle.solid_model.proofs.Views.{views_are_frames}
@@ -63,7 +66,7 @@ drawn_where_different v s g k differ blank = differ_first (λ same. never Dashed
     differ_first : (HaveSameFirstFull (column_after (frame_of v) (is_full s) g) (column_before (frame_of v) (is_full s) g) → ⊥) → ⊥
     differ_first different = never Solid (λ e. cc) different
 
-module _ (s : List Cell) (p : ProblemParts) (grid : IsGridOf (solid_drawing s) p.grid) (v : View) (at cell : ℕ)
+module _ (s : List Cell) (is : IsDrawing (solid_drawing s)) (p : ProblemParts) (grid : IsGridOf (solid_drawing s) p.grid) (v : View) (at cell : ℕ)
     (on_line : at < length (coordinates_of p.grid (axis_across v false))) (in_row : cell < grid_sizes p.grid (axis_along v false)) where
   -- the level line
   abbrev pub level_line : LineId
@@ -78,8 +81,10 @@ module _ (s : List Cell) (p : ProblemParts) (grid : IsGridOf (solid_drawing s) p
       → (prefix : List Bool) → IsLive p prefix
       → AreKnownEqual (known_after p.grid (known_cell p.blocks (said_by prefix)) level_line) (known_before p.grid (known_cell p.blocks (said_by prefix)) level_line) → ⊥
   not_known_equal k differ prefix live equal =
-      let met = live.lives [] tt level_line (and_from (nat_lt at (suc (grid_sizes p.grid (axis_across v false)))) (nat_lt cell (grid_sizes p.grid (axis_along v false)))
-      (lt-ltb at (suc (grid_sizes p.grid (axis_across v false))) (omega arith)) (lt-ltb cell (grid_sizes p.grid (axis_along v false)) in_row)) in
+      let shown = shown_drawn (solid_drawing s) is p.grid grid v (first_segment, refl, drawn_where_different v s first_segment k differ) in
+      let fits = and_from (nat_lt at (suc (grid_sizes p.grid (axis_across v false)))) (nat_lt cell (grid_sizes p.grid (axis_along v false)))
+      (lt-ltb at (suc (grid_sizes p.grid (axis_across v false))) (omega arith)) (lt-ltb cell (grid_sizes p.grid (axis_along v false)) in_row) in
+      let met = live.lives [] tt level_line (and_from (is_drawn_view p.grid v) _ shown fits) in
       let blank = known_equal_blank _ _ (line_style p.grid level_line) equal met in
       drawn_where_different v s first_segment k differ
       (sym (grid_style-drawing (solid_drawing s) p.grid grid.styles v false at cell on_line in_row) ∙ blank)

@@ -12,7 +12,7 @@ use Rattle.drawing_maker.specs.Made.{made_cubes, made_solid}
 use Rattle.drawing_maker.specs.Cubes.{row_cells}
 use Rattle.made_laws.specs.RowBlocks.{blocks_in_row, row_block_count}
 use Rattle.drawing_maker.specs.Rows.{row_ticks, coordinates_of_ticks}
-use Rattle.drawing_maker.proofs.DrawnAcross.{coordinate_on_grid}
+use Rattle.solid_model.proofs.StayingOnGrid.{coordinate_on_grid}
 use Rattle.drawing_maker.proofs.MadeRows.{made_row}
 use Rattle.made_laws.proofs.MadeSolid.{made_is_drawing}
 use Rattle.made_laws.proofs.RowBlocks.{row_blocks, row_numbers}

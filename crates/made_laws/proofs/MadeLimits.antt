@@ -68,7 +68,7 @@ module _ (n : ℕ) (p : ProblemParts) (grid : IsGridOf (solid_drawing (made_soli
   is_problem : IsProblemOf (made_cubes n) p
   is_problem =
       let are = made_numbers n p.grid grid p.blocks.numbers p.blocks.count blocks.blocks in
-      record { row = made_row n; grid = grid; coordinates = row_grid_coordinates (made_cubes n) (made_row n) p.grid grid; blocks = blocks; numbers = are.0; count = are.1 }
+      record { row = made_row n; drawing = made_is_drawing n; grid = grid; coordinates = row_grid_coordinates (made_cubes n) (made_row n) p.grid grid; blocks = blocks; numbers = are.0; count = are.1 }
 
   pub few_made_nodes : live_count (is_live p) p.blocks.count [] ≤ 1000000
   few_made_nodes = few_live n p is_problem

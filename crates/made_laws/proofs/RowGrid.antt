@@ -21,16 +21,17 @@ use Rattle.solid_model.specs.Panels.{GridParts, coordinates_of, IsGridOf}
 use Rattle.solid_model.specs.Rooms.{is_below, is_within, place_of_number}
 use Rattle.solid_model.specs.Runs.{IsDrawing}
 use Rattle.solid_model.specs.Segments.{segment_at}
-use Rattle.solid_model.specs.Wire.{is_blank_style, is_drawn_from}
+use Rattle.solid_model.specs.Wire.{is_blank_style, is_drawn_view, is_drawn_from}
 use Rattle.solid_model.specs.GridBox.{grid_sizes, grid_cell_of, axis_along, axis_across, grid_style, IsGridFullness}
 use Rattle.solid_model.proofs.BoxCells.{within-below, below-within}
 use Rattle.solid_model.proofs.ColumnRule.{equal_columns}
 use Rattle.solid_model.proofs.Gaps.{member, member_of, begins_gap, ends_gap, last_in_none, before_first_in_none}
-use Rattle.solid_model.proofs.GridMatching.{matches_from_drawing}
+use Rattle.solid_model.proofs.GridMatching.{matches_from_drawing, shown_drawn}
 use Rattle.solid_model.proofs.GridStyle.{grid_style-drawing, blank_off_grid}
 use Rattle.solid_model.proofs.InGrid.{gap_or_none, placed_at}
-use Rattle.solid_model.proofs.Styles.{one_style}
+use Rattle.solid_model.proofs.Styles.{one_style, drawn_style_drawn}
 use Rattle.solid_model.proofs.Views.{views_are_frames, runs_forward, stands_forward, forward_cell}
+use Rattle.redraw.proofs.SolidBegins.{solid_begins}
 use Rattle.drawing_maker.specs.declared.cube.Cube.{Cube}
 use Rattle.drawing_maker.specs.declared.ticks.Tick.{Tick}
 use Rattle.drawing_maker.specs.Cubes.{row_cells}
@@ -152,7 +153,14 @@ module _ (ps : List Cube) (row : IsRow ps) where
     module _ (grid : IsGridOf (solid_drawing (row_cells ps)) g) (is : IsDrawing (solid_drawing (row_cells ps))) where
       -- the row matches its drawing
       pub row_matches : Matches (solid_drawing (row_cells ps)) (row_cells ps)
-      row_matches = matches_from_drawing (solid_drawing (row_cells ps)) is (row_cells ps) (λ h. refl)
+      row_matches = matches_from_drawing (solid_drawing (row_cells ps)) is (row_cells ps) (λ h shows. refl)
+
+      -- each view shows something of it
+      pub row_drawn : (v : View) → is_drawn_view g v ≡ true
+      row_drawn v =
+          let (right, up, begins) = solid_begins (row_cells ps) row_matches.0 v in
+          let (h, of, drawn, left) = begins.at_left in
+          shown_drawn (solid_drawing (row_cells ps)) is g grid v (h, of, drawn)
 
       -- the two columns of grid cells beside a grid segment are equal
       abbrev pub HasEqualColumns : View → Bool → Cell → Type 0
@@ -180,11 +188,11 @@ module _ (ps : List Cube) (row : IsRow ps) where
           → solid_drawing (row_cells ps) (segment_at v upright i j) ≡ Blank
       blank_unit v true n equal at_line at_cell i j e f =
           let h : Segment = segment_at v true i j in
-          one_style (frame_of v) (is_full (row_cells ps)) h _ Blank (row_matches.1 h)
+          one_style (frame_of v) (is_full (row_cells ps)) h _ Blank (drawn_style_drawn (frame_of v) (views_are_frames v) (row_cells ps) h)
           (equal_columns (frame_of v) (views_are_frames v) (is_full (row_cells ps)) h (λ k. equal_units v true n equal at_line at_cell i j k e f))
       blank_unit v false n equal at_line at_cell i j e f =
           let h : Segment = segment_at v false i j in
-          one_style (frame_of v) (is_full (row_cells ps)) h _ Blank (row_matches.1 h)
+          one_style (frame_of v) (is_full (row_cells ps)) h _ Blank (drawn_style_drawn (frame_of v) (views_are_frames v) (row_cells ps) h)
           (equal_columns (frame_of v) (views_are_frames v) (is_full (row_cells ps)) h (λ k. equal_units v false n equal at_line at_cell i j k e f))
 
       -- so the grid segment is blank

@@ -29,7 +29,7 @@ use Rattle.drawing_maker.specs.Cubes.{is_void, row_cells}
 use Rattle.drawing_maker.specs.Rows.{row_ticks, coordinates_of_ticks}
 use Rattle.made_laws.proofs.BoxLines.{some_greater, out_down}
 use Rattle.drawing_maker.proofs.Rows.{IsRow}
-use Rattle.made_laws.proofs.RowGrid.{undrawn}
+use Rattle.made_laws.proofs.RowGrid.{row_drawn, undrawn}
 use Rattle.made_laws.proofs.RowOutside.{unbarred_away, OfSquare, kept_away, moved_across}
 use Rattle.made_laws.proofs.RowPlaces.{first_place}
 use Rattle.made_laws.proofs.RowCubelets.{hole, void_is, no_hole_first, Covers, place_in, place_is, one_covers, IsIn, cubelet_in, IsOff, in_or_off, not_both, full_at, full_in, full_off}
@@ -107,7 +107,7 @@ module _ (ps : List Cube) (row : IsRow ps) where
         (OfSquare (AreSolidSquares p) v upright) unbarred (λ m at. kept_away (AreSolidSquares p) v upright _ m at) k.0 n k.1 squares)
       where
         unbarred : (m : Cell) → OfSquare (AreSolidSquares p) v upright m → Bars g (axis_across v upright) (frame_of v).away.axis m → ⊥
-        unbarred m at = unbarred_away g v upright m (undrawn ps row g same grid is v upright m (λ k.
+        unbarred m at = unbarred_away g (row_drawn ps row g same grid is) v upright m (undrawn ps row g same grid is v upright m (λ k.
             same_over_squares v upright p _ _ (kept_away (IsSolidSquare p) v upright k m at.0)
             (kept_away (IsSolidSquare p) v upright k (cell_before (axis_across v upright) m)
             (moved_across (IsSolidSquare p) v upright _ m (at.0.0, at.0.1, at.1)))

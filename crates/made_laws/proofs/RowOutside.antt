@@ -16,7 +16,7 @@ use Rattle.solid_model.specs.Panels.{GridParts, coordinates_of, IsGridOf}
 use Rattle.solid_model.specs.Rooms.{same_axis, face_sizes, LeadsOut}
 use Rattle.solid_model.specs.Runs.{IsDrawing}
 use Rattle.solid_model.specs.VirtualFaces.{Bars, IsVirtual}
-use Rattle.solid_model.specs.Wire.{is_drawn_from, is_pseudo_vertex, is_drawn_or_point, is_pseudo_edge}
+use Rattle.solid_model.specs.Wire.{is_drawn_view, is_drawn_from, is_pseudo_vertex, is_drawn_or_point, is_pseudo_edge}
 use Rattle.solid_model.specs.GridBox.{grid_sizes, axis_along, axis_across}
 use Rattle.solid_model.proofs.InGrid.{before_after}
 use Rattle.drawing_maker.specs.declared.cube.Cube.{Cube}
@@ -25,7 +25,7 @@ use Rattle.drawing_maker.specs.Rows.{row_ticks, coordinates_of_ticks}
 use Rattle.made_laws.proofs.BoxLines.{some_greater, out_down, out_up}
 use Rattle.drawing_maker.proofs.Rows.{IsRow}
 use Rattle.drawing_maker.proofs.RowTicks.{part_at}
-use Rattle.made_laws.proofs.RowGrid.{undrawn}
+use Rattle.made_laws.proofs.RowGrid.{row_drawn, undrawn}
 use Rattle.made_laws.proofs.RowPlaces.{first_place}
 use Rattle.made_laws.proofs.RowCubelets.{Covers, covered_or_none, one_covers, IsOff, Apart, in_or_off, full_at, full_off}
 
@@ -36,7 +36,7 @@ own_name X = refl
 own_name Y = refl
 own_name Z = refl
 
-module _ (g : GridParts) where
+module _ (g : GridParts) (shown : (v : View) → is_drawn_view g v ≡ true) where
   shown_in : (a : Axis) (n : Cell) → is_pseudo_edge g a n ≡ true → (v : View) → is_drawn_or_point g a n v ≡ true
   shown_in a n e v = by v
     where
@@ -53,14 +53,20 @@ module _ (g : GridParts) where
 
   -- a pseudo edge is drawn in a view that shows it as a segment
   pseudo_drawn : (v : View) (upright : Bool) (n : Cell) → is_pseudo_edge g (axis_along v upright) n ≡ true → is_drawn_from g v upright n ≡ true
-  pseudo_drawn v true n e =
-      let shown = and_parts (not (same_axis (axis_along v false) (axis_along v true)) || is_drawn_from g v false n)
-      (not (same_axis (axis_along v true) (axis_along v true)) || is_drawn_from g v true n) (shown_in (axis_along v true) n e v) in
-      sym (ap (λ b. not b || is_drawn_from g v true n) (own_name (axis_along v true))) ∙ shown.1
-  pseudo_drawn v false n e =
-      let shown = and_parts (not (same_axis (axis_along v false) (axis_along v false)) || is_drawn_from g v false n)
-      (not (same_axis (axis_along v true) (axis_along v false)) || is_drawn_from g v true n) (shown_in (axis_along v false) n e v) in
-      sym (ap (λ b. not b || is_drawn_from g v false n) (own_name (axis_along v false))) ∙ shown.0
+  pseudo_drawn v upright n e = by upright (and_parts (is_off false) (is_off true) (sym (ap (λ b. not b || (is_off false && is_off true)) (shown v)) ∙ shown_in a n e v)) refl
+    where
+      a : Axis
+      a = axis_along v upright
+
+      is_off : Bool → Bool
+      is_off w = not (same_axis (axis_along v w) a) || is_drawn_from g v w n
+
+      own : (w : Bool) → axis_along v w ≡ a → is_off w ≡ true → is_drawn_from g v w n ≡ true
+      own w same h = sym (ap (λ b. not b || is_drawn_from g v w n) (ap (λ x. same_axis x a) same ∙ own_name a)) ∙ h
+
+      by : (w : Bool) → (is_off false ≡ true) × (is_off true ≡ true) → axis_along v w ≡ a → is_drawn_from g v w n ≡ true
+      by true h same = own true same h.1
+      by false h same = own false same h.0
 
   -- one that isn't bars no step from face to face, in the plane across the view's sight or in the one along it
   pub unbarred_across : (v : View) (upright : Bool) (n : Cell) → is_drawn_from g v upright n ≡ false
@@ -125,7 +131,7 @@ module _ (ps : List Cube) (row : IsRow ps) where
     -- between two squares that lie in no cube nothing is drawn
     unbarred_apart : (v : View) (upright : Bool) (n : Cell) → OfSquare (Apart ps row) v upright n
         → OfSquare (Apart ps row) v upright (cell_before (axis_across v upright) n) → Bars g (frame_of v).away.axis (axis_across v upright) n → ⊥
-    unbarred_apart v upright n here before = unbarred_across g v upright n (undrawn ps row g same grid is v upright n (λ k.
+    unbarred_apart v upright n here before = unbarred_across g (row_drawn ps row g same grid is) v upright n (undrawn ps row g same grid is v upright n (λ k.
         empty_apart v upright _ (kept_away (Apart ps row) v upright k n here)
         ∙ sym (empty_apart v upright _ (kept_away (Apart ps row) v upright k (cell_before (axis_across v upright) n) before))))
 

@@ -1,6 +1,6 @@
 -- Whatever is known, a tree goes on: so what is written begins a log.
 use Rattle.std.proofs.Common.{◌≡◌, ◌≢◌, ◌⊎◌, inl, inr, Bool, true, false, ℕ, zero, suc, ◌<◌, ◌≤◌, nat_lt, List, [], ◌∷◌, Option, Some, None, IsTrue, refl, ap, sym, subst, ◌∙◌, arith}
-use Rattle.std.proofs.lemmas.Bool.{and_parts, and_from, both_ways, cases_lt, lt-ltb, ltb-true}
+use Rattle.std.proofs.lemmas.Bool.{and_from, both_ways, cases_lt, lt-ltb}
 use Rattle.std.proofs.lemmas.Option.{none-some}
 use Rattle.column_laws.proofs.AllLines.{lines_are_there, lines_are_listed}
 use Rattle.column_laws.proofs.MetLines.{AreSized, met_computed}
@@ -9,6 +9,7 @@ use Rattle.completeness_logs.specs.declared.entry.LinePlace.{LinePlace}
 use Rattle.completeness_logs.specs.Logs.{KnownBlocks, with_block, LogTree, IsTreeUnder, tree_entries}
 use Rattle.completeness_logs.specs.Logs.LogTree.{fails, whole, splits}
 use Rattle.completeness_logs.specs.LogTexts.{has_short_numbers, is_short_entry}
+use Rattle.line_demands.proofs.ColumnPlaces.{line_within}
 use Rattle.lemmas.specs.Lists.{Member, Each}
 use Rattle.lemmas.proofs.Lists.{each-append}
 use Rattle.proof_log.proofs.Lighter.{one_less}
@@ -53,14 +54,11 @@ module _ (p : ProblemParts) (sized : AreSized p) (sizes : (a : Axis) → grid_si
 
   short_spot : (l : LineId) → IsTrue (has_line p.grid l) → IsTrue (has_short_numbers (spot_of l))
   short_spot l has =
-      let across = grid_sizes p.grid (axis_across l.view l.upright) in
-      let along = grid_sizes p.grid (axis_along l.view l.upright) in
-      let parts = and_parts (nat_lt l.at (suc across)) (nat_lt l.cell along) has in
-      let m = ltb-true l.at (suc across) parts.0 in
-      let n = ltb-true l.cell along parts.1 in
+      let within = line_within p.grid l has in
       let f = sizes (axis_across l.view l.upright) in
       let g = sizes (axis_along l.view l.upright) in
-      and_from (nat_lt l.at 10000000000) (nat_lt l.cell 10000000000) (lt-ltb l.at 10000000000 (omega (arith, m, f))) (lt-ltb l.cell 10000000000 (omega (arith, n, g)))
+      and_from (nat_lt l.at 10000000000) (nat_lt l.cell 10000000000)
+      (lt-ltb l.at 10000000000 (omega (arith, within.0, f))) (lt-ltb l.cell 10000000000 (omega (arith, within.1, g)))
 
   -- a line that can't be met, or all can
   met_or_lost : (known : KnownBlocks) → ((l : LineId) × IsTrue (has_line p.grid l) × (CanBeMet p known l → ⊥)) ⊎ AllMet p known

@@ -1,5 +1,5 @@
 -- Each line of a grid stands once among all of them.
-use Rattle.std.proofs.Common.{◌≡◌, ◌≢◌, inl, inr, Bool, true, false, ℕ, suc, ◌<◌, List, ◌++◌, slice_get, Some, ap, sym, subst, ◌∙◌, arith}
+use Rattle.std.proofs.Common.{◌≡◌, ◌≢◌, inl, inr, Bool, true, false, ℕ, if◌then◌else◌, suc, ◌<◌, List, [], ◌++◌, slice_get, Some, ap, sym, subst, ◌∙◌, arith}
 use Rattle.std.specs.List.{range_with_len}
 use Rattle.std.proofs.lemmas.Bool.{cases_lt, both_ways}
 use Rattle.std.proofs.lemmas.Option.{slice_get_within, get_or_from_slice_get}
@@ -8,6 +8,7 @@ use Rattle.solid_model.specs.declared.frame.View.TheVariants.{Front, Top, Side}
 use Rattle.solid_model.specs.declared.line_id.LineId.{LineId}
 use Rattle.solid_model.specs.Demands.{lines_at, lines_along, lines_in, lines_of}
 use Rattle.solid_model.specs.GridBox.{grid_sizes, axis_along, axis_across}
+use Rattle.solid_model.specs.Wire.{is_drawn_view}
 use Rattle.solid_model.specs.Panels.{GridParts}
 use Rattle.lemmas.specs.Lists.{Member, Ascends}
 use Rattle.lemmas.proofs.Concatenations.{ascends-flat_map, member-from_flat_map}
@@ -54,16 +55,27 @@ module _ (g : GridParts) where
       let (at, _, here) = member-from_flat_map (lines_at g v upright) (range_with_len 0 (suc (grid_sizes g (axis_across v upright)))) l m in
       let so = at_so v upright at l here in (so.0, so.1)
 
-  -- those of a view
+  -- those of a view, if it isn't missing
+  abbrev shown_in : View → Bool → List LineId
+  shown_in v shown = if shown then (lines_along g v false ++ lines_along g v true) else []
+
   once_in : (v : View) → Ascends ◌≢◌ (lines_in g v)
-  once_in v = apart (lines_along g v false) (lines_along g v true) (once_along v false) (once_along v true)
-      (λ l m n. both_ways l.upright (along_so v false l m).1 (along_so v true l n).1)
+  once_in v = by (is_drawn_view g v)
+    where
+      by : (shown : Bool) → Ascends ◌≢◌ (shown_in v shown)
+      by true = apart (lines_along g v false) (lines_along g v true) (once_along v false) (once_along v true)
+          (λ l m n. both_ways l.upright (along_so v false l m).1 (along_so v true l n).1)
+      by false = tt
 
   in_so : (v : View) (l : LineId) → Member (lines_in g v) l → l.view ≡ v
-  in_so v l m = elim (member-append (lines_along g v false) (lines_along g v true) l m) as (λ _. l.view ≡ v) [
-    | inl level ↦ (along_so v false l level).0
-    | inr up ↦ (along_so v true l up).0
-  ]
+  in_so v l = by (is_drawn_view g v)
+    where
+      by : (shown : Bool) → Member (shown_in v shown) l → l.view ≡ v
+      by true m = elim (member-append (lines_along g v false) (lines_along g v true) l m) as (λ _. l.view ≡ v) [
+        | inl level ↦ (along_so v false l level).0
+        | inr up ↦ (along_so v true l up).0
+      ]
+      by false m = absurd m
 
   once_of : Ascends ◌≢◌ (lines_of g)
   once_of = apart (lines_in g Front) (lines_in g Top ++ lines_in g Side) (once_in Front)

@@ -28,7 +28,7 @@ view_sizes sizes v = numbered (frame_of v).away.axis 1 (point_sizes sizes)
 abbrev pub projected : View → Cell → Cell
 projected v n = placed (frame_of v).away.axis (pos 0) n
 
--- what is marked are the points at which the view shows something
+-- what is marked are the points at which the view shows something, all where it is missing
 abbrev pub AreDrawnIn : GridParts → View → BoxMarks → Type 0
 AreDrawnIn g v marks = AreMarksOf (view_sizes (grid_sizes g) v) (λ n. IsTrue (is_on_drawn g n v)) marks
 

@@ -12,7 +12,7 @@ use crate::edges::is_on_drawn;
 use solid_model::{CellTest, Grid, Marks, Memory, PerAxis, PerView, View};
 use std::alloc::Global;
 
-/// The points of a view of a grid, asked whether the view shows something there.
+/// The points of a view of a grid, asked whether the view shows something there, or is missing.
 #[derive(Clone, Copy)]
 struct ViewPoints<'a> {
     grid: &'a Grid,
@@ -43,15 +43,17 @@ impl CellTest for ViewPoints<'_> {
     }
 }
 
-/// Marks on the points of a view at which it shows something. An `Err` is out of memory.
+/// Marks on the points of a view at which it shows something, and on all if it is missing. An `Err`
+/// is out of memory.
 fn drawn_in(alloc: Global, grid: &Grid, view: View) -> Result<Marks, Memory>
     ensures { IfOk result (AreDrawnIn grid.now view) }
 {
     Marks::of(alloc, &ViewPoints { grid, view })
 }
 
-/// For each view marks on its points at which it shows something. The points of a view are a box
-/// that is one point deep, along the axis away from the viewer. An `Err` is out of memory.
+/// For each view marks on its points at which it shows something, and on all if it is missing. The
+/// points of a view are a box that is one point deep, along the axis away from the viewer. An `Err`
+/// is out of memory.
 pub fn drawn_points(alloc: Global, grid: &Grid) -> Result<PerView<Marks>, Memory>
     ensures { IfOk result (AreDrawnPoints grid.now) }
 {

@@ -31,25 +31,28 @@ fn is_end_of_drawn(grid: &Grid, view: View, upright: bool, point: PerAxis) -> bo
         }
 }
 
-/// The point's projection lies on something that the view shows.
+/// The point's projection lies on something that the view shows, or the view is missing.
 pub fn is_on_drawn(grid: &Grid, point: PerAxis, view: View) -> bool
     ensures { result ≡ is_on_drawn grid.now (cell_of point) view }
 {
-    is_end_of_drawn(grid, view, false, point) || is_end_of_drawn(grid, view, true, point)
+    !grid.shows(view)
+        || is_end_of_drawn(grid, view, false, point)
+        || is_end_of_drawn(grid, view, true, point)
 }
 
 /// The view shows something where the edge along an axis from a point projects, or sees the edge as
-/// a point.
+/// a point, or is missing.
 fn is_drawn_or_point(grid: &Grid, axis: Axis, point: PerAxis, view: View) -> bool
     ensures { result ≡ is_drawn_or_point grid.now axis (cell_of point) view }
 {
     let frame = view.frame();
-    (frame.along(false).axis != axis || is_drawn_from(grid, view, false, point))
-        && (frame.along(true).axis != axis || is_drawn_from(grid, view, true, point))
+    !grid.shows(view)
+        || (frame.along(false).axis != axis || is_drawn_from(grid, view, false, point))
+            && (frame.along(true).axis != axis || is_drawn_from(grid, view, true, point))
 }
 
 /// The edge along an axis from a point is drawn in each of the two views that show it as a segment,
-/// and its ends have marks wherever they project.
+/// but for a missing one, and its ends have marks wherever they project.
 pub fn is_marked_edge(grid: &Grid, points: &PerView<Marks>, axis: Axis, point: PerAxis) -> bool
     requires { numbers_of point axis ≤ 1024 }
     ensures { result ≡ is_marked_edge grid.now points.now axis (cell_of point) }

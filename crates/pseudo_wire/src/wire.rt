@@ -55,8 +55,8 @@ fn edges_along(
 }
 
 /// The pseudo edges of a grid (Wesley and Markowsky 1981): its edges that are drawn in each of the
-/// two views that show them as segments, and whose ends lie on something in all three views. An
-/// `Err` is out of memory.
+/// two views that show them as segments, and whose ends lie on something in all three views. A
+/// missing view is asked for nothing. An `Err` is out of memory.
 pub fn wire_of(alloc: Global, grid: &Grid) -> Result<Wire, Memory>
     ensures { IfOk result (λ wire. IsWireOf grid.now wire) }
 {

@@ -51,7 +51,7 @@ drawing_still n ls g =
         else (if covered_still Dashed n ls h t then Dashed else Blank)
 
 -- and each view shows what it showed
-pub shown_still : (n : ℕ) (ls : List Line) → IsShown ls → IsShown (numbered_from n ls)
+pub shown_still : (n : ℕ) (ls : List Line) → IsShown false ls → IsShown false (numbered_from n ls)
 shown_still n ls shown v none = shown v (λ g of is. none g of (subst IsTrue (sym (still g)) is))
   where
     still : (g : Segment) → is_shown (numbered_from n ls) g ≡ is_shown ls g

@@ -1,5 +1,5 @@
 -- A written file reads back as the drawing of its solid.
-use Rattle.std.proofs.Common.{◌≡◌, ℕ, Bool, ◌≤◌, List, ℤ, pos, ◌≤ℤ◌, length, ◌∙◌, refl, arith}
+use Rattle.std.proofs.Common.{◌≡◌, ℕ, Bool, false, ◌≤◌, List, ℤ, pos, ◌≤ℤ◌, length, ◌∙◌, refl, arith}
 use Rattle.std.proofs.lemmas.Int.{ints}
 use Rattle.solid_model.specs.declared.cell.Cell.{Cell}
 use Rattle.solid_model.specs.declared.frame.View.{View}
@@ -44,7 +44,7 @@ kept_from l (drawn, (from, to)) = record {
 
 -- few lines that may be kept, and draw the solid, are read back as its drawing
 plain_reads_back : (decimals : ℕ) (s : List Cell) (lines : List Line) → decimals ≤ most_decimals → Each IsKept lines → length lines ≤ 24576
-    → IsShown lines → ((v : View) → IsMovedToZero (solid_drawing s) (drawing_of lines) v)
+    → IsShown false lines → ((v : View) → IsMovedToZero (solid_drawing s) (drawing_of lines) v)
     → ReadsBack decimals s (plain_file decimals lines)
 plain_reads_back decimals s lines fits kept few shown drawing = record {
   short = omega (arith, plain_is_short decimals lines fits kept);
@@ -78,5 +78,7 @@ written_reads_back decimals fits g is chosen s solid union far_x far_z d sheet r
 pub drawing_as_it_is : (decimals : ℕ) (s : List Cell) (text : List ℕ) → IsDrawing (solid_drawing s)
     → (back : ReadsBack decimals s text) (g : Segment) → drawing_of back.lines g ≡ solid_drawing s g
 drawing_as_it_is decimals s text is back g =
+    let (right, up, begins, same) = back.drawing g.view in
+    let (h, of, drawn, left) = begins.at_left in
     one_moved (solid_drawing s) (drawing_of back.lines) (solid_drawing s) g.view
-    (back.drawing g.view) (moved_already (solid_drawing s) g.view (is.begins g.view)) g refl
+    (back.drawing g.view) (moved_already (solid_drawing s) g.view (is.begins g.view (h, of, drawn))) g refl

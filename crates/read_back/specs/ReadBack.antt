@@ -1,5 +1,5 @@
 -- How a written file reads.
-use Rattle.std.specs.Prelude.{◌≡◌, ◌≤◌, ◌+◌, ℕ, List, [], ◌∷◌, length, pos, ◌≤ℤ◌, Ok}
+use Rattle.std.specs.Prelude.{◌≡◌, ◌≤◌, ◌+◌, false, ℕ, List, [], ◌∷◌, length, pos, ◌≤ℤ◌, Ok}
 use Rattle.solid_model.specs.declared.cell.Cell.{Cell}
 use Rattle.solid_model.specs.declared.frame.View.{View}
 use Rattle.solid_model.specs.Drawings.{drawing_of, IsShown}
@@ -27,5 +27,5 @@ pub record ReadsBack (decimals : ℕ) (s : List Cell) (text : List ℕ) : Type 0
   pub short : length text ≤ most_file_bytes
   pub lines : List Line
   pub reads : read_of decimals text ≡ Ok lines
-  pub shown : IsShown lines
+  pub shown : IsShown false lines
   pub drawing : (v : View) → IsMovedToZero (solid_drawing s) (drawing_of lines) v

@@ -52,7 +52,7 @@ use Rattle.solid_model.specs.Blocks.{AreBlocksOf, ProblemParts}
 use Rattle.solid_model.specs.Cells.{IsSolid}
 use Rattle.solid_model.specs.Choices.{cells_of_choice}
 use Rattle.solid_model.specs.Forcing.{is_live}
-use Rattle.solid_model.specs.Drawings.{drawing_of, IsShown, IsEmptyView, IsFirstEmptyView}
+use Rattle.solid_model.specs.Drawings.{drawing_of, IsShown, IsEmptyView, LacksView}
 use Rattle.solid_model.specs.Grid.{Coordinates, AreGridCoordinates, IsFineEnough, IsFirstTooFine}
 use Rattle.solid_model.specs.Limits.{most_blocks, most_grid_coordinates, most_solid_limit}
 use Rattle.solid_model.specs.Line.{Line}
@@ -63,7 +63,6 @@ use Rattle.solid_model.specs.SearchEnds.{EndsAs}
 use Rattle.solid_model.specs.VirtualFaces.{IsVirtual}
 use Rattle.solid_model.specs.GridBox.{grid_sizes}
 use Rattle.solid_model.proofs.KeptDrawings.{lines_are_drawing}
-use Rattle.solid_model.proofs.Sheets.{without_lines-empty}
 use Rattle.solid_model.proofs.SomeGrid.{some_coordinates}
 use Rattle.solid_model.proofs.SomeNumbering.{some_numbering}
 use Rattle.words.specs.declared.job.Job.{Job}
@@ -83,9 +82,9 @@ use Rattle.std.specs.List.{slice_get}
 use Rattle.std.proofs.lemmas.Option.{none-some, slice_get-get_or}
 use Rattle.solid_model.specs.declared.cell.Cell.{Cell}
 
--- where no view is the first empty one, every view shows something
-shown_by_views : (ls : List Line) → ((v : View) → IsFirstEmptyView ls v → ⊥) → IsShown ls
-shown_by_views ls none = shown
+-- lines that lack no view show something in each, or where one may be missing, in one of any two
+shown_by_views : (two : Bool) (ls : List Line) → ((v : View) → LacksView two ls v → ⊥) → IsShown two ls
+shown_by_views false ls none = shown
   where
     front : IsEmptyView ls Front → ⊥
     front = none Front
@@ -93,10 +92,25 @@ shown_by_views ls none = shown
     top : IsEmptyView ls Top → ⊥
     top e = none Top (front, e)
 
-    shown : IsShown ls
+    shown : IsShown false ls
     shown Front = front
     shown Top = top
     shown Side = λ e. none Side (front, top, e)
+shown_by_views true ls none = shown
+  where
+    front : IsEmptyView ls Front → (w : View) → (w ≡ Front → ⊥) → IsEmptyView ls w → ⊥
+    front e w other f = none Front (e, w, other, f)
+
+    top : IsEmptyView ls Top → IsEmptyView ls Side → ⊥
+    top e f = none Top (((λ g. front g Top (λ same. cc) e), e), Side, (λ same. cc), f)
+
+    shown : IsShown true ls
+    shown Front w other e f = front e w (λ same. other (sym same)) f
+    shown v Front other e f = front f v other e
+    shown Top Top other e f = other refl
+    shown Top Side other e f = top e f
+    shown Side Top other e f = top f e
+    shown Side Side other e f = other refl
 
 -- coordinates along the three axes
 abbrev along : List ℤ → List ℤ → List ℤ → Coordinates
@@ -122,14 +136,14 @@ module _ (limits : SearchLimits) (t : Input) (short : length t.bytes ≤ t.most)
     abbrev drawing : Segment → Style
     drawing = drawing_of ls
 
-    no_fault_after : (f : Fault) → IsFaultAfter (Ok (ls, further)) f → ⊥
+    no_fault_after : (f : Fault) → IsFaultAfter t.two (Ok (ls, further)) f → ⊥
     no_fault_after f after = faultless f (file_fault t (Ok (ls, further)) f short reads after)
 
-    shown : IsShown ls
-    shown = shown_by_views ls (λ v empty. no_fault_after (EmptyView v) (inl (v, empty, refl)))
+    shown : IsShown t.two ls
+    shown = shown_by_views t.two ls (λ v empty. no_fault_after (EmptyView v) (inl (v, empty, refl)))
 
     is_drawing : IsDrawing drawing
-    is_drawing = lines_are_drawing ls (lines_read_are_kept (form_of t) t.bytes ls further reads) (λ v none. shown v (without_lines-empty ls v none))
+    is_drawing = lines_are_drawing t.two ls (lines_read_are_kept (form_of t) t.bytes ls further reads) shown
 
     -- no axis is too fine
     not_first : (a : Axis) (count : ℕ) → IsFirstTooFine drawing a count → ⊥
@@ -183,6 +197,7 @@ module _ (limits : SearchLimits) (t : Input) (short : length t.bytes ≤ t.most)
           coordinates = λ a. ordered xs ys zs x_are y_are z_are a;
           few = λ a. few_along xs ys zs x_are y_are z_are a;
           styles = λ v upright. styles xs ys zs v upright;
+          sees = is_drawing.sees;
         }))))
       where
         ordered : (xs ys zs : List ℤ) → AreGridCoordinates drawing X xs → AreGridCoordinates drawing Y ys → AreGridCoordinates drawing Z zs
@@ -294,7 +309,7 @@ tried_somehow : (n : ℕ) → ((text : List ℕ) → IsTried n text → ⊥) →
 tried_somehow n never =
     let (t, file) = some_file (made_solid n) (made_is_solid n) 0 in
     let p = made_problem n in let has = made_has_problem n t file in
-    let end = can_list (is_live p) p.blocks.count default_limits (matching default_limits (input_of (drawing_profile false 0) t) p has).ordered [] tt tt (omega arith) in
+    let end = can_list (is_live p) p.blocks.count default_limits (matching default_limits (input_of (drawing_profile false 0 false) t) p has).ordered [] tt tt (omega arith) in
     let (volume, first) = some_first p end.choices in
     let line : ℕ → List ℕ = λ v. trial_text n p.blocks.count (length end.choices) end.opened v in
     never (line volume) (figures_are n t file p has end.kind end.opened end.choices end.ends (line volume) (λ solids are. ap line (first solids are)))
@@ -369,16 +384,16 @@ OwesSome (read profile asked) = JudgesSome (judgement_of asked)
 OwesSome (alone right tells) = ((text : List ℕ) → tells text → ⊥) → ⊥
 
 some_owed : (j : Job) → IsCounted j → OwesSome (owed_for j)
-some_owed (job.Solve workers limits pages decimals) counted =
+some_owed (job.Solve workers limits pages decimals two) counted =
     some_search (search_for_all pages limits) (λ t p has. some_listing limits t p has pages)
-some_owed (job.Redraw which workers limits decimals) counted = some_search (search_for_one IsFileOf which limits)
+some_owed (job.Redraw which workers limits decimals two) counted = some_search (search_for_one IsFileOf which limits)
     (some_numbered IsFileOf (λ d p choice s are. some_file s are.matching.0.0.0 d) which counted.0 limits)
-some_owed (job.Stl which workers limits) counted = some_search (search_for_one (λ _. IsSolidStl) which limits)
+some_owed (job.Stl which workers limits two) counted = some_search (search_for_one (λ _. IsSolidStl) which limits)
     (some_numbered (λ _. IsSolidStl) some_stl which counted.0 limits)
-some_owed (job.Prove workers limits) counted = some_search (search_for_log limits) (some_proof limits counted.1)
-some_owed job.Check counted = λ t none never. searched_somehow default_limits t none (λ p has kind opened choices ends.
+some_owed (job.Prove workers limits two) counted = some_search (search_for_log limits) (some_proof limits counted.1)
+some_owed (job.Check two) counted = λ t none never. searched_somehow default_limits t none (λ p has kind opened choices ends.
     some_checked t p has _ (matching default_limits t p has) never)
-some_owed (job.Ask workers limits) counted = some_session limits
+some_owed (job.Ask workers limits two) counted = some_session limits
 some_owed (job.Make n) counted = some_written_file (made_solid n) (made_is_solid n)
 some_owed (job.Trial n workers) counted = tried_somehow n
 

@@ -33,7 +33,7 @@ use Rattle.solid_model.specs.Search.{default_limits}
 
 module _ (n : ℕ) (t : List ℕ) (file : IsFileOf 0 (made_solid n) t) where
   abbrev pub input : Input
-  input = input_of (drawing_profile false 0) t
+  input = input_of (drawing_profile false 0 false) t
 
   -- the lines that are read draw the made drawing
   drawn : (lines : List Line) → read_of 0 t ≡ Ok lines → drawing_of lines ≡ made_drawing n

@@ -44,7 +44,7 @@ AllowsEnd limits p solids Whole = (node_count p ≤ limits.nodes) × (length sol
 AllowsEnd limits p solids CutNodes = limits.nodes < node_count p
 AllowsEnd limits p solids CutSolids = limits.solids < length solids
 
--- the solids of an input that are told: all that match its drawing and fit the further views that it asks for
+-- the solids of an input that are told: all that match its drawing in the views that are drawn, and fit the further views it asks for
 abbrev pub AreTold : {t : Input} {p : ProblemParts} → HasProblem t p → List (List Cell) → Type 0
 AreTold has solids = AreFittingSolids (drawing_of has.lines) (further_lines has.further) solids
 

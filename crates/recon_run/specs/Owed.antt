@@ -22,24 +22,25 @@ use Rattle.words.specs.declared.job.Job.TheVariants as job
 
 -- ---- how an input is read
 
--- how an input is read: how many bytes it may have at most, how many decimals its coordinates are read with, and whether the layers
--- of the further views are read too
+-- how an input is read: how many bytes it may have at most, how many decimals its coordinates are read with, whether the layers of
+-- the further views are read too, and whether two of the three views are enough: then one of them may show nothing
 pub record ProfileParts : Type 0 where
   pub most : ℕ
   pub decimals : ℕ
   pub six : Bool
+  pub two : Bool
 
--- a drawing alone, whose coordinates have so many decimals, of the three views or of all six
-abbrev pub drawing_profile : Bool → ℕ → ProfileParts
-drawing_profile six decimals = record { most = most_file_bytes; decimals = decimals; six = six }
+-- a drawing alone, whose coordinates have so many decimals, of all six views or of the three; one of the three may be missing, or none
+abbrev pub drawing_profile : Bool → ℕ → Bool → ProfileParts
+drawing_profile six decimals two = record { most = most_file_bytes; decimals = decimals; six = six; two = two }
 
--- a drawing of the three views whose coordinates have no decimals, and a log behind it
-abbrev pub log_profile : ProfileParts
-log_profile = record { most = most_text_bytes; decimals = 0; six = false }
+-- a drawing of the three views, of which one may be missing, whose coordinates have no decimals, and a log behind it
+abbrev pub log_profile : Bool → ProfileParts
+log_profile two = record { most = most_text_bytes; decimals = 0; six = false; two = two }
 
 -- the input that is read so of these bytes
 abbrev pub input_of : ProfileParts → List ℕ → Input
-input_of profile t = record { bytes = t; most = profile.most; decimals = profile.decimals; six = profile.six }
+input_of profile t = record { bytes = t; most = profile.most; decimals = profile.decimals; six = profile.six; two = profile.two }
 
 -- ---- searches
 
@@ -165,12 +166,12 @@ pub data Owed : Type 1 where
 
 -- for each job, however many work at it: a command is one line
 abbrev pub owed_for : Job → Owed
-owed_for (job.Solve workers limits pages decimals) = read (drawing_profile true decimals) (searched (search_for_all pages limits))
-owed_for (job.Redraw which workers limits decimals) = read (drawing_profile true decimals) (searched (search_for_one IsFileOf which limits))
-owed_for (job.Stl which workers limits) = read (drawing_profile false 0) (searched (search_for_one (λ _. IsSolidStl) which limits))
-owed_for (job.Prove workers limits) = read (drawing_profile false 0) (searched (search_for_log limits))
-owed_for job.Check = read log_profile (judged log_judgement)
-owed_for (job.Ask workers limits) = read (drawing_profile false 0) (judged (session_judgement limits))
+owed_for (job.Solve workers limits pages decimals two) = read (drawing_profile true decimals two) (searched (search_for_all pages limits))
+owed_for (job.Redraw which workers limits decimals two) = read (drawing_profile true decimals two) (searched (search_for_one IsFileOf which limits))
+owed_for (job.Stl which workers limits two) = read (drawing_profile false 0 two) (searched (search_for_one (λ _. IsSolidStl) which limits))
+owed_for (job.Prove workers limits two) = read (drawing_profile false 0 two) (searched (search_for_log limits))
+owed_for (job.Check two) = read (log_profile two) (judged log_judgement)
+owed_for (job.Ask workers limits two) = read (drawing_profile false 0 two) (judged (session_judgement limits))
 owed_for (job.Make n) = alone answers.Done (IsFileOf 0 (made_solid n))
 owed_for (job.Trial n workers) = alone answers.Done (IsTried n)
 

@@ -55,9 +55,10 @@ fn do_job<R: Threads + Wait + Sync, S: Source, K: Sink, G: Gate>(
             limits,
             pages,
             decimals,
+            two_views,
         } => {
             let crew = Crew { rt, workers, gate };
-            let profile = Profile::six_views(decimals);
+            let profile = Profile::six_views(decimals, two_views);
             let form = Form::AllSolids(AllSolids { limits, pages });
             answer_source(alloc, &crew, &profile, &form, source, sink)
         }
@@ -66,9 +67,10 @@ fn do_job<R: Threads + Wait + Sync, S: Source, K: Sink, G: Gate>(
             workers,
             limits,
             decimals,
+            two_views,
         } => {
             let crew = Crew { rt, workers, gate };
-            let profile = Profile::six_views(decimals);
+            let profile = Profile::six_views(decimals, two_views);
             let form = Form::OneSolid(OneSolid {
                 export: Export::Drawing,
                 which,
@@ -80,9 +82,10 @@ fn do_job<R: Threads + Wait + Sync, S: Source, K: Sink, G: Gate>(
             which,
             workers,
             limits,
+            two_views,
         } => {
             let crew = Crew { rt, workers, gate };
-            let profile = Profile::three_views();
+            let profile = Profile::three_views(two_views);
             let form = Form::OneSolid(OneSolid {
                 export: Export::Triangles,
                 which,
@@ -90,23 +93,31 @@ fn do_job<R: Threads + Wait + Sync, S: Source, K: Sink, G: Gate>(
             });
             answer_source(alloc, &crew, &profile, &form, source, sink)
         }
-        Job::Prove { workers, limits } => {
+        Job::Prove {
+            workers,
+            limits,
+            two_views,
+        } => {
             let crew = Crew { rt, workers, gate };
-            let profile = Profile::three_views();
+            let profile = Profile::three_views(two_views);
             answer_source(alloc, &crew, &profile, &Form::Log(limits), source, sink)
         }
-        Job::Check => {
+        Job::Check { two_views } => {
             let crew = Crew {
                 rt,
                 workers: 1,
                 gate,
             };
-            let profile = Profile::with_log();
+            let profile = Profile::with_log(two_views);
             answer_source(alloc, &crew, &profile, &Form::Check, source, sink)
         }
-        Job::Ask { workers, limits } => {
+        Job::Ask {
+            workers,
+            limits,
+            two_views,
+        } => {
             let crew = Crew { rt, workers, gate };
-            let profile = Profile::three_views();
+            let profile = Profile::three_views(two_views);
             answer_source(alloc, &crew, &profile, &Form::Session(limits), source, sink)
         }
         Job::Make { n } => write_reply(Answer::Done, made_file(alloc, n)?.as_slice(), sink),
@@ -154,10 +165,14 @@ fn answer<R: Threads + Wait + Sync, S: Source, K: Sink, G: Gate>(
 /// `prove` writes a log that shows that these are all, and `check` says whether what stands behind
 /// the drawing is such a log, with the choices that it lists, or which of its lines is the first
 /// that is wrong, and why; `ask` lets readers look at the growing list of solids, as the lines behind
-/// the drawing ask, and writes what they tell and then all solids; `make` writes a drawing that is made from a number, and `trial` what a
-/// search of that drawing finds. As many work at a search as `--workers` says, and they pass the
-/// gate at their points; the run waits for them, and what it answers doesn't depend on their
-/// number. Other words give the usage line.
+/// the drawing ask, and writes what they tell and then all solids; `make` writes a drawing that is
+/// made from a number, and `trial` what a search of that drawing finds. As many work at a search as
+/// `--workers` says, and they pass the gate at their points; the run waits for them, and what it
+/// answers doesn't depend on their number. Other words give the usage line.
+///
+/// A solid matches a drawing if it shows what is drawn in each view that is drawn: a view that shows
+/// nothing demands nothing. Each of the three views must show something; with `--two-views` one of
+/// them may show nothing.
 ///
 /// The status is 0 where a search was whole and lists all matching solids, a drawing or a log is
 /// written, or a log is one; 1 where what is read has a fault, 2 where the arguments aren't taken,

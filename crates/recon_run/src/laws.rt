@@ -12,7 +12,7 @@ ghost use Rattle.words.specs.declared.job.Job.TheVariants as job;
 pub fn made_files_have_no_fault()
     ensures { (n : ℕ) (left rest : Option (List ℕ)) (answer : Answer) (text : List ℕ)
         → AnswersOwed (owed_for (job.Make n)) left rest answer text
-        → HasNoFault (input_of (drawing_profile false 0) text) }
+        → HasNoFault (input_of (drawing_profile false 0 false) text) }
 {}
 
 /// An input has at most one first fault.

@@ -9,12 +9,14 @@ const MOST_BYTES: usize = 16_777_216;
 /// The most bytes of a drawing and a log behind it.
 const MOST_WITH_LOG: usize = 134_217_728;
 
-/// How an input is read: how many bytes it may have at most, and in which form: how many decimals
-/// its coordinates have, and whether the layers of the further views are read too.
+/// How an input is read: how many bytes it may have at most; in which form: how many decimals its
+/// coordinates have, and whether the layers of the further views are read too; and whether two of
+/// the three views are enough.
 #[derive(Drop)]
 pub struct Profile {
     most: usize,
     form: ReadingForm,
+    two_views: bool,
 }
 
 impl Model for Profile {
@@ -28,6 +30,7 @@ impl Model for Profile {
       most = p.most;
       decimals = p.form.decimals;
       six = p.form.six;
+      two = p.two_views;
     } };
 
     ghost invariant = { λ p. p.most ≤ most_text_bytes };
@@ -39,33 +42,36 @@ impl Profile {
     ghost use Rattle.solid_model.specs.Limits.{most_decimals, most_text_bytes};
 
     /// A drawing alone, of all six views, whose coordinates have so many decimals, at most 6.
-    pub fn six_views(decimals: u8) -> Profile
+    pub fn six_views(decimals: u8, two_views: bool) -> Profile
         requires { decimals ≤ most_decimals }
-        ensures { result ≡ drawing_profile true decimals }
+        ensures { result ≡ drawing_profile true decimals two_views }
     {
         Profile {
             most: MOST_BYTES,
             form: ReadingForm::six_views(decimals),
+            two_views,
         }
     }
 
     /// A drawing alone, of the three views, whose coordinates have no decimals.
-    pub fn three_views() -> Profile
-        ensures { result ≡ drawing_profile false 0 }
+    pub fn three_views(two_views: bool) -> Profile
+        ensures { result ≡ drawing_profile false 0 two_views }
     {
         Profile {
             most: MOST_BYTES,
             form: ReadingForm::three_views(0),
+            two_views,
         }
     }
 
     /// The same with a log behind it.
-    pub fn with_log() -> Profile
-        ensures { result ≡ log_profile }
+    pub fn with_log(two_views: bool) -> Profile
+        ensures { result ≡ log_profile two_views }
     {
         Profile {
             most: MOST_WITH_LOG,
             form: ReadingForm::three_views(0),
+            two_views,
         }
     }
 
@@ -83,6 +89,13 @@ impl Profile {
         ensures six { result.six ≡ self.now.six }
     {
         self.form
+    }
+
+    /// Whether two of the three views are enough: then one of them may show nothing.
+    pub fn two_views(&self) -> bool
+        ensures { result ≡ self.now.two }
+    {
+        self.two_views
     }
 
     /// How many decimals its coordinates are read with.

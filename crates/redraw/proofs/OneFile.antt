@@ -9,6 +9,7 @@ use Rattle.solid_model.specs.Cells.{is_full, SameCells}
 use Rattle.solid_model.specs.DrawnStyle.{solid_drawing}
 use Rattle.solid_model.specs.Frames.{frame_of}
 use Rattle.solid_model.specs.Matching.{Matches}
+use Rattle.solid_model.specs.Moved.{Shows}
 use Rattle.solid_model.specs.Runs.{DrawingRuns, runs_along}
 use Rattle.solid_model.specs.PerView.{of_view}
 use Rattle.solid_model.proofs.GridMatching.{matching_draws_it}
@@ -46,6 +47,7 @@ same_cells-draw s t same g =
     let is = views_are_frames g.view in
     one_style f (is_full t) g _ _ (same_drawing f (is_full s) (is_full t) same g _ (drawn_style_drawn f is s g)) (drawn_style_drawn f is t g)
 
--- so do solids that match one drawing
-pub matching-draw : (drawing : Segment → Style) (s t : List Cell) → Matches drawing s → Matches drawing t → (g : Segment) → solid_drawing s g ≡ solid_drawing t g
-matching-draw drawing s t h k g = matching_draws_it drawing s h g ∙ sym (matching_draws_it drawing t k g)
+-- so do solids that match one drawing that shows all three views
+pub matching-draw : (drawing : Segment → Style) → ((v : View) → Shows drawing v) → (s t : List Cell) → Matches drawing s → Matches drawing t
+    → (g : Segment) → solid_drawing s g ≡ solid_drawing t g
+matching-draw drawing shown s t h k g = matching_draws_it drawing s h g (shown g.view) ∙ sym (matching_draws_it drawing t k g (shown g.view))

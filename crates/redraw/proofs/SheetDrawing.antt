@@ -118,7 +118,7 @@ module _ (far_x far_z : ℤ) (d : DrawingRuns) (drawing : Segment → Style) (ar
     sheet_moved = (right, up, begins, moved_from)
 
   -- where each view of the drawing begins somewhere, the sheet shows something in each
-  pub sheet_shown : ((v : View) → (right up : ℤ) × BeginsAt drawing v right up) → IsShown lines
+  pub sheet_shown : ((v : View) → (right up : ℤ) × BeginsAt drawing v right up) → IsShown false lines
   sheet_shown begins v empty =
       let h = (begins v).2.at_left in
       empty (on_sheet h.0) h.1 (shown_on_sheet h.0 h.2)

@@ -29,7 +29,8 @@ rect S 0 0 1 1; rect S 0 0 1 1; rect S 0 0 1 1; ask|; readers 17 / go -> 11 ask 
 rect S 0 0 1 1; rect S 0 0 1 1; rect S 0 0 1 1; ask|; readers 1 / 0 page 0 257 / go -> \
     11 ask A1 BadLine line 2
 rect S 0 0 1 1; rect S 0 0 1 1; line S 3 3 3 3; ask|; readers 1 / 1 stop / go -> \
-    1 fault F14 EmptyView view SIDE";
+    1 fault F14 EmptyView view SIDE
+rect S 0 0 1 1; rect S 0 0 1 1; line S 3 3 3 3; ask|--two-views|; readers 1 / go -> unit cube";
 
 /// What is told with ` / ` for the end of each line.
 fn lines_of(alloc: Global, told: &str) -> Result<String, AllocError> {

@@ -37,6 +37,8 @@ mod texts;
 #[cfg(test)]
 mod triangles;
 #[cfg(test)]
+mod two_views;
+#[cfg(test)]
 mod values;
 #[cfg(test)]
 mod workers;

@@ -17,9 +17,11 @@ rect S 0 0 3 3, rect D 1 1 2 2; rect S 0 0 3 3, rect D 1 1 2 2; rect S 0 0 3 3, 
     prove|--nodes|2| -> 3 cut nodes 2
 lattice 2 2; lattice 2 2; lattice 2 2; prove|--solids=34| -> 4 cut solids 34
 rect S 0 0 2 1; rect S 0 0 1 1; rect S 0 0 1 1; prove| -> 0 log 1 blocks 0 / fail front l 0 0 / end 0
-rect S 0 0 1 1; rect S 0 0 1 1; line S 3 3 3 3; prove| -> 1 fault F14 EmptyView view SIDE";
+rect S 0 0 1 1; rect S 0 0 1 1; line S 3 3 3 3; prove| -> 1 fault F14 EmptyView view SIDE
+rect S 0 0 1 1; rect S 0 0 1 1; line S 3 3 3 3; prove|--two-views| -> \
+    0 log 1 blocks 1 / force 0 1 front l 0 0 / solid / end 1";
 
-/// A row a run of `check`: the strokes, and the log; and then what is written.
+/// A row a run of `check`: the strokes, the log, and further words; and then what is written.
 const CHECKS: &str = "\
 rect S 0 0 1 1; rect S 0 0 1 1; rect S 0 0 1 1; \
     log 1 blocks 1 / force 0 1 front l 0 0 / solid / end 1 -> 0 yes 1 / choice 1
@@ -44,7 +46,11 @@ rect S 0 0 1 1; rect S 0 0 1 1; rect S 0 0 1 1; \
 rect S 0 0 1 1; rect S 0 0 1 1; rect S 0 0 1 1; \
     log 1 blocks 1 / solid / end 1 -> 9 log G4 Unsolid line 2
 rect S 0 0 1 1; rect S 0 0 1 1; line S 3 3 3 3; \
-    log 1 blocks 1 -> 1 fault F14 EmptyView view SIDE";
+    log 1 blocks 1 -> 1 fault F14 EmptyView view SIDE
+rect S 0 0 1 1; rect S 0 0 1 1; line S 3 3 3 3; \
+    log 1 blocks 1 / force 0 1 front l 0 0 / solid / end 1; --two-views| -> 0 yes 1 / choice 1
+rect S 0 0 1 1; rect S 0 0 1 1; line S 3 3 3 3; \
+    log 1 blocks 1 / force 0 1 side l 0 0 / solid / end 1; --two-views| -> 9 log G3 Unproved line 2";
 
 /// The lines that are told with ` / ` between them.
 fn lines_of(alloc: Global, told: &str) -> Result<String, AllocError> {
@@ -69,18 +75,24 @@ fn logs_are_written(rt: HostRuntime) -> Result<(), Fail> {
     lines_hold(PROOFS, |line| is_proved(&rt, row_of(line)))
 }
 
-/// What `check` writes for a drawing with a log behind it.
-fn checked<R: Runtime>(rt: &R, views: [&str; 3], log: &str) -> Result<String, AllocError> {
+/// What `check` with further words writes for a drawing with a log behind it.
+fn checked<R: Runtime>(
+    rt: &R,
+    words: &str,
+    views: [&str; 3],
+    log: &str,
+) -> Result<String, AllocError> {
     let mut file = drawing_file(rt.alloc(), views)?;
     file.push_str(log)?;
-    run_words(rt, "check|", file)
+    let words = format!(in rt.alloc(); "check|{words}")?;
+    run_words(rt, words.as_str(), file)
 }
 
 /// Whether that is what the row has.
 fn is_checked<R: Runtime>(rt: &R, row: Row<'_>) -> Result<bool, Fail> {
-    let [_, _, _, told, _] = row.parts;
+    let [_, _, _, told, words] = row.parts;
     let log = lines_of(rt.alloc(), told)?;
-    let wrote = checked(rt, row.views(), log.as_str())?;
+    let wrote = checked(rt, words, row.views(), log.as_str())?;
     let wanted = lines_of(rt.alloc(), row.wanted)?;
     Ok(wrote.as_str() == wanted.as_str())
 }
@@ -94,7 +106,7 @@ fn logs_are_checked(rt: HostRuntime) -> Result<(), Fail> {
 fn proved_and_checked<R: Runtime>(rt: &R, views: [&str; 3]) -> Result<String, Fail> {
     let proof = run_words(rt, "prove|", drawing_file(rt.alloc(), views)?)?;
     let log = proof.as_str().strip_prefix("0 ").ok_or("a log")?;
-    Ok(checked(rt, views, log)?)
+    Ok(checked(rt, "", views, log)?)
 }
 
 #[test]

@@ -30,6 +30,10 @@ lattice 2 2; lattice 2 2; lattice 2 2; redraw|36| -> 8 none 36 of 35
 lattice 2 2; lattice 2 2; lattice 2 2; redraw|--workers=3|36| -> 8 none 36 of 35
 rect S 0 0 2 1; rect S 0 0 1 1; rect S 0 0 1 1; redraw|1| -> 8 none 1 of 0
 rect S 0 0 1 1; rect S 0 0 1 1; line S 3 3 3 3; redraw|1| -> 1 fault F14 EmptyView view SIDE
+rect S 0 0 1 1; rect S 5 5 6 6; line S 3 3 3 3; redraw|1|--two-views| -> \
+    0 drawing rect S 0 0 1 1; rect S 0 11 1 12; rect S 11 0 12 1
+line S 3 3 3 3; rect S 0 0 3 2; rect S 0 0 2 1; redraw|--two-views|1| -> \
+    0 drawing rect S 0 0 3 1; rect S 0 11 3 13; rect S 13 0 15 1
 line S 0 0 6 0, line S 4 0 10 0, line D 2 0 9 0, line S 0 10 10 10, line S 0 0 0 10, \
     line S 10 0 10 10; rect S 0 0 10 10; rect S 0 0 10 10; redraw|1| -> \
     0 drawing rect S 0 0 10 10; rect S 0 20 10 30; rect S 20 0 30 10

@@ -130,6 +130,9 @@ solve|--workers|0|
 solve|--workers|65|
 solve|--workers|2|--workers|2|
 make|7|--workers|2|
+make|7|--two-views|
+solve|--two-views=1|
+solve|--two|
 solve|--node|3|
 solve|--pages=1|
 redraw|1|--pages|

@@ -1,11 +1,10 @@
 -- The runs that are made of a further view's columns show what the turned solid draws.
-use Rattle.std.proofs.Common.{◌≡◌, Bool, true, false, ℕ, ◌*◌, ◌-◌, List, length, ℤ, refl, ap, sym, subst, ◌∙◌}
+use Rattle.std.proofs.Common.{◌≡◌, Bool, true, false, ℕ, ◌*◌, ◌-◌, List, length, ℤ, ap, sym, subst, ◌∙◌}
 use Rattle.solid_model.specs.declared.cell.Axis.{Axis}
 use Rattle.solid_model.specs.declared.cell.Cell.{Cell}
 use Rattle.solid_model.specs.declared.frame.Direction.{Direction}
 use Rattle.solid_model.specs.declared.frame.Frame.{Frame}
 use Rattle.solid_model.specs.declared.frame.View.{View}
-use Rattle.solid_model.specs.declared.frame.View.TheVariants.{Front, Top, Side}
 use Rattle.solid_model.specs.declared.runs.Run.{Run}
 use Rattle.solid_model.specs.declared.segment.Segment.{Segment}
 use Rattle.solid_model.specs.declared.segment.Style.{Style}
@@ -13,11 +12,12 @@ use Rattle.solid_model.specs.Cells.{is_full}
 use Rattle.solid_model.specs.DrawnStyle.{solid_drawing}
 use Rattle.solid_model.specs.Frames.{frame_of, along, across}
 use Rattle.solid_model.specs.Grid.{Coordinates, IsUnionOf, gaps_along}
-use Rattle.solid_model.specs.Panels.{PanelsStyles, styles_along, AreGridStyles, grid_styles}
+use Rattle.solid_model.specs.Panels.{PanelsStyles, styles_along}
 use Rattle.solid_model.specs.PerView.{of_view}
 use Rattle.solid_model.specs.PerAxis.{gaps_of}
 use Rattle.solid_model.specs.Runs.{run_style}
 use Rattle.solid_model.specs.Segments.{segment_at}
+use Rattle.solid_model.proofs.DrawnPanels.{drawn_panels, drawn_panels_are}
 use Rattle.solid_model.proofs.Unions.{some_union}
 use Rattle.column_lanes.specs.declared.column.Column.{Column}
 use Rattle.column_laws.specs.GridPanels.{HasCounts, AreStylesAlong}
@@ -31,22 +31,6 @@ use Rattle.six_views.specs.Turned.{turn_axis, turned_cells, turned_coordinates, 
 use Rattle.six_views.proofs.SeenTurned.{some_turned, same_sizes, seen_styles, seen_on_grid}
 use Rattle.six_views.proofs.TurnedColumns.{columns_turned}
 use Rattle.six_views.proofs.TurnedGrid.{counts-turned}
-
--- the styles of a grid's segments in all views
-abbrev own_panels : (Segment → Style) → Coordinates → PanelsStyles
-own_panels drawing coordinates = record {
-  front = record { level = grid_styles drawing coordinates Front false; upright = grid_styles drawing coordinates Front true };
-  top = record { level = grid_styles drawing coordinates Top false; upright = grid_styles drawing coordinates Top true };
-  side = record { level = grid_styles drawing coordinates Side false; upright = grid_styles drawing coordinates Side true };
-}
-
-own_styles : (drawing : Segment → Style) (coordinates : Coordinates) → AreGridStyles drawing coordinates (own_panels drawing coordinates)
-own_styles drawing coordinates Front false = refl
-own_styles drawing coordinates Front true = refl
-own_styles drawing coordinates Top false = refl
-own_styles drawing coordinates Top true = refl
-own_styles drawing coordinates Side false = refl
-own_styles drawing coordinates Side true = refl
 
 -- as many gaps lie between a grid's coordinates as between so many
 gaps_same : (counts : Axis → ℕ) (coordinates : Coordinates) → HasCounts counts coordinates → gaps_of counts ≡ gaps_along coordinates
@@ -99,7 +83,7 @@ module _ (x : Extra) (counts : Axis → ℕ) (coordinates : Coordinates) (has : 
     drawing = solid_drawing (turned_cells x s)
 
     abbrev panels : PanelsStyles
-    panels = own_panels drawing grid
+    panels = drawn_panels drawing grid
 
     abbrev turned : List Bool
     turned = (some_turned (turn_axis x) (gaps_of counts) chosen).0
@@ -115,16 +99,16 @@ module _ (x : Extra) (counts : Axis → ℕ) (coordinates : Coordinates) (has : 
     styles_seen =
         seen_styles x counts coordinates has chosen turned are_turned s union upright styles
         (drawn turned (columns_turned x (gaps_of counts) chosen turned are_turned columns (subst (λ (n : Axis → ℕ). AreColumns (further_frame x) n chosen columns) sizes are)))
-        ∙ sym (own_styles drawing grid v upright)
+        ∙ sym (drawn_panels_are drawing grid v upright)
 
     -- there are as many as grid segments,
     count_of_union : length styles ≡ length lines * (length ends - 1)
-    count_of_union = ap length styles_seen ∙ drawn_count drawing grid panels (own_styles drawing grid) v upright
+    count_of_union = ap length styles_seen ∙ drawn_count drawing grid panels (drawn_panels_are drawing grid) v upright
 
     -- and runs that have them show its drawing
     pub runs_seen : (rs : List Run) → AreRunsOn lines ends styles rs → (j z : ℤ) → run_style rs j z ≡ drawing (segment_at v upright z j)
     runs_seen rs on = show_drawing grid (counts-turned (turn_axis x) coordinates counts has).ordered panels drawing
-        (seen_on_grid x counts coordinates has chosen turned are_turned s union) (own_styles drawing grid) v upright rs
+        (seen_on_grid x counts coordinates has chosen turned are_turned s union) (drawn_panels_are drawing grid) v upright rs
         (subst (λ xs. AreRunsOn lines ends xs rs) styles_seen on)
 
   pub count_seen : (chosen : List Bool) × AreColumns (further_frame x) (gaps_along coordinates) chosen columns → length styles ≡ length lines * (length ends - 1)

@@ -54,7 +54,7 @@ pub fn small_further_views()
     ensures top { bar_in Top true (pos 0) (pos 1) ≡ Solid }
 {}
 
-/// A drawing owes what it owes by its three views alone where no further view is asked for; and all
+/// A drawing owes what it owes by its main views alone where no further view is asked for; and all
 /// solids that match are all that have one property.
 pub fn without_further_views_all_matching_solids_fit()
     ensures one_property { (drawing : Segment → Style) (solids : List (List Cell))

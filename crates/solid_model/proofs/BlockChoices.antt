@@ -62,7 +62,7 @@ module _ (drawing : Segment → Style) (g : GridParts) (grid : IsGridOf drawing 
     filled = map (is_full s) (corners (coordinates_of g) ascends)
 
     its_union : IsUnionOf (coordinates_of g) filled (is_full s)
-    its_union = matching_union drawing (coordinates_of g) grid.coordinates s matches
+    its_union = matching_union drawing grid.sees (coordinates_of g) grid.coordinates s matches
 
     filled_there : (p : ℕ) (p_in : p < length blocks) → get_or filled p false ≡ is_full s (corner p p_in)
     filled_there p p_in =

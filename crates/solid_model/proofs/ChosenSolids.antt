@@ -18,6 +18,7 @@ use Rattle.solid_model.specs.GridBox.{grid_cell_of}
 use Rattle.solid_model.proofs.BoxPlaces.{cell_of_place, cell_of_place-within, cell_of_place-there}
 use Rattle.solid_model.proofs.CellOrder.{LiesBefore, before-lies, lies-before, before_one_way, not_before_itself}
 use Rattle.solid_model.proofs.Corners.{corners, corner_of, corner_lies, corner_at_place, length-corners, place_within, ascends-corners, lying-is_grid_cell, within-is_grid_cell, begins_no_later, IsGridCell}
+use Rattle.solid_model.specs.Moved.{SeesEachAxis}
 use Rattle.solid_model.proofs.InGrid.{agree_in_grid_cell, lies_in_grid}
 use Rattle.lemmas.proofs.ListPlaces.{member-at}
 use Rattle.lemmas.proofs.Lists.{each-at}
@@ -132,7 +133,7 @@ module _ (coordinates : Coordinates) (ascends : (a : Axis) → Ascends ◌<ℤ�
             (in_grid_or_not coordinates ascends b),
       )
 
-module _ (drawing : Segment → Style) (coordinates : Coordinates) (are : (a : Axis) → AreGridCoordinates drawing a (coordinates a)) where
+module _ (drawing : Segment → Style) (sees : SeesEachAxis drawing) (coordinates : Coordinates) (are : (a : Axis) → AreGridCoordinates drawing a (coordinates a)) where
   abbrev ascends_here : (a : Axis) → Ascends ◌<ℤ◌ (coordinates a)
   ascends_here a = (are a).ordered
 
@@ -143,8 +144,8 @@ module _ (drawing : Segment → Style) (coordinates : Coordinates) (are : (a : A
         let is = lying-is_grid_cell coordinates ascends_here n c at in
         let corner = corner_of coordinates ascends_here n in
         let there = place_within coordinates ascends_here n is in
-        agree_in_grid_cell drawing s matches coordinates are n c corner at (corner_lies coordinates ascends_here n is)
+        agree_in_grid_cell drawing sees s matches coordinates are n c corner at (corner_lies coordinates ascends_here n is)
         ∙ ap (is_full s) (sym (corner_at_place coordinates ascends_here n corner is))
         ∙ sym (get_or-map (is_full s) (corners coordinates ascends_here) (grid_cell_place coordinates n) corner false there);
-    outside = λ c none. false_from_ne_true (is_full s c) (λ full. none (lies_in_grid drawing s matches coordinates are c full));
+    outside = λ c none. false_from_ne_true (is_full s c) (λ full. none (lies_in_grid drawing sees s matches coordinates are c full));
   }

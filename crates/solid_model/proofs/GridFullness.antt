@@ -88,7 +88,7 @@ module _ (drawing : Segment → Style) (g : GridParts) (grid : IsGridOf drawing 
   unfolding grid_fullness
   is_grid_fullness = record {
     inside = λ n c within lies. ap (λ b. b && is_full s (least_cell n)) within
-        ∙ agree_in_grid_cell drawing s matches (coordinates_of g) grid.coordinates (grid_cell_of n) (least_cell n) c (lies_there n within) lies;
+        ∙ agree_in_grid_cell drawing grid.sees s matches (coordinates_of g) grid.coordinates (grid_cell_of n) (least_cell n) c (lies_there n within) lies;
     outside = λ n out. ap (λ b. b && is_full s (least_cell n)) out;
   }
 
@@ -101,7 +101,7 @@ module _ (drawing : Segment → Style) (g : GridParts) (grid : IsGridOf drawing 
         by true e = counts.inside n c e (λ a. (stands a).inside (within-below (grid_sizes g) n e a))
         by false e = counts.outside n e ∙ sym (false_from_ne_true (is_full s c) (λ h.
             let out = outside-below (grid_sizes g) n e in
-            let gap = lies_in_grid drawing s matches (coordinates_of g) grid.coordinates c h out.0 in
+            let gap = lies_in_grid drawing grid.sees s matches (coordinates_of g) grid.coordinates c h out.0 in
             (stands out.0).outside out.1 gap.0 gap.1))
 
     -- a full cell is within the box

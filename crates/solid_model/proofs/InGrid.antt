@@ -6,7 +6,7 @@ use Rattle.solid_model.specs.declared.cell.Axis.{Axis}
 use Rattle.solid_model.specs.declared.cell.Axis.TheVariants.{X, Y, Z}
 use Rattle.solid_model.specs.declared.cell.Cell.{Cell}
 use Rattle.solid_model.specs.declared.frame.View.{View}
-use Rattle.solid_model.specs.declared.frame.View.TheVariants.{Front, Side}
+use Rattle.solid_model.specs.declared.frame.View.TheVariants.{Front, Top, Side}
 use Rattle.solid_model.specs.declared.segment.Segment.{Segment}
 use Rattle.solid_model.specs.declared.segment.Style.{Style}
 use Rattle.solid_model.specs.declared.segment.Style.TheVariants.{Blank, Dashed, Solid}
@@ -18,6 +18,7 @@ use Rattle.solid_model.specs.Frames.{frame_of, along, across}
 use Rattle.solid_model.specs.Grid.{IsGridCoordinate, AreGridCoordinates, is_in_gap, IsInSomeGap, Coordinates, GridCell, LiesInGridCell, LiesInGrid}
 use Rattle.lemmas.specs.Lists.{Member, Ascends}
 use Rattle.solid_model.specs.Matching.{Matches}
+use Rattle.solid_model.specs.Moved.{Shows, SeesEachAxis}
 use Rattle.solid_model.specs.Segments.{segment_at}
 use Rattle.solid_model.proofs.ColumnRule.{beside_blank}
 use Rattle.lemmas.proofs.Integers.{natural}
@@ -41,32 +42,41 @@ pub record StandsBefore (v : View) (upright : Bool) (d c : Cell) : Type 0 where
 
 module _ (drawing : Segment → Style) (s : List Cell) (matches : Matches drawing s) where
   -- beside a segment that isn't drawn the two cells agree at every depth
-  beside_undrawn : (v : View) (upright : Bool) (i j k : ℤ) → drawing (segment_at v upright i j) ≡ Blank
+  beside_undrawn : (v : View) (upright : Bool) (i j k : ℤ) → Shows drawing v → drawing (segment_at v upright i j) ≡ Blank
       → is_full s (cell_in (frame_of v) upright i j k) ≡ is_full s (cell_in (frame_of v) upright i (j -ℤ pos 1) k)
-  beside_undrawn v true i j k blank =
+  beside_undrawn v true i j k shows blank =
       let g : Segment = segment_at v true i j in
-      beside_blank (frame_of v) (views_are_frames v) s g (subst (Draws (frame_of v) (is_full s) g) blank (matches.1 g)) k
-  beside_undrawn v false i j k blank =
+      beside_blank (frame_of v) (views_are_frames v) s g (subst (Draws (frame_of v) (is_full s) g) blank (matches.1 g shows)) k
+  beside_undrawn v false i j k shows blank =
       let g : Segment = segment_at v false i j in
-      beside_blank (frame_of v) (views_are_frames v) s g (subst (Draws (frame_of v) (is_full s) g) blank (matches.1 g)) k
+      beside_blank (frame_of v) (views_are_frames v) s g (subst (Draws (frame_of v) (is_full s) g) blank (matches.1 g shows)) k
 
   -- so do two cells one before the other, where nothing is drawn on the line between them
-  across_undrawn : (v : View) (upright : Bool) (d c : Cell) → StandsBefore v upright d c
+  across_undrawn : (v : View) (upright : Bool) (d c : Cell) → Shows drawing v → StandsBefore v upright d c
       → ((start : ℤ) → drawing (segment_at v upright start (place_of (across (frame_of v) upright) c)) ≢ Blank → ⊥) → is_full s d ≡ is_full s c
-  across_undrawn v upright d c at none =
+  across_undrawn v upright d c shows at none =
       let f = frame_of v in
       let i = place_of (along f upright) c in let j = place_of (across f upright) c in let k = place_of f.away c in
       let blank = ⊎_elim (λ e. e) (λ drawn. absurd (none i drawn)) (blank_or_drawn (drawing (segment_at v upright i j))) in
       sym (ap (is_full s) (cell_at_its_places f (views_are_frames v) upright d))
       ∙ (λ t. is_full s (cell_in f upright (at.same_along t) (at.before t) (at.same_away t)))
-      ∙ sym (beside_undrawn v upright i j k blank)
+      ∙ sym (beside_undrawn v upright i j k shows blank)
       ∙ ap (is_full s) (cell_at_its_places f (views_are_frames v) upright c)
 
   -- where a cell begins at no grid coordinate along an axis, it agrees with the cell before it
-  pub slices_agree : (a : Axis) (c : Cell) → (IsGridCoordinate drawing a (coordinate a c) → ⊥) → is_full s (cell_before a c) ≡ is_full s c
-  slices_agree X c none = across_undrawn Front true (cell_before X c) c (record { same_along = refl; before = refl; same_away = refl }) (λ start drawn. none (Front, false, refl, inl (start, drawn)))
-  slices_agree Y c none = across_undrawn Side true (cell_before Y c) c (record { same_along = refl; before = refl; same_away = refl }) (λ start drawn. none (Side, false, refl, inl (start, drawn)))
-  slices_agree Z c none = across_undrawn Front false (cell_before Z c) c (record { same_along = refl; before = refl; same_away = refl }) (λ start drawn. none (Front, true, refl, inl (start, drawn)))
+  pub slices_agree : SeesEachAxis drawing → (a : Axis) (c : Cell) → (IsGridCoordinate drawing a (coordinate a c) → ⊥) → is_full s (cell_before a c) ≡ is_full s c
+  slices_agree sees a c none =
+      let at = sees a in
+      subst (λ b. (IsGridCoordinate drawing b (coordinate b c) → ⊥) → is_full s (cell_before b c) ≡ is_full s c) at.2 (by at.0 at.1 at.3) none
+    where
+      by : (v : View) (upright : Bool) → Shows drawing v → (IsGridCoordinate drawing (along (frame_of v) upright).axis (coordinate (along (frame_of v) upright).axis c) → ⊥)
+          → is_full s (cell_before (along (frame_of v) upright).axis c) ≡ is_full s c
+      by Front false shows nothing = across_undrawn Front true (cell_before X c) c shows (record { same_along = refl; before = refl; same_away = refl }) (λ start drawn. nothing (Front, false, refl, inl (start, drawn)))
+      by Front true shows nothing = across_undrawn Front false (cell_before Z c) c shows (record { same_along = refl; before = refl; same_away = refl }) (λ start drawn. nothing (Front, true, refl, inl (start, drawn)))
+      by Top false shows nothing = across_undrawn Top true (cell_before X c) c shows (record { same_along = refl; before = refl; same_away = refl }) (λ start drawn. nothing (Top, false, refl, inl (start, drawn)))
+      by Top true shows nothing = across_undrawn Top false (cell_before Y c) c shows (record { same_along = refl; before = refl; same_away = refl }) (λ start drawn. nothing (Top, true, refl, inl (start, drawn)))
+      by Side false shows nothing = across_undrawn Side true (cell_before Y c) c shows (record { same_along = refl; before = refl; same_away = refl }) (λ start drawn. nothing (Side, false, refl, inl (start, drawn)))
+      by Side true shows nothing = across_undrawn Side false (cell_before Z c) c shows (record { same_along = refl; before = refl; same_away = refl }) (λ start drawn. nothing (Side, true, refl, inl (start, drawn)))
 
 -- an axis has one list of grid coordinates
 pub one_coordinates : (drawing : Segment → Style) (a : Axis) (zs ws : List ℤ) → AreGridCoordinates drawing a zs → AreGridCoordinates drawing a ws → zs ≡ ws
@@ -187,7 +197,7 @@ before_after X c = let p : (c.x +ℤ pos 1) -ℤ pos 1 ≡ c.x = omega (arith, i
 before_after Y c = let p : (c.y +ℤ pos 1) -ℤ pos 1 ≡ c.y = omega (arith, ints) in λ t. record c { y = p t }
 before_after Z c = let p : (c.z +ℤ pos 1) -ℤ pos 1 ≡ c.z = omega (arith, ints) in λ t. record c { z = p t }
 
-module _ (drawing : Segment → Style) (s : List Cell) (matches : Matches drawing s) (coordinates : Coordinates)
+module _ (drawing : Segment → Style) (sees : SeesEachAxis drawing) (s : List Cell) (matches : Matches drawing s) (coordinates : Coordinates)
     (are : (a : Axis) → AreGridCoordinates drawing a (coordinates a)) where
   -- a place that is no member is no grid coordinate
   no_coordinate : (a : Axis) (z : ℤ) → (Member (coordinates a) z → ⊥) → IsGridCoordinate drawing a z → ⊥
@@ -199,7 +209,7 @@ module _ (drawing : Segment → Style) (s : List Cell) (matches : Matches drawin
   moved_in_gap a n c y z in_y in_z =
       let gap = gap_at (coordinates a) (are a).ordered n y in_y in
       steady_between (λ w. is_full s (placed a w c)) gap.low gap.high
-      (λ w from to. ap (is_full s) (sym (before_placed a w c)) ∙ slices_agree drawing s matches a (placed a w c)
+      (λ w from to. ap (is_full s) (sym (before_placed a w c)) ∙ slices_agree drawing s matches sees a (placed a w c)
       (subst (λ v. IsGridCoordinate drawing a v → ⊥) (sym (placed_at a w c)) (no_coordinate a w (gap.none_between w from to))))
       y z (gap.inside y in_y) (gap.inside z in_z)
 
@@ -218,7 +228,7 @@ module _ (drawing : Segment → Style) (s : List Cell) (matches : Matches drawin
       all_beyond beyond =
           let m = outermost_by Least (coordinate a) s c full in
           let near = m.2 c full in
-          let agrees = slices_agree drawing s matches a m.0 (no_coordinate a (coordinate a m.0) (λ k. let l = beyond (coordinate a m.0) k in omega (arith, ints))) in
+          let agrees = slices_agree drawing s matches sees a m.0 (no_coordinate a (coordinate a m.0) (λ k. let l = beyond (coordinate a m.0) k in omega (arith, ints))) in
           let before = m.2 (cell_before a m.0) (agrees ∙ m.1) in
           let at = placed_at a (coordinate a m.0 -ℤ pos 1) m.0 in
           omega (arith, ints)
@@ -229,7 +239,7 @@ module _ (drawing : Segment → Style) (s : List Cell) (matches : Matches drawin
           let near = m.2 c full in
           let next = placed a (coordinate a m.0 +ℤ pos 1) m.0 in
           let at = placed_at a (coordinate a m.0 +ℤ pos 1) m.0 in
-          let agrees = slices_agree drawing s matches a next (no_coordinate a (coordinate a next) (λ k. let l = behind (coordinate a next) k in omega (arith, ints))) in
+          let agrees = slices_agree drawing s matches sees a next (no_coordinate a (coordinate a next) (λ k. let l = behind (coordinate a next) k in omega (arith, ints))) in
           let back : cell_before a next ≡ m.0 = before_after a m.0 in
           let after = m.2 next (sym agrees ∙ ap (is_full s) back ∙ m.1) in
           omega (arith, ints)

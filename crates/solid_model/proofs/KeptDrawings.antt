@@ -1,19 +1,25 @@
 -- The drawing of lines that are kept is a drawing.
-use Rattle.std.proofs.Common.{◌≢◌, Bool, true, false, ◌&&◌, if◌then◌else◌, List, [], map, ℤ, pos, neg_ℤ, ◌+ℤ◌, ◌≤ℤ◌, subst, arith}
+use Rattle.std.proofs.Common.{◌≡◌, ◌≢◌, ◌⊎◌, ⊎_elim, inl, inr, Bool, true, false, ◌&&◌, if◌then◌else◌, List, [], ◌∷◌, map, ℤ, pos, neg_ℤ, ◌+ℤ◌, ◌≤ℤ◌, refl, sym, subst, ◌∙◌, arith}
 use Rattle.std.specs.Int.{int_min}
 use Rattle.std.proofs.lemmas.Int.{ints, clamps}
 use Rattle.solid_model.specs.declared.frame.View.{View}
 use Rattle.solid_model.specs.declared.segment.Segment.{Segment}
 use Rattle.solid_model.specs.declared.segment.Style.TheVariants.{Blank}
 use Rattle.solid_model.specs.Segments.{far_right, far_up, farther}
-use Rattle.solid_model.specs.Drawings.{same_view, has_length, covering_lines, extreme, least_right, least_up, sheet_style, drawing_of}
+use Rattle.solid_model.specs.Drawings.{same_view, has_length, covering_lines, extreme, least_right, least_up, sheet_style, drawing_of, IsEmptyView, IsShown}
 use Rattle.solid_model.specs.Line.{Line, IsNear, IsKept}
 use Rattle.lemmas.specs.Lists.{Member, Each}
+use Rattle.solid_model.specs.Moved.{BeginsAt, Shows, SeesEachAxis}
+use Rattle.solid_model.specs.declared.cell.Axis.{Axis}
+use Rattle.solid_model.specs.declared.cell.Axis.TheVariants.{X, Y, Z}
+use Rattle.solid_model.specs.declared.frame.View.TheVariants.{Front, Top, Side}
+use Rattle.solid_model.specs.Frames.{frame_of, along}
 use Rattle.solid_model.specs.Runs.{IsDrawing}
 use Rattle.solid_model.specs.Limits.{farthest_in_view}
 use Rattle.lemmas.proofs.Lists.{each-at, member-map, member-from_map, member-from_filter}
+use Rattle.solid_model.proofs.InGrid.{blank_or_drawn}
 use Rattle.solid_model.proofs.Moved.{moved_begins}
-use Rattle.solid_model.proofs.Sheets.{least_member_of, drawn_line, covered_from_style, lines_moved}
+use Rattle.solid_model.proofs.Sheets.{least_member_of, drawn_line, covered_from_style, lines_moved, without_lines-empty}
 
 -- ---- nothing lies too far out
 
@@ -53,9 +59,45 @@ drawing_near ls kept g drawn =
 
 -- ---- a drawing
 
--- where each view has a line with length, the lines have the drawing of three views
-pub lines_are_drawing : (ls : List Line) → Each IsKept ls → ((v : View) → covering_lines v ls ≢ []) → IsDrawing (drawing_of ls)
-lines_are_drawing ls kept shown = record {
-  begins = λ v. moved_begins (sheet_style ls) (drawing_of ls) v (lines_moved ls kept v (shown v));
+-- an empty view shows nothing
+pub empty_is_blank : (ls : List Line) (g : Segment) → IsEmptyView ls g.view → drawing_of ls g ≡ Blank
+empty_is_blank ls g empty = ⊎_elim (λ (blank : drawing_of ls g ≡ Blank). blank)
+    (λ (drawn : drawing_of ls g ≢ Blank). absurd (empty (farther (least_right g.view ls) (least_up g.view ls) g) refl (covered_from_style _ _ drawn)))
+    (blank_or_drawn (drawing_of ls g))
+
+-- Lines have the drawing of three views where no view is empty, or where one may be and no two are: of the two views that see an
+-- axis one shows something.
+pub lines_are_drawing : (two : Bool) (ls : List Line) → Each IsKept ls → IsShown two ls → IsDrawing (drawing_of ls)
+lines_are_drawing two ls kept shown = record {
+  begins = λ v shows. begins v (λ none. shows.2 (empty_is_blank ls shows.0 (subst (IsEmptyView ls) (sym shows.1) (without_lines-empty ls v none))));
+  sees = sees;
   near = drawing_near ls kept;
 }
+  where
+    begins : (v : View) → covering_lines v ls ≢ [] → BeginsAt (drawing_of ls) v (pos 0) (pos 0)
+    begins v some = moved_begins (sheet_style ls) (drawing_of ls) v (lines_moved ls kept v some)
+
+    shows : (v : View) → covering_lines v ls ≢ [] → Shows (drawing_of ls) v
+    shows v some = let at = (begins v some).at_left in (at.0, at.1, at.2)
+
+    not_both : (t : Bool) → IsShown t ls → (v w : View) → v ≢ w → IsEmptyView ls v → IsEmptyView ls w → ⊥
+    not_both false each v w differ first second = each v first
+    not_both true one v w differ first second = one v w differ first second
+
+    -- one of two views shows something
+    either : (v w : View) → v ≢ w → Shows (drawing_of ls) v ⊎ Shows (drawing_of ls) w
+    either v w differ = by (covering_lines v ls) refl
+      where
+        by : (ms : List Line) → covering_lines v ls ≡ ms → Shows (drawing_of ls) v ⊎ Shows (drawing_of ls) w
+        by [] e = inr (shows w (λ none. not_both two shown v w differ (without_lines-empty ls v e) (without_lines-empty ls w none)))
+        by (l ∷ ms) e = inl (shows v (λ none. let p = sym none ∙ e in cc))
+
+    sees_by : (a : Axis) (v w : View) (upright other : Bool) → (along (frame_of v) upright).axis ≡ a → (along (frame_of w) other).axis ≡ a
+        → Shows (drawing_of ls) v ⊎ Shows (drawing_of ls) w → (u : View) × (o : Bool) × ((along (frame_of u) o).axis ≡ a) × Shows (drawing_of ls) u
+    sees_by a v w upright other first second (inl shown_first) = (v, upright, first, shown_first)
+    sees_by a v w upright other first second (inr shown_second) = (w, other, second, shown_second)
+
+    sees : SeesEachAxis (drawing_of ls)
+    sees X = sees_by X Front Top false false refl refl (either Front Top (λ p. cc))
+    sees Y = sees_by Y Top Side true false refl refl (either Top Side (λ p. cc))
+    sees Z = sees_by Z Front Side true true refl refl (either Front Side (λ p. cc))

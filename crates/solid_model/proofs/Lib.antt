@@ -4,6 +4,7 @@ pub mod Gaps
 pub mod GridFillings
 pub mod BoxCells
 pub mod GridStyle
+pub mod DrawnPanels
 pub mod GridFullness
 pub mod GridEdges
 pub mod PseudoEdges
@@ -24,6 +25,7 @@ pub mod InGrid
 pub mod OnGrid
 pub mod SameOnGrid
 pub mod UnionDrawing
+pub mod StayingOnGrid
 pub mod GridMatching
 pub mod Unions
 pub mod Corners

@@ -69,11 +69,11 @@ module _ (drawing : Segment → Style) (is : IsDrawing drawing) (coordinates : C
   -- what is drawn lies between 0 and the farthest coordinate
   drawn_within : (v : View) (upright : Bool) (start line : ℤ) → drawing (segment_at v upright start line) ≢ Blank → (pos 0 ≤ℤ start) × (start <ℤ pos 2000000000)
   drawn_within v true start line drawn =
-      let begins = (is.begins v).stands_from (segment_at v true start line) refl drawn in
+      let begins = (is.begins v (segment_at v true start line, refl, drawn)).stands_from (segment_at v true start line) refl drawn in
       let ends = is.near (segment_at v true start line) drawn in
       (begins.1, omega (arith, ints, ends.1))
   drawn_within v false start line drawn =
-      let begins = (is.begins v).stands_from (segment_at v false start line) refl drawn in
+      let begins = (is.begins v (segment_at v false start line, refl, drawn)).stands_from (segment_at v false start line) refl drawn in
       let ends = is.near (segment_at v false start line) drawn in
       (begins.0, omega (arith, ints, ends.0))
 

@@ -81,20 +81,20 @@ gap_start (a ∷ b ∷ zs) (suc n) z e =
 
 module _ (coordinates : Coordinates) (ascends : (a : Axis) → Ascends ◌<ℤ◌ (coordinates a)) (drawing other : Segment → Style)
     (stays : StaysOnGrid coordinates drawing) (stays_too : StaysOnGrid coordinates other)
-    (same : (v : View) (upright : Bool) → grid_styles drawing coordinates v upright ≡ grid_styles other coordinates v upright) where
+    (v : View) (same : (upright : Bool) → grid_styles drawing coordinates v upright ≡ grid_styles other coordinates v upright) where
   -- at the first unit segment of each grid segment
-  same_at_start : (v : View) (upright : Bool) (start line : ℤ) → Member (starts_of (coordinates (along (frame_of v) upright).axis)) start
+  same_at_start : (upright : Bool) (start line : ℤ) → Member (starts_of (coordinates (along (frame_of v) upright).axis)) start
       → Member (coordinates (across (frame_of v) upright).axis) line → drawing (segment_at v upright start line) ≡ other (segment_at v upright start line)
-  same_at_start v upright start line at_start at_line =
+  same_at_start upright start line at_start at_line =
       let starts = starts_of (coordinates (along (frame_of v) upright).axis) in
       same_map (λ z. drawing (segment_at v upright z line)) (λ z. other (segment_at v upright z line)) starts
       (same_parts (λ l. map (λ z. drawing (segment_at v upright z l)) starts) (λ l. map (λ z. other (segment_at v upright z l)) starts)
       (λ l. length-map starts (λ z. drawing (segment_at v upright z l)) ∙ sym (length-map starts (λ z. other (segment_at v upright z l))))
-      (coordinates (across (frame_of v) upright).axis) (same v upright) line at_line) start at_start
+      (coordinates (across (frame_of v) upright).axis) (same upright) line at_line) start at_start
 
   -- and so everywhere
-  same_at : (v : View) (upright : Bool) (start line : ℤ) → drawing (segment_at v upright start line) ≡ other (segment_at v upright start line)
-  same_at v upright start line = ⊎_elim on_line off_line (member_or_not (coordinates (across (frame_of v) upright).axis) line)
+  same_at : (upright : Bool) (start line : ℤ) → drawing (segment_at v upright start line) ≡ other (segment_at v upright start line)
+  same_at upright start line = ⊎_elim on_line off_line (member_or_not (coordinates (across (frame_of v) upright).axis) line)
     where
       off_line : (Member (coordinates (across (frame_of v) upright).axis) line → ⊥) → drawing (segment_at v upright start line) ≡ other (segment_at v upright start line)
       off_line none = stays.off_lines v upright start line none ∙ sym (stays_too.off_lines v upright start line none)
@@ -104,7 +104,7 @@ module _ (coordinates : Coordinates) (ascends : (a : Axis) → Ascends ◌<ℤ�
       in_gap at_line (n, at) =
           let first = gap_start (coordinates (along (frame_of v) upright).axis) n start at in
           stays.steady v upright n start first.0 line at first.2
-          ∙ same_at_start v upright first.0 line first.1 at_line
+          ∙ same_at_start upright first.0 line first.1 at_line
           ∙ sym (stays_too.steady v upright n start first.0 line at first.2)
 
       in_no_gap : (IsInSomeGap (coordinates (along (frame_of v) upright).axis) start → ⊥) → drawing (segment_at v upright start line) ≡ other (segment_at v upright start line)
@@ -113,10 +113,11 @@ module _ (coordinates : Coordinates) (ascends : (a : Axis) → Ascends ◌<ℤ�
       on_line : Member (coordinates (across (frame_of v) upright).axis) line → drawing (segment_at v upright start line) ≡ other (segment_at v upright start line)
       on_line at_line = ⊎_elim (in_gap at_line) in_no_gap (gap_or_none (coordinates (along (frame_of v) upright).axis) (ascends (along (frame_of v) upright).axis) start)
 
-  -- so the drawings are the same everywhere
-  pub same_everywhere : (g : Segment) → drawing g ≡ other g
-  same_everywhere g = by g.view g.upright g.right g.up
+  -- so the drawings are the same everywhere in the view
+  pub same_everywhere : (g : Segment) → g.view ≡ v → drawing g ≡ other g
+  same_everywhere g of = subst (λ w. drawing (record { view = w; upright = g.upright; right = g.right; up = g.up }) ≡ other (record { view = w; upright = g.upright; right = g.right; up = g.up }))
+      (sym of) (by g.upright g.right g.up)
     where
-      by : (v : View) (upright : Bool) (right up : ℤ) → drawing (record { view = v; upright = upright; right = right; up = up }) ≡ other (record { view = v; upright = upright; right = right; up = up })
-      by v true right up = same_at v true up right
-      by v false right up = same_at v false right up
+      by : (upright : Bool) (right up : ℤ) → drawing (record { view = v; upright = upright; right = right; up = up }) ≡ other (record { view = v; upright = upright; right = right; up = up })
+      by true right up = same_at true up right
+      by false right up = same_at false right up

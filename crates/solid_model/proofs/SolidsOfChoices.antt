@@ -24,7 +24,7 @@ pub same_matches : (drawing : Segment → Style) (s t : List Cell) → SameCells
 same_matches drawing s t same matches =
     let first = full_cell_of s matches.0 in (
       solid_with t first.0 (sym (same first.0) ∙ first.1),
-      λ g. same_drawing (frame_of g.view) (is_full s) (is_full t) same g (drawing g) (matches.1 g),
+      λ g shows. same_drawing (frame_of g.view) (is_full s) (is_full t) same g (drawing g) (matches.1 g shows),
     )
 
 module _ (drawing : Segment → Style) (coordinates : Coordinates) (ascends : (a : Axis) → Ascends ◌<ℤ◌ (coordinates a)) (items : List (Option ℕ)) (n : ℕ) where

@@ -24,11 +24,11 @@ module _ (drawing : Segment → Style) (is : IsDrawing drawing) where
   -- what is drawn lies near
   pub drawn_near : (v : View) (upright : Bool) (start line : ℤ) → drawing (segment_at v upright start line) ≢ Blank → LiesNear start line
   drawn_near v true start line drawn =
-      let begins = (is.begins v).stands_from (segment_at v true start line) refl drawn in
+      let begins = (is.begins v (segment_at v true start line, refl, drawn)).stands_from (segment_at v true start line) refl drawn in
       let ends = is.near (segment_at v true start line) drawn in
       record { from = begins.1; to = omega (arith, ints, ends.1); line_from = begins.0; line_to = ends.0 }
   drawn_near v false start line drawn =
-      let begins = (is.begins v).stands_from (segment_at v false start line) refl drawn in
+      let begins = (is.begins v (segment_at v false start line, refl, drawn)).stands_from (segment_at v false start line) refl drawn in
       let ends = is.near (segment_at v false start line) drawn in
       record { from = begins.0; to = omega (arith, ints, ends.0); line_from = begins.1; line_to = ends.1 }
 

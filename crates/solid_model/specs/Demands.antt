@@ -19,13 +19,14 @@ use Rattle.solid_model.specs.Frames.{frame_of, along, across, at_places}
 use Rattle.lemmas.specs.Lists.{Member}
 use Rattle.solid_model.specs.Panels.{GridParts}
 use Rattle.solid_model.specs.Rooms.{Sizes}
+use Rattle.solid_model.specs.Wire.{is_drawn_view}
 use Rattle.solid_model.specs.GridBox.{grid_sizes, axis_along, axis_across, grid_style}
 
 -- ---- lines
 
--- the grid has the line
+-- the grid has the line, and its view isn't missing
 abbrev pub has_line : GridParts → LineId → Bool
-has_line g l = nat_lt l.at (suc (grid_sizes g (axis_across l.view l.upright))) && nat_lt l.cell (grid_sizes g (axis_along l.view l.upright))
+has_line g l = is_drawn_view g l.view && (nat_lt l.at (suc (grid_sizes g (axis_across l.view l.upright))) && nat_lt l.cell (grid_sizes g (axis_along l.view l.upright)))
 
 -- its style
 abbrev pub line_style : GridParts → LineId → Style
@@ -41,7 +42,7 @@ lines_along g v upright = flat_map (lines_at g v upright) (range_with_len 0 (suc
 
 -- all lines of a view, the level ones first
 abbrev pub lines_in : GridParts → View → List LineId
-lines_in g v = lines_along g v false ++ lines_along g v true
+lines_in g v = if is_drawn_view g v then (lines_along g v false ++ lines_along g v true) else []
 
 -- all lines of a grid, in their order
 abbrev pub lines_of : GridParts → List LineId

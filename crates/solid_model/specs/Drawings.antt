@@ -1,5 +1,5 @@
 -- The drawing of a list of lines: what a file's lines show, each view moved to least coordinates 0.
-use Rattle.std.specs.Prelude.{◌≡◌, IsTrue, Bool, true, false, not, ◌&&◌, ◌||◌, List, [], ◌∷◌, map, ℤ, pos, int_lt, int_le, if◌then◌else◌}
+use Rattle.std.specs.Prelude.{◌≡◌, ◌≢◌, IsTrue, Bool, true, false, not, ◌&&◌, ◌||◌, List, [], ◌∷◌, map, ℤ, pos, int_lt, int_le, if◌then◌else◌}
 use Rattle.std.specs.List.{filter, fold}
 use Rattle.std.specs.Int.{int_min}
 use Rattle.std.specs.Ordering.{int_eq}
@@ -87,12 +87,18 @@ drawing_of ls = moved (λ v. least_right v ls) (λ v. least_up v ls) (sheet_styl
 abbrev pub IsEmptyView : List Line → View → Type 0
 IsEmptyView ls v = (g : Segment) → g.view ≡ v → IsTrue (is_shown ls g) → ⊥
 
--- every view shows something
-abbrev pub IsShown : List Line → Type 0
-IsShown ls = (v : View) → IsEmptyView ls v → ⊥
+-- Every view shows something; or, where one may be missing, of two different views one does.
+abbrev pub IsShown : Bool → List Line → Type 0
+IsShown false ls = (v : View) → IsEmptyView ls v → ⊥
+IsShown true ls = (v w : View) → v ≢ w → IsEmptyView ls v → IsEmptyView ls w → ⊥
 
 -- the first empty view in the order front, top, side
 abbrev pub IsFirstEmptyView : List Line → View → Type 0
 IsFirstEmptyView ls Front = IsEmptyView ls Front
 IsFirstEmptyView ls Top = (IsEmptyView ls Front → ⊥) × IsEmptyView ls Top
 IsFirstEmptyView ls Side = (IsEmptyView ls Front → ⊥) × (IsEmptyView ls Top → ⊥) × IsEmptyView ls Side
+
+-- it is lacked: where one view may be missing, another one is empty too
+abbrev pub LacksView : Bool → List Line → View → Type 0
+LacksView false ls v = IsFirstEmptyView ls v
+LacksView true ls v = IsFirstEmptyView ls v × (w : View) × (w ≢ v) × IsEmptyView ls w

@@ -1,10 +1,20 @@
 -- A view of a drawing, moved so that its least coordinates are 0.
-use Rattle.std.specs.Prelude.{◌≡◌, ◌≢◌, ℤ, ◌≤ℤ◌}
+use Rattle.std.specs.Prelude.{◌≡◌, ◌≢◌, Bool, ℤ, ◌≤ℤ◌}
 use Rattle.solid_model.specs.declared.frame.View.{View}
 use Rattle.solid_model.specs.declared.segment.Segment.{Segment}
 use Rattle.solid_model.specs.declared.segment.Style.{Style}
 use Rattle.solid_model.specs.declared.segment.Style.TheVariants.{Blank}
+use Rattle.solid_model.specs.declared.cell.Axis.{Axis}
+use Rattle.solid_model.specs.Frames.{frame_of, along}
 use Rattle.solid_model.specs.Segments.{farther}
+
+-- the drawing shows something in a view
+abbrev pub Shows : (Segment → Style) → View → Type 0
+Shows drawing v = (h : Segment) × (h.view ≡ v) × (drawing h ≢ Blank)
+
+-- each axis runs to the right or upwards in some view that it shows: at most one view is missing
+abbrev pub SeesEachAxis : (Segment → Style) → Type 0
+SeesEachAxis drawing = (a : Axis) → (v : View) × (upright : Bool) × ((along (frame_of v) upright).axis ≡ a) × Shows drawing v
 
 -- what a drawing shows in a view stands nowhere to the left of `right` or below `up`
 abbrev pub StandsFrom : (Segment → Style) → View → ℤ → ℤ → Type 0

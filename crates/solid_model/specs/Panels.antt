@@ -11,6 +11,7 @@ use Rattle.solid_model.specs.DrawnStyle.{line_styles}
 use Rattle.solid_model.specs.Frames.{frame_of, along, across}
 use Rattle.solid_model.specs.Grid.{Coordinates, AreGridCoordinates}
 use Rattle.solid_model.specs.Limits.{most_grid_coordinates}
+use Rattle.solid_model.specs.Moved.{SeesEachAxis}
 use Rattle.solid_model.specs.PerView.{of_view}
 use Rattle.solid_model.specs.Runs.{IsDrawing}
 
@@ -62,6 +63,7 @@ pub record IsGridOf (drawing : Segment → Style) (g : GridParts) : Type 0 where
   pub coordinates : (a : Axis) → AreGridCoordinates drawing a (coordinates_of g a)
   pub few : (a : Axis) → length (coordinates_of g a) ≤ most_grid_coordinates
   pub styles : AreGridStyles drawing (coordinates_of g) g.panels
+  pub sees : SeesEachAxis drawing
 
 -- what a grid keeps: it is that of a drawing
 abbrev pub IsGrid : GridParts → Type 0

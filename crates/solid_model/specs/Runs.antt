@@ -9,7 +9,7 @@ use Rattle.solid_model.specs.declared.segment.Style.{Style}
 use Rattle.solid_model.specs.declared.segment.Style.TheVariants.{Blank}
 use Rattle.solid_model.specs.Limits.{farthest_in_view}
 use Rattle.lemmas.specs.Lists.{Each, Ascends}
-use Rattle.solid_model.specs.Moved.{BeginsAt}
+use Rattle.solid_model.specs.Moved.{BeginsAt, Shows, SeesEachAxis}
 use Rattle.solid_model.specs.PerView.{of_view}
 use Rattle.solid_model.specs.Segments.{start_of, line_of, far_right, far_up}
 
@@ -58,7 +58,8 @@ style_in d g = run_style (runs_along g.upright (of_view g.view d)) (line_of g) (
 
 -- ---- what a drawing keeps
 
--- each view shows something and begins at 0, and nothing lies farther out than 2,000,000,000
+-- each view that shows something begins at 0, at most one shows nothing, and nothing lies farther out than 2,000,000,000
 pub record IsDrawing (drawing : Segment → Style) : Type 0 where
-  pub begins : (v : View) → BeginsAt drawing v (pos 0) (pos 0)
+  pub begins : (v : View) → Shows drawing v → BeginsAt drawing v (pos 0) (pos 0)
+  pub sees : SeesEachAxis drawing
   pub near : (g : Segment) → drawing g ≢ Blank → (far_right g ≤ℤ farthest_in_view) × (far_up g ≤ℤ farthest_in_view)

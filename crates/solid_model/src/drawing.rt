@@ -33,7 +33,7 @@ impl ViewLines {
 }
 
 /// The drawing of three views, each shifted so that its least right and its least up coordinate are
-/// 0. No view is empty, and no coordinate is above 2,000,000,000.
+/// 0. At most one view shows nothing, and no coordinate is above 2,000,000,000.
 #[derive(Debug, Drop)]
 pub struct Drawing {
     pub front: ViewLines,

@@ -11,21 +11,28 @@ use crate::frame::View;
 use crate::line_id::LineId;
 use crate::panels::Panels;
 use crate::per_axis::PerAxis;
+use crate::per_view::PerView;
 use crate::segment::Style;
 use std::marker::Model;
 
 /// The grid of a drawing: its coordinates along the three axes, 1 to 64 each, in order, and the
-/// styles of its segments.
+/// styles of its segments. Which views show something is found once, since each line is asked for
+/// it.
 #[derive(Debug, Drop)]
 pub struct Grid {
     xs: Vec<i64>,
     ys: Vec<i64>,
     zs: Vec<i64>,
     panels: Panels,
+    shows: PerView<bool>,
 }
 
 impl Model for Grid {
+    ghost use Rattle.std.specs.Prelude.{◌≡◌};
+    ghost use Rattle.solid_model.specs.declared.frame.View.{View};
     ghost use Rattle.solid_model.specs.Panels.{GridParts, IsGrid};
+    ghost use Rattle.solid_model.specs.PerView.{of_view};
+    ghost use Rattle.solid_model.specs.Wire.{shows_something};
 
     ghost Value = { GridParts };
 
@@ -41,7 +48,7 @@ impl Model for Grid {
       ys = s.ys.items;
       zs = s.zs.items;
       panels = s.panels;
-    } };
+    } × ((v : View) → of_view v s.shows ≡ shows_something (of_view v s.panels)) };
 }
 
 /// The coordinates are the same.
@@ -66,6 +73,7 @@ impl Grid {
     ghost use Rattle.std.specs.Prelude.{◌≡◌, ◌↔◌, ◌<◌, ◌≤◌, pos, IsTrue};
     ghost use Rattle.solid_model.specs.declared.cell.Axis.{Axis};
     ghost use Rattle.solid_model.specs.Demands.{has_line, line_style};
+    ghost use Rattle.solid_model.specs.Wire.{is_drawn_view};
     ghost use Rattle.solid_model.specs.Grid.{gaps_along, grid_cell_count};
     ghost use Rattle.solid_model.specs.Panels.{coordinates_of, IsGrid};
     ghost use Rattle.solid_model.specs.PerAxis.{numbers_of};
@@ -77,7 +85,18 @@ impl Grid {
         requires { IsGrid record { xs = xs.items; ys = ys.items; zs = zs.items; panels = panels } }
         ensures { result ≡ record { xs = xs.items; ys = ys.items; zs = zs.items; panels = panels } }
     {
-        Grid { xs, ys, zs, panels }
+        let shows = PerView {
+            front: panels.front.shows_something(),
+            top: panels.top.shows_something(),
+            side: panels.side.shows_something(),
+        };
+        Grid {
+            xs,
+            ys,
+            zs,
+            panels,
+            shows,
+        }
     }
 
     /// The coordinates along the x axis.
@@ -170,11 +189,19 @@ impl Grid {
         self.sizes().along(view.frame().across(upright).axis)
     }
 
+    /// Whether a view shows something: it isn't missing.
+    pub fn shows(&self, view: View) -> bool
+        ensures { result ≡ is_drawn_view self.now view }
+    {
+        *self.shows.view(view)
+    }
+
     /// Whether it has the line.
     pub fn has(&self, line: LineId) -> bool
         ensures { result ≡ has_line self.now line }
     {
-        usize::from(line.at) < self.cells_across(line.view, line.upright) + 1
+        self.shows(line.view)
+            && usize::from(line.at) < self.cells_across(line.view, line.upright) + 1
             && usize::from(line.cell) < self.cells_along(line.view, line.upright)
     }
 

@@ -3,6 +3,7 @@
 mod blocks;
 mod drawings;
 mod grid;
+mod matching;
 mod orders;
 mod places;
 mod rooms;
@@ -24,6 +25,7 @@ pub use grid::{
     each_axis_has_a_coordinate, matching_is_seen_on_the_grid, matching_solids_lie_in_the_grid,
     one_drawing_of_a_grid, one_list_of_grid_coordinates,
 };
+pub use matching::{fewer_views_allow_more, three_views_are_matched_segment_by_segment};
 pub use orders::{
     all_matching_solids_are_one_list, one_stated_form, small_orders, solids_are_ordered,
 };

@@ -1,6 +1,7 @@
 //! The styles of a grid's segments.
 
 ghost use Rattle.std.specs.Prelude.{◌≡◌, ◌↔◌, IsTrue};
+ghost use Rattle.solid_model.specs.Wire.{is_some_drawn};
 
 use crate::frame::View;
 use crate::segment::Style;
@@ -37,9 +38,17 @@ fn same_styles(styles: &[Style], others: &[Style]) -> bool
     same
 }
 
+/// Whether some style isn't Blank.
+fn is_some_drawn(styles: &[Style]) -> bool
+    ensures { result ≡ is_some_drawn styles.now }
+{
+    styles.iter().any(|style| *style != Style::Blank)
+}
+
 impl Panel {
     ghost use Rattle.std.specs.Prelude.{◌≡◌, ◌↔◌, IsTrue};
     ghost use Rattle.solid_model.specs.Panels.{styles_along};
+    ghost use Rattle.solid_model.specs.Wire.{shows_something};
 
     /// The styles of the level, or of the upright, segments.
     pub fn along(&self, upright: bool) -> &[Style]
@@ -50,6 +59,13 @@ impl Panel {
         } else {
             self.level.as_slice()
         }
+    }
+
+    /// Whether some segment isn't Blank.
+    pub fn shows_something(&self) -> bool
+        ensures { result ≡ shows_something self.now }
+    {
+        is_some_drawn(&self.level) || is_some_drawn(&self.upright)
     }
 
     /// Both have the same styles.

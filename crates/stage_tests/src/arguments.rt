@@ -7,7 +7,8 @@ use test_files::rows_tell;
 use words::{Job, WordFault, job_of};
 
 /// Words, divided by commas, and what they ask for: of a search how many work at it, the limits of
-/// nodes and of solids, whether there are pages, and how many decimals, if there are some.
+/// nodes and of solids, whether there are pages, how many decimals, if there are some, and whether
+/// two views are enough.
 const WORDS: &str = "\
 solve -> solve 1 1000000 4096
  -> usage
@@ -90,6 +91,17 @@ solve, --decimals -> usage
 solve, --decimals= -> usage
 solve, --decimals, 1, --decimals, 1 -> usage
 solve, --decimal, 1 -> usage
+solve, --two-views -> solve 1 1000000 4096 two
+solve, --decimals, 3, --two-views, --pages -> solve 1 1000000 4096 pages decimals 3 two
+solve, --two-views= -> usage
+solve, --two-views=1 -> usage
+solve, --two-views, 2 -> usage
+solve, --two-views, --two-views -> usage
+solve, --nodes, --two-views -> usage
+solve, --two -> usage
+solve, --two-view -> usage
+solve, --two_views -> usage
+solve, two-views -> usage
 solve, --number, 3 -> usage
 solve, -h -> usage
 solve, --help -> usage
@@ -120,14 +132,21 @@ redraw, 1, --workers, 0 -> usage
 redraw, 1, --pages -> usage
 redraw, --decimals=2, 1 -> redraw 1 1 1000000 4096 decimals 2
 redraw, 1, --decimals, 7 -> usage
+redraw, --two-views, 3 -> redraw 3 1 1000000 4096 two
+redraw, --two-views -> usage
 stl, 1 -> stl 1 1 1000000 4096
 stl, 1, --decimals, 2 -> usage
+stl, 2, --two-views -> stl 2 1 1000000 4096 two
 prove -> prove 1 1000000 4096
 prove, --solids=7, --workers, 3, --nodes, 5 -> prove 3 5 7
 prove, --decimals, 0 -> usage
 prove, --pages -> usage
 prove, 1 -> usage
+prove, --two-views, --nodes=5 -> prove 1 5 4096 two
 check -> check
+check, --two-views -> check two
+check, --two-views, --two-views -> usage
+check, --two-views, 2 -> usage
 check, 1 -> usage
 check, --workers, 2 -> usage
 check, check -> usage
@@ -136,6 +155,7 @@ ask, --solids=7, --workers, 3, --nodes, 5 -> ask 3 5 7
 ask, --decimals, 0 -> usage
 ask, --pages -> usage
 ask, 1 -> usage
+ask, --two-views, --nodes, 5 -> ask 1 5 4096 two
 redraw, -- , 1 -> usage
 redraw, 1, --nodes -> usage
 redraw, 1.0 -> usage
@@ -152,6 +172,7 @@ make, 7, --nodes, 3 -> usage
 make, 7, --workers, 2 -> usage
 make, --n=7 -> usage
 make, 7, --decimals, 0 -> usage
+make, --two-views, 3 -> usage
 trial, 7 -> trial 7 1
 trial, 007 -> trial 7 1
 trial -> usage
@@ -161,6 +182,7 @@ trial, --workers=64, 7 -> trial 7 64
 trial, 7, --workers, 65 -> usage
 trial, 7, --pages -> usage
 trial, 7, --decimals=0 -> usage
+trial, 7, --two-views -> usage
 trail, 7 -> usage
 +3 -> usage
 -- -> usage
@@ -191,6 +213,12 @@ fn push_decimals(text: &mut String, decimals: u8) -> Result<(), Fail> {
     Ok(write!(text, " decimals {decimals}")?)
 }
 
+/// Adds how a drawing is read: how many decimals there are, and whether two views are enough.
+fn push_reading(text: &mut String, decimals: u8, two_views: bool) -> Result<(), Fail> {
+    push_decimals(text, decimals)?;
+    Ok(text.push_str(if two_views { " two" } else { "" })?)
+}
+
 /// Adds a search for all solids, with pages or without.
 fn push_solve(
     text: &mut String,
@@ -198,11 +226,12 @@ fn push_solve(
     limits: Limits,
     pages: bool,
     decimals: u8,
+    two_views: bool,
 ) -> Result<(), Fail> {
     text.push_str("solve")?;
     push_search(text, workers, limits)?;
     text.push_str(if pages { " pages" } else { "" })?;
-    push_decimals(text, decimals)
+    push_reading(text, decimals, two_views)
 }
 
 /// Adds what is asked of one solid, by its number.
@@ -213,10 +242,24 @@ fn push_one(
     workers: u32,
     limits: Limits,
     decimals: u8,
+    two_views: bool,
 ) -> Result<(), Fail> {
     write!(text, "{name} {which}")?;
     push_search(text, workers, limits)?;
-    push_decimals(text, decimals)
+    push_reading(text, decimals, two_views)
+}
+
+/// Adds a search without pages, decimals or the number of a solid.
+fn push_searched(
+    text: &mut String,
+    name: &str,
+    workers: u32,
+    limits: Limits,
+    two_views: bool,
+) -> Result<(), Fail> {
+    text.push_str(name)?;
+    push_search(text, workers, limits)?;
+    push_reading(text, 0, two_views)
 }
 
 /// Adds what a job is.
@@ -227,27 +270,35 @@ fn push_job(text: &mut String, job: Job) -> Result<(), Fail> {
             limits,
             pages,
             decimals,
-        } => push_solve(text, workers, limits, pages, decimals),
+            two_views,
+        } => push_solve(text, workers, limits, pages, decimals, two_views),
         Job::Redraw {
             which,
             workers,
             limits,
             decimals,
-        } => push_one(text, "redraw", which, workers, limits, decimals),
+            two_views,
+        } => push_one(text, "redraw", which, workers, limits, decimals, two_views),
         Job::Stl {
             which,
             workers,
             limits,
-        } => push_one(text, "stl", which, workers, limits, 0),
-        Job::Prove { workers, limits } => {
-            text.push_str("prove")?;
-            push_search(text, workers, limits)
+            two_views,
+        } => push_one(text, "stl", which, workers, limits, 0, two_views),
+        Job::Prove {
+            workers,
+            limits,
+            two_views,
+        } => push_searched(text, "prove", workers, limits, two_views),
+        Job::Check { two_views } => {
+            text.push_str("check")?;
+            push_reading(text, 0, two_views)
         }
-        Job::Check => Ok(text.push_str("check")?),
-        Job::Ask { workers, limits } => {
-            text.push_str("ask")?;
-            push_search(text, workers, limits)
-        }
+        Job::Ask {
+            workers,
+            limits,
+            two_views,
+        } => push_searched(text, "ask", workers, limits, two_views),
         Job::Make { n } => Ok(write!(text, "make {n}")?),
         Job::Trial { n, workers } => Ok(write!(text, "trial {n} {workers}")?),
     }

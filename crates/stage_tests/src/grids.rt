@@ -10,7 +10,7 @@ use solid_model::{
 use std::alloc::{AllocError, Global};
 use std::test::Fail;
 use test_files::{Row, drawing_file, file_bytes, rows_tell};
-use views::drawing;
+use views::drawing_of_views;
 use virtual_faces::faces_of;
 
 /// A row a drawing, by its strokes in front, from the top and from the side, and then its grid: the
@@ -18,7 +18,7 @@ use virtual_faces::faces_of;
 /// (`=` solid, `-` dashed, `.` blank). First the unit cube; then a step, with unequal cells along
 /// each axis: on a slab of 5 by 5 by 3, at its corner in front on the left, a block of 2 by 1 by 1,
 /// behind which an edge is hidden; then strokes that are flat along z, where x is read from two
-/// views and a style changes at 1.
+/// views and a style changes at 1; then the step without its side.
 const GRIDS: &str = "\
 rect S 0 0 1 1; rect S 0 0 1 1; rect S 0 0 1 1 -> [0, 1] [0, 1] [0, 1] front ==/== top ==/== side ==/==
 line S 0 0 5 0, line D 0 3 2 3, line S 2 3 5 3, line S 0 4 2 4, line S 0 0 0 4, line S 2 3 2 4, \
@@ -27,7 +27,12 @@ line S 0 0 5 0, line D 0 3 2 3, line S 2 3 5 3, line S 0 4 2 4, line S 0 0 0 4, 
     line S 0 0 5 0, line S 0 3 5 3, line S 0 4 1 4, line S 0 0 0 4, line S 1 3 1 4, line S 5 0 5 3 \
     -> [0, 2, 5] [0, 1, 5] [0, 3, 4] front ==-==./==.==. top ===.==/===.== side =====./==.==.
 line D 0 0 1 0, line S 1 0 3 0; line S 0 0 2 0; line S 0 0 1 0 \
-    -> [0, 1, 2, 3] [0, 1] [0] front -==/ top ==..../.... side =/";
+    -> [0, 1, 2, 3] [0, 1] [0] front -==/ top ==..../.... side =/
+line S 0 0 5 0, line D 0 3 2 3, line S 2 3 5 3, line S 0 4 2 4, line S 0 0 0 4, line S 2 3 2 4, \
+    line S 5 0 5 3; \
+    line S 0 0 5 0, line S 0 1 2 1, line S 0 5 5 5, line S 0 0 0 5, line S 2 0 2 1, line S 5 0 5 5; \
+    line S 3 3 3 3 \
+    -> [0, 2, 5] [0, 1, 5] [0, 3, 4] front ==-==./==.==. top ===.==/===.== side ....../......";
 
 /// The lines of a drawing by its strokes in front, from the top and from the side.
 fn lines_in(alloc: Global, views: [&str; 3]) -> Result<Vec<SheetLine>, Fail> {
@@ -35,10 +40,10 @@ fn lines_in(alloc: Global, views: [&str; 3]) -> Result<Vec<SheetLine>, Fail> {
     Ok(entities(alloc, &mut Groups::new(file), 0)?)
 }
 
-/// The drawing.
+/// The drawing, of which one view may be missing.
 pub fn drawing_in(alloc: Global, views: [&str; 3]) -> Result<Drawing, Fail> {
     let lines = lines_in(alloc, views)?;
-    Ok(drawing(alloc, lines.as_slice())?)
+    Ok(drawing_of_views(alloc, lines.as_slice(), true)?)
 }
 
 /// The grid of a row's drawing.
@@ -102,7 +107,8 @@ fn drawings_have_their_grids(rt: HostRuntime) -> Result<(), Fail> {
 }
 
 /// A row a drawing, by its strokes in front, from the top and from the side; and how many pseudo
-/// edges and then how many virtual faces its grid has along, or across, x, y and z.
+/// edges and then how many virtual faces its grid has along, or across, x, y and z. In the last two
+/// a view is missing, which hides no edge.
 const COUNTS: &str = "\
 rect S 0 0 1 1; rect S 0 0 1 1; rect S 0 0 1 1 -> 4 4 4 2 2 2
 rect S 0 0 3 3, rect D 1 1 2 2; rect S 0 0 3 3, rect D 1 1 2 2; rect S 0 0 3 3, rect D 1 1 2 2 -> \
@@ -122,7 +128,9 @@ lattice 2 2; rect S 0 0 5 4, rect D 1 1 2 2, rect D 3 1 4 2, rect D 1 3 2 4, rec
     72 80 72 56 62 56
 lattice 2 2, rect S 6 6 9 9, rect D 7 7 8 8, rect S 10 10 11 11; \
     lattice 2 2, rect S 6 6 9 9, rect D 7 7 8 8, rect S 10 10 11 11; \
-    lattice 2 2, rect S 6 6 9 9, rect D 7 7 8 8, rect S 10 10 11 11 -> 112 112 112 88 88 88";
+    lattice 2 2, rect S 6 6 9 9, rect D 7 7 8 8, rect S 10 10 11 11 -> 112 112 112 88 88 88
+rect S 0 0 2 1; rect S 0 0 2 3, line S 1 0 1 3; line S 3 3 3 3 -> 8 6 4 2 4 4
+line S 3 3 3 3; rect S 0 0 2 3; rect S 0 0 3 1, line S 1 0 1 1 -> 4 8 6 4 2 4";
 
 /// How many edges along an axis are pseudo edges, and how many faces across it are virtual: of
 /// those whose numbers are below 64, as all of a grid's are.

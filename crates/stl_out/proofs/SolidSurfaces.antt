@@ -1,5 +1,5 @@
 -- What the text of a solid shows: triangles that close, of rectangles that cover its boundary.
-use Rattle.std.proofs.Common.{◌≡◌, Bool, ℕ, ℤ, List, map, subst, ◌<ℤ◌, IsTrue}
+use Rattle.std.proofs.Common.{◌≡◌, Bool, true, false, ℕ, ℤ, List, map, refl, subst, ◌<ℤ◌, IsTrue}
 use Rattle.face_laws.specs.GridFaces.{Planes, point_of_numbers, grid_planes, numbered_fullness}
 use Rattle.face_laws.specs.GridRounds.{Rises}
 use Rattle.face_laws.proofs.GridLines.{on_line, one_between, some_between}
@@ -7,18 +7,24 @@ use Rattle.face_laws.proofs.GridPlanes.{planes_rise, union_cells}
 use Rattle.solid_model.specs.declared.cell.Axis.{Axis}
 use Rattle.solid_model.specs.declared.cell.Axis.TheVariants.{X, Y, Z}
 use Rattle.solid_model.specs.declared.cell.Cell.{Cell}
+use Rattle.solid_model.specs.declared.frame.View.{View}
+use Rattle.solid_model.specs.declared.frame.View.TheVariants.{Front, Top}
+use Rattle.solid_model.specs.declared.segment.Segment.{Segment}
 use Rattle.solid_model.specs.Cells.{is_full, IsSolid}
 use Rattle.solid_model.specs.DrawnStyle.{solid_drawing}
 use Rattle.solid_model.specs.Frames.{frame_of}
 use Rattle.solid_model.specs.Grid.{Coordinates, AreGridCoordinates, IsUnionOf}
 use Rattle.lemmas.specs.Lists.{Member, Ascends}
 use Rattle.solid_model.specs.Matching.{Matches}
+use Rattle.solid_model.specs.Moved.{Shows, SeesEachAxis}
+use Rattle.solid_model.specs.Segments.{segment_at}
 use Rattle.solid_model.proofs.ChosenSolids.{matching_union}
 use Rattle.solid_model.proofs.Corners.{corners}
-use Rattle.solid_model.proofs.Fullness.{is_full-member}
+use Rattle.solid_model.proofs.Fullness.{full_cell_of, is_full-member}
 use Rattle.lemmas.proofs.Lists.{member-map}
-use Rattle.solid_model.proofs.Styles.{drawn_style_drawn}
+use Rattle.solid_model.proofs.Styles.{edge_not_blank, drawn_style_drawn}
 use Rattle.solid_model.proofs.Views.{views_are_frames}
+use Rattle.solid_model.proofs.WithinViews.{Least, outermost}
 use Rattle.stl_out.specs.declared.rectangle.Rectangle.{Rectangle}
 use Rattle.stl_out.specs.Closed.{Close, CoverBoundary}
 use Rattle.stl_out.specs.Rectangles.{AreRectanglesOf, all_triangles}
@@ -65,14 +71,27 @@ module _ (s : List Cell) (coordinates : Coordinates) (are : (a : Axis) → AreGr
   module _ (is_solid : IsSolid s) where
     -- a solid matches its own drawing
     matches_own : Matches (solid_drawing s) s
-    matches_own = (is_solid, λ g. drawn_style_drawn (frame_of g.view) (views_are_frames g.view) s g)
+    matches_own = (is_solid, λ g shows. drawn_style_drawn (frame_of g.view) (views_are_frames g.view) s g)
+
+    -- each view shows something of it, an outermost edge, so its drawing sees each axis
+    shows_edge : (v : View) → Shows (solid_drawing s) v
+    shows_edge v =
+        let some = full_cell_of s is_solid in
+        let o = outermost (frame_of v) (views_are_frames v) s v true Least some.0 some.1 in
+        let g : Segment = segment_at v true o.start o.line in
+        (g, refl, edge_not_blank (frame_of v) (is_full s) g (solid_drawing s g) (drawn_style_drawn (frame_of v) (views_are_frames v) s g) o.depth o.edge)
+
+    sees_own : SeesEachAxis (solid_drawing s)
+    sees_own X = (Front, false, refl, shows_edge Front)
+    sees_own Y = (Top, true, refl, shows_edge Top)
+    sees_own Z = (Front, true, refl, shows_edge Front)
 
     -- so it is the union of the grid cells whose corners it fills
     abbrev chosen : List Bool
     chosen = map (is_full s) (corners coordinates ascends)
 
     union : IsUnionOf coordinates chosen (is_full s)
-    union = matching_union (solid_drawing s) coordinates are s matches_own
+    union = matching_union (solid_drawing s) sees_own coordinates are s matches_own
 
     of_chosen : AreRectanglesOf (numbered_fullness coordinates chosen) rs
     of_chosen = subst (λ (full : Cell → Bool). AreRectanglesOf full rs) (same_cells (solid_drawing s) coordinates are s matches_own chosen union) all

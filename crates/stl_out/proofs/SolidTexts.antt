@@ -1,20 +1,26 @@
 -- A solid has one STL text, and what is written of the grid cells that a choice fills is that of the solid which they make up.
-use Rattle.std.proofs.Common.{◌≡◌, Bool, ℕ, List, refl, sym, ◌∙◌, subst, ◌<ℤ◌}
+use Rattle.std.proofs.Common.{◌≡◌, ◌≢◌, ⊎_elim, inl, inr, Bool, true, false, not, ℕ, List, ℤ, pos, ◌-ℤ◌, ◌<ℤ◌, refl, sym, ◌∙◌, subst}
 use Rattle.face_laws.specs.GridFaces.{LiesInNumbered, grid_planes, numbered_fullness, point_of_numbers}
 use Rattle.face_laws.proofs.GridLines.{on_line}
 use Rattle.face_laws.proofs.GridPlanes.{planes_rise, union_cells}
 use Rattle.solid_model.specs.declared.cell.Axis.{Axis}
 use Rattle.solid_model.specs.declared.cell.Axis.TheVariants.{X, Y, Z}
 use Rattle.solid_model.specs.declared.cell.Cell.{Cell}
+use Rattle.solid_model.specs.declared.frame.View.{View}
 use Rattle.solid_model.specs.declared.segment.Segment.{Segment}
 use Rattle.solid_model.specs.declared.segment.Style.{Style}
+use Rattle.solid_model.specs.declared.segment.Style.TheVariants.{Blank}
 use Rattle.solid_model.specs.Cells.{is_full}
 use Rattle.solid_model.specs.DrawnStyle.{solid_drawing}
-use Rattle.solid_model.specs.Grid.{Coordinates, AreGridCoordinates, IsUnionOf}
+use Rattle.solid_model.specs.Grid.{Coordinates, IsGridCoordinate, AreGridCoordinates, IsUnionOf}
 use Rattle.lemmas.specs.Lists.{Ascends}
 use Rattle.solid_model.specs.Matching.{Matches}
+use Rattle.solid_model.specs.Moved.{Shows}
+use Rattle.solid_model.specs.Segments.{segment_at}
 use Rattle.solid_model.proofs.GridMatching.{matching_draws_it}
-use Rattle.solid_model.proofs.InGrid.{one_coordinates}
+use Rattle.solid_model.proofs.InGrid.{blank_or_drawn, one_coordinates}
+use Rattle.solid_model.proofs.StayingOnGrid.{coordinate_on_grid}
+use Rattle.solid_model.proofs.UnionDrawing.{union_on_grid}
 use Rattle.stl_out.specs.Rectangles.{AreRectanglesOf, all_triangles}
 use Rattle.stl_out.specs.SolidStl.{grid_fullness, IsSolidStl}
 use Rattle.stl_out.specs.StlText.{stl_text, IsStlOf}
@@ -43,11 +49,43 @@ module _ (coordinates : Coordinates) (ascends : (a : Axis) → Ascends ◌<ℤ�
 
 module _ (drawing : Segment → Style) (coordinates : Coordinates) (are : (a : Axis) → AreGridCoordinates drawing a (coordinates a)) (s : List Cell)
     (matches : Matches drawing s) (chosen : List Bool) (union : IsUnionOf coordinates chosen (is_full s)) where
-  -- the grid of a drawing that a solid matches is that of its own drawing
+  -- in a view that isn't missing the drawing is the solid's own
+  own_style : (v : View) → Shows drawing v → (upright : Bool) (start line : ℤ)
+      → solid_drawing s (segment_at v upright start line) ≡ drawing (segment_at v upright start line)
+  own_style v shows true start line = matching_draws_it drawing s matches (segment_at v true start line) shows
+  own_style v shows false start line = matching_draws_it drawing s matches (segment_at v false start line) shows
+
+  drawn_shows : (v : View) (upright : Bool) (start line : ℤ) → drawing (segment_at v upright start line) ≢ Blank → Shows drawing v
+  drawn_shows v true start line drawn = (segment_at v true start line, refl, drawn)
+  drawn_shows v false start line drawn = (segment_at v false start line, refl, drawn)
+
+  -- where the style changes one of the two segments isn't blank
+  change_shows : (v : View) (upright : Bool) (before start line : ℤ)
+      → drawing (segment_at v upright before line) ≢ drawing (segment_at v upright start line) → Shows drawing v
+  change_shows v upright before start line differ = ⊎_elim {C = Shows drawing v}
+      (λ first. ⊎_elim {C = Shows drawing v} (λ second. absurd (differ (first ∙ sym second))) (drawn_shows v upright start line)
+      (blank_or_drawn (drawing (segment_at v upright start line))))
+      (drawn_shows v upright before line) (blank_or_drawn (drawing (segment_at v upright before line)))
+
+  -- So a grid coordinate of the drawing is one of the solid's own.
+  own_coordinate : (a : Axis) (z : ℤ) → IsGridCoordinate drawing a z → IsGridCoordinate (solid_drawing s) a z
+  own_coordinate a z (v, upright, e, inl (start, drawn)) =
+      (v, upright, e, inl (start, λ blank. drawn (sym (own_style v (drawn_shows v (not upright) start z drawn) (not upright) start z) ∙ blank)))
+  own_coordinate a z (v, upright, e, inr (line, differ)) =
+      let shows = change_shows v upright (z -ℤ pos 1) z line differ in
+      (v, upright, e, inr (line, λ same. differ (sym (own_style v shows upright (z -ℤ pos 1) line) ∙ same ∙ own_style v shows upright z line)))
+
+  -- The grid of a drawing that a solid matches is that of the solid's own drawing. (What the solid draws in a view that is missing
+  -- stays on that grid, since the solid is a union of its cells.)
   own_coordinates : (a : Axis) → AreGridCoordinates (solid_drawing s) a (coordinates a)
-  own_coordinates a =
-      let same : drawing ≡ solid_drawing s = λ i g. sym (matching_draws_it drawing s matches g) i in
-      subst (λ (d : Segment → Style). AreGridCoordinates d a (coordinates a)) same (are a)
+  own_coordinates a = record {
+    ordered = (are a).ordered;
+    exact = λ z. (
+      (λ k. own_coordinate a z (((are a).exact z).0 k)),
+      coordinate_on_grid coordinates (λ b. (are b).ordered) (solid_drawing s)
+          (union_on_grid coordinates (λ b. (are b).ordered) chosen s union) a z,
+    );
+  }
 
   pub same_cells : grid_fullness coordinates (is_full s) ≡ numbered_fullness coordinates chosen
   same_cells = union_fullness coordinates (λ a. (are a).ordered) chosen (is_full s) union

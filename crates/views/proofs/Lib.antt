@@ -6,3 +6,4 @@ pub mod Joining
 pub mod Sweeping
 pub mod InOrder
 pub mod Kept
+pub mod Missing

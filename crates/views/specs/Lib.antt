@@ -3,3 +3,4 @@ pub mod Strokes
 pub mod LineStrokes
 pub mod Joined
 pub mod Sweeps
+pub mod Missing

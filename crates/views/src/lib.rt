@@ -8,4 +8,4 @@ mod strokes;
 mod sweep;
 mod views;
 
-pub use views::{drawing, view_of};
+pub use views::{drawing, drawing_of_views, view_of};

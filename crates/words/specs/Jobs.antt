@@ -35,35 +35,43 @@ pages_field = record { name = codes "pages"; range = None }
 abbrev pub decimals_field : Field
 decimals_field = record { name = codes "decimals"; range = Some (record { least = 0; most = most_decimals }) }
 
+-- `--two-views`, whether one view of a drawing may show nothing; it has no value
+abbrev pub two_views_field : Field
+two_views_field = record { name = codes "two-views"; range = None }
+
+-- what each command takes that reads a drawing
+abbrev pub reading_fields : List Field
+reading_fields = two_views_field ∷ []
+
 -- the options of a search within limits
 abbrev pub search_fields : List Field
 search_fields = workers_field ∷ nodes_field ∷ solids_field ∷ []
 
--- what `solve` takes: these, pages and decimals, and no number
+-- what `solve` takes: these, pages, decimals and how a drawing is read, and no number
 abbrev pub solve_table : Table
-solve_table = record { options = search_fields ++ pages_field ∷ decimals_field ∷ []; number = None }
+solve_table = record { options = search_fields ++ pages_field ∷ decimals_field ∷ reading_fields; number = None }
 
 -- what a search for one solid takes: these options, and the number of the solid, counted from 1
 abbrev pub one_table : List Field → Table
 one_table options = record { options = options; number = Some (record { least = 1; most = most_solid_limit }) }
 
--- what `redraw` takes: the options of a search and decimals
+-- what `redraw` takes: the options of a search, decimals and how a drawing is read
 abbrev pub redraw_table : Table
-redraw_table = one_table (search_fields ++ decimals_field ∷ [])
+redraw_table = one_table (search_fields ++ decimals_field ∷ reading_fields)
 
--- what `stl` takes: those of a search
+-- what `stl` takes: those of a search, and how a drawing is read
 abbrev pub stl_table : Table
-stl_table = one_table search_fields
+stl_table = one_table (search_fields ++ reading_fields)
 
--- what `prove` takes: those of a search, and no number
+-- what `prove` takes: the same, and no number
 abbrev pub prove_table : Table
-prove_table = record { options = search_fields; number = None }
+prove_table = record { options = search_fields ++ reading_fields; number = None }
 
--- what `check` takes: nothing
+-- what `check` takes: how a drawing is read
 abbrev pub check_table : Table
-check_table = record { options = []; number = None }
+check_table = record { options = reading_fields; number = None }
 
--- what `ask` takes: those of a search, and no number
+-- what `ask` takes: what `prove` does
 abbrev pub ask_table : Table
 ask_table = prove_table
 
@@ -89,6 +97,10 @@ limits_in us = record { nodes = number_or us (codes "nodes") default_limits.node
 abbrev pub pages_in : List Use → Bool
 pages_in us = is_used (codes "pages") us
 
+-- one view may show nothing
+abbrev pub two_views_in : List Use → Bool
+two_views_in us = is_used (codes "two-views") us
+
 -- the number that stands there
 abbrev pub number_in : List Use → ℕ
 number_in us = number_or us number_name 1
@@ -105,12 +117,12 @@ pub record Command : Type 0 where
 
 -- all of them
 abbrev pub commands : List Command
-commands = record { name = codes "solve"; table = solve_table; job = λ us. job.Solve (workers_in us) (limits_in us) (pages_in us) (decimals_in us) }
-    ∷ record { name = codes "redraw"; table = redraw_table; job = λ us. job.Redraw (number_in us) (workers_in us) (limits_in us) (decimals_in us) }
-    ∷ record { name = codes "stl"; table = stl_table; job = λ us. job.Stl (number_in us) (workers_in us) (limits_in us) }
-    ∷ record { name = codes "prove"; table = prove_table; job = λ us. job.Prove (workers_in us) (limits_in us) }
-    ∷ record { name = codes "check"; table = check_table; job = λ us. job.Check }
-    ∷ record { name = codes "ask"; table = ask_table; job = λ us. job.Ask (workers_in us) (limits_in us) }
+commands = record { name = codes "solve"; table = solve_table; job = λ us. job.Solve (workers_in us) (limits_in us) (pages_in us) (decimals_in us) (two_views_in us) }
+    ∷ record { name = codes "redraw"; table = redraw_table; job = λ us. job.Redraw (number_in us) (workers_in us) (limits_in us) (decimals_in us) (two_views_in us) }
+    ∷ record { name = codes "stl"; table = stl_table; job = λ us. job.Stl (number_in us) (workers_in us) (limits_in us) (two_views_in us) }
+    ∷ record { name = codes "prove"; table = prove_table; job = λ us. job.Prove (workers_in us) (limits_in us) (two_views_in us) }
+    ∷ record { name = codes "check"; table = check_table; job = λ us. job.Check (two_views_in us) }
+    ∷ record { name = codes "ask"; table = ask_table; job = λ us. job.Ask (workers_in us) (limits_in us) (two_views_in us) }
     ∷ record { name = codes "make"; table = make_table; job = λ us. job.Make (number_in us) }
     ∷ record { name = codes "trial"; table = trial_table; job = λ us. job.Trial (number_in us) (workers_in us) } ∷ []
 
@@ -135,11 +147,11 @@ AreWorkers workers = (1 ≤ workers) × (workers ≤ most_workers)
 -- the numbers that a job asks for can be met: it counts solids from 1, as many work at it as may, coordinates have no more
 -- decimals than they may, and a log lists no more solids than it may
 abbrev pub IsCounted : Job → Type 0
-IsCounted (job.Solve workers limits pages decimals) = AreWorkers workers × (decimals ≤ most_decimals)
-IsCounted (job.Redraw which workers limits decimals) = (1 ≤ which) × AreWorkers workers × (decimals ≤ most_decimals)
-IsCounted (job.Stl which workers limits) = (1 ≤ which) × AreWorkers workers
-IsCounted (job.Prove workers limits) = AreWorkers workers × (limits.solids ≤ most_solid_limit)
-IsCounted job.Check = Unit {0}
-IsCounted (job.Ask workers limits) = AreWorkers workers
+IsCounted (job.Solve workers limits pages decimals two) = AreWorkers workers × (decimals ≤ most_decimals)
+IsCounted (job.Redraw which workers limits decimals two) = (1 ≤ which) × AreWorkers workers × (decimals ≤ most_decimals)
+IsCounted (job.Stl which workers limits two) = (1 ≤ which) × AreWorkers workers
+IsCounted (job.Prove workers limits two) = AreWorkers workers × (limits.solids ≤ most_solid_limit)
+IsCounted (job.Check two) = Unit {0}
+IsCounted (job.Ask workers limits two) = AreWorkers workers
 IsCounted (job.Make n) = Unit {0}
 IsCounted (job.Trial n workers) = AreWorkers workers

@@ -12,7 +12,8 @@ use crate::table::{Range, Row, Rows};
 use solid_model::Limits;
 use std::alloc::Global;
 
-/// What the words ask for.
+/// What the words ask for. Where a drawing is read, they say whether two views of it are enough:
+/// then one of the three may show nothing.
 #[derive(Clone, Copy, Debug)]
 pub enum Job {
     /// A search for the solids of a drawing whose coordinates have so many decimals, by so many
@@ -22,6 +23,7 @@ pub enum Job {
         limits: Limits,
         pages: bool,
         decimals: u8,
+        two_views: bool,
     },
     /// The drawing of one of these solids, by its number, counted from 1.
     Redraw {
@@ -29,24 +31,30 @@ pub enum Job {
         workers: u32,
         limits: Limits,
         decimals: u8,
+        two_views: bool,
     },
     /// The boundary of one of these solids as triangles, by its number.
     Stl {
         which: u32,
         workers: u32,
         limits: Limits,
+        two_views: bool,
     },
     /// What shows that a search for all these solids was complete.
     Prove {
         workers: u32,
         limits: Limits,
+        two_views: bool,
     },
     /// The check of what is said to show that, behind a drawing.
-    Check,
+    Check {
+        two_views: bool,
+    },
     /// What readers of the growing list of these solids are asked, behind a drawing.
     Ask {
         workers: u32,
         limits: Limits,
+        two_views: bool,
     },
     /// The drawing that is made from a number.
     Make {
@@ -98,39 +106,57 @@ const DECIMALS_ROW: Row<'static> = Row {
     range: Some(DECIMALS),
 };
 
+const TWO_VIEWS_ROW: Row<'static> = Row {
+    name: "two-views",
+    range: None,
+};
+
 /// What `solve` takes.
 static SOLVE: Rows<'static> = Rows {
-    options: &[WORKERS_ROW, NODES_ROW, SOLIDS_ROW, PAGES_ROW, DECIMALS_ROW],
+    options: &[
+        WORKERS_ROW,
+        NODES_ROW,
+        SOLIDS_ROW,
+        PAGES_ROW,
+        DECIMALS_ROW,
+        TWO_VIEWS_ROW,
+    ],
     number: None,
 };
 
 /// What `redraw` takes.
 static REDRAW: Rows<'static> = Rows {
-    options: &[WORKERS_ROW, NODES_ROW, SOLIDS_ROW, DECIMALS_ROW],
+    options: &[
+        WORKERS_ROW,
+        NODES_ROW,
+        SOLIDS_ROW,
+        DECIMALS_ROW,
+        TWO_VIEWS_ROW,
+    ],
     number: Some(SOLIDS),
 };
 
 /// What `stl` takes.
 static STL: Rows<'static> = Rows {
-    options: &[WORKERS_ROW, NODES_ROW, SOLIDS_ROW],
+    options: &[WORKERS_ROW, NODES_ROW, SOLIDS_ROW, TWO_VIEWS_ROW],
     number: Some(SOLIDS),
 };
 
 /// What `prove` takes.
 static PROVE: Rows<'static> = Rows {
-    options: &[WORKERS_ROW, NODES_ROW, SOLIDS_ROW],
+    options: &[WORKERS_ROW, NODES_ROW, SOLIDS_ROW, TWO_VIEWS_ROW],
     number: None,
 };
 
 /// What `check` takes.
 static CHECK: Rows<'static> = Rows {
-    options: &[],
+    options: &[TWO_VIEWS_ROW],
     number: None,
 };
 
 /// What `ask` takes.
 static ASK: Rows<'static> = Rows {
-    options: &[WORKERS_ROW, NODES_ROW, SOLIDS_ROW],
+    options: &[WORKERS_ROW, NODES_ROW, SOLIDS_ROW, TWO_VIEWS_ROW],
     number: None,
 };
 
@@ -163,6 +189,7 @@ fn job_by(alloc: Global, command: &str, words: &[String]) -> Result<Job, WordFau
                 limits: said.limits,
                 pages: said.pages,
                 decimals: said.decimals,
+                two_views: said.two_views,
             })
         }
         "redraw" => {
@@ -172,6 +199,7 @@ fn job_by(alloc: Global, command: &str, words: &[String]) -> Result<Job, WordFau
                 workers: said.workers,
                 limits: said.limits,
                 decimals: said.decimals,
+                two_views: said.two_views,
             })
         }
         "stl" => {
@@ -180,6 +208,7 @@ fn job_by(alloc: Global, command: &str, words: &[String]) -> Result<Job, WordFau
                 which: said.number as u32,
                 workers: said.workers,
                 limits: said.limits,
+                two_views: said.two_views,
             })
         }
         "prove" => {
@@ -187,17 +216,21 @@ fn job_by(alloc: Global, command: &str, words: &[String]) -> Result<Job, WordFau
             Ok(Job::Prove {
                 workers: said.workers,
                 limits: said.limits,
+                two_views: said.two_views,
             })
         }
         "check" => {
-            said_by(alloc, &CHECK, words)?;
-            Ok(Job::Check)
+            let said = said_by(alloc, &CHECK, words)?;
+            Ok(Job::Check {
+                two_views: said.two_views,
+            })
         }
         "ask" => {
             let said = said_by(alloc, &ASK, words)?;
             Ok(Job::Ask {
                 workers: said.workers,
                 limits: said.limits,
+                two_views: said.two_views,
             })
         }
         "make" => {
@@ -220,12 +253,12 @@ fn job_by(alloc: Global, command: &str, words: &[String]) -> Result<Job, WordFau
 /// `solve` takes `--workers` from 1 to 64, by default 1, `--nodes` from 1 to 4,000,000, by default
 /// 1,000,000, `--solids` from 1 to 65,536, by default 4,096, `--decimals` from 0 to 6, by default
 /// 0, and `--pages`, which has no value. `redraw` takes these but `--pages`, `stl` the first three,
-/// and both a number from 1 to 65,536, which must be there. `prove` and `ask` take the first three,
-/// and `check` nothing. `make` and `trial` take a number below
-/// 2 to the power 64, which must be there, and `trial` takes `--workers`. Options and the number
-/// stand in any order, each at most once; an option is written as `--name value` or as
-/// `--name=value`. A value is one or more digits; leading zeros count for nothing. `Usage` comes
-/// exactly where the words aren't taken.
+/// and both a number from 1 to 65,536, which must be there. `prove` and `ask` take the first three.
+/// These five and `check`, which takes nothing else, take `--two-views`, which has no value either.
+/// `make` and `trial` take a number below 2 to the power 64, which must be there, and `trial` takes
+/// `--workers`. Options and the number stand in any order, each at most once; an option is written
+/// as `--name value` or as `--name=value`, and one without a value as `--name`. A value is one or
+/// more digits; leading zeros count for nothing. `Usage` comes exactly where the words aren't taken.
 pub fn job_of(alloc: Global, words: &[String]) -> Result<Job, WordFault>
     ensures { MatchResult result
         (λ job. job_said (map string_bytes words.now) ≡ Some job)

@@ -21,6 +21,7 @@ pub struct Said {
     pub limits: Limits,
     pub pages: bool,
     pub decimals: u8,
+    pub two_views: bool,
     pub number: u64,
 }
 
@@ -57,14 +58,17 @@ pub fn said_by(alloc: Global, table: &Rows<'_>, words: &[String]) -> Result<Said
     let decimals = number_or(&matches, "decimals", DECIMALS.least, DECIMALS.most, 0);
     let range = table.number.unwrap_or(Range { least: 1, most: 1 });
     let number = number_or(&matches, "number", range.least, range.most, 1);
+    let pages = matches.get_flag("pages");
+    let two_views = matches.get_flag("two-views");
     Ok(Said {
         workers: workers as u32,
         limits: Limits {
             nodes,
             solids: solids as u32,
         },
-        pages: matches.get_flag("pages"),
+        pages,
         decimals: decimals as u8,
+        two_views,
         number,
     })
 }

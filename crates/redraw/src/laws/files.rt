@@ -2,11 +2,13 @@
 
 ghost use Rattle.std.specs.Prelude.{◌≡◌, List, ℕ, false, pos, codes};
 ghost use Rattle.solid_model.specs.declared.cell.Cell.{Cell};
+ghost use Rattle.solid_model.specs.declared.frame.View.{View};
 ghost use Rattle.solid_model.specs.declared.frame.View.TheVariants.{Top};
 ghost use Rattle.solid_model.specs.declared.segment.Segment.{Segment};
 ghost use Rattle.solid_model.specs.declared.segment.Style.{Style};
 ghost use Rattle.solid_model.specs.Cells.{SameCells};
 ghost use Rattle.solid_model.specs.Matching.{Matches};
+ghost use Rattle.solid_model.specs.Moved.{Shows};
 ghost use Rattle.redraw.specs.Files.{IsFileOf, right_on_sheet, run_line, up_on_sheet};
 ghost use Rattle.redraw.specs.Plain.{line_text};
 ghost use Rattle.redraw.specs.SmallFiles.{brick, brick_file, hidden_line, lower_side};
@@ -19,10 +21,12 @@ pub fn one_written_file()
         → a ≡ b }
 {}
 
-/// Solids that match one drawing have one written file: the drawing has one list of runs, and shows
-/// in front how far the solids reach.
+/// Solids that match one drawing have one written file, where the drawing shows all three views: it
+/// has one list of runs, and shows in front how far the solids reach. Where a view is missing they
+/// may differ in it, and a solid's file draws all three views: so it completes the drawing.
 pub fn matching_solids_have_one_file()
-    ensures { (drawing : Segment → Style) (s t : List Cell) → Matches drawing s → Matches drawing t
+    ensures { (drawing : Segment → Style) → ((v : View) → Shows drawing v) → (s t : List Cell)
+        → Matches drawing s → Matches drawing t
         → (decimals : ℕ) (a b : List ℕ)
         → IsFileOf decimals s a → IsFileOf decimals t b → a ≡ b }
 {}

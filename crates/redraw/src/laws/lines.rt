@@ -1,6 +1,6 @@
 //! Laws of the lines of a written sheet.
 
-ghost use Rattle.std.specs.Prelude.{◌≤◌, Bool, List, length, ℤ};
+ghost use Rattle.std.specs.Prelude.{◌≤◌, Bool, false, List, length, ℤ};
 ghost use Rattle.solid_model.specs.declared.cell.Cell.{Cell};
 ghost use Rattle.solid_model.specs.declared.frame.View.{View};
 ghost use Rattle.solid_model.specs.Cells.{is_full, IsSolid};
@@ -18,7 +18,7 @@ ghost use Rattle.redraw.specs.Sheets.{IsNotNegative, IsDrawnLine};
 /// is the solid's own, moved to least coordinates 0.
 pub fn sheet_lines_draw_the_solid()
     ensures shown { (s : List Cell) → IsSolid s → (far_x far_z : ℤ) (d : DrawingRuns)
-        → IsSheetOf s far_x far_z d → IsShown (sheet_lines far_x far_z d) }
+        → IsSheetOf s far_x far_z d → IsShown false (sheet_lines far_x far_z d) }
     ensures drawing { (s : List Cell) → IsSolid s → (far_x far_z : ℤ) (d : DrawingRuns)
         → IsSheetOf s far_x far_z d
         → (v : View)

@@ -12,7 +12,7 @@ ghost use Rattle.solid_model.specs.Cells.{coordinate, is_full};
 ghost use Rattle.solid_model.specs.Draws.{DrawsView};
 ghost use Rattle.solid_model.specs.Frames.{IsFrame, frame_of};
 ghost use Rattle.solid_model.specs.Matching.{Matches};
-ghost use Rattle.solid_model.specs.Moved.{StandsFrom, BeginsAt};
+ghost use Rattle.solid_model.specs.Moved.{StandsFrom, BeginsAt, SeesEachAxis};
 ghost use Rattle.solid_model.specs.Runs.{IsDrawing};
 
 /// A solid lies within what a view shows of it, since an outermost full cell draws an outermost
@@ -24,8 +24,8 @@ pub fn solids_lie_within_their_views()
         → DrawsView f (is_full s) drawing v
         → (width height : ℤ) → FitsIn drawing v width height → (c : Cell) → IsTrue (is_full s c)
         → StandsBetween (pos 0) width f.right c × StandsBetween (pos 0) height f.up c }
-    ensures three_views { (drawing : Segment → Style) (s : List Cell) → Matches drawing s
-        → (extent : Axis → ℤ)
+    ensures three_views { (drawing : Segment → Style) → SeesEachAxis drawing → (s : List Cell)
+        → Matches drawing s → (extent : Axis → ℤ)
         → ((v : View)
         → FitsIn drawing v (extent (frame_of v).right.axis) (extent (frame_of v).up.axis))
         → (c : Cell) → IsTrue (is_full s c) → LiesInBox extent c }
@@ -53,7 +53,7 @@ pub fn solids_begin_where_their_views_do()
 /// A solid that matches a drawing begins at 0 along each axis: no cell has a coordinate below 0,
 /// and some cell has 0.
 pub fn matching_solids_begin_at_zero()
-    ensures none_below { (drawing : Segment → Style) (s : List Cell)
+    ensures none_below { (drawing : Segment → Style) → SeesEachAxis drawing → (s : List Cell)
         → ((v : View) → StandsFrom drawing v (pos 0) (pos 0))
         → Matches drawing s → (c : Cell) → IsTrue (is_full s c) → (a : Axis)
         → pos 0 ≤ℤ coordinate a c }

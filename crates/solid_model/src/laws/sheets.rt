@@ -1,12 +1,12 @@
 //! Laws of the drawing of lines, and of drawings that are moved to least coordinates 0.
 
-ghost use Rattle.std.specs.Prelude.{◌≡◌, ◌≢◌, false, true, List, [], ◌∷◌, pos};
+ghost use Rattle.std.specs.Prelude.{◌≡◌, Bool, false, true, List, [], ◌∷◌, pos};
 ghost use Rattle.solid_model.specs.declared.frame.View.{View};
 ghost use Rattle.solid_model.specs.declared.frame.View.TheVariants.{Front, Top, Side};
 ghost use Rattle.solid_model.specs.declared.segment.Segment.{Segment};
 ghost use Rattle.solid_model.specs.declared.segment.Style.{Style};
 ghost use Rattle.solid_model.specs.declared.segment.Style.TheVariants.{Blank, Dashed, Solid};
-ghost use Rattle.solid_model.specs.Drawings.{sheet_style, covering_lines, least_right, least_up, drawing_of, IsEmptyView, IsFirstEmptyView};
+ghost use Rattle.solid_model.specs.Drawings.{sheet_style, least_right, least_up, drawing_of, IsEmptyView, IsFirstEmptyView, IsShown, LacksView};
 ghost use Rattle.solid_model.specs.Line.{Line, IsKept};
 ghost use Rattle.lemmas.specs.Lists.{Each};
 ghost use Rattle.solid_model.specs.Moved.{StandsFrom, BeginsAt, IsMovedToZero};
@@ -40,16 +40,17 @@ pub fn views_begin_at_the_least_lines()
         → IsMovedToZero (sheet_style ls) (drawing_of ls) v }
 {}
 
-/// The drawing of a file's lines keeps what a drawing of three views keeps, where each view has a
-/// line that covers something.
+/// The drawing of a file's lines keeps what a drawing of three views keeps, where each view shows
+/// something, or where one may be missing and no two are.
 pub fn lines_have_a_drawing()
-    ensures { (ls : List Line) → Each IsKept ls → ((v : View) → covering_lines v ls ≢ [])
+    ensures { (two : Bool) (ls : List Line) → Each IsKept ls → IsShown two ls
         → IsDrawing (drawing_of ls) }
 {}
 
 /// A small sheet, worked out by hand. Solid wins where lines overlap, whatever their directions,
 /// and dashed stays beyond; a line of no length covers nothing and doesn't count for the place at
-/// which the view begins. Of two empty views the one from above is the first.
+/// which the view begins. Of two empty views the one from above is the first, and lacked even where
+/// one may be missing.
 pub fn small_sheet()
     ensures least { least_right Front small_sheet ∷ least_up Front small_sheet ∷ [] ≡ pos 5 ∷ pos 7
         ∷ [] }
@@ -65,4 +66,6 @@ pub fn small_sheet()
         ∷ none_drawn ∷ [] }
     ensures first_empty { IsFirstEmptyView small_sheet Top }
     ensures not_side { IsFirstEmptyView small_sheet Side → ⊥ }
+    ensures lacked { LacksView true small_sheet Top }
+    ensures not_shown { IsShown true small_sheet → ⊥ }
 {}

@@ -1,5 +1,5 @@
 -- The text isn't too long.
-use Rattle.std.proofs.Common.{ℕ, Vec, Global, Err, IsErrOf, subst}
+use Rattle.std.proofs.Common.{ℕ, Vec, false, Global, Err, IsErrOf, subst}
 use Rattle.std.proofs.lemmas.Result.{err_from_is_err_and}
 use Rattle.dxf_entities.specs.Forms.{three_views}
 use Rattle.file_problem.specs.Inputs.{HasProblem, IsFileFault, input_in}
@@ -15,11 +15,11 @@ pub returns-in_err-problem-clause-not_long : goal.returns-in_err-problem-clause-
 returns-in_err-problem-clause-not_long c is =
     let q = err_from_is_err_and c.from_residual.result c.from_residual.ensures.1 in
     let faulty : IsErrOf {T = ProblemParts × FurtherParts × Vec ℕ Global} (Err c.in_err-problem.field-0.0) (refused.Fault TooLong) = cc in
-    short_is_not_long (input_in (three_views 0) most_text_bytes c.args.text.items) c.requires
-    (subst (λ form. IsFileFault (input_in form most_text_bytes c.args.text.items) TooLong) c.three_views-form.ensures
+    short_is_not_long (input_in (three_views 0) false most_text_bytes c.args.text.items) c.requires
+    (subst (λ form. IsFileFault (input_in form false most_text_bytes c.args.text.items) TooLong) c.three_views-form.ensures
     (c.in_err-problem.ensures.fault most_text_bytes c.requires TooLong faulty))
 
 pub returns-clause-problem : goal.returns-clause-problem
 returns-clause-problem c =
-    subst (λ form. HasProblem (input_in form most_text_bytes c.args.text.items) c.in_ok-problem.problem) c.three_views-form.ensures
+    subst (λ form. HasProblem (input_in form false most_text_bytes c.args.text.items) c.in_ok-problem.problem) c.three_views-form.ensures
     (c.in_ok-problem.ensures.problem most_text_bytes c.requires).0

@@ -1,5 +1,5 @@
 -- The reader's text is the file.
-use Rattle.std.proofs.Common.{◌≤◌, length, Err, IsErrOf, ap, ap₂, subst, sym}
+use Rattle.std.proofs.Common.{◌≤◌, false, length, Err, IsErrOf, ap, ap₂, subst, sym}
 use Rattle.std.proofs.lemmas.Result.{err_from_is_err_and}
 use Rattle.dxf_groups.specs.Groups.{GroupsState}
 use Rattle.file_problem.specs.Inputs.{HasProblem, IsFileFault, input_in}
@@ -15,12 +15,12 @@ returns-in_err-problem-clause-fault c fault is =
     let faulty : IsErrOf {T = ProblemParts × FurtherParts} (Err c.in_err-problem.field-0.0) (refused.Fault fault) = cc in
     let text = ap (λ (g : GroupsState). g.text) c.new.ensures in
     let short = subst (λ t. length t ≤ most_file_bytes) (sym text) c.requires.short in
-    subst (λ t. IsFileFault t fault) (ap₂ (λ form t. input_in form most_file_bytes t) c.three_views-form.ensures text)
+    subst (λ t. IsFileFault t fault) (ap₂ (λ form t. input_in form false most_file_bytes t) c.three_views-form.ensures text)
     (c.in_err-problem.ensures.fault most_file_bytes short fault faulty)
 
 pub returns-clause-problem : goal.returns-clause-problem
 returns-clause-problem c =
     let text = ap (λ (g : GroupsState). g.text) c.new.ensures in
     let short = subst (λ t. length t ≤ most_file_bytes) (sym text) c.requires.short in
-    subst (λ t. HasProblem t c.in_ok-problem.problem) (ap₂ (λ form t. input_in form most_file_bytes t) c.three_views-form.ensures text)
+    subst (λ t. HasProblem t c.in_ok-problem.problem) (ap₂ (λ form t. input_in form false most_file_bytes t) c.three_views-form.ensures text)
     (c.in_ok-problem.ensures.problem most_file_bytes short).0

@@ -1,5 +1,5 @@
 -- The reader's text is the file.
-use Rattle.std.proofs.Common.{◌≤◌, length, IfOk, ap, ap₂, subst, sym}
+use Rattle.std.proofs.Common.{◌≤◌, false, length, IfOk, ap, ap₂, subst, sym}
 use Rattle.dxf_groups.specs.Groups.{GroupsState}
 use Rattle.file_problem.specs.Inputs.{HasFurther, IsFileFault, input_in}
 use Rattle.further_views.specs.Further.{FurtherParts}
@@ -12,11 +12,11 @@ returns-clause-problem c =
     let text = ap (λ (g : GroupsState). g.text) c.new.ensures in
     let short = subst (λ t. length t ≤ most_file_bytes) (sym text) c.requires.short in
     subst (λ t. IfOk c.read.result (λ (found : ProblemParts × FurtherParts). HasFurther t found.0 found.1))
-    (ap₂ (λ form t. input_in form most_file_bytes t) c.six_views.ensures text) (c.read.ensures.problem most_file_bytes short)
+    (ap₂ (λ form t. input_in form false most_file_bytes t) c.six_views.ensures text) (c.read.ensures.problem most_file_bytes short)
 
 pub returns-clause-fault : goal.returns-clause-fault
 returns-clause-fault c fault is =
     let text = ap (λ (g : GroupsState). g.text) c.new.ensures in
     let short = subst (λ t. length t ≤ most_file_bytes) (sym text) c.requires.short in
-    subst (λ t. IsFileFault t fault) (ap₂ (λ form t. input_in form most_file_bytes t) c.six_views.ensures text)
+    subst (λ t. IsFileFault t fault) (ap₂ (λ form t. input_in form false most_file_bytes t) c.six_views.ensures text)
     (c.read.ensures.fault most_file_bytes short fault is)

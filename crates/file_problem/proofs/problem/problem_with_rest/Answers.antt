@@ -14,12 +14,12 @@ returns-in_err-problem-clause-fault c most short fault is =
     let faulty : IsErrOf {T = ProblemParts × FurtherParts} (Err c.in_err-problem.field-0.0) (refused.Fault fault) = cc in
     let text = ap (λ (g : GroupsState). g.text) c.new-groups.ensures in
     let within = subst (λ t. length t ≤ most) (sym text) short in
-    subst (λ t. IsFileFault (input_in c.args.form most t) fault) text
+    subst (λ t. IsFileFault (input_in c.args.form c.args.two_views most t) fault) text
     (c.in_err-problem.ensures.fault most within fault faulty)
 
 pub returns-clause-problem : goal.returns-clause-problem
 returns-clause-problem c most short =
     let text = ap (λ (g : GroupsState). g.text) c.new-groups.ensures in
     let within = subst (λ t. length t ≤ most) (sym text) short in
-    subst (λ t. HasFurther (input_in c.args.form most t) c.in_ok-problem.problem c.in_ok-problem.further)
+    subst (λ t. HasFurther (input_in c.args.form c.args.two_views most t) c.in_ok-problem.problem c.in_ok-problem.further)
     text (c.in_ok-problem.ensures.problem most within)

@@ -16,9 +16,9 @@ pub returns-in_err-problem-clause-fault : goal.returns-in_err-problem-clause-fau
 returns-in_err-problem-clause-fault c most short fault is =
     let q = err_from_is_err_and c.from_residual-in_err-problem.result c.from_residual-in_err-problem.ensures.1 in
     let faulty : IsErrOf {T = ProblemParts} (Err c.in_err-problem.field-0.0) (refused.Fault fault) = cc in
-    file_fault (input_in c.args.form most c.args.groups.now.text) (Ok (c.in_ok-lines.lines.items, c.in_ok-lines.extra_lines.items)) fault short
+    file_fault (input_in c.args.form c.args.two_views most c.args.groups.now.text) (Ok (c.in_ok-lines.lines.items, c.in_ok-lines.extra_lines.items)) fault short
     c.in_ok-lines.ensures.lines
-    (subst (λ (ls : List Line). IsFaultOfLines ls fault) c.as_slice.ensures.value (c.in_err-problem.ensures.fault fault faulty))
+    (subst (λ (ls : List Line). IsFaultOfLines c.args.two_views ls fault) c.as_slice.ensures.value (c.in_err-problem.ensures.fault fault faulty))
 
 pub returns-clause-problem : goal.returns-clause-problem
 returns-clause-problem c most short = (
@@ -27,7 +27,7 @@ returns-clause-problem c most short = (
     lines = c.in_ok-lines.lines.items;
     further = c.in_ok-lines.extra_lines.items;
     reads = c.in_ok-lines.ensures.lines;
-    shown = subst IsShown c.as_slice.ensures.value c.in_ok-problem.ensures.shown;
+    shown = subst (IsShown c.args.two_views) c.as_slice.ensures.value c.in_ok-problem.ensures.shown;
     grid = subst (λ (ls : List Line). IsGridOf (drawing_of ls) c.in_ok-problem.problem.grid) c.as_slice.ensures.value c.in_ok-problem.ensures.grid;
     blocks = c.in_ok-problem.ensures.blocks;
     few = c.in_ok-problem.ensures.few;

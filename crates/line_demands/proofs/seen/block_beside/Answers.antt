@@ -2,7 +2,8 @@
 use Rattle.std.proofs.Common.{◌≡◌, ◌<◌, ◌≤◌, pos, false, refl, ap, sym, subst, ◌∙◌, arith}
 use Rattle.std.proofs.lemmas.Bool.{and_left}
 use Rattle.line_demands.specs.declared.gather.ColumnPlace.{ColumnPlace}
-use Rattle.line_demands.proofs.CellsBeside.{line_within, none_at, block_there, column_stands}
+use Rattle.line_demands.proofs.ColumnPlaces.{line_within}
+use Rattle.line_demands.proofs.CellsBeside.{none_at, block_there, column_stands}
 use Rattle.line_demands.proofs.seen.block_beside.Goals as goal
 use Rattle.solid_model.specs.declared.frame.View.{View}
 use Rattle.solid_model.specs.Forcing.{place_beside}

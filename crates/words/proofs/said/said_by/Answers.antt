@@ -64,9 +64,11 @@ returns c =
     c.number_or-decimals.result c.number_or-decimals.ensures.value in
     let number = number_said t words m (codes "number") (range_of_number t) read u.agreed.1.1.1.1.0 1
     c.number_or-number.result c.number_or-number.ensures.value in
-    let pages = flag_read t words m (codes "pages") c.get_flag.result u.sound read u.agreed.1.1.1.1.1.0
-    c.get_flag.ensures.none c.get_flag.ensures.value c.get_flag.ensures.other in
+    let pages = flag_read t words m (codes "pages") c.get_flag-pages.result u.sound read u.agreed.1.1.1.1.1.0
+    c.get_flag-pages.ensures.none c.get_flag-pages.ensures.value c.get_flag-pages.ensures.other in
+    let two_views = flag_read t words m (codes "two-views") c.get_flag-two_views.result u.sound read u.agreed.1.1.1.1.1.1.0
+    c.get_flag-two_views.ensures.none c.get_flag-two_views.ensures.value c.get_flag-two_views.ensures.other in
     record {
-      said = (read.0, read.1, workers, rw (nodes, solids) refl, pages, decimals, number);
+      said = (read.0, read.1, workers, rw (nodes, solids) refl, pages, decimals, two_views, number);
       most = subst (λ (r : Range). c.number_or-number.result ≤ r.most) c.unwrap_or-range.ensures c.number_or-number.ensures.most;
     }

@@ -6,4 +6,4 @@ pub returns-clause-view : goal.returns-clause-view
 returns-clause-view c = lies_in_rectangle
 
 pub returns-clause-three_views : goal.returns-clause-three_views
-returns-clause-three_views c = λ drawing s matches. lies_in_box drawing s matches
+returns-clause-three_views c = λ drawing sees s matches. lies_in_box drawing s matches sees
