@@ -1,160 +1,91 @@
-"""Asks recon about many drawings at once: all DXF files in a folder and those below it, by GNU parallel on all processors, or on several
-machines by --sshlogin. A first pass has low limits, and a second one higher limits for the drawings that passed those. The rows, a
-drawing each, are kept in the folder of --state; so a table that was stopped goes on where it was, and no row is lost or there twice.
+"""Asks recon about many drawings at once: all DXF files in folders and those below them, files that are named, or with `-` those that
+standard input names, one a line. They go in batches to all processors of this machine, or to those of several by --sshlogin, by GNU
+parallel. Another machine needs ssh, perl, the same recon and `draft` at the same paths, and the same ezdxf, which is looked at before it
+begins; drawings are sent with the batch, and nothing is written but in the folder of --state and in those for temporary files. A machine
+that fails often is left out.
 
-Standard output is the table: file, status, solids, seconds and a message, as text or with --csv as CSV. Statuses are those of recon, and
-`refused` where `draft` takes no such drawing. Standard error tells how far it is.
+A first pass has low limits, and a second one higher limits for the drawings that passed those. Rows are kept in the folder of --state, so
+that a table that was stopped goes on where it was; there are also GNU parallel's logs of jobs, joblog_PASS_ROUND.
+
+Standard output is the table: file, status, solids, rounds that were squared off, seconds and a message, as text, with --csv as CSV or
+with --json as an object a line. Statuses are those of recon; `refused` where `draft` takes no such drawing; `failed` where reading it
+didn't end within its limits; `lost`, at status 1, where no answer came back, or its file can't be read or was changed meanwhile: the same
+command asks about these again.
 """
 import argparse
-import csv
-import hashlib
-import io
-import json
 import pathlib
-import shlex
 import shutil
-import subprocess
+import signal
 import sys
-import time
-from typing import Any
 
-from . import program
-from .messages import Progress, Refused, many, say, write_result
+from . import batch, files, machines, program, sheet
+from .listed import FORMS, places_of, written
+from .messages import Refused, many, on_stop, say, write_result
+from .passes import PASSES, Pass, Table
+from .rows import LOST, Rows
 
 NAME = "table"
-HELP = "ask recon about all drawings in a folder, and write a table"
+HELP = "ask recon about many drawings, and write a table"
 
-# The limits of nodes and of solids of the two passes.
-PASSES = ((2_000, 100), (1_000_000, 4_096))
-COLUMNS = ("file", "status", "solids", "seconds", "message")
-DRAFT = program.TOP / "tools" / "draft"
+SECONDS = 600.0
 
 
 def add_arguments(parser: argparse.ArgumentParser) -> None:
-    parser.add_argument("folder", metavar="FOLDER")
+    parser.add_argument("places", metavar="FOLDER", nargs="+", help="a folder, or drawings; - for names on standard input")
     parser.add_argument("-o", "--output", metavar="OUT", help="the file to write, else standard output")
-    parser.add_argument("--csv", action="store_true", help="as CSV")
-    parser.add_argument("--state", metavar="FOLDER", help="where rows are kept (else FOLDER/.draft_table)")
-    parser.add_argument("--jobs", default="100%", help="how many at a time, as GNU parallel takes it (else one for each processor)")
-    parser.add_argument("--sshlogin", action="append", default=[], metavar="MACHINE", help="further machines, as GNU parallel takes them; "
-                        "there `draft` and recon stand at the same paths, and drawings are sent")
+    form = parser.add_mutually_exclusive_group()
+    for name in FORMS:
+        form.add_argument(f"--{name}", action="store_const", const=name, dest="form", help=f"as {name.upper()}")
+    parser.add_argument("-0", "--null", action="store_true", help="names on standard input end with a NUL, as those of find -print0")
+    parser.add_argument("--state", metavar="FOLDER", help="where rows are kept (else .draft_table in FOLDER, or here)")
+    parser.add_argument("--jobs", default="100%", help="how many batches at a time on each machine, as GNU parallel takes it (else 100%%)")
+    parser.add_argument("--sshlogin", action="append", default=[], metavar="MACHINE",
+                        help="machines, as GNU parallel takes them; `:` is this one")
+    parser.add_argument("--memory", type=int, default=batch.MEMORY, metavar="MIB",
+                        help=f"the most memory of a process, 0 for no limit (else {batch.MEMORY:,})")
     parser.add_argument("--as-is", action="store_true", help="recon reads the files as they are, and no sheets are drawn")
     program.add_arguments(parser)
-    parser.set_defaults(seconds=600.0)
+    sheet.add_options(parser)
+    parser.set_defaults(seconds=SECONDS)
 
 
-def files_in(folder: pathlib.Path) -> list[pathlib.Path]:
-    if not folder.is_dir():
-        raise Refused(f"{folder} is no folder")
-    return sorted(file for file in folder.rglob("*") if file.suffix.lower() == ".dxf" and file.is_file())
+def words_of(arguments: argparse.Namespace) -> list[str]:
+    """How each drawing is read: options of sheets, as `draft solve` takes them."""
+    return [*(["--as-is"] if arguments.as_is else []), *sheet.words_of(arguments)]
 
 
-class Rows:
-    """The rows that are kept: a file for each drawing and pass, which is there whole or not at all. A drawing that was changed since has
-    another name here."""
-
-    def __init__(self, state: pathlib.Path, words: list[str]) -> None:
-        self.state, self.words = state, words
-        state.mkdir(parents=True, exist_ok=True)
-
-    def place(self, file: pathlib.Path, number: int) -> pathlib.Path:
-        told = file.stat()
-        key = json.dumps([str(file.resolve()), told.st_size, told.st_mtime_ns, PASSES[number], self.words])
-        return self.state / f"{hashlib.sha256(key.encode()).hexdigest()[:32]}.json"
-
-    def row(self, file: pathlib.Path, number: int) -> dict[str, Any] | None:
-        try:
-            return dict(json.loads(self.place(file, number).read_text()))
-        except (OSError, ValueError):
-            return None
-
-    def last(self, file: pathlib.Path) -> dict[str, Any] | None:
-        """The row of the highest pass that has one, where no further pass is due."""
-        first = self.row(file, 0)
-        return self.row(file, 1) if first and is_cut(first) else first
-
-
-def is_cut(row: dict[str, Any]) -> bool:
-    return row["status"] in (program.CUT_NODES, program.CUT_SOLIDS)
-
-
-# ---- one pass
-
-def one_pass(files: list[pathlib.Path], number: int, rows: Rows, arguments: argparse.Namespace) -> None:
-    """Asks about the drawings that have no row of this pass."""
-    due = [file for file in files if rows.row(file, number) is None]
-    if not due:
-        return
-    nodes, solids = PASSES[number]
-    say(f"draft table: pass {number + 1}, with at most {nodes:,} nodes and {solids:,} solids: {many(len(due), 'drawing')} of {len(files)}")
-    words = [str(DRAFT), "row", "--nodes", nodes, "--solids", solids, "--seconds", arguments.seconds, *rows.words]
-    log = rows.state / f"joblog_{number + 1}"
-    log.unlink(missing_ok=True)
-    options = ["--jobs", arguments.jobs, "--joblog", log, "--plain", "--colsep", "\t", "--line-buffer", "--halt", "never"]
-    for machine in arguments.sshlogin:
-        options += ["--sshlogin", machine]
-    if arguments.sshlogin:
-        options += ["--transferfile", "{1}", "--return", "{2}", "--cleanup"]
-    command = ["parallel", *options, f"{shlex.join(map(str, words))} {{1}} {{2}}"]
-    places = {file: rows.place(file, number) for file in due}
-    if odd := next((file for file in due if set(str(places[file]) + str(file.resolve())) & set("\t\n")), None):
-        raise Refused(f"the name {odd!r} has a tab or a line's end in it")
-    jobs = "".join(f"{file.resolve()}\t{place.resolve()}\n" for file, place in places.items())
-    running = subprocess.Popen(list(map(str, command)), stdin=subprocess.PIPE, stdout=subprocess.DEVNULL, stderr=subprocess.PIPE)
-    try:
-        watch(running, jobs.encode(), list(places.values()), number)
-    finally:
-        if running.poll() is None:
-            running.terminate()
-            running.wait()
-    lost = [file for file, place in places.items() if not place.exists()]
-    if lost:
-        said = (running.stderr.read() if running.stderr else b"").decode(errors="replace").strip()[:300]
-        raise Refused(f"{many(len(lost), 'drawing')} have no row, the first {lost[0]}: {said}; the same command goes on from here")
-
-
-def watch(running: "subprocess.Popen[bytes]", jobs: bytes, places: list[pathlib.Path], number: int) -> None:
-    assert running.stdin
-    running.stdin.write(jobs)
-    running.stdin.close()
-    began = time.monotonic()
-    while running.poll() is None:
-        time.sleep(0.05 if time.monotonic() - began < 2 else 0.5)
-        if sys.stderr.isatty():
-            done = sum(place.exists() for place in places)
-            Progress.show(f"pass {number + 1}: {done:,} of {len(places):,} drawings, {time.monotonic() - began:.0f} s")
-    Progress.clear()
-
-
-# ---- the table
-
-def written(rows: list[dict[str, Any]], as_csv: bool) -> str:
-    texts = [[str(row[column]) for column in COLUMNS] for row in rows]
-    if as_csv:
-        out = io.StringIO()
-        csv.writer(out, lineterminator="\n").writerows([COLUMNS, *texts])
-        return out.getvalue()
-    widths = [max(map(len, column)) for column in zip(COLUMNS, *texts)][:-1]
-    lines = (" ".join([*(cell.ljust(width) for cell, width in zip(row, widths)), row[-1]]).rstrip() for row in [COLUMNS, *texts])
-    return "".join(f"{line}\n" for line in lines)
+def state_of(arguments: argparse.Namespace) -> pathlib.Path:
+    """The folder where rows are kept."""
+    if arguments.state:
+        return pathlib.Path(arguments.state)
+    first = pathlib.Path(arguments.places[0])
+    return (first if len(arguments.places) == 1 and first.is_dir() else pathlib.Path()) / ".draft_table"
 
 
 def run(arguments: argparse.Namespace) -> int:
     if not shutil.which("parallel"):
         raise Refused("GNU parallel isn't there: apt-get install parallel")
-    folder = pathlib.Path(arguments.folder)
-    files = files_in(folder)
-    if not files:
-        raise Refused(f"no DXF file in {folder}")
-    words = ["--program", str(program.find(arguments.program)), *(["--as-is"] if arguments.as_is else [])]
-    rows = Rows(pathlib.Path(arguments.state) if arguments.state else folder / ".draft_table", words)
-    one_pass(files, 0, rows, arguments)
-    one_pass([file for file in files if (row := rows.row(file, 0)) and is_cut(row)], 1, rows, arguments)
-    found = []
-    for file in files:
-        row = rows.last(file)
-        if row is None:
-            raise Refused(f"{file} was changed meanwhile: the same command goes on from here")
-        found.append({**row, "file": file.relative_to(folder)})
-    write_result(written(found, arguments.csv), arguments.output)
-    return 0
+    if not (0 < arguments.seconds <= 86_400 and (not arguments.memory or 64 <= arguments.memory <= 1 << 20)):
+        raise Refused("limits that aren't taken: up to 86,400 seconds, 64 MiB of memory or more")
+    path = program.find(arguments.program)
+    named = machines.machines_of(arguments.sshlogin)
+    if arguments.pairs and any(machine.name != machines.HERE for machine in named):
+        raise Refused("--pairs goes with this machine alone: what is sent to another one is a file a drawing")
+    places = places_of(arguments.places, sys.stdin.buffer if "-" in arguments.places else None, arguments.null)
+    places = [place for place in places if not (arguments.pairs and files.is_visible_one(pathlib.Path(place.path)))]
+    on_stop(signal.default_int_handler)
+    limits = ["--seconds", f"{arguments.seconds:g}", "--memory", str(arguments.memory)]
+    table = Table(places, Rows(state_of(arguments)), path, words_of(arguments), limits)
+    try:
+        for at in range(len(PASSES)):
+            Pass(table, at, named, arguments.jobs).ask()
+    except KeyboardInterrupt:
+        say(f"draft table: stopped; the rows that are there are kept in {table.rows.state}, and the same command goes on from here")
+        raise
+    rows = [table.last(number) for number in range(len(places))]
+    write_result(written(rows, arguments.form), arguments.output)
+    lost = [row for row in rows if row["status"] == LOST]
+    if lost:
+        first = f"{lost[0]['file']}: {lost[0]['message']}"
+        say(f"draft table: {many(len(lost), 'row')} lost, the first of {first}; the same command asks again")
+    return 1 if lost else 0

@@ -1,76 +1,186 @@
-"""Tables of many drawings: each drawing has one row, also where the table was stopped and resumed."""
-import csv
-import io
+"""Tables of many drawings: each drawing has one row, also where the table was stopped and resumed, and costs none but its own."""
+import json
 import os
 import pathlib
 import shutil
 import signal
 import subprocess
 import tempfile
-import time
 import unittest
 
-from .support import EXAMPLES, TOOLS, draft, needs_command, needs_program
+from drafting import passes, program
+from drafting.messages import Refused
+from drafting.rows import Rows
+
+from .machines import needs_own_files
+from .support import EXAMPLES, TOOLS, draft, needs_command, needs_module, needs_program
+from .tables import answer_alone, begun, count, kept, made, rows_of, until, words_of
+
+# A program that does with a drawing what a comment in it says, and else what the built one does.
+SPITED = """#!/bin/sh
+text=$(mktemp)
+trap 'rm "$text"' EXIT
+cat > "$text"
+case $(head -n 2 "$text" | tail -n 1) in
+KILL) kill -KILL $PPID;;
+ABORT) kill -ABRT $$;;
+SLEEP) exec sleep 1000;;
+MEMORY) exit 7;;
+TOUCH) touch -d @1 {folder}/TOUCH.dxf;;
+CUT) case "$*" in *2000*) echo cut nodes 2000; exit 3;; esac;;
+esac
+{program} "$@" < "$text"
+"""
 
 
 @needs_command("parallel", "parallel")
 @needs_program()
-class Table(unittest.TestCase):
-    def folder(self, room: str, times: int = 1) -> pathlib.Path:
-        folder = pathlib.Path(room) / "drawings of parts"
-        for number in range(times):
-            (folder / f"{number}").mkdir(parents=True)
-            for file in EXAMPLES.glob("*.dxf"):
-                shutil.copy(file, folder / f"{number}" / file.name)
-        (folder / "no drawing; 'at all'.dxf").write_text("hello\n")
-        (folder / "cut.dxf").write_bytes((EXAMPLES / "clevis.dxf").read_bytes()[:900])
-        return folder
+class Tables(unittest.TestCase):
+    def setUp(self) -> None:
+        room = tempfile.TemporaryDirectory()
+        self.addCleanup(room.cleanup)
+        self.room = pathlib.Path(room.name)
+        self.folder = self.room / "drawings of parts"
+        self.state = self.folder / ".draft_table"
 
-    def rows(self, text: str) -> dict[str, dict[str, str]]:
-        rows = list(csv.DictReader(io.StringIO(text)))
-        named = {row["file"]: row for row in rows}
-        self.assertEqual(len(named), len(rows))
-        return named
+    def fill(self, *names: str) -> None:
+        (self.folder / "0").mkdir(parents=True)
+        for file in EXAMPLES.glob("*.dxf"):
+            if not names or file.stem in names:
+                shutil.copy(file, self.folder / "0" / file.name)
+        (self.folder / "no drawing; 'at all'.dxf").write_text("hello\n")
+        (self.folder / "cut.dxf").write_bytes((EXAMPLES / "clevis.dxf").read_bytes()[:900])
 
     def test_each_drawing_has_a_row(self) -> None:
-        with tempfile.TemporaryDirectory() as room:
-            folder = self.folder(room)
-            ended = draft("table", "--csv", folder, seconds=900)
-            self.assertEqual(ended.status, 0, ended.said)
-            rows = self.rows(ended.out)
-            self.assertEqual(set(rows), {str(file.relative_to(folder)) for file in folder.rglob("*.dxf")})
-            told = {name: (rows[f"0/{name}.dxf"]["status"], rows[f"0/{name}.dxf"]["solids"]) for name in
-                    ("quartered_cube", "eight_voids", "quartered_cube_half_hidden", "fractions", "bracket_cut")}
-            self.assertEqual(told, {"quartered_cube": ("0", "3"), "eight_voids": ("0", "35"), "quartered_cube_half_hidden": ("0", "0"),
-                                    "fractions": ("0", "1"), "bracket_cut": ("1", "0")})
-            self.assertEqual(rows["0/fractions.dxf"]["message"], "volume 12,343.75")
-            self.assertEqual(rows["cut.dxf"]["status"], "1")
-            # Asked again, nothing is run.
-            again = draft("table", "--csv", folder, seconds=900)
-            self.assertEqual(again, (0, ended.out, ""))
-            os.utime(folder / "cut.dxf", (1, 1))
-            text = draft("table", folder, "--sshlogin", "2/:", seconds=900)
-            self.assertIn("1 drawing of", text.said)
-            self.assertEqual(len(text.out.splitlines()), 1 + len(rows))
+        self.fill()
+        before = kept(self.folder)
+        ended = made(self.folder)
+        self.assertEqual(ended.status, 0, ended.said)
+        self.assertTrue(kept(self.folder) == before)
+        self.assertEqual(set(ended.rows), {str(file.relative_to(self.folder)) for file in before})
+        for file in EXAMPLES.glob("*.dxf"):
+            row = ended.rows[f"0/{file.name}"]
+            self.assertEqual((row["status"], row["solids"]), answer_alone(file.read_bytes()), row)
+        self.assertEqual(ended.rows["0/fractions.dxf"]["message"], "volume 12,343.75")
+        self.assertEqual(ended.rows["cut.dxf"]["status"], "1")
+        # Asked again, nothing is run.
+        self.assertEqual(made(self.folder), (0, ended.rows, ""))
+        os.utime(self.folder / "cut.dxf", (1, 1))
+        text = subprocess.run([word for word in words_of(self.folder, "--sshlogin", "2/:") if word != "--csv"], capture_output=True)
+        self.assertIn(b": 1 drawing of", text.stderr)
+        self.assertEqual(len(text.stdout.splitlines()), 1 + len(before))
 
     def test_a_table_that_is_stopped_goes_on(self) -> None:
-        with tempfile.TemporaryDirectory() as room:
-            folder = self.folder(room)
-            running = subprocess.Popen([TOOLS / "draft", "table", "--csv", folder], stdout=subprocess.PIPE, stderr=subprocess.DEVNULL,
-                                       start_new_session=True)
-            state, until = folder / ".draft_table", time.monotonic() + 600
-            while len(list(state.glob("[0-9a-f]*.json"))) < 3 and running.poll() is None and time.monotonic() < until:
-                time.sleep(0.02)
-            os.killpg(running.pid, signal.SIGKILL)
-            running.wait()
-            kept = {file: file.stat().st_mtime_ns for file in state.glob("[0-9a-f]*.json")}
-            self.assertTrue(3 <= len(kept))
-            ended = draft("table", "--csv", folder, seconds=900)
+        self.fill("bracket", "clevis", "unit_cube", "pierced_plate", "fractions")
+        for how in (signal.SIGKILL, signal.SIGINT, signal.SIGTERM):
+            shutil.rmtree(self.state, ignore_errors=True)
+            running = begun(self.folder)
+            until(lambda: count(self.state) >= 3, running)
+            other = made(self.folder)
+            self.assertIn("another table is being made", other.said)
+            os.killpg(running.pid, how)
+            running.communicate()
+            first = (self.state / "rows").read_bytes()
+            with open(self.state / "rows", "ab") as rows:
+                rows.write(b'{"key": "cut of')
+            ended = made(self.folder)
             self.assertEqual(ended.status, 0, ended.said)
-            self.assertEqual(set(self.rows(ended.out)), {str(file.relative_to(folder)) for file in folder.rglob("*.dxf")})
-            self.assertEqual(kept, {file: file.stat().st_mtime_ns for file in kept})
+            self.assertEqual(set(ended.rows), {str(file.relative_to(self.folder)) for file in kept(self.folder)})
+            self.assertTrue((self.state / "rows").read_bytes().startswith(first))
+            self.assertEqual(count(self.state), len(ended.rows))
 
-    def test_what_is_no_folder(self) -> None:
-        for folder in (EXAMPLES / "bracket.dxf", EXAMPLES / "none", TOOLS):
-            ended = draft("table", folder)
-            self.assertEqual((ended.status, ended.out), (1, ""))
+    def test_drawings_that_are_named(self) -> None:
+        self.fill("bracket", "unit_cube")
+        odd = os.fsencode(self.folder) + b"/line\nend \xff.dxf"
+        shutil.copy(EXAMPLES / "clevis.dxf", os.fsdecode(odd))
+        names = [os.fsencode(self.folder / "0" / "bracket.dxf"), odd, os.fsencode(self.folder / "none.dxf"), odd]
+        ended = made("-", self.folder / "0" / "unit_cube.dxf", "-0", "--state", self.room / "rows", data=b"\0".join(names))
+        told = {name: (row["status"], row["message"]) for name, row in ended.rows.items()}
+        lost = ("lost", "can't be read: No such file or directory")
+        answers = [("0", "volume 48,000"), ("0", "volume 41"), lost, ("0", "volume 1")]
+        self.assertEqual(told, dict(zip([*map(os.fsdecode, names[:3]), str(self.folder / "0" / "unit_cube.dxf")], answers)))
+        self.assertEqual(ended.status, 1)
+        self.assertIn("1 row lost, the first of ", ended.said)
+        words = [word for word in words_of("-", "--state", self.room / "rows", "--json") if word != "--csv"]
+        text = subprocess.run(words, input=names[0] + b"\n", capture_output=True)
+        row = json.loads(text.stdout)
+        self.assertEqual((row["file"], row["status"], row["solids"]), (os.fsdecode(names[0]), 0, 1))
+        self.assertEqual((text.returncode, text.stderr), (0, b""))
+
+    def test_a_drawing_costs_itself_alone(self) -> None:
+        spited = self.room / "spited"
+        self.folder.mkdir()
+        spited.write_text(SPITED.format(program=program.find(), folder=f"'{self.folder}'"))
+        spited.chmod(0o755)
+        for name in ("KILL", "ABORT", "SLEEP", "MEMORY", "TOUCH", "CUT", "NOTHING"):
+            (self.folder / f"{name}.dxf").write_text(f"999\n{name}\n{(EXAMPLES / 'unit_cube.dxf').read_text()}")
+        ended = made(self.folder, "--program", spited, "--seconds", 10, "--jobs", 8)
+        self.assertEqual({name: (row["status"], row["message"].split(" solve")[0]) for name, row in ended.rows.items()}, {
+            "KILL.dxf": ("failed", "reading it was ended by SIGKILL"), "ABORT.dxf": ("failed", "recon was ended by SIGABRT"),
+            "SLEEP.dxf": ("failed", "recon"), "MEMORY.dxf": ("failed", "recon ran out of memory"),
+            "TOUCH.dxf": ("lost", "was changed meanwhile"), "CUT.dxf": ("0", "volume 1"), "NOTHING.dxf": ("0", "volume 1"),
+        })
+        self.assertEqual(ended.status, 1)
+        # A row that failed is asked for anew within other limits alone.
+        again = made(self.folder, "--program", spited, "--seconds", 10, "--jobs", 8)
+        self.assertIn(": 1 drawing of 7", again.said)
+        other = made(self.folder, "--program", spited, "--seconds", 9, "--jobs", 8)
+        self.assertIn(": 4 drawings of 7", other.said)
+
+    @needs_own_files()
+    def test_a_full_disk_costs_no_row(self) -> None:
+        self.fill("bracket", "clevis", "unit_cube", "pierced_plate")
+        self.state.mkdir()
+        full = self.state / "full"
+        fill = 'mount -t tmpfs -o size=4k none "$0" && head -c 4000 /dev/zero > "$0/full"; exec "$@"'
+        words = ["unshare", "-m", "sh", "-c", fill, str(self.state), *words_of(self.folder)]
+        ended = subprocess.run(words, capture_output=True)
+        self.assertEqual(set(rows_of(ended.stdout)), {str(file.relative_to(self.folder)) for file in kept(self.folder)}, ended.stderr)
+        self.assertIn(b"No space left on device", ended.stderr)
+        self.assertFalse(full.exists())
+
+    @needs_module("ezdxf", "python3-ezdxf")
+    def test_what_ezdxf_cannot_read_is_asked_as_it_is(self) -> None:
+        self.folder.mkdir()
+        head, entities, rest = (EXAMPLES / "bracket.dxf").read_text().partition("ENTITIES\n")
+        circle = "  0\nCIRCLE\n  8\nNOTES\n 10\n0\n 20\n0\n 40\n9999\n"
+        text = "  0\nTEXT\n  8\nNOTES\n 10\nabc\n 20\n5\n 40\n1\n  1\nhello\n"
+        (self.folder / "spite.dxf").write_text(head + entities + circle + text + rest)
+        row = made(self.folder).rows["spite.dxf"]
+        self.assertEqual((row["status"], row["solids"]), ("0", "1"))
+        self.assertRegex(row["message"], "volume 48,000; warning: ezdxf can't read .* as it is; warning: 1 CIRCLE on layer NOTES lies within")
+        self.assertEqual(draft("solve", self.folder / "spite.dxf").status, 0)
+
+    def test_what_is_refused(self) -> None:
+        self.fill("unit_cube")
+        options = (("--jobs", "many"), ("--sshlogin", "-"), ("--memory", 1), ("--state", self.folder / "cut.dxf"))
+        for words in ((EXAMPLES / "none",), (TOOLS,), *((self.folder, *option) for option in options)):
+            ended = made(*words)
+            self.assertEqual((ended.status, ended.rows), (1, {}), words)
+            self.assertRegex(ended.said, "(?s).*draft table: ")
+
+
+class Progress(unittest.TestCase):
+    def test_how_far_it_is(self) -> None:
+        tally = passes.Tally(0, 10_000)
+        tally.began -= 10
+        self.assertEqual(tally.text(), "pass 1: 0 of 10,000 rows")
+        for number in range(2_000):
+            tally.count({"status": "refused" if number < 3 else "failed" if number < 5 else 0, "machine": "one" if number < 500 else ":"})
+        self.assertEqual(tally.text(), "pass 1: 2,000 of 10,000 rows, 3 refused, 2 failed; 200 a second, 40 s left; this machine 1,500, one 500")
+
+    def test_times_in_words(self) -> None:
+        self.assertEqual([passes.in_time(it) for it in (0.4, 99, 100, 3_000, 7_260)], ["0 s", "99 s", "2 min", "50 min", "2 h 01 min"])
+
+    def test_rows_that_are_kept(self) -> None:
+        with tempfile.TemporaryDirectory() as room:
+            state = pathlib.Path(room)
+            row = {"status": 0, "solids": 1, "rounds": 0, "seconds": 0.5, "message": "volume 1"}
+            (state / "rows").write_bytes(b'no row\n{"key": "a"}\n' + json.dumps({"key": "b", **row}).encode() + b'\n{"key": "c", "st')
+            rows = Rows(state)
+            self.assertEqual(rows.rows, {"b": row})
+            with self.assertRaises(Refused):
+                Rows(state)
+            rows.add("d", row)
+            rows.file.close()
+            self.assertEqual(Rows(state).rows, {"b": row, "d": row})

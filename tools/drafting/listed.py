@@ -1,0 +1,97 @@
+"""The drawings that a table is of, and the table as it is written."""
+import csv
+import io
+import json
+import os
+from collections.abc import Iterator
+from typing import BinaryIO, NamedTuple
+
+from .messages import Refused, say
+from .rows import Row
+
+COLUMNS = ("file", "status", "solids", "rounds", "seconds", "message")
+FORMS = ("csv", "json")
+SCHEMA = "draft.table/1"
+
+
+class Place(NamedTuple):
+    """A drawing: the name that the table has for it, its file, the size and time of this, and what is wrong with it."""
+
+    name: str
+    path: str
+    size: int = 0
+    time: int = 0
+    trouble: str = ""
+
+
+def places_of(given: list[str], named: BinaryIO | None, by_null: bool) -> list[Place]:
+    """The drawings of folders and files, each once; of a folder that is given alone they have their names within it."""
+    found: dict[str, Place] = {}
+    for name, path in names_of(given, named, by_null):
+        if path not in found:
+            found[path] = place_of(name, path)
+    if not found:
+        raise Refused(f"no DXF file in {', '.join(given)}")
+    return list(found.values())
+
+
+def place_of(name: str, path: str) -> Place:
+    try:
+        told = os.stat(path)
+    except (OSError, ValueError) as failure:
+        return Place(name, path, trouble=f"can't be read: {getattr(failure, 'strerror', failure)}")
+    return Place(name, path, told.st_size, told.st_mtime_ns)
+
+
+def names_of(given: list[str], named: BinaryIO | None, by_null: bool) -> Iterator[tuple[str, str]]:
+    """The name and the path of each drawing."""
+    for word in given:
+        if word == "-" and named is not None:
+            listed = named.read().split(b"\0" if by_null else b"\n")
+            yield from ((name, os.path.abspath(name)) for name in map(os.fsdecode, listed) if name)
+        elif os.path.isdir(word):
+            folder, before = os.path.abspath(word), "" if len(given) == 1 else word
+            yield from ((os.path.join(before, file), os.path.join(folder, file)) for file in sorted(files_in(folder)))
+        elif os.path.exists(word):
+            yield word, os.path.abspath(word)
+        else:
+            raise Refused(f"{word} is no folder and no file")
+
+
+def files_in(folder: str) -> Iterator[str]:
+    """The DXF files in a folder and below it, by their names within it. What can't be looked into is told."""
+    for within, _, files in os.walk(folder, onerror=left_out):
+        for file in files:
+            path = os.path.join(within, file)
+            if file.lower().endswith(".dxf") and os.path.isfile(path):
+                yield os.path.relpath(path, folder)
+
+
+def left_out(failure: OSError) -> None:
+    say(f"draft table: left out: what is in {failure.filename}: {failure.strerror}")
+
+
+# ---- what is written
+
+def written(rows: list[Row], form: str | None) -> bytes:
+    """The table. A name that is no text has its own bytes in it."""
+    if form == "json":
+        return "".join(json.dumps({"schema": SCHEMA, **{it: row.get(it) for it in COLUMNS}}) + "\n" for row in rows).encode()
+    texts = [["" if row.get(column) is None else told(column, row[column]) for column in COLUMNS] for row in rows]
+    if form == "csv":
+        out = io.StringIO()
+        csv.writer(out, lineterminator="\n").writerows([COLUMNS, *texts])
+        return out.getvalue().encode("utf-8", "surrogateescape")
+    cells = [[*COLUMNS], *([in_line(cell) for cell in row] for row in texts)]
+    widths = [max(map(len, column)) for column in zip(*cells)][:-1]
+    lines = (" ".join([*(cell.ljust(width) for cell, width in zip(row, widths)), row[-1]]).rstrip() for row in cells)
+    return "".join(f"{line}\n" for line in lines).encode()
+
+
+def told(column: str, value: object) -> str:
+    return f"{value:.2f}" if column == "seconds" else str(value)
+
+
+def in_line(text: str) -> str:
+    """A text within a line: what can't be shown in one is told by its number."""
+    return "".join(it if it.isprintable() else it.encode("unicode_escape").decode() for it in text)

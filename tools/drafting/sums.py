@@ -1,0 +1,25 @@
+"""What answers stand on, by sums: where these are the same on two machines, so are the answers."""
+import hashlib
+import importlib.metadata
+import pathlib
+
+HERE = pathlib.Path(__file__).resolve().parent
+
+
+def of_files(files: list[pathlib.Path]) -> str:
+    """A sum over the names and bytes of files."""
+    found = hashlib.sha256()
+    for file in files:
+        found.update(f"{file.name} {file.stat().st_size}\n".encode())
+        found.update(file.read_bytes())
+    return found.hexdigest()
+
+
+def of(program: pathlib.Path) -> dict[str, str]:
+    """The sums of the program and of `draft`, and the version of ezdxf."""
+    try:
+        version = importlib.metadata.version("ezdxf")
+    except importlib.metadata.PackageNotFoundError:
+        version = "none"
+    own = sorted(file for file in HERE.iterdir() if file.suffix in (".py", ".lp"))
+    return {"recon": hashlib.sha256(program.read_bytes()).hexdigest(), "draft": of_files(own), "ezdxf": version}
