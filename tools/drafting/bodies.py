@@ -1,0 +1,146 @@
+"""Solids of a squared-off drawing rounded back as FreeCAD's shapes: what lies between a quarter round and its sharp corner is cut from a
+full corner, or added to an empty one; squares of whole circles become what is round them, and then cylinders are added or cut.
+"""
+import math
+import tempfile
+from collections.abc import Iterator, Sequence
+from typing import NamedTuple
+
+from .answers import Solid
+from .cad import FreeCAD, Part, load
+from .drawing import Place
+from .messages import Refused
+from .rounded import Drawn, Layer, Strip, by_rounds, spot, volume_of
+from .rounds import Quarter
+from .solids import shape_of
+
+# How far, of the whole, FreeCAD's volume may be from the formula's.
+NOISE = 1e-4
+
+
+class Tool(NamedTuple):
+    """A shape that is cut from a solid, or added to it."""
+
+    shape: "Part.Shape"
+    is_added: bool
+
+
+class Whole(NamedTuple):
+    """A whole circle in one layer: its square prism, which the solid has full or empty, and its cylinder."""
+
+    radius: float
+    is_full: bool
+    square: "Part.Shape"
+    cylinder: "Part.Shape"
+
+
+def vector(view: str, place: Place, depth: float) -> "FreeCAD.Vector":
+    return FreeCAD.Vector(*spot(view, place, depth))
+
+
+def prism(view: str, sides: Sequence["Part.Shape"], depth: float) -> "Part.Shape":
+    return Part.Face(Part.Wire(list(sides))).extrude(vector(view, (0, 0), depth))
+
+
+def whole_of(it: Drawn, layer: Layer, unit: int) -> Whole:
+    view, radius, foot = it.one.view, it.one.radius, layer.low / unit
+    low, high = ([round((at + way * radius) * unit) / unit for at in it.one.centre] for way in (-1, 1))
+    places = (low[0], low[1]), (high[0], low[1]), (high[0], high[1]), (low[0], high[1])
+    corners = [vector(view, place, foot) for place in places]
+    depth = (layer.high - layer.low) / unit
+    square = prism(view, list(map(Part.makeLine, corners, corners[1:] + corners[:1])), depth)
+    return Whole(radius, layer.is_full, square, Part.makeCylinder(radius, depth, vector(view, it.one.centre, foot), vector(view, (0, 0), 1)))
+
+
+def corner_of(view: str, quarter: Quarter, layer: Layer, unit: int) -> "Part.Shape":
+    """What lies between a quarter round and its sharp corner in a layer, without where something goes on across the corner's sides."""
+    first, corner, last, middle = (vector(view, place, layer.low / unit) for place in (quarter.ends[0], quarter.corner, quarter.ends[1], quarter.along(0.5)))
+    sides = [Part.makeLine(first, corner), Part.makeLine(corner, last), Part.Arc(last, middle, first).toShape()]
+    tool = prism(view, sides, (layer.high - layer.low) / unit)
+    for strip in layer.strips:
+        tool = tool.cut(box_of(view, quarter, layer, strip, unit))
+    return tool
+
+
+def box_of(view: str, quarter: Quarter, layer: Layer, strip: Strip, unit: int) -> "Part.Shape":
+    """Where something goes on across a corner's side: it is kept as far as the round."""
+    x0, y0, x1, y1 = quarter.box
+    low, high = [x0, y0], [x1, y1]
+    if strip.across == 2:
+        low, high = [strip.low[0] / unit, strip.high[0] / unit], [strip.low[1] / unit, strip.high[1] / unit]
+    else:
+        low[1 - strip.across], high[1 - strip.across] = strip.low[0] / unit, strip.high[0] / unit
+    size = spot(view, (high[0] - low[0], high[1] - low[1]), (layer.high - layer.low) / unit)
+    return Part.makeBox(*size, vector(view, (low[0], low[1]), layer.low / unit))
+
+
+def runs_of(layers: Sequence[Layer]) -> Iterator[Layer]:
+    """Layers that follow each other as one."""
+    run: Layer | None = None
+    for layer in layers:
+        if run and run.high == layer.low and run[2:] == layer[2:] and not layer.strips:
+            run = run._replace(high=layer.high)
+            continue
+        if run:
+            yield run
+        run = layer
+    if run:
+        yield run
+
+
+def applied(shape: "Part.Shape", tool: Tool) -> "Part.Shape":
+    if not tool.is_added:
+        return shape.cut(tool.shape)
+    return shape.fuse(tool.shape) if shape.Solids else tool.shape
+
+
+def read_back(shape: "Part.Shape") -> "Part.Shape":
+    """The shape as a STEP file has it: reading one marks the smooth edges, which aren't drawn."""
+    with tempfile.NamedTemporaryFile(suffix=".step") as file:
+        shape.exportStep(file.name)
+        return load(file.name)
+
+
+def tools_of(found: Sequence[Drawn], unit: int, by_formula: bool) -> tuple[list[Whole], list[Tool]]:
+    """The whole circles, and what is cut or added at other corners."""
+    wholes: list[Whole] = []
+    corners: list[Tool] = []
+    for group in by_rounds(found):
+        if len(group) == 4 and all(it.layers == group[0].layers for it in group) and by_formula:
+            wholes += [whole_of(group[0], layer, unit) for layer in group[0].layers]
+        else:
+            corners += [Tool(corner_of(it.one.view, it.quarter, run, unit), not run.is_full) for it in group for run in runs_of(it.layers)]
+    return wholes, [it for it in corners if it.shape.Solids]
+
+
+def rounded_shape(solid: Solid, found: Sequence[Drawn], unit: int, by_formula: bool) -> "Part.Shape":
+    """The shape of a solid rounded back. Squares of whole circles become what is round them, the least ones first; then the cylinders are
+    added or cut, the greatest ones first; before, other corners are cut or filled."""
+    shape, cylinders = shape_of(solid).scale(1 / unit), []
+    wholes, corners = tools_of(found, unit, by_formula)
+    for it in sorted(wholes, key=lambda whole: whole.radius):
+        cylinder = it.cylinder
+        if abs(it.square.common(shape).Volume - it.is_full * it.square.Volume) > 1e-7 * it.square.Volume:
+            # Something that isn't round stands within the round.
+            cylinder = cylinder.common(shape) if it.is_full else cylinder.cut(shape)
+        shape = applied(shape, Tool(it.square, not it.is_full))
+        cylinders.append(Tool(cylinder, it.is_full))
+    for tool in [*corners, *reversed(cylinders)]:
+        shape = applied(shape, tool)
+    return checked(read_back(shape.removeSplitter()), solid, found, unit, by_formula)
+
+
+def turned_round(shape: "Part.Shape") -> "Part.Shape":
+    """The shape in a mirror, x turned round, from 0 on."""
+    turned = shape.mirror(FreeCAD.Vector(0, 0, 0), FreeCAD.Vector(1, 0, 0))
+    turned.translate(FreeCAD.Vector(-turned.BoundBox.XMin, 0, 0))
+    return turned
+
+
+def checked(shape: "Part.Shape", solid: Solid, found: Sequence[Drawn], unit: int, by_formula: bool) -> "Part.Shape":
+    if not shape.isValid() or not shape.Solids:
+        raise Refused("FreeCAD makes no valid solid of it")
+    plain, by_pi = map(float, volume_of(solid, found, unit))
+    if by_formula and abs(shape.Volume - plain - by_pi * math.pi) > NOISE * shape.Volume:
+        raise Refused(f"FreeCAD's volume of it is {shape.Volume:.9g}, and {plain + by_pi * math.pi:.9g} was to come")
+    return shape

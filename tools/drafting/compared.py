@@ -1,0 +1,205 @@
+"""A rounded solid drawn again by FreeCAD's hidden line removal, and compared with its sheet, line by line and arc by arc."""
+import itertools
+import math
+from collections import defaultdict
+from collections.abc import Iterator, Mapping, Sequence
+from typing import NamedTuple
+
+from .cad import FreeCAD, Part, TechDraw
+from .curves import angle_of
+from .drawing import Place
+from .given import NOWHERE, Given, Stretch, times
+from .panels import FRAMES
+from .reading import Arc, Edge
+from .rounded import Drawn
+from .rounds import is_level
+from .shapes import DIRECTIONS, VISIBLE
+
+# Of TechDraw's ten groups of edges, of which the first five are visible: sharp edges and outlines; and smooth ones and seams.
+SHARP, SMOOTH = (0, 3, 5, 8), (1, 2, 6, 7)
+# How far apart coordinates are that are one, and how long a stretch has to be that counts; of parts that are no less than this.
+NEAR, LEAST, SIZE = 2.5e-3, 3e-3, 10.0
+
+# By line or circle: from where to where it is drawn, and whether hidden. A line is told by its way and its coordinate across; a circle by
+# its centre and radius, and places on it by lengths.
+Span = tuple[float, float, bool]
+Rows = dict[tuple[float, ...], list[Span]]
+
+
+class View(NamedTuple):
+    """What is drawn of a view: lines, arcs, and how many curves are neither."""
+
+    lines: list[Edge]
+    arcs: list[Arc]
+    others: int
+
+
+def drawn(shape: "Part.Shape", view: str, groups: Sequence[int] = SHARP) -> View:
+    """A view of a shape, from the shape's own coordinates on."""
+    direction, turned = DIRECTIONS[view]
+    made, result = TechDraw.projectEx(shape, FreeCAD.Vector(*direction)), View([], [], 0)
+    for number in (number for number in groups if not made[number].isNull()):
+        for edge in made[number].Edges:
+            low, high = edge.ParameterRange
+            places = [turned(it.x, it.y) for it in (edge.valueAt(low + (high - low) * at / 8) for at in range(9))]
+            if edge.Curve.TypeId == "Part::GeomCircle":
+                centre = turned(edge.Curve.Center.x, edge.Curve.Center.y)
+                result.arcs.append(arc_of(number >= VISIBLE, centre, edge.Curve.Radius, places))
+            elif (ends := ends_of(places)):
+                result.lines.append(Edge(number >= VISIBLE, *ends, 7, NOWHERE))
+            else:
+                result = result._replace(others=result.others + 1)
+    return result
+
+
+def arc_of(hidden: bool, centre: Place, radius: float, places: Sequence[Place]) -> Arc:
+    first, middle, last = (angle_of(centre, places[at]) for at in (0, 4, 8))
+    if (middle - first) % 360 > (last - first) % 360:
+        first, last = last, first
+    sweep = (last - first) % 360 if math.dist(places[0], places[8]) > 1e-6 else 360.0
+    return Arc(hidden, centre, radius, first, sweep, NOWHERE)
+
+
+def ends_of(places: Sequence[Place]) -> tuple[Place, Place] | None:
+    (x0, x1), (y0, y1) = ((min(its), max(its)) for its in zip(*places))
+    return ((x0, y0), (x1, y1)) if min(x1 - x0, y1 - y0) < 1e-6 else None
+
+
+# ---- the comparison
+
+def rows_of(lines: Sequence[Edge], arcs: Sequence[Arc]) -> Rows:
+    rows: Rows = defaultdict(list)
+    for edge in lines:
+        way = 0 if is_level(edge) else 1
+        low, high = sorted((edge.start[way], edge.end[way]))
+        rows[way, round(edge.start[1 - way], 3) + 0.0].append((low, high, edge.hidden))
+    for arc in arcs:
+        key = tuple(round(it, 3) + 0.0 for it in (*arc.centre, arc.radius))
+        for turn in (0, 360):
+            low, high = (math.radians(at - turn) * arc.radius for at in (arc.start, arc.start + arc.sweep))
+            rows[key].append((max(low, 0.0), min(high, 2 * math.pi * arc.radius), arc.hidden))
+    return rows
+
+
+def joined_near(given: Rows, made: Rows) -> Rows:
+    """The rows of what was given, under the keys of what was made where these are near."""
+    result: Rows = defaultdict(list)
+    for key, row in given.items():
+        near = [it for it in made if key not in made and are_near(it, key)]
+        result[near[0] if near else key] += row
+    return result
+
+
+def are_near(one: tuple[float, ...], other: tuple[float, ...]) -> bool:
+    same = len(one) == len(other) and (len(one) > 2 or one[0] == other[0])
+    return same and all(abs(a - b) < NEAR for a, b in zip(one, other))
+
+
+def style_at(row: Sequence[Span], at: float) -> str:
+    over = [hidden for low, high, hidden in row if low <= at <= high]
+    return "nothing" if not over else "dashed" if all(over) else "solid"
+
+
+def stretches(rows: Sequence[Sequence[Span]]) -> Iterator[tuple[float, float]]:
+    """The stretches between all ends of some rows of one line."""
+    stops = sorted({stop for row in rows for low, high, _ in row for stop in (low, high)})
+    return ((low, high) for low, high in itertools.pairwise(stops) if high - low > LEAST)
+
+
+def enlarged(shape: "Part.Shape", given: Given) -> tuple["Part.Shape", Given]:
+    """A shape and what was given, both so many times as large that they can be compared: parts in metres are small."""
+    size, factor = max(given.extent(axis) for axis in range(3)), 1
+    while 0 < size * factor < SIZE:
+        factor *= 10
+    return (shape.copy().scale(factor), times(given, factor)) if factor > 1 else (shape, given)
+
+
+def differences(shape: "Part.Shape", given: Given) -> Iterator[str]:
+    """Where the views of a shape differ from what was given, in words."""
+    for view in given.lines:
+        made = drawn(shape, view)
+        least = least_of(given, view)
+        rows = rows_of(*(moved(made.lines, made.arcs, least)))
+        told = joined_near(rows_of(given.lines[view], given.arcs.get(view, [])), rows)
+        if made.others:
+            yield f"{view} has {made.others} curves that are neither lines nor arcs"
+        for key in sorted(told.keys() | rows.keys()):
+            both = told.get(key, []), rows.get(key, [])
+            for low, high in stretches(both):
+                one, other = (style_at(row, (low + high) / 2) for row in both)
+                if one != other:
+                    yield f"{view}, {place_told(key, low, high)}: the sheet has {one}, the solid {other}"
+
+
+def least_of(given: Given, view: str) -> Place:
+    """The least corner of a view in the coordinates that are projected: what is gone along backwards begins at less than nothing."""
+    frame = FRAMES[view]
+    return (-given.extent(frame.right) if frame.right_back else 0.0), (-given.extent(frame.up) if frame.up_back else 0.0)
+
+
+def moved(lines: Sequence[Edge], arcs: Sequence[Arc], least: Place) -> tuple[list[Edge], list[Arc]]:
+    def there(place: Place) -> Place:
+        return place[0] - least[0], place[1] - least[1]
+
+    return ([it._replace(start=there(it.start), end=there(it.end)) for it in lines], [it._replace(centre=there(it.centre)) for it in arcs])
+
+
+def place_told(key: tuple[float, ...], low: float, high: float) -> str:
+    if len(key) == 2:
+        ends = [f"({key[1]:g}, {it:.6g})" if key[0] else f"({it:.6g}, {key[1]:g})" for it in (low, high)]
+        return " to ".join(ends)
+    angles = (math.degrees(it / key[2]) for it in (low, high))
+    return "from {:.4g} to {:.4g} degrees of the circle at ({:g}, {:g}) of radius {:g}".format(*angles, *key)
+
+
+# ---- lines that were left out as smooth
+
+def unexplained(given: Given, found: Sequence[Drawn], unit: int) -> Iterator[str]:
+    """Stretches that were left out though no round's axis runs along them for their whole length."""
+    near = min(NEAR, max(given.extent(axis) for axis in range(3)) * NEAR / SIZE)
+    for stretch in given.smooth:
+        frame = FRAMES[stretch.view]
+        axis, along = (frame.right, frame.up) if stretch.is_upright else (frame.up, frame.right)
+        covered = []
+        for it in found:
+            own = FRAMES[it.one.view]
+            if it.one.view != stretch.view and own.sight == along and axis in (own.right, own.up):
+                centre = it.one.centre[0 if axis == own.right else 1]
+                is_back = frame.right_back if stretch.is_upright else frame.up_back
+                place = given.extent(axis) - stretch.at if is_back else stretch.at
+                covered += [(layer.low / unit, layer.high / unit) for layer in it.layers if abs(centre - place) < near]
+        at, end = on_axis(given, stretch)
+        for low, high in sorted(covered):
+            at = max(at, high) if low <= at + near else at
+        if at < end - near:
+            yield f"{stretch.view}: the line at {stretch.at:.6g} from {stretch.low:.6g} to {stretch.high:.6g} is no smooth edge of it"
+
+
+def on_axis(given: Given, stretch: Stretch) -> tuple[float, float]:
+    """From where to where a stretch goes along its axis of space."""
+    frame = FRAMES[stretch.view]
+    axis, is_back = (frame.up, frame.up_back) if stretch.is_upright else (frame.right, frame.right_back)
+    extent = given.extent(axis)
+    return (extent - stretch.high, extent - stretch.low) if is_back else (stretch.low, stretch.high)
+
+
+def smooth_doubts(shape: "Part.Shape", given: Given) -> tuple[int, int]:
+    """Of the stretches that were left out, how many the shape has in another style or not at all; and how many visible smooth stretches of
+    the shape the sheet has nothing at, where it has others."""
+    other = lacking = 0
+    for view in {it.view for it in given.smooth}:
+        least = least_of(given, view)
+        rows = rows_of(moved(drawn(shape, view, SMOOTH).lines, [], least)[0], [])
+        left = [it for it in given.smooth if it.view == view]
+        told = joined_near(rows_of([*given.lines.get(view, []), *(it.edge() for it in left)], []), rows)
+        other += sum(differs(it, rows) for it in left)
+        for key, row in rows.items():
+            lacking += sum(style_at(row, (low + high) / 2) == "solid" and style_at(told.get(key, []), (low + high) / 2) != "solid"
+                           for low, high in stretches((row, told.get(key, []))))
+    return other, lacking
+
+
+def differs(stretch: Stretch, rows: Mapping[tuple[float, ...], list[Span]]) -> bool:
+    key = (1.0 if stretch.is_upright else 0.0, stretch.at)
+    near: list[Span] = next((row for it, row in rows.items() if are_near(it, key)), [])
+    return style_at(near, (stretch.low + stretch.high) / 2) != ("dashed" if stretch.hidden else "solid")

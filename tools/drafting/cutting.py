@@ -1,0 +1,167 @@
+"""Cutting-plane lines: letters that stand by arrow heads at their ends, and the strokes that belong to them and are no edges.
+
+A letter with a head beside it is one end of such a line; a letter that has two ends names a section. The line between them is a centre
+line, which is passed over; its thick ends and the shafts of its arrows are drawn as visible lines, and would join the view that it cuts.
+"""
+import math
+import re
+from collections import defaultdict
+from collections.abc import Iterator, Sequence
+from typing import Any, NamedTuple
+
+from .drawing import Place
+from .reading import TEXTS, Arrow, Box, Edge, Sheet, Source, box_of
+
+LETTER = re.compile(r"[^\W\d_]\d?['′]?")
+# How far from its head a letter may stand, how long a stroke of it is at most, in heights of the letter; and how far from a head its
+# strokes may begin, as a part of its size.
+NEAR, LONG, TOUCHING = 3, 8, 0.2
+
+
+class Word(NamedTuple):
+    """A text: what it says, where its middle is, and how high its letters are."""
+
+    text: str
+    place: Place
+    high: float
+    source: Source
+
+
+class Head(NamedTuple):
+    """An arrow head: the box round it, or its tip alone."""
+
+    box: Box
+    source: Source
+
+    @property
+    def size(self) -> float:
+        return math.dist(self.box[:2], self.box[2:])
+
+
+class Mark(NamedTuple):
+    """One end of a cutting-plane line: its letter, and its arrow head."""
+
+    letter: str
+    word: Word
+    head: Head
+
+
+def distance(box: Box, place: Place) -> float:
+    """How far a place is outside a box."""
+    x, y = place
+    return math.hypot(max(box[0] - x, 0.0, x - box[2]), max(box[1] - y, 0.0, y - box[3]))
+
+
+# ---- what stands on the sheet
+
+def word_of(entity: Any, source: Source) -> Word | None:
+    """A text with the middle of its first line."""
+    is_long = entity.dxftype() == "MTEXT"
+    text = " ".join(str(entity.plain_text()).split())
+    high = float(entity.dxf.get("char_height" if is_long else "height", 2.5))
+    side = (entity.dxf.get("attachment_point", 1) - 1) % 3 if is_long else {1: 1, 4: 1, 2: 2}.get(entity.dxf.get("halign", 0), 0)
+    place = entity.dxf.get("insert") if is_long or not side else entity.dxf.get("align_point") or entity.dxf.get("insert")
+    if not text or place is None:
+        return None
+    return Word(text, (place.x + 0.35 * high * len(text) * (1 - side), place.y), high, source)
+
+
+def words_of(sheet: Sheet) -> list[Word]:
+    found = (word_of(kept.entity, kept.source) for kept in sheet.kept if kept.source.kind in TEXTS)
+    return [word for word in found if word]
+
+
+def corners_of(path: Any) -> list[Place]:
+    """The corners of a side of a hatch; none where it is bent."""
+    if hasattr(path, "vertices"):
+        return [(it[0], it[1]) for it in path.vertices] if not any(len(it) > 2 and it[2] for it in path.vertices) else []
+    if any(type(edge).__name__ != "LineEdge" for edge in path.edges):
+        return []
+    return [(edge.start[0], edge.start[1]) for edge in path.edges]
+
+
+def is_head(hatch: Any) -> bool:
+    """Whether a hatch is a filled triangle, as arrow heads are."""
+    paths = list(hatch.paths)
+    return bool(hatch.dxf.get("solid_fill", 0)) and len(paths) == 1 and len(set(corners_of(paths[0]))) == 3
+
+
+def heads_of(sheet: Sheet, edges: Sequence[Edge], others: Sequence[Arrow], tolerance: float) -> Iterator[Head]:
+    """The arrow heads of a sheet, but those of exploded dimensions: filled triangles, inserted blocks, leaders and open ones."""
+    for arrow in sheet.arrows:
+        if not any(arrow is other for other in others):
+            xs, ys = zip(*arrow.tips)
+            grown = arrow.size if len(arrow.tips) == 1 else 0.0
+            yield Head((min(xs) - grown, min(ys) - grown, max(xs) + grown, max(ys) + grown), arrow.source)
+    for kept in sheet.kept:
+        if kept.source.kind == "LEADER" and len(kept.entity.vertices) > 1:
+            (a, b, *_), (c, d, *_) = kept.entity.vertices[0], kept.entity.vertices[-1]
+            yield Head((min(a, c), min(b, d), max(a, c), max(b, d)), kept.source)
+        elif kept.source.kind == "HATCH" and is_head(kept.entity) and (box := box_of(kept.entity)):
+            yield Head(box, kept.source)
+    yield from open_heads(edges, tolerance)
+
+
+def open_heads(edges: Sequence[Edge], tolerance: float) -> Iterator[Head]:
+    """Two slanted lines of one length that begin at one place."""
+    ends: dict[tuple[int, int], list[tuple[Edge, Place, Place]]] = defaultdict(list)
+    for edge in edges:
+        if min(abs(a - b) for a, b in zip(edge.start, edge.end)) > tolerance:
+            for tip, tail in ((edge.start, edge.end), (edge.end, edge.start)):
+                ends[round(tip[0] / (3 * tolerance)), round(tip[1] / (3 * tolerance))].append((edge, tip, tail))
+    for its in ends.values():
+        if len(its) == 2 and abs(math.dist(*its[0][1:]) - math.dist(*its[1][1:])) <= 3 * tolerance:
+            xs, ys = zip(its[0][1], its[0][2], its[1][2])
+            yield Head((min(xs), min(ys), max(xs), max(ys)), its[0][0].source)
+
+
+# ---- the marks and their strokes
+
+def marks_of(sheet: Sheet, edges: Sequence[Edge], others: Sequence[Arrow], tolerance: float) -> list[Mark]:
+    """The ends of cutting-plane lines: letters that stand at two arrow heads."""
+    letters = [word for word in words_of(sheet) if LETTER.fullmatch(word.text)]
+    heads = list(heads_of(sheet, edges, others, tolerance)) if letters else []
+    marks: dict[str, list[Mark]] = defaultdict(list)
+    for word in letters:
+        head = min(heads, key=lambda it: distance(it.box, word.place), default=None)
+        if head is not None and distance(head.box, word.place) <= NEAR * word.high + head.size:
+            letter = word.text.rstrip("'′").upper()
+            marks[letter].append(Mark(letter, word, head))
+    return [mark for its in marks.values() if len(its) == 2 and its[0].head != its[1].head for mark in its]
+
+
+def is_loose(edge: Edge, end: Place, edges: Sequence[Edge], tolerance: float) -> bool:
+    """Whether no other edge touches the end of one."""
+    return not any(it is not edge and distance(span_of(it), end) <= tolerance for it in edges)
+
+
+def span_of(edge: Edge) -> Box:
+    (a, b), (c, d) = edge.start, edge.end
+    return min(a, c), min(b, d), max(a, c), max(b, d)
+
+
+def strokes_of(mark: Mark, edges: Sequence[Edge], tolerance: float) -> list[Edge]:
+    """The lines of a mark: those that begin at its head, and what touches their ends, short and with a loose end."""
+    reach = TOUCHING * mark.head.size + 3 * tolerance
+    around = LONG * mark.word.high
+    near = [it for it in edges if not it.hidden and math.dist(it.start, it.end) <= around
+            and min(distance(mark.head.box, it.start), distance(mark.head.box, it.end)) <= around]
+    others = [it for it in edges if distance(mark.head.box, nearest_of(it, mark.head.box)) <= 3 * around]
+    found = [it for it in near if min(distance(mark.head.box, end) for end in (it.start, it.end)) <= reach]
+    touched = [end for it in found for end in (it.start, it.end)] + [(mark.head.box[0], mark.head.box[1]), (mark.head.box[2], mark.head.box[3])]
+    found += [it for it in near if not any(it is one for one in found)
+              and any(distance(span_of(it), end) <= 3 * tolerance for end in touched)]
+    rest = [it for it in others if not any(it is one for one in found)]
+    return [it for it in found if any(is_loose(it, end, rest, 3 * tolerance) for end in (it.start, it.end))]
+
+
+def nearest_of(edge: Edge, box: Box) -> Place:
+    """The place of the box round an edge that is nearest to the middle of another box."""
+    low_x, low_y, high_x, high_y = span_of(edge)
+    return min(max((box[0] + box[2]) / 2, low_x), high_x), min(max((box[1] + box[3]) / 2, low_y), high_y)
+
+
+def without_marks(edges: list[Edge], marks: Sequence[Mark], tolerance: float) -> list[Edge]:
+    """The edges without the strokes of marks."""
+    gone = {id(edge) for mark in marks for edge in strokes_of(mark, edges, tolerance)}
+    return [edge for edge in edges if id(edge) not in gone]

@@ -1,0 +1,178 @@
+"""Rounding back: in which layers a solid of a squared-off drawing has each quarter round, and its volume once it is rounded. `rounds.py`
+says when that is right."""
+import bisect
+import enum
+import itertools
+from collections.abc import Callable, Iterator, Sequence
+from fractions import Fraction
+from typing import NamedTuple
+
+from .answers import Solid
+from .cells import grid_round
+from .drawing import Place
+from .given import Given, Squared
+from .panels import FRAMES
+from .rounds import Quarter
+
+FULL_OUTSIDE, FULL_INSIDE = (False, True), (True, False)
+
+
+class Strip(NamedTuple):
+    """Where something goes on across a side of a quarter's square: across its upright side (0) or its level one (1), from one coordinate
+    to another; or (2) a rectangle round its corner, from x to x and from y to y."""
+
+    across: int
+    low: tuple[int, ...]
+    high: tuple[int, ...]
+
+
+class Layer(NamedTuple):
+    """A stretch along the sight, in units, in which a quarter is drawn; whether its inside is full, or its outside; and what goes on there
+    across its square."""
+
+    low: int
+    high: int
+    is_full: bool
+    strips: tuple[Strip, ...] = ()
+
+
+class Drawn(NamedTuple):
+    """A quarter of a round, and its layers."""
+
+    one: Squared
+    quarter: Quarter
+    layers: tuple[Layer, ...]
+
+
+class How(enum.IntEnum):
+    """How layers are taken: where full changes to empty all along a corner; also, of what is no whole circle or is cut, where it does so but
+    for where a wall goes on across; or of all."""
+
+    STRICT, CUT, ALL = range(3)
+
+
+def spot(view: str, place: Place, depth: float) -> tuple[float, float, float]:
+    """A place of a main view at a depth, in space."""
+    frame, at = FRAMES[view], [0.0, 0.0, 0.0]
+    at[frame.right], at[frame.up], at[frame.sight] = *place, depth
+    return at[0], at[1], at[2]
+
+
+class Beside(NamedTuple):
+    """A place within and one beyond a side of a quarter's square, in units; and across which side, from where to where, or the corner."""
+
+    within: Place
+    beyond: Place
+    where: tuple[int, int, int] | None
+
+
+def beside(cuts: list[list[int]], view: str, quarter: Quarter, unit: int) -> Iterator[Beside]:
+    """Places within and beyond the two sides at a quarter's sharp corner, and at the corner itself."""
+    centre, corner = ([round(at * unit) for at in place] for place in (quarter.centre, quarter.corner))
+    within, beyond = ([at - way * side / 2 for at, way in zip(corner, (quarter.right, quarter.up))] for side in (1, -1))
+    yield Beside((within[0], within[1]), (beyond[0], beyond[1]), None)
+    for across, axis in ((0, FRAMES[view].up), (1, FRAMES[view].right)):
+        low, high = sorted((centre[1 - across], corner[1 - across]))
+        for one, other in itertools.pairwise([low, *(cut for cut in cuts[axis] if low < cut < high), high]):
+            middle = (one + other) / 2
+            ends = [(pair[0], middle) if across == 0 else (middle, pair[1]) for pair in (within, beyond)]
+            yield Beside(ends[0], ends[1], (across, one, other))
+
+
+def strips_of(its: Sequence[tuple[int, int, int]], quarter: Quarter, unit: int) -> tuple[Strip, ...]:
+    """What goes on across a quarter's sides: strips; and round its corner, where both sides go on, a rectangle alone."""
+    corner = [round(at * unit) for at in quarter.corner]
+    rows = [joined(sorted(it[1:] for it in its if it[0] == across)) for across in (0, 1)]
+    touching = [next((it for it in row if corner[1 - across] in it), None) for across, row in enumerate(rows)]
+    strips = [Strip(across, (low,), (high,)) for across, row in enumerate(rows) for low, high in row]
+    upright, level = touching
+    if upright is None or level is None:
+        return tuple(strips)
+    rest = [it for it in strips if (it.low[0], it.high[0]) != touching[it.across]]
+    return (*rest, Strip(2, level, upright))
+
+
+def joined(its: Sequence[tuple[int, ...]]) -> list[tuple[int, ...]]:
+    row: list[tuple[int, ...]] = []
+    for low, high in its:
+        row = [*row[:-1], (row[-1][0], high)] if row and row[-1][1] == low else [*row, (low, high)]
+    return row
+
+
+def layer_of(at: list[tuple[tuple[bool, bool], Beside]], ends: tuple[int, int], drawn: tuple[Squared, Quarter], how: How, unit: int) -> Layer | None:
+    """The layer, where the quarter is drawn in it."""
+    one, quarter = drawn
+    styles = {pair for pair, _ in at}
+    if styles in ({FULL_INSIDE}, {FULL_OUTSIDE}):
+        return Layer(*ends, FULL_INSIDE in styles)
+    if how is How.STRICT or how is How.CUT and one.is_circle and not one.is_cut:
+        return None
+    sides = {pair for pair, it in at if it.where and pair[0] != pair[1]}
+    if len(sides) != 1:
+        return None
+    is_full = FULL_INSIDE in sides
+    on = [it.where for pair, it in at if it.where and pair == (is_full, is_full)]
+    return Layer(*ends, is_full, strips_of(on, quarter, unit))
+
+
+def is_full_in(solid: Solid) -> tuple[list[list[int]], Callable[[tuple[float, float, float]], bool]]:
+    """The grid of a solid, and whether it is full at a place."""
+    grid = grid_round([solid])
+    rows, cuts = grid.rows(grid.cells(solid)), grid.cuts
+
+    def is_full(at: tuple[float, float, float]) -> bool:
+        x, y, z = (bisect.bisect(cut, it) - 1 for cut, it in zip(cuts, at))
+        return all(0 <= it < len(cut) - 1 for it, cut in zip((x, y, z), cuts)) and rows[z][y][x] == "1"
+
+    return cuts, is_full
+
+
+def rounded(solid: Solid, given: Given, unit: int, how: How = How.STRICT) -> list[Drawn] | None:
+    """The layers of all quarters; nothing where some quarter has no layer. Further views draw no other rounds than the main ones."""
+    cuts, is_full = is_full_in(solid)
+    found: list[Drawn] = []
+    for one in (it for it in given.rounds if it.view in ("FRONT", "TOP", "SIDE")):
+        for quarter in one.quarters:
+            places, layers = list(beside(cuts, one.view, quarter, unit)), []
+            for low, high in itertools.pairwise(cuts[FRAMES[one.view].sight]):
+                middle = (low + high) / 2
+                at = [((is_full(spot(one.view, it.within, middle)), is_full(spot(one.view, it.beyond, middle))), it) for it in places]
+                layers.append(layer_of(at, (low, high), (one, quarter), how, unit))
+            if not any(layers):
+                return None
+            found.append(Drawn(one, quarter, tuple(it for it in layers if it)))
+    return found
+
+
+def by_rounds(found: Sequence[Drawn]) -> list[list[Drawn]]:
+    return [list(its) for _, its in itertools.groupby(found, lambda it: it.one)]
+
+
+def of_wholes(found: list[Drawn]) -> list[Drawn]:
+    """The same, of whole circles with those layers alone that all quarters have: another thing's corner may lie at that of a square."""
+    result: list[Drawn] = []
+    for group in by_rounds(found):
+        common = tuple(layer for layer in group[0].layers if len(group) == 4 and all(layer in it.layers for it in group))
+        result += [it._replace(layers=common or it.layers) for it in group]
+    return result
+
+
+def ways_of(solid: Solid, given: Given, unit: int) -> Iterator[tuple[list[Drawn], bool]]:
+    """The ways to round a solid back, the strictest first, and whether the volume's formula holds for it."""
+    seen: list[list[Drawn]] = []
+    for how in How:
+        found = rounded(solid, given, unit, how)
+        for way in [] if found is None else [of_wholes(found), found] if how is How.STRICT else [found]:
+            if way not in seen:
+                seen.append(way)
+                yield way, how is How.STRICT and not any(it.quarter.is_inner for it in way)
+
+
+def volume_of(solid: Solid, found: Sequence[Drawn], unit: int) -> tuple[Fraction, Fraction]:
+    """The volume, a number and a number of pi: each quarter takes (1 - pi / 4) r² from a full corner, or adds it to an empty one."""
+    plain, by_pi = Fraction(solid.volume, unit**3), Fraction(0)
+    for it in found:
+        square = Fraction(round(it.quarter.radius * unit), unit) ** 2
+        share = square * sum((layer.high - layer.low) * (-1 if layer.is_full else 1) for layer in it.layers) / unit
+        plain, by_pi = plain + share, by_pi - share / 4
+    return plain, by_pi

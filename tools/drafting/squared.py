@@ -1,0 +1,343 @@
+"""A sheet with rounds, squared off: where its views are, what of its arcs belongs to them, and for each reading of it the drawing that recon
+reads, with comments that say what was squared off (`given.py`).
+"""
+import argparse
+import itertools
+import math
+from collections import Counter, defaultdict
+from collections.abc import Iterator, Sequence
+from fractions import Fraction
+from typing import NamedTuple
+
+from . import given, rounds, sheet, tangent
+from .cutting import Mark
+from .drawing import VIEWS, Place
+from .given import Given, Stretch
+from .groups import Group, frames, holds, merged, pieces_of
+from .messages import Refused, many
+from .panels import FRAMES
+from .placing import Placed
+from .reading import Arc, Box, Edge, Sheet, Unread
+from .rounds import OF_ONE, Move, Round, Squares, box_of, is_level, is_straight
+from .straight import Measure, Run, runs_of
+from .tangent import Reading, Views
+
+# The decimals of coordinates that have no end, as on a bolt circle: solids go by their order alone.
+ROUNDED = 4
+# How far curves end from the lines that they meet, in files with three decimals, and by what share of the sheet.
+ENDS, SHARE = 6e-4, 1e-5
+# The most circles and arcs of a sheet, and how many warnings of one kind are told.
+MOST_ARCS, MOST_TOLD = 3_000, 8
+# How far apart views may lie that a group of arcs alone is in line with.
+IN_LINE = 2e-3
+
+
+class Found(NamedTuple):
+    """What is read of a sheet, and its cutting-plane lines: its lines, its arcs within the views, and where these are."""
+
+    path: str | None
+    sheet: Sheet
+    marks: Sequence[Mark]
+    lines: list[Edge]
+    arcs: list[Arc]
+    placed: Placed
+    arguments: argparse.Namespace
+
+    @property
+    def tolerance(self) -> float:
+        return float(self.arguments.tolerance)
+
+    def views(self, rounds_of: Sequence[Round]) -> Views:
+        boxes = {view: group.box for view, group in self.placed.views.items()}
+        placed = [(view, one) for one in rounds_of for view, box in boxes.items() if holds(box, one.box, OF_ONE * self.tolerance)]
+        return Views(boxes, self.lines, placed, self.tolerance)
+
+
+# ---- two exports of one sheet
+
+def arcs_hidden_by(whole: Sequence[Arc], visible: Sequence[Arc], tolerance: float) -> Iterator[Arc]:
+    """The arcs of a sheet, cut where arcs of its export without hidden lines end, and hidden where that one lacks them."""
+    for arc in whole:
+        beside = [it for it in visible if rounds.are_of_one(it, arc, tolerance)]
+        noise = math.degrees(1e-3 / arc.radius)
+        offs = [(at - arc.start) % 360 for it in beside if it.sweep < 360 - noise for at in (it.start, it.start + it.sweep)]
+        stops = sorted({0.0, arc.sweep, *(off for off in offs if noise < off < arc.sweep - noise)})
+        for low, high in itertools.pairwise(stops):
+            if high - low > noise:
+                seen = any((arc.start + (low + high) / 2 - it.start) % 360 <= it.sweep for it in beside)
+                yield arc._replace(hidden=not seen, start=(arc.start + low) % 360, sweep=high - low)
+
+
+Row = tuple[bool, float]
+
+
+def tallied(edges: Sequence[Edge], tolerance: float) -> dict[Row, list[tuple[float, float]]]:
+    """From where to where level and upright edges go, by their lines; a drawing's noise is evened out by the first edge of each."""
+    rows: dict[Row, list[tuple[float, float]]] = {}
+    for edge in sorted(edges, key=lambda it: (is_level(it), it.start[1 if is_level(it) else 0])):
+        way = 0 if is_level(edge) else 1
+        at = edge.start[1 - way]
+        last = next(reversed(rows), None)
+        key = last if last and last[0] == bool(way) and abs(last[1] - at) <= OF_ONE * tolerance else (bool(way), at)
+        rows.setdefault(key, []).append(tangent.span_of(edge, way))
+    return rows
+
+
+def twice_hidden(whole: Sequence[Edge], visible: Sequence[Edge], tolerance: float) -> Iterator[Edge]:
+    """Hidden lines under visible ones: the whole export has a stretch more often there than the one of visible lines."""
+    straight = [it for it in whole if is_straight(it, OF_ONE * tolerance)]
+    rows, seen = tallied(straight, tolerance), tallied(visible, tolerance)
+    for (upright, at), its in rows.items():
+        others = [it for (way, there), row in seen.items() if way == upright and abs(there - at) <= 2 * OF_ONE * tolerance for it in row]
+        for low, high in itertools.pairwise(sorted({stop for it in [*its, *others] for stop in it})):
+            counts = [sum(a <= (low + high) / 2 <= b for a, b in row) for row in (its, others)]
+            if high - low > OF_ONE * tolerance and counts[0] > counts[1] > 0:
+                yield Stretch("", upright, at, low, high, True).edge()._replace(source=straight[0].source)
+
+
+# ---- noise
+
+def evened(edges: Sequence[Edge], arcs: Sequence[Arc]) -> list[Edge]:
+    """The edges with coordinates that differ by noise alone made one, which most have: curves end less exactly than lines."""
+    tables = [evening(edges, arcs, at) for at in (0, 1)]
+    return [edge._replace(start=(tables[0][edge.start[0]], tables[1][edge.start[1]]), end=(tables[0][edge.end[0]], tables[1][edge.end[1]]))
+            for edge in edges]
+
+
+def evening(edges: Sequence[Edge], arcs: Sequence[Arc], at: int) -> dict[float, float]:
+    """What each coordinate of the edges, to the right or upwards, becomes."""
+    counts: dict[float, int] = defaultdict(int)
+    for edge in edges:
+        for end in (edge.start, edge.end):
+            counts[end[at]] += 1 if edge.source.kind == "SPLINE" else 3
+    for arc in arcs:
+        for off in (-arc.radius, 0.0, arc.radius):
+            counts[arc.centre[at] + off] += 2
+    table: dict[float, float] = {}
+    group: list[float] = []
+    noise = min(ENDS, (max(counts) - min(counts)) * SHARE)
+    for value in [*sorted(counts), math.inf]:
+        if group and value - group[-1] > noise:
+            best = max(group, key=lambda it: (sum(counts[other] for other in group if abs(other - it) < 2e-5), counts[it]))
+            table.update({it: best for it in group})
+            group = []
+        group.append(value)
+    return table
+
+
+# ---- which arcs are of the views
+
+def arc_box(arc: Arc) -> Box:
+    turns = [arc.start, arc.start + arc.sweep, *(at for at in range(0, 720, 90) if arc.start <= at <= arc.start + arc.sweep)]
+    return box_of([arc.at(it) for it in turns])
+
+
+def stand_in(arc: Arc) -> Run:
+    """What stands for an arc where lines are grouped: an oblique line across its box."""
+    box = arc_box(arc)
+    return Run(arc.hidden, False, 0.0, 0.0, 0.0, Edge(arc.hidden, box[:2], box[2:], 7, arc.source), True)
+
+
+def arcs_beside(edges: Sequence[Edge], arcs: Sequence[Arc], curves: Sequence[Unread], tolerance: float) -> tuple[list[Arc], list[Arc]]:
+    """The arcs in groups that have lines, or that stand in line with such a group and reach as far; and others, as the balloons of a list
+    of parts. What can't be read joins groups too."""
+    stand_ins = [(stand_in(arc), arc) for arc in arcs]
+    its = {id(run): arc for run, arc in stand_ins}
+    pieces, _ = frames(pieces_of([*runs_of(edges, tolerance)[0], *(run for run, _ in stand_ins)], tolerance, curves), tolerance)
+    groups = merged(pieces, tolerance)
+    boxes = [group.box for group in groups if any(id(run) not in its for run in group.runs)]
+    kept: list[Arc] = []
+    for group in groups:
+        is_in_line = any(abs(box[at] - group.box[at]) <= IN_LINE and abs(box[at + 2] - group.box[at + 2]) <= IN_LINE for box in boxes for at in (0, 1))
+        kept += [its[id(run)] for run in group.runs if is_in_line and id(run) in its]
+    return kept, [arc for arc in arcs if not any(arc is it for it in kept)]
+
+
+def read(path: str | None, read_sheet: Sheet, marks: Sequence[Mark], arguments: argparse.Namespace, tell: sheet.Tell) -> Found:
+    """What is read of a sheet with arcs, and where its views are."""
+    tolerance, edges, arcs = arguments.tolerance, read_sheet.edges, read_sheet.arcs
+    if len(arcs) > MOST_ARCS:
+        raise Refused(f"{len(arcs):,} circles and arcs, more than {MOST_ARCS:,}")
+    if apart := next((arc for arc in arcs if arc.source.view), None):
+        raise Refused(f"in {apart.source.view} a {sheet.where(apart.source, path)} is no straight line, and circles and arcs are read where "
+                      "all views stand on one sheet")
+    if read_sheet.seen:
+        arcs = list(arcs_hidden_by(arcs, read_sheet.seen.arcs, tolerance))
+        edges = [*edges, *twice_hidden(read_sheet.whole, read_sheet.seen.edges, tolerance)]
+    if any(edge.source.kind in ("SPLINE", "ELLIPSE") for edge in edges):
+        edges = evened(edges, arcs)
+    kept, left = arcs_beside(edges, arcs, sheet.curves_of(read_sheet), tolerance)
+    bare = [*edges, *rounds.bare_squares(rounds.rounds_of(kept, tolerance))]
+    placed = sheet.found_views(path, read_sheet, bare, marks, arguments, lambda text: None)
+    if missing := [view for view in VIEWS if view not in placed.views]:
+        raise Refused(f"{missing[0]} isn't drawn, and a sheet with circles or arcs is read where all three main views are there: draw it too")
+    # What no reading changes is refused at once.
+    sheet.refuse_unread(path, placed, read_sheet.unread, arguments, lambda text: None)
+    sheet.refuse_oblique(path, placed)
+    for arc in kept:
+        if not any(holds(group.box, arc_box(arc), OF_ONE * tolerance) for group in placed.views.values()):
+            left.append(arc)
+    counts = Counter(f"{arc.source.kind} on layer {arc.source.layer}, outside the views" for arc in left)
+    sheet.tell_counted(tell, "left out", counts)
+    within = [arc for arc in kept if not any(arc is it for it in left)]
+    return Found(path, read_sheet, marks, edges, within, placed, arguments)
+
+
+# ---- one reading
+
+def remapped(edges: Sequence[Edge], moves: Sequence[Move], found: Found) -> list[Edge]:
+    """In the views that see a round from its side, the lines where walls meet it, moved to where they meet its square."""
+    noise = OF_ONE * found.tolerance
+    boxes = {view: group.box for view, group in found.placed.views.items()}
+    changes: list[tuple[Box, int, float, float]] = []
+    for move in moves:
+        for view in [it for it, box in boxes.items() if holds(box, box_of([move.one.centre]), noise)]:
+            axis = FRAMES[view].up if move.along else FRAMES[view].right
+            ends = [tangent.place_along(view, boxes[view], axis, it) for it in (move.before, move.after)]
+            for other, box in boxes.items():
+                if other != view and axis in (FRAMES[other].right, FRAMES[other].up):
+                    before, after = (tangent.place_along(other, box, axis, it, True) for it in ends)
+                    changes.append((box, 0 if FRAMES[other].right == axis else 1, before, after))
+    return [moved(edge, changes, noise) for edge in edges]
+
+
+def moved(edge: Edge, changes: Sequence[tuple[Box, int, float, float]], noise: float) -> Edge:
+    ends = [list(edge.start), list(edge.end)]
+    for box, at, before, after in changes:
+        if holds(box, box_of([edge.start, edge.end]), noise):
+            for end in ends:
+                end[at] = after if abs(end[at] - before) <= 2 * noise else end[at]
+    return edge._replace(start=(ends[0][0], ends[0][1]), end=(ends[1][0], ends[1][1]))
+
+
+def squared(found: Found, reading: Reading) -> tuple[list[Edge], Squares]:
+    """The lines that a reading leaves, and the sheet squared off."""
+    views = found.views(rounds.rounds_of(found.arcs, found.tolerance))
+    lines = tangent.without(found.lines, reading.left, found.tolerance)
+    given_edges = [*lines, *tangent.added(views, reading)]
+    inner = [one.centre for view, one in views.rounds if (view, round(one.radius, 2)) in reading.inner]
+    its = [one._replace(is_inner=len(one.numbers) == 1 and not one.cuts and one.centre in inner) for _, one in views.rounds]
+    squares = rounds.Squaring(given_edges, its, found.tolerance, reading.is_eager).done()
+    if cut := [it for it in squares.moves if it.one.cuts or reading.is_eager]:
+        squares = rounds.Squaring(remapped(given_edges, cut, found), its, found.tolerance, reading.is_eager).done()
+    return lines, squares
+
+
+def measured(placed: Placed, times: Fraction, arguments: argparse.Namespace, tell: sheet.Tell) -> Measure:
+    """How lengths become whole; rounded where they have no end."""
+    try:
+        return sheet.measured(placed, times, arguments, tell)
+    except Refused as refusal:
+        if "doesn't fit" not in str(refusal) or arguments.sheet_decimals is not None:
+            raise
+        tell(f"changed: coordinates rounded to {ROUNDED} decimals, since they have no end")
+        return Measure(times, ROUNDED, 0.5 * 10**-ROUNDED)
+
+
+class Frame(NamedTuple):
+    """How places of a view become those of the drawing, from the view's least corner on, in the drawing's unit."""
+
+    group: Group
+    times: float
+    is_mirrored: bool
+
+    def place(self, place: Place) -> Place:
+        x, y, right, _ = self.group.box
+        return (right - place[0] if self.is_mirrored else place[0] - x) * self.times, (place[1] - y) * self.times
+
+    def edge(self, edge: Edge) -> Edge:
+        return edge._replace(start=self.place(edge.start), end=self.place(edge.end))
+
+    def arc(self, arc: Arc) -> Arc:
+        start = (180 - arc.start - arc.sweep) % 360 if self.is_mirrored else arc.start
+        return arc._replace(centre=self.place(arc.centre), radius=arc.radius * self.times, start=start)
+
+    def round(self, view: str, one: Round) -> given.Squared:
+        quarters = tuple(it._replace(centre=self.place(it.centre), radius=it.radius * self.times, right=-it.right if self.is_mirrored else it.right)
+                         for it in one.quarters)
+        return given.Squared(view, self.place(one.centre), one.radius * self.times, quarters, bool(one.cuts))
+
+    def stretch(self, it: Stretch) -> Stretch:
+        ends = self.edge(it.edge())
+        low, high = tangent.span_of(ends, 1 if it.is_upright else 0)
+        return it._replace(at=ends.start[0 if it.is_upright else 1], low=low, high=high)
+
+
+def given_by(found: Found, placed: Placed, lines: Sequence[Edge], squares: Squares, left: tangent.Left, times: float) -> Given:
+    """What the drawing says of its sheet."""
+    result, noise = Given([], {}, {}, [], squares.doubts), OF_ONE * found.tolerance
+    for view, group in placed.views.items():
+        frame = Frame(group, times, placed.mirrored)
+        for one in squares.rounds:
+            if holds(group.box, one.box, noise):
+                result.rounds.append(frame.round(view, one))
+        result.arcs[view] = [frame.arc(it) for it in found.arcs if holds(group.box, arc_box(it), noise)]
+        result.lines[view] = [frame.edge(it) for it in lines if holds(group.box, box_of([it.start, it.end]), noise)]
+        result.smooth.extend(frame.stretch(it) for it, _ in left if it.view == view)
+    if len(result.rounds) != len(squares.rounds):
+        raise Refused(f"{many(len(squares.rounds) - len(result.rounds), 'round')} of the sheet lie in no view once squared off, or in two")
+    return result
+
+
+def drawn(found: Found, reading: Reading, number: tuple[int, int], tell: sheet.Tell) -> sheet.Drawn:
+    """The drawing of one reading of a sheet."""
+    lines, squares = squared(found, reading)
+    placed = sheet.checked_views(found.path, found.sheet, squares.edges, found.marks, found.arguments, tell)
+    times = sheet.scale_in_use(found.path, found.sheet, placed, found.arguments, tell)
+    measure = measured(placed, times, found.arguments, tell)
+    left = list(reading.left)
+    if reading.inner:
+        views = found.views(squares.rounds)
+        smooth = [(it, False) for it in tangent.candidates(views) if it.owners & set(reading.inner)]
+        lines, left = tangent.without(lines, smooth, found.tolerance), [*left, *smooth]
+    told = given_by(found, placed, lines, squares, tuple(left), float(measure.times))._replace(reading=number)
+    for view in placed.views:
+        circles = [it for it in told.rounds if it.view == view]
+        if circles:
+            tell(f"changed: in {view} {many(len(circles), 'circle or round', 'circles or rounds')} squared off, of {radii_told(circles)}")
+    for stretch in told.smooth:
+        way = "upright" if stretch.is_upright else "level"
+        tell(f"left out: in {stretch.view} the {way} line at {stretch.at:.6g} from {stretch.low:.6g} to {stretch.high:.6g}, taken as a tangent edge")
+    for text in squares.doubts[:MOST_TOLD]:
+        tell(f"warning: {text}: other solids may be missed")
+    if len(squares.doubts) > MOST_TOLD:
+        tell(f"warning: {many(len(squares.doubts) - MOST_TOLD, 'place')} more of this kind")
+    return sheet.drawn_views(found.path, found.sheet, placed, times, measure, found.arguments, tell, given.comments(told))
+
+
+def radii_told(circles: Sequence[given.Squared]) -> str:
+    radii = sorted({f"{it.radius:.6g}" for it in circles}, key=float)
+    return f"radius {radii[0]}" if len(radii) == 1 else f"radii {', '.join(radii)}"
+
+
+# ---- all readings
+
+def drawings(found: Found) -> Iterator[sheet.Drawn | Refused]:
+    """The drawings of a sheet by its readings, the likeliest first, or why one has none."""
+    views = found.views(rounds.rounds_of(found.arcs, found.tolerance))
+    its, count = tangent.readings(tangent.candidates(views), tangent.kinds_of(views.rounds))
+    only = found.arguments.reading
+    if only is not None and not 1 <= only <= len(its):
+        raise Refused(f"there is no reading {only}: {many(len(its), 'reading')} of this sheet")
+    for number, reading in enumerate(its, 1):
+        notes: list[str] = []
+        if only in (None, number):
+            try:
+                yield drawn(found, reading, (number, count), notes.append)._replace(notes=notes, is_plain=number <= count)
+            except Refused as refusal:
+                yield refusal
+
+
+def first(path: str | None, read_sheet: Sheet, marks: Sequence[Mark], arguments: argparse.Namespace, tell: sheet.Tell) -> sheet.Drawn:
+    """The drawing of the first reading of a sheet that has one, and those of the others."""
+    found = read(path, read_sheet, marks, arguments, tell)
+    if not found.arcs:
+        return sheet.draw_straight(path, read_sheet, marks, arguments, tell)
+    others, why = drawings(found), None
+    for one in others:
+        if isinstance(one, sheet.Drawn):
+            is_plain = arguments.reading is not None or why is None or one.is_plain
+            return one._replace(others=others, refused=None if is_plain else why)
+        why = why or one
+    assert why is not None
+    raise why
