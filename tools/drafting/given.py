@@ -1,0 +1,201 @@
+"""What a squared-off drawing says of its sheet, in comments that recon passes over: its rounds, by which solids are rounded back; and the
+lines and arcs of each view, with which they are compared. All are from a view's least corner on, in the drawing's unit:
+
+    draft reading 1 of 3
+    draft round TOP 40 25 6 1234            a centre, a radius, and the numbers of quarters; `inner` or `cut` behind them
+    draft arc TOP solid 40 25 6 0 360       from an angle on, so many degrees counterclockwise
+    draft line FRONT dashed 34 0 34 8
+    draft smooth FRONT upright solid 8 0 8  left out as a tangent edge or a seam: at, from, to
+    draft doubt WORDS
+"""
+import re
+from collections.abc import Callable, Iterator
+from typing import NamedTuple
+
+from .drawing import FURTHER, VIEWS, Place, pairs, pairs_of
+from .messages import Refused
+from .reading import Arc, Edge, Source
+from .rounds import Quarter, Round
+
+NOWHERE = Source("drawn", "", "")
+MOST = 200_000
+VIEW = "|".join((*VIEWS, *FURTHER))
+FORMS = {
+    "round": rf"({VIEW}) # # # ([1-4]{{1,4}})( inner)?( cut)?", "arc": rf"({VIEW}) (solid|dashed) # # # # #",
+    "line": rf"({VIEW}) (solid|dashed) # # # #", "smooth": rf"({VIEW}) (upright|level) (solid|dashed) # # #",
+    "reading": r"([1-9]\d{0,5}) of ([1-9]\d{0,5})", "doubt": "(.*)",
+}
+
+
+class Squared(NamedTuple):
+    """A round that was squared off: its view, its quarters, and whether a wall cuts it."""
+
+    view: str
+    centre: Place
+    radius: float
+    quarters: tuple[Quarter, ...]
+    is_cut: bool
+
+    @property
+    def is_circle(self) -> bool:
+        return len(self.quarters) == 4
+
+    def __str__(self) -> str:
+        what = "circle" if self.is_circle else "round"
+        return f"{what} of {self.view} at {self.centre[0]:.6g}, {self.centre[1]:.6g}, of radius {self.radius:.6g}"
+
+
+class Stretch(NamedTuple):
+    """A stretch of a line that may be a tangent edge or a seam of a round: in a view, upright or level, at, from, to. The owners are the
+    rounds that it may be of, by their views and radii."""
+
+    view: str
+    is_upright: bool
+    at: float
+    low: float
+    high: float
+    hidden: bool
+    owners: frozenset[tuple[str, float]] = frozenset()
+
+    def edge(self) -> Edge:
+        ends = ((self.at, self.low), (self.at, self.high)) if self.is_upright else ((self.low, self.at), (self.high, self.at))
+        return Edge(self.hidden, *ends, 7, NOWHERE)
+
+
+class Given(NamedTuple):
+    """What a drawing's comments say: the rounds, the lines and arcs by their views, what was left out as smooth, where squaring off may be
+    wrong, and which reading of the sheet it is, of how many: one of a greater number changes more than to leave lines out."""
+
+    rounds: list[Squared]
+    lines: dict[str, list[Edge]]
+    arcs: dict[str, list[Arc]]
+    smooth: list[Stretch]
+    doubts: list[str]
+    reading: tuple[int, int] = (1, 1)
+
+    def extent(self, axis: int) -> float:
+        """How far the part reaches along an axis of space."""
+        view, at = {0: ("FRONT", 0), 1: ("TOP", 1), 2: ("FRONT", 1)}[axis]
+        ends = [end[at] for it in self.lines.get(view, []) for end in (it.start, it.end)]
+        return max([*ends, *(it.centre[at] + it.radius for it in self.arcs.get(view, []) if reaches(it, at))], default=0.0)
+
+
+def times(given: Given, factor: int) -> Given:
+    """The same in a smaller unit."""
+    def place(it: Place) -> Place:
+        return it[0] * factor, it[1] * factor
+
+    def quarter(it: Quarter) -> Quarter:
+        return it._replace(centre=place(it.centre), radius=it.radius * factor)
+
+    return given._replace(
+        rounds=[it._replace(centre=place(it.centre), radius=it.radius * factor, quarters=tuple(map(quarter, it.quarters))) for it in given.rounds],
+        lines={view: [it._replace(start=place(it.start), end=place(it.end)) for it in its] for view, its in given.lines.items()},
+        arcs={view: [it._replace(centre=place(it.centre), radius=it.radius * factor) for it in its] for view, its in given.arcs.items()},
+        smooth=[it._replace(at=it.at * factor, low=it.low * factor, high=it.high * factor) for it in given.smooth],
+    )
+
+
+def reaches(arc: Arc, at: int) -> bool:
+    """Whether an arc comes to its circle's greatest place to the right, or upwards."""
+    return (90 * at - arc.start) % 360 <= arc.sweep
+
+
+# ---- writing
+
+def plain(*values: float) -> str:
+    """Numbers, with no more than nine decimals."""
+    return " ".join(f"{value:.9f}".rstrip("0").rstrip(".") if round(value, 9) else "0" for value in values)
+
+
+def number_of(quarter: Quarter) -> int:
+    """The number of a quarter of its circle, from 1 on, as it is drawn."""
+    one = quarter.across() if quarter.is_inner else quarter
+    return {(1, 1): 1, (-1, 1): 2, (-1, -1): 3, (1, -1): 4}[one.right, one.up]
+
+
+def styled(hidden: bool) -> str:
+    return "dashed" if hidden else "solid"
+
+
+def rows_of(given: Given) -> Iterator[str]:
+    yield f"reading {given.reading[0]} of {given.reading[1]}"
+    for one in given.rounds:
+        marks = (" inner" if one.quarters[0].is_inner else "") + (" cut" if one.is_cut else "")
+        yield f"round {one.view} {plain(*one.centre, one.radius)} {''.join(map(str, map(number_of, one.quarters)))}{marks}"
+    for view, arcs in given.arcs.items():
+        yield from (f"arc {view} {styled(it.hidden)} {plain(*it.centre, it.radius, it.start, it.sweep)}" for it in arcs)
+    for view, lines in given.lines.items():
+        yield from (f"line {view} {styled(it.hidden)} {plain(*it.start, *it.end)}" for it in lines)
+    for it in given.smooth:
+        way = "upright" if it.is_upright else "level"
+        yield f"smooth {it.view} {way} {styled(it.hidden)} {plain(it.at, it.low, it.high)}"
+    yield from (f"doubt {text}" for text in given.doubts)
+
+
+def comments(given: Given) -> str:
+    return pairs(*((999, f"draft {row}") for row in rows_of(given)))
+
+
+# ---- reading
+
+def pattern(form: str) -> "re.Pattern[str]":
+    return re.compile(form.replace("#", r"(-?\d{1,12}(?:\.\d{1,9})?)"))
+
+
+PATTERNS = {word: pattern(form) for word, form in FORMS.items()}
+
+
+def take_round(given: Given, view: str, *told: str) -> None:
+    x, y, radius = map(float, told[:3])
+    if radius <= 0:
+        raise Refused("a round without a radius")
+    numbers = tuple(sorted({int(it) - 1 for it in told[3]}))
+    one = Round((x, y), radius, numbers, (), Arc(False, (x, y), radius, 0, 360, NOWHERE), bool(told[4]))
+    given.rounds.append(Squared(view, (x, y), radius, tuple(one.quarters), bool(told[5])))
+
+
+def take_arc(given: Given, view: str, style: str, *told: str) -> None:
+    x, y, radius, start, sweep = map(float, told)
+    given.arcs.setdefault(view, []).append(Arc(style == "dashed", (x, y), radius, start, sweep, NOWHERE))
+
+
+def take_line(given: Given, view: str, style: str, *told: str) -> None:
+    a, b, c, d = map(float, told)
+    given.lines.setdefault(view, []).append(Edge(style == "dashed", (a, b), (c, d), 7, NOWHERE))
+
+
+def take_smooth(given: Given, view: str, way: str, style: str, *told: str) -> None:
+    at, low, high = map(float, told)
+    given.smooth.append(Stretch(view, way == "upright", at, low, high, style == "dashed"))
+
+
+def take_doubt(given: Given, text: str) -> None:
+    given.doubts.append(text)
+
+
+TAKES: dict[str, Callable[..., None]] = {
+    "round": take_round, "arc": take_arc, "line": take_line, "smooth": take_smooth, "doubt": take_doubt,
+}
+
+
+def given_in(lines: list[str]) -> Given | None:
+    """What a drawing says of the sheet that it was squared off from; nothing where it wasn't."""
+    given, count = Given([], {}, {}, [], []), 0
+    for number, code, value in pairs_of(lines):
+        if (code, value) == (2, "ENTITIES"):
+            break
+        word, _, rest = value.removeprefix("draft ").partition(" ")
+        if code != 999 or not value.startswith("draft ") or word not in FORMS:
+            continue
+        count += 1
+        told = PATTERNS[word].fullmatch(rest)
+        if told is None or count > MOST:
+            raise Refused(f"line {number + 1:,} isn't what `draft sheet` writes of a sheet with rounds: {value[:60]}")
+        if word == "reading":
+            given = given._replace(reading=(int(told[1]), int(told[2])))
+        else:
+            TAKES[word](given, *told.groups())
+    return given if given.rounds else None
+
+

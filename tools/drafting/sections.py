@@ -1,0 +1,155 @@
+"""Which groups of lines on a sheet are sections, and so no views: where a hatch lies in one or its lines are drawn, where a label as
+SECTION A-A stands by it, where its layer or block says so, or where a cutting-plane line names a section that is none of the others.
+
+A section shows edges that a view doesn't, and lacks some that it has: taken for a view, no solid has it, or a wrong one.
+"""
+import math
+import re
+from collections import Counter, defaultdict
+from collections.abc import Iterator, Sequence
+from typing import NamedTuple
+
+from .cutting import Mark, Word, corners_of, distance, is_head, words_of
+from .messages import Refused
+from .groups import Group, holds
+from .reading import Box, Kept, Sheet, box_of
+from .straight import Run
+
+# What says section, in the languages of linetypes and layers; not where a line or a plane is meant, or a cut-out.
+WORDS = (
+    r"(?:(?:cross|half|full|quer|längs|laengs|halb|voll|teil)[-_ ]?)?(?:sections?|sect|schnitt(?:ansicht|bild|darstellung)?|coupes?|"
+    r"sezion[ei]|sez|secci[oó]n(?:es)?|cortes?|snitt|doorsneden?|przekr[oó]j|leikkaus|řez)"
+)
+# In the name of a layer a number or a letter may follow, as in SectionA; a line or a plane is meant otherwise.
+NAMED = re.compile(rf"(?<![^\W\d_]){WORDS}(?:[A-Z]?(?![^\W\d_])|(?=view))(?![-_ ]?(?:line|linie|ligne|plane|ebene|verlauf|mark))", re.I)
+# A label: SECTION A-A, A-A, SCHNITT B, with a scale behind it.
+LETTER = r"[^\W\d_]\d?['′]?"
+LABEL = re.compile(rf"(?:(?P<word>{WORDS})\b[.:]?)?\s*(?:(?P<letter>{LETTER})\s*(?:[-–—]\s*(?P=letter))?|(?P<twice>[A-Z])(?P=twice))?"
+                   r"(?:\s*[(\[]?\s*(?:scale|ma(?:ss|ß)stab|m|éch\.?|[eé]chelle|scala|escala)?\s*[:=]?\s*"
+                   r"\d+(?:\.\d+)?\s*[:/]\s*\d+\s*[)\]]?)?", re.I)
+# How far from its group a label may stand, in heights of its letters; how much nearer than another one it has to be; and how small a
+# filled hatch is that is a dot, as a part of the group.
+NEAR, NEARER, DOT = 12, 1.3, 0.05
+# How many slanted lines that end at no corner are a hatch.
+FEWEST_LINES = 3
+
+
+class Sections(NamedTuple):
+    """What of a sheet tells sections: hatches with the boxes of their sides, drawn hatch lines, labels and cutting-plane lines."""
+
+    hatches: list[tuple[Box, bool, Kept]]
+    lines: list[tuple[Box, Kept]]
+    labels: list[tuple[str, Word]]
+    marks: Sequence[Mark]
+    tolerance: float
+
+    def among(self, groups: Sequence[Group], left_out: Sequence[Group]) -> dict[int, str]:
+        """The numbers of the groups that are sections, with what tells so; refused where a section is told and its group isn't."""
+        found: dict[int, list[str]] = defaultdict(list)
+        for number, why in (*self.by_hatch(groups), *by_layer(groups)):
+            found[number].append(why)
+        for number, why in self.by_label(groups, found):
+            found[number].append(why)
+        self.refuse_lost(groups, found, left_out)
+        return {number: " and ".join(dict.fromkeys(reasons)) for number, reasons in found.items()}
+
+    def by_hatch(self, groups: Sequence[Group]) -> Iterator[tuple[int, str]]:
+        """The groups that a hatch lies in."""
+        for box, is_filled, kept in self.hatches:
+            number = holding(groups, box, kept, self.tolerance)
+            if number is not None and not (is_filled and is_dot(box, groups[number])):
+                yield number, f"{kept.source} lies in it"
+        drawn = Counter(number for box, kept in self.lines if (number := holding(groups, box, kept, self.tolerance)) is not None)
+        for number, group in enumerate(groups):
+            count = drawn[number] + len(hatch_lines(group.runs, self.tolerance))
+            if count >= FEWEST_LINES:
+                yield number, f"{count} hatch lines lie in it"
+
+    def by_label(self, groups: Sequence[Group], found: dict[int, list[str]]) -> Iterator[tuple[int, str]]:
+        """The groups that a label stands by: one with a hatch, else the nearest."""
+        for _, word in self.labels:
+            away = sorted((distance(group.box, word.place), number) for number, group in enumerate(groups)
+                          if group.first.view == word.source.view)
+            near = [it for it in away if it[0] <= NEAR * word.high]
+            told = [it for it in near if it[1] in found and it[0] <= max(NEAR * word.high / 2, 2 * near[0][0])]
+            if not near:
+                continue
+            if not told and len(near) > 1 and near[1][0] < NEARER * near[0][0]:
+                raise Refused(f"{word.text!r}, {word.source}, says that a group of lines is a section, and which isn't told: "
+                              f"{groups[near[0][1]]}, or {groups[near[1][1]]}; set it nearer to its group, or leave out its layer")
+            yield (told or near)[0][1], f"{word.text!r} stands by it"
+
+    def refuse_lost(self, groups: Sequence[Group], found: dict[int, list[str]], left_out: Sequence[Group]) -> None:
+        """Refuses a cutting-plane line whose section is none of the groups that are known as sections."""
+        known = {letter for letter, _ in self.labels}
+        lost = [mark for mark in self.marks if mark.letter not in known]
+        if not lost or found or left_out:
+            return
+        letter = lost[0].letter
+        number = min(range(len(groups)), key=lambda it: distance(groups[it].box, lost[0].word.place))
+        raise Refused(f"a cutting-plane line {letter}-{letter} is drawn at group {number + 1}, {groups[number]}, and which group is its section "
+                      f"isn't told, by a hatch or a label {letter}-{letter}: label it, or leave it out by --leave-out group=NUMBER")
+
+
+def holding(groups: Sequence[Group], box: Box, kept: Kept, tolerance: float) -> int | None:
+    """The least group whose box holds the box of an entity, but what noise adds."""
+    reach = 3 * tolerance + 0.01 * math.dist(box[:2], box[2:])
+    its = [(group.width * group.height, number) for number, group in enumerate(groups)
+           if group.first.view == kept.source.view and holds(group.box, box, reach)]
+    return min(its)[1] if its else None
+
+
+def is_dot(box: Box, group: Group) -> bool:
+    return max(box[2] - box[0], box[3] - box[1]) <= DOT * max(group.width, group.height)
+
+
+def by_layer(groups: Sequence[Group]) -> Iterator[tuple[int, str]]:
+    """The groups most of whose lines are on a layer or in a block that says section."""
+    for number, group in enumerate(groups):
+        names = Counter(name for run in group.runs for name in {run.edge.source.layer, run.edge.source.block} if NAMED.search(name))
+        if names and 2 * names.most_common(1)[0][1] > len(group.runs):
+            yield number, f"its lines are on the layer or in the block {names.most_common(1)[0][0]}"
+
+
+def hatch_lines(runs: Sequence[Run], tolerance: float) -> list[Run]:
+    """Slanted lines of one way of which some don't begin and end where others do, as those of a hatch that was taken apart."""
+    def at(place: tuple[float, float]) -> tuple[int, int]:
+        return round(place[0] / (3 * tolerance)), round(place[1] / (3 * tolerance))
+
+    ends = Counter(at(end) for run in runs for end in (run.edge.start, run.edge.end))
+    ways: dict[int, list[Run]] = defaultdict(list)
+    for run in runs:
+        if run.oblique:
+            (a, b), (c, d) = run.edge.start, run.edge.end
+            ways[round(math.degrees(math.atan2(d - b, c - a)) % 180) % 180].append(run)
+    most: list[Run] = max(ways.values(), key=len, default=[])
+    loose = [run for run in most if any(ends[at(end)] == 1 for end in (run.edge.start, run.edge.end))]
+    return most if len(loose) >= FEWEST_LINES else []
+
+
+def sides_of(kept: Kept) -> Iterator[tuple[Box, bool, Kept]]:
+    """The boxes of a hatch's sides; of a bent one the whole's."""
+    is_filled = bool(kept.entity.dxf.get("solid_fill", 0))
+    for path in kept.entity.paths:
+        if its := corners_of(path):
+            xs, ys = zip(*its)
+            yield (min(xs), min(ys), max(xs), max(ys)), is_filled, kept
+    if not any(corners_of(path) for path in kept.entity.paths) and (box := box_of(kept.entity)):
+        yield box, is_filled, kept
+
+
+def label_in(word: Word) -> str | None:
+    """The letter of a label of a section, or nothing where it has none; None where a text is no such label."""
+    found = LABEL.fullmatch(word.text)
+    if not found or not (found["word"] or found["letter"] and re.search(r"[-–—]", word.text)):
+        return None
+    return (found["letter"] or found["twice"] or "").rstrip("'′").upper()
+
+
+def sections_of(sheet: Sheet, marks: Sequence[Mark], tolerance: float) -> Sections:
+    """What of a sheet tells sections."""
+    hatches = [it for kept in sheet.kept if kept.source.kind == "HATCH" and not is_head(kept.entity) for it in sides_of(kept)]
+    lines = [(box, kept) for kept in sheet.kept if kept.source.kind == "LINE" and (box := box_of(kept.entity))]
+    labels = [(letter, word) for word in words_of(sheet) if (letter := label_in(word)) is not None]
+    return Sections(hatches, lines, labels, marks, tolerance)
+
