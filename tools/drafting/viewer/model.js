@@ -1,14 +1,15 @@
-"use strict";
-// The solids of a drawing, by its blocks: which blocks each of them fills, and where the blocks' cells are. A solid has its number by
+// The solids of a drawing, by its blocks: which blocks each of them fills, and where the blocks' cells are. All comes by two events, as
+// `draft follow` tells them: `takeGrid` takes the cuts of each axis and the block of each place, in runs, and `takeChoices` takes solids,
+// a bit for each block. Nothing else is handed to the viewer of what solids look like. A solid has its number by
 // its place here: as they come, and once the search has ended in the stated order, the one first that fills the first block that two
 // don't share.
 //
 // A set of cells is an array with 1 for each full one. Its places run along x, then y, then z, and along each axis there is
 // one place more than there are cells, which is never full: so the places beside a cell are always those next to it.
 
-const model = {};
+export const model = {};
 
-function resetModel() {
+export function resetModel() {
   Object.assign(model, {
     cuts: [[0], [0], [0]], counts: [1, 1, 1], strides: [1, 1, 1], places: 1, blockAt: new Int32Array(1).fill(-1), blocks: 0,
     volumes: [], per: [1n, 1n], unit: "", count: 0, stride: 0, bits: new Uint8Array(0), full: new Float64Array(0), groups: [],
@@ -16,7 +17,7 @@ function resetModel() {
 }
 
 /** Takes the grid, and the block of each place. */
-function takeGrid({ cuts, cells, blocks, units }) {
+export function takeGrid({ cuts, cells, blocks, units }) {
   resetModel();
   const counts = cuts.map((cut) => cut.length);
   const places = counts[0] * counts[1] * counts[2];
@@ -36,7 +37,7 @@ function takeGrid({ cuts, cells, blocks, units }) {
   });
 }
 
-function rankOf(place, axis) {
+export function rankOf(place, axis) {
   return Math.floor(place / model.strides[axis]) % model.counts[axis];
 }
 
@@ -48,7 +49,7 @@ function widthAt(place, axis) {
 // ---- choices
 
 /** Takes further solids, each told by hexadecimal digits of four blocks. */
-function takeChoices(choices) {
+export function takeChoices(choices) {
   const { stride } = model;
   const needed = (model.count + choices.length) * stride;
   if (needed > model.bits.length) {
@@ -66,17 +67,17 @@ function takeChoices(choices) {
 }
 
 /** Whether a solid fills a block: 1 or 0. */
-function isFull(number, block) {
+export function isFull(number, block) {
   return (model.bits[number * model.stride + (block >> 3)] >> (7 - (block & 7))) & 1;
 }
 
 /** A solid's choice, for each block of the drawing. */
-function choiceOf(number) {
+export function choiceOf(number) {
   return Array.from({ length: model.blocks }, (_, block) => isFull(number, block)).join("");
 }
 
 /** Puts the solids into the stated order, and answers where each of them went. */
-function sortSolids() {
+export function sortSolids() {
   const { stride, bits } = model;
   const order = Array.from({ length: model.count }, (_, number) => number);
   order.sort((first, second) => {
@@ -96,7 +97,7 @@ function sortSolids() {
 }
 
 /** Joins the blocks that are alike in all solids, in groups. */
-function groupBlocks() {
+export function groupBlocks() {
   const groups = new Map();
   for (let block = 0; block < model.blocks; block++) {
     let [first, second] = [model.full[block], 0];
@@ -123,18 +124,18 @@ function isAlike(one, other) {
 // ---- cells
 
 /** The cells of a solid. */
-function cellsOfSolid(number) {
+export function cellsOfSolid(number) {
   const full = Array.from({ length: model.blocks }, (_, block) => isFull(number, block));
   return Uint8Array.from(model.blockAt, (block) => (block >= 0 ? full[block] : 0));
 }
 
 /** The cells that the first has and the second lacks. */
-function without(first, second) {
+export function without(first, second) {
   return first.map((full, place) => full & ~second[place]);
 }
 
 /** How many unit cells there are in a set of cells: exactly, since coordinates go beyond what a double's product holds. */
-function volumeOf(cells) {
+export function volumeOf(cells) {
   let volume = 0n;
   cells.forEach((full, place) => {
     if (full) volume += BigInt(widthAt(place, 0)) * BigInt(widthAt(place, 1)) * BigInt(widthAt(place, 2));
@@ -142,12 +143,12 @@ function volumeOf(cells) {
   return volume;
 }
 
-function volumeOfSolid(number) {
+export function volumeOfSolid(number) {
   return model.volumes.reduce((volume, one, block) => (isFull(number, block) ? volume + one : volume), 0n);
 }
 
 /** How far a solid reaches along each axis. */
-function sizesOf(cells) {
+export function sizesOf(cells) {
   const low = [Infinity, Infinity, Infinity];
   const high = [0, 0, 0];
   cells.forEach((full, place) => {
@@ -161,7 +162,7 @@ function sizesOf(cells) {
 }
 
 /** A text that is the same for two solids that look the same from outside. */
-function outsideOf(cells) {
+export function outsideOf(cells) {
   const seen = new Uint8Array(model.places);
   const [wide, deep, tall] = model.counts;
   const waiting = [];
@@ -190,7 +191,7 @@ function commonDivisor(one, other) {
 }
 
 /** A length of the answer in the drawing's unit, or with a power a volume: exactly where it has an end. */
-function measured(value, power = 1) {
+export function measured(value, power = 1) {
   let over = BigInt(value) * model.per[1] ** BigInt(power);
   let under = model.per[0] ** BigInt(power);
   const shared = commonDivisor(over, under);

@@ -1,65 +1,34 @@
-"use strict";
 // The page: it takes what is told of a drawing, event by event, as `draft follow` writes them. In the file that `draft page` writes they
-// stand at its end; `draft serve` sends them while the program searches, and table.js asks it for them.
+// stand at its end; `draft serve` is asked for them while the program searches, by table.js.
+import { change, state } from "./state.js";
+import { find } from "./pieces.js";
+import { choiceOf, groupBlocks, model, resetModel, sortSolids, takeChoices, takeGrid } from "./model.js";
+import { frameGrid, renderer, startDrawing } from "./scene.js";
+import { listenForTiles, pick, resetTiles, showAlike, tiles } from "./tiles.js";
+import { START, listenForTurns, look } from "./turning.js";
+import { addFitting, findFitting, listenForFixing } from "./choices.js";
+import { listenForPaging } from "./paging.js";
+import { listenForPairs, pair } from "./compare.js";
+import { largeTile, listenForLarge } from "./large.js";
+import { listenForMeans, resetMeans, takeMeans } from "./settle.js";
+import { giveBy, listenForLengths, resetSaid, showLooking, showSaid, showSuggestion } from "./said.js";
+import { linesOf } from "./views.js";
 
-let tiles = [];
-let pair = [];
 let taken = [];
-// How many solids are shown at a time.
-let most = 64;
-let sawThrough = false;
-
-// ---- figures
-
-/** Makes figures for so many solids, where there aren't as many yet. */
-function ensureTiles(count) {
-  while (tiles.length < count) {
-    const at = tiles.length;
-    const figure = document.createElement("figure");
-    const canvas = Object.assign(document.createElement("canvas"), { tabIndex: 0 });
-    canvas.setAttribute("role", "img");
-    const caption = document.createElement("figcaption");
-    const name = spanOf("", "");
-    name.append(document.createElement("b"), " ", spanOf("volume", ""));
-    const button = buttonOf("Compare", () => pickAt(at));
-    button.className = "compare";
-    caption.append(name, button, spanOf("size", ""), Object.assign(spanOf("choice", ""), { title: "for each block whether the solid fills it" }));
-    window.table?.addSaves(caption, at);
-    figure.append(canvas, caption);
-    document.querySelector(".solids").append(figure);
-    tiles.push(watched(new Tile(canvas)));
-  }
-  setShown();
-}
-
-/** Has a tile be drawn while it is on the screen. */
-function watched(tile) {
-  seen.observe(tile.canvas);
-  sized.observe(tile.canvas);
-  return tile;
-}
-
-const seen = new IntersectionObserver((entries) => {
-  for (const entry of entries) {
-    const tile = [...tiles, ...pair].find(({ canvas }) => canvas === entry.target);
-    if (tile) tile.isSeen = entry.isIntersecting;
-  }
-  redraw();
-}, { rootMargin: "200px" });
-const sized = new ResizeObserver(() => redraw());
 
 // ---- events
 
-function resetPage() {
+export function resetPage() {
   resetModel();
-  resetFurther();
+  resetMeans();
+  resetSaid();
+  resetTiles();
   taken = [];
-  tiles.forEach(({ canvas }) => [seen, sized].forEach((observer) => observer.unobserve(canvas)));
-  tiles = [];
-  [fitting, first, picked, kept] = [[], 0, [], null];
-  fixed.clear();
-  document.querySelector(".solids").replaceChildren();
-  for (const place of document.querySelectorAll(".told, .drawing")) place.replaceChildren();
+  change({
+    how: "", means: [], fixed: new Map(), kept: null, fitting: [], fullIn: new Float64Array(0), first: 0, meant: null, picked: [], large: null,
+    zoom: 1, section: null, brush: null, pictured: null,
+  });
+  for (const place of document.querySelectorAll(".told, .drawing, footer")) place.replaceChildren();
   setKind();
 }
 
@@ -70,25 +39,25 @@ function setKind() {
 }
 
 const TAKES = {
-  tiles: ({ count }) => (most = count),
+  tiles: ({ count }) => change({ most: count }),
   said: ({ text }) => showSaid(text),
-  drawing: ({ html }) => (document.querySelector(".drawing").innerHTML = html),
+  drawing: ({ html }) => (find(".drawing").innerHTML = html),
   grid: takeNewGrid,
   solids: takeSolids,
   end: takeEnd,
   looking: () => showLooking("Changes are tried by running the program."),
   suggestion: showSuggestion,
-  looked: ({ first: words, rows }) => showLooking([words, ...rows].join(" ")),
+  looked: ({ first, rows }) => showLooking([first, ...rows].join(" ")),
   means: takeMeans,
   compared: ({ count, faces }) => showCompared(count, faces),
 };
 
-function take(event) {
+export function take(event) {
   taken.push(event);
   TAKES[event.kind]?.(event);
 }
 
-function replay(events) {
+export function replay(events) {
   resetPage();
   events.forEach(take);
 }
@@ -96,12 +65,12 @@ function replay(events) {
 function takeNewGrid(event) {
   takeGrid(event);
   if (!startDrawing()) {
-    document.querySelector(".undrawn").hidden = false;
+    find(".undrawn").hidden = false;
     return;
   }
   frameGrid();
   findFitting();
-  look(turned, raised);
+  look(state.right, state.above);
 }
 
 function takeSolids({ choices }) {
@@ -109,38 +78,28 @@ function takeSolids({ choices }) {
   takeChoices(choices);
   addFitting(before);
   setKind();
-  if (before >= most || !renderer) return refreshSoon();
+  if (before >= state.most || !renderer) return refreshSoon();
   showAlike();
-  compare();
   refresh();
 }
 
-function takeEnd({ html }) {
-  document.querySelector(".told").innerHTML = html;
+function takeEnd({ html, how }) {
+  find(".told").innerHTML = html;
+  find("footer").replaceChildren(...document.querySelectorAll(".told .figures"));
   const places = sortSolids();
-  picked = picked.map((number) => places[number]);
   groupBlocks();
+  const picked = model.count === 2 && !state.picked.length ? [0, 1] : state.picked.map((number) => places[number]);
+  const [meant, large] = [state.meant, state.large].map((number) => (number === null ? null : places[number]));
   findFitting();
   showAlike();
-  refresh();
-  if (model.count === 2 && !picked.length) [0, 1].forEach(pick);
-  else compare();
-}
-
-/** Where some solids that are shown look the same from outside, draws all see-through. */
-function showAlike() {
-  const shown = fitting.slice(0, most).map((number) => outsideOf(cellsOfSolid(number)));
-  const isAlike = new Set(shown).size < shown.length;
-  document.querySelector(".alike").hidden = !isAlike;
-  if (!sawThrough) document.getElementById("through").checked = isAlike;
+  change({ how, picked, meant, large });
 }
 
 /** How many solids were compared with what the program lists, by volume and by faces. */
 function showCompared(count, faces) {
   const all = count === model.count ? (count === 1 ? "It was" : "All were") : `The first ${count.toLocaleString("en")} were`;
   const some = faces < count ? `, the first ${faces} by their faces too` : " and faces";
-  const words = `${all} compared with the program's list, by volumes${some}.`;
-  if (count) document.querySelector(".told").append(Object.assign(document.createElement("p"), { className: "muted", textContent: words }));
+  if (count) find("footer .figures")?.append(`. ${all} compared with the program's list, by volumes${some}.`);
 }
 
 // ---- what is due
@@ -151,7 +110,7 @@ let cost = 0;
 function refresh() {
   if (!renderer || !model.count) return;
   const began = performance.now();
-  showFitting();
+  change({ fitting: state.fitting });
   cost = performance.now() - began;
 }
 
@@ -167,18 +126,35 @@ function refreshSoon() {
 
 // ---- begin
 
+/** Shows the solids that a suggestion of this file gives, with a way back. */
+function showGiven(suggestion) {
+  const back = [...taken];
+  replay(suggestion.events);
+  offerBack(suggestion, () => replay(back));
+}
+
+export function offerBack(suggestion, goBack) {
+  const box = find(".given");
+  box.hidden = false;
+  box.querySelector("p").textContent = `So drawn, with: ${suggestion.words.join("; ")}`;
+  box.querySelector("button").onclick = () => {
+    box.hidden = true;
+    goBack();
+  };
+}
+
 function begin() {
-  pair = [...document.querySelectorAll(".pair canvas")].map((canvas) => watched(new Tile(canvas)));
-  document.getElementById("through").addEventListener("change", () => (sawThrough = true));
-  listenForTurns();
-  listenForDress();
-  listenForFixing();
-  listenForMeant();
-  listenForLengths();
-  look(...START);
+  giveBy({ isServed: false, show: showGiven });
+  for (const listen of [listenForTiles, listenForTurns, listenForFixing, listenForPaging, listenForPairs, listenForLarge, listenForMeans, listenForLengths]) listen();
+  look(START.right, START.above);
   const events = JSON.parse(document.getElementById("events").textContent);
   if (events.length) replay(events);
   else setKind();
 }
 
+// What a console, and the tests, may look at and use.
+window.viewer = {
+  state, model, change, choiceOf, linesOf, pick,
+  get tiles() { return tiles; }, get pair() { return pair; }, get large() { return largeTile; },
+};
 begin();

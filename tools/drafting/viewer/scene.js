@@ -1,9 +1,11 @@
-"use strict";
 // The solids in three dimensions. One renderer draws them all, one after another, seen from the same side, and each picture is copied
-// to the canvas of its solid.
+// to the canvas of its solid. THREE is three.js, which stands before this as a script of its own.
+import { model, rankOf } from "./model.js";
 
-// The colours of the three kinds of cells, as the page's style names them, and of the six outward directions how light each is.
-const KINDS = ["--plain", "--most", "--few"];
+// The colours of the kinds of cells, as the page's style names them: those that all solids have, most of them, half or fewer, and those that
+// a section cuts; and of the six outward directions how light each is.
+const KINDS = ["--plain", "--most", "--few", "--cut"];
+const FEW = 2;
 const SHADES = [0.72, 0.8, 0.88, 0.78, 0.6, 1];
 
 // ---- what is drawn of them
@@ -80,11 +82,12 @@ function faceMaterials(options) {
   return Array.from({ length: 6 * KINDS.length }, () => new THREE.MeshBasicMaterial(options));
 }
 
-let solidFaces, plainFaces, clearFaces, edgeLines, faintLines, camera;
-let renderer = null;
+let solidFaces, plainFaces, clearFaces, edgeLines, lightLines, faintLines;
+export let camera;
+export let renderer = null;
 
 /** Makes what draws, once there is something to be drawn; answers whether the browser can. */
-function startDrawing() {
+export function startDrawing() {
   if (renderer) return true;
   try {
     renderer = new THREE.WebGLRenderer({ antialias: true, alpha: true });
@@ -95,7 +98,8 @@ function startDrawing() {
   plainFaces = solidFaces.map((_, number) => solidFaces[number % 6]);
   clearFaces = faceMaterials({ transparent: true, opacity: 0.16, depthWrite: false });
   edgeLines = new THREE.LineMaterial();
-  // Behind the edges of marked cells where both are at the same place.
+  // Before the edges of all, and behind the edges of marked cells, where both are at the same place.
+  lightLines = new THREE.LineMaterial({ polygonOffset: true, polygonOffsetFactor: -2, polygonOffsetUnits: -2 });
   faintLines = new THREE.LineMaterial({ polygonOffset: true, polygonOffsetFactor: 2, polygonOffsetUnits: 2 });
   camera = new THREE.OrthographicCamera();
   takeColours();
@@ -103,7 +107,7 @@ function startDrawing() {
 }
 
 /** Takes the colours from the page's style, which has them for light and dark. */
-function takeColours() {
+export function takeColours() {
   const style = getComputedStyle(document.documentElement);
   const colour = (name) => new THREE.Color(style.getPropertyValue(name).trim());
   solidFaces.forEach((material, number) => {
@@ -111,16 +115,17 @@ function takeColours() {
     clearFaces[number].color = colour("--faint").multiplyScalar(SHADES[number % 6]);
   });
   edgeLines.color = colour("--edge");
+  lightLines.color = colour("--edge-light");
   faintLines.color = colour("--faint");
 }
 
 // ---- tiles
 
-let middle = [0, 0, 0];
-let radius = 1;
+export let middle = [0, 0, 0];
+export let radius = 1;
 
 /** Has the camera see all of the grid, from any side. */
-function frameGrid() {
+export function frameGrid() {
   middle = model.cuts.map((cut) => (cut[0] + cut[cut.length - 1]) / 2);
   radius = Math.hypot(...model.cuts.map((cut) => cut[cut.length - 1] - cut[0])) / 2;
   Object.assign(camera, { left: -radius, right: radius, top: radius, bottom: -radius, near: radius / 2, far: 4 * radius });
@@ -128,7 +133,7 @@ function frameGrid() {
 }
 
 /** A canvas that shows a solid, whose cells are of several kinds. */
-class Tile {
+export class Tile {
   constructor(canvas) {
     this.canvas = canvas;
     this.cells = this.kinds = null;
@@ -136,6 +141,7 @@ class Tile {
     this.isSeen = false;
     this.through = false;
     this.coloured = true;
+    this.zoom = 1;
   }
 
   show(cells, kinds) {
@@ -147,20 +153,22 @@ class Tile {
   /** Makes what is drawn: the solid's surface and edges, and those of its cells of other kinds than the first. */
   build() {
     const marked = this.cells.map((full, place) => full & (this.kinds[place] > 0));
+    const few = this.cells.map((full, place) => full & (this.kinds[place] === FEW));
     this.skin = new THREE.Mesh(surfaceOf(this.cells, this.kinds));
     this.lines = new THREE.LineSegments2(edgesOf(this.cells));
     this.marks = new THREE.Mesh(surfaceOf(marked, this.kinds), solidFaces);
-    this.markLines = new THREE.LineSegments2(edgesOf(marked), edgeLines);
+    this.markLines = new THREE.LineSegments2(edgesOf(few), lightLines);
     this.scene = new THREE.Scene();
     this.scene.add(this.skin, this.lines, this.marks, this.markLines);
   }
 
-  /** Shows the cells of other kinds within, through clear faces, or the solid as it looks from outside. */
+  /** Shows the cells of other kinds within, through clear faces, or the solid as it looks from outside. The darkest kind has light edges. */
   dress() {
     this.skin.material = this.through ? clearFaces : this.coloured ? solidFaces : plainFaces;
     this.lines.material = this.through ? faintLines : edgeLines;
-    const isMarked = this.marks.geometry.index.count > 0;
-    this.marks.visible = this.markLines.visible = isMarked && this.through && this.coloured;
+    const isMarked = this.marks.geometry.index.count > 0 && this.coloured;
+    this.marks.visible = isMarked && this.through;
+    this.markLines.visible = isMarked && this.markLines.geometry.attributes.instanceStart?.count > 0;
   }
 
   draw() {
@@ -171,9 +179,13 @@ class Tile {
     this.dress();
     if (this.canvas.width !== size) this.canvas.width = this.canvas.height = size;
     if (Math.min(renderer.domElement.width, renderer.domElement.height) < size) renderer.setSize(size, size, false);
-    for (const [lines, width] of [[edgeLines, 1.6], [faintLines, 1]]) {
+    for (const [lines, width] of [[edgeLines, 1.6], [lightLines, 1.4], [faintLines, 1]]) {
       lines.resolution.set(size, size);
       lines.linewidth = width * scale;
+    }
+    if (camera.zoom !== this.zoom) {
+      camera.zoom = this.zoom;
+      camera.updateProjectionMatrix();
     }
     renderer.setViewport(0, 0, size, size);
     renderer.render(this.scene, camera);

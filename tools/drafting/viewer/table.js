@@ -1,28 +1,43 @@
-"use strict";
-// The drafting table: a drawing that is dropped in, or chosen, goes to the server of this machine, and what is told of it is taken as it
-// comes. When the page is closed, or has another drawing, the server ends what it does for this one.
+// The drafting table: a drawing that is dropped in, or chosen, goes to the server of this machine, which is asked piece by piece for what is
+// told of it. A page that is loaded anew comes back to its drawing; when it is closed, or has another one, the server ends this one.
+import { state, when } from "./state.js";
+import { buttonOf, find, many, spanOf } from "./pieces.js";
+import { choiceOf, model } from "./model.js";
+import { addToFigures } from "./tiles.js";
+import { numberAt } from "./choices.js";
+import { addBy } from "./settle.js";
+import { giveBy } from "./said.js";
+import { offerBack, resetPage, take } from "./page.js";
 
 const TOKEN = new URLSearchParams(location.search).get("token") ?? "";
 const MOST_FILE = 16 * 1024 * 1024;
+// How often the server hears that the page is there; after how long without news it is asked less often. In milliseconds.
+const ALIVE = 3000;
+const PATIENT = 5000;
+const SAVED_AS = { dxf: "its drawing, one line for each edge", stl: "its boundary as triangles", step: "its faces, by FreeCAD" };
+const SAVED_HERE = "made from its blocks, since its search isn't whole";
 
-window.table = { shown: null, key: "", name: "", began: 0, how: "", aborting: null, addSaves, showFile, showText };
+const table = { shown: null, key: "", name: "", began: 0 };
 
 // ---- asking the server
 
-function ask(path, body, signal) {
+function ask(path, body) {
   const headers = { "X-Draft-Token": TOKEN };
   if (!(body instanceof FormData)) {
     body = JSON.stringify({ job: table.key, ...body });
     headers["Content-Type"] = "application/json";
   }
-  return fetch(path, { method: "POST", headers, body, signal, cache: "no-store" });
+  return fetch(path, { method: "POST", headers, body, cache: "no-store", keepalive: path === "/leave" });
 }
 
 /** What the server answers to a request; a refusal is told. */
 async function answered(path, body) {
   try {
     const response = await ask(path, body);
-    if (response.ok) return response;
+    if (response.ok) {
+      showFailure("");
+      return response;
+    }
     showFailure(`Not done: ${(await response.text()).trim()}.`);
   } catch (_) {
     showGone();
@@ -31,23 +46,28 @@ async function answered(path, body) {
 }
 
 function showFailure(text) {
-  const place = document.querySelector(".failed");
+  const place = find(".failed");
   place.textContent = text;
   place.hidden = !text;
 }
 
 function showGone() {
   document.body.classList.add("gone");
-  showFailure("The server has ended. What it told stays here; start `draft serve` again for more.");
+  find(".progress").hidden = true;
+  showFailure("The server has ended. What it told stays here, and can't be saved any more; start `draft serve` again for that.");
+}
+
+function showLost() {
+  find(".progress").hidden = true;
+  showFailure("The server has put this drawing away, since its page was left for long: choose it again to save something of it.");
 }
 
 // ---- a drawing
 
 /** How the drawing is to be read, as it is said in the form. */
 function optionsNow() {
-  const form = document.querySelector(".options form");
   const options = [];
-  for (const { name, type, value, checked } of form.elements) {
+  for (const { name, type, value, checked } of find(".options form").elements) {
     if (type === "checkbox" && checked) options.push(name);
     else if (name && !["checkbox", "file", "submit"].includes(type) && value.trim()) {
       for (const one of value.split(";")) options.push([name, one.trim()]);
@@ -58,67 +78,115 @@ function optionsNow() {
 
 /** Takes a drawing that is new here: what was a second export of the one before is none of this one. */
 function showNew(file) {
-  document.querySelector("[name=second]").value = "";
+  find("[name=second]").value = "";
   showFile(file);
 }
 
 /** Sends a drawing, and shows what is told of it. */
 function showFile(file) {
-  document.querySelector(".given").hidden = true;
+  find(".given").hidden = true;
   table.shown = file;
-  return send(file, file.name, optionsNow(), document.querySelector("[name=second]").files[0]);
+  return send(file, file.name, optionsNow(), find("[name=second]").files[0]);
 }
 
-/** Sends the drawing that a suggestion makes. It is one of three layers, and needs none of what is said of a sheet. */
-function showText(text) {
+/** Sends a drawing that is made of the one that is shown. It is one of three layers, and needs none of what is said of a sheet. */
+function showMade(text, words) {
   const limits = optionsNow().filter(([name]) => ["solids", "nodes"].includes(name));
-  return send(new File([text], "suggestion.dxf"), `${table.name}, as suggested`, limits);
+  send(new File([text], "made.dxf"), `${stem()}, ${words}`, limits);
+}
+
+async function showSuggested(suggestion) {
+  const back = table.shown;
+  showMade(suggestion.dxf, "as suggested");
+  offerBack(suggestion, () => showFile(back));
+}
+
+function leave(forGood) {
+  if (table.key) ask("/leave", { for_good: forGood }).catch(() => {});
+}
+
+function showName(name) {
+  table.name = name;
+  find("h1").textContent = document.title = name;
+  history.replaceState(null, "", `${location.pathname}${location.search}#${encodeURIComponent(name)}`);
+  document.body.classList.add("has-drawing");
 }
 
 async function send(file, name, options, second) {
-  table.aborting?.abort();
-  const aborting = (table.aborting = new AbortController());
+  leave(true);
   resetPage();
-  Object.assign(table, { key: "", name: file.name, how: "" });
-  document.querySelector("h1").textContent = document.title = name;
+  Object.assign(table, { key: "", began: performance.now() });
+  const began = table.began;
+  showName(name);
   showFailure("");
-  document.querySelector(".kept").hidden = true;
-  document.querySelector(".added").hidden = true;
+  find(".kept").hidden = true;
   if (file.size > MOST_FILE || second?.size > MOST_FILE) return showFailure("Not taken: a drawing has 16 MiB at most.");
   showProgress("Sent");
-  table.began = performance.now();
   const body = new FormData();
   body.append("options", JSON.stringify(options));
-  body.append("drawing", file, file.name);
+  body.append("drawing", file, name);
   if (second) body.append("visible", second, second.name);
   try {
-    const response = await ask("/drawing", body, aborting.signal);
+    const response = await ask("/drawing", body);
+    if (table.began !== began) return;
     if (!response.ok) return finish(`Not taken: ${(await response.text()).trim()}.`);
-    await readEvents(response.body, aborting);
-    if (!aborting.signal.aborted) finish();
+    const { job } = await response.json();
+    if (table.began !== began) return ask("/leave", { job, for_good: true });
+    await follow(job);
   } catch (_) {
-    if (aborting.signal.aborted) return;
-    finish();
-    showGone();
+    if (table.began === began) showGone();
   }
 }
 
-/** Takes the events of a stream, a line each; an empty line tells nothing. */
-async function readEvents(body, aborting) {
-  const reader = body.pipeThrough(new TextDecoderStream()).getReader();
-  let rest = "";
+/** Takes what is told of a drawing, a line an event, until it is over; and then says now and then that the page is there. */
+async function follow(job) {
+  table.key = job;
+  sessionStorage.setItem("job", job);
+  const decoder = new TextDecoder();
+  let [from, rest, heard, isOver] = [0, "", performance.now(), false];
   for (;;) {
-    const { value, done } = await reader.read();
-    if (done || aborting.signal.aborted) break;
-    const lines = (rest + value).split("\n");
+    const response = await ask("/events", { job, from });
+    if (table.key !== job) return;
+    if (!response.ok) return response.status === 404 ? showLost() : finish(`Not told: ${(await response.text()).trim()}.`);
+    const bytes = await response.arrayBuffer();
+    if (table.key !== job) return;
+    from += bytes.byteLength;
+    const lines = (rest + decoder.decode(bytes, { stream: true })).split("\n");
     rest = lines.pop();
-    for (const line of lines) if (line && !aborting.signal.aborted) takeTold(JSON.parse(line));
+    for (const line of lines) if (line) isOver = takeTold(JSON.parse(line)) || isOver;
+    if (bytes.byteLength) heard = performance.now();
+    const pause = isOver ? ALIVE : performance.now() - heard > PATIENT ? 500 : 0;
+    if (pause) await new Promise((done) => setTimeout(done, pause));
   }
-  if (!aborting.signal.aborted && table.how !== "over") throw new Error("the stream has ended");
+}
+
+/** Comes back to the drawing that this page had before it was loaded anew, while it is there. */
+async function comeBack() {
+  const job = sessionStorage.getItem("job");
+  const name = decodeURIComponent(location.hash.slice(1));
+  if (!job || !name) return;
+  table.key = job;
+  const response = await ask("/given", {}).catch(() => null);
+  if (!response?.ok || table.key !== job) return;
+  table.shown = new File([await response.blob()], name);
+  table.began = performance.now();
+  resetPage();
+  showName(name);
+  follow(job).catch(showGone);
+}
+
+/** Has the form say what was asked. */
+function showOptions(options) {
+  const form = find(".options form");
+  for (const option of options) {
+    const field = form.elements[Array.isArray(option) ? option[0] : option];
+    if (field?.type === "checkbox") field.checked = true;
+    else if (field) field.value = option[1];
+  }
 }
 
 const TOLD = {
-  job: ({ key }) => (table.key = key),
+  job: ({ options }) => showOptions(options),
   queued: ({ before }) => showProgress(before ? `Waiting: ${before} before this one` : "Waiting for its turn"),
   began: () => showProgress("Reading"),
   grid: () => showProgress("Searching"),
@@ -126,43 +194,39 @@ const TOLD = {
   looking: () => showProgress("Looking for what is wrong"),
   looked: () => finish(),
   compared: () => finish(),
-  over: ({ text }) => {
-    finish(text && `It ended: ${text}.`);
-    table.how = "over";
-  },
+  over: ({ text }) => finish(text && `It ended: ${text}.`),
 };
 
+/** Takes an event, and answers whether it is the last one. */
 function takeTold(event) {
   take(event);
   TOLD[event.kind]?.(event);
+  return event.kind === "over";
 }
 
 // ---- how far it is
 
 function showProgress(text) {
-  document.querySelector(".progress").hidden = false;
-  document.querySelector(".progress .state").textContent = text;
+  find(".progress").hidden = false;
+  find(".progress .state").textContent = text;
 }
 
 function showTime() {
-  if (document.querySelector(".progress").hidden) return;
+  if (find(".progress").hidden) return;
   const seconds = ((performance.now() - table.began) / 1000).toFixed(1);
-  const found = model.count ? `${model.count.toLocaleString("en")} ${model.count === 1 ? "solid" : "solids"} so far, ` : "";
-  document.querySelector(".progress .time").textContent = `${found}${seconds} s`;
+  find(".progress .time").textContent = `${model.count ? `${many(model.count, "solid")} so far, ` : ""}${seconds} s`;
 }
 
 function showEnd(how) {
-  const isOver = ["fault", "refused"].includes(how);
-  if (isOver) finish();
+  if (["fault", "refused"].includes(how)) finish();
   else showProgress("Looking at what was found");
-  document.body.classList.toggle("whole", how === "whole");
 }
 
 /** The search is over; where something is to be said of that, it is. */
 function finish(text) {
-  document.querySelector(".progress").hidden = true;
+  find(".progress").hidden = true;
   if (text) showFailure(text);
-  document.querySelector(".kept").hidden = !document.querySelector(".drawing svg");
+  find(".kept").hidden = !find(".drawing svg");
 }
 
 // ---- files
@@ -177,31 +241,33 @@ function stem() {
   return table.name.replace(/\.dxf$/i, "").replace(/[^\p{L}\p{N}._-]+/gu, "_").replace(/^\.+/, "") || "drawing";
 }
 
-/** Buttons by which the solid of a figure is saved, once the search was whole. */
-function addSaves(caption, at) {
-  const saves = spanOf("saves", "Save: ");
-  for (const form of ["dxf", "stl", "step"]) {
-    const button = buttonOf(form.toUpperCase(), async () => {
-      const number = numberAt(at) + 1;
-      button.disabled = true;
-      const response = await answered("/solid", { number, form });
-      if (response) saveAs(await response.blob(), `${stem()}_${number}.${form}`);
-      button.disabled = false;
-    });
-    button.title = { dxf: "its drawing, one line for each edge", stl: "its boundary as triangles", step: "its faces, by FreeCAD" }[form];
-    saves.append(button);
-  }
-  caption.append(saves);
+async function saveSolid(number, form, button) {
+  button.disabled = true;
+  const response = await answered("/solid", { number: number + 1, form, choice: choiceOf(number) });
+  if (response) saveAs(await response.blob(), `${stem()}_${number + 1}.${form}`);
+  button.disabled = false;
 }
 
-async function showAdded() {
-  const place = document.querySelector(".added");
-  place.hidden = false;
-  place.textContent = "..";
-  const response = await answered("/settle", { number: meant + 1 });
-  const text = response ? await response.text() : "";
-  place.hidden = !text;
-  place.textContent = text.slice(Math.max(0, text.search(/^(Solid \d+ is told|No further view)/m)));
+/** Buttons by which a solid is saved, once its search has ended. */
+function saves(numberNow) {
+  const place = spanOf("saves", "Save: ");
+  for (const form of Object.keys(SAVED_AS)) {
+    const button = buttonOf(form.toUpperCase(), () => saveSolid(numberNow(), form, button));
+    button.dataset.form = form;
+    place.append(button);
+  }
+  return place;
+}
+
+/** Says of each Save what it writes. */
+function showSaves() {
+  document.body.classList.toggle("can-save", ["whole", "cut", "stopped"].includes(state.how));
+  for (const button of document.querySelectorAll("[data-form]")) {
+    button.title = state.how === "whole" ? SAVED_AS[button.dataset.form] : `${SAVED_AS[button.dataset.form]}; ${SAVED_HERE}`;
+  }
+  for (const button of document.querySelectorAll("#large [data-form]")) {
+    button.setAttribute("aria-label", state.large === null ? "" : `Save solid ${state.large + 1} as ${button.textContent}`);
+  }
 }
 
 async function savePage() {
@@ -209,15 +275,44 @@ async function savePage() {
   if (response) saveAs(await response.blob(), `${stem()}.html`);
 }
 
+// ---- lines to be added
+
+/** What is told of the lines to be added for a solid, by some views or by the fewest. */
+async function toldAdded(number, views) {
+  const response = await answered("/settle", { number: number + 1, views });
+  return response?.json();
+}
+
+const ADDING = {
+  told: toldAdded,
+  save: async (number, views) => {
+    const told = await toldAdded(number, views);
+    if (told) saveAs(new Blob([told.dxf]), `${stem()}_with_${views.join("_") || "lines"}.dxf`);
+  },
+  read: async (number, views) => {
+    const told = await toldAdded(number, views);
+    const back = table.shown;
+    if (!told) return;
+    showMade(told.dxf, `with ${views.join(" and ") || "lines"} of solid ${number + 1}`);
+    offerBack({ words: told.lines }, () => showFile(back));
+  },
+};
+
 // ---- what a person does
 
 function listenForFiles() {
   const input = document.getElementById("file");
-  document.querySelector(".choose").addEventListener("click", () => input.click());
+  find(".choose").addEventListener("click", () => input.click());
   input.addEventListener("change", () => {
     if (input.files[0]) showNew(input.files[0]);
     input.value = "";
   });
+  for (const button of document.querySelectorAll("[data-example]")) {
+    button.addEventListener("click", async () => {
+      const response = await answered("/example", { name: button.dataset.example });
+      if (response) showNew(new File([await response.blob()], `${button.dataset.example}.dxf`));
+    });
+  }
   document.addEventListener("dragover", (event) => {
     event.preventDefault();
     document.body.classList.add("dragged");
@@ -234,16 +329,22 @@ function listenForFiles() {
 
 function listenAtTable() {
   listenForFiles();
+  giveBy({ isServed: true, show: showSuggested });
+  addBy(ADDING);
+  addToFigures((at) => saves(() => numberAt(at)));
+  find("#large .acts").append(saves(() => state.large));
+  when(["how", "large"], showSaves);
   document.body.classList.add("served");
-  document.querySelector(".stop").addEventListener("click", () => answered("/stop", {}));
-  document.querySelector(".options form").addEventListener("submit", (event) => {
+  find(".stop").addEventListener("click", () => answered("/stop", {}));
+  find(".options form").addEventListener("submit", (event) => {
     event.preventDefault();
     if (table.shown) showFile(table.shown);
     else showFailure("First choose a drawing.");
   });
-  document.querySelector(".save-page").addEventListener("click", savePage);
-  document.querySelector("#settle .add").addEventListener("click", showAdded);
+  find(".save-page").addEventListener("click", savePage);
+  window.addEventListener("pagehide", () => leave(false));
   setInterval(showTime, 100);
+  comeBack();
 }
 
 listenAtTable();
