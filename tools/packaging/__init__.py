@@ -1,0 +1,1 @@
+"""How tools/package makes the Debian package."""
