@@ -1,10 +1,11 @@
 #!/usr/bin/env python3
 """Checks a completeness log without recon, of which it uses nothing: a drawing and behind it its log stand on standard input, and
-what `recon check` says of them is written, with its statuses: `cat drawing.dxf log | tools/check_log.py`. Behind `yes S` stand the
-choices of all solids that have these views, whoever wrote the log. To believe that, one has to believe what nothing here shows: that
-such a solid lies in the grid between the drawing's coordinates, and fills each block of it whole or not at all and nothing of the
-outside (Wesley and Markowsky 1981); and what `can_draw` says of two columns, which tools/check tries on all of up to four cells.
-All else is done below by the definitions, in the words of docs/DEFINITIONS.md and docs/FORMAT.md, and in 300 lines."""
+what `recon check` says of them is written, with its statuses: `cat drawing.dxf log | tools/check_log.py`. With `--two-views` one of
+the views may show nothing, as recon has it. Behind `yes S` stand the choices of all solids that have these views, whoever wrote the
+log. To believe that, one has to believe what nothing here shows: that such a solid lies in the grid between the drawing's
+coordinates, and fills each block of it whole or not at all and nothing of the outside (Wesley and Markowsky 1981); and what
+`can_draw` says of two columns, which tools/check tries on all of up to four cells. All else is done below by the definitions, in the
+words of docs/DEFINITIONS.md and docs/FORMAT.md, and in some 300 lines."""
 import itertools
 import re
 import sys
@@ -131,12 +132,18 @@ def runs(stretches: list[tuple[int, int, int]]) -> list[tuple[int, int, int]]:
             start, now = at, style
     return found
 
-def grid_of(kept: list[Kept]) -> tuple[list[int], dict[Line, int]]:
-    """How many cells each axis has, and the style of each line of the grid."""
-    rows, marks, styles = {}, [set(), set(), set()], {}
-    for view, name in enumerate(VIEWS):
+def shown_in(kept: list[Kept], may_lack: int) -> list[int]:
+    """The views that lines cover something of; so many of them may show nothing."""
+    shown = [view for view in range(3) if any(at == view and side[:2] != side[2:] for at, _, side in kept)]
+    empty = [name for view, name in enumerate(VIEWS) if view not in shown]
+    need(len(empty) <= may_lack, "F14 EmptyView view " + b"".join(empty[:1]).upper().decode())
+    return shown
+
+def grid_of(kept: list[Kept], may_lack: int = 0) -> tuple[list[int], dict[Line, int]]:
+    """How many cells each axis has, and the style of each line of the grid. A view that shows nothing has no line."""
+    rows, marks, styles, shown = {}, [set(), set(), set()], {}, shown_in(kept, may_lack)
+    for view in shown:
         sides = [(style, side) for at, style, side in kept if at == view and side[:2] != side[2:]]
-        need(sides, f"F14 EmptyView view {name.upper().decode()}")
         x, y = (min(min(side[way], side[way + 2]) for _, side in sides) for way in (0, 1))
         for style, (x0, y0, x1, y1) in sides:
             row, ends = ((view, 0, y0 - y), (x0 - x, x1 - x)) if y0 == y1 else ((view, 1, x0 - x), (y0 - y, y1 - y))
@@ -146,7 +153,7 @@ def grid_of(kept: list[Kept]) -> tuple[list[int], dict[Line, int]]:
         marks[FRAMES[view][1 - way]].add(at)
         marks[FRAMES[view][way]] |= {end for stretch in stretches for end in stretch[:2]}
     for name, ends in zip("xyz", marks): need(len(ends) <= MOST_PLACES, f"F17 TooFine axis {name} count {len(ends)}")
-    for view, way in itertools.product(range(3), range(2)):
+    for view, way in itertools.product(shown, range(2)):
         across, along = (sorted(marks[FRAMES[view][it]]) for it in (1 - way, way))
         for (number, at), cell in itertools.product(enumerate(across), range(len(along) - 1)):
             styles[view, way, number, cell] = next((it for low, high, it in rows.get((view, way, at), ()) if low <= along[cell] < high), BLANK)
@@ -171,17 +178,19 @@ def parts_of(inside: bytearray, steps: list[tuple[int, Sequence[int]]]) -> list[
     return parts
 
 def blocks_of(sizes: list[int], strides: list[int], styles: dict[Line, int]) -> list[int]:
-    """For each cell 0 outside, else the number of its block, from 1: by pseudo edges, virtual faces, and what is joined past these."""
+    """For each cell 0 outside, else the number of its block, from 1: by pseudo edges, virtual faces, and what is joined past these.
+    A view without lines shows nothing, and forbids no edge."""
+    frames = [(view, FRAMES[view]) for view in sorted({line[0] for line in styles})]
     points = [at[::-1] for at in itertools.product(*(range(size + 1) for size in reversed(sizes)))]
     drawn, edges, walls = [set(), set(), set()], [bytearray(len(points)) for _ in sizes], []
     for view, way, at, cell in (line for line, style in styles.items() if style):
         drawn[view] |= {(at, cell), (at, cell + 1)} if way else {(cell, at), (cell + 1, at)}
-    vertex = [all((at[right], at[up]) in drawn[view] for view, (right, up, _, _) in enumerate(FRAMES)) for at in points]
+    vertex = [all((at[right], at[up]) in drawn[view] for view, (right, up, _, _) in frames) for at in points]
     for place, axis in itertools.product(itertools.compress(range(len(points)), vertex), range(3)):
         at = points[place]
         edges[axis][place] = at[axis] < sizes[axis] and vertex[place + strides[axis]] and all(
             styles[(view, 0, at[up], at[right]) if axis == right else (view, 1, at[right], at[up])]
-            for view, (right, up, _, _) in enumerate(FRAMES) if axis in (right, up))
+            for view, (right, up, _, _) in frames if axis in (right, up))
     for one, other in (1, 2), (0, 2), (0, 1):  # across the third axis
         faces = bytearray(at[one] < sizes[one] and at[other] < sizes[other] for at in points)
         walls.append(parts_of(faces, [(strides[one], edges[other]), (strides[other], edges[one])]))
@@ -271,8 +280,8 @@ def listed(state: State, log: list[bytes]) -> list[bytes]:
             state.turn(block, full, full)
     need(False, "G7 Short", len(log) + 1)
 
-def answer(text: bytes) -> tuple[int, Iterable[bytes]]:
-    """The status for a drawing and its log, and what is written."""
+def answer(text: bytes, may_lack: int = 0) -> tuple[int, Iterable[bytes]]:
+    """The status for a drawing, of which so many views may show nothing, and its log, and what is written."""
     status, word = FAULT, "fault"
     try:
         need(len(text) <= MOST_BYTES, "F16 TooLong")
@@ -280,19 +289,19 @@ def answer(text: bytes) -> tuple[int, Iterable[bytes]]:
         need(not lines[0].startswith(b"AutoCAD Binary DXF"), "F1 Binary", 1)
         lines = lines if lines[-1] else lines[:-1]
         kept, place = read(lines)
-        state, status, word = State(*grid_of(kept)), NO_LOG, "log"
+        state, status, word = State(*grid_of(kept, may_lack)), NO_LOG, "log"
         choices = listed(state, lines[place:])
     except Wrong as wrong:
         return status, [f"{word} {wrong}\n".encode()]
     return YES, itertools.chain([b"yes %d\n" % len(choices)], (b"choice %b\n" % choice for choice in choices))
 
 def main(words: list[str]) -> int:
-    if words:
-        return print("usage: check_log.py < DRAWING_AND_LOG", file=sys.stderr) or USAGE
+    if words not in ([], ["--two-views"]):
+        return print("usage: check_log.py [--two-views] < DRAWING_AND_LOG", file=sys.stderr) or USAGE
     failed = NO_INPUT
     try:
         with open(0, "rb", closefd=False) as source: text = source.read(MOST_BYTES + 1)
-        failed, (status, told) = NO_OUTPUT, answer(text)
+        failed, (status, told) = NO_OUTPUT, answer(text, len(words))
         with open(1, "wb", closefd=False) as sink: sink.writelines(told)
     except (MemoryError, OSError) as why:
         return NO_MEMORY if isinstance(why, MemoryError) else failed

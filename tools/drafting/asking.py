@@ -1,32 +1,56 @@
 """What the program answers to a drawing as it is, or to a sheet once it is drawn for it."""
 import argparse
+import math
 import pathlib
 import re
 from collections.abc import Callable
 from fractions import Fraction
 from typing import NamedTuple
 
-from . import faults, program, sheet
+from . import answering, faults, files, program, sheet, trials
+from .answering import Readings
 from .answers import Answer, answer_of, turned_back
-from .drawing import Origin, decimals_of, lines_within, origin_of, passed_over
-from .messages import Refused
+from .drawing import Origin, decimals_of, entries_of, lines_within, missing_in, origin_of, passed_over, views_of
+from .given import given_in
+from .kept import Kept
+from .messages import Refused, Usage
+from .pairs import TwoReadings
+from .panels import Sheet, sheet_of
+from .paper import Paper
+from .reading import Unreadable
 
 Tell = Callable[[str], None]
-# What runs the program, by its path, words, input and limit of seconds.
-Runner = Callable[[pathlib.Path, list[object], bytes, float], program.Run]
-# Faults which `draft sheet` may get round.
+# What recon passes over and a sheet is compared with: its sizes, and which views are sections.
+TELLING = ("DIMENSION", "HATCH")
+# Faults of a drawing of three layers which `draft sheet` may get round.
 SHEETS = ("Binary", "NotWhole", "Linetype", "Geometry", "EmptyView", "TooManyLines", "TooLong")
 
 
 class Asked(NamedTuple):
     """What was asked, and the answer: the drawing that the program read, the lines of that, with how many decimals, how it stands for
-    the sheet, and the run."""
+    the sheet, the run, and where it was made of a sheet the way back to that; where rounds were squared off also what came of it."""
 
     data: bytes
     lines: list[str]
     decimals: int
     origin: Origin
     run: program.Run
+    paper: Paper | None = None
+    rounds: Readings | None = None
+
+    @property
+    def kept(self) -> list[Kept]:
+        """The solids that are kept once their rounds are rounded back, those of all readings that keep some."""
+        return [one for it in self.rounds.kept for one in it.outcome.kept] if self.rounds else []
+
+    @property
+    def missing(self) -> str:
+        """The main view that isn't drawn, where the other two are."""
+        return missing_in(views_of(self.lines))
+
+    def sheet(self) -> Sheet:
+        """The strokes of its views, which know the sheet that they were made of."""
+        return sheet_of(views_of(self.lines), self.decimals)._replace(back=self.paper)
 
     def answer(self, most: int | None = None) -> Answer:
         """The answer, with its solids turned back where the drawing shows them in a mirror."""
@@ -38,7 +62,22 @@ class Asked(NamedTuple):
         return measure(Fraction(units) / self.per_unit(), self.origin.unit)
 
     def volume(self, units: int) -> str:
-        return measure(Fraction(units) / self.per_unit() ** 3, self.origin.unit and self.origin.unit + "³")
+        return measure(Fraction(units) / self.per_unit() ** 3, self.cubic())
+
+    def cubic(self) -> str:
+        return self.origin.unit and self.origin.unit + "³"
+
+    def rounded_volume(self, kept: Kept) -> str:
+        """The volume of a solid that is rounded back, as `4,800 + 272 pi = 5,654.51 mm³`."""
+        times = self.origin.times**3
+        if kept.volume is None:
+            return f"{in_figures(kept.size() / float(times))} {self.cubic()}".strip() + " by FreeCAD"
+        plain, by_pi = (it / times for it in kept.volume)
+        sum_told = f"{in_figures(float(plain) + float(by_pi) * math.pi)} {self.cubic()}".strip()
+        if not by_pi:
+            return measure(plain, self.cubic())
+        with_pi = f"{measure(abs(by_pi), '')} pi = {sum_told}"
+        return with_pi if not plain else f"{measure(plain, '')} {'-' if by_pi < 0 else '+'} {with_pi}"
 
     def per_unit(self) -> Fraction:
         """How many units of the answer one of the sheet's has."""
@@ -62,10 +101,16 @@ def measure(value: Fraction, unit: str) -> str:
     return f"{text} {unit}".strip()
 
 
+def in_figures(value: float) -> str:
+    """A number that has no end: with two decimals, or six figures where it is small."""
+    return f"{value:,.2f}" if value >= 1000 else f"{value:.6g}"
+
+
 def add_reading(parser: argparse.ArgumentParser) -> None:
     """The options that say how a file is read, and by which program."""
     parser.add_argument("--as-is", action="store_true", help="the program reads the file as it is, and no sheet is drawn for it")
     parser.add_argument("--decimals", type=int, choices=range(7), help="how many decimals the file is read with as it is (else found)")
+    parser.add_argument("--all-readings", action="store_true", help="of a sheet whose lines may be tangent edges all readings are tried")
     program.add_arguments(parser)
     sheet.add_options(parser)
 
@@ -87,40 +132,74 @@ def words_of(arguments: argparse.Namespace) -> list[object]:
     return words
 
 
-def ask(
-    path: str, arguments: argparse.Namespace, tell: Tell, command: tuple[object, ...] = ("solve",), runner: Runner = program.run
-) -> Asked:
+def ask(path: str | None, arguments: argparse.Namespace, tell: Tell, command: tuple[object, ...] = ("solve",)) -> Asked:
     """Asks the program about a file: as it is, where that is a drawing of three layers and nothing in its views is passed over, or it is
-    said so; else about what `draft sheet` draws."""
+    said so; else about what `draft sheet` draws of it, or of a file for each view."""
+    if path is None or files.files_of(arguments, path):
+        return of_sheet(path, arguments, tell, command)
     data = pathlib.Path(path).read_bytes()
     lines = lines_within(data)
     decimals = decimals_of(lines) if arguments.decimals is None else arguments.decimals
-    said_of_sheet = any(getattr(arguments, name) for name in ("hidden", "visible", "leave_out", "visible_only", "angle"))
-    is_plain = faults.is_of_the_three_layers(lines) and not passed_over(lines) and not faults.names_other_layers(lines)
-    as_is = arguments.as_is or is_plain and arguments.scale == "1:1"
-    words = [*decimals_words(command, decimals), *words_of(arguments)]
-    # Where it isn't asked as it is, the least search tells whether the file is broken.
-    found = program.find(arguments.program)
-    if as_is and not said_of_sheet:
-        run = runner(found, [*command, *words], data, arguments.seconds)
-    else:
-        run = program.run(found, ["solve", "--nodes", 1, "--solids", 1], data, arguments.seconds)
+    is_sheet = not arguments.as_is and (is_said_of_sheet(arguments) or not is_plain(lines))
+    given = given_in(lines)
+    if given and (is_sheet or arguments.as_is):
+        tell(f"warning: the drawing has its rounds squared off, and is taken as {'it is' if arguments.as_is else 'a sheet'}: what is told is of "
+             "squares")
+        given = None
+    if is_sheet and (asked := of_readable_sheet(path, lines, arguments, tell, command)) is not None:
+        return asked
+    words = [*command, *views_words(lines), *decimals_words(command, decimals), *words_of(arguments)]
+    run = program.run(program.find(arguments.program), words, data, arguments.seconds)
     fault = faults.name_of(run.text.strip())
-    if not arguments.as_is and (not as_is or said_of_sheet or fault) and fault in ("", *SHEETS):
-        if fault and as_is:
-            tell(f"found: recon doesn't take the file as it is: {run.text.strip()}")
-        return of_sheet(path, arguments, tell, command, runner)
+    if fault in SHEETS and not is_sheet and not arguments.as_is:
+        tell(f"found: recon doesn't take the file as it is: {run.text.strip()}")
+        if (asked := of_readable_sheet(path, lines, arguments, tell, command)) is not None:
+            return asked
     for text in passed_over_told(lines):
         tell(f"warning: {text}")
     if not fault:
         tell(f"found: recon reads the file as it is, with --decimals {decimals}")
-    return Asked(data, lines, decimals, origin_of(lines), run)
+        if missing := missing_in(views_of(lines)):
+            tell(f"found: two views, without {missing}")
+    rounds = answering.of_drawing(sheet.Drawn(data.decode(), decimals, origin_of(lines)), given, ask_all(arguments)) if given and not fault else None
+    return Asked(data, lines, decimals, origin_of(lines), run, None, rounds)
+
+
+def is_said_of_sheet(arguments: argparse.Namespace) -> bool:
+    """Whether the user says what only a sheet is read by."""
+    said = any(getattr(arguments, name) for name in ("hidden", "visible", "leave_out", "visible_only", "pairs", "angle", "as_drawn"))
+    return said or arguments.scale not in (None, "1:1")
+
+
+def is_plain(lines: list[str]) -> bool:
+    """Whether a file is a drawing of three layers, of which nothing is passed over that lies within its views or tells of them."""
+    return (faults.is_of_the_main_layers(lines) and not passed_over(lines) and not faults.names_other_layers(lines)
+            and not any(entry.section == "ENTITIES" and entry.name in TELLING for entry in entries_of(lines)))
+
+
+def ask_all(arguments: argparse.Namespace) -> answering.Asker:
+    """Asks for all solids of a squared-off drawing."""
+    def ask_one(data: bytes, decimals: int) -> program.Run:
+        words = ["solve", *decimals_words(("solve",), decimals), *limits_of(arguments)]
+        return program.run(program.find(arguments.program), words, data, arguments.seconds)
+
+    return ask_one
+
+
+def limits_of(arguments: argparse.Namespace) -> list[object]:
+    """The limits of a search for all solids, whatever is asked of the program first."""
+    return list(getattr(arguments, "limits", None) or words_of(arguments))
 
 
 def way_out(cut: re.Match[str]) -> str:
     """What to do where a search was cut."""
     limit, most = int(cut[2]), {"nodes": program.MOST_NODES, "solids": program.MOST_SOLIDS}[cut[1]]
     return f"raise it by --{cut[1]}, to {most:,} at most" if limit < most else "draw what tells the solids apart, or less of the part"
+
+
+def views_words(lines: list[str]) -> list[object]:
+    """What the program is given where one of the main views isn't drawn."""
+    return [program.TWO_VIEWS] if missing_in(views_of(lines)) else []
 
 
 def decimals_words(command: tuple[object, ...], decimals: int) -> list[object]:
@@ -133,13 +212,67 @@ def passed_over_told(lines: list[str]) -> list[str]:
             for (layer, kind), count in passed_over(lines).items()]
 
 
-def of_sheet(path: str, arguments: argparse.Namespace, tell: Tell, command: tuple[object, ...], runner: Runner) -> Asked:
-    """Asks the program about what a sheet is drawn as."""
+def of_readable_sheet(path: str, lines: list[str], arguments: argparse.Namespace, tell: Tell, command: tuple[object, ...]) -> Asked | None:
+    """The same as `of_sheet`; nothing, which is told, where ezdxf can't read a file that has lines on the three layers, so that the
+    program has to read it as it is."""
     try:
-        drawn = sheet.draw(path, arguments, tell)
+        return of_sheet(path, arguments, tell, command)
+    except Unreadable as cause:
+        if is_said_of_sheet(arguments) or not any(views_of(lines).values()):
+            raise
+        tell(f"warning: {cause}, so the program reads the file as it is")
+        return None
+
+
+def drawn_of(path: str | None, arguments: argparse.Namespace, tell: Tell) -> sheet.Drawn:
+    """What a sheet is drawn as; of two views whose angle isn't told, in the one in which some solid has them, where none has in the other."""
+    said: list[str] = []
+    try:
+        return sheet.draw_readings(path, arguments, said.append)
+    except TwoReadings as refusal:
+        said.clear()
+        known = angle_of(path, arguments, refusal)
+        said.append(f"found: two views, in {known.angle} angle, since in the other no solid has them")
+        return sheet.draw_readings(path, known, said.append)
+    finally:
+        for text in said:
+            tell(text)
+
+
+def angle_of(path: str | None, arguments: argparse.Namespace, refusal: TwoReadings) -> argparse.Namespace:
+    """The arguments with the angle in which alone some solid has two views; refused where there is no such one, or hidden lines aren't drawn."""
+    if getattr(arguments, "visible_edges_alone", False):
+        raise Refused(str(refusal))
+    outcomes = {}
+    for angle in refusal.angles:
+        known = argparse.Namespace(**{**vars(arguments), "angle": angle})
+        drawn = sheet.draw(path, known, lambda text: None)
+        words = ["solve", program.TWO_VIEWS, *decimals_words(("solve",), drawn.decimals)]
+        outcomes[angle] = known, trials.outcome(program.find(arguments.program), words, drawn.text.encode())
+    fitting = [known for known, outcome in outcomes.values() if outcome.count or outcome.more]
+    if len(fitting) == 1:
+        return fitting[0]
+    told = "; ".join(f"in {angle} angle {outcome.words}" for angle, (_, outcome) in outcomes.items())
+    raise Refused(f"{refusal}\n  recon lists {told}")
+
+
+def of_sheet(path: str | None, arguments: argparse.Namespace, tell: Tell, command: tuple[object, ...]) -> Asked:
+    """Asks the program about what a sheet is drawn as; of a sheet with rounds about the first reading of which a solid is kept."""
+    try:
+        drawn = drawn_of(path, arguments, tell)
+        rounds = answering.readings(drawn, ask_all(arguments), arguments) if given_in(lines_within(drawn.text.encode())) else None
+        if drawn.refused and not (rounds and rounds.kept):
+            raise drawn.refused
+    except (Usage, Unreadable):
+        raise
     except Refused as refusal:
         raise Refused(f"{refusal}\n  (--as-is has recon read the file as it is)") from None
+    if rounds and (chosen := next(iter(rounds.kept), rounds.first)):
+        drawn = chosen.drawn
+    for note in drawn.notes:
+        tell(note)
     data = drawn.text.encode()
-    words = [*command, *decimals_words(command, drawn.decimals), *words_of(arguments)]
-    run = runner(program.find(arguments.program), words, data, arguments.seconds)
-    return Asked(data, lines_within(data), drawn.decimals, drawn.origin, run)
+    lines = lines_within(data)
+    words = [*command, *views_words(lines), *decimals_words(command, drawn.decimals), *words_of(arguments)]
+    run = program.run(program.find(arguments.program), words, data, arguments.seconds)
+    return Asked(data, lines, drawn.decimals, drawn.origin, run, drawn.paper, rounds)

@@ -10,7 +10,6 @@ import itertools
 from collections.abc import Iterable, Iterator
 from typing import NamedTuple
 
-from .drawing import VIEWS
 from .panels import BLANK, DASHED, FRAMES, SOLID, Grid, Panels, Row, Stroke, axis_of, row_of, runs_of
 
 
@@ -72,6 +71,11 @@ ACROSS = (
 )
 
 
+def are_drawn(panels: Panels, sides: Iterable[tuple[str, bool]]) -> bool:
+    """Whether both of two views are drawn: one that isn't tells nothing."""
+    return all(Row(view, upright, 0) in panels for view, upright in sides)
+
+
 def has_edge_at(panels: Panels, view: str, upright: bool, number: int) -> bool:
     return any(panels[Row(view, upright, number)])
 
@@ -86,13 +90,15 @@ def odd_places(grid: Grid, panels: Panels) -> set[tuple[int, int]]:
     neighbouring slices of a solid differ, both do."""
     return {
         (axis, number) for axis, (first, second) in enumerate(ACROSS) for number in range(len(grid.cuts[axis]))
-        if has_edge_at(panels, *first, number) != has_edge_at(panels, *second, number)
+        if are_drawn(panels, (first, second)) and has_edge_at(panels, *first, number) != has_edge_at(panels, *second, number)
     }
 
 
 def is_odd_strip(grid: Grid, panels: Panels, axis: int, strip: int) -> bool:
     """Whether in a strip between two coordinates one of two views shows edges along the axis, and the other none: a slice of a
     solid is empty or it isn't."""
+    if not are_drawn(panels, ACROSS[axis]):
+        return False
     shown = [
         has_edge_in(panels, view, not upright, strip, len(grid.cuts[axis_of(view, upright)])) for view, upright in ACROSS[axis]
     ]
@@ -170,12 +176,12 @@ def sizes_in(grid: Grid, view: str) -> tuple[int, int]:
 
 def judged(grid: Grid) -> Judged:
     points = {}
-    for view in VIEWS:
+    for view in grid.views:
         wide, tall = sizes_in(grid, view)
         points[view] = {
             (i, j) for i, j in itertools.product(range(wide + 1), range(tall + 1)) if is_bad(grid.panels, view, i, j)
         }
-    outlines = {view for view in VIEWS if is_dashed_outside(grid.panels, view, *sizes_in(grid, view))}
+    outlines = {view for view in grid.views if is_dashed_outside(grid.panels, view, *sizes_in(grid, view))}
     return Judged(grid, points, odd_places(grid, grid.panels), odd_strips(grid, grid.panels), outlines)
 
 
@@ -186,7 +192,7 @@ def odd_places_after(judged: Judged, panels: Panels, change: Change) -> set[tupl
         axis = axis_of(row.view, not row.upright)
         first, second = ACROSS[axis]
         odd.discard((axis, row.number))
-        if has_edge_at(panels, *first, row.number) != has_edge_at(panels, *second, row.number):
+        if are_drawn(panels, (first, second)) and has_edge_at(panels, *first, row.number) != has_edge_at(panels, *second, row.number):
             odd.add((axis, row.number))
     return odd
 

@@ -8,9 +8,9 @@ import re
 import sys
 
 from . import asking, program, prove
-from .drawing import views_of
+from .given import given_in
 from .messages import Refused, many, say, write_result
-from .panels import Row, Sheet, axis_of, grid_of, sheet_of
+from .panels import Row, Sheet, axis_of, grid_of
 from .rooms import thinned
 
 NAME = "check"
@@ -72,7 +72,7 @@ def told(said: str, log: bytes, asked: asking.Asked) -> list[str]:
     line = lines[0].decode(errors="replace") if lines else ""
     rows = [f"line {number:,} of the log is refused ({said})" + (f": {line[:WIDTH]!r}" if line else ""),
             FIRST if (kind, number) == ("G1 BadLine", 1) else WORDS.get(kind, "the line isn't right")]
-    place = place_told(line, sheet_of(views_of(asked.lines), asked.decimals))
+    place = place_told(line, asked.sheet())
     return [*rows, f"the line of the grid is {place}"] if place else rows
 
 
@@ -81,7 +81,7 @@ def run(arguments: argparse.Namespace) -> int:
     asked, data = prove.whole_drawing(arguments, lambda text: say(f"draft check: {text}"))
     if len(data) + len(log) > MOST_BYTES:
         raise Refused(f"the drawing and its log have {len(data) + len(log):,} bytes, more than {MOST_BYTES:,}")
-    judged = program.run(program.find(arguments.program), ["check"], data + log, arguments.seconds)
+    judged = program.run(program.find(arguments.program), ["check", *asking.views_words(asked.lines)], data + log, arguments.seconds)
     head = judged.text.partition("\n")[0]
     if judged.status == program.NO_LOG:
         for text in told(head, log, asked):
@@ -90,7 +90,8 @@ def run(arguments: argparse.Namespace) -> int:
     yes = re.fullmatch(r"yes (\d+)", head)
     if judged.status != program.WHOLE or not yes:
         raise Refused(f"recon says neither yes nor what is wrong: {head[:80]}")
-    count = int(yes[1])
-    write_result({0: "Yes: no solid has these views.\n", 1: "Yes: one solid has these views, and no other.\n"}.get(
-        count, f"Yes: {many(count, 'solid')} have these views, and no others.\n"), None)
+    count, views = int(yes[1]), "these two views" if asked.missing else "these views"
+    views += ", its rounds squared off" if given_in(asked.lines) else ""
+    write_result({0: f"Yes: no solid has {views}.\n", 1: f"Yes: one solid has {views}, and no other.\n"}.get(
+        count, f"Yes: {many(count, 'solid')} have {views}, and no others.\n"), None)
     return program.WHOLE

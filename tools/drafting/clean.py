@@ -21,8 +21,10 @@ def add_arguments(parser: argparse.ArgumentParser) -> None:
 
 
 def redrawn(arguments: argparse.Namespace, say_it: asking.Tell) -> asking.Asked:
-    """What recon redraws of a solid; refused where there is none."""
+    """What recon redraws of a solid; refused where there is none, but for a sheet with rounds, whose solids are rounded back."""
     asked = asking.ask(arguments.drawing, arguments, say_it, ("redraw", arguments.solid))
+    if asked.rounds:
+        return asked
     head = asked.run.text.partition("\n")[0]
     if asked.run.status == program.FAULT:
         raise Refused("; ".join(faults.told(head, asked.lines)))
@@ -51,6 +53,8 @@ def with_further(asked: asking.Asked) -> dict[str, list[Stroke]]:
 
 def run(arguments: argparse.Namespace) -> int:
     asked = redrawn(arguments, lambda text: say(f"draft clean: {text}"))
+    if asked.rounds:
+        raise Refused("a sheet with rounds isn't drawn anew: `draft sheet` writes it squared off")
     strokes = with_further(asked)
     say(f"draft clean: {many(sum(map(len, strokes.values())), 'line')}, read with --decimals {asked.decimals}")
     write_result(written(strokes, asked.decimals, asked.origin), arguments.output)

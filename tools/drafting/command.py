@@ -5,22 +5,34 @@ import importlib.metadata
 import os
 import platform
 import sys
+import textwrap
 from types import ModuleType
 
 from . import __version__
-from .messages import Progress, Refused, say
+from .files import with_standard_input
+from .messages import Progress, Refused, Usage, say
 
 # The commands, in the order in which the help tells them: a module each, with NAME, HELP, add_arguments(parser) and
 # run(arguments), which answers the status. What a command needs beyond Python is imported by its run alone.
 MODULES = (
-    "sheet", "solve", "serve", "follow", "why", "settle", "judge", "prove", "check", "table", "row", "step", "stl", "clean", "page", "picture",
-    "views", "triangles",
+    "sheet", "solve", "serve", "follow", "why", "settle", "judge", "prove", "check", "table", "batch", "step", "stl", "clean", "chosen", "page",
+    "picture", "stages", "views", "triangles",
 )
 
 EPILOG = """\
 Results go to standard output, or into the file of --output, and only where the status is 0; words for people go to standard
-error. The status is 1 where an input is refused, 2 where the arguments aren't taken. None of this is proved: the program that
-it runs is, and each thing that is changed, left out or taken here is told."""
+error. The status is 1 where an input is refused, 2 where the arguments aren't taken; 12 where solve has another number of solids than
+--expect says, and 13 where it lists some solids by --visible-edges-alone. A drawing may be `-`, standard input. None of this is proved: the program that it runs is, and each thing that is changed,
+left out or taken here is told."""
+
+
+class Help(argparse.HelpFormatter):
+    """Help whose paragraphs are filled to the width of the terminal, 80 columns where there is none; indented ones stay as they are."""
+
+    def _fill_text(self, text: str, width: int, indent: str) -> str:
+        paragraphs = text.strip("\n").split("\n\n")
+        return "\n\n".join(it if it.startswith(" ") else textwrap.fill(it, width, initial_indent=indent, subsequent_indent=indent)
+                           for it in paragraphs)
 
 
 def commands() -> list[ModuleType]:
@@ -40,26 +52,29 @@ def versions() -> str:
 def parser_of(modules: list[ModuleType]) -> argparse.ArgumentParser:
     parser = argparse.ArgumentParser(
         prog="draft", description="Programs round recon, for drawings as people make them.", epilog=EPILOG, allow_abbrev=False,
-        formatter_class=argparse.RawDescriptionHelpFormatter,
+        formatter_class=Help,
     )
     parser.add_argument("--version", action="version", version=versions())
     choices = parser.add_subparsers(dest="command", metavar="COMMAND", required=True)
     for module in modules:
         one = choices.add_parser(
             module.NAME, help=module.HELP, description=module.__doc__, allow_abbrev=False,
-            formatter_class=argparse.RawDescriptionHelpFormatter,
+            formatter_class=Help,
         )
         module.add_arguments(one)
         one.set_defaults(run=module.run)
     return parser
 
 
-def main(words: list[str]) -> int:
+def main(words: list[str] | None = None) -> int:
+    """Runs the command that the words name, else those that the process was begun with, and answers its status."""
     arguments = parser_of(commands()).parse_args(words)
     try:
-        return int(arguments.run(arguments))
+        with with_standard_input(arguments):
+            return int(arguments.run(arguments))
     except Refused as refusal:
         say(f"draft {arguments.command}: {refusal}")
+        return 2 if isinstance(refusal, Usage) else 1
     except BrokenPipeError:
         # Whoever reads has gone: nothing is left to be told, and nothing may be flushed at the end.
         os.dup2(os.open(os.devnull, os.O_WRONLY), sys.stdout.fileno())

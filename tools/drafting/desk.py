@@ -1,25 +1,30 @@
-"""The drawings of all open pages of `draft serve`: each has a folder, options, and processes, which go with its page."""
+"""The drawings of all open pages of `draft serve`: each has a folder, options, and processes, which go with its page. What is told of a
+drawing is kept in its folder, and a page asks for it piece by piece: so no connection stays open, and a page that is loaded anew gets all
+of it again. A page that is left, or that hasn't asked for anything for a while, is gone, and its drawing with it."""
+import errno
 import json
 import pathlib
 import re
 import secrets
 import shutil
-import sys
 import tempfile
 import threading
 import time
-from collections.abc import Callable, Iterator
 from typing import Any
 
-from . import program
-from .messages import Refused
-from .turns import HEARTBEAT, Limits, Running, Turn, Turns
+from . import controls, itself, shown
+from .messages import Refused, many
+from .turns import Limits, Running, Turn, Turns
 
-DRAFT = program.TOP / "tools" / "draft"
-# The most bytes of what is told of one drawing, and the most drawings in open pages.
-MOST_TOLD, MOST_JOBS = 256 << 20, 32
+# The most bytes of what is told of one drawing, of one piece of that, and the most drawings in open pages.
+MOST_TOLD, PIECE, MOST_JOBS = 256 << 20, 4 << 20, 32
+# After how many seconds a page that was left is gone; and one of which nothing was heard: browsers let a page that isn't seen ask once a
+# minute. A page that was asked for within so many seconds before may be the same one, loaded anew, and has so many to come back.
+GRACE, LIFE = 5.0, 150.0
+RECENT, LOADING = 30.0, 60.0
 # What the drawing's process says in the end, where it told all.
 TOLD_ALL = re.compile(r"^draft follow: [\d,]+ solids? told$", re.M)
+FULL = (errno.ENOSPC, errno.EDQUOT, errno.EFBIG)
 
 
 class Unfit(Exception):
@@ -30,28 +35,99 @@ class Unfit(Exception):
         self.status = status
 
 
+def told_of_failure(failure: OSError) -> str:
+    """What is to be said where a file of the server can't be written or read; its path isn't."""
+    if failure.errno in FULL:
+        return "the disk is full: make room on it, and try again"
+    if failure.errno in (errno.ENOENT, errno.ENOTDIR):
+        return "the server's folder is gone: end `draft serve`, and start it again"
+    return f"the server can't keep its files: {failure.strerror or type(failure).__name__}"
+
+
+def file_name(name: str) -> str:
+    """The name of a file as far as it can be one here."""
+    plain = re.sub(r"[^\w .()+-]+", "_", name).strip(" .-_")[-80:].strip(" .-_")
+    return plain or "drawing"
+
+
+def event(kind: str, **told: Any) -> bytes:
+    return json.dumps({"kind": kind, **told}, separators=(",", ":")).encode() + b"\n"
+
+
 class Job:
-    """A drawing in an open page: its folder, its options, and the processes that work at it."""
+    """A drawing in an open page: its folder, its options, what is told of it, and the processes that work at it."""
 
     def __init__(self, session: pathlib.Path) -> None:
         self.key = secrets.token_urlsafe(12)
         self.folder = pathlib.Path(tempfile.mkdtemp(prefix="drawing_", dir=session))
-        self.given = self.folder / "given.dxf"
         self.told = self.folder / "events"
+        # Where its processes run, so that what they say of a file names it as its owner does.
+        self.room = self.folder / "room"
+        self.room.mkdir()
         self.name = ""
         self.words: list[str] = []
+        self.options: list[Any] = []
         self.running: list[Running] = []
-        self.is_over = False
+        # How its search ended, once it is told; whether it was stopped, is over, and has ended with its page.
+        self.how = ""
+        self.is_stopped = self.is_over = self.has_ended = False
+        self.size = 0
+        # The end of what is told, where it couldn't be written.
+        self.rest = b""
+        self.changed = threading.Condition()
+        self.left = 0.0
+        self.heard()
+
+    @property
+    def given(self) -> pathlib.Path:
+        return self.room / file_name(self.name)
+
+    def heard(self) -> None:
+        """Its page is there."""
+        self.asked_at, self.left = time.monotonic(), 0.0
+
+    def is_gone(self) -> bool:
+        now = time.monotonic()
+        return now - self.asked_at > LIFE or bool(self.left) and now - self.left > GRACE
+
+    def tell(self, data: bytes) -> None:
+        """Keeps some whole events."""
+        with self.changed:
+            if self.rest:
+                self.rest += data
+            else:
+                try:
+                    with open(self.told, "ab") as file:
+                        file.write(data)
+                except OSError:
+                    self.rest = data
+            self.size += len(data)
+            self.changed.notify_all()
+
+    def events(self, start: int, seconds: float) -> bytes:
+        """What is told from a byte on, as soon as there is some, within so many seconds."""
+        with self.changed:
+            self.changed.wait_for(lambda: self.size > start or self.is_over or self.has_ended, seconds)
+            kept = self.size - len(self.rest)
+            if self.has_ended or start >= kept:
+                return self.rest[start - kept:]
+        with open(self.told, "rb") as file:
+            file.seek(start)
+            return file.read(min(PIECE, kept - start))
+
+    def stop(self) -> None:
+        """Has its search end, wherever it is."""
+        self.is_stopped = True
+        for running in list(self.running):
+            running.stop()
 
     def end(self) -> None:
-        self.is_over = True
+        with self.changed:
+            self.has_ended = True
+            self.changed.notify_all()
         for running in list(self.running):
             running.end()
         shutil.rmtree(self.folder, ignore_errors=True)
-
-
-def event(kind: str, **told: Any) -> bytes:
-    return json.dumps({"kind": kind, **told}).encode() + b"\n"
 
 
 class Desk:
@@ -61,7 +137,16 @@ class Desk:
         self.session, self.limits, self.path = session, limits, path
         self.turns = Turns(limits.at_once)
         self.jobs: dict[str, Job] = {}
+        self.page_at = -RECENT
         self.lock = threading.Lock()
+        threading.Thread(target=self.clear, daemon=True).start()
+
+    def clear(self) -> None:
+        """Ends the drawings of pages that are gone, as long as the server runs."""
+        while True:
+            time.sleep(0.25)
+            for job in [job for job in list(self.jobs.values()) if job.is_gone()]:
+                self.end(job)
 
     def begin(self) -> Job:
         with self.lock:
@@ -70,6 +155,11 @@ class Desk:
             job = Job(self.session)
             self.jobs[job.key] = job
             return job
+
+    def leave(self, job: Job) -> None:
+        """A job's page goes away; where a page was just asked for, it may be loaded anew."""
+        now = time.monotonic()
+        job.left = now + (LOADING if now - self.page_at < RECENT else 0)
 
     def end(self, job: Job) -> None:
         with self.lock:
@@ -83,7 +173,8 @@ class Desk:
     def job(self, key: object) -> Job:
         job = self.jobs.get(key) if isinstance(key, str) else None
         if job is None:
-            raise Unfit(404, "no such drawing: its page is closed, or has another one")
+            raise Unfit(404, "no such drawing any more: its page was closed, or has another one")
+        job.heard()
         return job
 
     def words(self, job: Job, command: str, *words: str) -> list[str]:
@@ -91,62 +182,81 @@ class Desk:
         # The program has a little less time, so that there is some to tell what it found.
         seconds = max(self.limits.seconds / 2, self.limits.seconds - 5)
         own = [] if command == "page" else [f"--program={self.path}", f"--seconds={seconds:g}", *job.words]
-        return [sys.executable, str(DRAFT), command, *own, *words]
+        return itself.words(command, *own, *words)
 
     def run(self, job: Job, turn: Turn, words: list[str]) -> Running:
-        running = Running(words, self.limits, turn, job.folder)
+        running = Running(words, self.limits, turn, job.room)
         job.running.append(running)
-        if job.is_over:
+        if job.has_ended:
             running.end()
         return running
 
-    def followed(self, job: Job, is_gone: Callable[[], bool]) -> Iterator[bytes]:
-        """What is told of a drawing, until its page goes away."""
+    # ---- a drawing
+
+    def follow(self, job: Job) -> None:
+        """Has all be told of a job's drawing, in its turn, in a thread of its own."""
+        job.tell(event("job", key=job.key, name=job.name, options=job.options))
+        threading.Thread(target=self.followed, args=(job,), daemon=True).start()
+
+    def followed(self, job: Job) -> None:
+        """What is told of a drawing. How it ended is always told, and that it is over."""
+        text = ""
         try:
-            yield event("job", key=job.key, solids=program.MOST_SOLIDS)
             turn = self.turns.enter()
             try:
-                before = -1
-                while not turn.has_come() and not is_gone():
-                    yield event("queued", before=turn.before()) if turn.before() != before else b"\n"
-                    before = turn.before()
-                if turn.slot is not None:
-                    yield from self.told(job, turn)
+                if self.has_turn(job, turn):
+                    text = self.told(job, turn)
             finally:
                 turn.leave()
-            while not is_gone():
-                yield b"\n"
-                time.sleep(HEARTBEAT)
         except Refused as refusal:
-            yield event("over", text=str(refusal))
-        finally:
-            self.end(job)
+            text = str(refusal)
+        except OSError as failure:
+            text = told_of_failure(failure)
+        if job.is_stopped and not job.how:
+            job.how = "stopped"
+            job.tell(event("end", how=job.how, html=shown.stopped_told(0, ""), text=""))
+        job.tell(event("over", text=text))
+        with job.changed:
+            job.is_over = True
+            job.changed.notify_all()
 
-    def told(self, job: Job, turn: Turn) -> Iterator[bytes]:
-        """What the drawing's process tells; it is kept beside the drawing for the page as one file."""
-        yield event("began", seconds=self.limits.seconds, processors=self.limits.processors)
-        running = self.run(job, turn, self.words(job, "follow", "--attended", "--", str(job.given)))
-        at_start, size = True, 0
+    def has_turn(self, job: Job, turn: Turn) -> bool:
+        """Waits for a job's turn, and tells how many are before it; whether it came before the job was stopped."""
+        before = -1
+        while not (job.is_stopped or job.has_ended) and not turn.has_come():
+            if turn.before() != before:
+                before = turn.before()
+                job.tell(event("queued", before=before))
+        return not (job.is_stopped or job.has_ended)
+
+    def told(self, job: Job, turn: Turn) -> str:
+        """Has its process tell of a drawing, and answers why it told less than all."""
+        job.tell(event("began", seconds=self.limits.seconds, processors=self.limits.processors))
+        running = self.run(job, turn, self.words(job, "follow", "--attended", "--", job.given.name))
+        if job.is_stopped:
+            running.stop()
+        rest = b""
         try:
-            with open(job.told, "wb") as kept:
-                for piece in running.pieces():
-                    at_start = piece.endswith(b"\n") if piece else at_start
-                    size += len(piece)
-                    kept.write(piece if size <= MOST_TOLD else b"")
-                    yield piece or (b"\n" if at_start else b"")
+            for piece in running.pieces():
+                lines, line_end, rest = (rest + piece).rpartition(b"\n")
+                ends = [line for line in lines.split(b"\n") if line.startswith(b'{"kind":"end"')]
+                job.how = json.loads(ends[-1])["how"] if ends else job.how
+                if job.size + len(lines) > MOST_TOLD:
+                    raise Refused(f"more than {many(MOST_TOLD >> 20, 'MiB', 'MiB')} are told of this drawing")
+                if lines:
+                    job.tell(lines + line_end)
         finally:
             running.end()
             job.running.remove(running)
-        is_right = TOLD_ALL.search(running.said.read_text(errors="replace"))
-        text = "" if is_right or running.is_stopped else running.complaint()
-        yield (b"" if at_start else b"\n") + event("over", text=text)
+        is_right = TOLD_ALL.search(running.said.read_text(errors="replace")) if running.said.exists() else None
+        return "" if is_right or running.is_stopped or job.has_ended else controls.in_words(running.complaint())
 
     def made(self, job: Job, words: list[str]) -> bytes:
         """What a command over a job's drawing writes to standard output."""
         turn = self.turns.enter()
         try:
             while not turn.has_come():
-                if job.is_over:
+                if job.has_ended:
                     raise Unfit(404, "the page is closed")
             running = self.run(job, turn, words)
             try:
@@ -155,7 +265,7 @@ class Desk:
                 running.end()
                 job.running.remove(running)
             if running.process.wait():
-                raise Unfit(422, running.complaint())
+                raise Unfit(422, controls.in_words(running.complaint()))
             return out
         finally:
             turn.leave()

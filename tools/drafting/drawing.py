@@ -6,7 +6,7 @@ import math
 import pathlib
 import re
 from collections import Counter
-from collections.abc import Iterable, Iterator, Mapping
+from collections.abc import Iterable, Iterator, Mapping, Sequence
 from decimal import Decimal
 from fractions import Fraction
 from typing import NamedTuple
@@ -18,6 +18,10 @@ DRAWN = ("LINE", "LWPOLYLINE")
 VISIBLE = ("CONTINUOUS", "BYBLOCK")
 DASHED = ("HIDDEN", "HIDDEN2", "HIDDENX2", "DASHED", "DASHED2", "DASHEDX2")
 CENTER = ("CENTER", "CENTER2", "CENTERX2")
+
+CODE = re.compile(r"-?[0-9]{1,4}")
+# The entries of a file of more lines aren't held.
+MOST_HELD = 400_000
 
 Place = tuple[float, float]
 # A line to be written: whether it is dashed, and its ends in units of the last decimal.
@@ -72,19 +76,34 @@ def lines_within(data: bytes) -> list[str]:
 def pairs_of(lines: list[str]) -> Iterator[tuple[int, int, str]]:
     """The pairs of a drawing up to its end, or to what is no pair: the line of the code, the code and the value."""
     for number, (code, value) in enumerate(zip(lines[0::2], lines[1::2])):
-        if not re.fullmatch(r"-?[0-9]{1,4}", code) or (int(code) == 0 and value.upper() == "EOF"):
+        if not CODE.fullmatch(code) or (int(code) == 0 and value.upper() == "EOF"):
             return
         yield 2 * number + 1, int(code), value
 
 
-def entries_of(lines: list[str]) -> Iterator[Entry]:
+class Held:
+    """The entries of the lines that were asked about last: a drawing's are, several times in a row."""
+
+    lines: list[str] = []
+    entries: list[Entry] = []
+
+
+def entries_of(lines: list[str]) -> Iterable[Entry]:
     """The entries of a drawing; what belongs to an application is passed over, and so are comments."""
-    section, foreign = "", False
+    if len(lines) > MOST_HELD:
+        return entries_within(lines)
+    if Held.lines is not lines:
+        Held.entries, Held.lines = list(entries_within(lines)), lines
+    return Held.entries
+
+
+def entries_within(lines: list[str]) -> Iterator[Entry]:
+    section, foreign, last = "", False, 0
     entry = None
     for number, code, value in pairs_of(lines):
         if code == 0:
             if entry:
-                yield entry
+                yield entry._replace(last=last)
             entry, foreign = Entry(section, value.upper(), [], {}, number, number + 1), False
         elif entry:
             foreign = foreign or (code == 102 and value.startswith("{"))
@@ -92,11 +111,11 @@ def entries_of(lines: list[str]) -> Iterator[Entry]:
                 entry.pairs.append((code, value))
                 entry.values.setdefault(code, value)
             foreign = foreign and not (code == 102 and value == "}")
-            entry = entry._replace(last=number + 1)
             if code == 2 and entry.name == "SECTION":
                 section = value.upper()
+        last = number + 1
     if entry:
-        yield entry
+        yield entry._replace(last=last)
 
 
 def points_of(entry: Entry) -> list[Place]:
@@ -134,6 +153,12 @@ def views_of(lines: list[str]) -> dict[str, list[Line]]:
                 known = linetype in ("", *VISIBLE, *DASHED)
                 views[layer] += [Line(linetype in DASHED, *ends, told, known) for ends in sides_of(entry)]
     return {view: its for view, its in views.items() if its or view in VIEWS}
+
+
+def missing_in(views: Mapping[str, Sequence[object]]) -> str:
+    """The main view that a drawing lacks where it has the other two; else nothing."""
+    missing = [view for view in VIEWS if not views.get(view)]
+    return missing[0] if len(missing) == 1 else ""
 
 
 def further_in(lines: list[str]) -> list[str]:

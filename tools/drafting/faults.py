@@ -3,7 +3,7 @@ import re
 from collections import Counter
 
 from .answers import FAULT
-from .drawing import DRAWN, FURTHER, VIEWS, Entry, entries_of
+from .drawing import DRAWN, FURTHER, MEANT, VIEWS, Entry, entries_of
 from .placing import view_named
 from .reading import Source
 
@@ -94,9 +94,14 @@ def told(head: str, lines: list[str]) -> list[str]:
     return [f"the drawing has a fault: {wrong} ({head})", *about(head, lines), *([change] if change else [])]
 
 
-def is_of_the_three_layers(lines: list[str]) -> bool:
-    """Whether the file has lines on each of the three layers."""
-    return set(VIEWS) <= {layer.upper() for layer in layers_with_lines(lines)}
+def is_of_the_main_layers(lines: list[str]) -> bool:
+    """Whether the file has lines on each of the three layers; or on some of them and nothing drawn on others, as where it is cut or has two
+    views."""
+    layers = {layer.upper() for layer in layers_with_lines(lines)}
+    return set(VIEWS) <= layers or bool(layers) and layers <= {*VIEWS, *FURTHER} and not any(
+        entry.section == "ENTITIES" and entry.name in MEANT and entry.values.get(8, "0").upper() not in (*VIEWS, *FURTHER)
+        for entry in entries_of(lines)
+    )
 
 
 def names_other_layers(lines: list[str]) -> bool:

@@ -4,24 +4,27 @@ while the program still searches; then how it ended; and then what is wrong, whe
 it, where several have them.
 
 With --attended standard input is whoever asked: a line `stop` ends the search, and what is found is told; its end ends everything.
+Words are then for a page, whose controls they name in place of options.
 """
 import argparse
 import itertools
 import json
 import os
 import pathlib
+import queue
 import re
 import signal
 import subprocess
 import sys
 import threading
-import time
 from collections.abc import Callable, Iterator
 from typing import IO, Any
 
-from . import asking, faults, program, rooms, settle, shown, why
+from . import asking, controls, faults, program, rooms, settle, shown, why
+from .answering import Readings
 from .answers import CUT, FAULT, SOLID, WHOLE, solid_of
-from .drawing import Line, decimals_of, lines_within, origin_of, views_of
+from .drawing import Line, decimals_of, lines_within, missing_in, origin_of, views_of
+from .given import given_in
 from .messages import Refused, many, say
 from .panels import sheet_of
 from .rooms import Blocks
@@ -30,8 +33,9 @@ from .shown import Units
 NAME = "follow"
 HELP = "ask recon about a drawing, and tell as it goes; `draft serve` runs it"
 
+SQUARED = "changed: solids are shown with their rounds squared off; `draft step` saves them round"
 Event = dict[str, Any]
-Emit = Callable[[Event], None]
+Events = Iterator[Event]
 
 # Of how many listed solids the volumes, and of how many the faces too, are compared with what is shown; and for how many seconds.
 COMPARED, BY_FACES, COMPARING = 4_096, 64, 2.0
@@ -41,7 +45,7 @@ MOST_SETTLED, MOST_CELLS = 4_096, 40_000_000
 
 def add_arguments(parser: argparse.ArgumentParser) -> None:
     parser.add_argument("drawing", metavar="IN.dxf")
-    parser.add_argument("--attended", action="store_true", help="standard input is whoever asked")
+    parser.add_argument("--attended", action="store_true", help="standard input is whoever asked, by a page")
     add_options(parser)
 
 
@@ -58,11 +62,12 @@ def said(text: str) -> Event:
 
 
 def drawing_event(lines: list[str], units: Units, head: str = "") -> Event:
-    return {"kind": "drawing", "html": shown.drawing_told(views_of(lines), units, head)}
+    return {"kind": "drawing", "html": shown.drawing_told(views_of(lines), units, head, given_in(lines))}
 
 
 def grid_event(blocks: Blocks, units: Units) -> Event:
-    """The grid, the block of each place in runs, or -1, and how lengths are told."""
+    """What solids are shown by: the cuts of each axis, in units of the answer; the block of each place, or -1, in runs of (block, how
+    many), x fastest, then y, then z, with a place behind the last cell of each axis; and how lengths are told."""
     told = blocks.turned_round() if units.origin.mirrored else blocks
     runs = [(block, len(list(run))) for block, run in itertools.groupby(told.numbers())]
     return {"kind": "grid", "cuts": told.grid.cuts, "cells": runs, "blocks": len(blocks.cells), "units": units.for_script()}
@@ -82,39 +87,57 @@ def end_event(how: str, html: str, text: str = "") -> Event:
     return {"kind": "end", "how": how, "html": html, "text": text}
 
 
+def stopped_event(count: int, why_stopped: str = "") -> Event:
+    return end_event("stopped", shown.stopped_told(count, why_stopped))
+
+
 def means_event(blocks: Blocks, choices: list[str], lines: list[str], decimals: int) -> Event:
-    """What further views and sections show: for each solid, in the stated order, the number of its group."""
+    """What further views and sections show: for each solid, in the stated order, the number of its group. Views, which the program reads,
+    come before sections, which it doesn't."""
     if len(choices) > MOST_SETTLED or len(choices) * blocks.grid.count > MOST_CELLS:
         return {"kind": "means", "rows": [], "text": f"What would settle it isn't looked for among {many(len(choices), 'solid')}."}
     solids = settle.Solids(blocks.grid, list(map(blocks.full, sorted(choices, reverse=True))))
     views, sections = settle.all_means(solids, sheet_of(views_of(lines), decimals))
+    # What a mirror shows isn't drawn beside solids that are turned back.
+    is_drawn = not origin_of(lines).mirrored
     rows = []
-    for means in settle.best_first([*views, *sections[:settle.SHOWN]]):
+    for means in [*settle.best_first(views), *sections[:settle.SHOWN]]:
         numbers: dict[object, int] = {}
-        rows.append({"name": means.name, "keys": [numbers.setdefault(key, len(numbers)) for key in means.keys]})
-    text = "Drawn here from the solids that the program lists; what settle adds to the drawing is checked by the program."
-    return {"kind": "means", "rows": rows, "text": text}
+        keys = [numbers.setdefault(key, len(numbers)) for key in means.keys]
+        rows.append({"name": means.name, "keys": keys, "section": means.section})
+    text = "Drawn here from the solids that the program lists; a drawing with lines added is checked by the program."
+    return {"kind": "means", "rows": rows, "text": text, "drawn": is_drawn}
 
 
 # ---- the search
 
-class Stopped(Exception):
-    """The search was stopped by whoever asked."""
-
-
 class Search:
-    """A run of the program whose pages are told as they come. It stands in for `program.run`."""
+    """A run of the program over a drawing, whose pages are told as they come."""
 
-    def __init__(self, emit: Emit) -> None:
-        self.emit = emit
+    def __init__(self) -> None:
         self.process: subprocess.Popen[bytes] | None = None
         self.is_stopped = False
         self.is_late = False
+        self.head = ""
         self.lines: list[str] = []
         self.decimals = 0
         self.blocks: Blocks | None = None
         self.choices: list[str] = []
+        self.kept: set[str] | None = None
+        self.rounds: Readings | None = None
         self.rows: Iterator[str] = iter(())
+
+    @property
+    def shown(self) -> list[str]:
+        """The choices that are shown: of a sheet with rounds those of the solids that are kept."""
+        return [choice for choice in self.choices if self.kept is None or choice in self.kept]
+
+    def rounds_told(self, rounds: Readings) -> Events:
+        """What came of a sheet with rounds; those solids are shown that are kept."""
+        self.rounds, first = rounds, next(iter(rounds.kept), rounds.first)
+        self.kept = {one.solid.choice for one in first.outcome.kept} if first else set()
+        doubts = [f"warning: {it}" for it in first.given.doubts] if first else []
+        yield from map(said, [SQUARED, *(first.outcome.told() if first else []), *rounds.told(), *doubts])
 
     def stop(self) -> None:
         self.is_stopped = True
@@ -126,31 +149,6 @@ class Search:
         if self.process:
             self.process.kill()
 
-    def __call__(self, path: pathlib.Path, words: list[object], data: bytes, seconds: float) -> program.Run:
-        """Runs the program up to the line behind the pages; what it lists is left to be compared."""
-        began = time.monotonic()
-        self.close()
-        command = [str(path), *map(str, words), "--pages"]
-        self.lines, self.decimals = lines_within(data), int(str(words[words.index("--decimals") + 1])) if "--decimals" in words else 0
-        process = self.process = subprocess.Popen(command, stdin=subprocess.PIPE, stdout=subprocess.PIPE, stderr=subprocess.PIPE)
-        timer = threading.Timer(seconds, self.late)
-        timer.start()
-        try:
-            head = self.told(process, data)
-        finally:
-            timer.cancel()
-        if self.is_late:
-            raise program.TimedOut(f"recon took longer than {seconds:g} seconds")
-        if self.is_stopped and not head:
-            raise Stopped("")
-        known = {"whole": program.WHOLE, "fault": program.FAULT, "cut nodes": program.CUT_NODES, "cut solids": program.CUT_SOLIDS}
-        status = next((number for word, number in known.items() if head.startswith(word)), None)
-        if status is None:
-            told = process.stderr.read(400) if process.stderr else b""
-            program.check(path, command[1:], process.wait(), told)
-            raise Refused("the program wrote no answer")
-        return program.Run(status, f"{head}\n", time.monotonic() - began)
-
     def close(self) -> None:
         """Ends the program where it still runs."""
         if self.process:
@@ -161,18 +159,40 @@ class Search:
                     stream.close()
             self.process = None
 
-    def whole(self, data: bytes, arguments: argparse.Namespace) -> None:
-        """Tells all of a drawing of three layers that has no fault, as it is."""
-        lines = lines_within(data)
-        words = ["solve", *asking.decimals_words(("solve",), decimals_of(lines)), *asking.words_of(arguments)]
-        head = self(program.find(arguments.program), words, data, arguments.seconds).text.strip()
-        self.emit(end_event("cut" if CUT.fullmatch(head) else "whole", shown.head_told(head, len(self.choices))))
-        settled(self, self.emit)
-        self.compare()
+    def events(self, data: bytes, decimals: int, arguments: argparse.Namespace) -> Events:
+        """Searches a drawing of three layers that has no fault, as it is: its views, its solids page by page, how it ended, and what would
+        settle it."""
+        self.lines, self.decimals = lines_within(data), decimals
+        words = ["solve", *asking.views_words(self.lines), *asking.decimals_words(("solve",), decimals), *asking.words_of(arguments), "--pages"]
+        yield from self.searched(program.find(arguments.program), list(map(str, words)), data, arguments.seconds)
+        if self.head:
+            ended = shown.head_told(self.head, len(self.shown), missing_in(views_of(self.lines)), self.rounds)
+            yield end_event("cut" if CUT.fullmatch(self.head) else "whole", ended)
+        else:
+            late = f"recon took longer than {arguments.seconds:g} seconds" if self.is_late else ""
+            yield stopped_event(len(self.shown), late)
+        if self.blocks and len(self.shown) > 1:
+            yield self.means()
+        if self.head:
+            yield from self.compared()
         self.close()
 
-    def told(self, process: "subprocess.Popen[bytes]", data: bytes) -> str:
-        """Tells the pages, and answers the line behind them, or nothing where none came."""
+    def searched(self, path: pathlib.Path, words: list[str], data: bytes, seconds: float) -> Events:
+        """Runs the program up to the line behind the pages, which is kept; what it lists is left to be compared."""
+        self.process = process = subprocess.Popen([path, *words], stdin=subprocess.PIPE, stdout=subprocess.PIPE, stderr=subprocess.PIPE)
+        timer = threading.Timer(seconds, self.late)
+        timer.start()
+        try:
+            yield from self.pages(process, data)
+        finally:
+            timer.cancel()
+        if not self.head and not self.is_late and not self.is_stopped:
+            told = process.stderr.read(400) if process.stderr else b""
+            program.check(path, words, process.wait(), told)
+            raise Refused("the program wrote no answer")
+
+    def pages(self, process: "subprocess.Popen[bytes]", data: bytes) -> Events:
+        """Tells the views, the grid and the pages, and keeps the line behind these, where one came."""
         assert process.stdin and process.stdout
         try:
             process.stdin.write(data)
@@ -182,25 +202,27 @@ class Search:
         rows = self.rows = (line.decode("latin-1").rstrip("\n") for line in process.stdout)
         head = next(rows, "")
         if head.startswith("page ") or WHOLE.fullmatch(head) or CUT.fullmatch(head):
-            self.show()
+            yield from self.views()
         while head.startswith("page "):
-            head = self.page(int(head.split()[3]), rows)
-        return head if WHOLE.fullmatch(head) or CUT.fullmatch(head) or FAULT.fullmatch(head) else ""
+            choices, head = self.page(int(head.split()[3]), rows)
+            self.choices += choices
+            yield solids_event([choice for choice in choices if self.kept is None or choice in self.kept])
+        self.head = head if WHOLE.fullmatch(head) or CUT.fullmatch(head) else ""
 
-    def show(self) -> None:
+    def views(self) -> Events:
         """The views, and the grid where the drawing has one."""
         units = Units(self.decimals, origin_of(self.lines))
-        self.emit(drawing_event(self.lines, units))
+        yield drawing_event(self.lines, units)
         if units.origin.mirrored:
-            self.emit(said("found: the side view is the left one: the drawing is shown in a mirror, and the solids as they are"))
+            yield said("found: the side view is the left one: the drawing is shown in a mirror, and the solids as they are")
         try:
             self.blocks = rooms.blocks_of(sheet_of(views_of(self.lines), self.decimals))
         except Refused:
             return
-        self.emit(grid_event(self.blocks, units))
+        yield grid_event(self.blocks, units)
 
-    def page(self, count: int, rows: Iterator[str]) -> str:
-        """Tells the choices of one page, and answers the line behind it."""
+    def page(self, count: int, rows: Iterator[str]) -> tuple[list[str], str]:
+        """The choices of one page, up to so many solids in all, and the line behind it."""
         choices = []
         line = ""
         for line in rows:
@@ -213,11 +235,16 @@ class Search:
             choices = [choice for choice in choices if self.blocks and len(choice) == len(self.blocks.cells)]
         if self.blocks is None or any(len(choice) != len(self.blocks.cells) for choice in choices):
             raise Refused("the program reads this drawing otherwise than it is read here")
-        self.choices += choices
-        self.emit(solids_event(choices))
-        return line
+        return choices, line
 
-    def compare(self) -> None:
+    def means(self) -> Event:
+        """What would settle it; whoever stopped the search doesn't wait for that."""
+        assert self.blocks
+        if not self.head:
+            return {"kind": "means", "rows": [], "text": "What would settle it isn't looked for, since the search was stopped."}
+        return means_event(self.blocks, self.shown, self.lines, self.decimals)
+
+    def compared(self) -> Events:
         """Compares what is shown with the program's list, as far as that comes in time: its order, its volumes, and of the first ones the
         faces. Refused where something differs."""
         if self.blocks is None or not self.choices:
@@ -234,7 +261,7 @@ class Search:
                 count += 1
         finally:
             timer.cancel()
-        self.emit({"kind": "compared", "count": count, "faces": min(count, BY_FACES)})
+        yield {"kind": "compared", "count": count, "faces": min(count, BY_FACES)}
 
     def is_alike(self, listed: "re.Match[str]", ordered: list[str], volumes: list[int], by_faces: bool) -> bool:
         """Whether the listed solid came whole, and is as it is shown; refused where it isn't."""
@@ -264,8 +291,26 @@ def suggestion_event(suggestion: why.Suggestion, asked: asking.Asked) -> Event:
     return {"kind": "suggestion", "words": words, "html": picture, "dxf": why.written_with(suggestion, asked.origin)}
 
 
-def suggest(asked: asking.Asked, arguments: argparse.Namespace, emit: Emit) -> None:
-    """Looks for what would have to be drawn otherwise, and tells each change as it is found."""
+def as_it_comes(work: Callable[[Callable[[Event], None]], None]) -> Events:
+    """What some work hands over, as it comes, out of a thread of its own; what it refuses is refused here."""
+    coming: queue.SimpleQueue[Event | BaseException | None] = queue.SimpleQueue()
+
+    def worked() -> None:
+        try:
+            work(coming.put)
+            coming.put(None)
+        except BaseException as failure:
+            coming.put(failure)
+
+    threading.Thread(target=worked, daemon=True).start()
+    while (came := coming.get()) is not None:
+        if isinstance(came, BaseException):
+            raise came
+        yield came
+
+
+def suggest(asked: asking.Asked, arguments: argparse.Namespace, emit: Callable[[Event], None]) -> None:
+    """Looks for what would have to be drawn otherwise, and hands over each change as it is found."""
     told: list[str] = []
 
     def tell(suggestion: why.Suggestion) -> None:
@@ -283,74 +328,73 @@ def suggest(asked: asking.Asked, arguments: argparse.Namespace, emit: Emit) -> N
 
 # ---- one drawing
 
-def follow(arguments: argparse.Namespace, emit: Emit, search: Search) -> int:
-    """Tells all of one drawing, and answers the status."""
+def follow(arguments: argparse.Namespace, search: Search) -> Events:
+    """All of one drawing. How it is read is found by the least search, and then it is searched as it was asked for."""
+    told: list[str] = []
+    least = argparse.Namespace(**{**vars(arguments), "limits": asking.words_of(arguments), "nodes": 1, "solids": 1})
     try:
-        asked = asking.ask(arguments.drawing, arguments, lambda text: emit(said(text)), runner=search)
-    except (Stopped, program.TimedOut) as cause:
-        emit(end_event("stopped", shown.stopped_told(len(search.choices), str(cause))))
-        settled(search, emit)
-        search.close()
-        return 0
+        try:
+            asked = asking.ask(arguments.drawing, least, told.append)
+        finally:
+            yield from map(said, told)
+        head = asked.run.text.partition("\n")[0]
+        if FAULT.fullmatch(head):
+            yield drawing_event(asked.lines, Units(asked.decimals, asked.origin), head)
+            yield end_event("fault", shown.fault_told(head, asked.lines))
+            return
+        if asked.rounds:
+            yield from search.rounds_told(asked.rounds)
+        yield from search.events(asked.data, asked.decimals, arguments)
+        if WHOLE.fullmatch(search.head) and not search.choices:
+            known = asked._replace(run=program.Run(program.WHOLE, f"{search.head}\n", 0.0))
+            yield from as_it_comes(lambda emit: suggest(known, arguments, emit))
     except Refused as refusal:
-        refused(arguments, refusal, search, emit)
-        return 1
-    head = asked.run.text.strip()
-    if FAULT.fullmatch(head):
-        emit(drawing_event(asked.lines, Units(asked.decimals, asked.origin), head))
-        emit(end_event("fault", shown.fault_told(head, asked.lines)))
-        return 1
-    emit(end_event("cut" if CUT.fullmatch(head) else "whole", shown.head_told(head, len(search.choices))))
-    if WHOLE.fullmatch(head) and not search.choices:
-        suggest(asked, arguments, emit)
-    settled(search, emit)
-    search.compare()
-    search.close()
-    return 0
+        yield from refused(arguments, refusal, search)
 
 
-def settled(search: Search, emit: Emit) -> None:
-    if search.blocks and len(search.choices) > 1:
-        emit(means_event(search.blocks, search.choices, search.lines, search.decimals))
-
-
-def refused(arguments: argparse.Namespace, refusal: Refused, search: Search, emit: Emit) -> None:
+def refused(arguments: argparse.Namespace, refusal: Refused, search: Search) -> Events:
     """Why a file isn't taken; and where it has lines of the three views, these, with the one that is at fault as it is."""
     data = pathlib.Path(arguments.drawing).read_bytes()
     lines = lines_within(data)
     if not search.choices and any(views_of(lines).values()):
-        words = ["solve", "--decimals", decimals_of(lines), "--solids", 1, "--nodes", 1]
+        words = ["solve", *asking.views_words(lines), "--decimals", decimals_of(lines), "--solids", 1, "--nodes", 1]
         head = program.run(program.find(arguments.program), words, data, arguments.seconds).text.partition("\n")[0]
-        emit(drawing_event(lines, Units(0, origin_of(lines)), head if faults.name_of(head) else ""))
-    text = str(refusal).replace(arguments.drawing, "the file")
-    emit(end_event("refused", shown.refused_told(text), text))
+        yield drawing_event(lines, Units(0, origin_of(lines)), head if faults.name_of(head) else "")
+    yield end_event("refused", shown.refused_told(str(refusal)), str(refusal))
 
 
-def listen(search: Search, source: IO[str]) -> None:
-    """Does what whoever asked says, and ends with them."""
+def listen(search: Search, source: IO[str], ended: list[str], emit: Callable[[Event], None]) -> None:
+    """Does what whoever asked says, and ends with them. What is stopped before its search has begun is told to be, and is over; so is what
+    is looked for once the search has ended."""
     for line in source:
-        if line.strip() == "stop":
-            was_searching = search.process is not None and search.process.poll() is None
-            search.stop()
-            if not was_searching:
-                break
+        if line.strip() != "stop":
+            continue
+        search.stop()
+        if ended or search.process is None:
+            if not ended:
+                emit(stopped_event(0))
+            break
     os.killpg(0, signal.SIGKILL)
 
 
 def run(arguments: argparse.Namespace) -> int:
     lock = threading.Lock()
+    ended: list[str] = []
 
     def emit(event: Event) -> None:
         with lock:
-            sys.stdout.write(json.dumps(event) + "\n")
+            if event["kind"] == "end":
+                ended.append(event["how"])
+            sys.stdout.write(json.dumps(controls.named(event) if arguments.attended else event, separators=(",", ":")) + "\n")
             sys.stdout.flush()
 
-    search = Search(emit)
+    search = Search()
     if arguments.attended:
         if os.getpgid(0) != os.getpid():
             os.setpgid(0, 0)
         # Not by sys.stdin, which is locked while it is read, and which the processes of `trials` close.
-        threading.Thread(target=listen, args=(search, os.fdopen(os.dup(0))), daemon=True).start()
-    status = follow(arguments, emit, search)
+        threading.Thread(target=listen, args=(search, os.fdopen(os.dup(0)), ended, emit), daemon=True).start()
+    for event in follow(arguments, search):
+        emit(event)
     say(f"draft follow: {many(len(search.choices), 'solid')} told")
-    return status
+    return 1 if ended[-1:] in (["fault"], ["refused"]) else 0

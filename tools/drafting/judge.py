@@ -16,7 +16,8 @@ from typing import NamedTuple
 from . import asking, solver
 from .answers import CUT, FAULT, Answer, answer_of, text_of
 from .cells import Grid as Cells, grid_round
-from .drawing import VIEWS, decimals_of, lines_of, views_of
+from .drawing import decimals_of, lines_of, views_of
+from .given import given_in
 from .messages import Progress, Refused, many, say, write_result
 from .panels import Cell, Grid, Shown, further_of, grid_of, panels_of, sheet_of, shown_of
 
@@ -70,7 +71,7 @@ def solids_of(answer: Answer, grid: Grid) -> Iterator[tuple[int, Solid | Refused
 
 
 class Drawing(NamedTuple):
-    """A drawing: its three views on their grid, and what each further view shows that it has."""
+    """A drawing: its main views on their grid, and what each further view shows that it has."""
 
     grid: Grid
     further: dict[str, Shown]
@@ -82,7 +83,7 @@ class Drawing(NamedTuple):
     def shows(self, solid: Solid) -> bool:
         """Whether a solid, drawn by the definitions, has all views."""
         sizes = [len(cut) - 1 for cut in self.grid.cuts]
-        rows = (row for view in VIEWS for row in panels_of(solid, sizes, view).items())
+        rows = (row for view in self.grid.views for row in panels_of(solid, sizes, view).items())
         return all(self.grid.panels[row] == styles for row, styles in rows) and self.fits(solid)
 
 
@@ -163,6 +164,8 @@ def run(arguments: argparse.Namespace) -> int:
     else:
         asked = asking.ask(arguments.drawing, arguments, lambda text: say(f"draft judge: {text}"))
         answer, lines, decimals = answer_of(asked.run.text), asked.lines, asked.decimals
+    if given_in(lines):
+        say("draft judge: what is judged are the solids of the drawing with its rounds squared off")
     if FAULT.fullmatch(answer.head):
         raise Refused(f"a fault isn't judged: {answer.head}")
     views = views_of(lines)

@@ -1,14 +1,22 @@
 """Words to people: refusals, what is said on standard error, progress where one waits, and results that are whole or not there."""
 import os
 import pathlib
+import signal
 import sys
 import tempfile
 import time
 from collections import Counter
+from collections.abc import Callable
+from types import FrameType
+from typing import Any
 
 
 class Refused(Exception):
     """An input that isn't taken, and why."""
+
+
+class Usage(Refused):
+    """Arguments that aren't taken together, and why."""
 
 
 def say(text: str) -> None:
@@ -21,6 +29,13 @@ def say_counted(what: str, counts: Counter[str]) -> None:
     """A line for each thing that was changed or left out, with how many there are, in the order in which they were met."""
     for thing, count in counts.items():
         say(f"{what}: {count} {thing}")
+
+
+def on_stop(handler: Callable[[int, FrameType | None], Any]) -> None:
+    """Has a stop from outside handled; a hangup only where whoever began this doesn't have it passed over, as nohup does."""
+    signal.signal(signal.SIGTERM, handler)
+    if signal.getsignal(signal.SIGHUP) is not signal.SIG_IGN:
+        signal.signal(signal.SIGHUP, handler)
 
 
 def many(count: int, one: str, more: str | None = None) -> str:
@@ -41,9 +56,13 @@ class Progress:
             cls.shown = False
 
     @classmethod
+    def is_seen(cls) -> bool:
+        return sys.stderr.isatty()
+
+    @classmethod
     def show(cls, text: str, least: float = 0.2) -> None:
         """Shows the line, at most once in so many seconds."""
-        if sys.stderr.isatty() and time.monotonic() - cls.last >= least:
+        if cls.is_seen() and time.monotonic() - cls.last >= least:
             print(f"\r\x1b[K{text}", end="", file=sys.stderr, flush=True)
             cls.shown, cls.last = True, time.monotonic()
 

@@ -2,23 +2,27 @@
 had by running the program.
 
 The page stands alone and asks the network for nothing. It shows the views as drawn, and the solids in three dimensions, so
-many at a time: turned by mouse, touch and arrow keys, all together. What only some of them have is coloured, two that are picked are
-compared, and blocks can be fixed full or empty, by which those solids are left that have them so. Of a fault it shows the lines of
-the file that are named. Where no solid has the views it shows what would have to be drawn otherwise, unless the answer was given,
+many at a time: turned by mouse, touch and arrow keys, all together, and one large, with sections. What only some of them have is
+coloured, two that are picked are compared, and blocks can be fixed full or empty, by which those solids are left that have them
+so. Of a fault it shows the lines of the file that are named. Where no solid has the views it shows what would have to be drawn otherwise, unless the answer was given,
 and where several have them which further view would tell them apart. `draft serve` shows the same while the program searches.
 
 For three dimensions it has three.js, on Debian: apt-get install libjs-three. What is proved is the program, and not this.
 """
 import argparse
+import base64
+import hashlib
 import html
 import json
 import pathlib
 import re
+from collections.abc import Iterator
 
 from . import asking, follow, rooms, shown
 from .answers import CUT, FAULT, Answer, answer_of, text_of
-from .drawing import decimals_of, lines_of, origin_of, views_of
-from .follow import Emit, Event
+from .drawing import decimals_of, lines_of, lines_within, missing_in, origin_of, views_of
+from .follow import Event, Events
+from .given import given_in
 from .messages import Refused, say, write_result
 from .panels import sheet_of
 from .shown import Units
@@ -27,13 +31,18 @@ NAME = "page"
 HELP = "make a page that shows a drawing and its solids"
 
 VIEWER = pathlib.Path(__file__).resolve().parent / "viewer"
-# The page's scripts, in the order in which they are read.
-SCRIPTS = ("model", "scene", "turning", "choices", "compare", "further", "page")
 THREE = pathlib.Path("/usr/share/javascript/three")
 WIDE_LINES = ("LineSegmentsGeometry", "LineMaterial", "LineSegments2")
 LIBRARY = ["three.min.js", *(f"examples/js/lines/{name}.js" for name in WIDE_LINES)]
 LICENCE = "three.js, (c) 2010-2019 three.js authors, MIT licence: https://github.com/mrdoob/three.js/blob/r111/LICENSE"
-POLICY = "default-src 'none'; script-src 'unsafe-inline'; style-src 'unsafe-inline'; img-src data:"
+# A page has no scripts and styles but those of which its policy tells the hashes.
+POLICY = "default-src 'none'; script-src {scripts}; style-src {styles}; img-src data: blob:"
+# What stands in `viewer` for its readers alone: comments that have their lines for themselves, and how far lines are indented.
+FOR_READERS = re.compile(r"^ *(//.*\n|/\*\*.*\*/\n|)", re.M)
+IMPORT = re.compile(r'^import [^;]*?"\./(\w+)\.js";\n', re.M)
+# What would end a script within it, and what says the same there.
+SCRIPT_END, OTHERWISE = re.compile("</script"), r"<\\/script"
+INLINE = re.compile(r"<(script|style)(?: type=\"module\")?>(.*?)</\1>", re.S)
 
 TILES = 64
 # Of how many suggestions the solids stand in the page.
@@ -42,23 +51,50 @@ SUGGESTIONS = 3
 
 # ---- the page's file
 
-def scripts(names: tuple[str, ...], has_solids: bool = True, attributes: str = "") -> str:
+def modules(name: str, known: dict[str, str]) -> None:
+    """Adds the module of this name in `viewer` to those that are known, behind all that it imports."""
+    text = (VIEWER / f"{name}.js").read_text(encoding="utf-8")
+    known[name] = ""
+    for imported in IMPORT.findall(text):
+        if imported not in known:
+            modules(imported, known)
+    del known[name]
+    known[name] = text
+
+
+def joined(name: str) -> str:
+    """A module of `viewer` and all that it imports as one, without what is for its readers: no two of them have the same name for something."""
+    known: dict[str, str] = {}
+    modules(name, known)
+    texts = [FOR_READERS.sub("", IMPORT.sub("", text)) for text in known.values()]
+    return "".join(re.sub(r"^export ", "", text, flags=re.M) for text in texts)
+
+
+def scripts(name: str, has_solids: bool = True) -> str:
     """The page's own scripts; where there are solids, before them three.js with what draws its wide lines."""
-    library = [THREE / name for name in LIBRARY] if has_solids else []
+    library = [THREE / file for file in LIBRARY] if has_solids else []
     missing = [file for file in library if not file.is_file()]
     if missing:
         raise Refused(f"three.js isn't there, no {missing[0]}: apt-get install libjs-three")
-    files = [*library, *(VIEWER / f"{name}.js" for name in names)]
-    texts = [file.read_text(encoding="utf-8").replace("</script", "<\\/script") for file in files]
+    texts = [("", file.read_text(encoding="utf-8")) for file in library] + [(' type="module"', joined(name))]
     notice = [f"<!-- {LICENCE} -->"] if library else []
-    return "\n".join([*notice, *(f"<script{attributes}>\n{text}\n</script>" for text in texts)])
+    return "\n".join([*notice, *(f"<script{kind}>\n{SCRIPT_END.sub(OTHERWISE, text)}\n</script>" for kind, text in texts)])
 
 
-def filled(parts: dict[str, str]) -> str:
-    """The page, with its parts."""
+def hashes_in(text: str, kind: str) -> str:
+    """The hashes of the scripts or styles that stand in a page, as its policy names them."""
+    found = [body for name, body in INLINE.findall(text) if name == kind]
+    return " ".join(f"'sha256-{base64.b64encode(hashlib.sha256(body.encode()).digest()).decode()}'" for body in found)
+
+
+def filled(parts: dict[str, str], served: str = "") -> tuple[str, str]:
+    """The page, with its parts, and its content security policy, which stands in it unless it is served with further words."""
     style = (VIEWER / "page.css").read_text(encoding="utf-8")
-    parts = {"style": style, "told": "", "drawing": "", "table": "", "events": "[]", "policy": "", "attributes": "", **parts}
-    return re.sub(r"{{(\w+)}}", lambda place: parts[place[1]], (VIEWER / "page.html").read_text(encoding="utf-8"))
+    policy = POLICY.format(scripts=hashes_in(parts["scripts"], "script"), styles=hashes_in(f"<style>\n{style}\n</style>", "style"))
+    tag = "" if served else f'<meta http-equiv="Content-Security-Policy" content="{policy}">'
+    parts = {"style": style, "told": "", "drawing": "", "table": "", "events": "[]", "policy": tag, **parts}
+    text = re.sub(r"{{(\w+)}}", lambda place: parts[place[1]], (VIEWER / "page.html").read_text(encoding="utf-8"))
+    return text, f"{policy}; {served}"
 
 
 def last_html(events: list[Event], kind: str) -> str:
@@ -67,15 +103,14 @@ def last_html(events: list[Event], kind: str) -> str:
 
 def page(name: str, events: list[Event], tiles: int) -> str:
     """The page of what was told of a drawing."""
-    policy = f'<meta http-equiv="Content-Security-Policy" content="{POLICY}">'
+    has_solids = any(event["kind"] in ("grid", "suggestion") for event in events)
     return filled({
         "title": html.escape(name),
-        "policy": policy,
         "told": last_html(events, "end"),
         "drawing": last_html(events, "drawing"),
-        "events": json.dumps([{"kind": "tiles", "count": tiles}, *events]).replace("<", "\\u003c"),
-        "scripts": scripts(SCRIPTS, any(event["kind"] in ("grid", "suggestion") for event in events)),
-    })
+        "events": json.dumps([{"kind": "tiles", "count": tiles}, *events], separators=(",", ":")).replace("<", "\\u003c"),
+        "scripts": scripts("page", has_solids),
+    })[0]
 
 
 # ---- what it tells
@@ -90,64 +125,59 @@ def checked_choices(answer: Answer, blocks: rooms.Blocks) -> list[str]:
     return [solid.choice for solid in answer.solids]
 
 
-def tell_answer(lines: list[str], answer: Answer, emit: Emit) -> None:
-    """Tells an answer that is given, as it would be told while the program runs."""
+def answer_told(lines: list[str], answer: Answer) -> Events:
+    """An answer that is given, as it would be told while the program runs."""
     head = answer.head
     units = Units(answer.decimals if answer.solids else decimals_of(lines), origin_of(lines))
     views = views_of(lines)
     for text in asking.passed_over_told(lines):
-        emit(follow.said(f"warning: {text}"))
+        yield follow.said(f"warning: {text}")
+    if given_in(lines):
+        yield follow.said(follow.SQUARED)
     if units.origin.mirrored:
-        emit(follow.said("found: the side view is the left one: the drawing is shown in a mirror, and the solids as they are"))
+        yield follow.said("found: the side view is the left one: the drawing is shown in a mirror, and the solids as they are")
     if not any(views.values()) and not FAULT.fullmatch(head):
         raise Refused("no line of a view is in the drawing, and the answer is no fault")
-    emit(follow.drawing_event(lines, units, head))
+    yield follow.drawing_event(lines, units, head)
     if FAULT.fullmatch(head):
-        emit(follow.end_event("fault", shown.fault_told(head, lines)))
+        yield follow.end_event("fault", shown.fault_told(head, lines))
         return
     choices: list[str] = []
     if answer.solids:
         blocks = rooms.blocks_of(sheet_of(views, units.decimals))
         choices = checked_choices(answer, blocks)
-        emit(follow.grid_event(blocks, units))
-        emit(follow.solids_event(choices))
-    emit(follow.end_event("cut" if CUT.fullmatch(head) else "whole", shown.head_told(head, answer.listed)))
+        yield follow.grid_event(blocks, units)
+        yield follow.solids_event(choices)
+    yield follow.end_event("cut" if CUT.fullmatch(head) else "whole", shown.head_told(head, answer.listed, missing_in(views)))
     if len(choices) > 1:
-        emit(follow.means_event(blocks, choices, lines, units.decimals))
+        yield follow.means_event(blocks, choices, lines, units.decimals)
 
 
-def told_by_program(arguments: argparse.Namespace) -> list[Event]:
+def told_by_program(arguments: argparse.Namespace) -> Events:
     """What the program tells of the drawing; of the first suggestions also what it tells of those drawings."""
-    events: list[Event] = []
-
-    def emit(event: Event) -> None:
-        events.append(event)
+    suggestions = 0
+    for event in follow.follow(arguments, follow.Search()):
         if event["kind"] == "said":
             say(f"draft page: {event['text']}")
+        if event.get("how") == "refused":
+            raise Refused(str(event["text"]))
+        if event["kind"] == "suggestion" and suggestions < SUGGESTIONS:
+            suggestions += 1
+            event = {**event, "events": list(told_of(str(event["dxf"]), arguments))}
+        yield event
 
-    follow.follow(arguments, emit, follow.Search(emit))
-    if events[-1].get("how") == "refused":
-        raise Refused(str(events[-1]["text"]))
-    for suggestion in [event for event in events if event["kind"] == "suggestion"][:SUGGESTIONS]:
-        suggestion["events"] = told_of(str(suggestion["dxf"]), arguments)
-    return events
 
-
-def told_of(drawing: str, arguments: argparse.Namespace) -> list[Event]:
+def told_of(drawing: str, arguments: argparse.Namespace) -> Events:
     """What the program tells of a drawing that is at hand."""
-    events: list[Event] = []
-    follow.Search(events.append).whole(drawing.encode(), arguments)
-    return events
+    return follow.Search().events(drawing.encode(), decimals_of(lines_within(drawing.encode())), arguments)
 
 
-def events_of(arguments: argparse.Namespace) -> list[Event]:
+def events_of(arguments: argparse.Namespace) -> Iterator[Event]:
     if arguments.events:
-        return list(map(json.loads, pathlib.Path(arguments.events).read_text().splitlines()))
+        return map(json.loads, pathlib.Path(arguments.events).read_text().splitlines())
     if not arguments.answer:
         return told_by_program(arguments)
-    events: list[Event] = []
-    tell_answer(lines_of(arguments.drawing), answer_of(text_of(arguments.answer)), events.append)
-    return events
+    return answer_told(lines_of(arguments.drawing), answer_of(text_of(arguments.answer)))
 
 
 def add_arguments(parser: argparse.ArgumentParser) -> None:
@@ -164,5 +194,5 @@ def run(arguments: argparse.Namespace) -> int:
     if arguments.tiles < 1:
         raise Refused("not even one solid at a time")
     name = arguments.name or pathlib.Path(arguments.drawing).name
-    write_result(page(name, events_of(arguments), arguments.tiles), arguments.output)
+    write_result(page(name, list(events_of(arguments)), arguments.tiles), arguments.output)
     return 0

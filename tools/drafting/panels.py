@@ -7,7 +7,7 @@ import itertools
 from collections import defaultdict
 from collections.abc import Iterable, Sequence
 from fractions import Fraction
-from typing import NamedTuple
+from typing import NamedTuple, Protocol
 
 from .drawing import FURTHER, VIEWS, Line
 from .messages import Refused
@@ -63,12 +63,29 @@ class Stroke(NamedTuple):
     told: tuple[int, int]
 
 
+class Back(Protocol):
+    """The way from a drawing back to the sheet that it was made of."""
+
+    def place(self, view: str, right: int, up: int) -> tuple[str, str]: ...
+
+    def length(self, units: int) -> str: ...
+
+    def entities(self, view: str, start: tuple[int, int], end: tuple[int, int]) -> str: ...
+
+
 class Sheet(NamedTuple):
-    """The strokes of three views, each view moved to least coordinates 0, and where each began on the sheet."""
+    """The strokes of three views, or of two, each view moved to least coordinates 0, and where each began on the sheet; and where the
+    drawing was made of a person's sheet, the way back to that."""
 
     strokes: list[Stroke]
     origins: dict[str, tuple[int, int]]
     decimals: int
+    back: Back | None = None
+
+    @property
+    def missing(self) -> list[str]:
+        """The main view that isn't drawn, where one isn't."""
+        return [view for view in VIEWS if view not in self.origins]
 
     def extent(self, view: str, upright: bool) -> int:
         """How far a view reaches to the right, or upwards."""
@@ -86,12 +103,27 @@ class Sheet(NamedTuple):
             for stroke in self.strokes
         ]
         x, y = self.origins[view]
-        return Sheet(strokes, {**self.origins, view: (x - right, y - up)}, self.decimals)
+        return self._replace(strokes=strokes, origins={**self.origins, view: (x - right, y - up)})
 
     def place(self, view: str, right: int, up: int) -> tuple[str, str]:
-        """A place of a view in the drawing's own coordinates."""
+        """A place of a view in the coordinates of the sheet, or of the drawing as it is."""
         x, y = self.origins[view]
+        if self.back:
+            return self.back.place(view, x + right, y + up)
         return self.number(x + right), self.number(y + up)
+
+    def told(self, view: str, start: tuple[int, int], end: tuple[int, int], numbers: list[int]) -> str:
+        """What of the file is drawn along a stretch of a view, in words: entities of the sheet, or these lines of the drawing."""
+        x, y = self.origins[view]
+        if self.back:
+            its = self.back.entities(view, (x + start[0], y + start[1]), (x + end[0], y + end[1])) if numbers else ""
+            return f" ({its})" if its else ""
+        shown = ", ".join(map(str, numbers[:4])) + (", .." if len(numbers) > 4 else "")
+        return f" (line{'s' * (len(numbers) > 1)} {shown} of the file)" if numbers else ""
+
+    def length(self, units: int) -> str:
+        """A length, of the sheet's part at full size."""
+        return self.back.length(units) if self.back else self.number(units)
 
     def number(self, units: int) -> str:
         """A number of units as the drawing writes it, without zeros at the end."""
@@ -125,12 +157,12 @@ def strokes_of(view: str, lines: Iterable[Line], decimals: int) -> list[Stroke]:
 
 
 def sheet_of(views: dict[str, list[Line]], decimals: int) -> Sheet:
-    """The sheet of a drawing's three views; refused where a view is empty."""
+    """The sheet of a drawing's three views, of which one may be missing; refused where two are."""
     sheet = Sheet([], {}, decimals)
-    for view in VIEWS:
-        strokes = strokes_of(view, views[view], decimals)
-        if not strokes:
-            raise Refused(f"no line on the layer {view} covers anything")
+    drawn = {view: strokes for view in VIEWS if (strokes := strokes_of(view, views[view], decimals))}
+    if len(drawn) < 2:
+        raise Refused(f"no line on the layer {next(view for view in VIEWS if view not in drawn)} covers anything")
+    for view, strokes in drawn.items():
         x = min(stroke.at if stroke.upright else stroke.low for stroke in strokes)
         y = min(stroke.low if stroke.upright else stroke.at for stroke in strokes)
         standing = Sheet(strokes, {view: (0, 0)}, decimals).moved(view, -x, -y)
@@ -163,6 +195,11 @@ class Grid(NamedTuple):
     panels: Panels
     strokes: dict[Row, list[Stroke]]
 
+    @property
+    def views(self) -> list[str]:
+        """The main views that are drawn: all three, or two. One that isn't demands nothing."""
+        return [view for view in VIEWS if Row(view, True, 0) in self.panels]
+
     def ats(self, row: Row) -> list[int]:
         """The coordinates of all rows of this row's view and direction."""
         return self.cuts[axis_of(row.view, not row.upright)]
@@ -180,7 +217,7 @@ def on_grid(sheet: Sheet, cuts: Cuts) -> Grid:
         number = ranks[axis_of(stroke.view, not stroke.upright)][stroke.at]
         strokes[Row(stroke.view, stroke.upright, number)].append(stroke)
     panels = {}
-    for view, upright in itertools.product(VIEWS, (False, True)):
+    for view, upright in itertools.product(sheet.origins, (False, True)):
         along = cuts[axis_of(view, upright)]
         for number in range(len(cuts[axis_of(view, not upright)])):
             row = Row(view, upright, number)

@@ -3,13 +3,14 @@ import bisect
 import itertools
 import re
 from collections import Counter, defaultdict
-from collections.abc import Callable, Iterable, Iterator, Sequence
+from collections.abc import Callable, Container, Iterable, Iterator, Mapping, Sequence
 from typing import NamedTuple
 
 from .drawing import FURTHER, VIEWS
+from .groups import MOST_GROUPS, Group, frames, group_of, has_extent, holds, merged, pieces_of, title_blocks, united
 from .messages import Refused, many
 from .panels import FRAMES
-from .reading import Box, Edge, Source
+from .reading import Box, Edge, Source, Unread
 from .straight import Run
 
 # The words that name a view in the name of a layer or block.
@@ -20,28 +21,10 @@ NAMES = {
         ("REAR", "REAR BACK REARVIEW BACKVIEW RUECKANSICHT"), ("BOTTOM", "BOTTOM BOTTOMVIEW UNTERANSICHT"),
     ) for word in words.split()
 }
-MOST_GROUPS = 2000
+# How many groups or curves a refusal names.
+MOST_NAMED = 12
 # How many ways to part a sheet by cuts are looked at; else those by one cut upwards and one across.
 MOST_CUTS = 20_000
-
-
-class Group(NamedTuple):
-    """Runs that belong together, and the box round them."""
-
-    runs: list[Run]
-    box: Box
-
-    @property
-    def width(self) -> float:
-        return self.box[2] - self.box[0]
-
-    @property
-    def height(self) -> float:
-        return self.box[3] - self.box[1]
-
-    def __str__(self) -> str:
-        place = f"at {self.box[0]:.6g}, {self.box[1]:.6g}"
-        return f"{many(len(self.runs), 'line')}, {self.width:.9g} by {self.height:.9g} {place}"
 
 
 class Placed(NamedTuple):
@@ -54,6 +37,10 @@ class Placed(NamedTuple):
     left: list[str]
 
 
+# What tells which of all groups are sections, by their numbers from 0 on, and why; it knows which ones the user leaves out.
+TellSections = Callable[[Sequence[Group], Sequence[Group]], dict[int, str]]
+
+
 class Hints(NamedTuple):
     """What the user says of places, and what else of the sheet tells."""
 
@@ -61,91 +48,32 @@ class Hints(NamedTuple):
     angle: str | None = None
     leave_out: frozenset[int] = frozenset()
     texts: Sequence[tuple[float, float]] = ()
-
-
-def group_of(runs: Sequence[Run]) -> Group:
-    boxes = [run.box() for run in runs]
-    low, high = ([pick(box[at] for box in boxes) for at in ats] for pick, ats in ((min, (0, 1)), (max, (2, 3))))
-    return Group(list(runs), (low[0], low[1], high[0], high[1]))
-
-
-def meet(a: Box, b: Box, tolerance: float) -> bool:
-    return a[0] <= b[2] + tolerance and b[0] <= a[2] + tolerance and a[1] <= b[3] + tolerance and b[1] <= a[3] + tolerance
-
-
-def holds(outer: Box, inner: Box, tolerance: float) -> bool:
-    low = outer[0] - tolerance <= inner[0] and outer[1] - tolerance <= inner[1]
-    return low and inner[2] <= outer[2] + tolerance and inner[3] <= outer[3] + tolerance
-
-
-def together(boxes: Sequence[Box], tolerance: float) -> list[list[int]]:
-    """The numbers of boxes in groups, joined by chains of boxes that meet."""
-    parents = list(range(len(boxes)))
-
-    def root(at: int) -> int:
-        while parents[at] != at:
-            parents[at] = parents[parents[at]]
-            at = parents[at]
-        return at
-
-    active: list[int] = []
-    for at in sorted(range(len(boxes)), key=lambda it: boxes[it][0]):
-        active = [it for it in active if boxes[it][2] >= boxes[at][0] - tolerance]
-        for other in active:
-            if meet(boxes[at], boxes[other], tolerance):
-                parents[root(at)] = root(other)
-        active.append(at)
-    groups = defaultdict(list)
-    for at in range(len(boxes)):
-        groups[root(at)].append(at)
-    return list(groups.values())
-
-
-def pieces_of(runs: Sequence[Run], tolerance: float) -> list[Group]:
-    """Runs in groups that touch."""
-    return [group_of([runs[at] for at in group]) for group in together([run.box() for run in runs], tolerance)]
-
-
-def merged(groups: Sequence[Group], tolerance: float) -> list[Group]:
-    """Groups whose boxes lie over one another are one, in the order of their places."""
-    groups = list(groups)
-    while True:
-        joined = together([group.box for group in groups], -tolerance)
-        if len(joined) == len(groups):
-            return sorted(groups, key=lambda group: group.box)
-        groups = [group_of([run for at in numbers for run in groups[at].runs]) for numbers in joined]
+    sections: TellSections = lambda groups, left_out: {}
+    curves: Sequence[Unread] = ()
 
 
 # ---- what isn't a view
 
-def frames(pieces: list[Group], tolerance: float) -> tuple[list[Group], list[Group]]:
-    """The pieces without those round all the rest, one within another, where three groups or more are left; and those."""
-    rest, found = pieces, []
-    while 4 <= len(rest) <= MOST_GROUPS:
-        around = next((piece for piece in rest if all(holds(piece.box, it.box, tolerance) for it in rest)), None)
-        if around is None:
-            break
-        rest = [piece for piece in rest if piece is not around]
-        found.append(around)
-        if len(merged(rest, tolerance)) >= 3:
-            return rest, found
-    return pieces, []
-
-
-def why_no_view(group: Group, texts: Sequence[tuple[float, float]]) -> str:
+def why_no_view(group: Group, hints: Hints) -> str:
     """Why a group beside the views is none."""
     oblique = sum(run.oblique for run in group.runs)
+    if not group.runs:
+        return "no line is in it"
+    if not has_extent(group, hints.tolerance):
+        return "a line alone is no view"
     if 4 * oblique >= len(group.runs):
         return "it is drawn with oblique lines, as an isometric view is"
     x0, y0, x1, y1 = group.box
-    written = sum(x0 <= x <= x1 and y0 <= y <= y1 for x, y in texts)
+    written = sum(x0 <= x <= x1 and y0 <= y <= y1 for x, y in hints.texts)
     return f"{many(written, 'text stands', 'texts stand')} in it, as in a title block" if written else ""
 
 
 # ---- by names
 
 def view_named(source: Source) -> str:
-    """The view that a layer or a block names, with the words of its name apart."""
+    """The view that a file is of, or that a layer or a block names, with the words of its name apart."""
+    if source.view:
+        return source.view
     for name in (source.layer, source.block):
         words = re.split(r"[^A-Z]+", name.upper())
         views = {NAMES[word] for word in words if word in NAMES}
@@ -154,22 +82,52 @@ def view_named(source: Source) -> str:
     return ""
 
 
-def named_views(edges: Iterable[Edge]) -> dict[str, list[Edge]] | None:
-    """The edges by the views that their layers or blocks name, and the others, where FRONT, TOP and a side view are named."""
+def named_views(edges: Iterable[Edge], tolerance: float) -> dict[str, list[Edge]] | None:
+    """The edges by the views that their layers or blocks name, and the others, where FRONT, TOP and a side view are named; or where two
+    of these are, and nothing else stands on the sheet."""
     named: dict[str, list[Edge]] = defaultdict(list)
     for edge in edges:
         named[view_named(edge.source)].append(edge)
-    return named if {"FRONT", "TOP"} <= named.keys() and {"SIDE", "LEFT"} & named.keys() else None
+    main = main_named(named)
+    return named if len(main) == 3 or len(main) == 2 and are_within(named, tolerance) else None
+
+
+def box_of(edges: Iterable[Edge]) -> Box:
+    xs, ys = zip(*(place for edge in edges for place in (edge.start, edge.end)))
+    return min(xs), min(ys), max(xs), max(ys)
+
+
+def are_within(named: Mapping[str, Sequence[Edge]], tolerance: float) -> bool:
+    """Whether the edges that no name tells the view of lie within the boxes of views."""
+    boxes = [box_of(its) for view, its in named.items() if view]
+    return all(any(holds(box, box_of([edge]), tolerance) for box in boxes) for edge in named.get("", ()))
 
 
 def with_a_side(views: dict[str, Group]) -> dict[str, Group]:
     """The views in their order, the left one in the place of SIDE where there is no right one."""
-    named = views if "SIDE" in views else {"SIDE" if view == "LEFT" else view: group for view, group in views.items()}
+    named = views if not is_mirrored(views) else {"SIDE" if view == "LEFT" else view: group for view, group in views.items()}
     return {view: named[view] for view in (*VIEWS, *FURTHER) if view in named}
 
 
-def by_names(views: dict[str, list[Run]], others: list[Run], tolerance: float) -> Placed:
+def is_mirrored(views: Container[str]) -> bool:
+    """Whether the left view stands for SIDE: all views are drawn in a mirror."""
+    return "LEFT" in views and "SIDE" not in views
+
+
+def main_named(names: Iterable[str]) -> list[str]:
+    """Which of the main views are named; a left view is one where there is no right one."""
+    named = {"SIDE" if name == "LEFT" else name for name in names}
+    return [view for view in VIEWS if view in named]
+
+
+def without_told(views: Mapping[str, Group]) -> str:
+    """Which main view is missing, in words."""
+    return "".join(f"; two views, without {view}" for view in VIEWS if view not in views)
+
+
+def by_names(views: dict[str, list[Run]], others: list[Run], hints: Hints) -> Placed:
     """The views that layers or blocks name; other lines within the box of one are taken with it."""
+    tolerance = hints.tolerance
     named = {view: list(runs) for view, runs in views.items()}
     boxes = {view: group_of(its).box for view, its in named.items()}
     found, left = Counter[str](), Counter[str]()
@@ -184,9 +142,15 @@ def by_names(views: dict[str, list[Run]], others: list[Run], tolerance: float) -
         else:
             left[f"lines on layer {layer}, outside the boxes of the named views"] += 1
     groups = with_a_side({view: group_of(its) for view, its in named.items()})
-    words = [f"the views by the names of layers or blocks: {', '.join(sorted(named))}"]
+    every = list(groups.values())
+    for number, why in hints.sections(every, every).items():
+        view, group = list(groups.items())[number]
+        raise Refused(f"{view}, {group}, is a section, since {why}: a section is no view. Draw {view} uncut too; what makes no section is left "
+                      "out by --leave-out layer= or color=")
+    by_what = "files" if every[0].first.view else "layers or blocks"
+    words = [f"the views by the names of {by_what}: {', '.join(sorted(named))}{without_told(groups)}"]
     check_extents(groups, tolerance)
-    return Placed(groups, "SIDE" not in named, words + [f"{count} {what}" for what, count in found.items()],
+    return Placed(groups, is_mirrored(named), words + [f"{count} {what}" for what, count in found.items()],
                   [f"{count} {what}" for what, count in left.items()])
 
 
@@ -217,12 +181,13 @@ class Way(NamedTuple):
     def __str__(self) -> str:
         """Where the views stand, in words."""
         views, front = self.views, self.views["FRONT"].box
-        told = [f"TOP {'above' if self.angle == 'third' else 'below'} FRONT"]
+        told = [f"TOP {'above' if self.angle == 'third' else 'below'} FRONT"] if "TOP" in views else []
         for view, name in (("SIDE", "the right side view"), ("LEFT", "the left side view"), ("REAR", "the rear view")):
             if view in views:
-                told.append(f"{name} to its {'left' if views[view].box[0] < front[0] else 'right'}")
+                told.append(f"{name} to {'its' if told else 'the'} {'left' if views[view].box[0] < front[0] else 'right'}"
+                            f"{'' if told else ' of FRONT'}")
         told += [f"the bottom view {'below' if self.angle == 'third' else 'above'} it"] if "BOTTOM" in views else []
-        return ", ".join(told[:-1]) + " and " + told[-1]
+        return " and ".join([", ".join(told[:-1]), told[-1]] if told[:-1] else told)
 
 
 class InLine(NamedTuple):
@@ -283,7 +248,7 @@ def views_beside(
 def stretches_of(group: Group, axis: int, tolerance: float, is_turned: bool = False) -> list[float]:
     """The ends of the stretches along an axis that the lines of a group cover, from its least one on, or turned round."""
     ends: list[float] = []
-    for low, high in sorted((box[axis], box[axis + 2]) for box in (run.box() for run in group.runs)):
+    for low, high in sorted((box[axis], box[axis + 2]) for box in group.boxes()):
         if ends and low <= ends[-1] + tolerance:
             ends[-1] = max(ends[-1], high)
         else:
@@ -327,11 +292,11 @@ def ways_by_cuts(groups: Sequence[Group], hints: Hints) -> Iterator[Way]:
     if len(upwards) * len(across) > MOST_CUTS:
         upwards, across = some_of(xs, 1), some_of(ys, 1)
     for x, y in itertools.product(upwards, across):
-        parts: dict[tuple[int, int], list[Run]] = defaultdict(list)
+        parts: dict[tuple[int, int], list[Group]] = defaultdict(list)
         for group in groups:
-            parts[bisect.bisect(x, group.box[0]), bisect.bisect(y, group.box[1])] += group.runs
+            parts[bisect.bisect(x, group.box[0]), bisect.bisect(y, group.box[1])].append(group)
         if 3 <= len(parts) <= len(FRAMES):
-            yield from (way for way in ways_of([group_of(runs) for runs in parts.values()], hints) if len(way.views) == len(parts))
+            yield from (way for way in ways_of([united(its) for its in parts.values()], hints) if len(way.views) == len(parts))
 
 
 def complete_ways(views: Sequence[Group], ways: Sequence[Way], hints: Hints) -> list[Way]:
@@ -344,65 +309,149 @@ def complete_ways(views: Sequence[Group], ways: Sequence[Way], hints: Hints) -> 
 
 
 def by_places(runs: Sequence[Run], hints: Hints) -> Placed:
-    """The views by their places, once what is round all the rest is left out; refused where that doesn't tell."""
-    pieces, around = frames(pieces_of(runs, hints.tolerance), hints.tolerance)
-    left = [f"a frame round all the rest, {frame}" for frame in around]
+    """The views by their places, once what is round all the rest is left out; refused where that doesn't tell. Where curves that can't be
+    read are in the way, they are named."""
+    try:
+        return placed_by(runs, hints)
+    except Refused as refusal:
+        if not hints.curves:
+            raise
+        try:
+            return placed_by(runs, hints._replace(curves=()))
+        except Refused:
+            raise Refused(f"{refusal}{curves_told(hints.curves)}") from None
+
+
+def curves_told(curves: Sequence[Unread]) -> str:
+    """The first of some curves, in words."""
+    rows = [f"{it.source}, at {it.box[0]:.6g}, {it.box[1]:.6g}, {it.why}" for it in curves if it.box]
+    more = [f"and {len(rows) - MOST_NAMED} more"] if len(rows) > MOST_NAMED else []
+    return "\n  ".join(["\nand what isn't read may be in the way:", *rows[:MOST_NAMED], *more])
+
+
+class Standing(NamedTuple):
+    """What stands on a sheet: all groups, those that aren't left out as asked, those that are no sections either, which ones are sections and
+    why, by their numbers from 0 on, the frames, and what is left out."""
+
+    groups: list[Group]
+    kept: list[Group]
+    chosen: list[Group]
+    cut: dict[int, str]
+    around: list[Group]
+    left: list[str]
+
+
+def standing(runs: Sequence[Run], hints: Hints, least: int = 3) -> Standing:
+    """What stands on a sheet, once what is round all the rest is left out, where so many groups or more are left."""
+    pieces, around = frames(pieces_of(runs, hints.tolerance, hints.curves), hints.tolerance, least)
+    left = [f"{'a frame round all the rest' if has_extent(it, hints.tolerance) else 'between frames'}, {it}" for it in around]
     if len(pieces) > MOST_GROUPS:
         raise Refused(f"{len(pieces):,} groups of lines that don't touch")
     groups = merged(pieces, hints.tolerance)
-    chosen = [group for number, group in enumerate(groups, 1) if number not in hints.leave_out]
+    asked = [group for number, group in enumerate(groups, 1) if number in hints.leave_out]
     left += [f"group {number}, as asked: {group}" for number, group in enumerate(groups, 1) if number in hints.leave_out]
-    if not chosen:
+    cut = {number: why for number, why in hints.sections(groups, asked).items() if number + 1 not in hints.leave_out}
+    left += [f"a section, group {number + 1}, since {why}; sections aren't read: {groups[number]}" for number, why in cut.items()]
+    kept = [group for number, group in enumerate(groups, 1) if number not in hints.leave_out]
+    chosen = [group for group in kept if not any(group is groups[number] for number in cut)]
+    if not kept:
         raise Refused("no group of lines is left")
-    ways = list(ways_of(chosen, hints))
-    views = [group for group in chosen if not why_no_view(group, hints.texts)]
+    return Standing(groups, kept, chosen, cut, around, left)
+
+
+def placed_by(runs: Sequence[Run], hints: Hints) -> Placed:
+    """The views by their places."""
+    groups, kept, chosen, cut, around, left = standing(runs, hints)
+    ways = list(ways_of([group for group in chosen if has_extent(group, hints.tolerance)], hints))
+    views = [group for group in chosen if not why_no_view(group, hints)]
     found = []
     # Where some groups alone are views of a part, another one may be of the same part: then all together are views too.
     if len(views) > 3 and (complete := complete_ways(views, ways, hints)):
-        ways, chosen = complete, [group for group in chosen if why_no_view(group, hints.texts)]
+        ways, chosen = complete, [group for group in chosen if why_no_view(group, hints)]
         count = len(ways[0].views)
         if count < len(views):
             found.append(f"{many(len(views), 'group')} of lines taken as {count} views, parted by cuts upwards and across")
     if len(ways) != 1:
-        raise Refused(no_way(groups, chosen, ways, hints))
+        refuse_in_place(groups, kept, cut, hints)
+        told = [f"\n  group {number + 1} is a section, since {why}" for number, why in cut.items()]
+        raise Refused(no_way(groups, chosen, ways, hints) + "".join(told))
     way = ways[0]
-    left += beside(groups, [group for group in chosen if not any(group is it for it in way.views.values())], hints)
+    others = [group for group in chosen if not any(group is it for it in way.views.values())]
+    left += beside(groups, others, title_blocks(around, list(way.views.values()), hints.tolerance), hints)
     front, top = way.views["FRONT"], way.views["TOP"]
     sizes = f"{front.width:.9g} wide, {top.height:.9g} deep and {front.height:.9g} high"
     found.append(f"{way.angle}-angle views, {way}: a part {sizes}")
-    return Placed(with_a_side(way.views), "SIDE" not in way.views, found, left)
+    return Placed(with_a_side(way.views), is_mirrored(way.views), found, left)
 
 
-def beside(groups: Sequence[Group], others: Sequence[Group], hints: Hints) -> Iterator[str]:
-    """What is left out of the groups beside the views; refused where one may be a further view."""
+def refuse_in_place(groups: Sequence[Group], kept: Sequence[Group], cut: dict[int, str], hints: Hints) -> None:
+    """Refuses sections that stand in the places of views, with the views that are needed."""
+    for way in ways_of(kept, hints) if cut else ():
+        places = {view: number for view, group in way.views.items() for number in cut if groups[number] is group}
+        if places:
+            stand = "; ".join(f"in the place of {view} stands group {number + 1}, {groups[number]}, which is a section, since {cut[number]}"
+                              for view, number in places.items())
+            raise Refused(f"{stand}: a section is no view. Draw {' and '.join(places)} uncut too; what makes no section is left out by "
+                          "--leave-out layer= or color=")
+
+
+def beside(groups: Sequence[Group], others: Sequence[Group], blocks: Sequence[Group], hints: Hints) -> Iterator[str]:
+    """What is left out of the groups beside the views; refused where some may be further views."""
+    unknown = []
     for group in others:
-        why = why_no_view(group, hints.texts)
-        if not why:
-            number = next(at for at, it in enumerate(groups, 1) if it is group)
-            raise Refused(
-                f"beside the views stands group {number}, {group}, whose first line is {group.runs[0].edge.source}: it is no view of the "
-                f"same part where it stands, and whether it may be left out isn't told; leave it out by --leave-out group={number}"
-            )
-        yield f"{group}: {why}"
+        block = next((it for it in blocks if holds(it.box, group.box, hints.tolerance)), None)
+        why = why_no_view(group, hints) or block and f"it lies in a title block, {block}"
+        if why:
+            yield f"{group}: {why}"
+        else:
+            unknown.append(next(at for at, it in enumerate(groups, 1) if it is group))
+    if unknown:
+        stand = "stands" if len(unknown) == 1 else "stand"
+        told = [f"group {at}, {groups[at - 1]}, whose first line is {groups[at - 1].first}" for at in unknown[:MOST_NAMED]]
+        told += [f"and {len(unknown) - MOST_NAMED} more"] if len(unknown) > MOST_NAMED else []
+        raise Refused(
+            f"beside the views {stand} what is no view of the same part in its place, and whether it may be left out isn't told; leave it out by "
+            f"--leave-out group={numbers_told(unknown)}:" + "".join(f"\n  {it}" for it in told)
+        )
+
+
+def numbers_told(numbers: Sequence[int]) -> str:
+    """Numbers in their order, in a row as 4-9."""
+    rows: list[list[int]] = []
+    for number in sorted(numbers):
+        if rows and rows[-1][-1] == number - 1:
+            rows[-1].append(number)
+        else:
+            rows.append([number])
+    return ",".join(str(row[0]) if len(row) == 1 else f"{row[0]}-{row[-1]}" for row in rows)
+
+
+def numbers_of(text: str) -> list[int]:
+    """The numbers that such words say; none where they say none."""
+    if not re.fullmatch(r"\d{1,6}(-\d{1,6})?(,\d{1,6}(-\d{1,6})?)*", text):
+        return []
+    ends = [list(map(int, part.split("-"))) for part in text.split(",")]
+    return [number for its in ends for number in range(its[0], min(its[-1], MOST_GROUPS) + 1)]
 
 
 def no_way(groups: Sequence[Group], chosen: Sequence[Group], ways: Sequence[Way], hints: Hints) -> str:
     """The refusal of groups that can be taken in no way or in several, with what was seen."""
-    seen = [f"group {number}: {group}, first {group.runs[0].edge.source}" for number, group in enumerate(groups[:12], 1)]
+    seen = [f"group {number}: {group}, first {group.first}" for number, group in enumerate(groups[:MOST_NAMED], 1)]
     count = f"there are {len(ways)} ways" if ways else "there is no way"
     angle = f" in {hints.angle} angle" if hints.angle else ""
     text = f"{count} to take three of these as FRONT, TOP and SIDE{angle}"
     near = nearly(chosen, hints) if not ways else ""
     if len({way.angle for way in ways}) == 2 and all(way.views["FRONT"] is ways[0].views["FRONT"] for way in ways):
         near = "TOP may stand above FRONT (third angle) or below it (first angle): say which by --angle"
-    return "\n  ".join([text + (f": {near}" if near else ""), *seen, *(["and more"] if len(groups) > 12 else [])])
+    return "\n  ".join([text + (f": {near}" if near else ""), *seen, *(["and more"] if len(groups) > MOST_NAMED else [])])
 
 
 def nearly(groups: Sequence[Group], hints: Hints) -> str:
     """Why three groups that stand as views do aren't three views of one part."""
-    views = [group for group in groups if not why_no_view(group, hints.texts)]
+    views = [group for group in groups if not why_no_view(group, hints)]
     if len(views) != 3:
-        return "there are fewer than three" if len(views) < 3 else ""
+        line = ", and the two don't stand in line, as FRONT and TOP or FRONT and a side view do" if len(views) == 2 else ""
+        return f"there are fewer than three{line}" if len(views) < 3 else ""
     def middle(group: Group) -> tuple[float, float]:
         return (group.box[0] + group.box[2]) / 2, (group.box[1] + group.box[3]) / 2
 
@@ -418,5 +467,15 @@ def nearly(groups: Sequence[Group], hints: Hints) -> str:
         ("FRONT begins at x", lambda it: it.box[0], front, "TOP at x", lambda it: it.box[0], top),
         ("FRONT begins at y", lambda it: it.box[1], front, "SIDE at y", lambda it: it.box[1], side),
     ]
-    return next((f"{one} {first(a):.9g}, and {other} {second(b):.9g}" for one, first, a, other, second, b in pairs
-                 if abs(first(a) - second(b)) > 3 * hints.tolerance), "")
+    for one, first, a, other, second, b in pairs:
+        if abs(first(a) - second(b)) > 3 * hints.tolerance:
+            return f"{one} {first(a):.9g}, and {other} {second(b):.9g}" + half_told(one, first(a), other, second(b), hints.tolerance)
+    return ""
+
+
+def half_told(one: str, first: float, other: str, second: float, tolerance: float) -> str:
+    """What is said where one of two lengths is half of the other, as that of a half view is."""
+    for view, length, whole in ((one, first, second), (other, second, first)):
+        if " is " in view and abs(2 * length - whole) <= 3 * tolerance:
+            return f"; {view.split()[0]} may be a half view, and half views aren't read: draw it whole"
+    return ""

@@ -10,6 +10,7 @@ import pathlib
 from . import asking, faults, program
 from .answers import CUT
 from .drawing import further_in, lines_within, strokes_in, up_to_end, written
+from .given import comments as given_comments, given_in, times
 from .messages import Refused, many, say, write_result
 
 NAME = "prove"
@@ -26,22 +27,26 @@ def add_arguments(parser: argparse.ArgumentParser) -> None:
 def whole_drawing(arguments: argparse.Namespace, tell: asking.Tell) -> tuple[asking.Asked, bytes]:
     """What the least search says of a file or of its sheet, and the drawing as `prove` and `check` read it: in whole units, up to its
     end. Refused where it has a fault."""
-    least = argparse.Namespace(**{**vars(arguments), "nodes": 1, "solids": 1, "workers": None})
+    least = argparse.Namespace(**{**vars(arguments), "limits": asking.words_of(arguments), "nodes": 1, "solids": 1, "workers": None})
     asked = asking.ask(arguments.drawing, least, tell)
     if asked.run.status == program.FAULT:
         raise Refused("; ".join(faults.told(asked.run.text.strip(), asked.lines)))
     if further := further_in(asked.lines):
-        tell(f"warning: logs are of the three main views: what {' and '.join(further)} would rule out isn't asked")
+        tell(f"warning: logs are of the {'two' if asked.missing else 'three'} main views: what {' and '.join(further)} would rule out isn't asked")
+    given = given_in(asked.lines)
+    if given:
+        tell("changed: the log is of the drawing with its rounds squared off, whose solids are sharp there")
     if not asked.decimals:
         return asked, up_to_end(asked.data)
     tell(f"changed: lengths multiplied by {10**asked.decimals:,}, since logs are of drawings in whole units")
     origin = asked.origin._replace(times=asked.origin.times * 10**asked.decimals)
-    return asked, written(strokes_in(asked.lines, asked.decimals), 0, origin).encode()
+    comments = given_comments(times(given, 10**asked.decimals)) if given else ""
+    return asked, (comments + written(strokes_in(asked.lines, asked.decimals), 0, origin)).encode()
 
 
 def run(arguments: argparse.Namespace) -> int:
     asked, data = whole_drawing(arguments, lambda text: say(f"draft prove: {text}"))
-    words = ["prove", *asking.words_of(arguments)]
+    words = ["prove", *asking.views_words(asked.lines), *asking.words_of(arguments)]
     made = program.run(program.find(arguments.program), words, data, arguments.seconds)
     lines = lines_within(made.text.encode())
     if cut := CUT.fullmatch(lines[0]):

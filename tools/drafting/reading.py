@@ -4,12 +4,13 @@ import math
 import pathlib
 import re
 from collections import Counter
-from collections.abc import Iterable, Iterator, Sequence
+from collections.abc import Iterable, Sequence
 from typing import Any, NamedTuple
 
+from . import curves, kinds
 from .drawing import UNITS, Place, entries_of, lines_of
 from .messages import Refused, many
-from .styles import Choice, Look, Style, style_of
+from .styles import HATCHED, Choice, Look, Style, style_of
 
 # The most bytes of a file, entities that are looked at in it with its blocks taken apart, and blocks within blocks.
 MOST_BYTES, MOST_ENTITIES, DEEPEST = 64 << 20, 1_000_000, 16
@@ -20,18 +21,27 @@ CURVES = (
     "POLYFACE", "PLANESURFACE", "EXTRUDEDSURFACE", "LOFTEDSURFACE", "REVOLVEDSURFACE", "SWEPTSURFACE",
 )
 TEXTS = ("TEXT", "MTEXT", "ATTRIB", "ATTDEF")
+# What gives no edge, and tells of the views: their sizes, and which of them are sections.
+KEPT = (*TEXTS, "DIMENSION", "HATCH", "LEADER")
 SCALE = re.compile(r"(?<![\d:.])(\d{1,4}(?:\.\d{1,3})?) ?: ?(\d{1,4}(?:\.\d{1,3})?)(?![\d:])")
 
 Box = tuple[float, float, float, float]
 
 
+class Unreadable(Refused):
+    """A file that ezdxf can't read, or reads otherwise than it is."""
+
+
 class Source(NamedTuple):
-    """Which entity something is of: its kind, its layer, its handle, and the block that it is in."""
+    """Which entity something is of: its kind, its layer, its handle, and the block that it is in; and where each view has a file of its
+    own, that file and its view."""
 
     kind: str
     layer: str
     handle: str
     block: str = ""
+    file: str = ""
+    view: str = ""
 
     def __str__(self) -> str:
         handle = f" {self.handle}" if self.handle else ""
@@ -48,11 +58,33 @@ class Edge(NamedTuple):
     source: Source
 
 
+class Arc(NamedTuple):
+    """A part of a circle that may be an edge: counterclockwise from an angle on, in degrees."""
+
+    hidden: bool
+    centre: Place
+    radius: float
+    start: float
+    sweep: float
+    source: Source
+
+    def at(self, angle: float) -> Place:
+        return curves.at(self.centre, self.radius, angle)
+
+
 class Unread(NamedTuple):
-    """What can't be an edge as it is, and where; nowhere in particular, where that isn't known."""
+    """What can't be an edge as it is, and where; nowhere in particular, where that isn't known; and the linetype that tells no style."""
 
     why: str
     box: Box | None
+    source: Source
+    linetype: str = ""
+
+
+class Kept(NamedTuple):
+    """An entity that gives no edge and tells something of the views."""
+
+    entity: Any
     source: Source
 
 
@@ -80,12 +112,17 @@ class Sheet:
     def __init__(self, unit: str) -> None:
         self.unit = unit
         self.edges: list[Edge] = []
+        self.arcs: list[Arc] = []
         self.unread: list[Unread] = []
         self.texts: list[Place] = []
         self.scales: set[str] = set()
         self.arrows: list[Arrow] = []
+        self.kept: list[Kept] = []
         self.changed: Counter[str] = Counter()
         self.left: Counter[str] = Counter()
+        # The same sheet without hidden lines, where that is given, and the edges as they were read before it told which are hidden.
+        self.seen: Sheet | None = None
+        self.whole: list[Edge] = []
 
 
 # ---- the file
@@ -100,7 +137,7 @@ def opened(path: str) -> tuple[Any, str]:
     data = data_of(path)
     is_binary = data.startswith(b"AutoCAD Binary DXF")
     if not is_binary and not re.search(rb"^[ \t]*0[ \t\r]*\n[ \t]*SECTION", data, re.M | re.I):
-        raise Refused(f"{path} is no DXF file: no section begins in it")
+        raise Refused(f"{pathlib.Path(path).name} is {kinds.told(data) or 'no DXF file: no section begins in it'}")
     version = None if is_binary else version_needed(data)
     if version is None:
         try:
@@ -113,7 +150,7 @@ def opened(path: str) -> tuple[Any, str]:
         document, auditor = recover.readfile(path) if version is None else recover.read(io.BytesIO(version))
     except Exception as failure:
         told = " ".join(str(failure).split())[:200] or type(failure).__name__
-        raise Refused(f"ezdxf can't read {path}: {told}") from None
+        raise Unreadable(f"ezdxf can't read {pathlib.Path(path).name}: {told}") from None
     mended = len(auditor.errors) + len(auditor.fixes)
     return document, f"the file is broken: ezdxf mended {many(mended, 'fault')}" if mended and version is None else ""
 
@@ -122,10 +159,10 @@ def data_of(path: str) -> bytes:
     """The bytes of a file that isn't empty, nor too long."""
     size = pathlib.Path(path).stat().st_size
     if size > MOST_BYTES:
-        raise Refused(f"{path} has {size:,} bytes, more than {MOST_BYTES:,}")
+        raise Refused(f"{pathlib.Path(path).name} has {size:,} bytes, more than {MOST_BYTES:,}")
     data = pathlib.Path(path).read_bytes()
     if not data.strip():
-        raise Refused(f"{path} is empty")
+        raise Refused(f"{pathlib.Path(path).name} is empty")
     return data
 
 
@@ -160,9 +197,11 @@ def check_lines(path: str, document: Any) -> None:
         read[entity.dxftype(), entity.dxf.layer.upper(), entity.dxf.get("linetype", "BYLAYER").upper(),
              1 if is_line else len(entity), not is_line and bool(entity.closed)] += 1
     if told != read:
+        if not re.search(rb"^[ \t]*0[ \t\r]*\n[ \t]*EOF", pathlib.Path(path).read_bytes(), re.M | re.I):
+            raise Refused(f"{pathlib.Path(path).name} is cut, it ends without an end: export it again")
         kind, layer, linetype, vertices, closed = next(iter((told - read) or (read - told)))
-        raise Refused(f"ezdxf reads the file otherwise than it is: {kind} on layer {layer} of linetype {linetype}, with {vertices} vertices"
-                      f"{', closed' if closed else ''}, {sum(told.values())} lines and polylines in the file and {sum(read.values())} read")
+        raise Unreadable(f"ezdxf reads the file otherwise than it is: {kind} on layer {layer} of linetype {linetype}, with {vertices} vertices"
+                         f"{', closed' if closed else ''}, {sum(told.values())} lines and polylines in the file and {sum(read.values())} read")
 
 
 def line_of_file(path: str, handle: str) -> str:
@@ -291,6 +330,9 @@ class Reader:
         sheet = self.sheet
         style, why = style_of(look, self.choices, self.pattern(look.linetype))
         source = self.source(entity, kind, look, around)
+        is_drawn_hatch = kind == "LINE" and style is Style.APART and HATCHED.search(look.layer)
+        if (kind in KEPT or is_drawn_hatch) and not any(choice.style is Style.APART and choice.meets(look) for choice in self.choices):
+            sheet.kept.append(Kept(entity, source))
         if kind in TEXTS:
             self.text(entity)
             sheet.left[f"{kind} on layer {look.layer}"] += 1
@@ -300,11 +342,15 @@ class Reader:
             what = "centre line, " if style is Style.CENTRE else ""
             sheet.left[f"{kind} on layer {look.layer}{', ' + what + why if why else ', a centre line'}"] += 1
         elif style is Style.UNKNOWN:
-            sheet.unread.append(Unread(f"has the {why}, which tells no style", box_of(entity), source))
+            sheet.unread.append(Unread(f"has the {why}, which tells no style", box_of(entity), source, look.linetype))
         elif kind in CURVES:
             if kind in ("SOLID", "TRACE"):
                 self.arrow(entity, source)
-            sheet.unread.append(Unread("is no straight line", box_of(entity), source))
+            self.curve(entity, kind, style is Style.HIDDEN, look, source)
+        elif kind == "LWPOLYLINE" and is_tapered(entity):
+            ends = [(x, y) for x, y in entity.get_points("xy")]
+            sheet.arrows.append(Arrow(ends, math.dist(*ends), source))
+            sheet.unread.append(Unread("is an arrow head", box_of(entity), source))
         else:
             if why:
                 sheet.changed[f"{kind} on layer {look.layer} taken as {style.value}, {why}"] += 1
@@ -323,12 +369,32 @@ class Reader:
             corners = [(corner.x, corner.y) for corner in entity.wcs_vertices()]
             self.sheet.arrows.append(Arrow(corners, math.dist(box[:2], box[2:]), source))
 
+    def curve(self, entity: Any, kind: str, hidden: bool, look: Look, source: Source) -> None:
+        """Takes a curve as a part of a circle, or as a line where it is straight."""
+        taken = curves.taken(entity)
+        if isinstance(taken, curves.Bow):
+            if kind not in ("ARC", "CIRCLE"):
+                self.sheet.changed[f"{kind} on layer {look.layer} taken as a part of a circle"] += 1
+            self.sheet.arcs.append(Arc(hidden, *taken, source))
+        elif taken:
+            self.sheet.changed[f"straight {kind} on layer {look.layer} taken as a line"] += 1
+            self.sheet.edges.append(Edge(hidden, *taken, look.colour, source))
+        else:
+            self.sheet.unread.append(Unread("is no straight line", box_of(entity), source))
+
     def lines(self, entity: Any, kind: str, hidden: bool, look: Look, source: Source) -> None:
         parts = [entity]
         if kind in POLYLINES:
             self.sheet.changed[f"{kind} on layer {look.layer} taken apart"] += 1
-            parts = list(entity.virtual_entities())
+            parts, bows = curves.without_chords(list(entity.virtual_entities()))
+            self.sheet.arcs += [Arc(hidden, *bow, source) for bow, _ in bows]
+            if bows:
+                count = sum(chords for _, chords in bows)
+                self.sheet.changed[f"{kind} on layer {look.layer}, of which {count} short chords are taken as {many(len(bows), 'round')}"] += 1
         for part in parts:
+            if part.dxftype() == "ARC" and (bow := curves.bow_of_arc(part)):
+                self.sheet.arcs.append(Arc(hidden, *bow, source))
+                continue
             if part.dxftype() != "LINE":
                 self.sheet.unread.append(Unread("has a bent side" if kind in POLYLINES else "is no line", box_of(part), source))
                 continue
@@ -339,6 +405,12 @@ class Reader:
             if abs(start.z - end.z) > 1e-9:
                 self.sheet.changed[f"{kind} on layer {look.layer} seen from above, since its ends differ in height"] += 1
             self.sheet.edges.append(Edge(hidden, ends[:2], ends[2:], look.colour, source))
+
+
+def is_tapered(polyline: Any) -> bool:
+    """Whether a polyline is one stroke that comes to a point, as arrow heads are drawn."""
+    widths = list(polyline.get_points("se"))
+    return len(widths) == 2 and widths[0][0] != widths[0][1] and 0 in widths[0]
 
 
 def box_of(entity: Any) -> Box | None:
@@ -361,7 +433,7 @@ def read_sheet(path: str, choices: Sequence[Choice]) -> Sheet:
     try:
         sheet = Reader(document, choices, unit).read()
     except RecursionError:
-        raise Refused(f"{path}: blocks stand in one another without an end") from None
+        raise Refused(f"{pathlib.Path(path).name}: blocks stand in one another without an end") from None
     if mended:
         sheet.changed[mended] += 1
     return sheet

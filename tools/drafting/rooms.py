@@ -4,11 +4,11 @@ program has it, the pseudo edges that all views allow, the virtual faces that th
 `recon solve --pages` tells solids by their blocks while it still searches; what they look like is known by this. What is shown so
 is compared with the faces that the program lists in the end.
 """
+import itertools
 import re
 from typing import NamedTuple
 
 from .cells import Grid as Cells
-from .drawing import VIEWS
 from .messages import Refused
 from .panels import BLANK, FRAMES, Cuts, Grid, Panels, Sheet, axis_of, grid_of
 
@@ -136,22 +136,25 @@ class Box:
 def pseudo_edges(grid: Grid, box: Box) -> Bits:
     """The pseudo edges along each axis."""
     starts: dict[tuple[str, int], set[tuple[int, int]]] = {}
-    points: dict[str, set[tuple[int, int]]] = {view: set() for view in VIEWS}
+    points: dict[str, set[tuple[int, int]]] = {view: set() for view in grid.views}
     for row, styles in grid.panels.items():
         for segment in (at for at, style in enumerate(styles) if style != BLANK):
             place = (row.number, segment) if row.upright else (segment, row.number)
             starts.setdefault((row.view, axis_of(row.view, row.upright)), set()).add(place)
             points[row.view] |= {place, (row.number, segment + 1) if row.upright else (segment + 1, row.number)}
     wide, deep, tall = box.sizes
-    vertices = {
-        (x, y, z) for x, z in points["FRONT"] for y in range(deep + 1) if (x, y) in points["TOP"] and (y, z) in points["SIDE"]
-    }
+    # A view that isn't drawn allows all that the other two do.
+    front, top, side = (
+        points.get(view) or set(itertools.product(range(right + 1), range(up + 1)))
+        for view, right, up in (("FRONT", wide, tall), ("TOP", wide, deep), ("SIDE", deep, tall))
+    )
+    vertices = {(x, y, z) for x, z in front for y in range(deep + 1) if (x, y) in top and (y, z) in side}
 
     def is_edge(point: tuple[int, int, int], axis: int) -> bool:
         far = (*point[:axis], point[axis] + 1, *point[axis + 1:])
         return far in vertices and all(
             (point[FRAMES[view].right], point[FRAMES[view].up]) in starts.get((view, axis), ())
-            for view in VIEWS if axis != FRAMES[view].sight
+            for view in grid.views if axis != FRAMES[view].sight
         )
 
     x, y, z = (sum(1 << box.place(*point) for point in vertices if is_edge(point, axis)) for axis in range(3))
@@ -191,10 +194,21 @@ def blocks_of(sheet: Sheet) -> Blocks:
 
 
 def on_grid(box: Box, cells: Cells, room: int) -> int:
-    """Cells of the box as cells of the grid."""
+    """Cells of the box as cells of the grid. Only layers that the room reaches are looked at: most rooms are small, and there are many."""
+    layer = box.strides[2]
+    low, high = ((room & -room).bit_length() - 1) // layer, (room.bit_length() - 1) // layer
+    room >>= low * layer
     found = 0
-    wide = (1 << box.sizes[0]) - 1
-    for z in range(box.sizes[2]):
-        for y in range(box.sizes[1]):
-            found |= (room >> box.place(0, y, z) & wide) << y * cells.strides[1] + z * cells.strides[2]
+    for z in range(low - 1, high):
+        found |= rows_on_grid(box, cells, room & (1 << layer) - 1) << z * cells.strides[2]
+        room >>= layer
+    return found
+
+
+def rows_on_grid(box: Box, cells: Cells, layer: int) -> int:
+    """The rows of one layer."""
+    wide, first = (1 << box.sizes[0]) - 1, box.strides[0] + box.strides[1]
+    found = 0
+    for y in range(box.sizes[1]):
+        found |= (layer >> first + y * box.strides[1] & wide) << y * cells.strides[1]
     return found

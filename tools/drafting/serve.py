@@ -1,10 +1,13 @@
 """Opens a drafting table: a page of this machine alone, into which a drawing is dropped, and in which its solids turn while the proved
 program finds them. `draft sheet` and the program run as processes with limits; drawings that come at once wait for their turn. A page
-that is closed ends its process, and nothing is kept but in a folder that goes with the server. It ends by an interrupt.
+that is closed ends its process, and nothing is kept but in a folder that goes with the server, or with the next one where it was killed.
+It ends by an interrupt.
 
-Standard output is the page's address, with a token without which nothing is answered.
+Standard output is the page's address, with a token without which nothing is answered. The browser is given a file that leads there: so
+the token is in no list of processes.
 """
 import argparse
+import html
 import os
 import pathlib
 import secrets
@@ -17,15 +20,16 @@ import threading
 import webbrowser
 
 from . import page, program
-from .messages import Refused, say
+from .messages import Refused, many, say
+from .session import Session, clear_left
 from .turns import Limits
 
 NAME = "serve"
 HELP = "open a page into which drawings are dropped"
 
 SECONDS, MEMORY, AT_ONCE = 600.0, 2_048, 2
-# Threads of the server: one for each open page, and some for what pages ask besides.
-THREADS, CONNECTIONS = 48, 100
+THREADS = 48
+OPENING = '<!DOCTYPE html><meta charset="utf-8"><title>Drafting table</title><meta http-equiv="refresh" content="0; url={}">\n'
 
 
 def add_arguments(parser: argparse.ArgumentParser) -> None:
@@ -62,39 +66,44 @@ def bound(port: int) -> socket.socket:
     return listening
 
 
+def open_browser(folder: pathlib.Path, address: str) -> None:
+    """Opens the page by a file that leads there, which its owner alone can read."""
+    opening = folder / "open.html"
+    opening.touch(0o600)
+    opening.write_text(OPENING.format(html.escape(address)))
+    threading.Thread(target=webbrowser.open, args=(opening.as_uri(),), daemon=True).start()
+
+
 def run(arguments: argparse.Namespace) -> int:
     limits, path = limits_of(arguments), program.find(arguments.program)
-    page.scripts(page.SCRIPTS)
+    page.scripts("table")
     try:
-        import waitress
-
-        from . import service
+        from . import door, service
         from .desk import Desk
     except ImportError as missing:
         raise Refused(f"{missing.name} isn't there: apt-get install python3-flask python3-waitress") from None
     listening = bound(arguments.port)
-    session = pathlib.Path(tempfile.mkdtemp(prefix="draft_serve_"))
+    left = clear_left(pathlib.Path(tempfile.gettempdir()))
+    session = Session()
     # What the server itself puts aside of a large request goes there too.
-    tempfile.tempdir = str(session)
-    desk = Desk(session, limits, path)
+    tempfile.tempdir = str(session.folder)
+    for ending in (signal.SIGTERM, signal.SIGHUP):
+        signal.signal(ending, signal.default_int_handler)
+    desk = Desk(session.folder, limits, path)
     port, token = listening.getsockname()[1], secrets.token_urlsafe(24)
     address = f"http://127.0.0.1:{port}/?token={token}"
-    signal.signal(signal.SIGTERM, signal.default_int_handler)
     try:
-        server = waitress.create_server(
-            service.made(desk, port, token), sockets=[listening], threads=THREADS, connection_limit=CONNECTIONS, send_bytes=1,
-            channel_request_lookahead=1, channel_timeout=60, max_request_body_size=service.MOST_REQUEST, ident=None,
-        )
+        server = door.opened(service.made(desk, port, token), listening, token, THREADS, service.MOST_REQUEST)
         print(address, flush=True)
-        say(f"draft serve: {path}, {limits.told()}")
+        say(f"draft serve: {path}, {limits.told()}" + (f"; {many(left, 'folder')} cleared, of a server that was killed" if left else ""))
         if not arguments.no_browser:
-            threading.Thread(target=webbrowser.open, args=(address,), daemon=True).start()
+            open_browser(session.folder, address)
         server.run()
     except KeyboardInterrupt:
         pass
     finally:
         desk.end_all()
-        shutil.rmtree(session, ignore_errors=True)
+        session.clear()
     say("draft serve: ended")
     sys.stdout.flush()
     # Threads of open pages wait for nothing any more.

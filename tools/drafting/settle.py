@@ -4,21 +4,25 @@ between two grid planes cuts, into how many groups it splits the solids and how 
 With --meant K it says which further views, as few as possible, leave solid K alone, and the lines to be added for them; --write
 writes the drawing with these. Where even all three leave others, it says which sections would settle it and which blocks differ.
 
+Of two views it says what the third one would show of each solid, and with --meant K completes the drawing by that of solid K.
+
 Views and sections are drawn here, by the definitions, from the solids that the proved program lists. Of the drawing with the added
 lines the program has to list just the solids that are said to be left.
 """
 import argparse
 import itertools
+import json
 import pathlib
-import re
 from collections import Counter
 from collections.abc import Hashable, Sequence
 from typing import NamedTuple
 
 from . import asking, faults, program
-from .answers import CUT, FAULT, WHOLE, Answer, answer_of, text_of
+from .answers import CUT, FAULT, WHOLE, Answer, Face, Solid, answer_of, have_views, text_of
 from .cells import Grid as Cells, grid_round
-from .drawing import FURTHER, lines_of, number, pairs_of, views_of
+from .drawing import FURTHER, VIEWS, lines_of, lines_within, number, pairs_of, views_of
+from .given import given_in
+from .groups import meet
 from .messages import Progress, Refused, many, say, write_result
 from .panels import (
     AXES, DASHED, FRAMES, SOLID, STYLES, Cell, Sheet, Shown, columns_of, sheet_of, shown_of, strokes_shown, style_between,
@@ -29,6 +33,8 @@ HELP = "what further view or section tells the solids of a drawing apart"
 SHOWN = 12
 # How many sections together are looked at.
 MOST_SECTIONS = 3
+# Of how many solids it is told in one line what would settle a drawing.
+MOST_SETTLED = 500
 
 
 def add_arguments(parser: argparse.ArgumentParser) -> None:
@@ -36,6 +42,8 @@ def add_arguments(parser: argparse.ArgumentParser) -> None:
     parser.add_argument("--answer", metavar="ANSWER", help="what recon solve wrote for it; - for standard input")
     parser.add_argument("--meant", type=int, metavar="K", help="the solid that is meant, by its number in the answer")
     parser.add_argument("--write", metavar="OUT.dxf", help="with --meant: write the drawing with the lines to be added")
+    parser.add_argument("--by", action="append", choices=(*VIEWS, *FURTHER), default=[], metavar="VIEW", help="with --meant: this view, not the fewest")
+    parser.add_argument("--json", action="store_true", help="with --meant: what is to be added as JSON, for `draft serve`")
     parser.add_argument("--all", action="store_true", help=f"all sections, not the best {SHOWN} alone")
     asking.add_arguments(parser)
 
@@ -62,10 +70,12 @@ class Solids(NamedTuple):
 
 
 class Means(NamedTuple):
-    """A view or a section, and for each solid what it shows: solids of one key look alike in it."""
+    """A view or a section, and for each solid what it shows: solids of one key look alike in it. Of a section also the axis that it is
+    across, and which cells it cuts."""
 
     name: str
     keys: list[Hashable]
+    section: tuple[int, int] | None = None
 
     @property
     def sizes(self) -> list[int]:
@@ -101,8 +111,8 @@ def section_keys(solids: Solids, sheet: Sheet, varying: list[Cell]) -> list[Mean
     for axis, cut in enumerate(solids.cells.cuts):
         for at in sorted({cell[axis] for cell in varying}):
             slab = sum(1 << place_of(solids, cell) for cell in varying if cell[axis] == at)
-            ends = f"{sheet.number(cut[at])} and {sheet.number(cut[at + 1])}"
-            means.append(Means(f"section across {AXES[axis]} between {ends}", [full & slab for full in solids.full]))
+            ends = f"{sheet.length(cut[at])} and {sheet.length(cut[at + 1])}"
+            means.append(Means(f"section across {AXES[axis]} between {ends}", [full & slab for full in solids.full], (axis, at)))
     return means
 
 
@@ -111,25 +121,42 @@ def place_of(solids: Solids, cell: Cell) -> int:
 
 
 def all_means(solids: Solids, sheet: Sheet) -> tuple[list[Means], list[Means]]:
-    """What each further view and each section shows of the solids; of the sections the best ones first."""
+    """What each view that isn't drawn, a main one first, and each section shows of the solids; of the sections the best ones first."""
     varying = solids.cells_in(solids.varying())
-    return [view_keys(solids, view, varying) for view in FURTHER], best_first(section_keys(solids, sheet, varying))
+    views = [view_keys(solids, view, varying) for view in (*sheet.missing, *FURTHER)]
+    return views, best_first(section_keys(solids, sheet, varying))
 
 
 def best_first(means: list[Means]) -> list[Means]:
     return sorted(means, key=lambda it: (it.sizes[0], -len(it.sizes)))
 
 
+def settled_by(answer: Answer, sheet: Sheet) -> str:
+    """What would settle a drawing that several solids have, in words: the view or the section that tells them all apart, or most."""
+    if len(answer.solids) > MOST_SETTLED:
+        return "draft settle says what would settle it"
+    cells = grid_round(answer.solids)
+    solids = Solids(cells, [cells.cells(told) for told in answer.solids])
+    views, sections = all_means(solids, sheet)
+    Progress.clear()
+    best = best_first([*views, *sections])[0]
+    if best.sizes[0] == 1:
+        return f"a view {best.name} would settle it" if best in views else f"a {best.name} would settle it"
+    return f"no single view or section settles it; {best.name} leaves {best.sizes[0]} of them at most"
+
+
 # ---- the solid that is meant
 
 def views_for(views: list[Means], number: int) -> tuple[list[Means], set[int]]:
-    """The fewest further views that leave as few solids as all of them do, beside the one that is meant, and what they leave."""
+    """The fewest views that leave as few solids as all of them do, beside the one that is meant, and what they leave. A main view that
+    isn't drawn is always one of them: it completes the drawing."""
     everything = set(range(len(views[0].keys)))
     least = everything.intersection(*(it.alike(number) for it in views))
-    for count in range(len(views) + 1):
-        for chosen in itertools.combinations(views, count):
-            if everything.intersection(*(it.alike(number) for it in chosen)) == least:
-                return list(chosen), least
+    main, further = ([it for it in views if (it.name in VIEWS) == is_main] for is_main in (True, False))
+    for count in range(len(further) + 1):
+        for chosen in itertools.combinations(further, count):
+            if everything.intersection(*(it.alike(number) for it in (*main, *chosen))) == least:
+                return [*main, *chosen], least
     return views, least
 
 
@@ -151,12 +178,30 @@ class Added(NamedTuple):
     end: tuple[int, int]
 
 
+def main_places(sheet: Sheet, sizes: list[int], gap: int) -> dict[str, tuple[int, int]]:
+    """Where the main views begin on the sheet; the one that isn't drawn in line with the others, or right of all where they stand there."""
+    if not sheet.missing:
+        return sheet.origins
+    its = dict(sheet.origins)
+    view = sheet.missing[0]
+    x, y = its["FRONT"] if view != "FRONT" else (its["TOP"][0], its["SIDE"][1])
+    place = {"FRONT": (x, y), "TOP": (x, y + sizes[2] + gap), "SIDE": (x + sizes[0] + gap, y)}[view]
+    boxes = {name: (right, up, right + sizes[FRAMES[name].right], up + sizes[FRAMES[name].up])
+             for name, (right, up) in {**its, view: place}.items()}
+    if any(meet(box, boxes[view], 0) for name, box in boxes.items() if name != view):
+        place = max(box[2] for name, box in boxes.items() if name != view) + gap, y
+    return {**its, view: place}
+
+
 def place_on_sheet(view: str, sheet: Sheet, cuts: list[list[int]]) -> tuple[int, int]:
-    """Where a further view begins on the sheet: LEFT to the left of FRONT, REAR to the right of SIDE, BOTTOM below FRONT."""
-    (x, y), (side, beside) = sheet.origins["FRONT"], sheet.origins["SIDE"]
-    wide, deep, _ = (cut[-1] - cut[0] for cut in cuts)
-    gap = side - x - wide if side > x + wide else 10 * 10**sheet.decimals
-    return {"LEFT": (x - gap - deep, y), "REAR": (side + deep + gap, beside), "BOTTOM": (x, y - gap - deep)}[view]
+    """Where a view that is added begins on the sheet: a main one in line with the others, LEFT to the left of FRONT, REAR to the right of
+    SIDE, BOTTOM below FRONT."""
+    wide, deep, _ = sizes = [cut[-1] - cut[0] for cut in cuts]
+    gap = 10 * 10**sheet.decimals
+    its = main_places(sheet, sizes, gap)
+    (x, y), (side, beside) = its["FRONT"], its["SIDE"]
+    gap = side - x - wide if side > x + wide else gap
+    return {**its, "LEFT": (x - gap - deep, y), "REAR": (side + deep + gap, beside), "BOTTOM": (x, y - gap - deep)}[view]
 
 
 def lines_of_view(view: str, shown: Shown, sheet: Sheet, cuts: list[list[int]]) -> list[Added]:
@@ -198,7 +243,7 @@ def blocks_told(solids: Solids, answer: Answer, left: list[int], sheet: Sheet) -
     for pattern, numbers in blocks.items():
         cells = patterns.get(pattern, [])
         box = [
-            f"{AXES[axis]} {sheet.number(cut[min(it[axis] for it in cells)])} to {sheet.number(cut[max(it[axis] for it in cells) + 1])}"
+            f"{AXES[axis]} {sheet.length(cut[min(it[axis] for it in cells)])} to {sheet.length(cut[max(it[axis] for it in cells) + 1])}"
             for axis, cut in enumerate(solids.cells.cuts)
         ] if cells else []
         name = f"block{'s' * (len(numbers) > 1)} {', '.join(map(str, numbers))}"
@@ -209,27 +254,71 @@ def blocks_told(solids: Solids, answer: Answer, left: list[int], sheet: Sheet) -
 # ---- what is told
 
 class Case(NamedTuple):
-    """A drawing that was read with so many decimals, and the answer to it."""
+    """A drawing that was read with so many decimals, the answer to it, and its strokes; where the answer is of some of its solids alone,
+    also all that the program lists."""
 
     lines: list[str]
     decimals: int
     answer: Answer
+    sheet: Sheet | None
+    listed: Sequence[Solid] = ()
+
+    def left_out(self) -> list[list[Face]]:
+        """The faces of the listed solids that the answer leaves out."""
+        kept = {it.choice for it in self.answer.solids}
+        return [it.faces for it in self.listed if it.choice not in kept]
+
+
+def of_first_reading(asked: asking.Asked) -> list[Solid]:
+    """The solids of the squared-off drawing that the program read, of which what is rounded back is kept."""
+    return [one.solid for one in asked.rounds.kept[0].outcome.kept] if asked.rounds and asked.rounds.kept else []
 
 
 def case_of(arguments: argparse.Namespace) -> Case:
     """What is settled: the answer that is given, or what the program says."""
     if arguments.answer:
         answer = answer_of(text_of(arguments.answer))
-        case = Case(lines_of(arguments.drawing), answer.decimals, answer)
+        case = Case(lines_of(arguments.drawing), answer.decimals, answer, None)
+        if given_in(case.lines):
+            say("draft settle: warning: the drawing has its rounds squared off, and of the solids of the answer not all may be kept")
     else:
         asked = asking.ask(arguments.drawing, arguments, lambda text: say(f"draft settle: {text}"))
-        case = Case(asked.lines, asked.decimals, answer_of(asked.run.text))
+        answer = answer_of(asked.run.text)
+        case = Case(asked.lines, asked.decimals, answer, None if FAULT.fullmatch(answer.head) else asked.sheet())
+        if asked.origin.mirrored:
+            say("draft settle: warning: the sheet shows the part in a mirror, and what is told here is of the mirror image, x turned round")
+        if asked.rounds:
+            kept = of_first_reading(asked)
+            case = case._replace(answer=answer._replace(solids=kept, listed=len(kept)), listed=answer.solids)
+            say(f"draft settle: of {many(len(case.listed), 'solid')} of the drawing with its rounds squared off those are told that are kept, "
+                f"{len(kept)}; the views and sections are drawn with the rounds squared off")
     head = case.answer.head
     if FAULT.fullmatch(head):
         raise Refused("; ".join(faults.told(head, case.lines)))
     if CUT.fullmatch(head):
         say(f"draft settle: {head}: what is told is of the {many(case.answer.listed, 'solid')} listed alone")
     return case
+
+
+def third_told(solids: Solids, third: Means, sheet: Sheet, most: int) -> list[str]:
+    """What the main view that isn't drawn would show of each solid: the lines that it has of all, and of each group of solids the others."""
+    groups: dict[Hashable, list[int]] = {}
+    for at, key in enumerate(third.keys, 1):
+        groups.setdefault(key, []).append(at)
+    shown = {key: shown_of(solids.cells_in(solids.full[its[0] - 1]), solids.cells.cuts, third.name) for key, its in groups.items()}
+    every = frozenset.intersection(*shown.values())
+    rows = [f"What {third.name}, the view that isn't drawn, would show, from its lower left corner on; of each"]
+    rows += stretches_told(every, sheet)
+    for key, its in list(groups.items())[:most]:
+        rows += [f"of {'solid' if len(its) == 1 else 'solids'} {', '.join(map(str, its))} also"]
+        rows += stretches_told(shown[key] - every, sheet)
+    return rows + ([f"({len(groups) - most} other such views: --all)"] if len(groups) > most else [])
+
+
+def stretches_told(shown: Shown, sheet: Sheet) -> list[str]:
+    """Lines of a view in words."""
+    return ["  " + " to ".join(f"({sheet.length(x)}, {sheet.length(y)})" for x, y in ends) + f": {STYLES[DASHED if dashed else SOLID]}"
+            for dashed, *ends in strokes_shown(shown, 0, 0)] or ["  nothing"]
 
 
 def table(means: Sequence[Means]) -> list[str]:
@@ -240,54 +329,81 @@ def table(means: Sequence[Means]) -> list[str]:
     return [f"{name:{width}}  {groups:>6}  {largest:>17}" for name, groups, largest in rows]
 
 
-def checked(text: str, path: pathlib.Path, words: list[object], wanted: list[str], seconds: float) -> str:
-    """What the program says of the drawing with the added lines, of which it has to list these choices; refused where it doesn't."""
+def checked(
+    text: str, path: pathlib.Path, words: list[object], wanted: list[list[Face]], seconds: float, left_out: Sequence[list[Face]] = ()
+) -> str:
+    """What the program says of the drawing with the added lines, of which it has to list solids of these faces, beside those that aren't
+    kept; refused where it doesn't."""
     listed = program.run(path, ["solve", *words], text.encode(), seconds).text
     head = listed.partition("\n")[0]
-    if not WHOLE.fullmatch(head) or re.findall(r"^solid \d+ choice ([01]+) ", listed, re.M) != wanted:
+    if not WHOLE.fullmatch(head) or [solid.faces for solid in answer_of(listed).solids if solid.faces not in left_out] != wanted:
         raise Refused(f"of the drawing with these lines the program lists other solids than the {len(wanted):,} that are left: {head}")
     just = "that" if len(wanted) == 1 else "those"
     return f"Checked: of the drawing with these lines the program lists {many(len(wanted), 'solid')}, just {just}."
 
 
+def left_by(views: list[Means], number: int) -> set[int]:
+    """The solids that look like one in some views."""
+    return set(range(len(views[0].keys))).intersection(*(it.alike(number) for it in views))
+
+
+def added_told(line: Added, sheet: Sheet, cuts: list[list[int]]) -> str:
+    """A line to be added in words: where it stands in the drawing, or from the lower left corner of a view that a sheet has not."""
+    x, y = place_on_sheet(line.view, sheet, cuts) if sheet.back else (0, 0)
+    ends = " to ".join(f"({sheet.length(right - x)}, {sheet.length(up - y)})" for right, up in (line.start, line.end))
+    where = " from its lower left corner" if sheet.back else ""
+    return f"  {line.view} {ends}{where}: {STYLES[DASHED if line.dashed else SOLID]}"
+
+
 def told_meant(
-    solids: Solids, answer: Answer, number: int, views: list[Means], sections: list[Means], sheet: Sheet
-) -> tuple[list[str], list[Added], list[str]]:
-    """What is told of the solid that is meant, the lines to be added, and the choices of the solids that are left."""
+    solids: Solids, answer: Answer, number: int, views: list[Means], sections: list[Means], sheet: Sheet, by: Sequence[str] = ()
+) -> tuple[list[str], list[Added], list[list[Face]]]:
+    """What is told of the solid that is meant, the lines to be added, and the faces of the solids that are left; by the fewest views,
+    or by those that are named."""
     chosen, left = views_for(views, number)
+    if by:
+        chosen = [it for it in views if it.name in by]
+        left = left_by(chosen, number)
     names = " and ".join(it.name for it in chosen)
     cells, cuts = solids.cells_in(solids.full[number]), solids.cells.cuts
     added = [line for it in chosen for line in lines_of_view(it.name, shown_of(cells, cuts, it.name), sheet, cuts)]
     if left == {number}:
         rows = [f"Solid {number + 1} is told by {names} alone. The lines to be added:"]
     elif chosen:
-        rows = [f"No further views tell solid {number + 1} alone: with {names} {len(left):,} solids are left. The lines to be added:"]
+        rows = [f"No {'' if sheet.missing else 'further '}views tell solid {number + 1} alone: with {names} {len(left):,} solids are left. The lines to be added:"]
     else:
         rows = [f"No further view tells solid {number + 1} from any other."]
-    for line in added:
-        ends = " to ".join(f"({sheet.number(right)}, {sheet.number(up)})" for right, up in (line.start, line.end))
-        rows.append(f"  {line.view} {ends}: {STYLES[DASHED if line.dashed else SOLID]}")
+    rows += [added_told(line, sheet, cuts) for line in added]
     if left != {number}:
         rows.append(f"The solids that are left: {', '.join(str(it + 1) for it in sorted(left))}. They differ in")
         rows += blocks_told(solids, answer, sorted(left), sheet)
         settling = sections_for(sections, number, left)
         names = " and a ".join(it.name for it in settling)
         rows.append(f"It would be settled by a {names}." if settling else f"No {MOST_SECTIONS} sections settle it.")
-    return rows, added, [answer.solids[it].choice for it in sorted(left)]
+    return rows, added, [answer.solids[it].faces for it in sorted(left)]
 
 
-def text_for(arguments: argparse.Namespace, case: Case, added: list[Added], left: list[str]) -> tuple[str, str]:
+def text_for(arguments: argparse.Namespace, case: Case, added: list[Added], left: list[list[Face]]) -> tuple[str, str]:
     """The drawing with the added lines, and what is said of its check by the program."""
     text = with_lines(case.lines, added, case.decimals)
     if arguments.answer:
         return text, "Not checked by the program, since the answer was given: the views are drawn here."
     if not WHOLE.fullmatch(case.answer.head):
         return text, "Not checked by the program, since the search was cut: the views are drawn here."
-    words = ["--decimals", case.decimals, *asking.words_of(arguments)]
-    return text, checked(text, program.find(arguments.program), words, left, arguments.seconds)
+    words = [*asking.views_words(lines_within(text.encode())), "--decimals", case.decimals, *asking.words_of(arguments)]
+    return text, checked(text, program.find(arguments.program), words, left, arguments.seconds, case.left_out())
+
+
+def as_json(rows: list[str], text: str, left: int) -> str:
+    """What is told of the solid that is meant in sentences, the lines to be added, the drawing with them, and how many solids that leaves."""
+    lines = [row.strip() for row in rows if row.startswith("  ") and row.split()[0] in FRAMES]
+    words = [row.removesuffix(" The lines to be added:").removesuffix(" They differ in") for row in rows if not row.startswith("  ")]
+    return json.dumps({"words": words, "lines": lines, "dxf": text, "left": left})
 
 
 def run(arguments: argparse.Namespace) -> int:
+    if arguments.meant is None and (arguments.json or arguments.by):
+        raise Refused("--json and --by go with --meant")
     case = case_of(arguments)
     answer = case.answer
     if len(answer.solids) < 2:
@@ -295,22 +411,24 @@ def run(arguments: argparse.Namespace) -> int:
         return 0
     if arguments.meant is not None and not 1 <= arguments.meant <= len(answer.solids):
         raise Refused(f"there is no solid {arguments.meant}: {many(len(answer.solids), 'solid')} listed")
-    sheet = sheet_of(views_of(case.lines), case.decimals)
+    sheet = case.sheet or sheet_of(views_of(case.lines), case.decimals)
     cells = grid_round(answer.solids)
     solids = Solids(cells, [cells.cells(told) for told in answer.solids])
     views, sections = all_means(solids, sheet)
     Progress.clear()
     shown = sections if arguments.all else sections[:SHOWN]
-    rows = [f"{many(len(answer.solids), 'solid')} have these views.", *table(best_first([*views, *shown]))]
+    rows = [f"{have_views(len(answer.solids), ''.join(sheet.missing))}.", *table(best_first([*views, *shown]))]
     if len(shown) < len(sections):
         rows.append(f"({len(sections) - len(shown)} further sections: --all)")
     added: list[Added] = []
     if arguments.meant is None:
+        rows += third_told(solids, views[0], sheet, len(answer.solids) if arguments.all else SHOWN) if sheet.missing else []
         rows.append("Views and sections are drawn here, from the solids that the program lists.")
     else:
-        more, added, left = told_meant(solids, answer, arguments.meant - 1, views, sections, sheet)
+        more, added, left = told_meant(solids, answer, arguments.meant - 1, views, sections, sheet, arguments.by)
         text, said = text_for(arguments, case, added, left) if added else ("", "")
-        rows += [*more, said] if added else more
+        more = [*more, said] if added else more
+        rows = [as_json(more, text, len(left))] if arguments.json else [*rows, *more]
     write_result("".join(f"{row}\n" for row in rows), None)
     if arguments.write:
         if not added:

@@ -5,19 +5,28 @@ what is said here; the views by the names of layers or blocks, else by their pla
 angle), a right or a left side view beside it, or both, a rear view behind one of them, and a bottom view across from TOP. With a left
 side view and no right one all views are mirrored, which a comment in the drawing says, and the commands here turn the solids back.
 
+Circles and arcs are squared off: each circle becomes its bounding square, each quarter round its sharp corner, in the same linetype, which
+comments in the drawing say (`given.py`); what that promises says `rounds.py`. Lines that may be tangent edges are left out by readings.
+
 Each thing that is changed or left out is one line on standard error, and what can't be read without a guess is refused.
 """
 import argparse
+import itertools
 from collections import Counter
-from collections.abc import Callable, Mapping, Sequence
+from collections.abc import Callable, Iterator, Mapping, Sequence
 from fractions import Fraction
-from typing import NamedTuple
+from typing import NamedTuple, Union
 
+from . import files, pairs, scale
+from .cutting import Mark, marks_of, without_marks
 from .dimensions import without_dimensions
-from .drawing import Origin, Stroke, places_of, written
+from .drawing import Origin, Place, Stroke, places_of, written
 from .messages import Refused, many, say, write_result
-from .placing import Group, Hints, Placed, by_names, by_places, extents_of, meet, named_views
-from .reading import Arrow, Edge, Sheet, Source, Unread, line_of_file, read_sheet
+from .groups import Group, meet
+from .paper import Paper
+from .placing import Hints, Placed, by_names, extents_of, named_views, numbers_of, view_named
+from .reading import Box, Edge, Sheet, Source, Unread, line_of_file, read_sheet
+from .sections import sections_of
 from .straight import Measure, Run, apart, hidden_by, measure_of, runs_of
 from .styles import Style, choice_of
 
@@ -34,11 +43,18 @@ Tell = Callable[[str], None]
 
 
 class Drawn(NamedTuple):
-    """A drawing of three layers, made of a sheet: its text, how many decimals it has, and how it stands for the sheet."""
+    """A drawing of three layers, made of a sheet: its text, how many decimals it has, how it stands for the sheet, and the way back. Of a
+    sheet with rounds also what is told of this reading of it, the drawings of the further ones, or why one has none; and why it is refused
+    unless some solid of a reading that changes more than to leave lines out, and isn't plain, is kept."""
 
     text: str
     decimals: int
     origin: Origin
+    paper: Paper | None = None
+    notes: Sequence[str] = ()
+    others: Iterator[Union["Drawn", Refused]] = iter(())
+    refused: Refused | None = None
+    is_plain: bool = True
 
 
 def add_options(parser: argparse.ArgumentParser) -> None:
@@ -53,13 +69,27 @@ def add_options(parser: argparse.ArgumentParser) -> None:
     group.add_argument("--angle", choices=["third", "first"], help="how the views are placed (else as TOP stands)")
     group.add_argument("--tolerance", type=float, default=TOLERANCE, help=f"what is noise, in the sheet's unit (else {TOLERANCE:g})")
     group.add_argument("--sheet-decimals", type=int, choices=range(7), metavar="D", help="how many decimals lengths have (else found)")
-    group.add_argument("--scale", default="1:1", metavar="A:B", help="drawn to real lengths: 1:2 is half as large as the part")
+    group.add_argument("--reading", type=int, metavar="N", help="of a sheet whose lines may be tangent edges the N-th reading alone")
+    group.add_argument("--scale", metavar="A:B", help="drawn to real lengths: 1:2 is half as large as the part (else 1:1)")
+    group.add_argument("--as-drawn", action="store_true", help="lengths are as drawn, at this scale, whatever dimensions say")
+    group.add_argument("--pairs", action="store_true", help="NAME.visible.dxf is NAME.dxf without hidden lines, as --visible-only")
+
+
+def words_of(arguments: argparse.Namespace) -> list[str]:
+    """The options of sheets as they were given, for another command."""
+    words = [f"--{name.replace('_', '-')}={text}" for name in ("hidden", "visible", "leave_out") for text in getattr(arguments, name)]
+    for name in ("visible_only", "angle", "sheet_decimals", "reading", "scale"):
+        if getattr(arguments, name) is not None:
+            words.append(f"--{name.replace('_', '-')}={getattr(arguments, name)}")
+    words += [f"--tolerance={arguments.tolerance!r}"] if arguments.tolerance != TOLERANCE else []
+    return words + [f"--{name.replace('_', '-')}" for name in ("all_visible", "as_drawn", "pairs") if getattr(arguments, name)]
 
 
 def add_arguments(parser: argparse.ArgumentParser) -> None:
-    parser.add_argument("sheet", metavar="IN.dxf")
+    parser.add_argument("sheet", metavar="IN.dxf", nargs="?", help="the sheet; - for standard input")
     parser.add_argument("-o", "--output", metavar="OUT.dxf", help="the file to write, else standard output")
     add_options(parser)
+    files.add_options(parser)
 
 
 def scale_of(text: str) -> Fraction:
@@ -76,24 +106,33 @@ def scale_of(text: str) -> Fraction:
 
 # ---- the edges
 
-def edges_of(path: str, arguments: argparse.Namespace, tell: Tell) -> tuple[Sheet, list[Edge]]:
-    """What was read of a sheet, and its straight edges."""
+def edges_of(path: str | None, arguments: argparse.Namespace, tell: Tell) -> tuple[Sheet, list[Mark]]:
+    """What was read of a sheet, or of a file for each view, without annotations; and the ends of its cutting-plane lines."""
     styles = (("hidden", Style.HIDDEN), ("visible", Style.VISIBLE), ("leave_out", Style.APART))
     choices = [choice_of(text, style) for name, style in styles for text in getattr(arguments, name) if not text.startswith("group=")]
-    sheet = read_sheet(path, choices)
-    tell_counted(tell, "changed", sheet.changed)
-    tell_counted(tell, "left out", sheet.left)
-    tell(f"found: lengths in {sheet.unit}" if sheet.unit else "found: no unit of length is told")
-    for scale in sorted(sheet.scales - {"1:1"}):
-        tell(f"found: a text says {scale}; lengths are taken {'as drawn' if arguments.scale == '1:1' else 'by ' + arguments.scale}")
-    edges = sheet.edges
-    if len(edges) > MOST_EDGES:
-        raise Refused(f"{len(edges):,} lines, more than {MOST_EDGES:,}")
-    if arguments.visible_only:
-        seen = read_sheet(arguments.visible_only, choices).edges
-        edges = hidden_by(edges, seen, arguments.tolerance)
-        tell(f"changed: {many(sum(edge.hidden for edge in edges), 'line')} taken as hidden, since {arguments.visible_only} lacks them")
-    return sheet, edges
+    named = files.files_of(arguments, path)
+    sheets = list(files.read_views(named, choices).values()) if named else [read_sheet(str(path), choices)]
+    whole = files.together(sheets)
+    tell_counted(tell, "changed", whole.changed)
+    tell_counted(tell, "left out", whole.left)
+    tell(f"found: lengths in {whole.unit}" if whole.unit else "found: no unit of length is told")
+    if len(whole.edges) > MOST_EDGES:
+        raise Refused(f"{len(whole.edges):,} lines, more than {MOST_EDGES:,}")
+    if visible := files.visible_only(arguments, path):
+        sheets[0].whole, sheets[0].seen = sheets[0].edges, read_sheet(visible, choices)
+        sheets[0].edges = hidden_within(sheets[0].edges, sheets[0].seen.edges, arguments.tolerance)
+        tell(f"changed: {many(sum(edge.hidden for edge in sheets[0].edges), 'line')} taken as hidden, since {visible} lacks them")
+    marks = [mark for sheet in sheets for mark in without_annotations(sheet, arguments.tolerance, tell)]
+    return files.together(sheets), marks
+
+
+def hidden_within(whole: Sequence[Edge], visible: Sequence[Edge], tolerance: float) -> list[Edge]:
+    """The edges of a sheet with those hidden that the one without hidden lines lacks, by the views that their layers name: views may touch."""
+    views: dict[str, tuple[list[Edge], list[Edge]]] = {}
+    for at, edges in enumerate((whole, visible)):
+        for edge in edges:
+            views.setdefault(view_named(edge.source), ([], []))[at].append(edge)
+    return [edge for its in views.values() for edge in hidden_by(*its, tolerance)]
 
 
 def tell_counted(tell: Tell, what: str, counts: Counter[str]) -> None:
@@ -101,71 +140,132 @@ def tell_counted(tell: Tell, what: str, counts: Counter[str]) -> None:
         tell(f"{what}: {count} {thing}")
 
 
-def straight_runs(edges: Mapping[str, list[Edge]], arrows: Sequence[Arrow], tolerance: float, tell: Tell) -> tuple[dict[str, list[Run]], list[Arrow]]:
-    """The runs of the edges under each name, without those of exploded dimensions, and the arrow heads of these."""
+def without_annotations(sheet: Sheet, tolerance: float, tell: Tell) -> list[Mark]:
+    """Takes the lines and arrow heads of exploded dimensions and of cutting-plane lines off a sheet; the ends of the latter."""
+    kept, heads = without_dimensions(sheet.edges, sheet.arrows, tolerance)
+    if len(kept) < len(sheet.edges):
+        tell(f"left out: {many(len(sheet.edges) - len(kept), 'line')} of exploded dimensions, with {many(len(heads), 'arrow head')}")
+    marks = marks_of(sheet, kept, heads, tolerance)
+    sheet.edges = without_marks(kept, marks, tolerance)
+    if marks:
+        letters = ", ".join(dict.fromkeys(f"{mark.letter}-{mark.letter}" for mark in marks))
+        tell(f"left out: {many(len(kept) - len(sheet.edges), 'line')} at the ends of the cutting-plane lines {letters}")
+    gone = {head.source for head in heads} | {mark.head.source for mark in marks}
+    sheet.unread = [it for it in sheet.unread if it.source not in gone]
+    return marks
+
+
+def straight_runs(edges: Mapping[str, list[Edge]], tolerance: float, tell: Tell) -> dict[str, list[Run]]:
+    """The runs of the edges under each name."""
     runs: dict[str, list[Run]] = {}
-    heads: list[Arrow] = []
-    pieces = short = lines = 0
+    pieces = short = 0
     for name, its in edges.items():
-        kept, used = without_dimensions(its, arrows, tolerance)
-        runs[name], joined, without = runs_of(kept, tolerance)
+        runs[name], joined, without = runs_of(its, tolerance)
         if len(runs[name]) > MOST_RUNS:
             raise Refused(f"{len(runs[name]):,} lines once pieces are joined, more than {MOST_RUNS:,}")
-        heads += used
-        pieces, short, lines = pieces + joined, short + without, lines + len(its) - len(kept)
+        pieces, short = pieces + joined, short + without
     if pieces:
         tell(f"changed: {many(pieces, 'piece')} joined with others in their line, or drawn there twice")
     if short:
         tell(f"left out: {many(short, 'line')} without length")
-    if lines:
-        tell(f"left out: {many(lines, 'line')} of exploded dimensions, with {many(len(heads), 'arrow head')}")
-    return runs, heads
+    return runs
 
 
-def placed_views(sheet: Sheet, edges: list[Edge], arguments: argparse.Namespace, tell: Tell) -> tuple[Placed, list[Unread]]:
-    """The views, and what can't be read of the sheet, without the heads of exploded dimensions."""
-    numbers = [text.removeprefix("group=") for text in arguments.leave_out if text.startswith("group=")]
-    if not all(number.isdigit() for number in numbers):
-        raise Refused("not group=NUMBER")
-    named = named_views(edges)
-    runs, heads = straight_runs(named or {"": edges}, sheet.arrows, arguments.tolerance, tell)
+def placed_views(sheet: Sheet, edges: Sequence[Edge], marks: Sequence[Mark], arguments: argparse.Namespace, tell: Tell) -> Placed:
+    """The views of the edges of a sheet, by their names or by their places."""
+    numbers = [numbers_of(text.removeprefix("group=")) for text in arguments.leave_out if text.startswith("group=")]
+    if not all(numbers):
+        raise Refused("not group=NUMBER, nor several as group=4,7-9")
+    named = named_views(edges, arguments.tolerance)
+    runs = straight_runs(named or {"": list(edges)}, arguments.tolerance, tell)
     others = runs.pop("", [])
     if not others and not any(runs.values()):
         raise Refused("no straight line in the model space that could be an edge")
+    told = sections_of(sheet, marks, arguments.tolerance)
+    hints = Hints(arguments.tolerance, arguments.angle, frozenset(itertools.chain(*numbers)), sheet.texts, told.among, curves_of(sheet))
     if named:
         if empty := [view for view, its in runs.items() if not its]:
             raise Refused(f"no straight line of {empty[0]} that could be an edge")
-        placed = by_names(runs, others, arguments.tolerance)
+        placed = by_names(runs, others, hints)
     else:
-        hints = Hints(arguments.tolerance, arguments.angle, frozenset(map(int, numbers)), sheet.texts)
-        placed = by_places(others, hints)
+        placed = pairs.by_places(others, hints)
     for text in placed.found:
         tell(f"found: {text}")
     for text in placed.left:
         tell(f"left out: {text}")
-    return placed, [it for it in sheet.unread if not any(it.source == head.source for head in heads)]
+    return placed
+
+
+def curves_of(sheet: Sheet) -> list[Unread]:
+    """What can't be read of a sheet and may be of a view."""
+    return [it for it in sheet.unread if it.box and it.source.kind not in ("SOLID", "TRACE")]
+
+
+def found_views(path: str | None, sheet: Sheet, edges: Sequence[Edge], marks: Sequence[Mark], arguments: argparse.Namespace, tell: Tell) -> Placed:
+    """The views; where there are none without lines of an unknown style, these are named."""
+    try:
+        return placed_views(sheet, edges, marks, arguments, tell)
+    except Refused:
+        if unstyled := next((it for it in sheet.unread if it.linetype), None):
+            raise Refused(f"a {where(unstyled.source, path)} {unstyled.why}, and without such lines the views aren't there: say --visible, "
+                          f"--hidden or --leave-out linetype={unstyled.linetype}") from None
+        raise
 
 
 # ---- what can't be read
 
-def where(source: Source, path: str) -> str:
-    return f"{source}{line_of_file(path, source.handle)}"
+def where(source: Source, path: str | None) -> str:
+    return f"{source}{line_of_file(source.file or str(path), source.handle)}"
 
 
-def refuse_unread(path: str, placed: Placed, unread: Sequence[Unread], arguments: argparse.Namespace, tell: Tell) -> None:
+def refuse_unread(path: str | None, placed: Placed, unread: Sequence[Unread], arguments: argparse.Namespace, tell: Tell) -> None:
     """Refuses what lies within a view and gives no edges; tells what lies beside the views."""
     left: Counter[str] = Counter()
     for it in unread:
-        views = [view for view, group in placed.views.items() if it.box and meet(group.box, it.box, -arguments.tolerance)]
+        if not it.box:
+            raise Refused(f"a {where(it.source, path)} {it.why}, and where it lies can't be told: draw it otherwise, or leave it out by "
+                          "--leave-out layer=, color= or linetype=")
+        # A line whose linetype tells no style may be a side of the view; other things may touch it from outside.
+        reach = arguments.tolerance if it.linetype else -arguments.tolerance
+        views = [view for view, group in placed.views.items() if it.source.view in ("", view) and meet(group.box, it.box, reach)]
         if views:
-            raise Refused(f"in {views[0]} a {where(it.source, path)} {it.why}: recon reads straight level and upright edges alone; what is "
-                          "no edge can be left out by --leave-out layer=, color= or linetype=, or told by --hidden and --visible")
-        place = "outside the views" if it.box else "whose place isn't known"
-        left[f"{it.source.kind} on layer {it.source.layer}, {place}, which {it.why}"] += 1
+            raise Refused(f"in {views[0]} a {where(it.source, path)} {it.why}{ways_out(path, it, placed.views[views[0]], placed, arguments)}")
+        left[f"{it.source.kind} on layer {it.source.layer}, outside the views, which {it.why}"] += 1
     tell_counted(tell, "left out", left)
 
 
-def refuse_oblique(path: str, placed: Placed) -> None:
+def ways_out(path: str | None, it: Unread, group: Group, placed: Placed, arguments: argparse.Namespace) -> str:
+    """What to do about what can't be read: of options only those that were tried and get further."""
+    if it.linetype:
+        return f": say --visible, --hidden or --leave-out linetype={it.linetype}"
+    text = ": recon reads straight level and upright edges alone, and curves of this kind aren't read"
+    if it.box and any(on_border(it.box, end, arguments.tolerance) for run in group.runs for end in (run.edge.start, run.edge.end)):
+        return f"{text}; lines of the view end at it"
+    of_views = {run.edge.source.layer.upper() for one in placed.views.values() for run in one.runs}
+    option = f"layer={it.source.layer}"
+    if it.source.layer.upper() in of_views or not gets_further(path, arguments, it.source, option):
+        return text
+    return f"{text}; where it is no edge of the part, leave it out by --leave-out {option}"
+
+
+def on_border(box: Box, place: Place, tolerance: float) -> bool:
+    """Whether a place lies on a box, at its sides."""
+    x, y = place
+    x0, y0, x1, y1 = box
+    inside = x0 - tolerance <= x <= x1 + tolerance and y0 - tolerance <= y <= y1 + tolerance
+    return inside and min(abs(x - x0), abs(x - x1), abs(y - y0), abs(y - y1)) <= tolerance
+
+
+def gets_further(path: str | None, arguments: argparse.Namespace, source: Source, option: str) -> bool:
+    """Whether a sheet is drawn, or refused for another entity, where something more is left out."""
+    try:
+        draw(path, argparse.Namespace(**{**vars(arguments), "leave_out": [*arguments.leave_out, option]}), lambda text: None)
+    except Refused as refusal:
+        return str(source) not in str(refusal)
+    return True
+
+
+def refuse_oblique(path: str | None, placed: Placed) -> None:
     for view, group in placed.views.items():
         run = next((run for run in group.runs if run.oblique), None)
         if run is not None:
@@ -178,7 +278,8 @@ def refuse_oblique(path: str, placed: Placed) -> None:
 def check_styles(placed: Placed, arguments: argparse.Namespace, tell: Tell) -> None:
     """Where no line is hidden, refuses what may tell hidden lines otherwise, by colours or by a second export."""
     runs = [run for group in placed.views.values() for run in group.runs]
-    if arguments.all_visible or arguments.visible_only or any(run.hidden for run in runs):
+    alone = getattr(arguments, "visible_edges_alone", False)
+    if alone or arguments.all_visible or arguments.visible_only or arguments.pairs or any(run.hidden for run in runs):
         return
     colours = sorted({run.edge.colour for run in runs})
     layers = sorted({run.edge.source.layer for run in runs})
@@ -188,7 +289,8 @@ def check_styles(placed: Placed, arguments: argparse.Namespace, tell: Tell) -> N
     if any(layer.startswith("ProjItem") for layer in layers):
         raise Refused("a page of FreeCAD's TechDraw, which tells no linetypes: export it a second time with hidden lines off and name that "
                       "by --visible-only, or say --all-visible")
-    tell(f"warning: no line is hidden, on the layers {', '.join(layers)}; where some are, say which by --hidden")
+    tell(f"warning: no line is hidden, on the layers {', '.join(layers)}; where some are, say which by --hidden; where they aren't drawn, "
+         "`draft solve --visible-edges-alone` lists some solids that have the visible ones")
 
 
 # ---- what is written
@@ -256,7 +358,18 @@ def stroke(run: Whole, right: int, up: int) -> Stroke:
     return hidden, (low + right, at + up), (high + right, at + up)
 
 
-def measured(placed: Placed, arguments: argparse.Namespace, tell: Tell) -> Measure:
+def scale_in_use(path: str | None, sheet: Sheet, placed: Placed, arguments: argparse.Namespace, tell: Tell) -> Fraction:
+    """The scale that is said, or that the sheet's dimensions and a text of it say."""
+    said = scale.Scale(scale_of(arguments.scale or "1:1"), arguments.scale is not None)
+    times = scale.checked(sheet, list(placed.views.values()), said, arguments, lambda source: where(source, path), tell)
+    for text in sorted(sheet.scales - {"1:1", scale.scale_told(times)}):
+        tell(f"found: a text says {text}; lengths are taken {'as drawn' if times == 1 else 'by ' + scale.scale_told(times)}")
+    if times != 1:
+        tell(f"changed: lengths multiplied by {times}, as the scale {scale.scale_told(times)} says")
+    return times
+
+
+def measured(placed: Placed, times: Fraction, arguments: argparse.Namespace, tell: Tell) -> Measure:
     """How the views' lengths become whole."""
     values: list[float] = []
     for view, group in placed.views.items():
@@ -266,41 +379,80 @@ def measured(placed: Placed, arguments: argparse.Namespace, tell: Tell) -> Measu
             along += [it for _, way, _, low, high in runs if way != upright for it in (low, high)]
             apart(set(along), arguments.tolerance, f"{view} {name}")
             values += along
-    measure = measure_of(values, scale_of(arguments.scale), arguments.sheet_decimals, arguments.tolerance)
-    scale = scale_of(arguments.scale)
+    measure = measure_of(values, times, arguments.sheet_decimals, arguments.tolerance)
     if measure.moved > 1e-12:
         tell(f"changed: coordinates moved by {measure.moved:.2g} at most, to {many(measure.decimals, 'decimal')}")
-    if scale != 1:
-        tell(f"changed: lengths multiplied by {scale}, as the scale {arguments.scale} says")
-    if measure.times != scale:
-        tell(f"changed: lengths multiplied by {measure.times / scale}, since they have no decimals, and are whole in parts of a unit")
+    if measure.times != times:
+        tell(f"changed: lengths multiplied by {measure.times / times}, since they have no decimals, and are whole in parts of a unit")
     return measure
 
 
-def draw(path: str, arguments: argparse.Namespace, tell: Tell) -> Drawn:
+def draw(path: str | None, arguments: argparse.Namespace, tell: Tell) -> Drawn:
     """The drawing of a sheet. What is changed, found and left out is told as it comes."""
+    drawn = draw_readings(path, arguments, tell)
+    if drawn.refused:
+        raise drawn.refused
+    return drawn
+
+
+def draw_readings(path: str | None, arguments: argparse.Namespace, tell: Tell) -> Drawn:
+    """The drawing of a sheet, as `draw`, with its further readings where it has rounds."""
     if not 0 < arguments.tolerance < 1e6:
         raise Refused(f"no tolerance: {arguments.tolerance}")
-    sheet, edges = edges_of(path, arguments, tell)
-    placed, unread = placed_views(sheet, edges, arguments, tell)
-    refuse_unread(path, placed, unread, arguments, tell)
+    sheet, marks = edges_of(path, arguments, tell)
+    if sheet.arcs:
+        from . import squared  # which draws by what stands here
+        return squared.first(path, sheet, marks, arguments, tell)
+    return draw_straight(path, sheet, marks, arguments, tell)
+
+
+def draw_straight(path: str | None, sheet: Sheet, marks: Sequence[Mark], arguments: argparse.Namespace, tell: Tell) -> Drawn:
+    """The drawing of a sheet without rounds."""
+    placed = checked_views(path, sheet, sheet.edges, marks, arguments, tell)
+    times = scale_in_use(path, sheet, placed, arguments, tell)
+    measure = measured(placed, times, arguments, tell)
+    return drawn_views(path, sheet, placed, times, measure, arguments, tell)
+
+
+def checked_views(path: str | None, sheet: Sheet, edges: Sequence[Edge], marks: Sequence[Mark], arguments: argparse.Namespace, tell: Tell) -> Placed:
+    """The views of a sheet; refused where something in them can't be read."""
+    placed = found_views(path, sheet, edges, marks, arguments, tell)
+    refuse_unread(path, placed, sheet.unread, arguments, tell)
     refuse_oblique(path, placed)
     check_styles(placed, arguments, tell)
-    measure = measured(placed, arguments, tell)
+    return placed
+
+
+def drawn_views(
+    path: str | None, sheet: Sheet, placed: Placed, times: Fraction, measure: Measure, arguments: argparse.Namespace, tell: Tell, comments: str = "",
+) -> Drawn:
+    """The drawing of the views at a scale, with some comments before it."""
     views, under = strokes_of(placed, measure)
     if under:
         tell(f"left out: {many(under, 'hidden stretch', 'hidden stretches')} under visible ones, or joined")
     if placed.mirrored:
         tell("changed: the side view is the left one, so all views are drawn in a mirror, x turned round")
     # Lengths by the scale are told as real ones: only what was needed to make them whole is told apart.
-    origin = Origin(sheet.unit, measure.times / scale_of(arguments.scale), placed.mirrored)
+    origin = Origin(sheet.unit, measure.times / times, placed.mirrored)
     lines = sum(map(len, views.values()))
     hidden = sum(one[0] for strokes in views.values() for one in strokes)
     tell(f"drawn: {many(lines, 'line')}, {hidden} of them hidden; recon reads it with --decimals {measure.decimals}")
-    return Drawn(written(views, measure.decimals, origin), measure.decimals, origin)
+    begins = {view: least_of(its) for view, its in views.items()}
+    units = 10**measure.decimals
+    paper = Paper(placed.views, begins, measure.times * units, origin.times * units, placed.mirrored, arguments.tolerance,
+                  lambda source: where(source, path))
+    return Drawn(comments + written(views, measure.decimals, origin), measure.decimals, origin, paper)
+
+
+def least_of(strokes: Sequence[Stroke]) -> tuple[int, int]:
+    """The least coordinates of strokes."""
+    ends = [end for _, *its in strokes for end in its]
+    return min(x for x, _ in ends), min(y for _, y in ends)
 
 
 def run(arguments: argparse.Namespace) -> int:
     drawn = draw(arguments.sheet, arguments, lambda text: say(f"draft sheet: {text}"))
+    for note in drawn.notes:
+        say(f"draft sheet: {note}")
     write_result(drawn.text, arguments.output)
     return 0

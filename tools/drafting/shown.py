@@ -1,13 +1,16 @@
 """What a page shows of a drawing and of its answer, as pieces of HTML: the words at the top, and the views."""
 import html
+from collections.abc import Mapping
 from fractions import Fraction
 from typing import NamedTuple
 
-from . import asking, faults
-from .answers import CUT
+from . import asking, faults, seen
+from .answering import Readings
+from .answers import CUT, have_views
 from .drawing import Line, Origin, Place
+from .given import Given
 from .messages import many
-from .svg import VIEWS, views_drawn
+from .svg import VIEWS, Curve, views_drawn
 
 # The most lines of an entity that are shown whole; else how many lines of the file are shown before and behind the one that a fault
 # names, and how much of each.
@@ -49,6 +52,11 @@ def excerpt(lines: list[str], named: int, whole: tuple[int, int] | None) -> str:
     return "<pre>" + "\n".join(shown) + "</pre>"
 
 
+def verdict(kind: str, word: str, text: str, more: str = "") -> str:
+    """What the user came for, large: in a word, and in a sentence. What is to be done is told in the page's last line of it."""
+    return f'<div class="verdict {kind}"><p class="word">{word}</p><p class="count">{text}</p><p class="then">{more}</p></div>'
+
+
 def fault_told(head: str, lines: list[str]) -> str:
     """What is wrong, what it is about and what to change; of a linetype without a meaning the whole entity."""
     named = faults.line_named(head)
@@ -56,9 +64,11 @@ def fault_told(head: str, lines: list[str]) -> str:
     whole = (entity.first, entity.last) if entity and faults.name_of(head) == "Linetype" else None
     wrong, *about = faults.told(head, lines)
     wrong = wrong.removesuffix(f" ({head})")
-    text = f"<strong>{html.escape(wrong[0].upper() + wrong[1:])}.</strong><br><code>{html.escape(head)}</code>"
-    text += "".join(paragraph(html.escape(words[0].upper() + words[1:]) + ".", "about") for words in about)
-    return f'<div class="notice fault">{text}{excerpt(lines, named, whole) if named else ""}</div>'
+    text = "".join(paragraph(html.escape(words[0].upper() + words[1:]) + ".", "about") for words in about)
+    text += excerpt(lines, named, whole) if named else ""
+    at = f"Line {named:,} of the file: " if named else ""
+    return verdict("fault", "Fault", html.escape(wrong[0].upper() + wrong[1:]) + ".") + (
+        f'<div class="notice fault"><strong>{at}<code>{html.escape(head)}</code></strong>{text}</div>')
 
 
 def refused_told(text: str) -> str:
@@ -66,32 +76,42 @@ def refused_told(text: str) -> str:
     first, *more = text.split("\n")
     first = html.escape(first.rstrip("."))
     told = "".join(paragraph(html.escape(line.strip()), "about") for line in more)
-    return f'<div class="notice fault"><strong>Not taken: {first}.</strong>{told}</div>'
+    return verdict("fault", "Not taken", f"{first}.") + (f'<div class="notice fault">{told}</div>' if told else "")
 
 
 def cut_told(what: str, limit: int, count: int) -> str:
     """That the search was cut."""
     found = f"than the {count:,} that are listed" if count else "though none is listed"
     more = "there are more solids" if what == "solids" else "there may be more solids"
+    known = f"Known: at least {many(count, 'solid')}." if count else "Known: nothing yet."
     text = f"The search was cut at its limit of {limit:,} {what}: {more} {found}."
-    return f'<div class="notice cut"><strong>{text}</strong></div>'
+    return verdict("undecided", "Not decided", text, f"{known} More may be found with a higher limit.")
 
 
-def head_told(head: str, count: int) -> str:
-    """How a search ended, with so many solids."""
+def head_told(head: str, count: int, missing: str = "", rounds: Readings | None = None) -> str:
+    """How a search ended, with so many solids, and which main view isn't drawn; its own figures stand below, small. Of a sheet with rounds
+    those solids count that are kept."""
+    made = " made of boxes and these rounds, each standing free,"
     cut = CUT.fullmatch(head)
     if cut:
         words = cut_told(cut[1], int(cut[2]), count)
+    elif count > 1:
+        ambiguous = f"{count:,} solids{made} have these views{rounds.where}" if rounds else have_views(count, missing)
+        words = verdict("ambiguous", "Ambiguous", f"{ambiguous}.")
+    elif count:
+        unique = f"One solid{made} has these views{rounds.where}" if rounds else have_views(1, missing)
+        words = verdict("unique", "Unique", f"{unique}.")
+    elif rounds:
+        words = verdict("undecided", "Not decided", f"No solid is found that is{made.rstrip(',')} and has these views.")
     else:
-        found = {0: "No solid has", 1: "One solid has"}.get(count, f"{count:,} solids have")
-        words = paragraph(f"{found} these views.", "count")
-    return words + paragraph(f"<code>{html.escape(head)}</code>", "muted")
+        words = verdict("impossible", "Impossible", f"{have_views(0, missing)}.")
+    return words + paragraph(f"The program's own words: <code>{html.escape(head)}</code>", "muted figures")
 
 
 def stopped_told(count: int, why: str) -> str:
     """That a search was stopped, by hand or for a reason."""
     text = f"The search was stopped{why and ', since ' + html.escape(why)}: {many(count, 'solid')} found, and there may be more."
-    return f'<div class="notice cut"><strong>{text}</strong></div>'
+    return verdict("undecided", "Not decided", text)
 
 
 # ---- the views
@@ -107,7 +127,7 @@ def sizes_told(views: dict[str, list[Line]], units: Units) -> str:
     return html.escape("; ".join(rows))
 
 
-def views_told(views: dict[str, list[Line]], units: Units, marked: int | None = None) -> str:
+def views_told(views: dict[str, list[Line]], units: Units, marked: int | None = None, curves: Mapping[str, list[Curve]] = {}) -> str:
     """The views as a picture, in which each line tells its place and length."""
     def measured(view: str, kind: str, low: Place, high: Place) -> str:
         ends = [", ".join(units.told(round(at * 10**units.decimals)) for at in end) for end in (low, high)]
@@ -115,15 +135,17 @@ def views_told(views: dict[str, list[Line]], units: Units, marked: int | None = 
         return f"{view}, {ends[0]} to {ends[1]}: {length} long, {kind}"
 
     size = VIEWS + 2 * MARGIN
-    parts = "".join(views_drawn(views, MARGIN, MARGIN, marked, measured))
+    parts = "".join(views_drawn(views, MARGIN, MARGIN, marked, measured, curves))
     return f'<svg viewBox="0 0 {size} {size}" role="img" aria-label="The views">{parts}</svg>'
 
 
-def drawing_told(views: dict[str, list[Line]], units: Units, head: str = "") -> str:
-    """The views with what is to be said of them; where the answer's first line is a fault, with the line that it names."""
+def drawing_told(views: dict[str, list[Line]], units: Units, head: str = "", given: Given | None = None) -> str:
+    """The views with what is to be said of them; where the answer's first line is a fault, with the line that it names; and with their
+    rounds, where these were squared off."""
     if not any(views.values()):
         return paragraph("No line of a view can be read.")
-    picture = views_told(views, units, faults.line_named(head))
+    lines, curves = seen.views_of(given) if given else (views, {})
+    picture = views_told(lines, units, faults.line_named(head), curves)
     note = paragraph(sizes_told(views, units), "muted sizes-told") + paragraph("Point at a line to see its length.", "muted measured")
     if 'class="marked"' in picture:
         note += paragraph("In red, the line of the drawing that the fault names.", "muted")

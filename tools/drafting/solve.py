@@ -1,35 +1,44 @@
 """Says how many solids have the views of a drawing, in words: a drawing of three layers as recon reads it, or any sheet that `draft
 sheet` can draw for it. Standard output says how many there are and of each its size and volume in the drawing's unit; --answer saves
-what recon wrote, where the list is whole. Standard error says what was changed, left out or not read. The status is recon's: 0 where the list is whole, 1 at a
-fault, 3 and 4 where a limit cut it.
+what recon wrote, where the list is whole. Standard error says what was changed, left out or not read. The status is recon's: 0 where the list
+is whole, 1 at a fault, 3 and 4 where a limit cut it; 12 where it is whole and has another number of solids than --expect says; and 13
+where --visible-edges-alone lists some by clingo, of which nothing is proved.
+
+Of a sheet with circles and arcs it says which solids made of boxes and these rounds have the views: how, `draft sheet --help` names.
 """
 import argparse
 
-from . import asking, faults, program
-from .answers import CUT, FAULT, sizes_of
+from . import asking, faults, files, program, visible
+from .answering import Answered, Readings
+from .answers import CUT, FAULT, answer_of, have_views, sizes_of
 from .messages import many, say, write_result
 
 NAME = "solve"
 HELP = "say how many solids have the views of a drawing or a sheet"
 
 LISTED = 20
+# The status of another number of solids than was expected; it is none of recon's.
+UNEXPECTED = 12
 
 
 def add_arguments(parser: argparse.ArgumentParser) -> None:
-    parser.add_argument("drawing", metavar="IN.dxf")
+    parser.add_argument("drawing", metavar="IN.dxf", nargs="?", help="the drawing or sheet; - for standard input")
     parser.add_argument("--answer", metavar="OUT.txt", help="a file for what recon writes of the drawing")
     parser.add_argument("--list", type=int, default=LISTED, metavar="N", help=f"how many solids are told one by one (else {LISTED})")
+    parser.add_argument("--expect", type=int, metavar="N", help=f"end with status {UNEXPECTED} where there are more or fewer solids than N")
+    visible.add_arguments(parser)
     asking.add_arguments(parser)
+    files.add_options(parser)
 
 
 def count_told(asked: asking.Asked, head: str, listed: int) -> list[str]:
     """How many solids there are; and where the search was cut, by which limit and what to do."""
     cut = CUT.fullmatch(head)
     if not cut:
-        return [{0: "No solid has these views", 1: "One solid has these views"}.get(listed, f"{listed:,} solids have these views")
-                + ": the search was whole."]
+        return [f"{have_views(listed, asked.missing)}{'; ' if asked.missing else ': '}the search was whole."]
     are = "there are more" if cut[1] == "solids" else "there may be more"
-    return [f"{many(listed, 'solid')} found, and {are}: the search was cut at its limit of {int(cut[2]):,} {cut[1]}; "
+    two = "Two views: " if asked.missing else ""
+    return [f"{two}{many(listed, 'solid')} found, and {are}: the search was cut at its limit of {int(cut[2]):,} {cut[1]}; "
             f"{asking.way_out(cut)}."]
 
 
@@ -44,7 +53,43 @@ def told(asked: asking.Asked, listed: int) -> list[str]:
     return rows
 
 
+# What is promised of a sheet with rounds.
+MADE = "made of boxes and these rounds, each standing free,"
+
+
+def count_rounded(asked: asking.Asked, rounds: Readings, first: Answered) -> list[str]:
+    """How many solids there are of a sheet with rounds."""
+    count = len(asked.kept)
+    if not first.is_whole:
+        head = first.run.text.partition("\n")[0]
+        return count_told(asked, head, count)
+    if not count:
+        return [f"No solid is found that is {MADE.rstrip(',')}, and has these views."]
+    many_told = "One solid" if count == 1 else f"{count:,} solids"
+    return [f"{many_told} {MADE} {'has' if count == 1 else 'have'} these views{rounds.where}: the search was whole."]
+
+
+def rounded_told(asked: asking.Asked, rounds: Readings, listed: int) -> list[str]:
+    """What is told of a sheet with rounds."""
+    first = next(iter(rounds.kept), rounds.first)
+    if first is None:
+        return ["No solid is found: recon takes none of the drawings with the rounds squared off."]
+    rows = count_rounded(asked, rounds, first)
+    for number, one in enumerate(asked.kept[:listed], 1):
+        sizes = " by ".join(asked.length(size) for size in sizes_of(one.solid))
+        rows.append(f"solid {number}: {sizes}, volume {asked.rounded_volume(one)}" + (f"; but {one.doubt}" if one.doubt else ""))
+    if len(asked.kept) > listed:
+        rows.append(f".. and {len(asked.kept) - listed:,} more")
+    rows += first.outcome.told() + rounds.told()
+    if first.given.doubts:
+        more = f" (and {len(first.given.doubts) - 1} more)" if len(first.given.doubts) > 1 else ""
+        rows.append(f"Other solids may be missed: {first.given.doubts[0]}{more}.")
+    return rows
+
+
 def run(arguments: argparse.Namespace) -> int:
+    if arguments.visible_edges_alone:
+        return visible.run(arguments)
     asked = asking.ask(arguments.drawing, arguments, lambda text: say(f"draft solve: {text}"))
     head = asked.run.text.partition("\n")[0]
     if FAULT.fullmatch(head):
@@ -57,5 +102,14 @@ def run(arguments: argparse.Namespace) -> int:
         say(f"draft solve: {arguments.answer} isn't written, since the list isn't whole")
     if asked.origin.mirrored and arguments.answer:
         say(f"draft solve: {arguments.answer} has the solids in a mirror, x turned round, as recon read them")
-    write_result("".join(f"{row}\n" for row in told(asked, max(0, arguments.list))), None)
+    listed = max(0, arguments.list)
+    rows = rounded_told(asked, asked.rounds, listed) if asked.rounds else told(asked, listed)
+    write_result("".join(f"{row}\n" for row in rows), None)
+    count = len(asked.kept) if asked.rounds else answer_of(asked.run.text, 0).listed
+    if asked.missing and count > 1:
+        say(f"draft solve: warning: the two views are ambiguous: {asked.missing} isn't drawn, and one solid alone is the part; `draft settle` says "
+            f"what {asked.missing} would show of each, and with --meant K completes the drawing")
+    if asked.run.status == program.WHOLE and arguments.expect not in (None, count):
+        say(f"draft solve: not as expected: {many(count, 'solid')}, and {arguments.expect} by --expect")
+        return UNEXPECTED
     return asked.run.status

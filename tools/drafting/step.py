@@ -1,18 +1,22 @@
 """Makes each solid that recon lists for a drawing or a sheet from its faces, and saves it in the drawing's unit: of SHAPE.step the
 first as SHAPE_1.step, the second as SHAPE_2.step, and so on; as BREP where the name ends in .brep. It writes for each solid the file,
 the volume, and how many parts and voids it has. Nothing is saved, and the status is 1, where the drawing has a fault or some solid
-isn't closed or hasn't the volume that is told.
+isn't closed or hasn't the volume that is told. Of a sheet with rounds those solids are saved that are kept once they are rounded back.
 
 Parts that touch along an edge or at a corner alone are kept apart, each closed, which triangles can't tell.
 """
 import argparse
 import pathlib
 from fractions import Fraction
+from typing import Any, NamedTuple
 
 from . import asking, faults, program
-from .answers import FAULT, Answer, answer_of, text_of, turned_back
-from .drawing import lines_of, origin_of
+from .answers import FAULT, Answer, Solid, answer_of, text_of, turned_back
+from .drawing import lines_of, origin_of, views_of
+from .given import given_in
 from .messages import Refused, many, say, write_result
+from .panels import Sheet, sheet_of
+from .settle import of_first_reading, settled_by
 
 NAME = "step"
 HELP = "save the solids of a drawing or a sheet as STEP or BREP files, by FreeCAD"
@@ -26,46 +30,109 @@ def add_arguments(parser: argparse.ArgumentParser) -> None:
     asking.add_arguments(parser)
 
 
-def answered(arguments: argparse.Namespace) -> tuple[Answer, Fraction]:
-    """The answer, and how many of its units one of the drawing's has."""
-    if arguments.answer:
-        lines = lines_of(arguments.drawing)
-        answer, origin = answer_of(text_of(arguments.answer)), origin_of(lines)
-        answer = turned_back(answer) if origin.mirrored else answer
-        per_unit, status = origin.times * 10**answer.decimals, 0
-    else:
-        asked = asking.ask(arguments.drawing, arguments, lambda text: say(f"draft step: {text}"))
-        lines, per_unit, status = asked.lines, asked.per_unit(), asked.run.status
-        answer = asked.answer()
+class Shape(NamedTuple):
+    """A solid as it is saved: its shape, in the drawing's unit, and its volume, as it is told."""
+
+    shape: Any
+    volume: str
+
+
+def warn_ambiguous(count: int, answer: Answer, sheet: Sheet) -> None:
+    """Of several solids it is told that one alone is the part, and what would settle the drawing, where that tells these apart."""
+    if count > 1:
+        told_apart = len({it.choice for it in answer.solids}) == count
+        way = settled_by(answer, sheet) if told_apart else "with its rounds squared off it doesn't tell them apart"
+        say(f"draft step: warning: the drawing is ambiguous: {many(count, 'solid')} have its views, and one alone is the part; {way}"
+            + (" (draft settle --meant K says how)" if told_apart else ""))
+
+
+def given_shapes(arguments: argparse.Namespace) -> tuple[str, dict[int, Solid], Fraction]:
+    """The first line of an answer that is given, its solids, and how many of its units one of the drawing's has."""
+    lines = lines_of(arguments.drawing)
+    answer, origin = answer_of(text_of(arguments.answer)), origin_of(lines)
+    answer = turned_back(answer) if origin.mirrored else answer
     if FAULT.fullmatch(answer.head):
         raise Refused("; ".join(faults.told(answer.head, lines)))
-    if status != program.WHOLE:
-        raise Refused(f"the search was cut, {answer.head}: raise the limit, or have a cut answer saved by --answer")
-    return answer, per_unit
+    if given_in(lines):
+        raise Refused("the drawing has its rounds squared off: they are rounded back where the answer isn't given")
+    warn_ambiguous(len(answer.solids), answer, sheet_of(views_of(lines), answer.decimals))
+    return answer.head, dict(enumerate(answer.solids, 1)), origin.times * 10**answer.decimals
+
+
+def asked_of(arguments: argparse.Namespace) -> asking.Asked:
+    """What the program says; refused where that is no whole list."""
+    asked = asking.ask(arguments.drawing, arguments, lambda text: say(f"draft step: {text}"))
+    head = asked.run.text.partition("\n")[0]
+    if FAULT.fullmatch(head):
+        raise Refused("; ".join(faults.told(head, asked.lines)))
+    if asked.run.status != program.WHOLE:
+        raise Refused(f"the search was cut, {head}: raise the limit, or have a cut answer saved by --answer")
+    return asked
+
+
+def rounded_shapes(asked: asking.Asked) -> dict[int, Shape]:
+    """The shapes of a sheet with rounds."""
+    from .bodies import turned_round
+    assert asked.rounds
+    first = next(iter(asked.rounds.kept), asked.rounds.first)
+    if not asked.kept:
+        raise Refused("; ".join(["no solid is kept once its rounds are rounded back", *(first.outcome.told() if first else [])]))
+    for text in (*(first.outcome.told() if first else []), *asked.rounds.told(), *(f"warning: {it}" for it in (first.given.doubts if first else []))):
+        say(f"draft step: {text}")
+    answer = asked.answer()._replace(solids=of_first_reading(asked))
+    warn_ambiguous(len(asked.kept), turned_back(answer) if asked.origin.mirrored else answer, asked.sheet())
+    shapes = {}
+    for number, one in enumerate(asked.kept, 1):
+        shape = turned_round(one.shape) if asked.origin.mirrored else one.shape
+        shapes[number] = Shape(shape.scale(float(1 / asked.origin.times)), asked.rounded_volume(one).removesuffix(asked.cubic()).strip())
+    return shapes
+
+
+def plain_shapes(solids: dict[int, Solid], per_unit: Fraction, only: int | None) -> dict[int, Shape]:
+    """The shapes of solids without rounds."""
+    from .cad import Part
+    from .solids import shape_of
+    shapes = {}
+    for number in [only] if only in solids else solids:
+        try:
+            shape = shape_of(solids[number])
+        except (Refused, Part.OCCError) as refusal:
+            raise Refused(f"solid {number}: {refusal}") from None
+        volume = asking.measure(solids[number].volume / per_unit**3, "").replace(",", "")
+        shapes[number] = Shape(shape.scale(float(1 / per_unit)) if per_unit != 1 else shape, volume)
+    return shapes
+
+
+def shapes_of(arguments: argparse.Namespace) -> tuple[str, dict[int, Shape], int]:
+    """The first line of the answer, the shapes that are saved, and how many solids there are."""
+    if arguments.answer:
+        head, solids, per_unit = given_shapes(arguments)
+        return head, plain_shapes(solids, per_unit, arguments.only), len(solids)
+    asked = asked_of(arguments)
+    head = asked.run.text.partition("\n")[0]
+    if asked.rounds:
+        shapes = rounded_shapes(asked)
+        return f"{many(len(shapes), 'solid')} of boxes and rounds", shapes, len(shapes)
+    answer = asked.answer()
+    warn_ambiguous(len(answer.solids), answer, asked.sheet())
+    solids = dict(enumerate(answer.solids, 1))
+    return head, plain_shapes(solids, asked.per_unit(), arguments.only), len(solids)
 
 
 def run(arguments: argparse.Namespace) -> int:
-    from .cad import Part, is_shape_file, save
-    from .solids import shape_of
+    from .cad import is_shape_file, save
     if not is_shape_file(arguments.shape):
         raise Refused(f"{arguments.shape} ends neither in .step nor in .brep")
-    answer, per_unit = answered(arguments)
-    solids = dict(enumerate(answer.solids, 1))
-    if arguments.only is not None and arguments.only not in solids:
-        raise Refused(f"there is no solid {arguments.only}: {many(len(solids), 'solid')} of this drawing")
-    shapes = {}
-    for number in [arguments.only] if arguments.only else solids:
-        try:
-            shapes[number] = shape_of(solids[number])
-        except (Refused, Part.OCCError) as refusal:
-            raise Refused(f"solid {number}: {refusal}") from None
-    rows = [answer.head]
+    head, shapes, count = shapes_of(arguments)
+    if arguments.only is not None and arguments.only not in shapes:
+        raise Refused(f"there is no solid {arguments.only}: {many(count, 'solid')} of this drawing")
+    rows = [head]
     path = pathlib.Path(arguments.shape)
-    for number, shape in shapes.items():
-        file = str(path.with_name(f"{path.stem}_{number}{path.suffix}"))
-        save(shape.scale(float(1 / per_unit)) if per_unit != 1 else shape, file)
-        volume = asking.measure(solids[number].volume / per_unit**3, "").replace(",", "")
-        parts = len(shape.Solids)
-        rows.append(f"{file} volume {volume} parts {parts} voids {len(shape.Shells) - parts}")
+    for number, one in shapes.items():
+        if arguments.only in (None, number):
+            file = str(path.with_name(f"{path.stem}_{number}{path.suffix}"))
+            save(one.shape, file)
+            parts = len(one.shape.Solids)
+            rows.append(f"{file} volume {one.volume} parts {parts} voids {len(one.shape.Shells) - parts}")
     write_result("".join(f"{row}\n" for row in rows), None)
     return 0

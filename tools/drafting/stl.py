@@ -4,11 +4,13 @@ Where two parts of a solid touch along an edge alone four triangles meet at that
 join two and two: this is told, and `draft step` writes each part with a closed shell of its own.
 """
 import argparse
+import math
 import re
 from fractions import Fraction
 
-from . import asking, clean, program
-from .drawing import further_in, lines_within, strokes_in, written
+from . import asking, clean, kept, program
+from .drawing import VIEWS, further_in, lines_within, strokes_in, written
+from .given import given_in
 from .messages import Refused, many, say, write_result
 from .triangles import edges_of, triangles_of
 
@@ -43,25 +45,55 @@ def turned_round(text: str) -> str:
     return re.sub(r"^(vertex .*\n)(vertex .*\n)(vertex .*\n)", r"\1\3\2", text, flags=re.M)
 
 
-def choices_of(data: bytes, arguments: argparse.Namespace, *words: object) -> list[str]:
-    """The choices of the solids that recon lists."""
-    listed = program.run(program.find(arguments.program), ["solve", *words, *asking.words_of(arguments)], data, arguments.seconds)
+def choices_of(data: bytes, arguments: argparse.Namespace, decimals: int = 0) -> list[str]:
+    """The choices of the solids that recon lists of a drawing with so many decimals."""
+    words = ["solve", *asking.views_words(lines_within(data)), *asking.decimals_words(("solve",), decimals), *asking.words_of(arguments)]
+    listed = program.run(program.find(arguments.program), words, data, arguments.seconds)
     return re.findall(r"^solid \d+ choice ([01]+) ", listed.text, re.M)
 
 
 def number_among_all(asked: asking.Asked, whole: bytes, arguments: argparse.Namespace) -> int:
-    """The number of the solid among all that have the three main views, by which recon's `stl` goes."""
+    """The number of the solid among all that have the main views, by which recon's `stl` goes."""
     if not further_in(asked.lines):
         return int(arguments.solid)
-    fitting = choices_of(asked.data, arguments, *asking.decimals_words(("solve",), asked.decimals))
+    fitting = choices_of(asked.data, arguments, asked.decimals)
     return choices_of(whole, arguments).index(fitting[arguments.solid - 1]) + 1
+
+
+# The fewest sides of a circle.
+SIDES = 48
+
+
+def of_rounds(asked: asking.Asked, number: int) -> str:
+    """The triangles of a solid with rounds: each circle as a prism of so many sides at least, by the least one's chord height."""
+    from .bodies import turned_round as in_a_mirror
+    if not 1 <= number <= len(asked.kept):
+        raise Refused(f"there is no solid {number}: {many(len(asked.kept), 'solid')} of this sheet are kept")
+    one, given = asked.kept[number - 1], given_in(asked.lines)
+    if one.shape is None or given is None:
+        raise Refused(kept.LACKING)
+    shape = in_a_mirror(one.shape) if asked.origin.mirrored else one.shape
+    times, least = float(asked.origin.times), min(it.radius for it in given.rounds)
+    points, triangles = shape.scale(1 / times).tessellate(least / times * (1 - math.cos(math.pi / SIDES)))
+    rows = ["solid rounded"]
+    for corners in ([points[at] for at in triangle] for triangle in triangles):
+        normal = (corners[1] - corners[0]).cross(corners[2] - corners[0])
+        if normal.Length > 0:
+            rows += ["facet normal {:.9g} {:.9g} {:.9g}".format(*normal.normalize()), "outer loop"]
+            rows += ["vertex {:.9g} {:.9g} {:.9g}".format(*corner) for corner in corners] + ["endloop", "endfacet"]
+    say(f"draft stl: circles have {SIDES} sides at least: the triangles enclose less than a boss, and leave more of a hole")
+    return "\n".join([*rows, "endsolid rounded"]) + "\n"
 
 
 def run(arguments: argparse.Namespace) -> int:
     asked = clean.redrawn(arguments, lambda text: say(f"draft stl: {text}"))
-    # recon writes triangles of drawings without decimals: so it is given the same drawing in whole units.
-    whole = written(strokes_in(lines_within(asked.run.text.encode()), asked.decimals), 0).encode()
-    words = ["stl", number_among_all(asked, whole, arguments), *asking.words_of(arguments)]
+    if asked.rounds:
+        write_result(of_rounds(asked, arguments.solid), arguments.output)
+        return 0
+    # recon writes triangles of drawings without decimals, by their main views: so it is given the same drawing in whole units.
+    strokes = strokes_in(asked.lines, asked.decimals)
+    whole = written({view: strokes[view] for view in VIEWS if strokes[view]}, 0).encode()
+    words = ["stl", number_among_all(asked, whole, arguments), *asking.views_words(asked.lines), *asking.words_of(arguments)]
     made = program.run(program.find(arguments.program), words, whole, arguments.seconds)
     if made.status != program.WHOLE:
         raise Refused(f"recon writes no triangles of its own drawing: {made.text[:80].strip()}")

@@ -2,7 +2,7 @@
 import functools
 import html
 import itertools
-from collections.abc import Callable, Iterable, Iterator
+from collections.abc import Callable, Iterable, Iterator, Mapping
 
 from .drawing import VIEWS as MAIN
 from .drawing import Line, Place
@@ -13,6 +13,8 @@ VIEWS, GAP = 290, 36
 PLACES = {"TOP": (0, -1), "FRONT": (0, 0), "SIDE": (1, 0), "LEFT": (-1, 0), "REAR": (2, 0), "BOTTOM": (0, 1)}
 
 Stroke = tuple[bool, Place, Place]
+# A round of a view: whether it is dashed, and places along it, from the view's least corner on.
+Curve = tuple[bool, list[Place]]
 # What is told of a stroke: by its view, its kind, and its ends from the view's least corner on.
 Told = Callable[[str, str, Place, Place], str]
 
@@ -50,10 +52,11 @@ def joined(lines: Iterable[Stroke]) -> list[Stroke]:
 
 
 class View:
-    """A view's strokes, moved to least coordinates 0, and how far they reach. Of a line of the file that is marked, the line
+    """A view's strokes and rounds, moved to least coordinates 0, and how far they reach. Of a line of the file that is marked, the line
     that it tells of is a further stroke."""
 
-    def __init__(self, lines: list[Line], marked: int | None) -> None:
+    def __init__(self, lines: list[Line], marked: int | None, curves: Iterable[Curve] = ()) -> None:
+        self.curves = list(curves)
         points = [point for line in lines for point in (line.start, line.end)] or [(0.0, 0.0)]
         self.left, self.low = (min(point[axis] for point in points) for axis in (0, 1))
         self.width = max(point[0] for point in points) - self.left
@@ -61,6 +64,11 @@ class View:
         self.strokes = joined((line.dashed, line.start, line.end) for line in lines if line.known)
         self.unknown = [(line.start, line.end) for line in lines if not line.known]
         self.marked = [(line.start, line.end) for line in lines if marked and line.told[0] <= marked <= line.told[1]]
+
+    def rounds(self, left: float, bottom: float, scale: float) -> Iterator[str]:
+        """Its rounds, with the view's lower left corner there."""
+        for dashed, places in sorted(self.curves, key=lambda it: not it[0]):
+            yield path([(left + scale * x, bottom - scale * y) for x, y in places], "dashed" if dashed else "solid")
 
     def drawn(self, left: float, bottom: float, scale: float, told: Callable[[str, Place, Place], str] | None = None) -> Iterator[str]:
         """The view with its lower left corner there; where something is told of strokes, each has it."""
@@ -81,10 +89,11 @@ def steps(sizes: dict[int, float], start: float, scale: float) -> dict[int, floa
 
 
 def views_drawn(
-    views: dict[str, list[Line]], left: float, top: float, marked: int | None = None, told: Told | None = None
+    views: dict[str, list[Line]], left: float, top: float, marked: int | None = None, told: Told | None = None,
+    curves: Mapping[str, list[Curve]] = {},
 ) -> Iterator[str]:
     """The views in third-angle places in a square from there, with the lines that join them."""
-    drawn = {name: View(views.get(name, []), marked) for name in PLACES if name in MAIN or views.get(name)}
+    drawn = {name: View(views.get(name, []), marked, curves.get(name, ())) for name in PLACES if name in MAIN or views.get(name)}
     columns: dict[int, float] = {}
     rows: dict[int, float] = {}
     for name, view in drawn.items():
@@ -95,15 +104,17 @@ def views_drawn(
     top += (down - scale * sum(rows.values())) / 2
     lefts, tops = steps(columns, left, scale), steps(rows, top, scale)
     bottoms = {row: tops[row] + scale * rows[row] for row in rows}
-    front = drawn["FRONT"]
-    for x in (0, front.width):
+    width, height = (drawn["FRONT"].width, drawn["FRONT"].height) if views.get("FRONT") else (columns[0], rows[0])
+    for x in (0, width):
         yield path([(lefts[0] + scale * x, top), (lefts[0] + scale * x, max(bottoms.values()))], "guide")
-    for y in (0, front.height):
+    for y in (0, height):
         ends = left, max(lefts[column] + scale * columns[column] for column in columns)
         yield path([(x, bottoms[0] - scale * y) for x in ends], "guide")
     for name in drawn:
         column, row = PLACES[name]
         yield from drawn[name].drawn(lefts[column], bottoms[row], scale, functools.partial(told, name) if told else None)
+        yield from drawn[name].rounds(lefts[column], bottoms[row], scale)
     for name, view in drawn.items():
         column, row = PLACES[name]
-        yield label(lefts[column] + scale * view.width / 2, top - 10 if name == "TOP" else bottoms[row] + 22, name, "small")
+        text = name if views.get(name) else f"no {name}"
+        yield label(lefts[column] + scale * view.width / 2, top - 10 if name == "TOP" else bottoms[row] + 22, text, "small")

@@ -89,6 +89,11 @@ class Tried:
         self.grid = grid
         self.texts = {row: row_text(grid, row, styles, bare) for row, styles in grid.panels.items()}
 
+    @property
+    def words(self) -> list[object]:
+        """What the program is asked of it, before limits."""
+        return ["solve", *([program.TWO_VIEWS] if len(self.grid.views) == 2 else [])]
+
     def changed(self, rows: Iterable[tuple[Row, bytes]]) -> bytes:
         texts = dict(self.texts)
         for row, styles in rows:
@@ -96,9 +101,9 @@ class Tried:
         return file_text(texts.values()).encode()
 
 
-def outcome(path: pathlib.Path, data: bytes, nodes: int = NODES, solids: int = SOLIDS) -> Outcome:
-    """What the program says of a drawing."""
-    return outcome_of(program.run(path, ["solve", "--nodes", nodes, "--solids", solids], data, seconds=600))
+def outcome(path: pathlib.Path, words: list[object], data: bytes, nodes: int = NODES, solids: int = SOLIDS) -> Outcome:
+    """What the program says of a drawing, asked by these words."""
+    return outcome_of(program.run(path, [*words, "--nodes", nodes, "--solids", solids], data, seconds=600))
 
 
 # ---- all processors

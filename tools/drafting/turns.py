@@ -2,6 +2,7 @@
 import os
 import pathlib
 import re
+import secrets
 import select
 import signal
 import subprocess
@@ -96,7 +97,7 @@ class Running:
     def __init__(self, words: list[str], limits: Limits, turn: Turn, folder: pathlib.Path) -> None:
         assert turn.slot is not None
         self.limits, self.turn = limits, turn
-        self.said = folder / f"said_{threading.get_ident()}"
+        self.said = folder / f"said_{secrets.token_hex(6)}"
         self.is_late = self.is_stopped = False
         with open(self.said, "wb") as said:
             self.process = subprocess.Popen(

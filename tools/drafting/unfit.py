@@ -57,11 +57,10 @@ def shown_by_solid(solid: Solid, views: list[str]) -> dict[str, Shown]:
     return {view: shown_of(cells, grid.cuts, view) for view in views}
 
 
-def lines_told(stretch: Stretch, strokes: list[Stroke]) -> str:
+def lines_of(stretch: Stretch, strokes: list[Stroke]) -> list[int]:
     """The lines of the file that draw a stretch; the strokes begin at 0."""
     row = (it for it in strokes if (it.upright, it.at) == (stretch.upright, stretch.at))
-    numbers = sorted({it.told[0] for it in row if it.low < stretch.high and it.high > stretch.low})
-    return f" (line{'s' * (len(numbers) > 1)} {', '.join(map(str, numbers[:4]))} of the file)" if numbers else ""
+    return sorted({it.told[0] for it in row if it.low < stretch.high and it.high > stretch.low})
 
 
 def was_drawn(style: int) -> str:
@@ -69,16 +68,18 @@ def was_drawn(style: int) -> str:
 
 
 def stretch_told(stretch: Stretch, sheet: Sheet, strokes: list[Stroke]) -> str:
-    """A stretch in words, in the drawing's own coordinates."""
+    """A stretch in words, in the coordinates of the sheet."""
     x, y = (min(it.low if it.upright == way else it.at for it in strokes) for way in (False, True))
     moved = [it._replace(at=it.at - across, low=it.low - along, high=it.high - along)
              for it in strokes for across, along in [(x, y) if it.upright else (y, x)]]
-    ends = ((stretch.at, at) if stretch.upright else (at, stretch.at) for at in (stretch.low, stretch.high))
-    place = " to ".join(f"({sheet.number(x + right)}, {sheet.number(y + up)})" for right, up in ends)
-    return f"{stretch.view} {place}{lines_told(stretch, moved)}: {was_drawn(stretch.drawn)}; the solid shows {STYLES[stretch.shown]}"
+    here = sheet._replace(origins={**sheet.origins, stretch.view: (x, y)})
+    start, end = ((stretch.at, at) if stretch.upright else (at, stretch.at) for at in (stretch.low, stretch.high))
+    place = " to ".join(f"({right}, {up})" for right, up in (here.place(stretch.view, *it) for it in (start, end)))
+    lines = here.told(stretch.view, start, end, lines_of(stretch, moved))
+    return f"{stretch.view} {place}{lines}: {was_drawn(stretch.drawn)}; the solid shows {STYLES[stretch.shown]}"
 
 
-def told(path: pathlib.Path, sheet: Sheet, views: dict[str, list[Line]], main: bytes, listed: str) -> list[str]:
+def told(path: pathlib.Path, words: list[object], sheet: Sheet, views: dict[str, list[Line]], main: bytes, listed: str) -> list[str]:
     """What is told of a drawing with such further views, where the program lists these solids of its main views, which are the lines of
     another file."""
     further = further_of(views, sheet.decimals)
@@ -96,12 +97,12 @@ def told(path: pathlib.Path, sheet: Sheet, views: dict[str, list[Line]], main: b
     if not unlike[nearest]:
         raise Refused("the program says that no solid has these views, and one was found here that has them")
     counts = ", ".join(f"{many(count, 'has', 'have')} {view}" for view, count in fitting.items())
-    rows = [f"No solid has these views. {many(len(solids), 'solid has', 'solids have')} the three main ones; of these {counts}.",
+    rows = [f"No solid has these views. {many(len(solids), 'solid has', 'solids have')} the {'two' if sheet.missing else 'three'} main ones; of these {counts}.",
             f"Nearest is solid {nearest + 1} of them, for which there would have to be drawn otherwise:"]
     strokes = {view: strokes_of(view, views[view], sheet.decimals) for view in further}
     rows += [f"  {stretch_told(it, sheet, strokes[it.view])}" for it in unlike[nearest]]
     shown = shown_by_solid(solids[nearest], list(further))
     lines = (trials.entity(view, DASHED if dashed else SOLID, *((str(x), str(y)) for x, y in ends))
              for view in further for dashed, *ends in strokes_shown(shown[view], 0, 0))
-    outcome = trials.outcome(path, trials.with_entities(main, lines), program.MOST_NODES, program.MOST_SOLIDS)
+    outcome = trials.outcome(path, words, trials.with_entities(main, lines), program.MOST_NODES, program.MOST_SOLIDS)
     return [*rows, f"  so drawn, the program lists {outcome.words}"]

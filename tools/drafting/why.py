@@ -19,13 +19,17 @@ from . import asking, changes, faults, least, picture, program, trials, unfit
 from .answers import FAULT, WHOLE, answer_of
 from .changes import Change, Judged, Kind
 from .drawing import VIEWS, Line, Origin, further_in, views_of, written
+from .given import Given, given_in
 from .messages import Progress, Refused, many, say, write_result
-from .panels import AXES, BLANK, DASHED, SOLID, STYLES, Grid, Row, Sheet, Stroke, grid_of, runs_of, sheet_of
+from .panels import AXES, BLANK, DASHED, FRAMES, SOLID, STYLES, Grid, Row, Sheet, Stroke, grid_of, runs_of
+from .rounds import Quarter
+from .tangent import shared_axis
 from .trials import Outcome, Tried
 
 NAME = "why"
 HELP = "what would have to be drawn otherwise, where no solid has the views"
 
+SQUARED = "Its rounds are squared off: what is told is of that drawing, where each circle is its square."
 # How many changed drawings the program is run on, and for how many seconds clingo looks, unless the arguments say otherwise.
 RUNS, SEARCH = 10_000, 60.0
 
@@ -42,11 +46,13 @@ def add_arguments(parser: argparse.ArgumentParser) -> None:
 
 
 class Placed(NamedTuple):
-    """The drawing with its views in some places, what is wrong in it, and its rows as lines of a file."""
+    """The drawing with its views in some places, what is wrong in it, and its rows as lines of a file; and its rounds, where some were
+    squared off."""
 
     sheet: Sheet
     judged: Judged
     tried: Tried
+    given: Given | None = None
 
     @property
     def grid(self) -> Grid:
@@ -73,13 +79,13 @@ class Limits(NamedTuple):
 
 # ---- what is drawn, and where the views may stand
 
-def placed_views(sheet: Sheet) -> Iterator[Placed]:
+def placed_views(sheet: Sheet, given: Given | None = None) -> Iterator[Placed]:
     """The sheet as it is; then, for each axis along which one of two views reaches less far, with that view moved to the other's
     far end too."""
     moves = []
     for sides in changes.ACROSS:
-        reach = [sheet.extent(view, not upright) for view, upright in sides]
-        if reach[0] != reach[1]:
+        reach = [sheet.extent(view, not upright) for view, upright in sides if view in sheet.origins]
+        if len(set(reach)) == 2:
             view, upright = sides[reach[0] > reach[1]]
             moves.append((view, upright, abs(reach[0] - reach[1])))
     for count in range(len(moves) + 1):
@@ -88,7 +94,7 @@ def placed_views(sheet: Sheet) -> Iterator[Placed]:
             for view, upright, far in chosen:
                 moved = moved.moved(view, far if upright else 0, 0 if upright else far)
             grid = grid_of(moved)
-            yield Placed(moved, changes.judged(grid), Tried(grid))
+            yield Placed(moved, changes.judged(grid), Tried(grid), given)
 
 
 def known_head(asked: asking.Asked) -> str:
@@ -108,17 +114,43 @@ def lines_told(placed: Placed, row: Row, low: int, high: int, stroke: Stroke | N
     along = placed.grid.along(row)
     over = [it for it in placed.grid.strokes.get(row, ()) if it.low < along[high] and it.high > along[low]]
     numbers = sorted({it.told[0] for it in ([stroke] if stroke else over)})
-    if not numbers:
-        return ""
-    shown = ", ".join(map(str, numbers[:4])) + (", .." if len(numbers) > 4 else "")
-    return f" (line{'s' * (len(numbers) > 1)} {shown} of the file)"
+    return placed.sheet.told(row.view, *ends_of(placed, row, low, high), numbers)
 
 
 def where(placed: Placed, row: Row, low: int, high: int) -> str:
-    """A stretch of a row in the drawing's own coordinates."""
-    along, at = placed.grid.along(row), placed.grid.ats(row)[row.number]
-    ends = [(at, along[end]) if row.upright else (along[end], at) for end in (low, high)]
+    """A stretch of a row in the coordinates of the sheet."""
+    ends = ends_of(placed, row, low, high)
     return " to ".join(f"({right}, {up})" for right, up in (placed.sheet.place(row.view, *it) for it in ends))
+
+
+def ends_of(placed: Placed, row: Row, low: int, high: int) -> tuple[tuple[int, int], tuple[int, int]]:
+    """The ends of a stretch of a row, from where its view begins."""
+    along, at = placed.grid.along(row), placed.grid.ats(row)[row.number]
+    start, end = ((at, along[it]) if row.upright else (along[it], at) for it in (low, high))
+    return start, end
+
+
+def round_told(placed: Placed, row: Row, low: int, high: int) -> str:
+    """The circle, on a side of whose square a stretch of a row lies, or whose side another view shows there."""
+    if not placed.given:
+        return ""
+    unit = 10**placed.sheet.decimals
+    along, at = placed.grid.along(row), placed.grid.ats(row)[row.number] / unit
+    for one in placed.given.rounds:
+        if one.view == row.view and any(is_on_square(it, row.upright, at, along[low] / unit, along[high] / unit) for it in one.quarters):
+            return f", by the square of a {one}"
+        axis = shared_axis(one.view, row.view) if one.view != row.view else None
+        if axis is not None and row.upright == (axis == FRAMES[row.view].right):
+            across = 0 if axis == FRAMES[one.view].right else 1
+            if any(abs(it.corner[across] - at) < 1e-6 for it in one.quarters):
+                return f", where a {one} is seen from its side"
+    return ""
+
+
+def is_on_square(quarter: Quarter, is_upright: bool, at: float, low: float, high: float) -> bool:
+    """Whether a stretch lies along a side at a quarter's sharp corner."""
+    across, way = (0, 1) if is_upright else (1, 0)
+    return abs(quarter.corner[across] - at) < 1e-6 and low < quarter.box[way + 2] and high > quarter.box[way]
 
 
 def was_drawn(styles: bytes) -> str:
@@ -131,7 +163,7 @@ def was_drawn(styles: bytes) -> str:
 def change_told(placed: Placed, change: Change) -> str:
     """A single change, up to what it would give."""
     row, low, high = change.row, change.low, change.high
-    place = f"{row.view} {where(placed, row, low, high)}{lines_told(placed, row, low, high, change.stroke)}"
+    place = f"{row.view} {where(placed, row, low, high)}{round_told(placed, row, low, high)}{lines_told(placed, row, low, high, change.stroke)}"
     if change.to:
         return f"{place}: moving it to {where(placed, change.to, low, high)}"
     if change.kind is Kind.LEFT_OUT and change.stroke:
@@ -145,7 +177,7 @@ def segments_told(placed: Placed, row: Row, styles: bytes) -> Iterator[str]:
     for (was, will), group in itertools.groupby(zip(placed.grid.panels[row], styles)):
         end = at + sum(1 for _ in group)
         if was != will:
-            place = f"{row.view} {where(placed, row, at, end)}{lines_told(placed, row, at, end)}"
+            place = f"{row.view} {where(placed, row, at, end)}{round_told(placed, row, at, end)}{lines_told(placed, row, at, end)}"
             yield f"{place}: {was_drawn(bytes([was]))}; {STYLES[will]}"
         at = end
 
@@ -172,7 +204,7 @@ def single_changes(
         assert isinstance(at, int)
         number, change = items[at]
         placed = all_placed[number]
-        return None if changes.is_refused(placed.judged, change) else trials.outcome(path, placed.tried.changed(change.rows))
+        return None if changes.is_refused(placed.judged, change) else trials.outcome(path, placed.tried.words, placed.tried.changed(change.rows))
 
     found: list[Suggestion] = []
     runs = at = 0
@@ -203,7 +235,7 @@ def least_changes(path: pathlib.Path, all_placed: list[Placed], seconds: float) 
         rows, length, is_least = least.change_of(placed.grid, seconds / len(all_placed))
         sure = sure and is_least
         for changed in rows:
-            outcome = trials.outcome(path, placed.tried.changed(changed))
+            outcome = trials.outcome(path, placed.tried.words, placed.tried.changed(changed))
             words = [told for row, styles in changed for told in segments_told(placed, row, styles)]
             found.append(Suggestion(placed, changed, words, length, outcome))
     Progress.clear()
@@ -219,7 +251,7 @@ def told_least(found: list[Suggestion], sure: bool, seconds: float, placed: Plac
         why = "clingo says that there is no such drawing on this grid" if sure else f"clingo found none within {seconds:g} seconds"
         return [f"No change was found: {why}."]
     first = found[0]
-    length = placed.sheet.number(first.length)
+    length = placed.sheet.length(first.length)
     rows = [f"The least change, {length} long in all:" if sure else f"A change {length} long in all; a lesser one may do:"]
     for number, one in enumerate(found):
         rows += ["or else:"] if number else []
@@ -266,21 +298,21 @@ def marked_views(suggestion: Suggestion) -> dict[str, list[Line]]:
 
 def picture_of(path: pathlib.Path, suggestion: Suggestion) -> str:
     """The drawing with the place of a suggestion marked, and the first solids that it gives."""
-    words = ["solve", "--nodes", trials.NODES, "--solids", trials.SOLIDS]
+    words = [*suggestion.placed.tried.words, "--nodes", trials.NODES, "--solids", trials.SOLIDS]
     text = program.run(path, words, suggestion.placed.tried.changed(suggestion.rows)).text
     return "".join(f"{line}\n" for line in picture.picture(marked_views(suggestion), text, 1))
 
 
 def looked_at(
-    path: pathlib.Path, sheet: Sheet, head: str, limits: Limits, tell: Found = said_found
+    path: pathlib.Path, sheet: Sheet, head: str, limits: Limits, tell: Found = said_found, given: Given | None = None
 ) -> tuple[list[str], list[Suggestion]]:
     """What is told of a drawing that no solid has, and the suggestions in its order. The head is what the program says of it."""
-    all_placed = list(placed_views(sheet))
+    all_placed = list(placed_views(sheet, given))
     grid = all_placed[0].grid
     flat = [AXES[axis] for axis, cut in enumerate(grid.cuts) if len(cut) < 2]
     if flat:
         return [f"No solid has these views: they have no extent along {' and '.join(flat)}."], []
-    if program.run(path, ["solve"], all_placed[0].tried.changed(())).text.partition("\n")[0] != head:
+    if program.run(path, all_placed[0].tried.words, all_placed[0].tried.changed(())).text.partition("\n")[0] != head:
         raise Refused("the program reads this drawing otherwise than it is read here")
     found, runs, untried = single_changes(path, all_placed, limits, tell)
     rows = [f"No solid has these views. {many(runs, 'run')} of the program over changed drawings."]
@@ -296,33 +328,45 @@ def looked_at(
 
 
 def told_of(asked: asking.Asked, path: pathlib.Path, limits: Limits, tell: Found = said_found) -> tuple[list[str], list[Suggestion]]:
-    """What is told of a drawing or a sheet that no solid has, and the suggestions: where its three main views alone have none, of these,
+    """What is told of a drawing or a sheet that no solid has, and the suggestions: where its main views alone have none, of these,
     and else of its further views."""
     views = views_of(asked.lines)
-    sheet = sheet_of(views, asked.decimals)
-    further = further_in(asked.lines)
+    sheet = asked.sheet()
+    further, given = further_in(asked.lines), given_in(asked.lines)
     if not further:
-        return looked_at(path, sheet, asked.run.text.partition("\n")[0], limits, tell)
-    main = Tried(grid_of(sheet)).changed(())
-    alone = program.run(path, ["solve", "--nodes", program.MOST_NODES, "--solids", program.MOST_SOLIDS], main)
+        rows, found = looked_at(path, sheet, asked.run.text.partition("\n")[0], limits, tell, given)
+        return ([*rows[:1], SQUARED, *rows[1:]] if given else rows), found
+    tried = Tried(grid_of(sheet))
+    main = tried.changed(())
+    alone = program.run(path, [*tried.words, "--nodes", program.MOST_NODES, "--solids", program.MOST_SOLIDS], main)
     head = alone.text.partition("\n")[0]
     if not head.startswith("whole 0 "):
-        return unfit.told(path, sheet, views, main, alone.text), []
+        return unfit.told(path, tried.words, sheet, views, main, alone.text), []
     rows, found = looked_at(path, sheet, head, limits, tell)
     names = f"{' and '.join(further)} {'is' if len(further) == 1 else 'are'}"
-    return [f"{rows[0]} Its three main views alone have none: {names} left out here.", *rows[1:]], found
+    return [f"{rows[0]} Its {'two' if sheet.missing else 'three'} main views alone have none: {names} left out here.", *rows[1:]], found
+
+
+def rounds_told(asked: asking.Asked) -> list[str]:
+    """What is told of a sheet with rounds of whose squared drawing there are solids."""
+    assert asked.rounds
+    first = next(iter(asked.rounds.kept), asked.rounds.first)
+    rows = [*(first.outcome.told() if first else []), *asked.rounds.told()]
+    count = len(asked.kept)
+    return [f"Nothing is wrong: {many(count, 'solid')} {'has' if count == 1 else 'have'} these views." if count else "No solid is kept.", *rows]
 
 
 def run(arguments: argparse.Namespace) -> int:
     asked = asking.ask(arguments.drawing, arguments, lambda text: say(f"draft why: {text}"))
     head = known_head(asked)
+    if asked.rounds and not head.startswith("whole 0 "):
+        write_result("".join(f"{row}\n" for row in rounds_told(asked)), None)
+        return 0
     if not head.startswith("whole 0 "):
         count = answer_of(asked.run.text, 0).listed
         more = "" if WHOLE.fullmatch(head) else " at least"
         write_result(f"Nothing is wrong: {many(count, 'solid')}{more} {'has' if count == 1 else 'have'} these views.\n", None)
         return 0
-    if asked.data != pathlib.Path(arguments.drawing).read_bytes():
-        say("draft why: coordinates and lines of the file are those of the drawing that `draft sheet` writes")
     limits = Limits(arguments.runs, arguments.search, arguments.processes)
     path = program.find(arguments.program)
     rows, found = told_of(asked, path, limits)
@@ -330,6 +374,8 @@ def run(arguments: argparse.Namespace) -> int:
     if arguments.write or arguments.picture:
         if not 1 <= arguments.take <= len(found):
             raise Refused(f"nothing is written, since there are {many(len(found), 'suggestion')}")
+        if arguments.write and found[arguments.take - 1].placed.given:
+            raise Refused("a suggestion about a drawing with its rounds squared off isn't written: draw it on the sheet")
         if arguments.write:
             write_result(written_with(found[arguments.take - 1], asked.origin), arguments.write)
         if arguments.picture:

@@ -1,4 +1,4 @@
-"""A browser for page_check and table_check: Chromium without a window. It opens pages, takes keys, mouse, touch and files, and tells
+"""A browser for page_check and the tests of pages: Chromium without a window. It opens pages, takes keys, mouse, touch and files, and tells
 what a page does."""
 import base64
 import json
@@ -22,8 +22,7 @@ OPTIONS = [
     "--use-angle=swiftshader", "--enable-unsafe-swiftshader", "--disable-dev-shm-usage",
 ]
 # Codes of keys, as the protocol wants them.
-KEYS = {"Enter": 13, "ArrowLeft": 37, "ArrowUp": 38}
-SHIFT = 8
+KEYS = {"Enter": 13, "Escape": 27, "Tab": 9, "ArrowLeft": 37, "ArrowUp": 38, "ArrowRight": 39}
 
 
 class Browser:
@@ -193,13 +192,13 @@ class Browser:
         x, y = self.value(f"{middle}({element}.getBoundingClientRect())")
         return x, y
 
-    def mouse(self, element: str, right: int = 0, down: int = 0, keys: int = 0) -> None:
-        """Presses the mouse on an element, moves it so far, and lets it go, with some keys held."""
+    def mouse(self, element: str, right: int = 0, down: int = 0) -> None:
+        """Presses the mouse on an element, moves it so far, and lets it go."""
         x, y = self.middle(element)
         for kind, share in (("mousePressed", 0), ("mouseMoved", 0.5), ("mouseMoved", 1), ("mouseReleased", 1)):
             place = {"x": x + share * right, "y": y + share * down}
             buttons = 0 if kind == "mouseReleased" else 1
-            self.call("Input.dispatchMouseEvent", type=kind, **place, button="left", buttons=buttons, clickCount=1, modifiers=keys)
+            self.call("Input.dispatchMouseEvent", type=kind, **place, button="left", buttons=buttons, clickCount=1)
 
     def touch(self, element: str, right: int) -> None:
         """Draws a finger over an element, so far to the right."""

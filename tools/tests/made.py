@@ -75,6 +75,11 @@ def file_of(grid: Grid, told: Iterable[Run] | None = None) -> str:
     return written(lines_of_runs(grid, runs(grid) if told is None else told), 0)
 
 
+def without(grid: Grid, view: str) -> str:
+    """A drawing's file in which one view isn't drawn."""
+    return file_of(grid, [run for run in runs(grid) if run[0].view != view])
+
+
 def voids(count: int) -> Grid:
     """A row of cubes along the diagonal, each with eight voids, of whose drawing there are 35 to the power of their number solids."""
     cells = {

@@ -13,6 +13,7 @@ from typing import Any, NamedTuple
 
 from drafting import program
 from drafting.messages import Refused
+from drafting.session import OWNER
 
 from .support import TOOLS, is_built
 
@@ -71,9 +72,8 @@ def slowed(folder: pathlib.Path) -> pathlib.Path:
 class Served:
     """A server that runs until it is closed."""
 
-    def __init__(self, *words: object) -> None:
-        self.room = tempfile.TemporaryDirectory()
-        self.open: dict[http.client.HTTPConnection, http.client.HTTPResponse] = {}
+    def __init__(self, *words: object, within: pathlib.Path | None = None) -> None:
+        self.room = tempfile.TemporaryDirectory(dir=within, ignore_cleanup_errors=True)
         memory = () if "--memory" in words or takes_limits() else ("--memory", 0)
         command = [str(TOOLS / "draft"), "serve", "--no-browser", *map(str, (*memory, *words))]
         self.process = subprocess.Popen(
@@ -129,36 +129,43 @@ class Served:
         """A request in JSON."""
         return self.ask(path, json.dumps(told).encode(), headers=self.headers(Content_Type="application/json"))
 
-    def events(self, connection: http.client.HTTPConnection) -> Iterator[dict[str, Any]]:
-        """What is told of a drawing, up to its end."""
-        # It holds the socket: so it is kept as long as the connection is.
-        response = self.open[connection] = connection.getresponse()
-        if response.status != 200:
-            raise Refused(f"{response.status} {response.read().decode().strip()}")
-        for line in response:
-            if line.strip():
-                event = json.loads(line)
+    def job(self, drawing: bytes, options: object = (), **more: Any) -> str:
+        """Has a drawing be looked at, and answers the name of that; refused with the status where it isn't."""
+        answered = self.ask("/drawing", form(drawing, options, **more))
+        if answered.status != 200:
+            raise Refused(f"{answered.status} {answered.text}")
+        return str(json.loads(answered.text)["job"])
+
+    def events(self, job: str, seconds: float = 600) -> Iterator[dict[str, Any]]:
+        """What is told of a drawing, up to its end, asked for piece by piece as a page does."""
+        start, until = 0, time.monotonic() + seconds
+        while time.monotonic() < until:
+            answered = self.ask("/events", json.dumps({"job": job, "from": start}).encode(), headers=self.headers(Content_Type="application/json"))
+            if answered.status != 200:
+                raise Refused(f"{answered.status} {answered.text}")
+            start += len(answered.text.encode())
+            for event in map(json.loads, answered.text.splitlines()):
                 yield event
                 if event["kind"] == "over":
                     return
+        raise Refused(f"not over within {seconds:g} seconds")
 
     def follow(self, drawing: bytes, options: object = (), last: str = "over", **more: Any) -> list[dict[str, Any]]:
         """What is told of a drawing up to an event of this kind; then it goes away."""
-        connection = self.begin("/drawing", form(drawing, options, **more))
+        job = self.job(drawing, options, **more)
         try:
             told = []
-            for event in self.events(connection):
+            for event in self.events(job):
                 told.append(event)
                 if event["kind"] == last:
                     break
             return told
         finally:
-            self.leave(connection)
+            self.leave(job)
 
-    def leave(self, connection: http.client.HTTPConnection) -> None:
-        """Goes away, as a page that is closed."""
-        self.open.pop(connection).close()
-        connection.close()
+    def leave(self, job: str) -> None:
+        """Goes away, as a page that has another drawing."""
+        self.tell("/leave", job=job, for_good=True)
 
     # ---- what it holds
 
@@ -180,8 +187,8 @@ class Served:
         return found
 
     def kept(self) -> list[str]:
-        """The files that it keeps."""
-        return sorted(file for _, _, files in os.walk(self.room.name) for file in files)
+        """The files that it keeps of drawings."""
+        return sorted(file for _, _, files in os.walk(self.room.name) for file in files if file != OWNER)
 
     def until_idle(self, seconds: float = 20) -> None:
         """Waits until nothing runs for a page, and no file is kept; refused where that takes longer."""

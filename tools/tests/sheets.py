@@ -9,7 +9,7 @@ from ezdxf.enums import TextEntityAlignment
 
 from drafting.answers import answer_of
 from drafting.cells import grid_round
-from drafting.drawing import FURTHER, Stroke, lines_of, views_of
+from drafting.drawing import FURTHER, lines_of, views_of
 from drafting.panels import shown_of, strokes_shown
 
 Ends = tuple[tuple[float, float], tuple[float, float]]
@@ -316,21 +316,27 @@ class Maker:
         x, y = self.places["FRONT"]
         width, height = size_of(self.views["FRONT"])
         doc = self.sheet()
-        doc.modelspace().add_circle((x + width / 2, y + height / 2), 0.4, dxfattribs={"layer": "HOLES"})
-        yield self.save(doc, "circle_in_a_view", refusal=r"in FRONT a CIRCLE \w+ on layer HOLES, line [\d,]+ of circle_in_a_view.dxf is no straight line")
+        doc.modelspace().add_ellipse((x + width / 2, y + height / 2), (0.4, 0), 0.5, dxfattribs={"layer": "HOLES"})
+        yield self.save(doc, "ellipse_in_a_view", refusal=r"in FRONT a ELLIPSE \w+ on layer HOLES, line [\d,]+ of ellipse_in_a_view.dxf is no straight line")
         doc = self.sheet()
         doc.modelspace().add_line((x, y), (x + width, y + height))
         yield self.save(doc, "oblique_edge", refusal=r"in FRONT a LINE \w+ on layer 0, line [\d,]+ of oblique_edge.dxf goes from .* oblique")
         doc = self.sheet()
-        doc.modelspace().add_arc((x + 1, y + 1), 0.5, 0, 90, dxfattribs={"layer": "FILLETS"})
-        yield self.save(doc, "arc_in_a_view", refusal="in FRONT a ARC")
+        doc.modelspace().add_arc((x + 1.3, y + 1.3), 0.5, 0, 90, dxfattribs={"layer": "FILLETS"})
+        yield self.save(doc, "arc_in_a_view", refusal=r"round of radius 0.5 at .* \(ARC \w+ on layer FILLETS\) ends at .* where no line goes on: it is a thread")
+        doc = self.sheet()
+        doc.modelspace().add_spline([(x + 0.2, y + 0.2), (x + 0.5, y + 0.4), (x + 0.8, y + 0.6)])
+        yield self.save(doc, "spline_in_a_view", refusal=r"in FRONT a SPLINE \w+ on layer 0, line [\d,]+ of spline_in_a_view.dxf is no straight line")
+        doc = self.sheet()
+        doc.modelspace().add_spline([(x + 0.2, y + 0.2), (x + 0.4, y + 0.4), (x + 0.8, y + 0.8)])
+        yield self.save(doc, "spline_in_line", refusal=r"a SPLINE \w+ on layer 0, line .* is no straight line, and where it lies can't be told")
         doc = self.sheet()
         doc.linetypes.add("ZIGZAG_DOTS", [0.2, 0.0, -0.2])
         doc.modelspace().add_line((x, y + height / 2), (x + width, y + height / 2), dxfattribs={"linetype": "ZIGZAG_DOTS"})
         yield self.save(doc, "linetype_without_meaning", refusal="linetype ZIGZAG_DOTS, which tells no style")
         doc = self.sheet()
         draw(doc.modelspace(), {"SIDE": self.views["SIDE"]}, {"SIDE": (self.places["SIDE"][0] + 80, y)})
-        yield self.save(doc, "fourth_view", refusal=r"beside the views stands group \d.*--leave-out group=")
+        yield self.save(doc, "fourth_view", refusal=r"(?s)beside the views stands .*--leave-out group=4:\s+group 4, ")
         yield self.save(doc, "fourth_view_left_out", "--leave-out", "group=4")
         places = {**self.places, "TOP": (x + 0.5, self.places["TOP"][1])}
         doc = new()
@@ -342,7 +348,7 @@ class Maker:
         yield self.save(doc, "two_parts_on_a_sheet", refusal="ways to take three")
         doc = new()
         draw(doc.modelspace(), {view: its for view, its in self.views.items() if view != "SIDE"}, self.places)
-        yield self.save(doc, "two_views", refusal="there are fewer than three")
+        yield self.save(doc, "two_views", refusal="(?s)two views in line .*--angle third, TOP above FRONT: FRONT is group 1, .*--angle first, TOP below")
         doc = new()
         doc.modelspace().add_text("nothing here")
         yield self.save(doc, "no_line", refusal="no straight line in the model space")

@@ -42,7 +42,7 @@ Decorated = Callable[[Any], Any]
 
 
 def needs_program() -> Decorated:
-    return unittest.skipUnless(is_built(), "the program isn't built: (cd crates/recon && rt run -- solve < ../../examples/unit_cube.dxf)")
+    return unittest.skipUnless(is_built(), f"recon isn't there: {program.BUILD}")
 
 
 def needs_module(module: str, package: str, folder: str = "") -> Decorated:

@@ -3,6 +3,8 @@ import pathlib
 import tempfile
 import unittest
 
+from drafting import command
+
 from .support import EXAMPLES, draft
 
 
@@ -12,6 +14,11 @@ class Command(unittest.TestCase):
             ended = draft(*words)
             self.assertEqual((ended.status, ended.said), (0, ""), words)
             self.assertTrue(ended.out.startswith(begins), ended.out)
+
+    def test_help_fits_eighty_columns(self) -> None:
+        for name in ("", *command.MODULES):
+            ended = draft(*([name] if name else []), "--help")
+            self.assertEqual([line for line in ended.out.splitlines() if len(line) > 80], [], name)
 
     def test_arguments_that_are_not_taken(self) -> None:
         for words in ([], ["pge"], ["page"], ["page", "--frobnicate", "x"], ["--vers"]):

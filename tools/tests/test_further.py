@@ -161,9 +161,11 @@ class Solids(InAFolder):
         self.assertIn("One solid has these views.", next(event["html"] for event in events if event["kind"] == "end"))
 
     def test_what_settle_says_is_checked(self) -> None:
+        found = program.run(program.find(), ["solve"], (EXAMPLES / "quartered_cube.dxf").read_bytes()).text
+        faces = {solid.choice: solid.faces for solid in answer_of(found).solids}
         with self.assertRaisesRegex(Refused, "lists other solids than the 1 that are left: whole 1 "):
-            settle.checked(FROM_LEFT.read_text(), program.find(), [], ["10010110"], 60)
-        self.assertIn("just that.", settle.checked(FROM_LEFT.read_text(), program.find(), [], ["10110110"], 60))
+            settle.checked(FROM_LEFT.read_text(), program.find(), [], [faces["10010110"]], 60)
+        self.assertIn("just that.", settle.checked(FROM_LEFT.read_text(), program.find(), [], [faces["10110110"]], 60))
 
 
 @needs_program()

@@ -1,7 +1,11 @@
 """What a page holds and says; page_check opens pages in a browser."""
 import itertools
+import pathlib
 import re
+import subprocess
+import tempfile
 import unittest
+from collections import Counter
 
 from drafting import page, rooms
 from drafting.answers import answer_of
@@ -11,7 +15,7 @@ from drafting.messages import Refused
 from drafting.panels import sheet_of
 
 from .made import lines_of_runs, runs, voids
-from .support import EXAMPLES
+from .support import EXAMPLES, TOOLS, draft, needs_module, needs_program
 
 LINE = "0\nLINE\n8\n{}\n6\n{}\n10\n{}\n20\n{}\n11\n{}\n21\n{}\n"
 
@@ -31,9 +35,7 @@ CUBE = [rectangle("FRONT", 0, 0, 3), rectangle("TOP", 0, 9, 3), rectangle("SIDE"
 
 class Pages(unittest.TestCase):
     def told(self, lines: list[str], text: str) -> list[Event]:
-        events: list[Event] = []
-        page.tell_answer(lines, answer_of(text), events.append)
-        return events
+        return list(page.answer_told(lines, answer_of(text)))
 
     def made(self, lines: list[str], text: str) -> str:
         return page.page("part.dxf", self.told(lines, text), 64)
@@ -57,6 +59,37 @@ class Pages(unittest.TestCase):
     def test_choices_are_told_by_four_blocks(self) -> None:
         self.assertEqual(solids_event(["10010", "00001"])["choices"], ["90", "08"])
 
+    @unittest.skipUnless((page.THREE / "three.min.js").exists(), "apt-get install libjs-three")
+    def test_the_page_has_its_own_scripts_alone(self) -> None:
+        """Their hashes stand in its policy; and as they are joined, no two modules have one name for something."""
+        text = self.made(drawing(*CUBE), "whole 0 nodes 1 blocks 1\n")
+        policy = re.search(r'Content-Security-Policy" content="([^"]*)"', text)[1]  # type: ignore[index]
+        self.assertNotIn("unsafe", policy)
+        self.assertEqual(policy.count("'sha256-"), len(re.findall(r"<script(?: type=.module.)?>|<style>", text)))
+        known: dict[str, str] = {}
+        page.modules("table", known)
+        names = re.findall(r"^(?:export )?(?:async )?(?:function|const|let|class) (\w+)", "\n".join(known.values()), re.M)
+        self.assertEqual([name for name, count in Counter(names).items() if count > 1], [])
+        self.assertIsNone(re.search(r"^(import|export) ", page.joined("table"), re.M))
+
+    @needs_program()
+    @needs_module("ezdxf", "python3-ezdxf")
+    def test_a_file_of_a_short_name_is_told_as_it_is(self) -> None:
+        """`draft follow a` and `draft page a` speak of nothing else that has an a."""
+        with tempfile.TemporaryDirectory() as folder:
+            pathlib.Path(folder, "a").write_text("\n".join(drawing(rectangle("0", 0, 0, 3))))
+            for command in ("follow", "page"):
+                ended = subprocess.run([TOOLS / "draft", command, "a"], cwd=folder, capture_output=True, text=True)
+                self.assertIn("there is no way to take three of these as FRONT, TOP and SIDE", ended.stdout + ended.stderr)
+
+    @needs_program()
+    def test_a_choice_that_is_no_solid_is_refused(self) -> None:
+        with tempfile.TemporaryDirectory() as folder:
+            out = pathlib.Path(folder, "x.stl")
+            for choice, words in (("0" * 9, "hasn't the views"), ("01", "9"), ("2" * 9, "hasn't the views")):
+                ended = draft("chosen", EXAMPLES / "eight_voids.dxf", choice, out)
+                self.assertEqual((ended.status, words in ended.said, out.exists()), (1, True, False), ended.said)
+
     def test_a_linetype_without_a_meaning(self) -> None:
         odd = LINE.format("FRONT", "ZIGZAG", 1, 0, 1, 3)
         lines = drawing(odd, *CUBE)
@@ -75,7 +108,7 @@ class Pages(unittest.TestCase):
         told = self.made(drawing(*CUBE, header="9\n$INSUNITS\n70\n4\n"), (EXAMPLES / "unit_cube.txt").read_text().replace("1", "3").replace(
             "whole 3 nodes 2 blocks 3", "whole 1 nodes 2 blocks 1").replace("solid 3 choice 3 volume 3 faces 6", "solid 1 choice 1 volume 27 faces 6"))
         self.assertIn("FRONT 3 mm × 3 mm; TOP 3 mm × 3 mm; SIDE 3 mm × 3 mm", told)
-        self.assertIn('"units": {"per": ["1", "1"], "unit": "mm"}', told)
+        self.assertIn('"units":{"per":["1","1"],"unit":"mm"}', told)
 
     def test_the_unit_is_that_of_the_header(self) -> None:
         grid = voids(1)

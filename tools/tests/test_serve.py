@@ -1,8 +1,9 @@
-"""What `draft serve` takes, refuses and queues, asked as a page does and as no page does; table_check opens pages in a browser."""
+"""What `draft serve` takes, refuses and queues, asked as a page does and as no page does; test_serve_page opens pages in a browser."""
 import importlib.util
 import json
 import pathlib
 import random
+import re
 import socket
 import tempfile
 import threading
@@ -11,6 +12,7 @@ import unittest
 from collections import Counter
 from typing import Any
 
+from drafting import desk
 from drafting.answers import Answer, answer_of
 from drafting.follow import solids_event
 from drafting.messages import Refused
@@ -43,6 +45,12 @@ def answer_of_example(file: pathlib.Path) -> Answer:
     """What the program answers to an example, with the decimals that it needs."""
     text = EXAMPLES / "fractions_in_thousandths.txt" if file.stem == "fractions" else file.with_suffix(".txt")
     return answer_of(text.read_text())
+
+
+def many_lines() -> bytes:
+    """A sheet on layer 0 with 15,000 lines, which takes seconds to be read."""
+    line = "0\nLINE\n8\n0\n10\n{}\n20\n0\n11\n{}\n21\n9\n"
+    return ("0\nSECTION\n2\nENTITIES\n" + "".join(line.format(at, at) for at in range(15_000)) + "0\nENDSEC\n0\nEOF\n").encode()
 
 
 def kinds_of(events: list[dict[str, Any]]) -> list[str]:
@@ -128,18 +136,18 @@ class Serving(unittest.TestCase):
         served.until_idle(60)
 
     def test_odd_names_are_no_paths(self) -> None:
+        """What is kept of a file's name is no path, and begins no option; and what is told names the file as far as that goes."""
         served = self.served
         for name in NAMES:
-            connection = served.begin("/drawing", form(CUBE, name=name))
-            events = served.events(connection)
-            key = next(events)["key"]
+            job = served.job(CUBE, name=name)
+            events = list(served.events(job))
             self.assertIn("whole 3 ", next(event for event in events if event["kind"] == "end")["html"], name[:40])
-            files = {pathlib.Path(file).name for file in served.kept()}
-            self.assertLessEqual({file for file in files if not file.startswith("said_")}, {"given.dxf", "events"}, name[:40])
+            odd = [file for file in served.kept() if not re.fullmatch(r"events|said_[0-9a-f]+|[\w.()+][\w .()+-]{0,80}", file)]
+            self.assertEqual(odd, [], name[:40])
             if name in NAMES[-2:]:
-                text = served.tell("/page", job=key).text
+                text = served.tell("/page", job=job).text
                 self.assertEqual((text[:15], "<script>alert" in text), ("<!DOCTYPE html>", False))
-            served.leave(connection)
+            served.leave(job)
         served.until_idle(60)
 
     def test_each_example_is_told_as_it_is_answered(self) -> None:
@@ -162,38 +170,42 @@ class Serving(unittest.TestCase):
         self.assertEqual(len(choices_in(self.served.follow(suggestions[0]["dxf"].encode()))), 3)
 
     def test_solids_are_saved_as_the_commands_write_them(self) -> None:
-        connection = self.served.begin("/drawing", form(CUBE))
-        events = self.served.events(connection)
-        key = next(events)["key"]
-        list(events)
+        job = self.served.job(CUBE)
+        list(self.served.events(job))
         for kind, command in (("dxf", "clean"), ("stl", "stl")):
             wanted = draft(command, EXAMPLES / "quartered_cube.dxf", 2).out
-            self.assertEqual(self.served.tell("/solid", job=key, number=2, form=kind), (200, wanted))
-        refused = self.served.tell("/solid", job=key, number=4, form="stl")
+            self.assertEqual(self.served.tell("/solid", job=job, number=2, form=kind), (200, wanted))
+        refused = self.served.tell("/solid", job=job, number=4, form="stl")
         self.assertEqual((refused.status, "there is no solid 4" in refused.text), (422, True), refused.text)
         for number in (0, 65_537, "1", True, None):
-            self.assertEqual(self.served.tell("/solid", job=key, number=number, form="stl").status, 400)
-        self.assertEqual(self.served.tell("/solid", job=key, number=1, form="exe").status, 400)
-        self.assertIn("is told by", self.served.tell("/settle", job=key, number=1).text)
-        self.served.leave(connection)
+            self.assertEqual(self.served.tell("/solid", job=job, number=number, form="stl").status, 400)
+        self.assertEqual(self.served.tell("/solid", job=job, number=1, form="exe").status, 400)
+        settled = json.loads(self.served.tell("/settle", job=job, number=2, views=["LEFT"]).text)
+        self.assertEqual((settled["left"], len(settled["lines"])), (2, 6))
+        self.assertEqual(len(choices_in(self.served.follow(settled["dxf"].encode()))), 2)
+        # A main view settles nothing where all three are drawn; what is no view isn't taken.
+        for view, status in (("FRONT", 422), ("ABOVE", 400)):
+            self.assertEqual(self.served.tell("/settle", job=job, number=2, views=[view]).status, status)
+        self.served.leave(job)
         self.served.until_idle(60)
-        self.assertEqual(self.served.tell("/solid", job=key, number=1, form="stl").status, 404)
+        self.assertEqual(self.served.tell("/solid", job=job, number=1, form="stl").status, 404)
 
     def test_a_search_is_stopped_and_a_page_that_goes_away_ends_it(self) -> None:
         large = file_of(voids(4)).encode()
-        connection = self.served.begin("/drawing", form(large, [["solids", "65536"]]))
-        events = self.served.events(connection)
-        key = next(events)["key"]
+        job = self.served.job(large, [["solids", "65536"]])
+        events = self.served.events(job)
         next(event for event in events if event["kind"] == "solids")
-        self.assertEqual(self.served.tell("/stop", job=key).status, 200)
+        self.assertEqual(self.served.tell("/stop", job=job).status, 200)
         rest = list(events)
         self.assertEqual([event["how"] for event in rest if event["kind"] == "end"], ["stopped"])
         self.assertEqual(rest[-1], {"kind": "over", "text": ""})
-        self.served.leave(connection)
-        connection = self.served.begin("/drawing", form(large, [["solids", "65536"]]))
-        next(event for event in self.served.events(connection) if event["kind"] == "solids")
-        self.served.leave(connection)
-        self.served.until_idle(10)
+        self.served.leave(job)
+        job = self.served.job(large, [["solids", "65536"]])
+        next(event for event in self.served.events(job) if event["kind"] == "solids")
+        # A page that is left may be loaded anew: so its drawing stays for moments.
+        self.served.tell("/leave", job=job)
+        self.assertTrue(self.served.below())
+        self.served.until_idle(60)
 
     def test_two_hundred_at_once(self) -> None:
         """Each is answered or refused in words; the server stays, and holds little."""
@@ -222,7 +234,8 @@ class Serving(unittest.TestCase):
         self.assertGreater(came["answered"], 20)
         self.assertLess(most, 400)
         self.assertEqual(len(choices_in(self.served.follow(CUBE))), 3)
-        self.served.until_idle(60)
+        # Pages that ask no more, and didn't say that they leave, keep their drawing for a while.
+        self.served.until_idle(desk.LIFE + 60)
 
 
 @needs_packages
@@ -234,10 +247,10 @@ class Limits(unittest.TestCase):
         self.addCleanup(room.cleanup)
         program = slowed(pathlib.Path(room.name))
         with Served("--seconds", 4, "--at-once", 1, "--program", program) as served:
-            first = served.begin("/drawing", form(large, [["solids", "65536"]]))
+            first = served.job(large, [["solids", "65536"]])
             events = served.events(first)
             next(event for event in events if event["kind"] == "began")
-            second = served.begin("/drawing", form(CUBE))
+            second = served.job(CUBE)
             told = list(events)
             ends = [event for event in told if event["kind"] in ("end", "over")]
             self.assertRegex(str(ends), "longer than [24] seconds")
@@ -245,6 +258,33 @@ class Limits(unittest.TestCase):
             served.leave(first)
             served.leave(second)
             served.until_idle(60)
+
+    def stopped(self, served: Served, job: str) -> list[dict[str, Any]]:
+        """What is told of a drawing once it is stopped."""
+        self.assertEqual(served.tell("/stop", job=job).status, 200)
+        told = list(served.events(job))
+        self.assertEqual([event["how"] for event in told if event["kind"] == "end"], ["stopped"])
+        self.assertEqual(told[-1], {"kind": "over", "text": ""})
+        return told
+
+    def test_what_waits_or_is_read_is_stopped(self) -> None:
+        """A drawing that waits is never run, and one that is read is ended; that it was stopped is told of both."""
+        room = tempfile.TemporaryDirectory()
+        self.addCleanup(room.cleanup)
+        program = slowed(pathlib.Path(room.name))
+        with Served("--at-once", 1, "--program", program) as served:
+            first = served.job(file_of(voids(4)).encode(), [["solids", "65536"]])
+            next(event for event in served.events(first) if event["kind"] == "solids")
+            second = served.job(CUBE)
+            next(event for event in served.events(second) if event["kind"] == "queued")
+            self.assertNotIn("began", kinds_of(self.stopped(served, second)))
+            self.stopped(served, first)
+            # A sheet of many lines takes seconds to be read.
+            third = served.job(many_lines())
+            next(event for event in served.events(third) if event["kind"] == "began")
+            began = time.monotonic()
+            self.assertNotIn("grid", kinds_of(self.stopped(served, third)))
+            self.assertLess(time.monotonic() - began, 20)
 
     @unittest.skipUnless(takes_limits(), "the built program is one with checks, which runs within no limit of memory")
     def test_memory_is_limited(self) -> None:
@@ -259,12 +299,11 @@ class Limits(unittest.TestCase):
 
     def test_the_server_ends_with_all_that_it_began(self) -> None:
         served = Served()
-        connection = served.begin("/drawing", form(file_of(voids(4)).encode(), [["solids", "65536"]]))
-        next(event for event in served.events(connection) if event["kind"] == "solids")
+        job = served.job(file_of(voids(4)).encode(), [["solids", "65536"]])
+        next(event for event in served.events(job) if event["kind"] == "solids")
         below = served.below()
         self.assertTrue(below)
         began = time.monotonic()
         self.assertEqual(served.close(), 0)
         self.assertLess(time.monotonic() - began, 10)
         self.assertEqual([pid for pid in below if pathlib.Path(f"/proc/{pid}").exists()], [])
-        connection.close()

@@ -1,118 +1,25 @@
 """The page of `draft serve` in Chromium, used as a person does: drawings dropped in, looked at, stopped, compared and saved. With
 --pictures=FOLDER what is seen is saved there. Long ones run with --long."""
 import os
-import pathlib
 import re
-import tempfile
 import time
-import unittest
 
 from drafting.answers import CUT, FAULT
 from drafting.drawing import Origin, written
 
-from .browser import Browser
-from .made import file_of, lines_of_runs, runs, voids
+from .made import lines_of_runs, runs, voids
+from .opened import IS_OVER, PATIENCE, Opened, button
 from .serving import Served, slowed
 from .support import EXAMPLES, draft, needs_command, needs_long, needs_module, needs_program
 from .test_serve import answer_of_example, needs_packages
 
-# How long anything may take on a machine that is busy, in seconds.
-PATIENCE = 240
-PICTURES = os.environ.get("DRAFT_PICTURES")
-COUNT = "document.querySelector('.told').innerText"
-IS_OVER = (
-    "document.querySelector('.progress').hidden && [...document.querySelectorAll('.told, .failed')].some((it) => it.textContent.trim())"
-)
-ROWS = (
-    "[...document.querySelectorAll('#settle tbody tr')]"
-    ".map((row) => [row.cells[0].innerText, [...row.cells].slice(1, 3).map((it) => Number(it.innerText))])"
-)
-HAS_SOLID = "!!document.querySelector('.solids figure:not([hidden])') && tiles[0].scene !== null"
-
-
-def button(text: str, within: str = "body") -> str:
-    return f"[...document.querySelectorAll('{within} button')].find((it) => it.innerText === '{text}' && !it.closest('[hidden]'))"
+ROWS = "[...document.querySelectorAll('#settle li')].map(({dataset}) => [dataset.name, [Number(dataset.groups), Number(dataset.largest)]])"
 
 
 @needs_packages
 @needs_program()
 @needs_command("chromium", "chromium")
-class Table(unittest.TestCase):
-    served: Served
-    browser: Browser
-
-    @classmethod
-    def setUpClass(cls) -> None:
-        cls.room = tempfile.TemporaryDirectory()
-        cls.folder = pathlib.Path(cls.room.name)
-        cls.served = Served()
-        cls.browser = Browser(str(cls.folder / "browser"))
-        cls.saved = cls.folder / "saved"
-        cls.saved.mkdir()
-        cls.browser.call("Browser.setDownloadBehavior", behavior="allow", downloadPath=str(cls.saved))
-
-    @classmethod
-    def tearDownClass(cls) -> None:
-        cls.browser.close()
-        cls.served.close()
-        cls.room.cleanup()
-
-    def setUp(self) -> None:
-        self.browser.close_tab()
-        self.browser.visit(self.served.address)
-        self.value = self.browser.value
-
-    def tearDown(self) -> None:
-        own = ("drawing", "stop", "solid", "settle", "page")
-        asked = [f"{self.served.origin}/{path}" for path in own] + ["blob:"]
-        odd = [said for said in self.browser.said() if not any(it in said for it in asked)]
-        self.assertEqual(odd, [])
-
-    # ---- what a person does
-
-    def drop(self, file: pathlib.Path) -> float:
-        """Drops a drawing in, and answers after how many seconds a solid, or what is wrong, was seen."""
-        began = time.monotonic()
-        self.browser.drop(file)
-        self.browser.until(f"({HAS_SOLID}) || !!document.querySelector('.told *')", PATIENCE)
-        return time.monotonic() - began
-
-    def drop_example(self, name: str) -> float:
-        seconds = self.drop(EXAMPLES / f"{name}.dxf")
-        self.browser.until(IS_OVER, PATIENCE)
-        return seconds
-
-    def made(self, count: int) -> pathlib.Path:
-        file = self.folder / f"voids_{count}.dxf"
-        file.write_text(file_of(voids(count)))
-        return file
-
-    def press(self, element: str) -> None:
-        self.browser.mouse(element)
-
-    def text(self, place: str) -> str:
-        return str(self.value(f"document.querySelector('{place}').innerText"))
-
-    def picture(self, name: str) -> None:
-        """What is seen, wide, dark and on a small screen, in which nothing may be wider than the screen."""
-        for dress, dark, width in (("wide", False, 1280), ("dark", True, 1280), ("small", False, 390)):
-            self.browser.dark(dark)
-            self.browser.size(width, mobile=width < 800)
-            self.browser.settle()
-            self.value("scrollTo(0, 0)")
-            self.assertLessEqual(self.value("document.documentElement.scrollWidth"), width, (name, dress))
-            if PICTURES:
-                self.browser.picture(pathlib.Path(PICTURES) / f"table_{name}_{dress}.png")
-        self.browser.dark(False)
-        self.browser.size()
-
-    def file_saved(self, name: str) -> bytes:
-        until = time.monotonic() + PATIENCE
-        while not (self.saved / name).exists():
-            self.assertLess(time.monotonic(), until, f"{name} isn't saved; {self.text('.failed')}")
-            time.sleep(0.05)
-        return (self.saved / name).read_bytes()
-
+class Table(Opened):
     # ---- what is seen
 
     def test_nothing_yet(self) -> None:
@@ -125,9 +32,10 @@ class Table(unittest.TestCase):
             answer = answer_of_example(file)
             times[file.stem] = self.drop_example(file.stem)
             words = self.text(".told")
-            self.assertIn(answer.head, words, file.name)
+            self.assertIn(answer.head, words + self.text("footer"), file.name)
             if answer.solids and not FAULT.fullmatch(answer.head) and not CUT.fullmatch(answer.head):
-                self.assertIn(f"choice {answer.solids[0].choice}", self.text(".solids figcaption"), file.name)
+                self.assertEqual(self.value("viewer.choiceOf(0)"), answer.solids[0].choice, file.name)
+                self.assertLess(len(self.text(".solids figcaption")), 120)
         print("from drop to first solid, or to what is wrong:", *(f"{name} {seconds:.2f} s" for name, seconds in times.items()), sep="\n  ")
 
     def test_a_fault_names_its_line(self) -> None:
@@ -141,10 +49,10 @@ class Table(unittest.TestCase):
         self.assertEqual(self.value("document.querySelectorAll('.drawing .suggested').length"), 1)
         self.picture("none")
         self.press(button("Show what it gives", "#why"))
-        self.browser.until(f"({IS_OVER}) && model.count === 3", PATIENCE)
+        self.browser.until(f"({IS_OVER}) && viewer.model.count === 3", PATIENCE)
         self.picture("given")
         self.press("document.querySelector('.given button')")
-        self.browser.until(f"({IS_OVER}) && model.count === 0 && !!document.querySelector('#why li')", PATIENCE)
+        self.browser.until(f"({IS_OVER}) && viewer.model.count === 0 && !!document.querySelector('#why li')", PATIENCE)
 
     def test_thirty_five_solids(self) -> None:
         """They are fixed, compared, told apart by further views, and saved."""
@@ -153,21 +61,20 @@ class Table(unittest.TestCase):
         self.browser.until("!document.getElementById('settle').hidden", PATIENCE)
         rows = dict(self.value(ROWS))
         self.assertEqual([rows[view] for view in ("REAR", "LEFT", "BOTTOM")], [[1, 35]] * 3)
-        section = "section x: 1 to 2"
+        section = "section across x between 1 and 2"
         self.assertEqual(rows[section], [7, 7])
-        self.value("document.querySelector('#settle input').focus()")
-        self.browser.call("Input.insertText", text="1")
-        row = f"[...document.querySelectorAll('#settle tbody tr')].find((row) => row.cells[0].innerText === '{section}')"
-        self.assertEqual(self.value(f"{row}.cells[3].innerText"), "4")
+        self.type_into("#settle input", "1")
+        row = f"[...document.querySelectorAll('#settle li')].find((row) => row.dataset.name === '{section}')"
+        self.assertEqual(self.value(f"{row}.dataset.leaves"), "4")
         self.press(f"{row}.querySelector('button')")
-        self.assertEqual(self.value("fitting.length"), 4)
+        self.assertEqual(self.value("viewer.state.fitting.length"), 4)
         self.assertIn("4 of 35 solids look like solid 1 in section across x between 1 and 2", self.text(".fixing .count"))
         self.press(button("What to add for it"))
-        self.browser.until("document.querySelector('.added').innerText.length > 10", PATIENCE)
+        self.browser.until("document.querySelector('.added .words')?.innerText.length > 10", PATIENCE)
         self.assertIn("It would be settled by a section", self.text(".added"))
-        self.press(button("Undo"))
-        self.assertEqual(self.value("fitting.length"), 35)
-        self.value("[0, 1].forEach(pick)")
+        self.press(button("One step back"))
+        self.assertEqual(self.value("viewer.state.fitting.length"), 35)
+        self.value("[0, 1].forEach(viewer.pick)")
         self.assertRegex(self.text(".pair figcaption"), r"^Solid 1 has, and solid 2 lacks: volume 1$")
         self.picture("several")
         for kind in ("DXF", "STL"):
@@ -177,7 +84,7 @@ class Table(unittest.TestCase):
         self.file_saved("eight_voids.html")
         self.browser.close_tab()
         self.browser.open(self.saved / "eight_voids.html")
-        self.assertEqual(self.value("[model.count, tiles.length]"), [35, 35])
+        self.assertEqual(self.value("[viewer.model.count, viewer.tiles.length]"), [35, 35])
         self.assertIn("35 solids have these views", self.text(".told"))
 
     def test_the_file_of_draft_page_shows_what_a_suggestion_gives(self) -> None:
@@ -188,10 +95,10 @@ class Table(unittest.TestCase):
         self.browser.open(file)
         self.assertIn("solid would give 3 solids", self.text("#why"))
         self.press(button("Show what it gives", "#why"))
-        self.assertEqual(self.value("model.count"), 3)
+        self.assertEqual(self.value("viewer.model.count"), 3)
         self.assertIn("3 solids have these views", self.text(".told"))
         self.press("document.querySelector('.given button')")
-        self.assertEqual(self.value("[model.count, document.querySelectorAll('#why li').length]"), [0, 2])
+        self.assertEqual(self.value("[viewer.model.count, document.querySelectorAll('#why li').length]"), [0, 2])
 
     def test_volumes_are_in_the_unit_of_the_drawing(self) -> None:
         """Of a drawing in tenths of a millimetre, in the captions and where two solids are compared."""
@@ -202,7 +109,7 @@ class Table(unittest.TestCase):
         self.browser.until(IS_OVER, PATIENCE)
         self.assertIn("volume 0.121 mm³", self.text(".solids figcaption"))
         self.assertIn("0.5 mm × 0.5 mm × 0.5 mm", self.text(".solids .size"))
-        self.value("[0, 1].forEach(pick)")
+        self.value("[0, 1].forEach(viewer.pick)")
         self.assertEqual(self.text(".pair figcaption"), "Solid 1 has, and solid 2 lacks: volume 0.001 mm³")
 
     @needs_module("FreeCAD", "freecad-python3", "/usr/lib/freecad-python3/lib")
@@ -218,13 +125,13 @@ class Table(unittest.TestCase):
             self.browser.visit(served.address)
             self.value("document.querySelector('.options').open = true; document.querySelector('[name=solids]').value = '65536'")
             self.browser.drop(self.made(4))
-            self.browser.until("model.count > 0 && !document.querySelector('.progress').hidden", PATIENCE)
+            self.browser.until("viewer.model.count > 0 && !document.querySelector('.progress').hidden", PATIENCE)
             self.value("document.querySelector('.stop').focus()")
             self.browser.key("Enter")
             self.browser.until("/was stopped/.test(document.querySelector('.told').innerText)", PATIENCE)
-            count = self.value("model.count")
+            count = self.value("viewer.model.count")
             self.assertIn(f"stopped: {count:,} solids found", self.text(".told"))
-            self.assertEqual(self.value("new Set(Array.from({length: model.count}, (_, number) => choiceOf(number))).size"), count)
+            self.assertEqual(self.value("new Set(Array.from({length: viewer.model.count}, (_, number) => viewer.choiceOf(number))).size"), count)
             self.browser.until(IS_OVER, PATIENCE)
             self.picture("stopped")
             self.browser.close_tab()
@@ -233,10 +140,10 @@ class Table(unittest.TestCase):
     def test_1225_solids(self) -> None:
         self.drop(self.made(2))
         self.browser.until("/1,225 solids have/.test(document.querySelector('.told').innerText)", PATIENCE)
-        self.assertIn("1,225 solids: 1 to 64", self.text(".fixing .count"))
+        self.assertEqual("1 to 64 of 1,225", self.text(".pager .shown"))
         began = time.monotonic()
         for _ in range(4):
-            self.press(button("Next"))
+            self.press(button("Next", ".pager"))
             self.browser.settle()
         self.assertLess(time.monotonic() - began, 20)
         self.assertEqual(self.text(".solids b"), "Solid 257")
@@ -246,9 +153,9 @@ class Table(unittest.TestCase):
         self.value("document.querySelector('[name=solids]').value = '65536'")
         self.drop(self.made(4))
         self.browser.until("/cut at its limit/.test(document.querySelector('.told').innerText)", 4 * PATIENCE)
-        self.assertEqual(self.value("model.count"), 65_536)
+        self.assertEqual(self.value("viewer.model.count"), 65_536)
         began = time.monotonic()
-        self.press(button("Next"))
+        self.press(button("Next", ".pager"))
         self.browser.settle()
         self.assertLess(time.monotonic() - began, 10)
 
@@ -263,7 +170,7 @@ class Table(unittest.TestCase):
         self.assertIn("35 solids have", self.text(".told"))
         self.browser.close_tab()
         self.browser.turn_to(second)
-        self.assertEqual(self.value("model.count"), 1)
+        self.assertEqual(self.value("viewer.model.count"), 1)
 
     def test_the_server_ends_meanwhile(self) -> None:
         with Served() as served:
@@ -272,7 +179,7 @@ class Table(unittest.TestCase):
             self.drop_example("quartered_cube")
             served.process.kill()
             self.browser.until("/server has ended/.test(document.querySelector('.failed').innerText)", PATIENCE)
-            self.assertEqual(self.value("model.count"), 3)
+            self.assertEqual(self.value("viewer.model.count"), 3)
             self.picture("gone")
             self.browser.events = [event for event in self.browser.events if event["method"] != "Log.entryAdded"]
             self.browser.events = [event for event in self.browser.events if served.origin not in str(event)]
@@ -300,7 +207,7 @@ class Table(unittest.TestCase):
         self.value("document.querySelector('.options').open = true")
         self.browser.give("document.querySelector('[name=second]')", visible)
         self.press(button("Read it so"))
-        self.browser.until(f"({IS_OVER}) && model.count > 0", PATIENCE)
+        self.browser.until(f"({IS_OVER}) && viewer.model.count > 0", PATIENCE)
         self.assertRegex(self.text(".told"), "solids? ha(s|ve) these views")
         self.assertTrue(re.search("mm", self.text(".drawing")) or self.text(".said"))
         self.picture("freecad")

@@ -1,13 +1,12 @@
 """Sheets of each kind come to the answer that the part's own drawing has, or are refused in words."""
 import argparse
 import pathlib
-import re
 import tempfile
 import unittest
 from fractions import Fraction
 
 from drafting import asking, command, program, sheet
-from drafting.answers import Answer, Solid, answer_of, turned_round
+from drafting.answers import Solid, answer_of, turned_round
 from drafting.cells import grid_round
 from drafting.drawing import FURTHER, lines_within, views_of
 from drafting.messages import Refused
@@ -139,8 +138,8 @@ class BrokenFiles(unittest.TestCase):
     def test_what_is_no_sheet_is_refused_in_words(self) -> None:
         rows = {
             "empty": (b"", "is empty"), "blank": (b"\n\n", "is empty"), "text": (b"hello\nworld\n" * 50, "is no DXF file"),
-            "picture": (b"\x89PNG\r\n\x1a\n" + bytes(range(256)) * 40, "is no DXF file"),
-            "cut": ((EXAMPLES / "clevis.dxf").read_bytes()[:700], "."),
+            "picture": (b"\x89PNG\r\n\x1a\n" + bytes(range(256)) * 40, "is a PNG picture, no DXF file: .*draw it anew"),
+            "cut": ((EXAMPLES / "clevis.dxf").read_bytes()[:700], "cut.dxf is cut, it ends without an end"),
             "no_entity": (b"0\nSECTION\n2\nENTITIES\n0\nENDSEC\n0\nEOF\n", "no straight line"),
             "nan": (b"0\nSECTION\n2\nENTITIES\n0\nLINE\n8\n0\n10\nnan\n20\n0\n11\n1\n21\n0\n0\nENDSEC\n0\nEOF\n", "."),
         }

@@ -3,6 +3,8 @@ import pathlib
 import random
 import tempfile
 import unittest
+from collections.abc import Callable
+from typing import Any
 
 from drafting import sheet
 from drafting.drawing import Stroke, written
@@ -16,7 +18,7 @@ try:
     from drafting.cad import FreeCAD, Part, TechDraw
     from drafting.shapes import part_of, views_of
     missing = ""
-except Refused as refusal:
+except Refused:
     missing = "apt-get install freecad-python3"
 
 PARTS = 50
@@ -28,6 +30,24 @@ PLACES = {"FRONT": ((0, -1, 0), (1, 0, 0), (100, 80)), "TOP": ((0, 0, 1), (1, 0,
 TEMPLATE = "/usr/share/freecad/Mod/TechDraw/Templates/A3_Landscape_blank.svg"
 
 
+# What adds to a document's page with its views.
+Annotate = Callable[[Any, Any, list[Any]], None]
+
+
+def with_dimensions_and_a_section(doc: Any, page: Any, views: list[Any]) -> None:
+    """A dimension of each view, and a section across y in the middle of the part, to the right of all views."""
+    for view in views:
+        dimension = doc.addObject("TechDraw::DrawViewDimension", "Dimension")
+        dimension.Type, dimension.References2D = "Distance", [(view, "Edge0")]
+        page.addView(dimension)
+    section = doc.addObject("TechDraw::DrawViewSection", "SectionA")
+    page.addView(section)
+    section.BaseView, section.Source, section.SectionSymbol = views[1], views[1].Source, "A"
+    section.SectionNormal, section.SectionOrigin = FreeCAD.Vector(0, 1, 0), FreeCAD.Vector(30, 20, 15)
+    section.Direction, section.XDirection = FreeCAD.Vector(0, -1, 0), FreeCAD.Vector(1, 0, 0)
+    section.X, section.Y, section.ScaleType, section.Scale = 330, 80, "Custom", views[1].Scale
+
+
 def shape_of(boxes: list[Box]) -> "Part.Shape":
     shape = None
     for word, low, high in boxes:
@@ -37,8 +57,9 @@ def shape_of(boxes: list[Box]) -> "Part.Shape":
     return part_of(shape)
 
 
-def exported(shape: "Part.Shape", folder: pathlib.Path) -> tuple[pathlib.Path, pathlib.Path]:
-    """The two exports of a page with three views, whose middles are at the places that FreeCAD gives the middle of a view."""
+def exported(shape: "Part.Shape", folder: pathlib.Path, scale: float = 1, annotate: Annotate | None = None) -> tuple[pathlib.Path, pathlib.Path]:
+    """The two exports of a page with three views, whose middles are at the places that FreeCAD gives the middle of a view; drawn at a
+    scale, and with what is added to them."""
     doc = FreeCAD.newDocument()
     feature = doc.addObject("Part::Feature", "Shape")
     feature.Shape = shape
@@ -49,8 +70,11 @@ def exported(shape: "Part.Shape", folder: pathlib.Path) -> tuple[pathlib.Path, p
         view = doc.addObject("TechDraw::DrawViewPart", "ProjItem")
         page.addView(view)
         view.Source, view.Direction, view.XDirection = [feature], FreeCAD.Vector(*direction), FreeCAD.Vector(*right)
-        view.X, view.Y, view.Scale = x, y, 1
+        view.X, view.Y, view.ScaleType, view.Scale = x, y, "Custom", scale
         views.append(view)
+    if annotate:
+        doc.recompute()
+        annotate(doc, page, views)
     files = folder / "whole.dxf", folder / "visible.dxf"
     for file, hidden in zip(files, (True, False)):
         for view in views:
@@ -83,6 +107,19 @@ class Pages(unittest.TestCase):
             whole, _ = exported(shape_of([("add", (0, 0, 0), (3, 2, 1)), ("add", (0, 1, 1), (1, 2, 2))]), pathlib.Path(folder))
             with self.assertRaisesRegex(Refused, "which tells no linetypes: .*--visible-only"):
                 sheet.draw(str(whole), arguments("sheet", whole), lambda text: None)
+
+    def test_dimensions_and_a_section_of_a_page_at_half_scale(self) -> None:
+        boxes: list[Box] = [("add", (0, 0, 0), (6, 4, 3)), ("cut", (2, 1, 1), (4, 3, 3)), ("cut", (5, 0, 2), (6, 4, 3))]
+        with tempfile.TemporaryDirectory() as folder:
+            whole, visible = exported(shape_of(boxes), pathlib.Path(folder), 0.5, with_dimensions_and_a_section)
+            words = ("--visible-only", visible)
+            with self.assertRaisesRegex(Refused, "3 dimensions say 2 times the lengths as drawn.*say --scale 1:2"):
+                sheet.draw(str(whole), arguments("sheet", whole, *words), lambda text: None)
+            said: list[str] = []
+            made = sheet.draw(str(whole), arguments("sheet", whole, *words, "--scale", "1:2"), said.append)
+        self.assertIn("found: 3 dimensions say the lengths that they span, at the scale 1:2", said)
+        self.assertIn("a section, group 4, since its lines are on the layer or in the block SectionA", "\n".join(said))
+        self.assertEqual([volume for _, volume, _ in plain_answer(solved(made.text.encode()))], [len(cells_of(boxes)) * SIZE**3])
 
     def one(self, boxes: list[Box], folder: pathlib.Path) -> bool:
         shape = shape_of(boxes)
