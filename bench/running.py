@@ -36,7 +36,7 @@ def built(name):
     path = pathlib.Path(name).resolve()
     if not os.access(path, os.X_OK) or path.is_dir():
         how = "(cd crates/recon && rt run -- solve < ../../examples/unit_cube.dxf)"
-        raise argparse.ArgumentTypeError(f"{path} isn't built: {how}")
+        raise argparse.ArgumentTypeError(f"{path} isn't built: {how} builds it, once it has proved everything, for about an hour")
     return path
 
 
