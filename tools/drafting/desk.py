@@ -91,9 +91,9 @@ class Job:
         return now - self.asked_at > LIFE or bool(self.left) and now - self.left > GRACE
 
     def tell(self, data: bytes) -> None:
-        """Keeps some whole events."""
+        """Keeps some whole events; once it has ended no file comes into its folder, which is being removed."""
         with self.changed:
-            if self.rest:
+            if self.rest or self.has_ended:
                 self.rest += data
             else:
                 try:
@@ -127,6 +127,9 @@ class Job:
             self.changed.notify_all()
         for running in list(self.running):
             running.end()
+        self.clear()
+
+    def clear(self) -> None:
         shutil.rmtree(self.folder, ignore_errors=True)
 
 
@@ -219,6 +222,9 @@ class Desk:
         with job.changed:
             job.is_over = True
             job.changed.notify_all()
+        # A process that began while its page went away may have put a file into its folder.
+        if job.has_ended:
+            job.clear()
 
     def has_turn(self, job: Job, turn: Turn) -> bool:
         """Waits for a job's turn, and tells how many are before it; whether it came before the job was stopped."""

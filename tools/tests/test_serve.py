@@ -1,6 +1,7 @@
 """What `draft serve` takes, refuses and queues, asked as a page does and as no page does; test_serve_page opens pages in a browser."""
 import importlib.util
 import json
+import os
 import pathlib
 import random
 import re
@@ -9,6 +10,7 @@ import tempfile
 import threading
 import time
 import unittest
+import unittest.mock
 from collections import Counter
 from typing import Any
 
@@ -236,6 +238,27 @@ class Serving(unittest.TestCase):
         self.assertEqual(len(choices_in(self.served.follow(CUBE))), 3)
         # Pages that ask no more, and didn't say that they leave, keep their drawing for a while.
         self.served.until_idle(desk.LIFE + 60)
+
+
+class Jobs(unittest.TestCase):
+    def test_what_is_told_while_its_folder_is_removed_leaves_none(self) -> None:
+        with tempfile.TemporaryDirectory() as session:
+            job = desk.Job(pathlib.Path(session))
+            job.tell(b"{}\n")
+            removed = []
+
+            def last_step(path: Any, **how: Any) -> None:
+                """The folder is empty: now its search tells that it is over."""
+                if path == job.folder:
+                    job.tell(b"{}\n")
+                    removed.append(path)
+                rmdir(path, **how)
+
+            rmdir = os.rmdir
+            with unittest.mock.patch("os.rmdir", last_step):
+                job.end()
+            self.assertEqual(removed, [job.folder])
+            self.assertEqual(list(pathlib.Path(session).iterdir()), [])
 
 
 @needs_packages
