@@ -1,5 +1,6 @@
-"""Machines for tests: each a real sshd at 127.0.0.1 with a port, keys and a configuration of its own, by a name in a configuration of ssh
-that is made for the test; where this is root's, with file systems of its own."""
+"""Machines for tests: each a real sshd at 127.0.0.1 with a port, keys, a home and a configuration of its own, by a name in a configuration
+of ssh that is made for the test; where this is root's, with file systems of its own. What a shell reads at a login is the machine's own: what
+stands in the user's home may take a lock, which a machine that is ended in the middle never gives back."""
 import getpass
 import os
 import pathlib
@@ -30,7 +31,7 @@ UsePAM no
 PasswordAuthentication no
 PrintMotd no
 MaxStartups 100
-SetEnv TMPDIR={temporary} PATH={path}
+SetEnv HOME={home} TMPDIR={temporary} PATH={path}
 PidFile none
 """
 CLIENT = """\
@@ -74,9 +75,8 @@ class Machines:
 
     def __init__(self, room: pathlib.Path) -> None:
         self.room = room
-        self.made_runs = os.geteuid() == 0 and not RUNS.exists()
-        if self.made_runs:
-            RUNS.mkdir()
+        if os.geteuid() == 0:
+            RUNS.mkdir(exist_ok=True)
         room.mkdir(parents=True)
         for name in ("host", "user"):
             subprocess.run(["ssh-keygen", "-q", "-t", "ed25519", "-N", "", "-f", room / name], check=True)
@@ -88,8 +88,6 @@ class Machines:
     def close(self) -> None:
         for name in list(self.running):
             self.end(name)
-        if self.made_runs:
-            RUNS.rmdir()
 
     @property
     def variables(self) -> dict[str, str]:
@@ -101,9 +99,11 @@ class Machines:
 
     def begin(self, name: str, hidden: Sequence[pathlib.Path] = (), others: Sequence[tuple[pathlib.Path, pathlib.Path]] = ()) -> None:
         """Begins a machine: it has empty folders in place of those that are hidden, and a file in place of another."""
-        self.temporary(name).mkdir(exist_ok=True)
+        home = self.room / f"home_{name}"
+        for folder in (self.temporary(name), home):
+            folder.mkdir(exist_ok=True)
         port, server = free_port(), self.room / f"sshd_{name}"
-        server.write_text(SERVER.format(port=port, room=self.room, temporary=self.temporary(name), path=os.environ["PATH"]))
+        server.write_text(SERVER.format(port=port, room=self.room, home=home, temporary=self.temporary(name), path=os.environ["PATH"]))
         mounts = [["mount", "-t", "tmpfs", "none", str(it)] for it in hidden]
         mounts += [["mount", "--bind", str(new), str(old)] for new, old in others]
         begin = ["exec", SSHD, "-D", "-e", "-f", str(server)]
