@@ -39,6 +39,16 @@ class Readings(NamedTuple):
     among: int
 
     @property
+    def likeliest(self) -> Answered | None:
+        """The first reading of which some solid is kept, else the first one."""
+        return next(iter(self.kept), self.first)
+
+    @property
+    def choices(self) -> set[str]:
+        """The choices of the solids that are kept in it."""
+        return {one.solid.choice for one in self.likeliest.outcome.kept} if self.likeliest else set()
+
+    @property
     def where(self) -> str:
         """What is added to how many solids there are, where the sheet can be read otherwise."""
         is_plain = not self.kept or self.kept[0].given.reading[0] <= self.among

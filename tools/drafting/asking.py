@@ -267,7 +267,7 @@ def of_sheet(path: str | None, arguments: argparse.Namespace, tell: Tell, comman
         raise
     except Refused as refusal:
         raise Refused(f"{refusal}\n  (--as-is has recon read the file as it is)") from None
-    if rounds and (chosen := next(iter(rounds.kept), rounds.first)):
+    if rounds and (chosen := rounds.likeliest):
         drawn = chosen.drawn
     for note in drawn.notes:
         tell(note)

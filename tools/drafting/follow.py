@@ -33,12 +33,14 @@ from .shown import Units
 NAME = "follow"
 HELP = "ask recon about a drawing, and tell as it goes; `draft serve` runs it"
 
-SQUARED = "changed: solids are shown with their rounds squared off; `draft step` saves them round"
+SQUARED = "changed: solids are shown with their rounds squared off: FreeCAD isn't there, by which they are rounded back"
 Event = dict[str, Any]
 Events = Iterator[Event]
 
 # Of how many listed solids the volumes, and of how many the faces too, are compared with what is shown; and for how many seconds.
 COMPARED, BY_FACES, COMPARING = 4_096, 64, 2.0
+# Of how many solids what is drawn of them is told, where they are rounded back.
+MOST_ROUNDED = 64
 # How many solids, and how many cells of all of them, are settled.
 MOST_SETTLED, MOST_CELLS = 4_096, 40_000_000
 
@@ -80,6 +82,22 @@ def solids_event(choices: list[str]) -> Event:
         return f"{int(choice.ljust(4 * wide, '0') or '0', 2):0{wide}x}"
 
     return {"kind": "solids", "choices": list(map(digits, choices))}
+
+
+def rounds_events(asked: asking.Asked) -> Events:
+    """What came of a sheet with rounds; and what is drawn of the solids that are kept, in place of their cells."""
+    rounds, first = asked.rounds, asked.rounds and asked.rounds.likeliest
+    if not rounds:
+        return
+    shapes = [one for one in first.outcome.kept if one.shape is not None] if first else []
+    yield from map(said, [*(first.outcome.told() if first else []), *rounds.told(), *(f"warning: {it}" for it in (first.given.doubts if first else ()))])
+    if not first or not shapes:
+        yield said(SQUARED)
+        return
+    from .meshes import meshes
+    yield {"kind": "rounded", "solids": list(meshes(shapes[:MOST_ROUNDED], first.given, asked))}
+    if len(shapes) > MOST_ROUNDED:
+        yield said(f"changed: {many(MOST_ROUNDED, 'solid')} are shown round, and the others with their rounds squared off")
 
 
 def end_event(how: str, html: str, text: str = "") -> Event:
@@ -132,12 +150,9 @@ class Search:
         """The choices that are shown: of a sheet with rounds those of the solids that are kept."""
         return [choice for choice in self.choices if self.kept is None or choice in self.kept]
 
-    def rounds_told(self, rounds: Readings) -> Events:
-        """What came of a sheet with rounds; those solids are shown that are kept."""
-        self.rounds, first = rounds, next(iter(rounds.kept), rounds.first)
-        self.kept = {one.solid.choice for one in first.outcome.kept} if first else set()
-        doubts = [f"warning: {it}" for it in first.given.doubts] if first else []
-        yield from map(said, [SQUARED, *(first.outcome.told() if first else []), *rounds.told(), *doubts])
+    def take_rounds(self, rounds: Readings | None) -> None:
+        """Of a sheet with rounds those solids are shown that are kept."""
+        self.rounds, self.kept = rounds, rounds and rounds.choices
 
     def stop(self) -> None:
         self.is_stopped = True
@@ -342,8 +357,8 @@ def follow(arguments: argparse.Namespace, search: Search) -> Events:
             yield drawing_event(asked.lines, Units(asked.decimals, asked.origin), head)
             yield end_event("fault", shown.fault_told(head, asked.lines))
             return
-        if asked.rounds:
-            yield from search.rounds_told(asked.rounds)
+        search.take_rounds(asked.rounds)
+        yield from rounds_events(asked)
         yield from search.events(asked.data, asked.decimals, arguments)
         if WHOLE.fullmatch(search.head) and not search.choices:
             known = asked._replace(run=program.Run(program.WHOLE, f"{search.head}\n", 0.0))

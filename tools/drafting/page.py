@@ -18,7 +18,7 @@ import pathlib
 import re
 from collections.abc import Iterator
 
-from . import asking, follow, rooms, shown
+from . import answering, asking, follow, program, rooms, sheet, shown
 from .answers import CUT, FAULT, Answer, answer_of, text_of
 from .drawing import decimals_of, lines_of, lines_within, missing_in, origin_of, views_of
 from .follow import Event, Events
@@ -125,15 +125,20 @@ def checked_choices(answer: Answer, blocks: rooms.Blocks) -> list[str]:
     return [solid.choice for solid in answer.solids]
 
 
-def answer_told(lines: list[str], answer: Answer) -> Events:
+def rounds_of(lines: list[str], text: str, units: Units) -> answering.Readings | None:
+    """What comes of the solids of an answer, where rounds of its drawing were squared off."""
+    given, drawn = given_in(lines), sheet.Drawn("\n".join(lines), units.decimals, units.origin)
+    return answering.of_drawing(drawn, given, lambda *_: program.Run(program.WHOLE, text, 0.0)) if given else None
+
+
+def answer_told(lines: list[str], text: str) -> Events:
     """An answer that is given, as it would be told while the program runs."""
+    answer = answer_of(text)
     head = answer.head
     units = Units(answer.decimals if answer.solids else decimals_of(lines), origin_of(lines))
     views = views_of(lines)
     for text in asking.passed_over_told(lines):
         yield follow.said(f"warning: {text}")
-    if given_in(lines):
-        yield follow.said(follow.SQUARED)
     if units.origin.mirrored:
         yield follow.said("found: the side view is the left one: the drawing is shown in a mirror, and the solids as they are")
     if not any(views.values()) and not FAULT.fullmatch(head):
@@ -142,13 +147,16 @@ def answer_told(lines: list[str], answer: Answer) -> Events:
     if FAULT.fullmatch(head):
         yield follow.end_event("fault", shown.fault_told(head, lines))
         return
+    rounds = rounds_of(lines, text, units)
+    yield from follow.rounds_events(asking.Asked(b"", lines, units.decimals, units.origin, program.Run(program.WHOLE, text, 0.0), None, rounds))
     choices: list[str] = []
     if answer.solids:
         blocks = rooms.blocks_of(sheet_of(views, units.decimals))
-        choices = checked_choices(answer, blocks)
+        choices = [it for it in checked_choices(answer, blocks) if rounds is None or it in rounds.choices]
         yield follow.grid_event(blocks, units)
         yield follow.solids_event(choices)
-    yield follow.end_event("cut" if CUT.fullmatch(head) else "whole", shown.head_told(head, answer.listed, missing_in(views)))
+    count = answer.listed if rounds is None else len(choices)
+    yield follow.end_event("cut" if CUT.fullmatch(head) else "whole", shown.head_told(head, count, missing_in(views), rounds))
     if len(choices) > 1:
         yield follow.means_event(blocks, choices, lines, units.decimals)
 
@@ -177,7 +185,7 @@ def events_of(arguments: argparse.Namespace) -> Iterator[Event]:
         return map(json.loads, pathlib.Path(arguments.events).read_text().splitlines())
     if not arguments.answer:
         return told_by_program(arguments)
-    return answer_told(lines_of(arguments.drawing), answer_of(text_of(arguments.answer)))
+    return answer_told(lines_of(arguments.drawing), text_of(arguments.answer))
 
 
 def add_arguments(parser: argparse.ArgumentParser) -> None:

@@ -4,7 +4,6 @@ Where two parts of a solid touch along an edge alone four triangles meet at that
 join two and two: this is told, and `draft step` writes each part with a closed shell of its own.
 """
 import argparse
-import math
 import re
 from fractions import Fraction
 
@@ -60,21 +59,18 @@ def number_among_all(asked: asking.Asked, whole: bytes, arguments: argparse.Name
     return choices_of(whole, arguments).index(fitting[arguments.solid - 1]) + 1
 
 
-# The fewest sides of a circle.
-SIDES = 48
-
-
 def of_rounds(asked: asking.Asked, number: int) -> str:
     """The triangles of a solid with rounds: each circle as a prism of so many sides at least, by the least one's chord height."""
     from .bodies import turned_round as in_a_mirror
+    from .meshes import SIDES, fineness
     if not 1 <= number <= len(asked.kept):
         raise Refused(f"there is no solid {number}: {many(len(asked.kept), 'solid')} of this sheet are kept")
     one, given = asked.kept[number - 1], given_in(asked.lines)
     if one.shape is None or given is None:
         raise Refused(kept.LACKING)
     shape = in_a_mirror(one.shape) if asked.origin.mirrored else one.shape
-    times, least = float(asked.origin.times), min(it.radius for it in given.rounds)
-    points, triangles = shape.scale(1 / times).tessellate(least / times * (1 - math.cos(math.pi / SIDES)))
+    times = float(asked.origin.times)
+    points, triangles = shape.scale(1 / times).tessellate(fineness(given) / times)
     rows = ["solid rounded"]
     for corners in ([points[at] for at in triangle] for triangle in triangles):
         normal = (corners[1] - corners[0]).cross(corners[2] - corners[0])

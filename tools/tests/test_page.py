@@ -35,7 +35,7 @@ CUBE = [rectangle("FRONT", 0, 0, 3), rectangle("TOP", 0, 9, 3), rectangle("SIDE"
 
 class Pages(unittest.TestCase):
     def told(self, lines: list[str], text: str) -> list[Event]:
-        return list(page.answer_told(lines, answer_of(text)))
+        return list(page.answer_told(lines, text))
 
     def made(self, lines: list[str], text: str) -> str:
         return page.page("part.dxf", self.told(lines, text), 64)

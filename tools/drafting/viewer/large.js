@@ -1,10 +1,11 @@
 // One solid large: turned and zoomed, cut by a section, with its three views beside.
 import { change, state, when } from "./state.js";
 import { find } from "./pieces.js";
-import { cellsOfSolid, measured, model, rankOf, volumeOfSolid } from "./model.js";
+import { cellsOfSolid, model, rankOf } from "./model.js";
 import { Tile, renderer } from "./scene.js";
 import { others, redraw, tiles, watched } from "./tiles.js";
 import { brushAt, kindsNow } from "./choices.js";
+import { shapeOf, volumeTold } from "./rounded.js";
 import { cellsAlong, sectionPicture, sectionTold, viewPicture } from "./views.js";
 
 export let largeTile = null;
@@ -34,14 +35,14 @@ function showLarge() {
   const number = state.large;
   const place = state.fitting.indexOf(number);
   dialog.querySelector("h2").textContent = `Solid ${number + 1}`;
-  dialog.querySelector(".volume").textContent = `volume ${measured(volumeOfSolid(number), 3)}`;
+  dialog.querySelector(".volume").textContent = `volume ${volumeTold(number)}`;
   dialog.querySelector("canvas").setAttribute("aria-label", `Solid ${number + 1}, large: turned by arrow keys, larger and smaller by + and -`);
   dialog.querySelector(".before").disabled = place <= 0;
   dialog.querySelector(".after").disabled = place < 0 || place === state.fitting.length - 1;
   dialog.querySelector(".several-only").hidden = model.count < 2;
   dialog.querySelector(".views-of").replaceChildren(...["TOP", "FRONT", "SIDE"].map((view) => captioned(view, viewPicture(number, view))));
   showCut(dialog, number);
-  largeTile.show(...cellsLeft(number));
+  largeTile.show(...cellsLeft(number), state.section ? null : shapeOf(number));
   redraw();
 }
 
@@ -134,7 +135,7 @@ export function listenForLarge() {
   largeTile = watched(new Tile(dialog.querySelector("canvas")));
   largeTile.isPlain = true;
   others.push(largeTile);
-  when(["large", "section"], showLarge);
+  when(["large", "section", "squared"], showLarge);
   when(["large", "meant"], showMark);
   when(["zoom"], showZoom);
   listenInside(dialog);

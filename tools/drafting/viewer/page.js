@@ -10,6 +10,7 @@ import { addFitting, findFitting, listenForFixing } from "./choices.js";
 import { listenForPaging } from "./paging.js";
 import { listenForPairs, pair } from "./compare.js";
 import { largeTile, listenForLarge } from "./large.js";
+import { listenForRounded, resetRounded, takeRounded } from "./rounded.js";
 import { listenForMeans, resetMeans, takeMeans } from "./settle.js";
 import { giveBy, listenForLengths, resetSaid, showLooking, showSaid, showSuggestion } from "./said.js";
 import { linesOf } from "./views.js";
@@ -23,6 +24,7 @@ export function resetPage() {
   resetMeans();
   resetSaid();
   resetTiles();
+  resetRounded();
   taken = [];
   change({
     how: "", means: [], fixed: new Map(), kept: null, fitting: [], fullIn: new Float64Array(0), first: 0, meant: null, picked: [], large: null,
@@ -42,6 +44,7 @@ const TAKES = {
   tiles: ({ count }) => change({ most: count }),
   said: ({ text }) => showSaid(text),
   drawing: ({ html }) => (find(".drawing").innerHTML = html),
+  rounded: takeRounded,
   grid: takeNewGrid,
   solids: takeSolids,
   end: takeEnd,
@@ -145,7 +148,7 @@ export function offerBack(suggestion, goBack) {
 
 function begin() {
   giveBy({ isServed: false, show: showGiven });
-  for (const listen of [listenForTiles, listenForTurns, listenForFixing, listenForPaging, listenForPairs, listenForLarge, listenForMeans, listenForLengths]) listen();
+  for (const listen of [listenForTiles, listenForTurns, listenForFixing, listenForPaging, listenForPairs, listenForLarge, listenForRounded, listenForMeans, listenForLengths]) listen();
   look(START.right, START.above);
   const events = JSON.parse(document.getElementById("events").textContent);
   if (events.length) replay(events);

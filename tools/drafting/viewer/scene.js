@@ -76,13 +76,39 @@ function edgesOf(cells) {
   return new THREE.LineSegmentsGeometry().setPositions(ends);
 }
 
+// ---- what is drawn of one that is rounded back
+
+/** How light a surface is that looks this way: each axis has its share of it. */
+function shadeOf(normal) {
+  return normal.reduce((shade, along, axis) => shade + along * along * SHADES[2 * axis + (along > 0)], 0);
+}
+
+/** Its faces, each with points of its own, so that it is smooth within and sharp at its rim. */
+function facesOf({ points, triangles }) {
+  const geometry = new THREE.BufferGeometry();
+  geometry.setAttribute("position", new THREE.Float32BufferAttribute(points, 3));
+  geometry.setIndex(triangles);
+  geometry.computeVertexNormals();
+  const { array } = geometry.getAttribute("normal");
+  const shades = Array.from(array, (_, at) => shadeOf([0, 1, 2].map((axis) => array[at - (at % 3) + axis])));
+  geometry.setAttribute("color", new THREE.Float32BufferAttribute(shades, 3));
+  return geometry;
+}
+
+/** Its edges, stretch by stretch. */
+function stretchesOf({ edges }) {
+  const ends = [];
+  for (const way of edges) for (let at = 0; at + 5 < way.length; at += 3) ends.push(...way.slice(at, at + 6));
+  return new THREE.LineSegmentsGeometry().setPositions(ends);
+}
+
 // ---- colours
 
 function faceMaterials(options) {
   return Array.from({ length: 6 * KINDS.length }, () => new THREE.MeshBasicMaterial(options));
 }
 
-let solidFaces, plainFaces, clearFaces, edgeLines, lightLines, faintLines;
+let solidFaces, plainFaces, clearFaces, roundFaces, clearRound, edgeLines, lightLines, faintLines;
 export let camera;
 export let renderer = null;
 
@@ -97,6 +123,8 @@ export function startDrawing() {
   solidFaces = faceMaterials({ polygonOffset: true, polygonOffsetFactor: 1, polygonOffsetUnits: 1 });
   plainFaces = solidFaces.map((_, number) => solidFaces[number % 6]);
   clearFaces = faceMaterials({ transparent: true, opacity: 0.16, depthWrite: false });
+  roundFaces = new THREE.MeshBasicMaterial({ vertexColors: THREE.VertexColors, polygonOffset: true, polygonOffsetFactor: 1, polygonOffsetUnits: 1 });
+  clearRound = new THREE.MeshBasicMaterial({ vertexColors: THREE.VertexColors, transparent: true, opacity: 0.16, depthWrite: false });
   edgeLines = new THREE.LineMaterial();
   // Before the edges of all, and behind the edges of marked cells, where both are at the same place.
   lightLines = new THREE.LineMaterial({ polygonOffset: true, polygonOffsetFactor: -2, polygonOffsetUnits: -2 });
@@ -114,6 +142,8 @@ export function takeColours() {
     material.color = colour(KINDS[Math.floor(number / 6)]).multiplyScalar(SHADES[number % 6]);
     clearFaces[number].color = colour("--faint").multiplyScalar(SHADES[number % 6]);
   });
+  roundFaces.color = colour(KINDS[0]);
+  clearRound.color = colour("--faint");
   edgeLines.color = colour("--edge");
   lightLines.color = colour("--edge-light");
   faintLines.color = colour("--faint");
@@ -132,11 +162,11 @@ export function frameGrid() {
   camera.updateProjectionMatrix();
 }
 
-/** A canvas that shows a solid, whose cells are of several kinds. */
+/** A canvas that shows a solid, whose cells are of several kinds, or one that is rounded back, by its shape. */
 export class Tile {
   constructor(canvas) {
     this.canvas = canvas;
-    this.cells = this.kinds = null;
+    this.cells = this.kinds = this.shape = null;
     this.scene = null;
     this.isSeen = false;
     this.through = false;
@@ -144,18 +174,18 @@ export class Tile {
     this.zoom = 1;
   }
 
-  show(cells, kinds) {
+  show(cells, kinds, shape = null) {
     this.scene?.traverse((part) => part.geometry?.dispose());
     this.scene = null;
-    [this.cells, this.kinds] = [cells, kinds];
+    [this.cells, this.kinds, this.shape] = [cells, kinds, shape];
   }
 
   /** Makes what is drawn: the solid's surface and edges, and those of its cells of other kinds than the first. */
   build() {
     const marked = this.cells.map((full, place) => full & (this.kinds[place] > 0));
     const few = this.cells.map((full, place) => full & (this.kinds[place] === FEW));
-    this.skin = new THREE.Mesh(surfaceOf(this.cells, this.kinds));
-    this.lines = new THREE.LineSegments2(edgesOf(this.cells));
+    this.skin = new THREE.Mesh(this.shape ? facesOf(this.shape) : surfaceOf(this.cells, this.kinds));
+    this.lines = new THREE.LineSegments2(this.shape ? stretchesOf(this.shape) : edgesOf(this.cells));
     this.marks = new THREE.Mesh(surfaceOf(marked, this.kinds), solidFaces);
     this.markLines = new THREE.LineSegments2(edgesOf(few), lightLines);
     this.scene = new THREE.Scene();
@@ -164,9 +194,10 @@ export class Tile {
 
   /** Shows the cells of other kinds within, through clear faces, or the solid as it looks from outside. The darkest kind has light edges. */
   dress() {
-    this.skin.material = this.through ? clearFaces : this.coloured ? solidFaces : plainFaces;
+    const faces = this.coloured ? solidFaces : plainFaces;
+    this.skin.material = this.shape ? (this.through ? clearRound : roundFaces) : this.through ? clearFaces : faces;
     this.lines.material = this.through ? faintLines : edgeLines;
-    const isMarked = this.marks.geometry.index.count > 0 && this.coloured;
+    const isMarked = !this.shape && this.marks.geometry.index.count > 0 && this.coloured;
     this.marks.visible = isMarked && this.through;
     this.markLines.visible = isMarked && this.markLines.geometry.attributes.instanceStart?.count > 0;
   }

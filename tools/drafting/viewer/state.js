@@ -11,9 +11,9 @@ export const state = {
   meant: null, picked: [], large: null,
   // How large: how much larger than fitted, and the section: its axis and the layer of cells that it cuts.
   zoom: 1, section: null,
-  // From where they are seen, in degrees to the right of the front and above it; how they are drawn; and whether a click on a block fixes
-  // it full (1) or empty (0).
-  right: -32, above: 27, through: false, coloured: true, brush: null,
+  // From where they are seen, in degrees to the right of the front and above it; how they are drawn, rounds squared off or not; and
+  // whether a click on a block fixes it full (1) or empty (0).
+  right: -32, above: 27, through: false, coloured: true, squared: false, brush: null,
   // The further view or section that is drawn for the solid that is meant, by its name.
   pictured: null,
 };

@@ -1,9 +1,10 @@
 // The tiles: a figure for each solid that is shown, with what is known of it and what can be done with it; and when each is drawn.
 import { change, state, when } from "./state.js";
 import { buttonOf, copyBy, find, spanOf } from "./pieces.js";
-import { cellsOfSolid, choiceOf, measured, model, outsideOf, sizesOf, volumeOfSolid } from "./model.js";
+import { cellsOfSolid, choiceOf, measured, model, outsideOf, sizesOf } from "./model.js";
 import { Tile, renderer, takeColours } from "./scene.js";
 import { kindsNow, numberAt } from "./choices.js";
+import { shapeOf, volumeTold } from "./rounded.js";
 
 /** The tiles of the solids, and further ones beside them, which turn with them. */
 export let tiles = [];
@@ -93,7 +94,7 @@ function showFigure(figure, at, kinds) {
   if (figure.hidden) return;
   const cells = cellsOfSolid(number);
   const name = `solid ${number + 1}`;
-  const volume = measured(volumeOfSolid(number), 3);
+  const volume = volumeTold(number);
   figure.querySelector("b").textContent = `Solid ${number + 1}`;
   figure.querySelector(".volume").textContent = `volume ${volume}`;
   figure.querySelector(".size").textContent = sizesOf(cells).map((size) => measured(size)).join(" × ");
@@ -101,7 +102,7 @@ function showFigure(figure, at, kinds) {
   const names = { large: `Show ${name} large`, meant: `${name[0].toUpperCase()}${name.slice(1)} is meant`, compare: `Compare ${name}`, copy: `Copy the choice of ${name}` };
   for (const [kind, words] of Object.entries(names)) figure.querySelector(`.${kind}`).setAttribute("aria-label", words);
   for (const button of figure.querySelectorAll("[data-form]")) button.setAttribute("aria-label", `Save ${name} as ${button.textContent}`);
-  tiles[at].show(cells, kinds);
+  tiles[at].show(cells, kinds, shapeOf(number));
 }
 
 /** Shows the solids that fit, from the first one on. */
@@ -152,7 +153,7 @@ function setShown() {
 }
 
 export function listenForTiles() {
-  when(["fitting", "first"], showTiles);
+  when(["fitting", "first", "squared", "brush"], showTiles);
   when(["meant", "picked"], markTiles);
   when(["through", "coloured"], setShown);
   for (const id of ["through", "coloured"]) {
