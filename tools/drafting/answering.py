@@ -2,6 +2,7 @@
 them, where that is asked for."""
 import argparse
 import itertools
+import time
 from collections.abc import Callable
 from typing import NamedTuple
 
@@ -12,6 +13,8 @@ from .given import Given, given_in
 from .kept import Outcome
 from .messages import Progress, Refused, many
 
+# For how many seconds readings are tried, unless the caller says otherwise.
+SECONDS = 300.0
 # What runs the program over a drawing of so many decimals.
 Asker = Callable[[bytes, int], program.Run]
 
@@ -30,13 +33,14 @@ class Answered(NamedTuple):
 
 
 class Readings(NamedTuple):
-    """What came of the readings of a sheet that were tried: those of which solids are kept, or else the first one; and how many were tried,
-    of how many."""
+    """What came of the readings of a sheet that were tried: those of which solids are kept, or else the first one; how many were tried, of how
+    many; and, where no more were tried for want of time, within how many seconds."""
 
     kept: list[Answered]
     first: Answered | None
     tried: int
     among: int
+    seconds: float | None = None
 
     @property
     def likeliest(self) -> Answered | None:
@@ -63,8 +67,12 @@ class Readings(NamedTuple):
                 f"{'was' if self.tried == 1 else 'were'} tried."]
         if number > self.among:
             rows.append("None of them gives a solid that is kept: here also ends of lines were moved, or fillets squared off to their centres.")
-        elif self.tried < self.among:
+        elif self.tried < self.among and self.seconds is not None:
+            rows.append(f"No more were tried in {self.seconds:g} seconds (--reading-seconds): other solids may have the sheet in the others.")
+        elif self.tried < self.among and self.kept:
             rows.append(f"This is number {number}; other solids may have the sheet in the others (of a sheet --all-readings tries them).")
+        elif self.tried < self.among:
+            rows.append("It keeps no solid; the sheet itself, in place of this drawing of it, is read in the others too.")
         elif self.kept:
             rows.append("No other solid is kept in any of them.")
         return rows
@@ -92,7 +100,11 @@ def readings(drawn: sheet.Drawn, ask: Asker, arguments: argparse.Namespace) -> R
     """Tries the readings of a sheet, the likeliest first: the plain ones, and the others where no solid of these is kept."""
     result, its = Readings([], None, 0, 1), itertools.chain([drawn], drawn.others)
     empty: set[str] = set()
+    until = time.monotonic() + arguments.reading_seconds
     for one in its:
+        if result.tried and time.monotonic() > until:
+            result = result._replace(seconds=arguments.reading_seconds)
+            break
         Progress.show(f"reading {result.tried + 1} of {result.among} is tried")
         if isinstance(one, Refused) or lines_in(one) in empty:
             continue

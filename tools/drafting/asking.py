@@ -111,6 +111,8 @@ def add_reading(parser: argparse.ArgumentParser) -> None:
     parser.add_argument("--as-is", action="store_true", help="the program reads the file as it is, and no sheet is drawn for it")
     parser.add_argument("--decimals", type=int, choices=range(7), help="how many decimals the file is read with as it is (else found)")
     parser.add_argument("--all-readings", action="store_true", help="of a sheet whose lines may be tangent edges all readings are tried")
+    parser.add_argument("--reading-seconds", type=float, default=answering.SECONDS, metavar="SECONDS",
+                        help=f"for so long readings are tried (else {answering.SECONDS:g}); what was left is told")
     program.add_arguments(parser)
     sheet.add_options(parser)
 

@@ -343,6 +343,16 @@ class TangentEdges(InAFolder):
         self.assertIn("has these views: the search was whole.", told[0])
         self.assertRegex("\n".join(told), r"of (\d+) readings \1 were tried\.\nNo other solid is kept in any of them")
 
+    def test_time_is_limited(self) -> None:
+        shape = filleted(box(0, 0, 0, 40, 30, 8), 6, 2, lambda point: point.x > 39).cut(cylinder(2, (12, 15), 0, 8, 4))
+        parts.sheet_of(shape, self.file, groups=(0, 1, 3, 5, 8))
+        asked = self.asked("--all-readings", "--reading-seconds", 0)
+        self.exact(shape, asked)
+        assert asked.rounds
+        told = "\n".join(rounded_told(asked, asked.rounds, 9))
+        self.assertIn("as its lines are read here", told)
+        self.assertRegex(told, r"of \d+ readings 1 was tried\.\nNo more were tried in 0 seconds \(--reading-seconds\)")
+
 
 class Changed(InAFolder):
     """A radius, a centre or a style that is changed on the sheet never keeps the part."""
