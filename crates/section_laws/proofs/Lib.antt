@@ -1,0 +1,6 @@
+pub mod ShadedColumns
+pub mod CutDrawing
+pub mod ShadedUnion
+pub mod SectionDrawing
+pub mod ChosenPlaces
+pub mod AreaDrawing
