@@ -24,7 +24,7 @@ use Rattle.solid_model.proofs.Fullness.{is_full-member, member-is_full}
 use Rattle.solid_model.proofs.Gaps.{lies_in}
 use Rattle.solid_model.proofs.Styles.{one_style}
 use Rattle.solid_model.proofs.Views.{places_of_cell_in, cell_on_twice}
-use Rattle.section_laws.specs.Sections.{is_cut, cut_area}
+use Rattle.section_laws.specs.Sections.{is_cut, cut_area, seen_style}
 use Rattle.section_laws.specs.Shaded.{AreSlab, IsCutGap}
 use Rattle.section_laws.proofs.ShadedUnion.{near_end, near_end_there, nearest, comes_itself, gap_of, moved, numbers_within, in_chosen, steady_in, numbered_at}
 
@@ -45,7 +45,7 @@ module _ (f : Frame) (is : IsFrame f) (plane : ℤ) (s : List Cell) where
   abbrev touches : Cell → Bool
   touches = is_cut f plane
 
-  full_area : (c : Cell) → is_full area c ≡ (touches c && is_full s c)
+  pub full_area : (c : Cell) → is_full area c ≡ (touches c && is_full s c)
   full_area c = same_tests (is_full area c) (touches c && is_full s c)
       (λ e. let m = member-from_filter touches s c (is_full-member area c e) in and_from (touches c) (is_full s c) m.1 (member-is_full s c m.0))
       (λ e. let p = and_parts (touches c) (is_full s c) e in member-is_full area c (member-filter touches s c (is_full-member s c p.1) p.0))
@@ -112,17 +112,21 @@ module _ (f : Frame) (is : IsFrame f) (plane : ℤ) (s : List Cell) where
           (turned (column_after f (is_full other) g) (column_before f (is_full other) g) same)),
     )
 
-    -- the same style, whichever it is
-    one_of : (style kind : Style) → Draws f (is_full area) g style → Draws f (is_full area) g kind × Draws f (is_full other) g kind → Draws f (is_full other) g style
-    one_of style kind drawn both = subst (Draws f (is_full other) g) (one_style f (is_full area) g kind style both.0 drawn) both.1
+    -- so neither has a hidden edge
+    abbrev Drawn : Style → Type 0
+    Drawn style = Draws f (is_full area) g style → Draws f (is_full other) g (seen_style style)
 
-    by_sides : (x y : Bool) → a ≡ x → b ≡ y → (style : Style) → Draws f (is_full area) g style → Draws f (is_full other) g style
-    by_sides true true p r style drawn = one_of style Blank drawn (both_blank (λ e. r) (λ e. p))
-    by_sides false false p r style drawn = one_of style Blank drawn (both_blank (λ e. absurd (both_ways a p e)) (λ e. absurd (both_ways b r e)))
-    by_sides true false p r style drawn = one_of style Solid drawn (both_solid p r)
-    by_sides false true p r style drawn = one_of style Solid drawn (both_solid_too p r)
+    one_of : (kind style : Style) → seen_style kind ≡ kind → Draws f (is_full area) g kind × Draws f (is_full other) g kind → Drawn style
+    one_of kind style seen both drawn = subst (λ k. Draws f (is_full other) g (seen_style k)) (one_style f (is_full area) g kind style both.0 drawn)
+        (subst (Draws f (is_full other) g) (sym seen) both.1)
 
-    area_drawn_by : (style : Style) → Draws f (is_full area) g style → Draws f (is_full other) g style
+    by_sides : (x y : Bool) → a ≡ x → b ≡ y → (style : Style) → Drawn style
+    by_sides true true p r style = one_of Blank style refl (both_blank (λ e. r) (λ e. p))
+    by_sides false false p r style = one_of Blank style refl (both_blank (λ e. absurd (both_ways a p e)) (λ e. absurd (both_ways b r e)))
+    by_sides true false p r style = one_of Solid style refl (both_solid p r)
+    by_sides false true p r style = one_of Solid style refl (both_solid_too p r)
+
+    area_drawn_by : (style : Style) → Drawn style
     area_drawn_by = by_sides a b refl refl
 
 module _ (f : Frame) (is : IsFrame f) (coordinates : Coordinates) (ascends : (a : Axis) → Ascends ◌<ℤ◌ (coordinates a))
@@ -163,5 +167,5 @@ module _ (f : Frame) (is : IsFrame f) (coordinates : Coordinates) (ascends : (a 
         (numbered_at f.away.axis gap lit.number, sym (union.inside (numbered f.away.axis gap lit.number) _ lies) ∙ full);
   }
 
-  pub area_drawn : (g : Segment) (style : Style) → Draws f (is_full (cut_area f plane s)) g style → Draws f (is_full other) g style
+  pub area_drawn : (g : Segment) (style : Style) → Draws f (is_full (cut_area f plane s)) g style → Draws f (is_full other) g (seen_style style)
   area_drawn g style = area_drawn_by f is plane s other g near_depth Inside (fills_gap g (line_of g)) (fills_gap g (line_of g -ℤ pos 1)) style

@@ -4,3 +4,5 @@ pub mod ShadedUnion
 pub mod SectionDrawing
 pub mod ChosenPlaces
 pub mod AreaDrawing
+pub mod CutGaps
+pub mod LeftCells

@@ -1,5 +1,5 @@
 -- Sections: a solid is cut by a plane across the sight axis, what stands before it is taken away, and hidden edges are left out.
-use Rattle.std.specs.Prelude.{Bool, List, ℤ, int_le}
+use Rattle.std.specs.Prelude.{Bool, List, ℤ, int_le, if◌then◌else◌}
 use Rattle.std.specs.List.{filter}
 use Rattle.std.specs.Ordering.{int_eq}
 use Rattle.solid_model.specs.declared.cell.Cell.{Cell}
@@ -25,6 +25,10 @@ rest_behind f plane s = filter (is_behind f plane) s
 -- the cells that the plane cuts through, or on whose near sides it lies: what is hatched
 abbrev pub cut_area : Frame → ℤ → List Cell → List Cell
 cut_area f plane s = filter (is_cut f plane) s
+
+-- of which a view shows the solid lines: of the cut area, or of all that is left
+abbrev pub left_by : Frame → ℤ → Bool → List Cell → List Cell
+left_by f plane area s = if area then cut_area f plane s else rest_behind f plane s
 
 -- a style where hidden edges are left out
 abbrev pub seen_style : Style → Style

@@ -32,7 +32,7 @@ pub fn sections_are_views_of_shaded_cells()
 {}
 
 /// The cut area draws what the whole view of another solid draws: of the grid cells in the gap that
-/// the plane lies in.
+/// the plane lies in. No edge of it is hidden.
 pub fn areas_are_views_of_their_slab()
     ensures { (f : Frame) → IsFrame f
         → (coordinates : Coordinates) → ((a : Axis) → Ascends ◌<ℤ◌ (coordinates a))
@@ -41,7 +41,7 @@ pub fn areas_are_views_of_their_slab()
         → IsUnionOf coordinates slab (is_full other)
         → (plane : ℤ) → IsCutGap f.away (coordinates f.away.axis) plane gap
         → (g : Segment) (style : Style) → Draws f (is_full (cut_area f plane s)) g style
-        → Draws f (is_full other) g style }
+        → Draws f (is_full other) g (seen_style style) }
 {}
 
 /// What a small solid without symmetry shows when it is cut, by hand: which side is left, what the

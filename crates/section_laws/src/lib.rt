@@ -7,7 +7,8 @@
 #![tactic(auto)]
 
 mod cut_cells;
+mod gaps;
 mod laws;
+mod left_cells;
 
-pub use cut_cells::{shaded_cells, slab_cells};
 pub use laws::{areas_are_views_of_their_slab, sections_are_views_of_shaded_cells, small_sections};
