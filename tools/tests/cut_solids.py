@@ -18,7 +18,8 @@ def unit_cells(cells: Iterable[Cell], cuts: list[list[int]]) -> set[Cell]:
     """The unit cells of a solid that is told by the cells of a grid."""
     found: set[Cell] = set()
     for cell in cells:
-        found.update(itertools.product(*(range(cut[at], cut[at + 1]) for cut, at in zip(cuts, cell))))
+        xs, ys, zs = (range(cut[at], cut[at + 1]) for cut, at in zip(cuts, cell))
+        found.update((x, y, z) for x in xs for y in ys for z in zs)
     return found
 
 
