@@ -24,7 +24,7 @@ use Rattle.solid_model.proofs.Fullness.{is_full-member, member-is_full}
 use Rattle.solid_model.proofs.Gaps.{lies_in}
 use Rattle.solid_model.proofs.Styles.{one_style}
 use Rattle.solid_model.proofs.Views.{places_of_cell_in, cell_on_twice}
-use Rattle.section_laws.specs.Sections.{is_cut, cut_area, seen_style}
+use Rattle.section_laws.specs.Sections.{is_cut, cut_area, visible_style}
 use Rattle.section_laws.specs.Shaded.{AreSlab, IsCutGap}
 use Rattle.section_laws.proofs.ShadedUnion.{near_end, near_end_there, nearest, comes_itself, gap_of, moved, numbers_within, in_chosen, steady_in, numbered_at}
 
@@ -114,10 +114,10 @@ module _ (f : Frame) (is : IsFrame f) (plane : ℤ) (s : List Cell) where
 
     -- so neither has a hidden edge
     abbrev Drawn : Style → Type 0
-    Drawn style = Draws f (is_full area) g style → Draws f (is_full other) g (seen_style style)
+    Drawn style = Draws f (is_full area) g style → Draws f (is_full other) g (visible_style style)
 
-    one_of : (kind style : Style) → seen_style kind ≡ kind → Draws f (is_full area) g kind × Draws f (is_full other) g kind → Drawn style
-    one_of kind style seen both drawn = subst (λ k. Draws f (is_full other) g (seen_style k)) (one_style f (is_full area) g kind style both.0 drawn)
+    one_of : (kind style : Style) → visible_style kind ≡ kind → Draws f (is_full area) g kind × Draws f (is_full other) g kind → Drawn style
+    one_of kind style seen both drawn = subst (λ k. Draws f (is_full other) g (visible_style k)) (one_style f (is_full area) g kind style both.0 drawn)
         (subst (Draws f (is_full other) g) (sym seen) both.1)
 
     by_sides : (x y : Bool) → a ≡ x → b ≡ y → (style : Style) → Drawn style
@@ -167,5 +167,5 @@ module _ (f : Frame) (is : IsFrame f) (coordinates : Coordinates) (ascends : (a 
         (numbered_at f.away.axis gap lit.number, sym (union.inside (numbered f.away.axis gap lit.number) _ lies) ∙ full);
   }
 
-  pub area_drawn : (g : Segment) (style : Style) → Draws f (is_full (cut_area f plane s)) g style → Draws f (is_full other) g (seen_style style)
+  pub area_drawn : (g : Segment) (style : Style) → Draws f (is_full (cut_area f plane s)) g style → Draws f (is_full other) g (visible_style style)
   area_drawn g style = area_drawn_by f is plane s other g near_depth Inside (fills_gap g (line_of g)) (fills_gap g (line_of g -ℤ pos 1)) style

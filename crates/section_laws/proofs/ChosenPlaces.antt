@@ -10,17 +10,17 @@ use Rattle.solid_model.specs.Grid.{Coordinates, GridCell, gaps_along, grid_cell_
 use Rattle.solid_model.specs.PerAxis.{numbers_of, cell_of}
 use Rattle.solid_model.specs.Rooms.{Sizes, is_within, box_place, box_count, place_of_number}
 use Rattle.solid_model.proofs.BoxPlaces.{within_box, one_cell, cell_there, numbers_below}
-use Rattle.section_laws.specs.Shaded.{ComesTo, ChoosesWhere}
+use Rattle.section_laws.specs.Shaded.{IsNoFarther, ChoosesWhere}
 
 -- ---- ends of rows
 
 -- a number comes between two along a direction exactly where it is none less than the lesser one and none greater than the greater
 pub between_ends : (forward : Bool) (first own m : ℕ) → (if forward then first else own) ≤ m → m < suc (if forward then own else first)
-    → ComesTo forward first m × ComesTo forward m own
+    → IsNoFarther forward first m × IsNoFarther forward m own
 between_ends true first own m low high = (low, omega arith)
 between_ends false first own m low high = (omega arith, low)
 
-pub ends_between : (forward : Bool) (first own m : ℕ) → ComesTo forward first m → ComesTo forward m own
+pub ends_between : (forward : Bool) (first own m : ℕ) → IsNoFarther forward first m → IsNoFarther forward m own
     → ((if forward then first else own) ≤ m) × (m < suc (if forward then own else first))
 ends_between true first own m p q = (p, omega arith)
 ends_between false first own m p q = (q, omega arith)

@@ -17,7 +17,7 @@ use Rattle.solid_model.proofs.ColumnRule.{equal_columns, same_first, different_f
 use Rattle.solid_model.proofs.Fullness.{is_full-member, member-is_full}
 use Rattle.solid_model.proofs.Styles.{one_style}
 use Rattle.solid_model.proofs.Views.{places_of_cell_in}
-use Rattle.section_laws.specs.Sections.{is_behind, rest_behind, seen_style}
+use Rattle.section_laws.specs.Sections.{is_behind, rest_behind, visible_style}
 use Rattle.section_laws.proofs.ShadedColumns.{cut_at, Shades, same_shaded, same_cut}
 
 -- truth values that don't differ are one
@@ -101,7 +101,7 @@ module _ (f : Frame) (is : IsFrame f) (plane : ℤ) (s : List Cell) where
         dashed_not_solid (one_style f (is_full cut) g Dashed Solid (same_first f is cut g k differ (from_cut same)) solid)))) solid)
 
     -- so the filled solid draws what is seen of the cut one
-    pub seen_drawn : (style : Style) → Draws f (is_full cut) g style → Draws f (is_full other) g (seen_style style)
+    pub seen_drawn : (style : Style) → Draws f (is_full cut) g style → Draws f (is_full other) g (visible_style style)
     seen_drawn Blank drawn = blank_there (λ solid. blank_not_solid (one_style f (is_full cut) g Blank Solid drawn solid))
     seen_drawn Dashed drawn = blank_there (λ solid. dashed_not_solid (one_style f (is_full cut) g Dashed Solid drawn solid))
     seen_drawn Solid drawn = different_first f is other g (λ same. solid_differs drawn (cut_alike same))

@@ -5,8 +5,8 @@ use Rattle.std.proofs.lemmas.Int.{ints, by_lt_z}
 use Rattle.lemmas.specs.Lists.{Ascends}
 use Rattle.solid_model.specs.Grid.{is_in_gap}
 use Rattle.solid_model.proofs.Gaps.{member, lies_in, in_gap, earlier_at_most, begins_gap, ends_gap}
-use Rattle.section_laws.specs.CutGaps.{EndsBehind, IsFirstGap, IsReached, gap_at}
-use Rattle.section_laws.specs.Shaded.{ComesTo}
+use Rattle.section_laws.specs.CutGaps.{EndsBehind, IsFirstGap, ReachesPlane, gap_at}
+use Rattle.section_laws.specs.Shaded.{IsNoFarther}
 
 -- the cell that begins at this coordinate stands behind the plane at that one
 abbrev pub StandsBehind : Bool → ℤ → ℤ → Type 0
@@ -25,11 +25,11 @@ module _ (zs : List ℤ) (ascends : Ascends ◌<ℤ◌ zs) where
   behind_ends false plane z m inside behind = let at = lies_in zs m z inside in omega (arith, ints, at.low)
 
   -- the plane lies in the first gap that ends behind it, where that doesn't begin behind it too
-  pub reached_there : (forward : Bool) (plane : ℤ) (n : ℕ) → IsFirstGap forward zs plane n → IsReached forward zs plane n → is_in_gap zs n (cell_behind forward plane) ≡ true
+  pub reached_there : (forward : Bool) (plane : ℤ) (n : ℕ) → IsFirstGap forward zs plane n → ReachesPlane forward zs plane n → is_in_gap zs n (cell_behind forward plane) ≡ true
   reached_there true plane n first near = in_gap zs n plane first.within near first.behind
   reached_there false plane n first near = in_gap zs n (plane -ℤ pos 1) first.within (let l = first.behind in omega (arith, ints)) (omega (arith, ints))
 
-  pub there_reached : (forward : Bool) (plane : ℤ) (n : ℕ) → is_in_gap zs n (cell_behind forward plane) ≡ true → IsReached forward zs plane n
+  pub there_reached : (forward : Bool) (plane : ℤ) (n : ℕ) → is_in_gap zs n (cell_behind forward plane) ≡ true → ReachesPlane forward zs plane n
   there_reached true plane n inside = (lies_in zs n plane inside).low
   there_reached false plane n inside = let at = lies_in zs n (plane -ℤ pos 1) inside in omega (arith, ints, at.high)
 
@@ -41,7 +41,7 @@ module _ (zs : List ℤ) (ascends : Ascends ◌<ℤ◌ zs) where
     pub back : (z : ℤ) (m : ℕ) → is_in_gap zs m z ≡ true → StandsBehind forward other z → StandsBehind forward plane z
 
   -- the plane itself
-  itself : (forward : Bool) (plane : ℤ) (n : ℕ) → IsFirstGap forward zs plane n → IsReached forward zs plane n → CutsAlike forward plane n
+  itself : (forward : Bool) (plane : ℤ) (n : ℕ) → IsFirstGap forward zs plane n → ReachesPlane forward zs plane n → CutsAlike forward plane n
   itself forward plane n first near = record { other = plane; there = reached_there forward plane n first near; behind = λ z m inside h. h; back = λ z m inside h. h }
 
   -- or that at the gap's near end
@@ -71,7 +71,7 @@ module _ (zs : List ℤ) (ascends : Ascends ◌<ℤ◌ zs) where
       (λ near. itself false plane n first near)
 
   -- where the first gap that ends behind the plane begins behind it too, the plane touches nothing
-  pub touches_none : (forward : Bool) (plane : ℤ) (n m : ℕ) → IsFirstGap forward zs plane n → (IsReached forward zs plane n → ⊥)
+  pub touches_none : (forward : Bool) (plane : ℤ) (n m : ℕ) → IsFirstGap forward zs plane n → (ReachesPlane forward zs plane n → ⊥)
       → is_in_gap zs m (cell_behind forward plane) ≡ true → ⊥
   touches_none true plane n m first begins inside =
       let at = lies_in zs m plane inside in
@@ -95,7 +95,7 @@ place_of_gap true gaps m l = (m, l, refl)
 place_of_gap false gaps m l = (gaps - (m + 1), omega arith, omega arith)
 
 -- and those at later places aren't nearer
-pub later_comes : (forward : Bool) (gaps p r : ℕ) → p ≤ r → r < gaps → ComesTo forward (gap_at forward gaps p) (gap_at forward gaps r)
+pub later_comes : (forward : Bool) (gaps p r : ℕ) → p ≤ r → r < gaps → IsNoFarther forward (gap_at forward gaps p) (gap_at forward gaps r)
 later_comes true gaps p r l few = l
 later_comes false gaps p r l few = omega arith
 
@@ -109,9 +109,9 @@ module _ (forward : Bool) (zs : List ℤ) (plane : ℤ) (gaps : ℕ) (same : gap
     first = λ m within h.
         let at = place_of_gap forward gaps m (omega arith) in
         let here : EndsBehind forward zs plane (gap_at forward gaps at.0) = subst (EndsBehind forward zs plane) (sym at.2) h in
-        elim (cases_lt at.0 place) as (λ _. ComesTo forward gap m) [
+        elim (cases_lt at.0 place) as (λ _. IsNoFarther forward gap m) [
           | inl before ↦ absurd (none at.0 before here)
-          | inr after ↦ subst (ComesTo forward gap) at.2 (subst (λ k. ComesTo forward k (gap_at forward gaps at.0)) (sym is) (later_comes forward gaps place at.0 after at.1))
+          | inr after ↦ subst (IsNoFarther forward gap) at.2 (subst (λ k. IsNoFarther forward k (gap_at forward gaps at.0)) (sym is) (later_comes forward gaps place at.0 after at.1))
         ];
   }
 

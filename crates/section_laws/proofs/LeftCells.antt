@@ -13,10 +13,9 @@ use Rattle.solid_model.specs.Cells.{coordinate, is_full}
 use Rattle.solid_model.specs.Draws.{Draws}
 use Rattle.solid_model.specs.Frames.{IsFrame}
 use Rattle.solid_model.specs.Grid.{Coordinates, GridCell, LiesInGridCell, LiesInGrid, is_in_gap, IsInSomeGap, IsUnionOf}
-use Rattle.solid_model.specs.Panels.{GridParts, IsGrid, coordinates_of}
 use Rattle.solid_model.proofs.Gaps.{lies_in}
 use Rattle.solid_model.proofs.UnionDrawing.{in_grid_or_not}
-use Rattle.section_laws.specs.CutGaps.{EndsBehind, IsFirstGap, IsReached}
+use Rattle.section_laws.specs.CutGaps.{EndsBehind, IsFirstGap, ReachesPlane}
 use Rattle.section_laws.specs.LeftCells.{DrawsWhatIsLeft, LeavesNothing}
 use Rattle.section_laws.specs.Sections.{is_behind, is_cut, rest_behind}
 use Rattle.section_laws.specs.Shaded.{AreShaded, AreSlab, IsCutGap}
@@ -44,9 +43,6 @@ cell_of_plane true plane = refl
 cell_of_plane false plane = omega (arith, ints)
 
 -- ---- what calls tell of a grid's coordinates
-
-pub ascends_of : (g : GridParts) → IsGrid g → (a : Axis) → Ascends ◌<ℤ◌ (coordinates_of g a)
-ascends_of g (drawing, is, grid) a = (grid.coordinates a).ordered
 
 pub none_in : (forward : Bool) (xs zs : List ℤ) (plane : ℤ) → xs ≡ zs → ((m : ℕ) → suc m < length xs → EndsBehind forward xs plane m → ⊥)
     → (m : ℕ) → suc m < length zs → EndsBehind forward zs plane m → ⊥
@@ -124,12 +120,12 @@ module _ (f : Frame) (is : IsFrame f) (coordinates : Coordinates) (ascends : (a 
         same_rest : (c : Cell) → is_full (rest_behind f plane s) c ≡ is_full (rest_behind f alike.other s) c
         same_rest c = same_tests _ _ (to plane alike.other alike.behind c) (to alike.other plane alike.back c)
 
-    pub slab_draws : IsReached forward zs plane n → (slab : List Bool) → AreSlab f.away coordinates n chosen slab → DrawsWhatIsLeft f coordinates chosen plane true slab
+    pub slab_draws : ReachesPlane forward zs plane n → (slab : List Bool) → AreSlab f.away coordinates n chosen slab → DrawsWhatIsLeft f coordinates chosen plane true slab
     slab_draws near slab are s other union union_too g style =
         area_drawn f is coordinates ascends chosen slab n are s other union union_too plane
         (in_gap_there plane n (reached_there zs (ascends f.away.axis) forward plane n first near)) g style
 
-    pub none_cut : (IsReached forward zs plane n → ⊥) → LeavesNothing f coordinates chosen plane true
+    pub none_cut : (ReachesPlane forward zs plane n → ⊥) → LeavesNothing f coordinates chosen plane true
     none_cut begins s union c = false_from_ne_true _ (λ e.
         let p = and_parts (is_cut f plane c) (is_full s c) (sym (full_area f is plane s c) ∙ e) in
         let inside = gap_of_full s union c p.1 in

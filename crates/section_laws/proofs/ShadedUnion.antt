@@ -19,7 +19,7 @@ use Rattle.solid_model.specs.Segments.{start_of}
 use Rattle.solid_model.proofs.Gaps.{member, lies_in, in_gap, earlier_at_most, gaps_keep_order, begins_gap, ends_gap}
 use Rattle.solid_model.proofs.UnionDrawing.{in_grid_or_not}
 use Rattle.solid_model.proofs.Views.{across_each, each_axis, across_along, coordinates_at, cell_on_twice}
-use Rattle.section_laws.specs.Shaded.{ComesTo, AreShaded, IsCutGap}
+use Rattle.section_laws.specs.Shaded.{IsNoFarther, AreShaded, IsCutGap}
 use Rattle.section_laws.proofs.ShadedColumns.{Shades}
 
 -- ---- gaps along a direction
@@ -39,7 +39,7 @@ module _ (zs : List ℤ) (ascends : Ascends ◌<ℤ◌ zs) where
   near_end_there false m within = ends_gap zs ascends m within
 
   -- what isn't farther lies in a gap that isn't farther
-  pub comes : (forward : Bool) (m n : ℕ) (k l : ℤ) → is_in_gap zs m (turned forward k) ≡ true → is_in_gap zs n (turned forward l) ≡ true → k ≤ℤ l → ComesTo forward m n
+  pub comes : (forward : Bool) (m n : ℕ) (k l : ℤ) → is_in_gap zs m (turned forward k) ≡ true → is_in_gap zs n (turned forward l) ≡ true → k ≤ℤ l → IsNoFarther forward m n
   comes true m n k l in_m in_n less = elim (cases_lt n m) as (λ _. m ≤ n) [
     | inl before ↦ absurd (let order = gaps_keep_order zs ascends n m l k in_n in_m before in omega (arith, ints))
     | inr after ↦ after
@@ -50,7 +50,7 @@ module _ (zs : List ℤ) (ascends : Ascends ◌<ℤ◌ zs) where
   ]
 
   -- the near end of a gap that isn't farther than n isn't farther than what lies in n
-  pub nearest : (forward : Bool) (m n : ℕ) (l : ℤ) → suc m < length zs → is_in_gap zs n (turned forward l) ≡ true → ComesTo forward m n → turned forward (near_end forward zs m) ≤ℤ l
+  pub nearest : (forward : Bool) (m n : ℕ) (l : ℤ) → suc m < length zs → is_in_gap zs n (turned forward l) ≡ true → IsNoFarther forward m n → turned forward (near_end forward zs m) ≤ℤ l
   nearest true m n l within in_n less =
       let at = lies_in zs n l in_n in
       let order = earlier_at_most zs ascends m n less (omega (arith, at.within)) in
@@ -69,12 +69,12 @@ module _ (zs : List ℤ) (ascends : Ascends ◌<ℤ◌ zs) where
       let at = lies_in zs m (neg_ℤ l -ℤ pos 1) in_m in
       in_gap zs m (neg_ℤ k -ℤ pos 1) at.within (omega (arith, ints, at.low)) (omega (arith, ints))
 
-pub comes_itself : (forward : Bool) (m : ℕ) → ComesTo forward m m
+pub comes_itself : (forward : Bool) (m : ℕ) → IsNoFarther forward m m
 comes_itself true m = omega arith
 comes_itself false m = omega arith
 
 -- a gap that comes between two others is there
-comes_within : (forward : Bool) (first m n size : ℕ) → first < size → n < size → ComesTo forward first m → ComesTo forward m n → m < size
+comes_within : (forward : Bool) (first m n size : ℕ) → first < size → n < size → IsNoFarther forward first m → IsNoFarther forward m n → m < size
 comes_within true first m n size l k p r = omega arith
 comes_within false first m n size l k p r = omega arith
 
@@ -232,7 +232,7 @@ module _ (f : Frame) (is : IsFrame f) (coordinates : Coordinates) (ascends : (a 
         union_too.inside number (cell k) lies ∙ (are number (numbers_within number (cell k) lies)).1 (
           lit.number a,
           reaches,
-          subst (ComesTo f.away.forward (lit.number a)) (sym (numbered_at a m lit.number)) ends,
+          subst (IsNoFarther f.away.forward (lit.number a)) (sym (numbered_at a m lit.number)) ends,
           ap (λ (x : GridCell). slice_index_or chosen (grid_cell_place coordinates x) false) (λ t b. numbered_back a m lit.number b t) ∙ lit.chosen_there,
         )
 

@@ -7,7 +7,7 @@ use Rattle.solid_model.specs.declared.segment.Style.{Style}
 use Rattle.solid_model.specs.Cells.{is_full}
 use Rattle.solid_model.specs.Draws.{Draws}
 use Rattle.solid_model.specs.Grid.{Coordinates, IsUnionOf}
-use Rattle.section_laws.specs.Sections.{left_by, seen_style}
+use Rattle.section_laws.specs.Sections.{left_by, visible_style}
 
 -- nothing is left of the solid whose grid cells are chosen
 abbrev pub LeavesNothing : Frame → Coordinates → List Bool → ℤ → Bool → Type 0
@@ -18,4 +18,4 @@ LeavesNothing f coordinates chosen plane area = (s : List Cell) → IsUnionOf co
 abbrev pub DrawsWhatIsLeft : Frame → Coordinates → List Bool → ℤ → Bool → List Bool → Type 0
 DrawsWhatIsLeft f coordinates chosen plane area kept = (s other : List Cell) → IsUnionOf coordinates chosen (is_full s)
     → IsUnionOf coordinates kept (is_full other) → (g : Segment) (style : Style)
-    → Draws f (is_full (left_by f plane area s)) g style → Draws f (is_full other) g (seen_style style)
+    → Draws f (is_full (left_by f plane area s)) g style → Draws f (is_full other) g (visible_style style)

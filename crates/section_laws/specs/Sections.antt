@@ -31,7 +31,7 @@ abbrev pub left_by : Frame → ℤ → Bool → List Cell → List Cell
 left_by f plane area s = if area then cut_area f plane s else rest_behind f plane s
 
 -- a style where hidden edges are left out
-abbrev pub seen_style : Style → Style
-seen_style Blank = Blank
-seen_style Dashed = Blank
-seen_style Solid = Solid
+abbrev pub visible_style : Style → Style
+visible_style Blank = Blank
+visible_style Dashed = Blank
+visible_style Solid = Solid

@@ -18,13 +18,13 @@ ChoosesWhere coordinates P chosen = (n : GridCell) → ((a : Axis) → n a < gap
     → (slice_index_or chosen (grid_cell_place coordinates n) false ≡ true) ↔ P n
 
 -- the gap m isn't farther along a direction than n
-abbrev pub ComesTo : Bool → ℕ → ℕ → Type 0
-ComesTo true m n = m ≤ n
-ComesTo false m n = n ≤ m
+abbrev pub IsNoFarther : Bool → ℕ → ℕ → Type 0
+IsNoFarther true m n = m ≤ n
+IsNoFarther false m n = n ≤ m
 
 -- in the row of a grid cell along the sight, from the gap `first` to its own, a cell is chosen
 abbrev pub IsShaded : Direction → (Axis → ℕ) → ℕ → List Bool → GridCell → Type 0
-IsShaded d sizes first chosen n = (m : ℕ) × ComesTo d.forward first m × ComesTo d.forward m (n d.axis)
+IsShaded d sizes first chosen n = (m : ℕ) × IsNoFarther d.forward first m × IsNoFarther d.forward m (n d.axis)
     × (slice_index_or chosen (place_in sizes (numbered d.axis m n)) false ≡ true)
 
 -- it lies in the gap, and is chosen

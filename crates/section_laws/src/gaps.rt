@@ -1,7 +1,7 @@
 //! In which gap of a grid a plane across the sight cuts.
 
 ghost use Rattle.std.specs.Prelude.{◌≡◌, ◌↔◌, ◌<◌, None, ℕ, suc, length, IsTrue, IfSome};
-ghost use Rattle.section_laws.specs.CutGaps.{EndsBehind, IsFirstGap, IsReached, gap_at};
+ghost use Rattle.section_laws.specs.CutGaps.{EndsBehind, IsFirstGap, ReachesPlane, gap_at};
 
 /// A gap's far end stands behind a plane.
 fn ends_behind(coordinates: &[i64], forward: bool, gap: usize, plane: i64) -> bool
@@ -40,9 +40,9 @@ pub fn first_gap(coordinates: &[i64], forward: bool, plane: i64) -> Option<usize
 }
 
 /// A gap's near end doesn't stand behind a plane.
-pub fn is_reached(coordinates: &[i64], forward: bool, gap: usize, plane: i64) -> bool
+pub fn reaches_plane(coordinates: &[i64], forward: bool, gap: usize, plane: i64) -> bool
     requires { suc gap < length coordinates.now }
-    ensures { IsTrue result ↔ IsReached forward coordinates.now plane gap }
+    ensures { IsTrue result ↔ ReachesPlane forward coordinates.now plane gap }
 {
     if forward {
         coordinates[gap] <= plane

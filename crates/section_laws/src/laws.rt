@@ -13,7 +13,7 @@ ghost use Rattle.solid_model.specs.Cells.{is_full};
 ghost use Rattle.solid_model.specs.Draws.{Draws};
 ghost use Rattle.solid_model.specs.Frames.{IsFrame};
 ghost use Rattle.solid_model.specs.Grid.{Coordinates, IsUnionOf};
-ghost use Rattle.section_laws.specs.Sections.{cut_area, rest_behind, seen_style};
+ghost use Rattle.section_laws.specs.Sections.{cut_area, rest_behind, visible_style};
 ghost use Rattle.section_laws.specs.Shaded.{AreShaded, AreSlab, IsCutGap};
 ghost use Rattle.section_laws.specs.SmallSections.{area_in, section_in};
 
@@ -28,7 +28,7 @@ pub fn sections_are_views_of_shaded_cells()
         → IsUnionOf coordinates shaded (is_full other)
         → (plane : ℤ) → IsCutGap f.away (coordinates f.away.axis) plane first
         → (g : Segment) (style : Style) → Draws f (is_full (rest_behind f plane s)) g style
-        → Draws f (is_full other) g (seen_style style) }
+        → Draws f (is_full other) g (visible_style style) }
 {}
 
 /// The cut area draws what the whole view of another solid draws: of the grid cells in the gap that
@@ -41,7 +41,7 @@ pub fn areas_are_views_of_their_slab()
         → IsUnionOf coordinates slab (is_full other)
         → (plane : ℤ) → IsCutGap f.away (coordinates f.away.axis) plane gap
         → (g : Segment) (style : Style) → Draws f (is_full (cut_area f plane s)) g style
-        → Draws f (is_full other) g (seen_style style) }
+        → Draws f (is_full other) g (visible_style style) }
 {}
 
 /// What a small solid without symmetry shows when it is cut, by hand: which side is left, what the

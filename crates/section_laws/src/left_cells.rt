@@ -6,7 +6,7 @@ ghost use Rattle.solid_model.specs.Panels.{coordinates_of};
 ghost use Rattle.section_laws.specs.LeftCells.{DrawsWhatIsLeft, LeavesNothing};
 
 use crate::cut_cells::{shaded_cells, slab_cells};
-use crate::gaps::{first_gap, is_reached};
+use crate::gaps::{first_gap, reaches_plane};
 use solid_model::{Frame, Grid, Memory};
 use std::alloc::Global;
 
@@ -50,7 +50,7 @@ fn area_cells(
     let Some(gap) = first_gap(coordinates, frame.away.forward, plane) else {
         return Ok(None);
     };
-    if !is_reached(coordinates, frame.away.forward, gap, plane) {
+    if !reaches_plane(coordinates, frame.away.forward, gap, plane) {
         return Ok(None);
     }
     let slab = slab_cells(alloc, grid, frame.away, gap, cells)?;

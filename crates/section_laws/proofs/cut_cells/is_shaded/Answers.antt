@@ -5,7 +5,7 @@ use Rattle.solid_model.specs.Grid.{GridCell}
 use Rattle.solid_model.specs.GridPlaces.{place_in}
 use Rattle.solid_model.specs.PerAxis.{numbers_of, numbered}
 use Rattle.solid_model.proofs.GridPlaces.{few_more}
-use Rattle.section_laws.specs.Shaded.{ComesTo}
+use Rattle.section_laws.specs.Shaded.{IsNoFarther}
 use Rattle.section_laws.proofs.ChosenPlaces.{between_ends, ends_between, few_end, itself, none_less, below_end, reached, few_below}
 use Rattle.section_laws.proofs.cut_cells.is_shaded.Goals as goal
 
@@ -28,7 +28,7 @@ returns-then-is_chosen c =
     let p = between_ends c.args.away.forward c.args.first c.along-own.result c.loop-number.number c.loop-number.invariant.0
     (below_end (if c.args.away.forward then c.along-own.result else c.args.first) c.greatest_end-last.result c.loop-number.number c.greatest_end-last.ensures (omega arith)) in
     let at = ap (λ (n : GridCell). slice_index_or c.args.cells.now (place_in (numbers_of c.args.sizes) n) false) (sym c.numbered.ensures) ∙ sym c.is_chosen.ensures ∙ c.if-is_chosen.true in
-    ((λ _. (c.loop-number.number, p.0, subst (ComesTo c.args.away.forward c.loop-number.number) c.along-own.ensures p.1, at)), (λ _. refl))
+    ((λ _. (c.loop-number.number, p.0, subst (IsNoFarther c.args.away.forward c.loop-number.number) c.along-own.ensures p.1, at)), (λ _. refl))
 
 pub loop-number-preserved : goal.loop-number-preserved
 loop-number-preserved c =
@@ -46,7 +46,7 @@ pub returns : goal.returns
 returns c = (
   (λ e. absurd (false≢true e)),
   (λ h.
-      let ends = ends_between c.args.away.forward c.args.first c.along-own.result h.0 h.1 (subst (ComesTo c.args.away.forward h.0) (sym c.along-own.ensures) h.2) in
+      let ends = ends_between c.args.away.forward c.args.first c.along-own.result h.0 h.1 (subst (IsNoFarther c.args.away.forward h.0) (sym c.along-own.ensures) h.2) in
       absurd (c.loop-number.invariant.1 h.0 ends.0
       (reached (if c.args.away.forward then c.along-own.result else c.args.first) c.greatest_end-last.result h.0 c.loop-number.number c.greatest_end-last.ensures (omega arith) ends.1) h.3)),
 )
