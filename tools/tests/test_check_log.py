@@ -32,7 +32,7 @@ def said(drawing: bytes, log: bytes = b"") -> tuple[int, str]:
 def grid_in(drawing: bytes) -> tuple[list[int], dict[check_log.Line, int]] | None:
     """What check_log.py makes a state of, where the drawing has no fault and has cells."""
     try:
-        grid = check_log.grid_of(check_log.read(drawing.removesuffix(b"\n").split(b"\n"))[0])
+        grid = check_log.grid_of(check_log.read(drawing)[0])
     except check_log.Wrong:
         return None
     return grid if all(grid[0]) else None
