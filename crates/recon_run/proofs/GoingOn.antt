@@ -10,7 +10,7 @@ use Rattle.std.proofs.lemmas.List.{append-nil, take-append-drop}
 use Rattle.face_laws.proofs.SomeFaces.{some_faces}
 use Rattle.file_problem.specs.Inputs.{Input}
 use Rattle.replies.specs.declared.status.Answer.{Answer}
-use Rattle.recon_run.specs.Answers.{BeginsToList, CanEnd, ListsSolids, TellsChecked, TellsSolids, head_of, BeginsAll, TellsAll}
+use Rattle.recon_run.specs.Answers.{BeginsToList, CanEnd, ListsSolids, TellsBlocks, TellsChecked, TellsSolids, head_of, BeginsAll, TellsAll}
 use Rattle.recon_run.specs.Endings.{owed_to}
 use Rattle.recon_run.specs.Owed.{AnswersOwed, BeginsOwed, Judgement, Owed, Search, alone, input_of, judgement_of, owed, read, search_for_all, search_for_log, search_for_one, searched, session_judgement}
 use Rattle.sink_pages.specs.PageTexts.{Page, pages_text}
@@ -157,6 +157,7 @@ on_owed (Some (job.Prove workers limits two)) =
     search_goes_on (search_for_log limits) (λ t kind c text. whole_goes_on ((search_for_log limits).tells t kind c) text)
 on_owed (Some (job.Check two)) = λ t answer text told never. whole_goes_on (TellsChecked t answer) text told (never answer)
 on_owed (Some (job.Ask workers limits two)) = asked_goes_on limits
+on_owed (Some (job.Blocks decimals two)) = λ t answer text told never. whole_goes_on (TellsBlocks t answer) text told (never answer)
 on_owed (Some (job.Make n)) = tt
 on_owed (Some (job.Trial n workers)) = tt
 on_owed None = tt

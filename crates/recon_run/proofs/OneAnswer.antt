@@ -1,5 +1,6 @@
 -- Words and an input have at most one right answer, up to what is left open.
 use Rattle.replies.specs.Status.{end_answer}
+use Rattle.block_texts.specs.BlockTexts.{blocks_text}
 use Rattle.session_run.specs.Session.{asks_stop}
 use Rattle.recon_run.specs.Readers.{AnswersScripts, AsksToStop, EndsAsked, SameBehindReaders, StopsAsked, TellsAsked, TellsReaders, TellsSession, EndsListing, SomeMatching, listing_head}
 use Rattle.query_session.specs.Sessions.{read_session}
@@ -301,6 +302,11 @@ one_owed (Some (job.Check two)) = (
   λ t a b text other told told_too. let one = one_checked t a b text other told told_too in (inl one.0, λ none. one.1),
 )
 one_owed (Some (job.Ask workers limits two)) = one_session limits
+one_owed (Some (job.Blocks decimals two)) = (
+  λ t text other is. is,
+  λ t a b text other (is, p, has, told) (is_too, q, has_too, told_too).
+      (inl (is ∙ sym is_too), λ none. told ∙ ap (blocks_text t.decimals) (one_problem has has_too).problem ∙ sym told_too),
+)
 one_owed (Some (job.Make n)) = one_made_file n
 one_owed (Some (job.Trial n workers)) = one_figures n
 one_owed None = λ text other is is_too. is ∙ sym is_too

@@ -31,6 +31,7 @@ use Rattle.further_views.specs.Further.{further_lines}
 use Rattle.six_views.specs.Further.{FitsLines}
 use Rattle.file_problem.proofs.Faults.{file_fault}
 use Rattle.file_problem.proofs.Problems.{problem_drawing}
+use Rattle.block_texts.specs.BlockTexts.{blocks_text}
 use Rattle.completeness_logs.specs.LogTexts.{IsLog}
 use Rattle.proof_log.proofs.Begun.{some_log}
 use Rattle.recon_run.proofs.Checked.{some_checked}
@@ -394,6 +395,8 @@ some_owed (job.Prove workers limits two) counted = some_search (search_for_log l
 some_owed (job.Check two) counted = λ t none never. searched_somehow default_limits t none (λ p has kind opened choices ends.
     some_checked t p has _ (matching default_limits t p has) never)
 some_owed (job.Ask workers limits two) counted = some_session limits
+some_owed (job.Blocks decimals two) counted = λ t none never. searched_somehow default_limits t none (λ p has kind opened choices ends.
+    never answers.Done (blocks_text t.decimals p) (refl, p, has, refl))
 some_owed (job.Make n) counted = some_written_file (made_solid n) (made_is_solid n)
 some_owed (job.Trial n workers) counted = tried_somehow n
 

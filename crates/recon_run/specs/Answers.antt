@@ -1,5 +1,6 @@
 -- What commands answer to an input.
 use Rattle.std.specs.Prelude.{◌≡◌, ◌⊎◌, ℕ, nat_lt, ◌+◌, ◌-◌, ◌<◌, ◌≤◌, List, [], ◌∷◌, ◌++◌, Bool, length, take, slice_get, Some, codes, if◌then◌else◌}
+use Rattle.block_texts.specs.BlockTexts.{blocks_text}
 use Rattle.completeness_logs.specs.LogTexts.{IsLog}
 use Rattle.drawing_maker.specs.Made.{made_solid}
 use Rattle.dxf_groups.specs.Pairs.{rest_of_text}
@@ -193,6 +194,12 @@ SaysChecked {t} {p} has log answer text = ((answer ≡ answers.Done) × SaysYes 
 abbrev pub TellsChecked : Input → Answer → List ℕ → Type 0
 TellsChecked t answer text = (p : ProblemParts) × (has : HasProblem t p)
     × (log : List ℕ) × (rest_of_text t.bytes ≡ Some log) × SaysChecked has log answer text
+
+-- ---- `blocks`
+
+-- the text tells where the blocks of the input's problem are
+abbrev pub TellsBlocks : Input → Answer → List ℕ → Type 0
+TellsBlocks t answer text = (answer ≡ answers.Done) × (p : ProblemParts) × HasProblem t p × (text ≡ blocks_text t.decimals p)
 
 -- ---- `trial`
 

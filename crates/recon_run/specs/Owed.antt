@@ -4,7 +4,7 @@ use Rattle.drawing_maker.specs.Made.{made_solid}
 use Rattle.replies.specs.declared.status.Answer.{Answer}
 use Rattle.replies.specs.declared.status.Answer.TheVariants as answers
 use Rattle.file_problem.specs.Inputs.{HasNoFault, Input, IsFileFault}
-use Rattle.recon_run.specs.Answers.{AreSomeLogs, BeginsToList, CanEnd, IsSomeLog, IsTried, ListsSolids, TellsChecked, TellsNumbered, head_of, numbered_answer, usage_text}
+use Rattle.recon_run.specs.Answers.{AreSomeLogs, BeginsToList, CanEnd, IsSomeLog, IsTried, ListsSolids, TellsBlocks, TellsChecked, TellsNumbered, head_of, numbered_answer, usage_text}
 use Rattle.recon_run.specs.Pages.{SameButPages}
 use Rattle.recon_run.specs.Readers.{AsksToStop, BeginsAsked, SameBehindReaders, TellsAsked}
 use Rattle.redraw.specs.Files.{IsFileOf}
@@ -133,6 +133,15 @@ log_judgement = record {
   alike = λ t text other. text ≡ other;
 }
 
+-- what is judged of an input's blocks: where they are
+abbrev pub blocks_judgement : Judgement
+blocks_judgement = record {
+  tells = TellsBlocks;
+  begins = TellsBlocks;
+  leaves_open = λ t answer. ⊥;
+  alike = λ t text other. text ≡ other;
+}
+
 -- what is judged of what readers are asked behind a drawing, whose problem is searched within these limits
 abbrev pub session_judgement : SearchLimits → Judgement
 session_judgement limits = record {
@@ -172,6 +181,7 @@ owed_for (job.Stl which workers limits two) = read (drawing_profile false 0 two)
 owed_for (job.Prove workers limits two) = read (drawing_profile false 0 two) (searched (search_for_log limits))
 owed_for (job.Check two) = read (log_profile two) (judged log_judgement)
 owed_for (job.Ask workers limits two) = read (drawing_profile false 0 two) (judged (session_judgement limits))
+owed_for (job.Blocks decimals two) = read (drawing_profile false decimals two) (judged blocks_judgement)
 owed_for (job.Make n) = alone answers.Done (IsFileOf 0 (made_solid n))
 owed_for (job.Trial n workers) = alone answers.Done (IsTried n)
 

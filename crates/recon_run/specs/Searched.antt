@@ -18,7 +18,7 @@ use Rattle.replies.specs.declared.status.Answer.TheVariants as answers
 use Rattle.replies.specs.Status.{end_answer}
 use Rattle.search_end.specs.declared.stopping.SearchEnd.{SearchEnd as EndOfSearch}
 use Rattle.search_end.specs.declared.stopping.SearchEnd.TheVariants.{Ended, Stopped}
-use Rattle.recon_run.specs.Owed.{Asked, ProfileParts, input_of, judged, judgement_of, log_judgement, search_for_all, search_for_log, search_for_one, searched, session_judgement}
+use Rattle.recon_run.specs.Owed.{Asked, ProfileParts, blocks_judgement, input_of, judged, judgement_of, log_judgement, search_for_all, search_for_log, search_for_one, searched, session_judgement}
 use Rattle.redraw.specs.Files.{IsFileOf}
 use Rattle.replies.specs.Status.{Status}
 use Rattle.replies.specs.Writings.{EndsWriting}
@@ -127,6 +127,7 @@ asked_of (form.AllSolids all) = searched (search_for_all all.pages all.limits)
 asked_of (form.OneSolid one) = searched (search_for_one (writes_of one.export) one.which one.limits)
 asked_of (form.Log limits) = searched (search_for_log limits)
 asked_of form.Check = judged log_judgement
+asked_of form.Blocks = judged blocks_judgement
 asked_of (form.Session limits) = judged (session_judgement limits)
 
 -- so ends the writing of what is answered in a form to an input that is read so and by which this is sought

@@ -13,6 +13,7 @@ ghost use Rattle.tv_base.specs.Pieces.{ReadsWithin};
 
 use crate::all_solids::answer_all;
 use crate::asked::answer_asked;
+use crate::blocks_told::answer_blocks;
 use crate::check::answer_check;
 use crate::crew::Crew;
 use crate::form::Form;
@@ -48,6 +49,7 @@ fn answer_problem<R: Threads + Wait + Sync, G: Gate, K: Sink>(
         Form::OneSolid(one) => answer_one(alloc, crew, one, profile, sought, sink),
         Form::Log(limits) => answer_log(alloc, crew, limits, profile, sought, sink),
         Form::Check => answer_check(alloc, profile, &sought, rest.as_slice(), sink),
+        Form::Blocks => answer_blocks(alloc, profile, &sought, sink),
         Form::Session(limits) => {
             answer_asked(alloc, crew, limits, profile, sought, rest.as_slice(), sink)
         }

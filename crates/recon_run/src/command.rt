@@ -85,7 +85,7 @@ fn do_job<R: Threads + Wait + Sync, S: Source, K: Sink, G: Gate>(
             two_views,
         } => {
             let crew = Crew { rt, workers, gate };
-            let profile = Profile::three_views(two_views);
+            let profile = Profile::three_views(0, two_views);
             let form = Form::OneSolid(OneSolid {
                 export: Export::Triangles,
                 which,
@@ -99,7 +99,7 @@ fn do_job<R: Threads + Wait + Sync, S: Source, K: Sink, G: Gate>(
             two_views,
         } => {
             let crew = Crew { rt, workers, gate };
-            let profile = Profile::three_views(two_views);
+            let profile = Profile::three_views(0, two_views);
             answer_source(alloc, &crew, &profile, &Form::Log(limits), source, sink)
         }
         Job::Check { two_views } => {
@@ -117,8 +117,20 @@ fn do_job<R: Threads + Wait + Sync, S: Source, K: Sink, G: Gate>(
             two_views,
         } => {
             let crew = Crew { rt, workers, gate };
-            let profile = Profile::three_views(two_views);
+            let profile = Profile::three_views(0, two_views);
             answer_source(alloc, &crew, &profile, &Form::Session(limits), source, sink)
+        }
+        Job::Blocks {
+            decimals,
+            two_views,
+        } => {
+            let crew = Crew {
+                rt,
+                workers: 1,
+                gate,
+            };
+            let profile = Profile::three_views(decimals, two_views);
+            answer_source(alloc, &crew, &profile, &Form::Blocks, source, sink)
         }
         Job::Make { n } => write_reply(Answer::Done, made_file(alloc, n)?.as_slice(), sink),
         Job::Trial { n, workers } => {
@@ -165,17 +177,18 @@ fn answer<R: Threads + Wait + Sync, S: Source, K: Sink, G: Gate>(
 /// `prove` writes a log that shows that these are all, and `check` says whether what stands behind
 /// the drawing is such a log, with the choices that it lists, or which of its lines is the first
 /// that is wrong, and why; `ask` lets readers look at the growing list of solids, as the lines behind
-/// the drawing ask, and writes what they tell and then all solids; `make` writes a drawing that is
-/// made from a number, and `trial` what a search of that drawing finds. As many work at a search as
-/// `--workers` says, and they pass the gate at their points; the run waits for them, and what it
-/// answers doesn't depend on their number. Other words give the usage line.
+/// the drawing ask, and writes what they tell and then all solids; `blocks` writes where the
+/// drawing's blocks are, without a search; `make` writes a drawing that is made from a number, and
+/// `trial` what a search of that drawing finds. As many work at a search as `--workers` says, and
+/// they pass the gate at their points; the run waits for them, and what it answers doesn't depend on
+/// their number. Other words give the usage line.
 ///
 /// A solid matches a drawing if it shows what is drawn in each view that is drawn: a view that shows
 /// nothing demands nothing. Each of the three views must show something; with `--two-views` one of
 /// them may show nothing.
 ///
-/// The status is 0 where a search was whole and lists all matching solids, a drawing or a log is
-/// written, or a log is one; 1 where what is read has a fault, 2 where the arguments aren't taken,
+/// The status is 0 where a search was whole and lists all matching solids, a drawing, a log or where
+/// blocks are is written, or a log is one; 1 where what is read has a fault, 2 where the arguments aren't taken,
 /// 3 or 4 where there are more live prefixes, or more solids, than their limit, 5 or 6 where the
 /// source or the sink failed, 7 where it ran out of memory, 8 where there is no solid of the number
 /// that `redraw` or `stl` is given, 9 where a log is refused, 10 where a search was stopped by a

@@ -32,6 +32,8 @@ pub enum Form {
     Log(Limits),
     /// Whether what stands behind its drawing is such a log.
     Check,
+    /// Where its blocks are.
+    Blocks,
     /// What readers of the growing list of its solids, which are searched for within limits, tell as
     /// they are asked behind its drawing.
     Session(Limits),

@@ -4,6 +4,7 @@
 mod all_solids;
 mod answering;
 mod asked;
+mod blocks_told;
 mod check;
 mod command;
 mod crew;

@@ -53,18 +53,19 @@ impl Profile {
         }
     }
 
-    /// A drawing alone, of the three views, whose coordinates have no decimals.
-    pub fn three_views(two_views: bool) -> Profile
-        ensures { result ≡ drawing_profile false 0 two_views }
+    /// The same of the three views.
+    pub fn three_views(decimals: u8, two_views: bool) -> Profile
+        requires { decimals ≤ most_decimals }
+        ensures { result ≡ drawing_profile false decimals two_views }
     {
         Profile {
             most: MOST_BYTES,
-            form: ReadingForm::three_views(0),
+            form: ReadingForm::three_views(decimals),
             two_views,
         }
     }
 
-    /// The same with a log behind it.
+    /// A drawing of the three views, whose coordinates have no decimals, with a log behind it.
     pub fn with_log(two_views: bool) -> Profile
         ensures { result ≡ log_profile two_views }
     {

@@ -5,6 +5,8 @@
 #[cfg(test)]
 mod asked;
 #[cfg(test)]
+mod blocks_told;
+#[cfg(test)]
 mod decimals;
 #[cfg(test)]
 mod deep;

@@ -156,6 +156,14 @@ ask, --decimals, 0 -> usage
 ask, --pages -> usage
 ask, 1 -> usage
 ask, --two-views, --nodes, 5 -> ask 1 5 4096 two
+blocks -> blocks
+blocks, --decimals, 6 -> blocks decimals 6
+blocks, --two-views, --decimals=2 -> blocks decimals 2 two
+blocks, --decimals, 7 -> usage
+blocks, --workers, 2 -> usage
+blocks, --nodes=3 -> usage
+blocks, --pages -> usage
+blocks, 1 -> usage
 redraw, -- , 1 -> usage
 redraw, 1, --nodes -> usage
 redraw, 1.0 -> usage
@@ -299,6 +307,13 @@ fn push_job(text: &mut String, job: Job) -> Result<(), Fail> {
             limits,
             two_views,
         } => push_searched(text, "ask", workers, limits, two_views),
+        Job::Blocks {
+            decimals,
+            two_views,
+        } => {
+            text.push_str("blocks")?;
+            push_reading(text, decimals, two_views)
+        }
         Job::Make { n } => Ok(write!(text, "make {n}")?),
         Job::Trial { n, workers } => Ok(write!(text, "trial {n} {workers}")?),
     }

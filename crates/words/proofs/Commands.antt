@@ -7,7 +7,7 @@ use Rattle.solid_model.specs.Limits.{most_decimals, most_solid_limit}
 use Rattle.solid_model.specs.Search.{default_limits}
 use Rattle.lemmas.specs.Lists.{Each}
 use Rattle.words.specs.declared.job.Job.{Job}
-use Rattle.words.specs.Jobs.{AreWorkers, Command, ask_table, IsCounted, command_said, commands, decimals_field, decimals_in, job_said, limits_in, most_workers, number_in, prove_table, redraw_table, said_among, solids_field, solve_table, stl_table, trial_table, workers_field, workers_in}
+use Rattle.words.specs.Jobs.{AreWorkers, Command, ask_table, blocks_table, IsCounted, command_said, commands, decimals_field, decimals_in, job_said, limits_in, most_workers, number_in, prove_table, redraw_table, said_among, solids_field, solve_table, stl_table, trial_table, workers_field, workers_in}
 use Rattle.words.specs.Rows.{is_sound}
 use Rattle.words.specs.Said.{agrees}
 use Rattle.words.specs.declared.table.Range.{Range}
@@ -99,7 +99,10 @@ said_is_counted (name ∷ words) j said = counted_among commands (
           (λ ws us is. tt),
           (
             (λ ws us is. (counts ask_table refl refl refl ws us is).0),
-            ((λ ws us is. tt), ((λ ws us is. (counts trial_table refl refl refl ws us is).0), tt)),
+            (
+              (λ ws us is. (counts blocks_table refl refl refl ws us is).1),
+              ((λ ws us is. tt), ((λ ws us is. (counts trial_table refl refl refl ws us is).0), tt)),
+            ),
           ),
         ),
       ),

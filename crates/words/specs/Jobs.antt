@@ -75,6 +75,10 @@ check_table = record { options = reading_fields; number = None }
 abbrev pub ask_table : Table
 ask_table = prove_table
 
+-- what `blocks` takes: decimals and how a drawing is read
+abbrev pub blocks_table : Table
+blocks_table = record { options = decimals_field ∷ reading_fields; number = None }
+
 -- what `make` takes: no option, and any number of 64 bits
 abbrev pub make_table : Table
 make_table = record { options = []; number = Some (record { least = 0; most = 18446744073709551615 }) }
@@ -123,6 +127,7 @@ commands = record { name = codes "solve"; table = solve_table; job = λ us. job.
     ∷ record { name = codes "prove"; table = prove_table; job = λ us. job.Prove (workers_in us) (limits_in us) (two_views_in us) }
     ∷ record { name = codes "check"; table = check_table; job = λ us. job.Check (two_views_in us) }
     ∷ record { name = codes "ask"; table = ask_table; job = λ us. job.Ask (workers_in us) (limits_in us) (two_views_in us) }
+    ∷ record { name = codes "blocks"; table = blocks_table; job = λ us. job.Blocks (decimals_in us) (two_views_in us) }
     ∷ record { name = codes "make"; table = make_table; job = λ us. job.Make (number_in us) }
     ∷ record { name = codes "trial"; table = trial_table; job = λ us. job.Trial (number_in us) (workers_in us) } ∷ []
 
@@ -153,5 +158,6 @@ IsCounted (job.Stl which workers limits two) = (1 ≤ which) × AreWorkers worke
 IsCounted (job.Prove workers limits two) = AreWorkers workers × (limits.solids ≤ most_solid_limit)
 IsCounted (job.Check two) = Unit {0}
 IsCounted (job.Ask workers limits two) = AreWorkers workers
+IsCounted (job.Blocks decimals two) = decimals ≤ most_decimals
 IsCounted (job.Make n) = Unit {0}
 IsCounted (job.Trial n workers) = AreWorkers workers

@@ -1,13 +1,15 @@
 //! Jobs, and the words that ask for them.
 
-ghost use Rattle.std.specs.Prelude.{◌≡◌, false, None, Some, map, drop, string_bytes, MatchResult};
+ghost use Rattle.std.specs.Prelude.{◌≡◌, ◌≤◌, false, None, Some, map, drop, string_bytes, MatchResult};
 ghost use Rattle.std.specs.List.{list_any};
+ghost use Rattle.solid_model.specs.Limits.{most_solid_limit};
+ghost use Rattle.words.specs.declared.job.Job.TheVariants as job;
 ghost use Rattle.words.specs.declared.job.WordFault.TheVariants as word_fault;
 ghost use Rattle.words.specs.Barred.{is_barred_word};
 ghost use Rattle.words.specs.Jobs.{commands, job_said, said_among};
 
 use crate::barred::some_barred;
-use crate::said::{DECIMALS, NODES, SOLIDS, WORKERS, said_by};
+use crate::said::{DECIMALS, NODES, SOLIDS, Said, WORKERS, said_by};
 use crate::table::{Range, Row, Rows};
 use solid_model::Limits;
 use std::alloc::Global;
@@ -54,6 +56,11 @@ pub enum Job {
     Ask {
         workers: u32,
         limits: Limits,
+        two_views: bool,
+    },
+    /// Where the blocks of a drawing are whose coordinates have so many decimals.
+    Blocks {
+        decimals: u8,
         two_views: bool,
     },
     /// The drawing that is made from a number.
@@ -160,6 +167,12 @@ static ASK: Rows<'static> = Rows {
     number: None,
 };
 
+/// What `blocks` takes.
+static BLOCKS: Rows<'static> = Rows {
+    options: &[DECIMALS_ROW, TWO_VIEWS_ROW],
+    number: None,
+};
+
 /// What `make` takes.
 static MAKE: Rows<'static> = Rows {
     options: &[],
@@ -172,6 +185,90 @@ static TRIAL: Rows<'static> = Rows {
     number: Some(SEEDS),
 };
 
+/// What is said to `solve`.
+fn solve(said: Said) -> Job
+    ensures { result
+        ≡ job.Solve said.workers said.limits said.pages said.decimals said.two_views }
+{
+    Job::Solve {
+        workers: said.workers,
+        limits: said.limits,
+        pages: said.pages,
+        decimals: said.decimals,
+        two_views: said.two_views,
+    }
+}
+
+/// What is said to `redraw`.
+fn redraw(said: Said) -> Job
+    requires { said.number ≤ most_solid_limit }
+    ensures { result
+        ≡ job.Redraw said.number said.workers said.limits said.decimals said.two_views }
+{
+    Job::Redraw {
+        which: said.number as u32,
+        workers: said.workers,
+        limits: said.limits,
+        decimals: said.decimals,
+        two_views: said.two_views,
+    }
+}
+
+/// What is said to `stl`.
+fn stl(said: Said) -> Job
+    requires { said.number ≤ most_solid_limit }
+    ensures { result ≡ job.Stl said.number said.workers said.limits said.two_views }
+{
+    Job::Stl {
+        which: said.number as u32,
+        workers: said.workers,
+        limits: said.limits,
+        two_views: said.two_views,
+    }
+}
+
+/// What is said to `prove`.
+fn prove(said: Said) -> Job
+    ensures { result ≡ job.Prove said.workers said.limits said.two_views }
+{
+    Job::Prove {
+        workers: said.workers,
+        limits: said.limits,
+        two_views: said.two_views,
+    }
+}
+
+/// What is said to `ask`.
+fn ask(said: Said) -> Job
+    ensures { result ≡ job.Ask said.workers said.limits said.two_views }
+{
+    Job::Ask {
+        workers: said.workers,
+        limits: said.limits,
+        two_views: said.two_views,
+    }
+}
+
+/// What is said to `blocks`.
+fn blocks(said: Said) -> Job
+    ensures { result ≡ job.Blocks said.decimals said.two_views }
+{
+    Job::Blocks {
+        decimals: said.decimals,
+        two_views: said.two_views,
+    }
+}
+
+/// What is said to `trial`.
+fn trial(said: Said) -> Job
+    ensures { result ≡ job.Trial said.number said.workers }
+{
+    Job::Trial {
+        n: said.number,
+        workers: said.workers,
+    }
+}
+
 /// The job of a command, by its name and the words, the first of which is the name too.
 #[tactic(auto, unfolding(crate::specs::Said::is_usual))]
 fn job_by(alloc: Global, command: &str, words: &[String]) -> Result<Job, WordFault>
@@ -182,68 +279,23 @@ fn job_by(alloc: Global, command: &str, words: &[String]) -> Result<Job, WordFau
         → said_among commands command.now (drop 1 (map string_bytes words.now)) ≡ None) }
 {
     match command {
-        "solve" => {
-            let said = said_by(alloc, &SOLVE, words)?;
-            Ok(Job::Solve {
-                workers: said.workers,
-                limits: said.limits,
-                pages: said.pages,
-                decimals: said.decimals,
-                two_views: said.two_views,
-            })
-        }
-        "redraw" => {
-            let said = said_by(alloc, &REDRAW, words)?;
-            Ok(Job::Redraw {
-                which: said.number as u32,
-                workers: said.workers,
-                limits: said.limits,
-                decimals: said.decimals,
-                two_views: said.two_views,
-            })
-        }
-        "stl" => {
-            let said = said_by(alloc, &STL, words)?;
-            Ok(Job::Stl {
-                which: said.number as u32,
-                workers: said.workers,
-                limits: said.limits,
-                two_views: said.two_views,
-            })
-        }
-        "prove" => {
-            let said = said_by(alloc, &PROVE, words)?;
-            Ok(Job::Prove {
-                workers: said.workers,
-                limits: said.limits,
-                two_views: said.two_views,
-            })
-        }
+        "solve" => Ok(solve(said_by(alloc, &SOLVE, words)?)),
+        "redraw" => Ok(redraw(said_by(alloc, &REDRAW, words)?)),
+        "stl" => Ok(stl(said_by(alloc, &STL, words)?)),
+        "prove" => Ok(prove(said_by(alloc, &PROVE, words)?)),
         "check" => {
             let said = said_by(alloc, &CHECK, words)?;
             Ok(Job::Check {
                 two_views: said.two_views,
             })
         }
-        "ask" => {
-            let said = said_by(alloc, &ASK, words)?;
-            Ok(Job::Ask {
-                workers: said.workers,
-                limits: said.limits,
-                two_views: said.two_views,
-            })
-        }
+        "ask" => Ok(ask(said_by(alloc, &ASK, words)?)),
+        "blocks" => Ok(blocks(said_by(alloc, &BLOCKS, words)?)),
         "make" => {
             let said = said_by(alloc, &MAKE, words)?;
             Ok(Job::Make { n: said.number })
         }
-        "trial" => {
-            let said = said_by(alloc, &TRIAL, words)?;
-            Ok(Job::Trial {
-                n: said.number,
-                workers: said.workers,
-            })
-        }
+        "trial" => Ok(trial(said_by(alloc, &TRIAL, words)?)),
         _ => Err(WordFault::Usage),
     }
 }
@@ -253,8 +305,9 @@ fn job_by(alloc: Global, command: &str, words: &[String]) -> Result<Job, WordFau
 /// `solve` takes `--workers` from 1 to 64, by default 1, `--nodes` from 1 to 4,000,000, by default
 /// 1,000,000, `--solids` from 1 to 65,536, by default 4,096, `--decimals` from 0 to 6, by default
 /// 0, and `--pages`, which has no value. `redraw` takes these but `--pages`, `stl` the first three,
-/// and both a number from 1 to 65,536, which must be there. `prove` and `ask` take the first three.
-/// These five and `check`, which takes nothing else, take `--two-views`, which has no value either.
+/// and both a number from 1 to 65,536, which must be there. `prove` and `ask` take the first three,
+/// `blocks` `--decimals`. These six and `check`, which takes nothing else, take `--two-views`, which
+/// has no value either.
 /// `make` and `trial` take a number below 2 to the power 64, which must be there, and `trial` takes
 /// `--workers`. Options and the number stand in any order, each at most once; an option is written
 /// as `--name value` or as `--name=value`, and one without a value as `--name`. A value is one or

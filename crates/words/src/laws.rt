@@ -43,6 +43,9 @@ pub fn small_jobs()
     ensures check_two { job_in (codes "check --two-views") ≡ Some (job.Check true) }
     ensures ask_two { job_in (codes "ask --two-views --nodes 5")
         ≡ Some (job.Ask 1 (record { nodes = 5; solids = 4096 }) true) }
+    ensures blocks { job_in (codes "blocks") ≡ Some (job.Blocks 0 false) }
+    ensures blocks_two { job_in (codes "blocks --two-views --decimals=2")
+        ≡ Some (job.Blocks 2 true) }
     ensures make { job_in (codes "make 18446744073709551615")
         ≡ Some (job.Make 18446744073709551615) }
     ensures trial { job_in (codes "trial 0") ≡ Some (job.Trial 0 1) }
@@ -60,6 +63,7 @@ pub fn refused_words()
         ∷ codes "make 7 --nodes 3" ∷ codes "make --workers 2 7"
         ∷ codes "make 18446744073709551616" ∷ codes "trial"
         ∷ codes "trial 7 7" ∷ codes "trial --solids=3 7" ∷ codes "trial 7 --pages"
+        ∷ codes "blocks 1" ∷ codes "blocks --nodes 3" ∷ codes "blocks --workers=2"
         ∷ codes "stl 1 --decimals 3" ∷ codes "make 7 --decimals 3" ∷ codes "trial 7 --decimals=3"
         ∷ []) ≡ false }
     ensures more { any_said (codes "solve 4" ∷ codes "solve solve" ∷ codes "solve "
@@ -72,7 +76,8 @@ pub fn refused_words()
         ∷ codes "solve --solids=0" ∷ codes "solve --solids 65537"
         ∷ codes "solve --nodes 18446744073709551617" ∷ codes "solve --workers 0"
         ∷ codes "solve --workers=65" ∷ codes "trial 7 --workers 65"
-        ∷ codes "solve --decimals 7" ∷ codes "redraw 1 --decimals=-1" ∷ []) ≡ false }
+        ∷ codes "solve --decimals 7" ∷ codes "redraw 1 --decimals=-1"
+        ∷ codes "blocks --decimals 7" ∷ []) ≡ false }
     ensures repeats { any_said (codes "solve --nodes 2 --nodes 2"
         ∷ codes "solve --solids=3 --nodes 2 --solids 3" ∷ codes "solve --workers 2 --workers 2"
         ∷ codes "solve --pages --pages" ∷ codes "solve --decimals 2 --decimals 2"

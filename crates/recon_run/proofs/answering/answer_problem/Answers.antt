@@ -16,6 +16,10 @@ pub returns-in-Log : goal.returns-in-Log
 returns-in-Log g c t has rest = subst (λ form. AnswersForm form c.args.profile.now c.args.found.sought (g.K.Sink.held c.args.sink.now) (g.K.Sink.held c.answer_log.new.sink)
     (Rose (g.K.Sink.faults c.args.sink.now) (g.K.Sink.faults c.answer_log.new.sink)) c.answer_log.result) (sym c.in-Log.is) c.answer_log.ensures t has
 
+pub returns-in-Blocks : goal.returns-in-Blocks
+returns-in-Blocks g c t has rest = subst (λ form. AnswersForm form c.args.profile.now c.args.found.sought (g.K.Sink.held c.args.sink.now) (g.K.Sink.held c.answer_blocks.new.sink)
+    (Rose (g.K.Sink.faults c.args.sink.now) (g.K.Sink.faults c.answer_blocks.new.sink)) c.answer_blocks.result) (sym c.in-Blocks.is) c.answer_blocks.ensures t has
+
 pub returns-in-Check : goal.returns-in-Check
 returns-in-Check g c = subst (λ bytes. AnswersBehind c.args.form.now c.args.profile.now c.args.found.sought bytes (g.K.Sink.held c.args.sink.now) (g.K.Sink.held c.answer_check.new.sink)
     (Rose (g.K.Sink.faults c.args.sink.now) (g.K.Sink.faults c.answer_check.new.sink)) c.answer_check.result) c.as_slice.ensures.value
