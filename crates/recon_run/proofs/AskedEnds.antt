@@ -18,8 +18,8 @@ use Rattle.recon_run.proofs.Solved.{matched, some, some_filled}
 use Rattle.search_core.specs.Desk.{DeskParts}
 use Rattle.search_end.proofs.DeskAnswers.{live_solution}
 use Rattle.search_end.proofs.StoppedDesks.{desk_open}
-use Rattle.search_end.specs.declared.stopping.SearchEnd.{SearchEnd}
-use Rattle.search_end.specs.declared.stopping.SearchEnd.TheVariants.{Ended, Stopped}
+use Rattle.search_end.specs.declared.ending.SearchEnd.{SearchEnd}
+use Rattle.search_end.specs.declared.ending.SearchEnd.TheVariants.{Ended, Stopped}
 use Rattle.search_end.specs.Stopped.{IsEndOf, IsStopped, WasStopped, end_solids}
 use Rattle.session_run.specs.declared.session.Session.{Session}
 use Rattle.session_run.specs.Session.{AreAmong, IsSession, asks_stop}

@@ -16,8 +16,8 @@ use Rattle.recon_run.specs.Answers.{TellsNumbered, numbered_answer}
 use Rattle.recon_run.specs.Readers.{TellsListed}
 use Rattle.replies.specs.declared.status.Answer.TheVariants as answers
 use Rattle.replies.specs.Status.{end_answer}
-use Rattle.search_end.specs.declared.stopping.SearchEnd.{SearchEnd as EndOfSearch}
-use Rattle.search_end.specs.declared.stopping.SearchEnd.TheVariants.{Ended, Stopped}
+use Rattle.search_end.specs.declared.ending.SearchEnd.{SearchEnd as EndOfSearch}
+use Rattle.search_end.specs.declared.ending.SearchEnd.TheVariants.{Ended, Stopped}
 use Rattle.recon_run.specs.Owed.{Asked, ProfileParts, blocks_judgement, input_of, judged, judgement_of, log_judgement, search_for_all, search_for_log, search_for_one, searched, session_judgement}
 use Rattle.redraw.specs.Files.{IsFileOf}
 use Rattle.replies.specs.Status.{Status}

@@ -8,8 +8,8 @@ use Rattle.solid_model.specs.Search.{SearchLimits}
 use Rattle.solid_model.specs.SearchEnds.{EndsSearch}
 use Rattle.solid_model.specs.Solutions.{AreSolutions}
 use Rattle.search_core.specs.Desk.{DeskParts, IsDesk}
-use Rattle.search_end.specs.declared.stopping.SearchEnd.{SearchEnd}
-use Rattle.search_end.specs.declared.stopping.SearchEnd.TheVariants.{Ended, Stopped}
+use Rattle.search_end.specs.declared.ending.SearchEnd.{SearchEnd}
+use Rattle.search_end.specs.declared.ending.SearchEnd.TheVariants.{Ended, Stopped}
 use Rattle.search_end.specs.Answers.{IsAnswer, new_ones}
 
 -- A search that was stopped: its desk is of this problem and within these limits, stands as its history leaves it, and has no

@@ -3,9 +3,7 @@
 //! 64 live prefixes are opened before a report: fewer cost more reports, more make a search of few
 //! nodes one report, which could not be shared.
 
-ghost use Rattle.std.specs.Prelude.{◌≡◌, ◌<◌, None, Some, [], IfOk, OnOk};
-ghost use Rattle.std.specs.Arc.{arc_value};
-ghost use Rattle.solid_model.specs.Forcing.{is_live};
+ghost use Rattle.std.specs.Prelude.{◌≡◌, ◌<◌, None, Some, IfOk, OnOk};
 ghost use Rattle.search_core.specs.Desk.{IsDesk};
 ghost use Rattle.search_tree.specs.BlockPaths.{IsWayOf};
 ghost use Rattle.search_end.specs.GoingOn.{DeskGoesOn};
@@ -13,54 +11,12 @@ ghost use Rattle.search_end.specs.GoingOn.{DeskGoesOn};
 use crate::kept::keep_all;
 use search_core::{Desk, Reported};
 use search_tree::{BlockPath, expand_from};
-use solid_model::{EndKind, Limits, Memory, Prefix, Problem};
+use solid_model::{EndKind, Memory, Prefix, Problem};
 use std::alloc::Global;
 use std::collections::VecDeque;
-use std::sync::Arc;
 
 /// How many live prefixes a piece is expanded into at most, before it is reported.
 pub const QUANTUM: u32 = 64;
-
-/// Whether any prefix of a problem is live: whether the empty one is. An `Err` is out of memory.
-fn is_any_live(alloc: Global, path: &mut BlockPath, problem: &Arc<Problem>) -> Result<bool, Memory>
-    requires way { IsWayOf (arc_value problem.now) path.old }
-    ensures way { IsWayOf (arc_value problem.now) path.new }
-    ensures live { IfOk result (λ live. live ≡ is_live (arc_value problem.now) []) }
-{
-    let empty = Prefix::from_bools(alloc, &[])?;
-    let report = expand_from(alloc, path, problem, &empty, 1)?;
-    Ok(report.is_some())
-}
-
-/// The desk of a search that begins, by a way down the tree of its problem. An `Err` is out of
-/// memory.
-pub fn begin_from(
-    alloc: Global,
-    path: &mut BlockPath,
-    problem: &Arc<Problem>,
-    limits: Limits,
-) -> Result<Desk, Memory>
-    requires way { IsWayOf (arc_value problem.now) path.old }
-    ensures way { IsWayOf (arc_value problem.now) path.new }
-    ensures problem { IfOk result (λ desk. desk.problem ≡ arc_value problem.now) }
-    ensures limits { IfOk result (λ desk. desk.limits ≡ limits) }
-    ensures begun { IfOk result (λ desk. desk.history ≡ []) }
-    ensures kept { IfOk result IsDesk }
-{
-    let live = is_any_live(alloc, path, problem)?;
-    Desk::new(alloc, Arc::try_clone(problem)?, limits, live)
-}
-
-/// The desk of a search of a problem within limits that begins. An `Err` is out of memory.
-pub fn begin(alloc: Global, problem: &Arc<Problem>, limits: Limits) -> Result<Desk, Memory>
-    ensures problem { IfOk result (λ desk. desk.problem ≡ arc_value problem.now) }
-    ensures limits { IfOk result (λ desk. desk.limits ≡ limits) }
-    ensures begun { IfOk result (λ desk. desk.history ≡ []) }
-    ensures kept { IfOk result IsDesk }
-{
-    let mut path = BlockPath::new(alloc, problem)?;
-    begin_from(alloc, &mut path, problem, limits)
-}
 
 /// Expands a piece by a way down the tree of the desk's problem and reports it. Its rest is kept
 /// where the report is taken. An `Err` is out of memory.

@@ -44,6 +44,13 @@ impl Handed {
         }
     }
 
+    /// These were told before, in no call.
+    pub fn told(choices: Vec<Choice>) -> Handed
+        ensures { result ≡ record { choices = choices.items; pages = 0 } }
+    {
+        Handed { choices, pages: 0 }
+    }
+
     /// The choices that were handed out.
     pub fn choices(&self) -> &[Choice]
         ensures { result.now ≡ self.now.choices }

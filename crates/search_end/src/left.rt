@@ -1,18 +1,26 @@
-//! What is left to be handed out at the end.
+//! What is left to be handed out at the end, page by page.
 //!
 //! What is left is what follows in the desk's list, where that begins with what was handed out, as
 //! it does where that came out of the desk's own book; which is tried, choice by choice. Else each
 //! choice that was found is looked up among those that were handed out.
 
-ghost use Rattle.std.specs.Prelude.{◌≡◌, ◌≢◌, ◌↔◌, ◌++◌, Bool, List, take, IsTrue, IfOk};
+ghost use Rattle.std.specs.Prelude.{◌≡◌, ◌≢◌, ◌≤◌, ◌↔◌, ◌++◌, [], Bool, ℕ, List, take, length, IsTrue, IfOk, OnOk, MatchResult};
 ghost use Rattle.std.specs.List.{list_any};
+ghost use Rattle.std.specs.Vec.Iter.{into_iter_items};
 ghost use Rattle.lemmas.specs.Lists.{Ascends};
 ghost use Rattle.lemmas.specs.Truth.{same_values};
+ghost use Rattle.solid_model.specs.Blocks.{ProblemParts};
+ghost use Rattle.solid_model.specs.Limits.{most_page_choices, most_solid_limit};
 ghost use Rattle.search_end.specs.Answers.{new_ones};
+ghost use Rattle.search_end.specs.Handed.{AreFewSolutions, BreaksOff, HandsOn};
+ghost use Rattle.page_calls.specs.Pages.{CountsFaults};
 
+use crate::handed::{Handed, PAGE};
+use page_calls::{PageOut, RunFault};
 use solid_model::{Choice, Memory, compare, copy_choices};
 use std::alloc::Global;
 use std::cmp::Ordering;
+use std::vec::IntoIter;
 
 /// Whether two choices are the same.
 fn same_choice(a: &Choice, b: &Choice) -> bool
@@ -103,4 +111,53 @@ pub fn left_over(
     let mut left = all_left(alloc, handed, found)?;
     left.truncate(room);
     Ok(left)
+}
+
+/// The next page of what is left: as many choices as a page may have, or all if they are fewer. An
+/// `Err` is out of memory.
+fn next_page(alloc: Global, left: &mut IntoIter<Choice>) -> Result<Vec<Choice>, Memory>
+    ensures parts { IfOk result (λ page.
+        into_iter_items left.old ≡ page.items ++ into_iter_items left.new) }
+    ensures few { IfOk result (λ page. length page.items ≤ most_page_choices) }
+    ensures all { IfOk result (λ page. page.items ≡ [] → into_iter_items left.new ≡ []) }
+{
+    let mut page = Vec::new(alloc);
+    for _ in 0..PAGE {
+        let Some(choice) = left.next() else {
+            return Ok(page);
+        };
+        page.push(choice)?;
+    }
+    Ok(page)
+}
+
+/// Hands out what is left, page by page. An `Err` is that of a page, or out of memory.
+pub fn hand_rest<P: PageOut>(
+    alloc: Global,
+    pages: &mut P,
+    handed: &mut Handed,
+    left: Vec<Choice>,
+) -> Result<(), RunFault>
+    requires room { length (handed.old.choices ++ left.items) ≤ most_solid_limit }
+    ensures choices { OnOk result (handed.new.choices ≡ handed.old.choices ++ left.items) }
+    ensures out { MatchResult result
+        (λ _. HandsOn (P.calls pages.old) handed.old (P.calls pages.new) handed.new)
+        (λ _. (p : ProblemParts) → (most : ℕ)
+        → AreFewSolutions p most (handed.old.choices ++ left.items)
+        → BreaksOff p most (P.calls pages.old) handed.old (P.calls pages.new)) }
+    ensures faults { CountsFaults (P.faults pages.old) (P.faults pages.new) result
+        RunFault.PageFault }
+{
+    let mut left = left.into_iter();
+    loop {
+        let Ok(page) = next_page(alloc, &mut left) else {
+            return Err(RunFault::Memory);
+        };
+        if page.is_empty() {
+            return Ok(());
+        }
+        if let Err(fault) = handed.hand_out(pages, page) {
+            return Err(fault);
+        }
+    }
 }

@@ -8,11 +8,16 @@ mod room;
 mod running;
 mod search;
 mod shared;
+mod starting;
 mod worker;
 mod working;
 mod workshop;
 
+pub use opening::{Opened, open_at, readers_of};
 pub use page_calls::{NoPages, PageOut, RunFault};
+pub use room::Room;
 pub use running::run_search;
 pub use search::{Search, SearchSeat};
-pub use search_end::{SearchEnd, begin, search_by_desk};
+pub use search_end::SearchEnd;
+pub use starting::start_workers;
+pub use workshop::Workshop;

@@ -1,14 +1,18 @@
-//! The parts of a search that begins: the pool of its pieces, and where its workers meet.
+//! A search that begins: the way down its tree, the pool of its pieces, where its workers meet, and
+//! the readers of its book.
 
 ghost use Rattle.std.specs.Prelude.{◌≡◌, ◌≤◌, length, IfOk, IsTrue};
 ghost use Rattle.std.specs.Arc.{arc_value};
 ghost use Rattle.lemmas.specs.Lists.{Each};
 ghost use Rattle.query_session.specs.Tales.{IsReaderOf};
+ghost use Rattle.search_tree.specs.BlockPaths.{IsWayOf};
 
 use crate::room::Room;
 use crate::shared::Shared;
 use search_core::Desk;
-use solid_model::{Memory, Problem};
+use search_end::set_up;
+use search_tree::BlockPath;
+use solid_model::{Limits, Memory, Problem};
 use solution_book::{Book, BookReader};
 use std::alloc::Global;
 use std::sync::{Arc, Wait};
@@ -30,7 +34,7 @@ fn put_first(desk: &Desk, seats: &mut [WorkerSeat]) -> Result<(), Memory> {
 
 /// The seats of so many workers in a pool that holds the desk's first piece, if it has one, in the
 /// first deque. An `Err` is out of memory.
-pub fn seats_at(alloc: Global, workers: u32, desk: &Desk) -> Result<Vec<WorkerSeat>, Memory>
+fn seats_at(alloc: Global, workers: u32, desk: &Desk) -> Result<Vec<WorkerSeat>, Memory>
     requires some { 1 ≤ workers }
     requires few { workers ≤ 64 }
     ensures { IfOk result (λ seats. length seats.items ≡ workers) }
@@ -71,7 +75,7 @@ pub fn readers_of<B: Wait + Drop>(
 
 /// A room for so many workers at a desk, with its book, and so many readers of that, who read it or
 /// don't. An `Err` is out of memory.
-pub fn room_for<'a, R: Wait>(
+fn room_for<'a, R: Wait>(
     rt: &'a R,
     alloc: Global,
     problem: &Arc<Problem>,
@@ -89,4 +93,50 @@ pub fn room_for<'a, R: Wait>(
         Room::new(Shared::new(alloc, desk, book, is_read, workers)),
         others,
     ))
+}
+
+/// A search that begins, of which nobody is at work yet.
+#[derive(Drop)]
+pub struct Opened<'p, 'a, R: Wait> {
+    /// A way down the tree of the problem's prefixes, for the first worker: another one would take
+    /// as long as a short search.
+    pub path: BlockPath<'p>,
+    /// A seat for each worker.
+    pub seats: Vec<WorkerSeat>,
+    /// Where all meet.
+    pub room: Room<&'a R>,
+    /// Readers of its book.
+    pub readers: Vec<BookReader<&'a R>>,
+    /// Whether its desk has no end yet: else nobody needs to start.
+    pub goes_on: bool,
+}
+
+/// Opens a search of a problem within limits by so many workers, all of whom count as at work, with
+/// so many readers of its book, who read it or don't. An `Err` is out of memory.
+pub fn open_at<'p, 'a, R: Wait>(
+    rt: &'a R,
+    alloc: Global,
+    problem: &'p Arc<Problem>,
+    limits: Limits,
+    workers: u32,
+    readers: u32,
+    is_read: bool,
+) -> Result<Opened<'p, 'a, R>, Memory>
+    requires workers { (1 ≤ workers) × (workers ≤ 64) }
+    requires readers { (1 ≤ readers) × (readers ≤ 16) }
+    ensures way { IfOk result (λ o. IsWayOf (arc_value problem.now) o.path) }
+    ensures seats { IfOk result (λ o. length o.seats.items ≡ workers) }
+    ensures readers { IfOk result (λ o. length o.readers.items ≡ readers) }
+{
+    let (path, desk) = set_up(alloc, problem, limits)?;
+    let seats = seats_at(alloc, workers, &desk)?;
+    let goes_on = desk.end().is_none();
+    let (room, readers) = room_for(rt, alloc, problem, workers, readers, is_read, desk)?;
+    Ok(Opened {
+        path,
+        seats,
+        room,
+        readers,
+        goes_on,
+    })
 }

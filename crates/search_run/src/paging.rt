@@ -1,24 +1,18 @@
 //! Pages are handed out while workers search.
 
-ghost use Rattle.std.specs.Prelude.{◌≡◌, ◌≤◌, [], length, IsTrue, IfSome, OnOk, MatchResult};
+ghost use Rattle.std.specs.Prelude.{◌≡◌, ◌≤◌, [], length, IsTrue, OnOk, MatchResult};
 ghost use Rattle.std.specs.Arc.{arc_value};
-ghost use Rattle.search_tree.specs.BlockPaths.{IsWayOf};
 ghost use Rattle.search_end.specs.Handed.{BreaksOff, HandsOn, PagesOn};
 ghost use Rattle.page_calls.specs.Pages.{CountsFaults};
 ghost use Rattle.search_run.specs.Reading.{IsReadUpTo};
 
-use crate::working::work_at_seat;
 use crate::workshop::Workshop;
 use page_calls::{PageOut, RunFault};
 use search_end::{Handed, PAGE};
-use search_tree::BlockPath;
 use solid_model::Problem;
 use solution_book::BookReader;
 use std::alloc::Global;
 use std::sync::Wait;
-use std::thread;
-use std::thread::Threads;
-use steal_pool::WorkerSeat;
 use tv_base::{Gate, Point};
 
 /// Whether a book is of this problem.
@@ -102,12 +96,13 @@ fn page_on<B: Wait + Drop, R: Wait, G: Gate, P: PageOut>(
     unreachable!()
 }
 
-/// Hands out pages while others search, if the book is of this problem.
-fn page_all<B: Wait + Drop, R: Wait, G: Gate, P: PageOut>(
+/// Hands out pages while others search, by the last of these readers, if its book is of this
+/// problem.
+pub fn page_all<B: Wait + Drop, R: Wait, G: Gate, P: PageOut>(
     rt: &R,
     alloc: Global,
     shop: &Workshop<'_, B, G>,
-    reader: BookReader<B>,
+    readers: Vec<BookReader<B>>,
     pages: &mut P,
 ) -> Result<Handed, RunFault>
     ensures paged { PagesOn (arc_value shop.now.problem.now) shop.now.limits.solids
@@ -115,71 +110,16 @@ fn page_all<B: Wait + Drop, R: Wait, G: Gate, P: PageOut>(
     ensures faults { CountsFaults (P.faults pages.old) (P.faults pages.new) result
         RunFault.PageFault }
 {
-    let mut reader = reader;
+    let mut readers = readers;
     let handed = Handed::new(alloc);
     if !pages.listens() {
         return Ok(handed);
     }
+    let Some(mut reader) = readers.pop() else {
+        return Ok(handed);
+    };
     if !is_book_of(&mut reader, shop.problem) {
         return Ok(handed);
     }
     page_on(rt, alloc, shop, reader, handed, pages)
-}
-
-/// Starts a worker at each seat, of which the first goes by this way down the tree of the problem's
-/// prefixes, and hands out pages until all have returned. A worker whose start is refused stops
-/// counting; its work is done by others. Where a page is refused, or memory runs out, all are to
-/// stop.
-pub fn search_together<'a, 's, R: Threads + Wait + Sync, G: Gate, P: PageOut>(
-    rt: &'a R,
-    alloc: Global,
-    shop: &Workshop<'s, &'a R, G>,
-    path: BlockPath<'s>,
-    seats: Vec<WorkerSeat>,
-    reader: BookReader<&'a R>,
-    pages: &mut P,
-) -> Result<Handed, RunFault>
-    requires way { IsWayOf (arc_value shop.now.problem.now) path }
-    ensures paged { PagesOn (arc_value shop.now.problem.now) shop.now.limits.solids
-        (P.calls pages.old) record { choices = []; pages = 0 } (P.calls pages.new) result }
-    ensures faults { CountsFaults (P.faults pages.old) (P.faults pages.new) result
-        RunFault.PageFault }
-{
-    let lent = &mut *pages;
-    // What is written through `pages` is known only of what the closure hands back.
-    let (back, handed) = thread::scope(
-        thread::scope_env(),
-        rt,
-        move |scope| -> (&mut P, Result<Handed, RunFault>)
-            requires way { IsWayOf (arc_value shop.now.problem.now) path }
-            ensures same { result.0.ghost_name ≡ lent.entry.ghost_name }
-            ensures paged { PagesOn (arc_value shop.entry.now.problem.now)
-                shop.entry.now.limits.solids (P.calls lent.entry.now)
-                record { choices = []; pages = 0 } (P.calls result.0.now) result.1 }
-            ensures faults { CountsFaults (P.faults lent.entry.now) (P.faults result.0.now) result.1
-                RunFault.PageFault }
-        {
-            let mut number: u32 = 0;
-            let mut path = Some(path);
-            for seat in seats {
-                let own = path.take();
-                let started = scope.spawn(
-                    move ||
-                        requires way { IfSome own (IsWayOf (arc_value shop.now.problem.now)) }
-                    { drop(work_at_seat(rt, alloc, shop, own, number, seat)) },
-                );
-                if started.is_err() {
-                    shop.room.leave(rt);
-                }
-                number = number.saturating_add(1);
-            }
-            let handed = page_all(rt, alloc, shop, reader, lent);
-            if handed.is_err() {
-                shop.room.halt(rt);
-            }
-            (lent, handed)
-        },
-    );
-    let _ = back;
-    handed
 }

@@ -9,6 +9,7 @@
 //! once while all are at work.
 
 use crate::shared::{Answered, Shared};
+use query_session::Waiter;
 use search_core::{Desk, ReadyReport};
 use search_end::Mark;
 use solid_model::{Memory, Prefix};
@@ -158,14 +159,6 @@ impl<B: Wait + Drop> Room<B> {
         }
     }
 
-    /// A reader waits until so many solids are published, or no more will be.
-    pub fn wait_until<R: Wait>(&self, rt: &R, count: usize) {
-        let shared = self.enter(rt);
-        let _shared = self.news.wait_while(rt, shared, |shared| {
-            shared.published() < count && !shared.is_still()
-        });
-    }
-
     /// Wakes all that wait.
     fn wake_all(&self) {
         self.changed.notify_all();
@@ -178,5 +171,20 @@ impl<B: Wait + Drop> Room<B> {
         let (desk, book, marks) = shared.into_inner().into_parts();
         book.end();
         (desk, marks)
+    }
+}
+
+impl<B: Wait + Drop> Waiter for Room<B> {
+    /// Returns once so many solids are published, or no more will be.
+    fn wait_for<R: Wait>(&self, rt: &R, count: usize) {
+        let shared = self.enter(rt);
+        let _shared = self.news.wait_while(rt, shared, |shared| {
+            shared.published() < count && !shared.is_still()
+        });
+    }
+
+    /// All are to stop. The desk stays as it is, so that the search may go on at its end.
+    fn stop<R: Wait>(&self, rt: &R) {
+        self.halt(rt);
     }
 }

@@ -4,61 +4,75 @@
 //!
 //! It keeps no receipt: whatever the caller reads too late of the book, `finish` hands out by the
 //! desk.
-//!
-//! The caller makes a way down the tree to learn whether any prefix is live, and this goes to the
-//! first worker: another one for a lone worker would take as long again.
 
-ghost use Rattle.std.specs.Prelude.{◌≡◌, ◌≤◌, IfOk, MatchResult};
+ghost use Rattle.std.specs.Prelude.{◌≡◌, ◌≤◌, [], IfOk, MatchResult};
 ghost use Rattle.std.specs.Arc.{arc_value};
 ghost use Rattle.solid_model.specs.Forcing.{is_live};
 ghost use Rattle.solid_model.specs.SearchEnds.{EndsSearch};
+ghost use Rattle.search_tree.specs.BlockPaths.{IsWayOf};
 ghost use Rattle.search_end.specs.Answers.{IsAnswer};
+ghost use Rattle.search_end.specs.Handed.{PagesOn};
 ghost use Rattle.page_calls.specs.Pages.{CountsFaults, HasPaged, HasAllPaged};
 
-use crate::opening::{room_for, seats_at};
-use crate::paging::search_together;
-use crate::room::Room;
+use crate::opening::{Opened, open_at};
+use crate::paging::page_all;
+use crate::starting::start_workers;
 use crate::workshop::Workshop;
 use page_calls::{PageOut, RunFault};
 use search_core::Desk;
-use search_end::{finish, set_up};
-use solid_model::{Ended, Limits, Memory, Problem};
+use search_end::{Handed, finish};
+use search_tree::BlockPath;
+use solid_model::{Ended, Limits, Problem};
 use solution_book::BookReader;
 use std::alloc::Global;
 use std::sync::{Arc, Wait};
+use std::thread;
 use std::thread::Threads;
 use steal_pool::WorkerSeat;
 use tv_base::Gate;
 
-/// The seats of the workers at a desk; none where it has ended, so that nobody starts. An `Err` is
-/// out of memory.
-fn seats_for(alloc: Global, workers: u32, desk: &Desk) -> Result<Vec<WorkerSeat>, Memory>
-    requires some { 1 ≤ workers }
-    requires few { workers ≤ 64 }
-{
-    if desk.end().is_some() {
-        return Ok(Vec::new(alloc));
-    }
-    seats_at(alloc, workers, desk)
-}
-
-/// A room for so many workers at a desk, and a reader of its book, who reads it or doesn't. An `Err`
-/// is out of memory.
-fn room_and_reader<'a, R: Wait>(
+/// Starts a worker at each seat, the first by this way down the tree of the problem's prefixes, and
+/// hands out pages until all have returned. Where a page is refused, or memory runs out, all are to
+/// stop.
+fn search_together<'a, 's, R: Threads + Wait + Sync, G: Gate, P: PageOut>(
     rt: &'a R,
     alloc: Global,
-    problem: &Arc<Problem>,
-    workers: u32,
-    is_read: bool,
-    desk: Desk,
-) -> Result<(Room<&'a R>, BookReader<&'a R>), Memory>
-    requires { desk.problem ≡ arc_value problem.now }
+    shop: &Workshop<'s, &'a R, G>,
+    path: BlockPath<'s>,
+    seats: Vec<WorkerSeat>,
+    readers: Vec<BookReader<&'a R>>,
+    pages: &mut P,
+) -> Result<Handed, RunFault>
+    requires way { IsWayOf (arc_value shop.now.problem.now) path }
+    ensures paged { PagesOn (arc_value shop.now.problem.now) shop.now.limits.solids
+        (P.calls pages.old) record { choices = []; pages = 0 } (P.calls pages.new) result }
+    ensures faults { CountsFaults (P.faults pages.old) (P.faults pages.new) result
+        RunFault.PageFault }
 {
-    let (room, mut readers) = room_for(rt, alloc, problem, workers, 1, is_read, desk)?;
-    match readers.pop() {
-        Some(reader) => Ok((room, reader)),
-        None => Err(Memory),
-    }
+    let lent = &mut *pages;
+    // What is written through `pages` is known only of what the closure hands back.
+    let (back, handed) = thread::scope(
+        thread::scope_env(),
+        rt,
+        move |scope| -> (&mut P, Result<Handed, RunFault>)
+            requires way { IsWayOf (arc_value shop.now.problem.now) path }
+            ensures same { result.0.ghost_name ≡ lent.entry.ghost_name }
+            ensures paged { PagesOn (arc_value shop.entry.now.problem.now)
+                shop.entry.now.limits.solids (P.calls lent.entry.now)
+                record { choices = []; pages = 0 } (P.calls result.0.now) result.1 }
+            ensures faults { CountsFaults (P.faults lent.entry.now) (P.faults result.0.now) result.1
+                RunFault.PageFault }
+        {
+            start_workers(scope, rt, alloc, shop, path, seats);
+            let handed = page_all(rt, alloc, shop, readers, lent);
+            if handed.is_err() {
+                shop.room.halt(rt);
+            }
+            (lent, handed)
+        },
+    );
+    let _ = back;
+    handed
 }
 
 /// The search of all prefixes of a problem within limits by so many workers, which pass the gate at
@@ -85,16 +99,18 @@ pub fn run_search<R: Threads + Wait + Sync, G: Gate, P: PageOut>(
     ensures faults { CountsFaults (P.faults pages.old) (P.faults pages.new) result
         RunFault.PageFault }
 {
-    let Ok((path, desk)) = set_up(alloc, &problem, limits) else {
-        return Err(RunFault::Memory);
-    };
-    let Ok(seats) = seats_for(alloc, workers, &desk) else {
-        return Err(RunFault::Memory);
-    };
     let is_read = pages.listens();
-    let Ok((room, reader)) = room_and_reader(rt, alloc, &problem, workers, is_read, desk) else {
+    let Ok(opened) = open_at(rt, alloc, &problem, limits, workers, 1, is_read) else {
         return Err(RunFault::Memory);
     };
+    let Opened {
+        path,
+        seats,
+        room,
+        readers,
+        goes_on,
+    } = opened;
+    let seats = if goes_on { seats } else { Vec::new(alloc) };
     let handed = {
         let shop = Workshop {
             problem: &problem,
@@ -103,7 +119,7 @@ pub fn run_search<R: Threads + Wait + Sync, G: Gate, P: PageOut>(
             gate,
             workers,
         };
-        search_together(rt, alloc, &shop, path, seats, reader, pages)
+        search_together(rt, alloc, &shop, path, seats, readers, pages)
     };
     match handed {
         Ok(handed) => {

@@ -1,5 +1,7 @@
 //! The parts of a search, for a caller who starts its workers and readers.
 //!
+//! It keeps no way down the tree, which borrows the problem that it owns: each worker makes one.
+//!
 //! A search keeps no pool: what is left in the deques is in the desk's frontier too, and `finish`
 //! makes from there what events are missing. So a seat of another search, or one that is left out,
 //! does no harm, and no call has a condition on seats.
@@ -12,13 +14,13 @@ ghost use Rattle.search_end.specs.Stopped.{IsEndOf, ListsFound, WasStopped};
 ghost use Rattle.search_run.specs.Worked.{HasWorked};
 ghost use Rattle.steal_pool.specs.WorkerSeats.{state_of};
 
-use crate::opening::{readers_of, room_for, seats_at};
+use crate::opening::{Opened, open_at, readers_of};
 use crate::room::Room;
 use crate::working::work_at_seat;
 use crate::workshop::Workshop;
+use page_calls::NoPages;
 use query_session::Waiter;
-use search_core::Desk;
-use search_end::{SearchEnd, end_search, set_up};
+use search_end::{Handed, SearchEnd, end_search};
 use solid_model::{Limits, Memory, Problem};
 use solution_book::BookReader;
 use std::alloc::Global;
@@ -72,9 +74,13 @@ impl<'a, R: Wait> Search<&'a R> {
         ensures readers { IfOk result (λ r. Each (IsReaderOf (arc_value problem)) r.2.items) }
         ensures count { IfOk result (λ r. length r.2.items ≡ readers) }
     {
-        let (_, desk) = set_up(alloc, &problem, limits)?;
-        let seats = search_seats(alloc, seats_at(alloc, workers, &desk)?)?;
-        let (room, others) = room_for(rt, alloc, &problem, workers, readers, true, desk)?;
+        let Opened {
+            seats,
+            room,
+            readers: others,
+            ..
+        } = open_at(rt, alloc, &problem, limits, workers, readers, true)?;
+        let seats = search_seats(alloc, seats)?;
         let others = readers_of(alloc, &problem, others)?;
         let search = Search {
             problem,
@@ -116,19 +122,10 @@ impl<B: Wait + Drop> Search<B> {
         self.room.leave(rt);
     }
 
-    /// Ends it, once all workers have returned, and gives its desk, for a caller who has choices
-    /// to list before those of the desk. It may wait for readers, and what a reader calls
-    /// afterwards may never return.
-    pub fn close(self) -> Desk {
-        let Search { room, .. } = self;
-        let (desk, _) = room.into_desk();
-        desk
-    }
-
     /// Ends it, once all workers have returned, and given all its seats. Where it is to go on, the
     /// events that are missing are made, so that it has ended; else it may be stopped. What the
-    /// desk found is listed, in the stated order. An `Err` is out of memory. It waits as `close`
-    /// does.
+    /// desk found is listed, in the stated order. An `Err` is out of memory. It may
+    /// wait for readers, and what a reader calls afterwards may never return.
     pub fn finish(
         self,
         alloc: Global,
@@ -142,8 +139,22 @@ impl<B: Wait + Drop> Search<B> {
         ensures found { IfOk result ListsFound }
     {
         drop(seats);
-        let desk = self.close();
-        end_search(alloc, problem, limits, desk, Vec::new(alloc), go_on)
+        let Search { room, .. } = self;
+        let (desk, marks) = room.into_desk();
+        let handed = Handed::new(alloc);
+        match end_search(
+            alloc,
+            problem,
+            limits,
+            desk,
+            &marks,
+            handed,
+            go_on,
+            &mut NoPages,
+        ) {
+            Ok(end) => Ok(end),
+            Err(_) => Err(Memory),
+        }
     }
 }
 
@@ -151,7 +162,7 @@ impl<B: Wait + Drop> Waiter for Search<B> {
     /// Returns once so many solids are published, the desk has ended, it is stopped or no worker is
     /// at work.
     fn wait_for<R: Wait>(&self, rt: &R, count: usize) {
-        self.room.wait_until(rt, count);
+        self.room.wait_for(rt, count);
     }
 
     /// Sets the mark at which workers leave. The desk stays as it is, so that `finish` may go on.

@@ -19,27 +19,6 @@ use std::sync::{Arc, Wait};
 use steal_pool::WorkerSeat;
 use tv_base::{Gate, Point};
 
-/// The report of a piece, if it is live, ready for the desk before its lock is taken. An `Err` is
-/// out of memory.
-fn report_of(
-    alloc: Global,
-    path: &mut BlockPath,
-    problem: &Arc<Problem>,
-    worker: u32,
-    piece: &Prefix,
-) -> Result<Option<ReadyReport>, Memory>
-    requires way { IsWayOf (arc_value problem.now) path.old }
-    ensures way { IsWayOf (arc_value problem.now) path.new }
-{
-    match expand_from(alloc, path, problem, piece, QUANTUM)? {
-        Some(expansion) => match ReadyReport::new(alloc, expansion, worker as usize) {
-            Ok(report) => Ok(Some(report)),
-            Err(_) => Err(Memory),
-        },
-        None => Ok(None),
-    }
-}
-
 /// Expands a piece and reports it in a turn. The rest is handed over; `None`: the worker is to
 /// leave. An `Err` is out of memory before the report is taken.
 fn work_at<B: Wait + Drop, R: Wait, G: Gate>(
@@ -55,14 +34,15 @@ fn work_at<B: Wait + Drop, R: Wait, G: Gate>(
     ensures way { IsWayOf (arc_value shop.now.problem.now) path.new }
 {
     shop.gate.pass(worker, Point::BeforeExpand);
-    match report_of(alloc, path, shop.problem, worker, piece)? {
-        Some(report) => {
-            let rest = shop.room.report(rt, alloc, report, turn)?;
-            shop.gate.pass(worker, Point::AfterReport);
-            Ok(rest)
-        }
-        None => Ok(Some(Vec::new(alloc))),
-    }
+    let Some(expansion) = expand_from(alloc, path, shop.problem, piece, QUANTUM)? else {
+        return Ok(Some(Vec::new(alloc)));
+    };
+    let Ok(report) = ReadyReport::new(alloc, expansion, worker as usize) else {
+        return Err(Memory);
+    };
+    let rest = shop.room.report(rt, alloc, report, turn)?;
+    shop.gate.pass(worker, Point::AfterReport);
+    Ok(rest)
 }
 
 /// The rounds of a worker, by a way down the tree of the problem's prefixes, until it leaves. What
@@ -108,47 +88,10 @@ fn own_path<'a>(
     }
 }
 
-/// The work of one worker from its first piece on, by this way down the tree of the problem's
-/// prefixes, or else by one that it makes: where it is refused memory for that, it has done
-/// nothing, and leaves the piece to the others.
-fn work_from<'a, B: Wait + Drop, R: Wait, G: Gate>(
-    rt: &R,
-    alloc: Global,
-    shop: &Workshop<'a, B, G>,
-    path: Option<BlockPath<'a>>,
-    worker: &mut Worker,
-    piece: Prefix,
-)
-    requires way { IfSome path (IsWayOf (arc_value shop.now.problem.now)) }
-    ensures worked { WorksOn worker.old worker.new }
-{
-    match own_path(alloc, shop.problem, path) {
-        Ok(mut path) => {
-            worker.keep(piece);
-            go_round(rt, alloc, shop, &mut path, worker);
-        }
-        Err(_) => worker.leave_to_others(rt, shop.room, piece),
-    }
-}
-
-/// The work of one worker, from its start until it leaves, by this way down the tree of the
-/// problem's prefixes, or else by one that it makes at its first piece.
-pub fn work<'a, B: Wait + Drop, R: Wait, G: Gate>(
-    rt: &R,
-    alloc: Global,
-    shop: &Workshop<'a, B, G>,
-    path: Option<BlockPath<'a>>,
-    worker: &mut Worker,
-)
-    requires way { IfSome path (IsWayOf (arc_value shop.now.problem.now)) }
-    ensures worked { WorksOn worker.old worker.new }
-{
-    if let Some(piece) = worker.next_piece(rt, shop.room) {
-        work_from(rt, alloc, shop, path, worker, piece);
-    }
-}
-
-/// The same, at these seats, which it hands back: what it put, took and stole is added there.
+/// The work of one worker at these seats, from its start until it leaves, by this way down the tree
+/// of the problem's prefixes, or else by one that it makes at its first piece: where it is refused
+/// memory for that, it has done nothing, and leaves the piece to the others. It hands its seats
+/// back, where what it put, took and stole is added.
 pub fn work_at_seat<'a, B: Wait + Drop, R: Wait, G: Gate>(
     rt: &R,
     alloc: Global,
@@ -161,6 +104,14 @@ pub fn work_at_seat<'a, B: Wait + Drop, R: Wait, G: Gate>(
     ensures worked { HasWorked (state_of seat) (state_of result) }
 {
     let mut worker = Worker::new(alloc, number, seat);
-    work(rt, alloc, shop, path, &mut worker);
+    let Some(piece) = worker.next_piece(rt, shop.room) else {
+        return worker.into_seat();
+    };
+    let Ok(mut path) = own_path(alloc, shop.problem, path) else {
+        worker.leave_to_others(rt, shop.room, piece);
+        return worker.into_seat();
+    };
+    worker.keep(piece);
+    go_round(rt, alloc, shop, &mut path, &mut worker);
     worker.into_seat()
 }

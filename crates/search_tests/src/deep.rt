@@ -1,7 +1,6 @@
 //! The caller alone goes on deep first too.
 
-use crate::searches::{limits, problem};
-use search_run::search_by_desk;
+use crate::searches::{limits, problem, search_by_desk};
 use solid_model::EndKind;
 use std::alloc::Global;
 use std::test::Fail;

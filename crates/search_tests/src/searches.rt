@@ -3,7 +3,8 @@
 use crate::trees::{push_choices, push_prefix, push_prefixes};
 use file_problem::problem_of;
 use search_core::{Desk, Reported};
-use search_run::{begin, search_by_desk};
+use search_end::{Handed, begin, finish};
+use search_run::NoPages;
 use search_tree::{expand, solve_alone};
 use solid_model::{EndKind, Ended, Expansion, Limits, Prefix, Problem};
 use std::alloc::Global;
@@ -66,6 +67,20 @@ fn wanted_kind(wanted: &str) -> &str {
 fn told_alone(alloc: Global, problem: &Arc<Problem>, limits: Limits) -> Result<String, Fail> {
     let ended = solve_alone(alloc, problem, limits)?;
     told_end(alloc, &ended)
+}
+
+/// The search of a problem by a desk, at which the caller works alone.
+pub fn search_by_desk(
+    alloc: Global,
+    problem: &Arc<Problem>,
+    limits: Limits,
+) -> Result<Ended, Fail> {
+    let desk = begin(alloc, problem, limits)?;
+    let handed = Handed::new(alloc);
+    match finish(alloc, problem, limits, desk, &[], handed, &mut NoPages) {
+        Ok((ended, _desk)) => Ok(ended),
+        Err(_) => Err(Fail::new("no answer")),
+    }
 }
 
 /// How a search by a desk ends.

@@ -13,8 +13,8 @@ use Rattle.solid_model.proofs.ComparedChoices.{precedes_another}
 use Rattle.lemmas.specs.Lists.{Member, Ascends}
 use Rattle.lemmas.proofs.Lists.{each-weaker}
 use Rattle.lemmas.proofs.WithoutRepeats.{ascends-weaker}
-use Rattle.search_end.specs.declared.stopping.SearchEnd.{SearchEnd}
-use Rattle.search_end.specs.declared.stopping.SearchEnd.TheVariants.{Ended, Stopped}
+use Rattle.search_end.specs.declared.ending.SearchEnd.{SearchEnd}
+use Rattle.search_end.specs.declared.ending.SearchEnd.TheVariants.{Ended, Stopped}
 use Rattle.search_end.specs.Stopped.{IsEndOf, end_found, end_solids}
 use Rattle.search_end.proofs.DeskAnswers.{solution_of}
 use Rattle.search_tree.proofs.SearchEnds.{all_some}

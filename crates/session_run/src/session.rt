@@ -12,8 +12,8 @@ use crate::tales::told_choices;
 use crate::together::tell_together;
 use query_session::{Ask, ReaderTale};
 use search_core::Desk;
-use search_end::end_search;
-use search_run::{Search, SearchEnd};
+use search_end::{Handed, Mark, end_search};
+use search_run::{NoPages, Opened, SearchEnd, Workshop, open_at, readers_of};
 use solid_model::{Limits, Memory, Problem};
 use std::alloc::Global;
 use std::sync::{Arc, Wait};
@@ -52,13 +52,14 @@ fn asks_stop(scripts: &[Vec<Ask>]) -> bool
     false
 }
 
-/// The end of a search at this desk, to go on or not, which lists what these readers saw at last. An
-/// `Err` is out of memory.
+/// The end of a search at this desk, whose reports are marked so, to go on or not, which lists what
+/// these readers saw at last. An `Err` is out of memory.
 fn end_of(
     alloc: Global,
     problem: &Arc<Problem>,
     limits: Limits,
     desk: Desk,
+    marks: &[Mark],
     tales: &[ReaderTale],
     go_on: bool,
 ) -> Result<SearchEnd, Memory>
@@ -69,7 +70,20 @@ fn end_of(
         (λ tale. AreAmong limits.solids (end_solids e) tale.last.items) tales.now) }
 {
     let told = told_choices(alloc, limits.solids as usize, tales)?;
-    end_search(alloc, problem, limits, desk, told, go_on)
+    let handed = Handed::told(told);
+    match end_search(
+        alloc,
+        problem,
+        limits,
+        desk,
+        marks,
+        handed,
+        go_on,
+        &mut NoPages,
+    ) {
+        Ok(end) => Ok(end),
+        Err(_) => Err(Memory),
+    }
 }
 
 /// The search of a problem within limits by so many workers, who pass the gate at their points, and
@@ -90,18 +104,36 @@ pub fn run_session<R: Threads + Wait + Sync, G: Gate>(
     ensures { IfOk result
         (IsSession (arc_value problem) limits (map (λ v. v.items) scripts.now)) }
 {
-    let readers = scripts.len() as u32;
-    let own = Arc::try_clone(&problem)?;
-    let (search, seats, readers) = Search::open(rt, alloc, own, limits, workers, readers)?;
-    let tales = tell_together(rt, alloc, &search, seats, gate, scripts, readers)?;
-    let desk = search.close();
+    let count = scripts.len() as u32;
+    let Opened {
+        path,
+        seats,
+        room,
+        readers,
+        goes_on,
+    } = open_at(rt, alloc, &problem, limits, workers, count, true)?;
+    let seats = if goes_on { seats } else { Vec::new(alloc) };
+    let readers = readers_of(alloc, &problem, readers)?;
+    let tales = {
+        let shop = Workshop {
+            problem: &problem,
+            limits,
+            room: &room,
+            gate,
+            workers,
+        };
+        tell_together(rt, alloc, &shop, path, seats, scripts, readers)?
+    };
+    let (desk, marks) = room.into_desk();
+    let go_on = !asks_stop(scripts);
     let end = end_of(
         alloc,
         &problem,
         limits,
         desk,
+        &marks,
         tales.as_slice(),
-        !asks_stop(scripts),
+        go_on,
     )?;
     Ok(Session { tales, end })
 }

@@ -11,7 +11,7 @@ use Rattle.replies.specs.declared.status.Answer.TheVariants as answers
 use Rattle.replies.specs.Status.{end_answer}
 use Rattle.replies.specs.Writings.{EndsText, EndsWriting}
 use Rattle.report.specs.Texts.{stopped_text}
-use Rattle.search_end.specs.declared.stopping.SearchEnd.{SearchEnd as EndOfSearch}
+use Rattle.search_end.specs.declared.ending.SearchEnd.{SearchEnd as EndOfSearch}
 use Rattle.search_end.specs.Stopped.{end_solids}
 use Rattle.solid_model.specs.declared.cell.Cell.{Cell}
 use Rattle.solid_model.specs.Blocks.{ProblemParts}

@@ -1,5 +1,5 @@
 -- At first nothing is handed out; what then was is handed on.
-use Rattle.std.proofs.Common.{ℕ, ◌≤◌, ◌⊎◌, inl, inr, arith}
+use Rattle.std.proofs.Common.{ℕ, ◌≤◌, inl, inr, arith}
 use Rattle.std.specs.Arc.{arc_value}
 use Rattle.tv_base.specs.Faults.{Rose}
 use Rattle.search_end.proofs.PageCalls.{none_yet, unpaged}
@@ -7,12 +7,6 @@ use Rattle.search_run.proofs.running.run_search.Goals as goal
 
 pub returns-in_default-clause-paged : goal.returns-in_default-clause-paged
 returns-in_default-clause-paged g c = unpaged (arc_value c.args.problem) c.args.limits.solids (g.P.PageOut.calls c.args.pages.now)
-
-pub returns-in_default-seats_for-clause-paged : goal.returns-in_default-seats_for-clause-paged
-returns-in_default-seats_for-clause-paged g c = unpaged (arc_value c.args.problem) c.args.limits.solids (g.P.PageOut.calls c.args.pages.now)
-
-pub returns-in_default-room_and_reader-clause-paged : goal.returns-in_default-room_and_reader-clause-paged
-returns-in_default-room_and_reader-clause-paged g c = unpaged (arc_value c.args.problem) c.args.limits.solids (g.P.PageOut.calls c.args.pages.now)
 
 pub returns-in-Ok-handed-clause-paged : goal.returns-in-Ok-handed-clause-paged
 returns-in-Ok-handed-clause-paged g c =

@@ -3,7 +3,6 @@ use Rattle.std.proofs.Common.{List, map, subst, sym}
 use Rattle.std.proofs.lemmas.Result.{IfOk-weaker}
 use Rattle.lemmas.specs.Lists.{Each}
 use Rattle.lemmas.proofs.Lists.{each-from_map}
-use Rattle.solution_book.specs.Editions.{ReaderParts}
 use Rattle.query_session.specs.Tales.{IsReaderOf}
 use Rattle.session_run.specs.Players.{PlayerParts}
 use Rattle.session_run.proofs.together.tell_together.Goals as goal

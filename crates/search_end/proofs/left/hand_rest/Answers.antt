@@ -3,7 +3,7 @@ use Rattle.std.proofs.Common.{◌∙◌, ◌++◌, Bool, List, sym, ap, subst, a
 use Rattle.std.specs.Vec.Iter.{into_iter_items}
 use Rattle.search_end.specs.Handed.{AreFewSolutions}
 use Rattle.search_end.proofs.PageCalls.{few_left, paged}
-use Rattle.search_end.proofs.closing.hand_rest.Goals as goal
+use Rattle.search_end.proofs.left.hand_rest.Goals as goal
 
 pub returns-in_default-clause-out : goal.returns-in_default-clause-out
 returns-in_default-clause-out g c p most all before out =

@@ -2,7 +2,7 @@
 use Rattle.std.proofs.Common.{◌≡◌, ◌≤◌, ◌++◌, length}
 use Rattle.std.specs.Vec.Iter.{into_iter_items}
 use Rattle.search_end.specs.Handed.{HandsOn}
-use Rattle.search_end.proofs.closing.hand_rest.Given as goal
+use Rattle.search_end.proofs.left.hand_rest.Given as goal
 
 abbrev pub invariant-loop-page : goal.invariant-loop-page
 invariant-loop-page g l = record {

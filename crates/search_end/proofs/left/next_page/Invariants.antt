@@ -1,7 +1,7 @@
 -- What is left, and the page so far.
 use Rattle.std.proofs.Common.{◌≡◌, ◌++◌, length}
 use Rattle.std.specs.Vec.Iter.{into_iter_items}
-use Rattle.search_end.proofs.closing.next_page.Given as goal
+use Rattle.search_end.proofs.left.next_page.Given as goal
 
 abbrev pub invariant-loop : goal.invariant-loop
 invariant-loop l = record {
