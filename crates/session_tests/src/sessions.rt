@@ -161,9 +161,11 @@ impl Gate for Slow {
     }
 }
 
-/// Whether a session in which a reader asks to stop, while workers are held, ends stopped.
+/// Whether a session in which a reader waits for more solids than there are, and another one asks to
+/// stop while workers are held, ends stopped: so readers go on beside one another, and beside the
+/// workers.
 fn is_stopped<R: Threads + Wait + Sync>(rt: &R, alloc: Global) -> Result<bool, Fail> {
-    let session = gated_session(rt, alloc, 2, &Slow, "readers 1|0 stop|go")?;
+    let session = gated_session(rt, alloc, 2, &Slow, "readers 2|0 wait 65536|1 stop|go")?;
     Ok(matches!(session.end, SearchEnd::Stopped { .. }))
 }
 
