@@ -9,6 +9,8 @@ mod fitting_solids;
 #[cfg(test)]
 mod planes;
 #[cfg(test)]
+mod problems;
+#[cfg(test)]
 mod surface_texts;
 #[cfg(test)]
 mod surfaces;
