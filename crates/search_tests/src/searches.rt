@@ -1,7 +1,8 @@
 //! Searches of problems, within limits and piece by piece.
 
 use crate::trees::{push_choices, push_prefix, push_prefixes};
-use file_problem::problem_of;
+use dxf_entities::ReadingForm;
+use file_problem::problem_with_rest;
 use search_core::{Desk, Reported};
 use search_end::{Handed, begin, finish};
 use search_run::NoPages;
@@ -15,10 +16,13 @@ use test_files::{Row, drawing_file, file_bytes, lines_hold, row_of, rows_tell};
 /// The hollow cube.
 const HOLLOW_CUBE: [&str; 3] = ["rect S 0 0 3 3, rect D 1 1 2 2"; 3];
 
-/// The problem of a drawing by its strokes in front, from the top and from the side.
+/// The problem of a drawing by its strokes in front, from the top and from the side, of which one may
+/// show nothing.
 pub fn problem(alloc: Global, views: [&str; 3]) -> Result<Arc<Problem>, Fail> {
     let file = file_bytes(drawing_file(alloc, views)?)?;
-    Ok(Arc::new(alloc, problem_of(alloc, file, 0)?)?)
+    let form = ReadingForm::three_views(0);
+    let (problem, _, _) = problem_with_rest(alloc, file, form, true)?;
+    Ok(Arc::new(alloc, problem)?)
 }
 
 /// Limits that may be asked for.
@@ -33,7 +37,8 @@ pub fn limits(nodes: &str, solids: &str) -> Result<Limits, Fail> {
 
 /// A row a drawing, by its strokes in front, from the top and from the side; limits of nodes and of
 /// solids; and how the search ends: its kind, how many live prefixes it opened, and how many solids
-/// it found.
+/// it found. The last rows are the quartered cube without each of its views, all of whose 256 sets
+/// of cells were tried, and a step without the view that alone shows which half of it is high.
 const ENDS: &str = "\
 rect S 0 0 3 3, rect D 1 1 2 2; rect S 0 0 3 3, rect D 1 1 2 2; rect S 0 0 3 3, rect D 1 1 2 2; \
     3; 1 -> whole 3 1
@@ -42,7 +47,15 @@ rect S 0 0 3 3, rect D 1 1 2 2; rect S 0 0 3 3, rect D 1 1 2 2; rect S 0 0 3 3, 
 lattice 2 2; lattice 2 2; lattice 2 2; 109; 35 -> whole 109 35
 lattice 2 2; lattice 2 2; lattice 2 2; 108; 35 -> nodes 109 34
 lattice 2 2; lattice 2 2; lattice 2 2; 109; 34 -> solids 109 34
-lattice 15 21; lattice 15 13; lattice 13 21; 1; 4096 -> nodes 2 0";
+lattice 15 21; lattice 15 13; lattice 13 21; 1; 4096 -> nodes 2 0
+line S 3 3 3 3; rect S 0 0 2 2, line S 0 1 2 1, line S 1 0 1 2; \
+    rect S 0 0 2 2, line S 0 1 2 1, line S 1 0 1 2; 30; 4 -> whole 30 4
+rect S 0 0 2 2, line S 0 1 2 1, line S 1 0 1 2; line S 3 3 3 3; \
+    rect S 0 0 2 2, line S 0 1 2 1, line S 1 0 1 2; 25; 4 -> whole 25 4
+rect S 0 0 2 2, line S 0 1 2 1, line S 1 0 1 2; rect S 0 0 2 2, line S 0 1 2 1, line S 1 0 1 2; \
+    line S 3 3 3 3; 28; 4 -> whole 28 4
+rect S 0 0 3 2, line S 0 1 3 1; rect S 0 0 3 2, line S 0 1 3 1; line S 3 3 3 3; \
+    12; 3 -> whole 12 3";
 
 /// How a search ended, as a row has it.
 fn told_end(alloc: Global, ended: &Ended) -> Result<String, Fail> {
