@@ -25,8 +25,8 @@ HERE = ":"
 FAILURES, LAST = 3, 5
 # How long machines may take to say what they have, as slow ones do whose logins wait for something, and a stopped GNU parallel to end; how it
 # stops jobs, which then clean up.
-CHECKED, ENDED = 300, 10
-STOPS = "TERM,5000,KILL,25"
+CHECKED, ENDED = 300, 20
+STOPS = "TERM,10000,KILL,25"
 # By these a machine that is gone without a word is known to be gone, and no password is waited for.
 SSH = "-o BatchMode=yes -o ConnectTimeout=20 -o ServerAliveInterval=15 -o ServerAliveCountMax=3"
 
