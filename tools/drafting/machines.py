@@ -24,7 +24,7 @@ HERE = ":"
 # A machine is left out once so many of its last so many batches failed.
 FAILURES, LAST = 3, 5
 # How long machines may take to say what they have, as slow ones do whose logins wait for something, and a stopped GNU parallel to end; how it
-# stops jobs, which then clean up.
+# stops jobs, which then clean up. By `exec` no shell stands between: once that ended, the batch would be killed at once on another machine.
 CHECKED, ENDED = 300, 20
 STOPS = "TERM,10000,KILL,25"
 # By these a machine that is gone without a word is known to be gone, and no password is waited for.
@@ -172,7 +172,7 @@ class Carrier:
         self.trouble: Exception | None = None
         listed = write_machines(room, machines)
         words = ["--pipe", "--recend", r"\n\n", "-N1", "--line-buffer", "--jobs", jobs, "--joblog", log, "--sshloginfile", listed,
-                 "--halt", "never", "--termseq", STOPS, shlex.join(itself.words("batch"))]
+                 "--halt", "never", "--termseq", STOPS, f"exec {shlex.join(itself.words('batch'))}"]
         command, variables = parallel(*words)
         with open(self.words.path, "wb") as said:
             self.process = subprocess.Popen(command, env=variables, stdin=subprocess.PIPE, stdout=subprocess.PIPE, stderr=said)
