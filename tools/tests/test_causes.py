@@ -256,4 +256,4 @@ class OnTheSheet(unittest.TestCase):
                     doc.saveas(file)
                     left_told = re.search(r"with .* (\d+) solids are left|(told by)", ended.out)
                     assert left_told
-                    self.assertIn(f" has these views" if left_told[2] else f"{left_told[1]} solids have", draft("solve", file, "--angle", angle).out)
+                    self.assertIn(" has these views" if left_told[2] else f"{left_told[1]} solids have", draft("solve", file, "--angle", angle).out)
