@@ -7,26 +7,28 @@ folder for temporary files, and is the only thing that is removed. Standard outp
 --sums it tells, instead, what the answers here stand on.
 """
 import argparse
+import atexit
 import base64
 import contextlib
 import gc
-import importlib
 import json
-import multiprocessing
-import multiprocessing.connection
 import os
 import pathlib
 import resource
+import secrets
+import select
+import shutil
 import signal
 import sys
 import tempfile
 import time
 import zlib
 from collections.abc import Iterator
-from typing import Any, NamedTuple
+from typing import Any, NamedTuple, NoReturn
 
-from . import asking, faults, messages, program, sums
+from . import asking, faults, messages, program, sheet, sums
 from .answers import CUT, FAULT, answer_of
+from .drawing import VIEWS, places_of, written
 from .given import given_in
 from .messages import Refused
 from .rows import FAILED, LOST, REFUSED
@@ -37,10 +39,11 @@ HELP = "rows of `draft table`, which runs it"
 MEMORY = 4_096
 # What a process may take to end by itself, once the program has run out of its time.
 GRACE = 5.0
+# How often the small sheet is drawn by which a batch begins.
+WARM = 3
 # As GNU parallel tells a job the machine on which it runs.
 MACHINE = os.environ.get("PARALLEL_SSHLOGIN", ":")
 CHANGED = "was changed meanwhile"
-FORKS = multiprocessing.get_context("fork")
 
 
 class Drawing(NamedTuple):
@@ -128,48 +131,64 @@ def row_of(path: str, arguments: argparse.Namespace) -> dict[str, Any]:
         return {"status": FAILED, "message": " ".join(f"reading it failed: {type(failure).__name__}: {failure}".split())[:300]}
 
 
-def answer(out: "multiprocessing.connection.Connection", drawing: Drawing, folder: str, arguments: argparse.Namespace) -> None:
-    """Sends the row of a drawing, from a process of its own. It is read by its name alone, which messages then have."""
-    os.setpgid(0, 0)
-    for number in (signal.SIGTERM, signal.SIGHUP, signal.SIGINT):
-        signal.signal(number, signal.SIG_DFL)
-    resource.setrlimit(resource.RLIMIT_CORE, (0, 0))
-    if arguments.memory:
-        resource.setrlimit(resource.RLIMIT_AS, (arguments.memory << 20,) * 2)
-    os.chdir(folder)
-    row = row_of(os.path.basename(drawing.file), arguments)
-    out.send({**row, "is_sheet": "ezdxf" in sys.modules})
+def answer(out: int, drawing: Drawing, folder: str, arguments: argparse.Namespace) -> NoReturn:
+    """Writes the row of a drawing into a pipe, from a process of its own, which ends. It is read by its name alone, which messages then have."""
+    status = 1
+    try:
+        os.setpgid(0, 0)
+        for number in (signal.SIGTERM, signal.SIGHUP, signal.SIGINT):
+            signal.signal(number, signal.SIG_DFL)
+        resource.setrlimit(resource.RLIMIT_CORE, (0, 0))
+        if arguments.memory:
+            resource.setrlimit(resource.RLIMIT_AS, (arguments.memory << 20,) * 2)
+        os.chdir(folder)
+        with open(out, "w") as pipe:
+            json.dump(row_of(os.path.basename(drawing.file), arguments), pipe)
+        status = 0
+    finally:
+        os._exit(status)
 
 
 def row_apart(drawing: Drawing, folder: str, arguments: argparse.Namespace) -> dict[str, Any]:
     """The row of a drawing, by a process that is gone afterwards, with all that it began."""
     began = time.monotonic()
-    ours, theirs = FORKS.Pipe(duplex=False)
-    process = FORKS.Process(target=answer, args=(theirs, drawing, folder, arguments))
-    process.start()
-    theirs.close()
+    ours, theirs = os.pipe()
+    process = os.fork()
+    if not process:
+        answer(theirs, drawing, folder, arguments)
+    told = None
     try:
-        if ours.poll(arguments.seconds + GRACE):
-            row = dict(ours.recv())
-        else:
-            row = {"status": FAILED, "message": f"reading it took longer than {arguments.seconds:g} seconds"}
-    except EOFError:
-        process.join()
-        code = process.exitcode or 0
-        how = f"was ended by {signal.Signals(-code).name}" if code < 0 else f"ended with status {code}"
-        row = {"status": FAILED, "message": f"reading it {how}"}
+        os.close(theirs)
+        told = written_within(ours, arguments.seconds + GRACE)
     finally:
-        end(process)
-        ours.close()
+        code = end(process, told is not None)
+        os.close(ours)
+    row: dict[str, Any] = {"status": FAILED, "message": f"reading it took longer than {arguments.seconds:g} seconds"}
+    if told is not None:
+        how = f"was ended by {signal.Signals(-code).name}" if code < 0 else f"ended with status {code}"
+        row = json.loads(told) if code == 0 else {"status": FAILED, "message": f"reading it {how}"}
     return {"solids": None, "rounds": None, **row, "number": drawing.number, "seconds": round(time.monotonic() - began, 2), "machine": MACHINE}
 
 
-def end(process: "multiprocessing.process.BaseProcess") -> None:
-    """Ends a process and what it began."""
+def written_within(pipe: int, seconds: float) -> bytes | None:
+    """What is written into a pipe up to its end; none where that takes longer."""
+    until, told = time.monotonic() + seconds, b""
+    while select.select([pipe], [], [], max(0.0, until - time.monotonic()))[0]:
+        new = os.read(pipe, 1 << 16)
+        if not new:
+            return told
+        told += new
+    return None
+
+
+def end(process: int, is_done: bool) -> int:
+    """Ends a process, unless it comes to its end by itself, and all that it began; with which status it ended, or by which signal, below 0."""
+    if not is_done:
+        os.kill(process, signal.SIGKILL)
+    os.waitid(os.P_PID, process, os.WEXITED | os.WNOWAIT)
     with contextlib.suppress(ProcessLookupError, PermissionError):
-        os.killpg(process.pid or 0, signal.SIGKILL)
-    process.kill()
-    process.join()
+        os.killpg(process, signal.SIGKILL)
+    return os.waitstatus_to_exitcode(os.waitpid(process, 0)[1])
 
 
 # ---- the batch
@@ -188,17 +207,28 @@ def folder_of(drawing: Drawing, room: str) -> Iterator[str]:
         os.unlink(file)
 
 
+def warm(room: str) -> None:
+    """Begins ezdxf, where it is there, and draws a small sheet: what is in use by then each fork has, and needn't begin for itself."""
+    ends = [((0, 0), (10, 0)), ((0, 10), (10, 10)), ((0, 0), (0, 10)), ((10, 0), (10, 10))]
+    views = {view: [(False, (a + x, b + y), (c + x, d + y)) for (a, b), (c, d) in ends] for view, (x, y) in places_of(10, 10, 10, 10).items()
+             if view in VIEWS}
+    file = os.path.join(room, "cube.dxf")
+    pathlib.Path(file).write_text(written(views, 0))
+    with contextlib.suppress(Refused):
+        for _ in range(WARM):
+            sheet.draw(file, options().parse_args(["--all-visible"]), lambda text: None)
+    os.unlink(file)
+
+
 def rows_of(lines: list[bytes], room: str) -> Iterator[dict[str, Any]]:
     arguments = options().parse_args(json.loads(lines[0])["words"])
+    if not arguments.as_is:
+        warm(room)
+    # What is there by now needn't be looked at, and so copied, by a fork that collects what it left.
+    gc.freeze()
     for drawing in map(drawing_of, lines[1:-1]):
         with folder_of(drawing, room) as folder:
             row = row_apart(drawing, folder, arguments)
-        if row.pop("is_sheet", False):
-            # The forks from here on have it then, and don't read it anew.
-            with contextlib.suppress(ImportError):
-                importlib.import_module("ezdxf.recover")
-            # What is there by now needn't be looked at, and so copied, by a fork that collects what it left.
-            gc.freeze()
         if drawing.data is not None and row["status"] == LOST:
             raise Refused(f"what came along {row['message']}")
         if drawing.data is None and row["status"] != LOST and not drawing.is_unchanged():
@@ -206,10 +236,14 @@ def rows_of(lines: list[bytes], room: str) -> Iterator[dict[str, Any]]:
         yield row
 
 
-def stopped(number: int, _: object) -> None:
-    """Ends the batch; a second signal doesn't disturb what is cleaned up then."""
+def pass_over_stops() -> None:
+    """Has signals to stop no effect any more: what is cleaned up then isn't disturbed."""
     for one in (signal.SIGTERM, signal.SIGHUP):
         signal.signal(one, signal.SIG_IGN)
+
+
+def stopped(number: int, _: object) -> None:
+    pass_over_stops()
     sys.exit(128 + number)
 
 
@@ -221,7 +255,15 @@ def run(arguments: argparse.Namespace) -> int:
     text = sys.stdin.buffer.read()
     if not text.endswith(b"\n\n"):
         raise Refused("the batch isn't whole")
-    with tempfile.TemporaryDirectory(prefix="draft_batch_") as room:
+    # Where ezdxf begins what calculates by several threads, these would be stopped and begun for each fork.
+    os.environ.setdefault("OPENBLAS_NUM_THREADS", "1")
+    room = os.path.join(tempfile.gettempdir(), f"draft_batch_{secrets.token_hex(8)}")
+    # At the very end, when no signal has an effect any more, wherever one came before.
+    atexit.register(shutil.rmtree, room, ignore_errors=True)
+    os.mkdir(room, 0o700)
+    try:
         for row in rows_of(text.splitlines(), room):
             print(json.dumps(row), flush=True)
+    finally:
+        pass_over_stops()
     return 0

@@ -35,8 +35,9 @@ class Help(argparse.HelpFormatter):
                            for it in paragraphs)
 
 
-def commands() -> list[ModuleType]:
-    return [importlib.import_module(f".{name}", __package__) for name in MODULES]
+def commands(word: str = "") -> list[ModuleType]:
+    """The commands; where a word names one of them that one alone, since the others take time to begin."""
+    return [importlib.import_module(f".{name}", __package__) for name in ([word] if word in MODULES else MODULES)]
 
 
 def versions() -> str:
@@ -68,7 +69,8 @@ def parser_of(modules: list[ModuleType]) -> argparse.ArgumentParser:
 
 def main(words: list[str] | None = None) -> int:
     """Runs the command that the words name, else those that the process was begun with, and answers its status."""
-    arguments = parser_of(commands()).parse_args(words)
+    words = sys.argv[1:] if words is None else words
+    arguments = parser_of(commands(*words[:1])).parse_args(words)
     try:
         with with_standard_input(arguments):
             return int(arguments.run(arguments))

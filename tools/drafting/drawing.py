@@ -2,6 +2,7 @@
 
 A drawing is read as docs/FORMAT.md says, as far as its lines go, and looked through for no fault.
 """
+import functools
 import math
 import pathlib
 import re
@@ -20,8 +21,9 @@ DASHED = ("HIDDEN", "HIDDEN2", "HIDDENX2", "DASHED", "DASHED2", "DASHEDX2")
 CENTER = ("CENTER", "CENTER2", "CENTERX2")
 
 CODE = re.compile(r"-?[0-9]{1,4}")
-# The entries of a file of more lines aren't held.
-MOST_HELD = 400_000
+DECIMAL = re.compile(r"[-+]?(\d+\.?\d*|\.\d+)([eE][-+]?\d{1,3})?")
+# The entries of a file of more lines aren't held, nor the lines of one of more bytes.
+MOST_HELD, MOST_BYTES_HELD = 400_000, 4_000_000
 
 Place = tuple[float, float]
 # A line to be written: whether it is dashed, and its ends in units of the last decimal.
@@ -69,21 +71,38 @@ def lines_of(path: str) -> list[str]:
 
 def lines_within(data: bytes) -> list[str]:
     """The lines of a drawing, without what a carriage return or blanks at their ends add."""
-    text = data.decode("utf-8-sig", errors="replace")
-    return [line.removesuffix("\r").strip(" \t") for line in text.removesuffix("\n").split("\n")]
+    if len(data) > MOST_BYTES_HELD:
+        return lines_in(data)
+    if Held.data != data:
+        Held.data, Held.text = data, lines_in(data)
+    return Held.text
+
+
+def lines_in(data: bytes) -> list[str]:
+    lines = data.decode("utf-8-sig", errors="replace").removesuffix("\n").split("\n")
+    return [line.removesuffix("\r").strip(" \t") for line in lines]
+
+
+@functools.lru_cache(maxsize=2048)
+def code_of(line: str) -> int | None:
+    """The group code that a line says."""
+    return int(line) if CODE.fullmatch(line) else None
 
 
 def pairs_of(lines: list[str]) -> Iterator[tuple[int, int, str]]:
     """The pairs of a drawing up to its end, or to what is no pair: the line of the code, the code and the value."""
-    for number, (code, value) in enumerate(zip(lines[0::2], lines[1::2])):
-        if not CODE.fullmatch(code) or (int(code) == 0 and value.upper() == "EOF"):
+    for number, line in enumerate(lines[0:len(lines) - 1:2]):
+        code, value = code_of(line), lines[2 * number + 1]
+        if code is None or code == 0 and value.upper() == "EOF":
             return
-        yield 2 * number + 1, int(code), value
+        yield 2 * number + 1, code, value
 
 
 class Held:
-    """The entries of the lines that were asked about last: a drawing's are, several times in a row."""
+    """The file that was read last, and the entries of the lines that were asked about last: a drawing's are, several times in a row."""
 
+    data = b""
+    text: list[str] = [""]
     lines: list[str] = []
     entries: list[Entry] = []
 
@@ -99,23 +118,23 @@ def entries_of(lines: list[str]) -> Iterable[Entry]:
 
 def entries_within(lines: list[str]) -> Iterator[Entry]:
     section, foreign, last = "", False, 0
-    entry = None
+    begun: tuple[str, str, list[tuple[int, str]], dict[int, str], int] | None = None
     for number, code, value in pairs_of(lines):
         if code == 0:
-            if entry:
-                yield entry._replace(last=last)
-            entry, foreign = Entry(section, value.upper(), [], {}, number, number + 1), False
-        elif entry:
-            foreign = foreign or (code == 102 and value.startswith("{"))
+            if begun:
+                yield Entry(*begun, last)
+            begun, foreign = (section, value.upper(), [], {}, number), False
+        elif begun:
+            foreign = foreign or code == 102 and value.startswith("{")
             if not foreign and code != 999:
-                entry.pairs.append((code, value))
-                entry.values.setdefault(code, value)
+                begun[2].append((code, value))
+                begun[3].setdefault(code, value)
             foreign = foreign and not (code == 102 and value == "}")
-            if code == 2 and entry.name == "SECTION":
+            if code == 2 and begun[1] == "SECTION":
                 section = value.upper()
         last = number + 1
-    if entry:
-        yield entry._replace(last=last)
+    if begun:
+        yield Entry(*begun, last)
 
 
 def points_of(entry: Entry) -> list[Place]:
@@ -194,7 +213,7 @@ def decimals_of(lines: list[str]) -> int:
     for entry in entries_of(lines):
         if entry.section == "ENTITIES" and entry.name in DRAWN and entry.values.get(8, "").upper() in (*VIEWS, *FURTHER):
             for code, value in entry.pairs:
-                if code in (10, 20, 11, 21) and re.fullmatch(r"[-+]?(\d+\.?\d*|\.\d+)([eE][-+]?\d{1,3})?", value):
+                if code in (10, 20, 11, 21) and not value.isdigit() and DECIMAL.fullmatch(value):
                     exponent = Decimal(value).normalize().as_tuple().exponent
                     most = max(most, -exponent if isinstance(exponent, int) else 0)
     return min(most, 6)

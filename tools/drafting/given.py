@@ -185,8 +185,10 @@ def given_in(lines: list[str]) -> Given | None:
     for number, code, value in pairs_of(lines):
         if (code, value) == (2, "ENTITIES"):
             break
+        if code != 999 or not value.startswith("draft "):
+            continue
         word, _, rest = value.removeprefix("draft ").partition(" ")
-        if code != 999 or not value.startswith("draft ") or word not in FORMS:
+        if word not in FORMS:
             continue
         count += 1
         told = PATTERNS[word].fullmatch(rest)

@@ -18,14 +18,15 @@ from collections.abc import Callable, Iterable
 from typing import Any, NamedTuple
 
 from . import itself
-from .messages import Refused, many, say
+from .messages import Progress, Refused, many, say
 
 HERE = ":"
 # A machine is left out once so many of its last so many batches failed.
 FAILURES, LAST = 3, 5
-# How long machines may take to say what they have, and a stopped GNU parallel to end; how it stops jobs, which then clean up.
-CHECKED, ENDED = 60, 10
-STOPS = "TERM,5000,KILL,25"
+# How long machines may take to say what they have, as slow ones do whose logins wait for something, and a stopped GNU parallel to end; how it
+# stops jobs, which then clean up. By `exec` no shell stands between: once that ended, the batch would be killed at once on another machine.
+CHECKED, ENDED = 300, 20
+STOPS = "TERM,10000,KILL,25"
 # By these a machine that is gone without a word is known to be gone, and no password is waited for.
 SSH = "-o BatchMode=yes -o ConnectTimeout=20 -o ServerAliveInterval=15 -o ServerAliveCountMax=3"
 
@@ -66,6 +67,39 @@ def write_machines(room: str, machines: Iterable[Machine]) -> pathlib.Path:
     return path
 
 
+class Followed:
+    """The lines that a file gets while it is written."""
+
+    def __init__(self, path: pathlib.Path) -> None:
+        self.path, self.at, self.rest = path, 0, b""
+
+    def lines(self) -> list[str]:
+        try:
+            with open(self.path, "rb") as file:
+                file.seek(self.at)
+                new = file.read()
+        except OSError:
+            return []
+        self.at += len(new)
+        *whole, self.rest = (self.rest + new).split(b"\n")
+        return [line.decode(errors="replace") for line in whole]
+
+
+class Job(NamedTuple):
+    """A job that has ended, as GNU parallel's log of jobs tells it."""
+
+    name: str
+    seconds: float
+    status: int
+    signal: int
+
+
+def job_of(line: str) -> Job | None:
+    """The job that a line of the log tells; none at its head."""
+    cells = line.split("\t")
+    return Job(cells[1], float(cells[3]), int(cells[6]), int(cells[7])) if len(cells) >= 8 and cells[0].isdigit() else None
+
+
 # ---- which machines are fit
 
 def fit(machines: list[Machine], path: pathlib.Path, own: dict[str, str]) -> list[Machine]:
@@ -73,14 +107,17 @@ def fit(machines: list[Machine], path: pathlib.Path, own: dict[str, str]) -> lis
     if [machine.name for machine in machines] == [HERE]:
         return machines
     asked = shlex.join(itself.words("batch", "--sums", "--program", path))
+    Progress.show("the machines are asked what they have")
     with tempfile.TemporaryDirectory(prefix="draft_table_") as room:
-        listed = write_machines(room, machines)
-        words, variables = parallel("--nonall", "--tag", "--timeout", CHECKED, "--sshloginfile", listed, asked)
+        listed, log = write_machines(room, machines), pathlib.Path(room, "joblog")
+        words, variables = parallel("--nonall", "--tag", "--timeout", CHECKED, "--joblog", log, "--sshloginfile", listed, asked)
         ended = subprocess.run(words, env=variables, capture_output=True, stdin=subprocess.DEVNULL)
+        jobs = {job.name: job for job in map(job_of, Followed(log).lines()) if job}
     told, said = by_machine(ended.stdout), by_machine(ended.stderr)
     found = []
     for machine in machines:
-        if lack := lacks(own, told.get(machine.name, []), said.get(machine.name, [])):
+        silence = why_silent(jobs.get(machine.name), said.get(machine.name, []), ended.stderr)
+        if lack := lacks(own, told.get(machine.name, []), silence):
             say(f"draft table: {told_name(machine.name)} is left out: {lack}")
         else:
             found.append(machine)
@@ -100,37 +137,29 @@ def by_machine(text: bytes) -> dict[str, list[str]]:
     return found
 
 
-def lacks(own: dict[str, str], told: list[str], said: list[str]) -> str:
+def why_silent(job: Job | None, said: list[str], words: bytes) -> str:
+    """Why a machine doesn't tell what it has: by what became of its job, what was said there, and GNU parallel's own words."""
+    if job is None:
+        own = [line for line in words.decode(errors="replace").splitlines() if line.startswith("parallel: ")]
+        return f"GNU parallel didn't ask it: {own[0] if own else 'and says nothing'}"
+    if job.seconds >= CHECKED:
+        return f"no answer within {CHECKED} seconds, a login included"
+    return said[-1] if said else f"its command ended with status {job.status} and signal {job.signal}, and said nothing"
+
+
+def lacks(own: dict[str, str], told: list[str], silence: str) -> str:
     """Why a machine isn't fit; nothing where it is."""
     its = None
     for line in told:
         with contextlib.suppress(ValueError):
             its = json.loads(line)
     if not isinstance(its, dict):
-        return f"it doesn't tell what it has: {said[-1] if said else 'no answer'}"[:300]
+        return f"it doesn't tell what it has: {silence}"[:300]
     others = [f"{name} {str(its.get(name))[:12]} where this machine has {told[:12]}" for name, told in own.items() if its.get(name) != told]
     return f"it has {', '.join(others)}" if others else ""
 
 
 # ---- batches on them
-
-class Followed:
-    """The lines that a file gets while it is written."""
-
-    def __init__(self, path: pathlib.Path) -> None:
-        self.path, self.at, self.rest = path, 0, b""
-
-    def lines(self) -> list[str]:
-        try:
-            with open(self.path, "rb") as file:
-                file.seek(self.at)
-                new = file.read()
-        except OSError:
-            return []
-        self.at += len(new)
-        *whole, self.rest = (self.rest + new).split(b"\n")
-        return [line.decode(errors="replace") for line in whole]
-
 
 class Carrier:
     """One run of GNU parallel over batches, with its log of jobs and a folder for what else it needs."""
@@ -143,7 +172,7 @@ class Carrier:
         self.trouble: Exception | None = None
         listed = write_machines(room, machines)
         words = ["--pipe", "--recend", r"\n\n", "-N1", "--line-buffer", "--jobs", jobs, "--joblog", log, "--sshloginfile", listed,
-                 "--halt", "never", "--termseq", STOPS, shlex.join(itself.words("batch"))]
+                 "--halt", "never", "--termseq", STOPS, f"exec {shlex.join(itself.words('batch'))}"]
         command, variables = parallel(*words)
         with open(self.words.path, "wb") as said:
             self.process = subprocess.Popen(command, env=variables, stdin=subprocess.PIPE, stdout=subprocess.PIPE, stderr=said)
@@ -210,10 +239,8 @@ class Carrier:
                 say(f"draft table: {line}")
             else:
                 self.complaint = line.strip()[:300]
-        for line in self.log.lines():
-            cells = line.split("\t")
-            if len(cells) >= 8 and cells[0].isdigit():
-                self.count(cells[1], (cells[6], cells[7]) != ("0", "0"))
+        for job in filter(None, map(job_of, self.log.lines())):
+            self.count(job.name, (job.status, job.signal) != (0, 0))
 
     def count(self, name: str, has_failed: bool) -> None:
         last = self.last.setdefault(name, collections.deque(maxlen=LAST))

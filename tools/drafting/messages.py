@@ -5,7 +5,6 @@ import signal
 import sys
 import tempfile
 import time
-from collections import Counter
 from collections.abc import Callable
 from types import FrameType
 from typing import Any
@@ -23,12 +22,6 @@ def say(text: str) -> None:
     """One line for people, on standard error."""
     Progress.clear()
     print(text, file=sys.stderr, flush=True)
-
-
-def say_counted(what: str, counts: Counter[str]) -> None:
-    """A line for each thing that was changed or left out, with how many there are, in the order in which they were met."""
-    for thing, count in counts.items():
-        say(f"{what}: {count} {thing}")
 
 
 def on_stop(handler: Callable[[int, FrameType | None], Any]) -> None:

@@ -66,6 +66,13 @@ class Stroke(NamedTuple):
 class Back(Protocol):
     """The way from a drawing back to the sheet that it was made of."""
 
+    @property
+    def mirrored(self) -> bool: ...
+
+    def name(self, view: str) -> str: ...
+
+    def place_beside(self, view: str, size: tuple[int, int], right: int, up: int) -> tuple[str, str]: ...
+
     def place(self, view: str, right: int, up: int) -> tuple[str, str]: ...
 
     def length(self, units: int) -> str: ...
@@ -111,6 +118,16 @@ class Sheet(NamedTuple):
         if self.back:
             return self.back.place(view, x + right, y + up)
         return self.number(x + right), self.number(y + up)
+
+    def name(self, view: str) -> str:
+        """What a view is on the sheet, where that shows the part in a mirror."""
+        return self.back.name(view) if self.back else view
+
+    def between(self, axis: int, cut: Sequence[int], low: int, high: int) -> tuple[str, str]:
+        """From where to where something reaches along an axis of the part as the sheet shows it, not in a mirror."""
+        if self.back and self.back.mirrored and axis == 0:
+            low, high = cut[0] + cut[-1] - high, cut[0] + cut[-1] - low
+        return self.length(low), self.length(high)
 
     def told(self, view: str, start: tuple[int, int], end: tuple[int, int], numbers: list[int]) -> str:
         """What of the file is drawn along a stretch of a view, in words: entities of the sheet, or these lines of the drawing."""

@@ -9,6 +9,8 @@ from .reading import Source
 
 # How many entities of one place are named.
 NAMED = 4
+# How far from the other views one is to be drawn, as a part of what these take.
+GAP = 0.1
 
 
 class Paper(NamedTuple):
@@ -33,6 +35,32 @@ class Paper(NamedTuple):
     def place(self, view: str, right: int, up: int) -> tuple[str, str]:
         x, y = self.on_sheet(view, right, up)
         return f"{x:.9g}", f"{y:.9g}"
+
+    def name(self, view: str) -> str:
+        """What a view of the drawing is on the sheet: in a mirror the left one stands for SIDE, and the right one for LEFT."""
+        return {"SIDE": "LEFT", "LEFT": "SIDE"}.get(view, view) if self.mirrored else view
+
+    def place_beside(self, view: str, size: tuple[int, int], right: int, up: int) -> tuple[str, str]:
+        """A place of a view of this size that the sheet hasn't, from that view's least corner on in the drawing, where the view is to stand."""
+        wide, high, across, along = (float(it / self.per_drawn) for it in (*size, right, up))
+        x, y = self.beside(self.name(view), wide, high)
+        return f"{x + (wide - across if self.mirrored else across):.9g}", f"{y + along:.9g}"
+
+    def beside(self, view: str, wide: float, high: float) -> Place:
+        """Where a view that the sheet hasn't begins on it: in line with those that it has, on the side that its angle says, beyond all."""
+        boxes = {self.name(one): group.box for one, group in self.views.items()}
+        front, top = (boxes.get(it) for it in ("FRONT", "TOP"))
+        side, to_right = next(((boxes[it], it == "SIDE") for it in ("SIDE", "LEFT") if it in boxes), (None, True))
+        is_third = front is None or (top[1] > front[1] if top else side is None or (side[0] > front[0]) == to_right)
+        x0, y0, x1, y1 = (pick(box[at] for box in boxes.values()) for pick, at in ((min, 0), (min, 1), (max, 2), (max, 3)))
+        gap = GAP * max(x1 - x0, y1 - y0)
+        x, y = (front or top or (x0,))[0], (front or side or (0.0, y0))[1]
+        if view in ("TOP", "BOTTOM"):
+            return x, y1 + gap if (view == "TOP") == is_third else y0 - gap - high
+        if view == "FRONT":
+            return x, y
+        goes_right = (side[0] > front[0] if side and front else is_third) if view == "REAR" else (view == "SIDE") == is_third
+        return x1 + gap if goes_right else x0 - gap - wide, y
 
     def length(self, units: int) -> str:
         """A length at full size."""

@@ -3,6 +3,7 @@ import io
 import math
 import pathlib
 import re
+import sys
 from collections import Counter
 from collections.abc import Iterable, Sequence
 from typing import Any, NamedTuple
@@ -127,13 +128,26 @@ class Sheet:
 
 # ---- the file
 
-def opened(path: str) -> tuple[Any, str]:
-    """The document of a file, and what had to be mended in it."""
+def library() -> Any:
+    """ezdxf, with what reads broken files. Where matplotlib is there, ezdxf asks it for the widths of letters alone, and it takes as long to begin
+    and as much memory as ezdxf itself: so it isn't seen meanwhile."""
+    hides = "matplotlib" not in sys.modules
+    if hides:
+        sys.modules["matplotlib"] = None  # type: ignore[assignment]
     try:
         import ezdxf
         from ezdxf import recover
+        return ezdxf, recover
     except ImportError:
         raise Refused("ezdxf isn't there: apt-get install python3-ezdxf") from None
+    finally:
+        if hides:
+            del sys.modules["matplotlib"]
+
+
+def opened(path: str) -> tuple[Any, str]:
+    """The document of a file, and what had to be mended in it."""
+    ezdxf, recover = library()
     data = data_of(path)
     is_binary = data.startswith(b"AutoCAD Binary DXF")
     if not is_binary and not re.search(rb"^[ \t]*0[ \t\r]*\n[ \t]*SECTION", data, re.M | re.I):

@@ -111,7 +111,7 @@ def section_keys(solids: Solids, sheet: Sheet, varying: list[Cell]) -> list[Mean
     for axis, cut in enumerate(solids.cells.cuts):
         for at in sorted({cell[axis] for cell in varying}):
             slab = sum(1 << place_of(solids, cell) for cell in varying if cell[axis] == at)
-            ends = f"{sheet.length(cut[at])} and {sheet.length(cut[at + 1])}"
+            ends = " and ".join(sheet.between(axis, cut, *cut[at:at + 2]))
             means.append(Means(f"section across {AXES[axis]} between {ends}", [full & slab for full in solids.full], (axis, at)))
     return means
 
@@ -140,9 +140,10 @@ def settled_by(answer: Answer, sheet: Sheet) -> str:
     views, sections = all_means(solids, sheet)
     Progress.clear()
     best = best_first([*views, *sections])[0]
+    name = sheet.name(best.name)
     if best.sizes[0] == 1:
-        return f"a view {best.name} would settle it" if best in views else f"a {best.name} would settle it"
-    return f"no single view or section settles it; {best.name} leaves {best.sizes[0]} of them at most"
+        return f"a view {name} would settle it" if best in views else f"a {name} would settle it"
+    return f"no single view or section settles it; {name} leaves {best.sizes[0]} of them at most"
 
 
 # ---- the solid that is meant
@@ -243,7 +244,7 @@ def blocks_told(solids: Solids, answer: Answer, left: list[int], sheet: Sheet) -
     for pattern, numbers in blocks.items():
         cells = patterns.get(pattern, [])
         box = [
-            f"{AXES[axis]} {sheet.length(cut[min(it[axis] for it in cells)])} to {sheet.length(cut[max(it[axis] for it in cells) + 1])}"
+            f"{AXES[axis]} {' to '.join(sheet.between(axis, cut, cut[min(it[axis] for it in cells)], cut[max(it[axis] for it in cells) + 1]))}"
             for axis, cut in enumerate(solids.cells.cuts)
         ] if cells else []
         name = f"block{'s' * (len(numbers) > 1)} {', '.join(map(str, numbers))}"
@@ -285,7 +286,7 @@ def case_of(arguments: argparse.Namespace) -> Case:
         asked = asking.ask(arguments.drawing, arguments, lambda text: say(f"draft settle: {text}"))
         answer = answer_of(asked.run.text)
         case = Case(asked.lines, asked.decimals, answer, None if FAULT.fullmatch(answer.head) else asked.sheet())
-        if asked.origin.mirrored:
+        if asked.origin.mirrored and not asked.paper:
             say("draft settle: warning: the sheet shows the part in a mirror, and what is told here is of the mirror image, x turned round")
         if asked.rounds:
             kept = of_first_reading(asked)
@@ -307,24 +308,28 @@ def third_told(solids: Solids, third: Means, sheet: Sheet, most: int) -> list[st
         groups.setdefault(key, []).append(at)
     shown = {key: shown_of(solids.cells_in(solids.full[its[0] - 1]), solids.cells.cuts, third.name) for key, its in groups.items()}
     every = frozenset.intersection(*shown.values())
-    rows = [f"What {third.name}, the view that isn't drawn, would show, from its lower left corner on; of each"]
-    rows += stretches_told(every, sheet)
+    wide = solids.cells.cuts[FRAMES[third.name].right]
+    rows = [f"What {sheet.name(third.name)}, the view that isn't drawn, would show, from its lower left corner on; of each"]
+    rows += stretches_told(every, sheet, wide[-1] - wide[0])
     for key, its in list(groups.items())[:most]:
         rows += [f"of {'solid' if len(its) == 1 else 'solids'} {', '.join(map(str, its))} also"]
-        rows += stretches_told(shown[key] - every, sheet)
+        rows += stretches_told(shown[key] - every, sheet, wide[-1] - wide[0])
     return rows + ([f"({len(groups) - most} other such views: --all)"] if len(groups) > most else [])
 
 
-def stretches_told(shown: Shown, sheet: Sheet) -> list[str]:
-    """Lines of a view in words."""
-    return ["  " + " to ".join(f"({sheet.length(x)}, {sheet.length(y)})" for x, y in ends) + f": {STYLES[DASHED if dashed else SOLID]}"
+def stretches_told(shown: Shown, sheet: Sheet, wide: int) -> list[str]:
+    """Lines of a view that is so wide in words."""
+    def across(x: int) -> str:
+        return sheet.length(wide - x if sheet.back and sheet.back.mirrored else x)
+
+    return ["  " + " to ".join(f"({across(x)}, {sheet.length(y)})" for x, y in ends) + f": {STYLES[DASHED if dashed else SOLID]}"
             for dashed, *ends in strokes_shown(shown, 0, 0)] or ["  nothing"]
 
 
-def table(means: Sequence[Means]) -> list[str]:
+def table(means: Sequence[Means], sheet: Sheet) -> list[str]:
     """A row for each view or section: groups, and how many solids the largest keeps."""
     rows = [("", "groups", "the largest keeps")]
-    rows += [(it.name, str(len(it.sizes)), str(it.sizes[0])) for it in means]
+    rows += [(sheet.name(it.name), str(len(it.sizes)), str(it.sizes[0])) for it in means]
     width = max(len(name) for name, _, _ in rows)
     return [f"{name:{width}}  {groups:>6}  {largest:>17}" for name, groups, largest in rows]
 
@@ -348,11 +353,15 @@ def left_by(views: list[Means], number: int) -> set[int]:
 
 
 def added_told(line: Added, sheet: Sheet, cuts: list[list[int]]) -> str:
-    """A line to be added in words: where it stands in the drawing, or from the lower left corner of a view that a sheet has not."""
-    x, y = place_on_sheet(line.view, sheet, cuts) if sheet.back else (0, 0)
-    ends = " to ".join(f"({sheet.length(right - x)}, {sheet.length(up - y)})" for right, up in (line.start, line.end))
-    where = " from its lower left corner" if sheet.back else ""
-    return f"  {line.view} {ends}{where}: {STYLES[DASHED if line.dashed else SOLID]}"
+    """A line to be added in words: where it stands in the drawing, or on the sheet that this was made of."""
+    places = [(sheet.length(right), sheet.length(up)) for right, up in (line.start, line.end)]
+    if sheet.back:
+        x, y = place_on_sheet(line.view, sheet, cuts)
+        frame = FRAMES[line.view]
+        size = cuts[frame.right][-1] - cuts[frame.right][0], cuts[frame.up][-1] - cuts[frame.up][0]
+        places = [sheet.back.place_beside(line.view, size, right - x, up - y) for right, up in (line.start, line.end)]
+    ends = " to ".join(f"({right}, {up})" for right, up in places)
+    return f"  {sheet.name(line.view)} {ends}: {STYLES[DASHED if line.dashed else SOLID]}"
 
 
 def told_meant(
@@ -362,9 +371,9 @@ def told_meant(
     or by those that are named."""
     chosen, left = views_for(views, number)
     if by:
-        chosen = [it for it in views if it.name in by]
+        chosen = [it for it in views if sheet.name(it.name) in by]
         left = left_by(chosen, number)
-    names = " and ".join(it.name for it in chosen)
+    names = " and ".join(sheet.name(it.name) for it in chosen)
     cells, cuts = solids.cells_in(solids.full[number]), solids.cells.cuts
     added = [line for it in chosen for line in lines_of_view(it.name, shown_of(cells, cuts, it.name), sheet, cuts)]
     if left == {number}:
@@ -417,7 +426,7 @@ def run(arguments: argparse.Namespace) -> int:
     views, sections = all_means(solids, sheet)
     Progress.clear()
     shown = sections if arguments.all else sections[:SHOWN]
-    rows = [f"{have_views(len(answer.solids), ''.join(sheet.missing))}.", *table(best_first([*views, *shown]))]
+    rows = [f"{have_views(len(answer.solids), ''.join(map(sheet.name, sheet.missing)))}.", *table(best_first([*views, *shown]), sheet)]
     if len(shown) < len(sections):
         rows.append(f"({len(sections) - len(shown)} further sections: --all)")
     added: list[Added] = []

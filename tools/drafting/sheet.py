@@ -27,7 +27,7 @@ from .paper import Paper
 from .placing import Hints, Placed, by_names, extents_of, named_views, numbers_of, view_named
 from .reading import Box, Edge, Sheet, Source, Unread, line_of_file, read_sheet
 from .sections import sections_of
-from .straight import Measure, Run, apart, hidden_by, measure_of, runs_of
+from .straight import MOST_DECIMALS, At, Measure, Run, apart, fits, hidden_by, measure_of, runs_of
 from .styles import Style, choice_of
 
 NAME = "sheet"
@@ -369,22 +369,50 @@ def scale_in_use(path: str | None, sheet: Sheet, placed: Placed, arguments: argp
     return times
 
 
-def measured(placed: Placed, times: Fraction, arguments: argparse.Namespace, tell: Tell) -> Measure:
+def coordinates_of(view: str, group: Group) -> list[At]:
+    """The coordinates of a view's runs, with which of the sheet they are."""
+    least = group.box[:2]
+    found = []
+    for run in group.runs:
+        across, along = (0, 1) if run.upright else (1, 0)
+        for axis, place in ((across, run.at), (along, run.low), (along, run.high)):
+            found.append(At(place - least[axis], view, "xy"[axis], place, run.edge.source))
+    return found
+
+
+def measured(path: str | None, placed: Placed, times: Fraction, arguments: argparse.Namespace, tell: Tell) -> Measure:
     """How the views' lengths become whole."""
-    values: list[float] = []
+    ats: list[At] = []
     for view, group in placed.views.items():
-        runs = moved(group, False)
-        for upright, name in ((True, "to the right"), (False, "upwards")):
-            along = [at for _, way, at, _, _ in runs if way == upright]
-            along += [it for _, way, _, low, high in runs if way != upright for it in (low, high)]
-            apart(set(along), arguments.tolerance, f"{view} {name}")
-            values += along
-    measure = measure_of(values, times, arguments.sheet_decimals, arguments.tolerance)
+        its = coordinates_of(view, group)
+        for axis in "xy":
+            apart({it.length: it for it in its if it.axis == axis}.values(), arguments.tolerance, lambda source: where(source, path))
+        ats += its
+    measure = measure_of([it.length for it in ats], times, arguments.sheet_decimals, arguments.tolerance)
+    if measure is None:
+        raise unfit(path, ats, times, arguments)
     if measure.moved > 1e-12:
         tell(f"changed: coordinates moved by {measure.moved:.2g} at most, to {many(measure.decimals, 'decimal')}")
     if measure.times != times:
         tell(f"changed: lengths multiplied by {measure.times / times}, since they have no decimals, and are whole in parts of a unit")
     return measure
+
+
+def unfit(path: str | None, ats: Sequence[At], times: Fraction, arguments: argparse.Namespace) -> Refused:
+    """The refusal of lengths that aren't whole in any unit, with an option by which they are, where there is one."""
+    decimals, tolerance = arguments.sheet_decimals, arguments.tolerance
+    lengths = [it.length for it in ats]
+    odd = next((it for it in ats if measure_of([it.length], times, MOST_DECIMALS if decimals is None else decimals, tolerance) is None), ats[0])
+    kinds = f"up to {MOST_DECIMALS} decimals, nor do all lengths fit parts of a unit" if decimals is None else many(decimals, "decimal")
+    wider = next((f"{tolerance * it:g}" for it in (10, 100) for count in range(MOST_DECIMALS)
+                  if fits(lengths, times, count, tolerance * it) is not None), "")
+    way = "draw it at a place with fewer decimals, or say the --scale at which it has fewer"
+    if wider:
+        way = f"say --tolerance {wider}, where this is noise"
+    if decimals is not None and measure_of(lengths, times, None, tolerance):
+        way = "leave out --sheet-decimals"
+    return Refused(f"in {odd.view} {odd.told(lambda source: where(source, path))} is {odd.length:.9g} from the view's least {odd.axis}, which doesn't "
+                   f"fit {kinds}: {way}")
 
 
 def draw(path: str | None, arguments: argparse.Namespace, tell: Tell) -> Drawn:
@@ -410,7 +438,7 @@ def draw_straight(path: str | None, sheet: Sheet, marks: Sequence[Mark], argumen
     """The drawing of a sheet without rounds."""
     placed = checked_views(path, sheet, sheet.edges, marks, arguments, tell)
     times = scale_in_use(path, sheet, placed, arguments, tell)
-    measure = measured(placed, times, arguments, tell)
+    measure = measured(path, placed, times, arguments, tell)
     return drawn_views(path, sheet, placed, times, measure, arguments, tell)
 
 

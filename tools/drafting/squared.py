@@ -223,10 +223,10 @@ def squared(found: Found, reading: Reading) -> tuple[list[Edge], Squares]:
     return lines, squares
 
 
-def measured(placed: Placed, times: Fraction, arguments: argparse.Namespace, tell: sheet.Tell) -> Measure:
+def measured(path: str | None, placed: Placed, times: Fraction, arguments: argparse.Namespace, tell: sheet.Tell) -> Measure:
     """How lengths become whole; rounded where they have no end."""
     try:
-        return sheet.measured(placed, times, arguments, tell)
+        return sheet.measured(path, placed, times, arguments, tell)
     except Refused as refusal:
         if "doesn't fit" not in str(refusal) or arguments.sheet_decimals is not None:
             raise
@@ -284,7 +284,7 @@ def drawn(found: Found, reading: Reading, number: tuple[int, int], tell: sheet.T
     lines, squares = squared(found, reading)
     placed = sheet.checked_views(found.path, found.sheet, squares.edges, found.marks, found.arguments, tell)
     times = sheet.scale_in_use(found.path, found.sheet, placed, found.arguments, tell)
-    measure = measured(placed, times, found.arguments, tell)
+    measure = measured(found.path, placed, times, found.arguments, tell)
     left = list(reading.left)
     if reading.inner:
         views = found.views(squares.rounds)

@@ -2,17 +2,19 @@
 import itertools
 import math
 from collections import defaultdict
-from collections.abc import Iterable, Sequence
+from collections.abc import Callable, Iterable, Sequence
 from fractions import Fraction
 from typing import NamedTuple
 
 from .messages import Refused
-from .reading import Box, Edge
+from .reading import Box, Edge, Source
 
 # How many times as far apart as the tolerance different coordinates of a view have to be.
 APART = 4
 # The greatest denominator that is looked for where coordinates fit no decimals: thirds, sevenths, sixty-fourths.
 MOST_PARTS = 64
+# The most decimals that recon reads.
+MOST_DECIMALS = 6
 
 
 class Run(NamedTuple):
@@ -124,13 +126,26 @@ def hidden_by(whole: Sequence[Edge], visible: Sequence[Edge], tolerance: float) 
 
 # ---- whole coordinates
 
-def apart(values: Iterable[float], tolerance: float, where: str) -> None:
+class At(NamedTuple):
+    """A coordinate of a view: how far it is from the view's least one, the view, and on the sheet by its axis and of what."""
+
+    length: float
+    view: str
+    axis: str
+    place: float
+    source: Source
+
+    def told(self, where: Callable[[Source], str]) -> str:
+        return f"{self.axis} = {self.place:.9g} (that of a {where(self.source)})"
+
+
+def apart(values: Iterable[At], tolerance: float, where: Callable[[Source], str]) -> None:
     """Refuses coordinates that are farther apart than noise and nearer than edges are."""
-    for one, other in itertools.pairwise(sorted(values)):
-        if tolerance < other - one < APART * tolerance:
+    for one, other in itertools.pairwise(sorted(values, key=lambda it: it.length)):
+        if tolerance < other.length - one.length < APART * tolerance:
             raise Refused(
-                f"{where} has coordinates {other - one:.3g} apart, at {one:.9g} and {other:.9g}: more than noise and less than an edge; "
-                f"say by --tolerance what is noise (now {tolerance:.3g})"
+                f"{one.view} has coordinates {other.length - one.length:.3g} apart, {one.told(where)} and {other.told(where)}: more than noise and "
+                f"less than an edge; say by --tolerance what is noise (now {tolerance:.3g})"
             )
 
 
@@ -160,9 +175,9 @@ def fits(values: Iterable[float], times: Fraction, decimals: int, tolerance: flo
     return worst / float(times)
 
 
-def measure_of(values: Sequence[float], scale: Fraction, decimals: int | None, tolerance: float) -> Measure:
-    """The least number of decimals that lengths have, multiplied by the scale; else the least parts of a unit that they are."""
-    for count in range(7) if decimals is None else [decimals]:
+def measure_of(values: Sequence[float], scale: Fraction, decimals: int | None, tolerance: float) -> Measure | None:
+    """The least number of decimals that lengths have, multiplied by the scale; else the least parts of a unit that they are; or none."""
+    for count in range(MOST_DECIMALS + 1) if decimals is None else [decimals]:
         moved = fits(values, scale, count, tolerance)
         if moved is not None:
             return Measure(scale, count, moved)
@@ -171,6 +186,4 @@ def measure_of(values: Sequence[float], scale: Fraction, decimals: int | None, t
             moved = fits(values, scale * parts, 0, tolerance)
             if moved is not None:
                 return Measure(scale * parts, 0, moved)
-    odd = next(value for value in values if fits([value], scale, 6 if decimals is None else decimals, tolerance) is None)
-    many = "up to 6 decimals" if decimals is None else f"{decimals} decimals"
-    raise Refused(f"a length of {odd:.9g} doesn't fit {many}, nor do all fit parts of a unit: say --tolerance, --decimals or --scale")
+    return None

@@ -97,13 +97,15 @@ class Machines:
     def temporary(self, name: str) -> pathlib.Path:
         return self.room / f"temporary_{name}"
 
+    def home(self, name: str) -> pathlib.Path:
+        return self.room / f"home_{name}"
+
     def begin(self, name: str, hidden: Sequence[pathlib.Path] = (), others: Sequence[tuple[pathlib.Path, pathlib.Path]] = ()) -> None:
         """Begins a machine: it has empty folders in place of those that are hidden, and a file in place of another."""
-        home = self.room / f"home_{name}"
-        for folder in (self.temporary(name), home):
+        for folder in (self.temporary(name), self.home(name)):
             folder.mkdir(exist_ok=True)
         port, server = free_port(), self.room / f"sshd_{name}"
-        server.write_text(SERVER.format(port=port, room=self.room, home=home, temporary=self.temporary(name), path=os.environ["PATH"]))
+        server.write_text(SERVER.format(port=port, room=self.room, home=self.home(name), temporary=self.temporary(name), path=os.environ["PATH"]))
         mounts = [["mount", "-t", "tmpfs", "none", str(it)] for it in hidden]
         mounts += [["mount", "--bind", str(new), str(old)] for new, old in others]
         begin = ["exec", SSHD, "-D", "-e", "-f", str(server)]

@@ -15,7 +15,8 @@ from drafting.messages import Refused
 from .serving import takes_limits
 from .support import TOOLS
 
-PATIENCE = 900
+# A test of minutes takes an hour on a machine that is busy with other things.
+PATIENCE = 3600
 Row = dict[str, str]
 
 

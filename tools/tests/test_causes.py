@@ -232,4 +232,28 @@ class OnTheSheet(unittest.TestCase):
             ended = draft("settle", self.cubes(folder, 2.5), "--scale", "1:2", "--meant", 1)
             self.assertEqual(ended.status, 0, ended.said)
             self.assertRegex(ended.out, r"section across x between 0 and 5 ")
-            self.assertRegex(ended.out, r"LEFT \(0, 0\) to \((0, 5|5, 0|0, 10|10, 0)\) from its lower left corner: ")
+
+    def test_lines_that_settle_it_are_the_sheets_own(self) -> None:
+        """Drawn on the sheet where they are told, they leave as many solids as is said: also of a sheet with a left view, whose drawing is one of
+        the mirror image."""
+        part = sheets.views_in(EXAMPLES / "quartered_cube.dxf")
+        for angle, left, numbers in (("third", False, (1,)), ("first", False, (2,)), ("third", True, (3,)), ("first", True, (1,))):
+            views = sheets.mirrored(part) if left else part
+            for number in numbers:
+                doc = sheets.new()
+                sheets.draw(doc.modelspace(), views, sheets.places_of(views, angle, left == (angle == "third")), scale=2.5)
+                with self.subTest(angle=angle, left=left, number=number), tempfile.TemporaryDirectory() as folder:
+                    file = pathlib.Path(folder) / "sheet.dxf"
+                    doc.saveas(file)
+                    ended = draft("settle", file, "--angle", angle, "--meant", number)
+                    self.assertEqual((ended.status, "mirror image" in ended.said), (0, False), ended.said)
+                    lines = re.findall(r"^  (\w+) \((\S+), (\S+)\) to \((\S+), (\S+)\): (\w+)$", ended.out, re.M)
+                    self.assertEqual(len(lines), ended.out.count(") to ("), ended.out)
+                    self.assertIn("SIDE" if left else "LEFT", ended.out)
+                    for _, *ends, style in lines:
+                        a, b, c, d = map(float, ends)
+                        doc.modelspace().add_line((a, b), (c, d), dxfattribs=sheets.by_linetype("", style == "dashed"))
+                    doc.saveas(file)
+                    left_told = re.search(r"with .* (\d+) solids are left|(told by)", ended.out)
+                    assert left_told
+                    self.assertIn(" has these views" if left_told[2] else f"{left_told[1]} solids have", draft("solve", file, "--angle", angle).out)

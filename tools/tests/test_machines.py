@@ -5,12 +5,13 @@ import shutil
 import signal
 import tempfile
 import unittest
+from unittest import mock
 
-from drafting import program
+from drafting import machines, program, sums
 
 from .machines import Machines, needs_own_files, needs_sshd
 from .support import EXAMPLES, TOOLS, needs_command, needs_program
-from .tables import Made, answer_alone, begun, count, kept, made, rows_of, until
+from .tables import PATIENCE, Made, answer_alone, begun, count, kept, made, rows_of, until
 
 NAMES = ("plain", "two  blanks", "a 'quote'", 'double "quotes"', "dollar $HOME `id`", "semi; rm -rf x", "back\\slash", "öäü", "{} {1} {#}",
          "-o", "star *", "tab\there", "line\nend", "per % cent", "a,b", "#1", "~", "trailing ")
@@ -97,6 +98,18 @@ class OnMachines(unittest.TestCase):
         none = self.table("--sshlogin", "draftless")
         self.assertEqual((none.status, {row["status"] for row in none.rows.values()}, len(none.rows)), (1, {"lost"}, 12))
 
+    def test_why_a_machine_is_silent(self) -> None:
+        for name, login, seconds, why in (("slow", "sleep 1000", 5, "no answer within 5 seconds"),
+                                          ("mute", "exit 3", 300, "its command ended with status 3 and signal 0, and said nothing"),
+                                          ("odd", "echo no >&2; exit 3", 300, "no")):
+            self.machines.begin(name)
+            (self.machines.home(name) / ".bashrc").write_text(f"{login}\n")
+            said: list[str] = []
+            with mock.patch.dict(os.environ, self.machines.variables), mock.patch.multiple(machines, CHECKED=seconds, say=said.append):
+                found = machines.fit(machines.machines_of([name]), program.find(), sums.of(program.find()))
+            self.assertEqual(found, [])
+            self.assertIn(f"{name} is left out: it doesn't tell what it has: {why}", said[0])
+
     @needs_own_files()
     def test_a_machine_that_dies_and_one_that_loses_draft_and_a_stop_and_a_resume(self) -> None:
         before = drawings(self.folder, 300 if os.environ.get("DRAFT_LONG") else 40)
@@ -110,7 +123,7 @@ class OnMachines(unittest.TestCase):
         self.machines.hide("two", TOOLS)
         until(lambda: count(state) >= 20, running)
         running.send_signal(signal.SIGTERM)
-        out, said = running.communicate(timeout=60)
+        out, said = running.communicate(timeout=PATIENCE)
         self.assertEqual((running.returncode, out), (130, b""), said)
         self.assertIn(b"the same command goes on from here", said)
         first = (state / "rows").read_bytes()
@@ -131,7 +144,7 @@ class OnMachines(unittest.TestCase):
         running = begun(self.folder, "--sshlogin", "2/one,1/two", variables=self.machines.variables)
         until(lambda: count(self.folder / ".draft_table") >= 4, running)
         self.machines.end("one")
-        out, said = running.communicate(timeout=900)
+        out, said = running.communicate(timeout=PATIENCE)
         self.assertEqual(running.returncode, 0, said)
         self.check(Made(0, rows_of(out), said.decode()), before)
         self.assertIn(b"one is left out: ", said)
