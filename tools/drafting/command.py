@@ -69,6 +69,7 @@ def parser_of(modules: list[ModuleType]) -> argparse.ArgumentParser:
 def main(words: list[str] | None = None) -> int:
     """Runs the command that the words name, else those that the process was begun with, and answers its status."""
     arguments = parser_of(commands()).parse_args(words)
+    Progress.is_wanted = True
     try:
         with with_standard_input(arguments):
             return int(arguments.run(arguments))
