@@ -9,7 +9,8 @@ words of docs/DEFINITIONS.md and docs/FORMAT.md, and in some 300 lines."""
 import itertools
 import re
 import sys
-from collections.abc import Iterable, Iterator, Sequence
+from collections.abc import Iterable, Iterator
+from typing import TypeVar
 
 MOST_BYTES, MOST_LINES, MOST_PLACES, MOST_BLOCKS, MOST_LISTED, FARTHEST = 134_217_728, 100_000, 64, 4_096, 65_536, 1_000_000_000
 YES, FAULT, USAGE, NO_INPUT, NO_OUTPUT, NO_MEMORY, NO_LOG = 0, 1, 2, 5, 6, 7, 9
@@ -22,13 +23,18 @@ CODE, NUMERAL = re.compile(rb"-?[0-9]{1,4}"), re.compile(rb"([+-]?)(?=\.?[0-9])(
 NUMBER, PLACE = rb"(0|[1-9][0-9]{0,9})", rb"((?:front|top|side) [lu] (?:0|[1-9][0-9]{0,9}) (?:0|[1-9][0-9]{0,9}))"
 ENTRY, END = re.compile(rb"solid|fail %b|split %b|force %b ([01]) %b" % (PLACE, NUMBER, NUMBER, PLACE)), re.compile(rb"end " + NUMBER)
 # A pair (its code's line, code, value), a line of a file (view, style, x, y, x, y), one of the grid (view, 0 level or 1 upright, at, cell).
-Pair, Kept, Line = tuple[int, int, bytes], tuple[int, int, tuple[int, int, int, int]], tuple[int, int, int, int]
+Pair = tuple[int, int, bytes]
+Line = tuple[int, int, int, int]
+Kept = tuple[int, int, Line]
+Three = tuple[int, int, int]
+Told = TypeVar("Told")
 
 class Wrong(Exception):
     """A fault of the drawing, or what is wrong with the log: its text."""
 
-def need(holds: object, kind: str, line: int | None = None, code: int | None = None) -> None:
+def need(holds: Told | None, kind: str, line: int | None = None, code: int | None = None) -> Told:
     if not holds: raise Wrong(kind + ("" if line is None else f" line {line}") + ("" if code is None else f" code {code}"))
+    return holds
 
 def pairs_from(lines: list[bytes], start: int) -> Iterator[Pair]:
     """The pairs from a place on, without comments. It ends by being left, or at a fault."""
@@ -37,7 +43,7 @@ def pairs_from(lines: list[bytes], start: int) -> Iterator[Pair]:
         need(CODE.fullmatch(pair[0]), "F2 BadCode", at + 1)
         need(len(pair) == 2, "F3 NoValue", at + 1)
         yield from [] if int(pair[0]) == 999 else [(at + 1, int(pair[0]), pair[1])]
-    need(False, "F4 NoEof", len(lines) + 1)
+    raise Wrong(f"F4 NoEof line {len(lines) + 1}")
 
 def own_pairs(lines: list[bytes], entry: Pair) -> Iterator[Pair]:
     """The pairs of an entry, without those that belong to an application."""
@@ -49,14 +55,13 @@ def own_pairs(lines: list[bytes], entry: Pair) -> Iterator[Pair]:
 
 def whole(line: int, code: int, value: bytes) -> int:
     """A whole number, exactly; its digits and its exponent may be as long as they like."""
-    found = NUMERAL.fullmatch(value)
-    need(found, "F6 BadNumber", line + 1, code)
+    found = need(NUMERAL.fullmatch(value), "F6 BadNumber", line + 1, code)
     digits, exponent = (found[2] + (found[3] or b"")).lstrip(b"0"), (found[5] or b"").lstrip(b"0") or b"0"
     power, short = int(exponent) if len(exponent) < 18 else 10 ** 18, digits.rstrip(b"0") or b"0"
     power = (-power if found[4] == b"-" else power) - len(found[3] or b"") + len(digits) - len(short) if digits else 0
     need(power >= 0, "F7 NotWhole", line + 1, code)
     need(len(short) + power <= 10 and int(short) * 10 ** power <= FARTHEST, "F8 TooFar", line + 1, code)
-    return int(found[1] + short) * 10 ** power
+    return int(found[1] + short + b"0" * power)
 
 def sides_of_line(lines: list[bytes], entry: Pair) -> Iterator[tuple[int, int, int, int]]:
     ends: dict[int, int] = {}
@@ -68,24 +73,23 @@ def sides_of_line(lines: list[bytes], entry: Pair) -> Iterator[tuple[int, int, i
     yield ends[10], ends[20], ends[11], ends[21]
 
 def sides_of_polyline(lines: list[bytes], entry: Pair) -> Iterator[tuple[int, int, int, int]]:
-    first = last = right = flags = None
+    ends, right, flags = list[tuple[int, int]](), None, None
     for line, code, value in own_pairs(lines, entry):
         if code == 10:
             need(right is None, "F9 Missing", entry[0], 20)
-            right = whole(line, code, value)
+            right = (whole(line, code, value),)
         elif code == 20:
-            need(last or right is not None, "F9 Missing", entry[0], 10)
-            need(right is not None, "F10 Repeated", line, code)
-            before, last, right = last, (right, whole(line, code, value)), None
-            first = first or last
-            yield from [(*before, *last)] if before else []
+            need(ends or right, "F9 Missing", entry[0], 10)
+            ends.append((need(right, "F10 Repeated", line, code)[0], whole(line, code, value)))
+            right = None
+            yield from [ends[-2] + ends[-1]] if len(ends) > 1 else []
         elif code == 42:
             need(NUMERAL.fullmatch(value), "F6 BadNumber", line + 1, code)
             need(not re.match(rb"[^1-9Ee]*[1-9]", value), "F19 Curved", entry[0])
         elif code == 70 and flags is None:
             flags = whole(line, code, value)
     need(right is None, "F9 Missing", entry[0], 20)
-    yield from [(*last, *first)] if first is not last and flags and flags % 2 else []
+    yield from [ends[-1] + ends[0]] if len(ends) > 1 and flags and flags % 2 else []
 
 def judge(lines: list[bytes], section: bytes, entry: Pair, layers: dict[bytes, bytes], kept: list[Kept]) -> None:
     """What an entry that has ended tells: the linetype of a layer, or lines, each with its view and style."""
@@ -97,21 +101,22 @@ def judge(lines: list[bytes], section: bytes, entry: Pair, layers: dict[bytes, b
     if section == b"TABLES" or layer not in VIEWS or first.get(67) == b"1": return
     need(kind not in GEOMETRY, "F13 Geometry", entry[0])
     sides, oblique = {b"LINE": sides_of_line, b"LWPOLYLINE": sides_of_polyline}.get(kind), False
-    found = LINETYPE.fullmatch(layers.get(layer, b"CONTINUOUS") if linetype == b"BYLAYER" else linetype)
-    need(not sides or found, "F12 Linetype", entry[0])
-    for side in sides(lines, entry) if sides and found.lastindex != CENTRE else []:
+    if not sides: return
+    found = need(LINETYPE.fullmatch(layers.get(layer, b"CONTINUOUS") if linetype == b"BYLAYER" else linetype), "F12 Linetype", entry[0])
+    for side in sides(lines, entry) if found.lastindex != CENTRE else []:
         oblique |= side[0] != side[2] and side[1] != side[3]
-        kept += [(VIEWS.index(layer), found.lastindex, side)] if len(kept) <= MOST_LINES else []
+        kept += [(VIEWS.index(layer), found.lastindex or BLANK, side)] if len(kept) <= MOST_LINES else []
     need(not oblique, "F11 Oblique", entry[0])
     need(len(kept) <= MOST_LINES, "F15 TooManyLines", entry[0])
 
 def read(lines: list[bytes]) -> tuple[list[Kept], int]:
     """The lines that a drawing's file keeps, and the number of its lines up to its end pair."""
-    section, naming, entry, layers, kept = None, b"\n", None, {}, []
+    section, naming, entry, layers, kept = None, b"\n", None, dict[bytes, bytes](), list[Kept]()
     for line, code, value in pairs_from(lines, 0):
         word = value.upper() if code == 0 else b""
-        if entry and code == 0:
-            entry = judge(lines, section, entry, layers, kept)
+        if entry and section and code == 0:
+            judge(lines, section, entry, layers, kept)
+            entry = None
         if section is None and word == b"EOF": return kept, line + 1
         need(word == b"SECTION" if section is None else code == 2 if section == naming else word not in (b"SECTION", b"EOF"), "F5 BadSection", line)
         if section is None or section == naming:
@@ -119,6 +124,7 @@ def read(lines: list[bytes]) -> tuple[list[Kept], int]:
         elif code == 0:
             section = None if word == b"ENDSEC" else section
             entry = (line, code, value) if section in (b"TABLES", b"ENTITIES") else None
+    raise Wrong("F4 NoEof")  # which the pairs have ended with
 
 def runs(stretches: list[tuple[int, int, int]]) -> list[tuple[int, int, int]]:
     """The longest stretches of one style that some stretches of one straight line make; solid hides dashed."""
@@ -141,25 +147,25 @@ def shown_in(kept: list[Kept], may_lack: int) -> list[int]:
 
 def grid_of(kept: list[Kept], may_lack: int = 0) -> tuple[list[int], dict[Line, int]]:
     """How many cells each axis has, and the style of each line of the grid. A view that shows nothing has no line."""
-    rows, marks, styles, shown = {}, [set(), set(), set()], {}, shown_in(kept, may_lack)
+    drawn, marks, styles, shown = dict[Three, list[Three]](), [set[int](), set[int](), set[int]()], {}, shown_in(kept, may_lack)
     for view in shown:
         sides = [(style, side) for at, style, side in kept if at == view and side[:2] != side[2:]]
         x, y = (min(min(side[way], side[way + 2]) for _, side in sides) for way in (0, 1))
         for style, (x0, y0, x1, y1) in sides:
             row, ends = ((view, 0, y0 - y), (x0 - x, x1 - x)) if y0 == y1 else ((view, 1, x0 - x), (y0 - y, y1 - y))
-            rows.setdefault(row, []).append((min(ends), max(ends), style))
-    rows = {row: runs(stretches) for row, stretches in rows.items()}
+            drawn.setdefault(row, []).append((min(ends), max(ends), style))
+    rows = {row: runs(stretches) for row, stretches in drawn.items()}
     for (view, way, at), stretches in rows.items():
         marks[FRAMES[view][1 - way]].add(at)
         marks[FRAMES[view][way]] |= {end for stretch in stretches for end in stretch[:2]}
-    for name, ends in zip("xyz", marks): need(len(ends) <= MOST_PLACES, f"F17 TooFine axis {name} count {len(ends)}")
+    for name, places in zip("xyz", marks): need(len(places) <= MOST_PLACES, f"F17 TooFine axis {name} count {len(places)}")
     for view, way in itertools.product(shown, range(2)):
         across, along = (sorted(marks[FRAMES[view][it]]) for it in (1 - way, way))
         for (number, at), cell in itertools.product(enumerate(across), range(len(along) - 1)):
             styles[view, way, number, cell] = next((it for low, high, it in rows.get((view, way, at), ()) if low <= along[cell] < high), BLANK)
     return [len(ends) - 1 for ends in marks], styles
 
-def parts_of(inside: bytearray, steps: list[tuple[int, Sequence[int]]]) -> list[int]:
+def parts_of(inside: bytearray, steps: list[tuple[int, list[int]]]) -> list[int]:
     """For each place 0 where it is joined to the outside, else the number of its part, from 1 on by their first places. A step passes no
     wall: that where it leads, or, backwards, that where it starts. One place more than a row has cells lies round it, at both ends."""
     steps = [*steps, *((-step, wall[step:] + wall[:step]) for step, wall in steps)]
@@ -182,14 +188,14 @@ def blocks_of(sizes: list[int], strides: list[int], styles: dict[Line, int]) -> 
     A view without lines shows nothing, and forbids no edge."""
     frames = [(view, FRAMES[view]) for view in sorted({line[0] for line in styles})]
     points = [at[::-1] for at in itertools.product(*(range(size + 1) for size in reversed(sizes)))]
-    drawn, edges, walls = [set(), set(), set()], [bytearray(len(points)) for _ in sizes], []
+    drawn, edges, walls = [set[tuple[int, int]]() for _ in VIEWS], [[0] * len(points) for _ in sizes], []
     for view, way, at, cell in (line for line, style in styles.items() if style):
         drawn[view] |= {(at, cell), (at, cell + 1)} if way else {(cell, at), (cell + 1, at)}
     vertex = [all((at[right], at[up]) in drawn[view] for view, (right, up, _, _) in frames) for at in points]
     for place, axis in itertools.product(itertools.compress(range(len(points)), vertex), range(3)):
-        at = points[place]
-        edges[axis][place] = at[axis] < sizes[axis] and vertex[place + strides[axis]] and all(
-            styles[(view, 0, at[up], at[right]) if axis == right else (view, 1, at[right], at[up])]
+        spot = points[place]
+        edges[axis][place] = spot[axis] < sizes[axis] and vertex[place + strides[axis]] and all(
+            styles[(view, 0, spot[up], spot[right]) if axis == right else (view, 1, spot[right], spot[up])]
             for view, (right, up, _, _) in frames if axis in (right, up))
     for one, other in (1, 2), (0, 2), (0, 1):  # across the third axis
         faces = bytearray(at[one] < sizes[one] and at[other] < sizes[other] for at in points)
@@ -212,22 +218,25 @@ class State:
         strides = [1, sizes[0] + 1, (sizes[0] + 1) * (sizes[1] + 1)]
         block = blocks_of(sizes, strides, styles)
         need(max(block) <= MOST_BLOCKS, f"F18 TooManyBlocks count {max(block)}")
-        columns, demands, places, self.lines, self.value = {(): 0}, {}, {}, {}, [None] * max(block)
+        columns, demands, places, self.lines = dict[tuple[int, ...], int]({(): 0}), dict[Three, int](), dict[Three, int](), dict[bytes, int]()
+        self.value: list[bool | None] = [None] * max(block)
         for view, (right, up, sight, forward) in enumerate(FRAMES):
             for one, other in itertools.product(range(sizes[right]), range(sizes[up])):
                 start = one * strides[right] + other * strides[up]
                 column = block[start:start + sizes[sight] * strides[sight]:strides[sight]][::1 if forward else -1]
                 places[view, one, other] = columns.setdefault(tuple(column), len(columns))
         for (view, way, at, cell), style in styles.items():
-            sides = (places.get((view, it, cell) if way else (view, cell, it), 0) for it in (at, at - 1))
-            self.lines[b"%b %c %d %d" % (VIEWS[view], b"lu"[way], at, cell)] = demands.setdefault((style, *sides), len(demands))
-        self.demands, self.lost, self.cells, self.beside = list(demands), set(), [{} for _ in self.value], [[] for _ in columns]
+            one, other = (places.get((view, it, cell) if way else (view, cell, it), 0) for it in (at, at - 1))
+            self.lines[b"%b %c %d %d" % (VIEWS[view], b"lu"[way], at, cell)] = demands.setdefault((style, one, other), len(demands))
+        self.demands, self.lost, self.cells = list(demands), set[int](), [dict[int, int]() for _ in self.value]
+        self.beside = [list[int]() for _ in columns]
         self.full, self.may = [0] * len(columns), [sum(1 << depth for depth, at in enumerate(column) if at) for column in columns]
-        for number, column in enumerate(columns):
-            for at in set(column) - {0}:
-                self.cells[at - 1][number] = sum(1 << depth for depth, it in enumerate(column) if it == at)
-        for number, column in ((number, column) for number, (_, *sides) in enumerate(self.demands) for column in sides):
-            self.beside[column].append(number)
+        for number, blocks in enumerate(columns):
+            for at in set(blocks) - {0}:
+                self.cells[at - 1][number] = sum(1 << depth for depth, it in enumerate(blocks) if it == at)
+        for number, (_, one, other) in enumerate(self.demands):
+            self.beside[one].append(number)
+            self.beside[other].append(number)
         self.look(range(len(demands)))
     def look(self, demands: Iterable[int]) -> None:
         for demand in demands:
@@ -250,11 +259,10 @@ class State:
 
 def listed(state: State, log: list[bytes]) -> list[bytes]:
     """The choices that the lines of a log list, in the stated order."""
-    decided, splits, found, is_open = [], [], [], True
+    decided, splits, found, is_open = list[tuple[int, bool]](), list[int](), list[bytes](), True
     need(not log or log[0] == b"log 1 blocks %d" % len(state.value), "G1 BadLine", 1)
     for number, line in enumerate(log[1:], 2):
-        entry = (ENTRY if is_open else END).fullmatch(line)
-        need(entry, "G1 BadLine", number)
+        entry = need((ENTRY if is_open else END).fullmatch(line), "G1 BadLine", number)
         if not is_open:
             need(int(entry[1]) == len(found), "G6 BadCount", number)
             need(number == len(log), "G8 Long", number + 1)
@@ -269,7 +277,7 @@ def listed(state: State, log: list[bytes]) -> list[bytes]:
             need(not fails or state.lines.get(fails) in state.lost, "G3 Unproved", number)
             need(fails or None not in state.value and not state.lost, "G4 Unsolid", number)
             need(fails or len(found) < MOST_LISTED, "G5 TooMany", number)
-            found += [] if fails else [bytes(48 + full for full in state.value)]
+            found += [] if fails else [bytes(48 + (it or False) for it in state.value)]
             is_open, full = len(splits) > 0, False  # on to the other side of the newest split
             while splits and len(decided) > splits[-1]:
                 block, was = decided.pop()
@@ -278,7 +286,7 @@ def listed(state: State, log: list[bytes]) -> list[bytes]:
         if is_open:
             decided.append((block, full))
             state.turn(block, full, full)
-    need(False, "G7 Short", len(log) + 1)
+    raise Wrong(f"G7 Short line {len(log) + 1}")
 
 def answer(text: bytes, may_lack: int = 0) -> tuple[int, Iterable[bytes]]:
     """The status for a drawing, of which so many views may show nothing, and its log, and what is written."""
