@@ -16,12 +16,14 @@ from .support import TOOLS, draft, needs_command, needs_module, needs_program
 
 # How many rows the table of packages in README has.
 ROWS = 7
+# What a package is made of, beside the program.
+COPIED = ("tools", "examples", "docs", ".gitignore", "crates/*/specs/*", "crates/recon_run/src/command.rt", "crates/tv_base/src/*")
 # An `rt` that says what a test wants of it, and leaves a program.
 GATE = """#!/bin/sh
 case $1 in
 version) echo a kit ;;
 ci) mkdir -p crates/recon/out && cp '{program}' crates/recon/out/recon
-    echo 'recon: logic=proved functions=3 sum=5eed native=nat'; echo 'rt: ok'; echo '{last}'; exit {status} ;;
+    echo 'rt: ok'; echo '{last}'; exit {status} ;;
 esac
 """
 
@@ -88,7 +90,7 @@ class Package(unittest.TestCase):
     @needs_command("git", "git")
     def test_what_the_gate_passes_is_packaged_and_nothing_else(self) -> None:
         copy, rt = self.room / "copy", self.room / "bin" / "rt"
-        for name in ran("git", "ls-files", "-co", "--exclude-standard", "tools", "examples", "docs", ".gitignore", folder=TOOLS.parent).stdout.splitlines():
+        for name in ran("git", "ls-files", "-co", "--exclude-standard", *COPIED, folder=TOOLS.parent).stdout.splitlines():
             (copy / name).parent.mkdir(parents=True, exist_ok=True)
             shutil.copy(TOOLS.parent / name, copy / name)
         commit = "git init -q && git add -A && git -c user.name=A -c user.email=a@example.org commit -qm all"
@@ -114,7 +116,7 @@ class Package(unittest.TestCase):
         self.assertEqual(file.name.rpartition("_")[0], f"recon_{__version__}", ended.stderr)
         ran("dpkg-deb", "-x", file, self.room / "tree")
         told = (self.room / "tree/usr/share/doc/recon/PROVED").read_text()
-        for said in ("rt version): a kit", "rt: ok / 9 passed, 0 failed", "functions=3 sum=5eed", ran("git", "rev-parse", "HEAD", folder=copy).stdout):
+        for said in ("rt version): a kit", "rt: ok / 9 passed, 0 failed", "  crates/recon_run/src/command.rt\n", "  crates/solid_model/specs/", ran("git", "rev-parse", "HEAD", folder=copy).stdout):
             self.assertIn(said, told)
 
 
