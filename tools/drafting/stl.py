@@ -63,7 +63,7 @@ def number_among_all(asked: asking.Asked, number: int, whole: bytes, arguments: 
 def of_rounds(asked: asking.Asked, number: int) -> str:
     """The triangles of a solid with rounds: each circle as a prism of so many sides at least, by the least one's chord height."""
     from .bodies import turned_round as in_a_mirror
-    from .meshes import SIDES, fineness
+    from .meshes import fineness
     if not 1 <= number <= len(asked.kept):
         raise Refused(f"there is no solid {number}: {many(len(asked.kept), 'solid')} of this sheet are kept")
     one, given = asked.kept[number - 1], given_in(asked.lines)
@@ -102,6 +102,7 @@ def of_recon(asked: asking.Asked, number: int, arguments: argparse.Namespace) ->
 def run(arguments: argparse.Namespace) -> int:
     asked = clean.redrawn(arguments, lambda text: say(f"draft stl: {text}"))
     if asked.rounds:
+        from .meshes import SIDES
         text = of_rounds(asked, arguments.solid)
         say(f"draft stl: circles have {SIDES} sides at least: the triangles enclose less than a boss, and leave more of a hole")
         write_result(text, arguments.output)
