@@ -2,18 +2,23 @@
 import argparse
 import os
 import pathlib
+import resource
 import shutil
 import subprocess
 import sys
 import tempfile
 import threading
 import time
-from typing import NamedTuple
+from collections.abc import Sequence
+from typing import Any, NamedTuple
 
 TOP = pathlib.Path(__file__).resolve().parent.parent
 BUILT = TOP / "crates" / "recon" / "out" / "recon"
 # How many bytes of what is let go are read at once.
 DRAINED = 1 << 20
+# A command with its words, and a file, as `subprocess` and `open` take them.
+File = str | os.PathLike[str]
+Command = Sequence[File]
 
 
 class Run(NamedTuple):
@@ -27,11 +32,11 @@ class Run(NamedTuple):
     wrote: bytes
 
     @property
-    def text(self):
+    def text(self) -> str:
         return self.wrote.decode(errors="replace")
 
 
-def built(name):
+def built(name: str) -> pathlib.Path:
     """The program of this name, as an argument gives it."""
     path = pathlib.Path(name).resolve()
     if not os.access(path, os.X_OK) or path.is_dir():
@@ -40,27 +45,27 @@ def built(name):
     return path
 
 
-def parser(description):
+def parser(description: str | None) -> argparse.ArgumentParser:
     """The arguments of a script: the description of it, and the program, that of this repository if none is named."""
     reader = argparse.ArgumentParser(description=description, formatter_class=argparse.RawDescriptionHelpFormatter)
     reader.add_argument("program", nargs="?", type=built, default=str(BUILT), help=f"another build than {BUILT}")
     return reader
 
 
-def machine():
+def machine() -> str:
     """What the figures are taken on, and when."""
     with open("/proc/cpuinfo") as info:
         names = [line.partition(":")[2].strip() for line in info if line.startswith("model name")]
     return f"{(names or ['an unknown processor'])[0]}, {os.cpu_count()} processors, {time.strftime('%Y-%m-%d')}"
 
 
-def begin(command, file=os.devnull, **how):
+def begin(command: Command, file: File = os.devnull, **how: Any) -> "subprocess.Popen[bytes]":
     """Begins a command whose standard input is the file."""
     with open(file, "rb") as text:
         return subprocess.Popen(command, stdin=text, **how)
 
 
-def wait(process, most):
+def wait(process: "subprocess.Popen[bytes]", most: int | None) -> tuple[bytes, int, resource.struct_rusage]:
     """What a process writes, up to so many bytes if that is told, its status, and what it used, once it has ended."""
     wrote = b""
     if process.stdout:
@@ -73,17 +78,19 @@ def wait(process, most):
     return wrote, process.returncode, used
 
 
-def gnu_time():
+def gnu_time() -> str:
     """GNU time, by which the most memory is told: a look from here would count what this process held when it began the run."""
     return shutil.which("time") or sys.exit("GNU time isn't installed: apt-get install time")
 
 
-def timed(command, file=os.devnull, into=None, most=None, memory=False, patience=None):
+def timed(
+    command: Command, file: File = os.devnull, into: File | None = None, most: int | None = None, memory: bool = False, patience: float | None = None
+) -> Run:
     """Runs a command whose standard input is the file. What it writes goes into another file, if one is named, and else is kept,
     up to so many bytes. It is killed after so many seconds."""
     with tempfile.NamedTemporaryFile() as note, open(into or os.devnull, "wb") as writes:
         before = [gnu_time(), "-f", "%M", "-o", note.name] if memory else []
-        output = {"stdout": writes if into else subprocess.PIPE, "stderr": subprocess.STDOUT}
+        output: dict[str, Any] = {"stdout": writes if into else subprocess.PIPE, "stderr": subprocess.STDOUT}
         began = time.perf_counter()
         process = begin([*before, *command], file, **output)
         killer = threading.Timer(patience or 0, process.kill)

@@ -81,7 +81,7 @@ class Asked(NamedTuple):
 
     def per_unit(self) -> Fraction:
         """How many units of the answer one of the sheet's has."""
-        return self.origin.times * 10**self.decimals
+        return self.origin.times * Fraction(10**self.decimals)
 
 
 def measure(value: Fraction, unit: str) -> str:

@@ -26,7 +26,7 @@ import zlib
 from collections.abc import Iterator
 from typing import Any, NamedTuple, NoReturn
 
-from . import asking, faults, messages, program, sheet, sums
+from . import asking, faults, messages, program, records, sheet, sums
 from .answers import CUT, FAULT, answer_of
 from .drawing import VIEWS, places_of, written
 from .given import given_in
@@ -113,16 +113,17 @@ def message_of(asked: asking.Asked, warnings: list[str]) -> tuple[str, int | Non
 
 def row_of(path: str, arguments: argparse.Namespace) -> dict[str, Any]:
     """The answer about a file, or why there is none."""
-    warnings: list[str] = []
+    notes, named = records.Notes(), argparse.Namespace(**vars(arguments), drawing=path)
     try:
-        asked = asking.ask(path, arguments, lambda text: warnings.append(text) if text.startswith("warning") else None)
-        message, solids = message_of(asked, warnings)
+        asked = asking.ask(path, arguments, notes.take)
+        message, solids = message_of(asked, [str(note) for note in notes if note.kind == "warning"])
         given = given_in(asked.lines)
-        return {"status": asked.run.status, "solids": solids, "rounds": len(given.rounds) if given else 0, "message": message}
+        record = records.record(asked, named, notes, records.LISTED, with_faces=False)
+        return {"status": asked.run.status, "solids": solids, "rounds": len(given.rounds) if given else 0, "message": message, "record": record}
     except program.Failed as failure:
-        return {"status": FAILED, "message": str(failure)}
+        return {"status": FAILED, "message": str(failure), "record": records.without_answer(named, failure, notes)}
     except Refused as refusal:
-        return {"status": REFUSED, "message": " ".join(str(refusal).split())}
+        return {"status": REFUSED, "message": " ".join(str(refusal).split()), "record": records.without_answer(named, refusal, notes)}
     except OSError as failure:
         return {"status": LOST, "message": f"can't be read: {failure.strerror}"}
     except MemoryError:

@@ -70,7 +70,7 @@ def squares_of(grid: Cells, full: int) -> Iterator[Face]:
 
 
 def side_of(grid: Cells, cell: Point, axis: int, side: int) -> Face:
-    corners = []
+    corners: list[Point] = []
     for u, v in ((0, 0), (1, 0), (1, 1), (0, 1)):
         more = {axis: side, (axis + 1) % 3: u, (axis + 2) % 3: v}
         x, y, z = (grid.cuts[at][cell[at] + more[at]] for at in range(3))

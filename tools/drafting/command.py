@@ -71,6 +71,7 @@ def main(words: list[str] | None = None) -> int:
     """Runs the command that the words name, else those that the process was begun with, and answers its status."""
     words = sys.argv[1:] if words is None else words
     arguments = parser_of(commands(*words[:1])).parse_args(words)
+    Progress.is_wanted = True
     try:
         with with_standard_input(arguments):
             return int(arguments.run(arguments))

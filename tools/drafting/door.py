@@ -20,18 +20,19 @@ HEADERS, PAUSE, BODY = 5.0, 5.0, 60.0
 IN_MEMORY = 1 << 30
 
 
-class Forbidden(Error):  # type: ignore[misc]
+class Forbidden(Error):
     """Who hasn't the token."""
 
     code, reason = 403, "Forbidden"
 
 
-class Parser(HTTPRequestParser):  # type: ignore[misc]
+class Parser(HTTPRequestParser):
     """A request, whose headers have to have the token, or its path, where it is asked for by an address."""
 
     def __init__(self, adjustments: Adjustments, token: str) -> None:
         super().__init__(adjustments)
         self.token = token
+        self.error: Error | None = self.error
         self.is_known = False
         self.began = time.time()
 
@@ -52,7 +53,7 @@ class Parser(HTTPRequestParser):  # type: ignore[misc]
         return consumed
 
 
-class Channel(HTTPChannel):  # type: ignore[misc]
+class Channel(HTTPChannel):
     """A connection, a stranger's until a request had the token."""
 
     is_known = False
@@ -71,11 +72,11 @@ class Channel(HTTPChannel):  # type: ignore[misc]
         if self.requests:
             return False
         if not self.is_known:
-            return now - self.creation_time > HEADERS
-        return self.request is not None and (now - self.last_activity > PAUSE or now - self.request.began > BODY)
+            return bool(now - self.creation_time > HEADERS)
+        return self.request is not None and bool(now - self.last_activity > PAUSE or now - self.request.began > BODY)
 
 
-class Server(TcpWSGIServer):  # type: ignore[misc]
+class Server(TcpWSGIServer):
     """The server, which has an eye on who takes too long, and lets go the stranger who has stood there longest where too many do."""
 
     channel_class = Channel

@@ -161,6 +161,9 @@ class Search:
 
     def late(self) -> None:
         self.is_late = True
+        self.kill()
+
+    def kill(self) -> None:
         if self.process:
             self.process.kill()
 
@@ -238,7 +241,7 @@ class Search:
 
     def page(self, count: int, rows: Iterator[str]) -> tuple[list[str], str]:
         """The choices of one page, up to so many solids in all, and the line behind it."""
-        choices = []
+        choices: list[str] = []
         line = ""
         for line in rows:
             if not line.startswith("choice ") or len(self.choices) + len(choices) == count:
@@ -265,7 +268,7 @@ class Search:
         if self.blocks is None or not self.choices:
             return
         ordered, volumes = sorted(self.choices, reverse=True), self.blocks.volumes()
-        timer = threading.Timer(COMPARING, lambda: self.process and self.process.kill())
+        timer = threading.Timer(COMPARING, self.kill)
         timer.start()
         count = 0
         try:

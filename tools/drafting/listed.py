@@ -6,12 +6,12 @@ import os
 from collections.abc import Iterator
 from typing import BinaryIO, NamedTuple
 
+from . import records
 from .messages import Refused, say
 from .rows import Row
 
 COLUMNS = ("file", "status", "solids", "rounds", "seconds", "message")
 FORMS = ("csv", "json")
-SCHEMA = "draft.table/1"
 
 
 class Place(NamedTuple):
@@ -76,7 +76,7 @@ def left_out(failure: OSError) -> None:
 def written(rows: list[Row], form: str | None) -> bytes:
     """The table. A name that is no text has its own bytes in it."""
     if form == "json":
-        return "".join(json.dumps({"schema": SCHEMA, **{it: row.get(it) for it in COLUMNS}}) + "\n" for row in rows).encode()
+        return "".join(json.dumps(record_of(row)) + "\n" for row in rows).encode()
     texts = [["" if row.get(column) is None else told(column, row[column]) for column in COLUMNS] for row in rows]
     if form == "csv":
         out = io.StringIO()
@@ -86,6 +86,12 @@ def written(rows: list[Row], form: str | None) -> bytes:
     widths = [max(map(len, column)) for column in zip(*cells)][:-1]
     lines = (" ".join([*(cell.ljust(width) for cell, width in zip(row, widths)), row[-1]]).rstrip() for row in cells)
     return "".join(f"{line}\n" for line in lines).encode()
+
+
+def record_of(row: Row) -> records.Record:
+    """What `draft solve --json` says of a drawing, by the name that the table has for it."""
+    told = row.get("record") or {**records.of_none(row["status"], row["message"]), "seconds": row.get("seconds")}
+    return {**told, "drawing": {**told["drawing"], "file": row["file"]}}
 
 
 def told(column: str, value: object) -> str:

@@ -37,8 +37,10 @@ def many(count: int, one: str, more: str | None = None) -> str:
 
 
 class Progress:
-    """A line on a terminal that says how far something is; nothing where standard error isn't one."""
+    """A line on a terminal that says how far something is; nothing where standard error isn't one, nor beneath another program than
+    `draft`."""
 
+    is_wanted = False
     shown = False
     last = 0.0
 
@@ -50,7 +52,7 @@ class Progress:
 
     @classmethod
     def is_seen(cls) -> bool:
-        return sys.stderr.isatty()
+        return cls.is_wanted and sys.stderr.isatty()
 
     @classmethod
     def show(cls, text: str, least: float = 0.2) -> None:

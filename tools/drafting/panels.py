@@ -153,10 +153,10 @@ class Sheet(NamedTuple):
 
 def units_of(number: float, decimals: int) -> int:
     """A coordinate in units; refused where it isn't whole, as the program does."""
-    units = round(Fraction(repr(number)) * 10**decimals)
-    if Fraction(units, 10**decimals) != Fraction(repr(number)):
+    units: Fraction = Fraction(repr(number)) * 10**decimals
+    if units.denominator != 1:
         raise Refused(f"the coordinate {number!r} has more than {decimals} decimals")
-    return units
+    return units.numerator
 
 
 def strokes_of(view: str, lines: Iterable[Line], decimals: int) -> list[Stroke]:
@@ -312,8 +312,8 @@ def moved_runs(rows: Iterable[tuple[bool, int, bytes, Sequence[int]]]) -> Shown:
     runs = [(upright, at, style, along[low], along[high])
             for upright, at, styles, along in rows for style, low, high in runs_of(styles)]
     x, y = (min((low if upright == way else at for upright, at, _, low, _ in runs), default=0) for way in (False, True))
-    return frozenset((upright, at - (x if upright else y), style, *(end - (y if upright else x) for end in ends))
-                     for upright, at, style, *ends in runs)
+    return frozenset((True, at - x, style, low - y, high - y) if upright else (False, at - y, style, low - x, high - x)
+                     for upright, at, style, low, high in runs)
 
 
 def shown_by(strokes: Iterable[Stroke]) -> Shown:

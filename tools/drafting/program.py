@@ -29,6 +29,10 @@ class Failed(Refused):
     """A run that came to no end of its own, or ran out of memory."""
 
 
+class NoProgram(Refused):
+    """There is no program to be run."""
+
+
 class TimedOut(Failed):
     """A run that took longer than it may."""
 
@@ -51,12 +55,12 @@ def find(named: str | None = None) -> pathlib.Path:
     """The program: the one that is named, else the one that RECON names, else where the gate leaves it, else the one on the path."""
     for path, who in ((named, "--program"), (os.environ.get("RECON"), "RECON")):
         if path and not is_program(path):
-            raise Refused(f"{path}, which {who} names, is no program that may be run")
+            raise NoProgram(f"{path}, which {who} names, is no program that may be run")
         if path:
             return pathlib.Path(path).resolve()
     found = str(BUILT) if is_program(BUILT) else shutil.which("recon")
     if not found:
-        raise Refused(f"recon isn't there: {ways()}")
+        raise NoProgram(f"recon isn't there: {ways()}")
     return pathlib.Path(found).resolve()
 
 

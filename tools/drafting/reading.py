@@ -199,13 +199,13 @@ def check_lines(path: str, document: Any) -> None:
     """Refuses a document of an ASCII file whose lines and polylines ezdxf reads otherwise than the file has them."""
     if pathlib.Path(path).read_bytes()[:18] == b"AutoCAD Binary DXF":
         return
-    told: Counter[tuple[object, ...]] = Counter()
+    told: Counter[tuple[str, str, str, int, bool]] = Counter()
     for entry in entries_of(lines_of(path)):
         if entry.section == "ENTITIES" and entry.name in ("LINE", "LWPOLYLINE") and entry.values.get(67, "0").strip() != "1":
             closed = entry.name == "LWPOLYLINE" and entry.values.get(70, "0").strip() in ("1", "129")
             vertices = sum(code == 10 for code, _ in entry.pairs)
             told[entry.name, entry.values.get(8, "0").upper(), entry.values.get(6, "BYLAYER").upper(), vertices, closed] += 1
-    read: Counter[tuple[object, ...]] = Counter()
+    read: Counter[tuple[str, str, str, int, bool]] = Counter()
     for entity in document.modelspace().query("LINE LWPOLYLINE"):
         is_line = entity.dxftype() == "LINE"
         read[entity.dxftype(), entity.dxf.layer.upper(), entity.dxf.get("linetype", "BYLAYER").upper(),

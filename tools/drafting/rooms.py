@@ -183,7 +183,7 @@ def blocks_of(sheet: Sheet) -> Blocks:
     walls = virtual_faces(box, pseudo_edges(grid, box))
     inside = box.inside(box.sizes)
     left = inside & ~box.reached(box.every & ~inside, box.every, walls)
-    rooms = []
+    rooms: list[int] = []
     while left:
         if len(rooms) == MOST_BLOCKS:
             raise Refused(f"the drawing has more than {MOST_BLOCKS:,} blocks")

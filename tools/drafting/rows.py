@@ -10,8 +10,8 @@ from typing import Any
 from .messages import Refused, say
 
 Row = dict[str, Any]
-# What the table needs of a row.
-KEPT = ("status", "solids", "rounds", "seconds", "message")
+# What the table needs of a row; the record is that of `draft solve --json`, and there is none of one without an answer.
+KEPT = ("status", "solids", "rounds", "seconds", "message", "record")
 # The statuses of rows without an answer: `draft` takes no such drawing; its process didn't end well; its file couldn't be read, or was
 # changed meanwhile, and that row is never kept.
 REFUSED, FAILED, LOST = "refused", "failed", "lost"
@@ -63,7 +63,7 @@ class Rows:
         self.rows[key] = {name: row.get(name) for name in KEPT}
         self.have_failed |= row["status"] == FAILED
         if self.is_kept:
-            self.write(json.dumps({"key": key, **row}).encode() + b"\n")
+            self.write(json.dumps({"key": key, **row, **self.rows[key]}).encode() + b"\n")
 
     def place(self, name: str, room: str) -> pathlib.Path:
         """Where a file can be that is kept beside the rows: in the other folder, where it can't be begun beside them."""

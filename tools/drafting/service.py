@@ -56,7 +56,7 @@ def check(port: int, token: str) -> None:
     is_opened = request.method == "GET" and request.path == "/" and request.headers.get("Sec-Fetch-Mode") == "navigate"
     if not is_own or request.headers.get("Sec-Fetch-Site", "none") not in ("none", "same-origin") and not is_opened:
         raise Unfit(403, "this server answers pages of its own alone")
-    told = request.headers.get("X-Draft-Token") or (request.args.get("token", "") if request.method == "GET" else "")
+    told = request.headers.get("X-Draft-Token") or (request.args.get("token") if request.method == "GET" else None) or ""
     if not hmac.compare_digest(told.encode(), token.encode()):
         raise Unfit(403, "the token is missing or another one: open the address that `draft serve` told")
 

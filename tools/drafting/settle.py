@@ -275,6 +275,16 @@ def of_first_reading(asked: asking.Asked) -> list[Solid]:
     return [one.solid for one in asked.rounds.kept[0].outcome.kept] if asked.rounds and asked.rounds.kept else []
 
 
+def of_asked(asked: asking.Asked) -> Case:
+    """What is settled of an answer."""
+    answer = answer_of(asked.run.text)
+    case = Case(asked.lines, asked.decimals, answer, None if FAULT.fullmatch(answer.head) else asked.sheet())
+    if asked.rounds:
+        kept = of_first_reading(asked)
+        case = case._replace(answer=answer._replace(solids=kept, listed=len(kept)), listed=answer.solids)
+    return case
+
+
 def case_of(arguments: argparse.Namespace) -> Case:
     """What is settled: the answer that is given, or what the program says."""
     if arguments.answer:
@@ -284,15 +294,12 @@ def case_of(arguments: argparse.Namespace) -> Case:
             say("draft settle: warning: the drawing has its rounds squared off, and of the solids of the answer not all may be kept")
     else:
         asked = asking.ask(arguments.drawing, arguments, lambda text: say(f"draft settle: {text}"))
-        answer = answer_of(asked.run.text)
-        case = Case(asked.lines, asked.decimals, answer, None if FAULT.fullmatch(answer.head) else asked.sheet())
+        case = of_asked(asked)
         if asked.origin.mirrored and not asked.paper:
             say("draft settle: warning: the sheet shows the part in a mirror, and what is told here is of the mirror image, x turned round")
         if asked.rounds:
-            kept = of_first_reading(asked)
-            case = case._replace(answer=answer._replace(solids=kept, listed=len(kept)), listed=answer.solids)
             say(f"draft settle: of {many(len(case.listed), 'solid')} of the drawing with its rounds squared off those are told that are kept, "
-                f"{len(kept)}; the views and sections are drawn with the rounds squared off")
+                f"{case.answer.listed}; the views and sections are drawn with the rounds squared off")
     head = case.answer.head
     if FAULT.fullmatch(head):
         raise Refused("; ".join(faults.told(head, case.lines)))
@@ -392,10 +399,20 @@ def told_meant(
     return rows, added, [answer.solids[it].faces for it in sorted(left)]
 
 
+def looked_at(case: Case) -> tuple[Sheet, Solids, list[Means], list[Means]]:
+    """The drawing's strokes, its solids, and what views and sections show of these."""
+    sheet = case.sheet or sheet_of(views_of(case.lines), case.decimals)
+    cells = grid_round(case.answer.solids)
+    solids = Solids(cells, [cells.cells(told) for told in case.answer.solids])
+    views, sections = all_means(solids, sheet)
+    Progress.clear()
+    return sheet, solids, views, sections
+
+
 def text_for(arguments: argparse.Namespace, case: Case, added: list[Added], left: list[list[Face]]) -> tuple[str, str]:
     """The drawing with the added lines, and what is said of its check by the program."""
     text = with_lines(case.lines, added, case.decimals)
-    if arguments.answer:
+    if case.sheet is None:
         return text, "Not checked by the program, since the answer was given: the views are drawn here."
     if not WHOLE.fullmatch(case.answer.head):
         return text, "Not checked by the program, since the search was cut: the views are drawn here."
@@ -420,11 +437,7 @@ def run(arguments: argparse.Namespace) -> int:
         return 0
     if arguments.meant is not None and not 1 <= arguments.meant <= len(answer.solids):
         raise Refused(f"there is no solid {arguments.meant}: {many(len(answer.solids), 'solid')} listed")
-    sheet = case.sheet or sheet_of(views_of(case.lines), case.decimals)
-    cells = grid_round(answer.solids)
-    solids = Solids(cells, [cells.cells(told) for told in answer.solids])
-    views, sections = all_means(solids, sheet)
-    Progress.clear()
+    sheet, solids, views, sections = looked_at(case)
     shown = sections if arguments.all else sections[:SHOWN]
     rows = [f"{have_views(len(answer.solids), ''.join(map(sheet.name, sheet.missing)))}.", *table(best_first([*views, *shown]), sheet)]
     if len(shown) < len(sections):

@@ -54,12 +54,12 @@ def box_of(line: str, decimals: int) -> tuple[str, Part.Shape]:
     """What a line of a text of boxes does, and its box."""
     word, *numbers = line.split()
     try:
-        coordinates = [Decimal(number).scaleb(decimals) for number in numbers]
+        told = [Decimal(number).scaleb(decimals) for number in numbers]
     except InvalidOperation:
-        coordinates = []
-    if word not in ("add", "cut") or len(coordinates) != 6 or any(it % 1 for it in coordinates):
+        told = []
+    if word not in ("add", "cut") or len(told) != 6 or any(it % 1 for it in told):
         raise Refused(f"not `add` or `cut` with six numbers of {decimals} decimals")
-    coordinates = list(map(int, coordinates))
+    coordinates = list(map(int, told))
     sides = [high - low for low, high in zip(coordinates[:3], coordinates[3:])]
     if min(sides) <= 0:
         raise Refused("the second corner isn't greater than the first one")
@@ -144,7 +144,7 @@ def joined(edges: Iterable[Edge]) -> Iterator[Edge]:
 def views_of(part: Part.Shape, further: Iterable[str] = ()) -> dict[str, list[Edge]]:
     """The three views and some further ones in third-angle places, FRONT at the part's own coordinates."""
     box = part.BoundBox
-    places = places_of(*map(round, (box.XLength, box.YLength, box.ZLength)), MARGIN)
+    places = places_of(round(box.XLength), round(box.YLength), round(box.ZLength), MARGIN)
     views = {}
     for view in (*VIEWS, *further):
         edges = list(joined(projected(part, view)))

@@ -337,8 +337,9 @@ def strokes_of(placed: Placed, measure: Measure) -> tuple[dict[str, list[Stroke]
     views, under = {}, 0
     sizes: dict[int, tuple[str, int]] = {}
     for view, group in placed.views.items():
-        runs = [(hidden, upright, *map(measure.units, whole)) for hidden, upright, *whole in moved(group, placed.mirrored)]
-        views[view] = plain([(hidden, upright, at, low, high) for hidden, upright, at, low, high in runs if low < high])
+        runs = [(hidden, upright, measure.units(at), measure.units(low), measure.units(high))
+                for hidden, upright, at, low, high in moved(group, placed.mirrored)]
+        views[view] = plain([run for run in runs if run[3] < run[4]])
         under += max(0, len(runs) - len(views[view]))
         for axis, told, extent in extents_of(view, group):
             first, size = sizes.setdefault(axis, (told, measure.units(extent)))

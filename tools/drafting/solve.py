@@ -4,14 +4,18 @@ what recon wrote, where the list is whole. Standard error says what was changed,
 is whole, 1 at a fault, 3 and 4 where a limit cut it; 12 where it is whole and has another number of solids than --expect says; and 13
 where --visible-edges-alone lists some by clingo, of which nothing is proved.
 
+With --json standard output is one record for programs instead, whole or not, at a fault and where the sheet is refused too: its schema is
+`recon.solve/1`, which tools/LIBRARY.md tells, with all solids and their faces; `table --json` has a line of the same for each drawing.
+
 Of a sheet with circles and arcs it says which solids made of boxes and these rounds have the views: how, `draft sheet --help` names.
 """
 import argparse
+import json
 
-from . import asking, faults, files, program, visible
+from . import asking, faults, files, program, records, visible
 from .answering import Answered, Readings
-from .answers import CUT, FAULT, answer_of, have_views, sizes_of
-from .messages import many, say, write_result
+from .answers import CUT, FAULT, have_views, sizes_of
+from .messages import Refused, Usage, many, say, write_result
 
 NAME = "solve"
 HELP = "say how many solids have the views of a drawing or a sheet"
@@ -24,7 +28,9 @@ UNEXPECTED = 12
 def add_arguments(parser: argparse.ArgumentParser) -> None:
     parser.add_argument("drawing", metavar="IN.dxf", nargs="?", help="the drawing or sheet; - for standard input")
     parser.add_argument("--answer", metavar="OUT.txt", help="a file for what recon writes of the drawing")
-    parser.add_argument("--list", type=int, default=LISTED, metavar="N", help=f"how many solids are told one by one (else {LISTED})")
+    parser.add_argument("--list", type=int, metavar="N", help=f"how many solids are told one by one (else {LISTED}, with --json all)")
+    parser.add_argument("--json", action="store_true", help="a record for programs, instead of words")
+    parser.add_argument("--no-faces", action="store_true", help="with --json: without the solids' faces")
     parser.add_argument("--expect", type=int, metavar="N", help=f"end with status {UNEXPECTED} where there are more or fewer solids than N")
     visible.add_arguments(parser)
     asking.add_arguments(parser)
@@ -89,8 +95,33 @@ def rounded_told(asked: asking.Asked, rounds: Readings, listed: int) -> list[str
 
 def run(arguments: argparse.Namespace) -> int:
     if arguments.visible_edges_alone:
+        if arguments.json:
+            raise Usage("--visible-edges-alone lists some solids, and --json all")
         return visible.run(arguments)
-    asked = asking.ask(arguments.drawing, arguments, lambda text: say(f"draft solve: {text}"))
+    notes = records.Notes()
+
+    def tell(text: str) -> None:
+        notes.take(text)
+        say(f"draft solve: {text}")
+
+    try:
+        asked = asking.ask(arguments.drawing, arguments, tell)
+    except Refused as refusal:
+        if arguments.json and not isinstance(refusal, Usage):
+            write_json(records.without_answer(arguments, refusal, notes))
+        raise
+    most = None if arguments.list is None else max(0, arguments.list)
+    if arguments.json:
+        write_json(records.record(asked, arguments, notes, most, not arguments.no_faces))
+    return answered(asked, arguments, LISTED if most is None else most)
+
+
+def write_json(record: records.Record) -> None:
+    write_result(json.dumps(record) + "\n", None)
+
+
+def answered(asked: asking.Asked, arguments: argparse.Namespace, listed: int) -> int:
+    """Tells an answer in words, unless they have it as JSON, and answers the status."""
     head = asked.run.text.partition("\n")[0]
     if FAULT.fullmatch(head):
         for text in faults.told(head, asked.lines):
@@ -102,10 +133,10 @@ def run(arguments: argparse.Namespace) -> int:
         say(f"draft solve: {arguments.answer} isn't written, since the list isn't whole")
     if asked.origin.mirrored and arguments.answer:
         say(f"draft solve: {arguments.answer} has the solids in a mirror, x turned round, as recon read them")
-    listed = max(0, arguments.list)
-    rows = rounded_told(asked, asked.rounds, listed) if asked.rounds else told(asked, listed)
-    write_result("".join(f"{row}\n" for row in rows), None)
-    count = len(asked.kept) if asked.rounds else answer_of(asked.run.text, 0).listed
+    if not arguments.json:
+        rows = rounded_told(asked, asked.rounds, listed) if asked.rounds else told(asked, listed)
+        write_result("".join(f"{row}\n" for row in rows), None)
+    count = records.count_of(asked)
     if asked.missing and count > 1:
         say(f"draft solve: warning: the two views are ambiguous: {asked.missing} isn't drawn, and one solid alone is the part; `draft settle` says "
             f"what {asked.missing} would show of each, and with --meant K completes the drawing")

@@ -12,8 +12,9 @@ from typing import Any, NamedTuple
 
 from . import asking, faults, program
 from .answers import FAULT, Answer, Solid, answer_of, text_of, turned_back
-from .drawing import lines_of, origin_of, views_of
+from .drawing import Origin, lines_of, origin_of, views_of
 from .given import given_in
+from .kept import Kept
 from .messages import Refused, many, say, write_result
 from .panels import Sheet, sheet_of
 from .settle import of_first_reading, settled_by
@@ -70,9 +71,26 @@ def asked_of(arguments: argparse.Namespace) -> asking.Asked:
     return asked
 
 
+def of_kept(one: Kept, origin: Origin) -> Any:
+    """The shape of a solid that is rounded back, in the sheet's unit, and as it is where the drawing shows it in a mirror."""
+    from .bodies import turned_round
+    shape = turned_round(one.shape) if origin.mirrored else one.shape
+    return shape.scale(float(1 / origin.times))
+
+
+def of_solid(solid: Solid, per_unit: Fraction) -> Any:
+    """The shape of a solid without rounds, of which one unit of the sheet has so many."""
+    from .cad import Part
+    from .solids import shape_of
+    try:
+        shape = shape_of(solid)
+    except Part.OCCError as failure:
+        raise Refused(str(failure)) from None
+    return shape.scale(float(1 / per_unit)) if per_unit != 1 else shape
+
+
 def rounded_shapes(asked: asking.Asked) -> dict[int, Shape]:
     """The shapes of a sheet with rounds."""
-    from .bodies import turned_round
     assert asked.rounds
     first = next(iter(asked.rounds.kept), asked.rounds.first)
     if not asked.kept:
@@ -83,23 +101,19 @@ def rounded_shapes(asked: asking.Asked) -> dict[int, Shape]:
     warn_ambiguous(len(asked.kept), turned_back(answer) if asked.origin.mirrored else answer, asked.sheet())
     shapes = {}
     for number, one in enumerate(asked.kept, 1):
-        shape = turned_round(one.shape) if asked.origin.mirrored else one.shape
-        shapes[number] = Shape(shape.scale(float(1 / asked.origin.times)), asked.rounded_volume(one).removesuffix(asked.cubic()).strip())
+        shapes[number] = Shape(of_kept(one, asked.origin), asked.rounded_volume(one).removesuffix(asked.cubic()).strip())
     return shapes
 
 
 def plain_shapes(solids: dict[int, Solid], per_unit: Fraction, only: int | None) -> dict[int, Shape]:
     """The shapes of solids without rounds."""
-    from .cad import Part
-    from .solids import shape_of
     shapes = {}
     for number in [only] if only in solids else solids:
         try:
-            shape = shape_of(solids[number])
-        except (Refused, Part.OCCError) as refusal:
+            shape = of_solid(solids[number], per_unit)
+        except Refused as refusal:
             raise Refused(f"solid {number}: {refusal}") from None
-        volume = asking.measure(solids[number].volume / per_unit**3, "").replace(",", "")
-        shapes[number] = Shape(shape.scale(float(1 / per_unit)) if per_unit != 1 else shape, volume)
+        shapes[number] = Shape(shape, asking.measure(solids[number].volume / per_unit**3, "").replace(",", ""))
     return shapes
 
 

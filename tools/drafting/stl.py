@@ -5,6 +5,7 @@ join two and two: this is told, and `draft step` writes each part with a closed 
 """
 import argparse
 import re
+from collections.abc import Iterator
 from fractions import Fraction
 
 from . import asking, clean, kept, program
@@ -51,18 +52,18 @@ def choices_of(data: bytes, arguments: argparse.Namespace, decimals: int = 0) ->
     return re.findall(r"^solid \d+ choice ([01]+) ", listed.text, re.M)
 
 
-def number_among_all(asked: asking.Asked, whole: bytes, arguments: argparse.Namespace) -> int:
-    """The number of the solid among all that have the main views, by which recon's `stl` goes."""
+def number_among_all(asked: asking.Asked, number: int, whole: bytes, arguments: argparse.Namespace) -> int:
+    """The number of a solid among all that have the main views, by which recon's `stl` goes."""
     if not further_in(asked.lines):
-        return int(arguments.solid)
+        return number
     fitting = choices_of(asked.data, arguments, asked.decimals)
-    return choices_of(whole, arguments).index(fitting[arguments.solid - 1]) + 1
+    return choices_of(whole, arguments).index(fitting[number - 1]) + 1
 
 
 def of_rounds(asked: asking.Asked, number: int) -> str:
     """The triangles of a solid with rounds: each circle as a prism of so many sides at least, by the least one's chord height."""
     from .bodies import turned_round as in_a_mirror
-    from .meshes import SIDES, fineness
+    from .meshes import fineness
     if not 1 <= number <= len(asked.kept):
         raise Refused(f"there is no solid {number}: {many(len(asked.kept), 'solid')} of this sheet are kept")
     one, given = asked.kept[number - 1], given_in(asked.lines)
@@ -77,23 +78,36 @@ def of_rounds(asked: asking.Asked, number: int) -> str:
         if normal.Length > 0:
             rows += ["facet normal {:.9g} {:.9g} {:.9g}".format(*normal.normalize()), "outer loop"]
             rows += ["vertex {:.9g} {:.9g} {:.9g}".format(*corner) for corner in corners] + ["endloop", "endfacet"]
-    say(f"draft stl: circles have {SIDES} sides at least: the triangles enclose less than a boss, and leave more of a hole")
     return "\n".join([*rows, "endsolid rounded"]) + "\n"
+
+
+def corners_of(text: str) -> Iterator[list[list[float]]]:
+    """The corners of each triangle of a text."""
+    corners = [[float(it) for it in told.split()] for told in re.findall(r"^vertex (.*)$", text, re.M)]
+    return (corners[at:at + 3] for at in range(0, len(corners), 3))
+
+
+def of_recon(asked: asking.Asked, number: int, arguments: argparse.Namespace) -> str:
+    """recon's triangles of a solid without rounds, in its units: it writes those of drawings without decimals, by their main views, and so it
+    is given the same drawing in whole units."""
+    strokes = strokes_in(asked.lines, asked.decimals)
+    whole = written({view: strokes[view] for view in VIEWS if strokes[view]}, 0).encode()
+    words = ["stl", number_among_all(asked, number, whole, arguments), *asking.views_words(asked.lines), *asking.words_of(arguments)]
+    made = program.run(program.find(arguments.program), words, whole, arguments.seconds)
+    if made.status != program.WHOLE:
+        raise Refused(f"recon writes no triangles of its own drawing: {made.text[:80].strip()}")
+    return turned_round(made.text) if asked.origin.mirrored else made.text
 
 
 def run(arguments: argparse.Namespace) -> int:
     asked = clean.redrawn(arguments, lambda text: say(f"draft stl: {text}"))
     if asked.rounds:
-        write_result(of_rounds(asked, arguments.solid), arguments.output)
+        from .meshes import SIDES
+        text = of_rounds(asked, arguments.solid)
+        say(f"draft stl: circles have {SIDES} sides at least: the triangles enclose less than a boss, and leave more of a hole")
+        write_result(text, arguments.output)
         return 0
-    # recon writes triangles of drawings without decimals, by their main views: so it is given the same drawing in whole units.
-    strokes = strokes_in(asked.lines, asked.decimals)
-    whole = written({view: strokes[view] for view in VIEWS if strokes[view]}, 0).encode()
-    words = ["stl", number_among_all(asked, whole, arguments), *asking.views_words(asked.lines), *asking.words_of(arguments)]
-    made = program.run(program.find(arguments.program), words, whole, arguments.seconds)
-    if made.status != program.WHOLE:
-        raise Refused(f"recon writes no triangles of its own drawing: {made.text[:80].strip()}")
-    text = turned_round(made.text) if asked.origin.mirrored else made.text
+    text = of_recon(asked, arguments.solid, arguments)
     twice = sum(count > 1 for count in edges_of(triangles_of(text)).values()) // 2
     if twice:
         say(f"draft stl: warning: at {many(twice, 'edge')} four triangles meet, since parts touch there along an edge alone: admesh, OpenSCAD "

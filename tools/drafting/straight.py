@@ -157,7 +157,7 @@ class Measure(NamedTuple):
     moved: float
 
     def units(self, length: float) -> int:
-        return round(length * float(self.times) * 10**self.decimals)
+        return int(round(length * float(self.times) * 10**self.decimals))
 
 
 def fits(values: Iterable[float], times: Fraction, decimals: int, tolerance: float) -> float | None:

@@ -1,11 +1,11 @@
 """Running the proved program on many changed drawings, on all processors."""
 import contextlib
+import dataclasses
 import multiprocessing
 import os
 import pathlib
 import signal
 from collections.abc import Callable, Iterable, Iterator
-from typing import NamedTuple
 
 from . import program
 from .answers import CUT, WHOLE
@@ -16,7 +16,8 @@ from .panels import DASHED, Grid, Row, runs_of
 SOLIDS, NODES = 100, 20_000
 
 
-class Outcome(NamedTuple):
+@dataclasses.dataclass(frozen=True)
+class Outcome:
     """What the program says of a drawing: how many solids it has, or that there are more of them, or of nodes, than a trial goes
     to; nothing where it is refused with a fault, which is told."""
 

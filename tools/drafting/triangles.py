@@ -49,8 +49,9 @@ def admesh_minds(text: str, volume: int) -> list[str]:
         file.write(text)
         file.flush()
         told = subprocess.run(["admesh", file.name], capture_output=True, text=True, check=True).stdout
-    mended = [name for name in FOUND if int(re.search(rf"{name}\s*:\s*(\d+)", told)[1])]
-    measured = float(re.search(r"Volume\s*:\s*([-\d.]+)", told)[1])
+    said = dict(re.findall(r"(\w[\w ]*?)\s*:\s*([-\d.]+)", told))
+    mended = [name for name in FOUND if int(said[name])]
+    measured = float(said["Volume"])
     return mended + ([f"volume {measured}"] if abs(measured - volume) > 1e-5 * volume else [])
 
 

@@ -41,10 +41,10 @@ def stretches_unlike(view: str, drawn: Shown, shown: Shown) -> Iterator[Stretch]
     for runs, is_drawn in ((drawn, True), (shown, False)):
         for upright, at, style, low, high in runs:
             rows[upright, at].append((style, low, high, is_drawn))
-    for (upright, at), runs in sorted(rows.items()):
-        ends = sorted({end for _, *ends, _ in runs for end in ends})
+    for (upright, at), row in sorted(rows.items()):
+        ends = sorted({end for _, first, last, _ in row for end in (first, last)})
         for low, high in itertools.pairwise(ends):
-            styles = [max((style for style, first, last, it in runs if it == is_drawn and first <= low and high <= last), default=BLANK)
+            styles = [max((style for style, first, last, it in row if it == is_drawn and first <= low and high <= last), default=BLANK)
                       for is_drawn in (True, False)]
             if styles[0] != styles[1]:
                 yield Stretch(view, upright, at, low, high, *styles)

@@ -171,15 +171,21 @@ def change_told(placed: Placed, change: Change) -> str:
     return f"{place}: {was_drawn(placed.grid.panels[row][low:high])}; {STYLES[change.style]}"
 
 
-def segments_told(placed: Placed, row: Row, styles: bytes) -> Iterator[str]:
-    """The stretches of a row that are drawn otherwise, each of one style before and of one afterwards."""
+def segments_of(placed: Placed, row: Row, styles: bytes) -> Iterator[tuple[int, int, int, int]]:
+    """The stretches of a row that are drawn otherwise, each from one segment up to another, of one style before and of one afterwards."""
     at = 0
     for (was, will), group in itertools.groupby(zip(placed.grid.panels[row], styles)):
         end = at + sum(1 for _ in group)
         if was != will:
-            place = f"{row.view} {where(placed, row, at, end)}{round_told(placed, row, at, end)}{lines_told(placed, row, at, end)}"
-            yield f"{place}: {was_drawn(bytes([was]))}; {STYLES[will]}"
+            yield at, end, was, will
         at = end
+
+
+def segments_told(placed: Placed, row: Row, styles: bytes) -> Iterator[str]:
+    """The same in words."""
+    for at, end, was, will in segments_of(placed, row, styles):
+        place = f"{row.view} {where(placed, row, at, end)}{round_told(placed, row, at, end)}{lines_told(placed, row, at, end)}"
+        yield f"{place}: {was_drawn(bytes([was]))}; {STYLES[will]}"
 
 
 # ---- single changes

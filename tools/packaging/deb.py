@@ -15,6 +15,8 @@ from . import pages, proved
 
 RECOMMENDS = ("python3 (>= 3.11)", "python3-ezdxf", "gringo", "libjs-three", "parallel", "python3-flask", "python3-waitress")
 SUGGESTS = ("freecad-python3", "admesh", "openssh-client")
+# What Python imports, and FreeCAD's addon, where it is there.
+MODULES, ADDON = ("drafting", "recon"), TOP / "tools" / "freecad" / "Recon"
 # What a command of Python begins with: recon needs none, so the package asks for none.
 WRAPPER = """\
 #!/bin/sh
@@ -27,7 +29,7 @@ exec /usr/bin/python3 -P {words} "$@"
 # Python's own programs keep what is compiled of the modules, where they are there.
 SCRIPTS = {
     "postinst": "if command -v py3compile > /dev/null; then py3compile -p recon || true; fi",
-    "prerm": "if command -v py3clean > /dev/null; then py3clean -p recon; else find /usr/lib/python3/dist-packages/drafting -name '*.pyc' -delete; fi",
+    "prerm": "if command -v py3clean > /dev/null; then py3clean -p recon; else find /usr/lib/python3/dist-packages/drafting /usr/lib/python3/dist-packages/recon -name '*.pyc' -delete; fi",
 }
 # Why what lintian calls an error is meant so.
 OVERRIDES = """\
@@ -59,6 +61,14 @@ def write(path: pathlib.Path, text: str | bytes, mode: int = 0o644) -> None:
     path.chmod(mode)
 
 
+def copy(folder: pathlib.Path, place: pathlib.Path) -> None:
+    """Puts the files of a folder that git has somewhere; nothing where there is no such folder."""
+    for name in proved.git("ls-files", "-z", "--", str(folder)).split("\0") if folder.is_dir() else []:
+        if name:
+            file = TOP / name
+            write(place / file.relative_to(folder), file.read_bytes())
+
+
 def packed(text: str) -> bytes:
     return gzip.compress(text.encode(), mtime=0)
 
@@ -71,9 +81,9 @@ def fill(tree: pathlib.Path, source: proved.Source, built: proved.Built) -> None
     log = "/usr/share/recon/check_log.py"
     write(tree / "usr" / "bin" / "recon-check-log", WRAPPER.format(name="recon-check-log", words=log), 0o755)
     write(share / "recon" / "check_log.py", (TOP / "tools" / "check_log.py").read_text().partition("\n")[2])
-    for file in sorted((TOP / "tools" / "drafting").rglob("*")):
-        if file.is_file() and "__pycache__" not in file.parts:
-            write(tree / "usr" / "lib" / "python3" / "dist-packages" / file.relative_to(TOP / "tools"), file.read_bytes())
+    for name in MODULES:
+        copy(TOP / "tools" / name, tree / "usr" / "lib" / "python3" / "dist-packages" / name)
+    copy(ADDON, share / "freecad" / "Mod" / ADDON.name)
     for name, made in (("recon", pages.of_recon), ("draft", pages.of_draft), ("recon-check-log", pages.of_check_log)):
         write(share / "man" / "man1" / f"{name}.1.gz", packed(made()))
     for name, text in pages.completions().items():
@@ -81,7 +91,8 @@ def fill(tree: pathlib.Path, source: proved.Source, built: proved.Built) -> None
     for file in sorted((TOP / "examples").rglob("*")):
         if file.is_file() and file.name != "check":
             write(doc / file.relative_to(TOP), file.read_bytes())
-    write(doc / "FORMAT.md", (TOP / "docs" / "FORMAT.md").read_bytes())
+    for page in (TOP / "docs" / "FORMAT.md", TOP / "tools" / "LIBRARY.md"):
+        write(doc / page.name, page.read_bytes())
     write(doc / "PROVED", proved.page(source, built))
     write(doc / "copyright", COPYRIGHT)
     version, when = source.version(built.is_proved), email.utils.formatdate(source.seconds)

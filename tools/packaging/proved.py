@@ -11,8 +11,8 @@ from drafting.messages import Refused, say
 from drafting.program import BUILT, TOP, is_program
 
 PASSED = re.compile(r"[1-9]\d* passed, 0 failed")
-# A line of the gate with the sum of what a crate states.
-SUM = re.compile(r"\blogic=proved\b.*\bsum=\S+")
+# Where the clauses of `run` stand, the call that the program makes.
+CLAUSES = "crates/recon_run/src/command.rt"
 
 
 class Source(NamedTuple):
@@ -70,9 +70,16 @@ def proved() -> Built:
         raise Refused(f"rt ci doesn't pass, and nothing is packaged without: status {gate.returncode}, {lines[-1:]}")
     if not is_program(BUILT):
         raise Refused(f"rt ci passed, but left no {BUILT}")
-    sums = [line.strip() for line in lines if SUM.search(line)] or ["none: this run printed none"]
-    return Built(BUILT, True, [f"toolchain (rt version): {toolchain}", f"gate (rt ci): {' / '.join(lines[-2:])}", "sums of statements:",
-                               *(f"    {line}" for line in sums)])
+    known = [f"toolchain (rt version): {toolchain}", f"gate (rt ci): {' / '.join(lines[-2:])}"]
+    return Built(BUILT, True, [*known, "what is stated, and all that it rests on (sha256sum):", *(f"    {line}" for line in statements())])
+
+
+def statements() -> list[str]:
+    """The sums of the file with the clauses of `run`, and of the definitions on which these rest."""
+    listed = subprocess.run([str(TOP / "docs" / "rests_on")], capture_output=True, text=True)
+    if listed.returncode:
+        raise Refused(f"docs/rests_on: {listed.stderr.strip()}")
+    return [f"{hashlib.sha256((TOP / file).read_bytes()).hexdigest()}  {file}" for file in (CLAUSES, *listed.stdout.split())]
 
 
 def unproved(path: str) -> Built:

@@ -31,7 +31,7 @@ class Demand(NamedTuple):
 class Plain(NamedTuple):
     """A drawing's blocks, and the demand of each line of its grid, in their order."""
 
-    count: int
+    blocks: int
     lines: dict[str, Demand]
     firsts: dict[Demand, str]
 
@@ -99,13 +99,15 @@ def is_met(known: Known, demand: Demand) -> bool:
 
 def excluded(known: Known, demand: Demand) -> set[tuple[int, int]]:
     """The open blocks and the values that the demand leaves no columns for, in some cell beside it."""
-    found = set()
+    found: set[tuple[int, int]] = set()
     for column, cells, beside in (
         (demand.one, cells_of(known, demand.one), cells_of(known, demand.other)),
         (demand.other, cells_of(known, demand.other), cells_of(known, demand.one)),
     ):
         for depth, block in enumerate(column):
-            for value in (0, 1) if block is not None and known[block] is None else ():
+            if block is None or known[block] is not None:
+                continue
+            for value in (0, 1):
                 if demand.style not in styles_of((*cells[:depth], value, *cells[depth + 1:]), beside):
                     found.add((block, value))
     return found
@@ -141,16 +143,16 @@ def tree(plain: Plain, known: Known, chance: random.Random | None) -> Iterator[s
 
 
 def log_of(plain: Plain, chance: random.Random | None = None) -> str:
-    lines = list(tree(plain, (None,) * plain.count, chance))
-    return "\n".join([f"log 1 blocks {plain.count}", *lines, f"end {lines.count('solid')}", ""])
+    lines = list(tree(plain, (None,) * plain.blocks, chance))
+    return "\n".join([f"log 1 blocks {plain.blocks}", *lines, f"end {lines.count('solid')}", ""])
 
 
 def choices_of(plain: Plain) -> list[str]:
     """The choices of all matching solids, in the stated order: each block is tried full and then empty."""
     found: list[Known] = [()]
-    for _ in range(plain.count):
+    for _ in range(plain.blocks):
         found = [(*known, value) for known in found for value in (1, 0)
-                 if all(is_met((*known, value) + (None,) * (plain.count - len(known) - 1), demand) for demand in plain.firsts)]
+                 if all(is_met((*known, value) + (None,) * (plain.blocks - len(known) - 1), demand) for demand in plain.firsts)]
     return ["".join(map(str, known)) for known in found if all(is_met(known, demand) for demand in plain.firsts)]
 
 
@@ -183,7 +185,7 @@ def entry_of(line: bytes) -> tuple[str, int, int, str]:
 def wrong_with(plain: Plain, known: Known, listed: int, word: str, block: int, value: int, place: str) -> str:
     """What is wrong with an entry, or nothing."""
     demand = plain.lines.get(place)
-    if word in ("split", "force") and (block >= plain.count or known[block] is not None):
+    if word in ("split", "force") and (block >= plain.blocks or known[block] is not None):
         return "G2 BadBlock"
     if word == "fail" and (demand is None or is_met(known, demand)):
         return "G3 Unproved"
@@ -200,10 +202,10 @@ def verdict(plain: Plain, log: bytes) -> str:
     if lines[-1] == b"":
         lines.pop()
     found: list[str] = []
-    coming: list[Known] = [(None,) * plain.count]
+    coming: list[Known] = [(None,) * plain.blocks]
     for at, line in enumerate(lines, 1):
         if at == 1:
-            if line != b"log 1 blocks %d" % plain.count:
+            if line != b"log 1 blocks %d" % plain.blocks:
                 return "log G1 BadLine line 1\n"
         elif coming:
             known = coming.pop(0)
@@ -219,12 +221,12 @@ def verdict(plain: Plain, log: bytes) -> str:
             coming = [with_block(known, block, it) for it in values] + coming
         else:
             try:
-                word, number = line.split(b" ")
+                end, number = line.split(b" ")
                 told = number_of(number)
             except ValueError:
                 return f"log G1 BadLine line {at}\n"
-            if word != b"end" or told != len(found):
-                return f"log {'G1 BadLine' if word != b'end' else 'G6 BadCount'} line {at}\n"
+            if end != b"end" or told != len(found):
+                return f"log {'G1 BadLine' if end != b'end' else 'G6 BadCount'} line {at}\n"
             if at < len(lines):
                 return f"log G8 Long line {at + 1}\n"
             return "".join([f"yes {told}\n", *(f"choice {it}\n" for it in sorted(found, reverse=True))])

@@ -1,7 +1,7 @@
 """Random solids, their drawings, and mistakes in these, for the tests of why, settle and judge."""
 import itertools
 import random
-from collections.abc import Iterable
+from collections.abc import Iterable, Iterator
 
 from drafting.drawing import VIEWS, written
 from drafting.panels import DASHED, SOLID, Cell, Grid, Panels, Row, panels_of, runs_of
@@ -10,12 +10,22 @@ Run = tuple[Row, int, int, int]
 Canon = frozenset[tuple[str, bool, int, int, int, int]]
 
 
+def in_space(numbers: Iterable[int]) -> Cell:
+    x, y, z = numbers
+    return x, y, z
+
+
+def cells_of(*along: range) -> Iterator[Cell]:
+    """The cells of a box, by the numbers that they have along its axes."""
+    return map(in_space, itertools.product(*along))
+
+
 def random_solid(rng: random.Random, size: int, boxes: int) -> set[Cell]:
     """Boxes that are added and cut off, in a cube of so many grid cells; moved to the least coordinates."""
     cells: set[Cell] = set()
     for _ in range(boxes):
         ends = [sorted(rng.sample(range(size + 1), 2)) for _ in range(3)]
-        box: set[Cell] = set(itertools.product(*(range(low, high) for low, high in ends)))
+        box = set(cells_of(*(range(low, high) for low, high in ends)))
         cells = cells | box if rng.random() < 0.6 or not cells - box else cells - box
     least = [min(cell[axis] for cell in cells) for axis in range(3)]
     return {(x - least[0], y - least[1], z - least[2]) for x, y, z in cells}
@@ -23,15 +33,14 @@ def random_solid(rng: random.Random, size: int, boxes: int) -> set[Cell]:
 
 def scattered(rng: random.Random, sizes: tuple[int, int, int], full: float) -> set[Cell]:
     """Cells that are full by chance, of which one is, at least, at the beginning of each axis."""
-    cells = {cell for cell in itertools.product(*map(range, sizes)) if rng.random() < full} | {(0, 0, 0)}
-    return cells
+    return {cell for cell in cells_of(*map(range, sizes)) if rng.random() < full} | {(0, 0, 0)}
 
 
 def pierced(rng: random.Random) -> set[Cell]:
     """A small box with most of the cells of a lattice cut out, of which some are open to one side: its three views tend to have several
     solids, and its further views to rule out some of these."""
     sizes, begins = [rng.randint(3, 5) for _ in range(3)], [rng.randint(0, 1) for _ in range(3)]
-    return {cell for cell in itertools.product(*map(range, sizes))
+    return {cell for cell in cells_of(*map(range, sizes))
             if any((at - begin) % 2 for at, begin in zip(cell, begins)) or rng.random() < 0.2}
 
 

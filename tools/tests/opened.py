@@ -28,6 +28,9 @@ def button(text: str, within: str = "body") -> str:
 class Opened(unittest.TestCase):
     """A server, a browser, and in each test the server's page in a tab of its own."""
 
+    room: "tempfile.TemporaryDirectory[str]"
+    folder: pathlib.Path
+    saved: pathlib.Path
     served: Served
     browser: Browser
 

@@ -46,11 +46,11 @@ def size_of(strokes: list[tuple[bool, Ends]]) -> tuple[float, float]:
 
 def mirrored(views: Views) -> Views:
     """The views of the part's mirror image, with its left view in place of the right one."""
-    turned = {}
+    turned: Views = {}
     for name, strokes in views.items():
         width, _ = size_of(strokes)
-        turned[name] = [(dashed, tuple((width - x, y) for x, y in ends)) for dashed, ends in strokes]
-    return turned  # type: ignore[return-value]
+        turned[name] = [(dashed, ((width - a, b), (width - c, d))) for dashed, ((a, b), (c, d)) in strokes]
+    return turned
 
 
 def places_of(views: Views, angle: str = "third", left: bool = False) -> dict[str, tuple[float, float]]:
@@ -235,9 +235,11 @@ class Maker:
             pieces[view] = []
             for dashed, (start, end) in strokes:
                 at = chance.uniform(0.2, 0.8)
-                middle = tuple(a + at * (b - a) for a, b in zip(start, end))
-                ends = [(start, middle), (end, middle)] + ([(start, end)] if chance.random() < 0.3 else [])
-                pieces[view] += [(dashed, tuple(tuple(it + chance.uniform(-1e-9, 1e-9) for it in point) for point in pair)) for pair in ends]
+                middle = start[0] + at * (end[0] - start[0]), start[1] + at * (end[1] - start[1])
+                pairs: list[Ends] = [(start, middle), (end, middle)] + ([(start, end)] if chance.random() < 0.3 else [])
+                for one in pairs:
+                    (a, b), (c, d) = (((x + chance.uniform(-1e-9, 1e-9), y + chance.uniform(-1e-9, 1e-9)) for x, y in one))
+                    pieces[view].append((dashed, ((a, b), (c, d))))
         doc = new()
         draw(doc.modelspace(), pieces, self.places)
         yield self.save(doc, "pieces_with_noise")
@@ -260,8 +262,8 @@ class Maker:
         doc = new()
         for view, strokes in self.views.items():
             for dashed, ends in strokes:
-                at = self.places[view]
-                points = [(x + at[0], y + at[1]) for x, y in (*ends, ends[0])]
+                right, up = self.places[view]
+                points = [(x + right, y + up) for x, y in (*ends, ends[0])]
                 doc.modelspace().add_lwpolyline(points, dxfattribs=by_linetype(view, dashed))
         yield self.save(doc, "polylines")
 
@@ -280,12 +282,13 @@ class Maker:
 
     def further_views(self) -> Iterator[Made]:
         six = {**self.views, **self.further}
-        for name, words, angle, views in (
+        rows: tuple[tuple[str, list[str], str, tuple[str, ...]], ...] = (
             ("six_views_third_angle", ["--angle", "third"], "third", FURTHER),
             ("six_views_first_angle", ["--angle", "first"], "first", FURTHER),
             ("rear_view", [], "third", ("REAR",)), ("left_and_rear_view_in_first_angle", [], "first", ("LEFT", "REAR")),
             ("bottom_view", ["--angle", "third"], "third", ("BOTTOM",)),
-        ):
+        )
+        for name, words, angle, views in rows:
             yield self.save(self.with_further(angle, views), name, *words, further=views)
         yield self.save(self.with_further("third", FURTHER), "which_angle", refusal="there are 2 ways .* say which by --angle")
         places = places_of(six)

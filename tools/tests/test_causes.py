@@ -23,7 +23,7 @@ class Row(NamedTuple):
     """A sheet: how it is drawn, what is said of it, and what has to come: the part, with these words, or a refusal."""
 
     name: str
-    draw: Callable[[Any], None]
+    draw: Callable[[Any], object]
     words: Sequence[str] = ()
     told: str = ""
     refused: str = ""
@@ -34,7 +34,7 @@ def box(space: Any, at: Box, **look: Any) -> None:
         [(at[0], at[1]), (at[2], at[1]), (at[2], at[3]), (at[0], at[3])], close=True, dxfattribs=look)
 
 
-def rounded(view: str, radius: float = 1.0, kind: str = "arc") -> Callable[[Any], None]:
+def rounded(view: str, radius: float = 1.0, kind: str = "arc") -> Callable[[Any], object]:
     """The views of a box of 6 by 4 by 5, one of which has a round in place of its corner above to the left."""
     def draw(space: Any) -> None:
         for name, (width, height), (x, y) in (("FRONT", (6, 5), (0, 0)), ("TOP", (6, 4), (0, 10)), ("SIDE", (4, 5), (10, 0))):
@@ -54,7 +54,7 @@ def views(space: Any, places: dict[str, tuple[float, float]] = PLACES) -> None:
     sheets.draw(space, VIEWS, places)
 
 
-def with_views(*more: Callable[[Any], None]) -> Callable[[Any], None]:
+def with_views(*more: Callable[[Any], object]) -> Callable[[Any], object]:
     def draw(space: Any) -> None:
         views(space)
         for one in more:
@@ -62,7 +62,7 @@ def with_views(*more: Callable[[Any], None]) -> Callable[[Any], None]:
     return draw
 
 
-def boxes(count: int) -> Callable[[Any], None]:
+def boxes(count: int) -> Callable[[Any], object]:
     def draw(space: Any) -> None:
         for number in range(count):
             box(space, (200 + 3 * number, 3 * number, 202 + 3 * number, 1 + 3 * number))
@@ -88,22 +88,25 @@ def curved_top(space: Any) -> None:
     box(space, (10, 0, 16, 5))
 
 
-def half(view: str, upright: bool) -> Callable[[Any], None]:
+def half(view: str, upright: bool) -> Callable[[Any], object]:
     """The views of a box of 6 by 4 by 5, one of which is drawn up to its middle alone."""
     def draw(space: Any) -> None:
         for name, (width, height), (x, y) in (("FRONT", (6, 5), (0, 0)), ("TOP", (6, 4), (0, 10)), ("SIDE", (4, 5), (10, 0))):
             if name != view:
                 box(space, (x, y, x + width, y + height))
             elif upright:
-                for start, end in (((x, y), (x + width, y)), ((x, y), (x, y + height / 2)), ((x + width, y), (x + width, y + height / 2))):
-                    space.add_line(start, end)
+                open_box(space, (x, y + height / 2), (x, y), (x + width, y), (x + width, y + height / 2))
             else:
-                for start, end in (((x, y), (x + width / 2, y)), ((x, y), (x, y + height)), ((x, y + height), (x + width / 2, y + height))):
-                    space.add_line(start, end)
+                open_box(space, (x + width / 2, y), (x, y), (x, y + height), (x + width / 2, y + height))
     return draw
 
 
-def in_front(add: Callable[[Any, float, float], None]) -> Callable[[Any], None]:
+def open_box(space: Any, *corners: tuple[float, float]) -> None:
+    for start, end in zip(corners, corners[1:]):
+        space.add_line(start, end)
+
+
+def in_front(add: Callable[[Any, float, float], object]) -> Callable[[Any], object]:
     return lambda space: add(space, *PLACES["FRONT"])
 
 
@@ -136,7 +139,7 @@ ROWS = (
 
 @needs_module("ezdxf", "python3-ezdxf")
 class Causes(unittest.TestCase):
-    def made(self, draw: Callable[[Any], None], folder: str, name: str) -> pathlib.Path:
+    def made(self, draw: Callable[[Any], object], folder: str, name: str) -> pathlib.Path:
         doc = sheets.new()
         doc.linetypes.add("ODD", [0.2, 0.0, -0.2])
         draw(doc.modelspace())
@@ -223,9 +226,9 @@ class OnTheSheet(unittest.TestCase):
             self.assertEqual(ended.status, 0, ended.said)
             found = re.search(r"TOP \(252.5, 152.5\) to \(252.5, 155\) \(LINE (\w+) on layer 0, line ([\d,]+) of sheet.dxf\): drawn dashed; solid would",
                               ended.out)
-            self.assertTrue(found, ended.out)
+            assert found, ended.out
             lines = file.read_text().splitlines()
-            self.assertIn(found[1], lines[int(found[2].replace(",", "")):][:12] if found else [])
+            self.assertIn(found[1], lines[int(found[2].replace(",", "")):][:12])
 
     def test_settle(self) -> None:
         with tempfile.TemporaryDirectory() as folder:

@@ -5,17 +5,17 @@ import unittest
 
 from drafting import changes
 from drafting.drawing import VIEWS
-from drafting.panels import Grid, panels_of
+from drafting.panels import Grid, Row, panels_of
 
-from .made import MISTAKES, canon, drawn, painted, random_cuts, random_solid, runs, scattered
+from .made import MISTAKES, canon, cells_of, drawn, painted, random_cuts, random_solid, runs, scattered
 
-Drawing = frozenset[tuple[object, bytes]]
+Drawing = frozenset[tuple[Row, bytes]]
 
 
 def drawings_of_solids(sizes: tuple[int, int, int]) -> set[Drawing]:
     """The drawings of all solids in a small box, each but those that don't reach its ends too."""
-    cells = list(itertools.product(*map(range, sizes)))
-    found = set()
+    cells = list(cells_of(*map(range, sizes)))
+    found: set[Drawing] = set()
     for bits in range(1, 1 << len(cells)):
         solid = [cell for at, cell in enumerate(cells) if bits >> at & 1]
         found.add(frozenset(pair for view in VIEWS for pair in panels_of(solid, sizes, view).items()))

@@ -20,7 +20,7 @@ from .support import EXAMPLES, TOOLS, Decorated, is_built, needs_program
 MUTATIONS, DRAWINGS = 2_000, 300
 CUBE = (EXAMPLES / "unit_cube.dxf").read_bytes()
 RIGHT_CUBE = b"log 1 blocks 1\nforce 0 1 front l 0 0\nsolid\nend 1\n"
-HOLLOW = made.file_of(made.drawn({it for it in itertools.product(range(3), repeat=3) if it != (1, 1, 1)}, [list(range(4))] * 3)).encode()
+HOLLOW = made.file_of(made.drawn({it for it in made.cells_of(*[range(3)] * 3) if it != (1, 1, 1)}, [list(range(4))] * 3)).encode()
 RIGHT_HOLLOW = b"log 1 blocks 2\nsplit 0\nforce 1 0 front l 1 1\nsolid\nfail front l 0 0\nend 1\n"
 
 
@@ -286,8 +286,8 @@ class Logs(unittest.TestCase):
 
     def test_right_logs(self) -> None:
         chance = random.Random(3)
-        row = {it for it in itertools.product(range(5), repeat=3) if not set(it) <= {1, 3}} | {(x + 6, y + 6, z + 6) for x, y, z in itertools.product(
-            range(3), repeat=3) if (x, y, z) != (1, 1, 1)} | {(10, 10, 10)}
+        row = {it for it in made.cells_of(*[range(5)] * 3) if not set(it) <= {1, 3}} | {(10, 10, 10)}
+        row |= {(x + 6, y + 6, z + 6) for x, y, z in made.cells_of(*[range(3)] * 3) if (x, y, z) != (1, 1, 1)}
         wide = [0, 2, 4, 6, 8, 10, 11, 15, 19, 23, 24, 32]
         for drawing in (*drawings(), made.file_of(made.drawn(row, [wide] * 3)).encode(), *(random_drawing(chance) for _ in range(40))):
             if not grid_in(drawing):
@@ -365,11 +365,11 @@ class Logs(unittest.TestCase):
     def test_a_block_that_the_line_does_not_touch(self) -> None:
         drawing = (EXAMPLES / "row_of_three_pieces.dxf").read_bytes()
         plain = logs.plain_of(drawing)
-        last = plain.count - 1
+        last = plain.blocks - 1
         far = [name for name, demand in plain.lines.items() if demand.style and last not in demand.one + demand.other]
         for name in (far[0], far[len(far) // 2], far[-1]):
             for value in (0, 1):
-                log = b"log 1 blocks %d\nforce %d %d %b\n" % (plain.count, last, value, name.encode())
+                log = b"log 1 blocks %d\nforce %d %d %b\n" % (plain.blocks, last, value, name.encode())
                 self.assertEqual(self.check(plain, drawing, log), "log G3 Unproved line 2\n")
 
     def test_logs_of_other_drawings(self) -> None:

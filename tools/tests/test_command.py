@@ -21,7 +21,8 @@ class Command(unittest.TestCase):
             self.assertEqual([line for line in ended.out.splitlines() if len(line) > 80], [], name)
 
     def test_arguments_that_are_not_taken(self) -> None:
-        for words in ([], ["pge"], ["page"], ["page", "--frobnicate", "x"], ["--vers"]):
+        for line in ("", "pge", "page", "page --frobnicate x", "--vers"):
+            words = line.split()
             ended = draft(*words)
             self.assertEqual((ended.status, ended.out), (2, ""), words)
             self.assertIn("usage:", ended.said)

@@ -107,7 +107,7 @@ class Solids(InAFolder):
             cuts = random_cuts(rng, cells | other)
             grid = drawn(cells, cuts)
             main = lines_of_runs(grid, runs(grid))
-            places = places_of(*(cut[-1] for cut in cuts), 10)
+            places = places_of(cuts[0][-1], cuts[1][-1], cuts[2][-1], 10)
             views = {view: strokes_shown(shown_of(other if rng.random() < 0.1 else cells, cuts, view), *places[view])
                      for view in rng.sample(FURTHER, rng.randint(1, 3))}
             words = ["solve", "--solids", 200]

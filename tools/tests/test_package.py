@@ -7,6 +7,7 @@ import re
 import shutil
 import subprocess
 import tempfile
+import time
 import unittest
 
 from drafting import __version__, program
@@ -15,12 +16,14 @@ from .support import TOOLS, draft, needs_command, needs_module, needs_program
 
 # How many rows the table of packages in README has.
 ROWS = 7
+# What a package is made of, beside the program.
+COPIED = ("tools", "examples", "docs", ".gitignore", "crates/*/specs/*", "crates/recon_run/src/command.rt", "crates/tv_base/src/*")
 # An `rt` that says what a test wants of it, and leaves a program.
 GATE = """#!/bin/sh
 case $1 in
 version) echo a kit ;;
 ci) mkdir -p crates/recon/out && cp '{program}' crates/recon/out/recon
-    echo 'recon: logic=proved functions=3 sum=5eed native=nat'; echo 'rt: ok'; echo '{last}'; exit {status} ;;
+    echo 'rt: ok'; echo '{last}'; exit {status} ;;
 esac
 """
 
@@ -66,6 +69,9 @@ class Package(unittest.TestCase):
         ended = ran("/usr/bin/python3", "-P", "-m", "drafting", "solve", tree / "usr/share/doc/recon/examples/clevis.dxf", folder=self.room,
                     PYTHONPATH=str(tree / "usr/lib/python3/dist-packages"), PATH=f"{tree / 'usr/bin'}:/usr/bin:/bin", RECON="")
         self.assertIn("volume 41", ended.stdout, ended.stderr)
+        use = f"import recon; print(recon.readfile({str(tree / 'usr/share/doc/recon/examples/clevis.dxf')!r})[0].volume)"
+        ended = ran("/usr/bin/python3", "-P", "-c", use, folder=self.room, PYTHONPATH=str(tree / "usr/lib/python3/dist-packages"), RECON=str(tree / "usr/bin/recon"))
+        self.assertEqual(ended.stdout, "41\n", ended.stderr)
         self.completes(tree)
 
     def completes(self, tree: pathlib.Path) -> None:
@@ -84,9 +90,9 @@ class Package(unittest.TestCase):
     @needs_command("git", "git")
     def test_what_the_gate_passes_is_packaged_and_nothing_else(self) -> None:
         copy, rt = self.room / "copy", self.room / "bin" / "rt"
-        for file in ran("git", "ls-files", "-co", "--exclude-standard", "tools", "examples", "docs", ".gitignore", folder=TOOLS.parent).stdout.splitlines():
-            (copy / file).parent.mkdir(parents=True, exist_ok=True)
-            shutil.copy(TOOLS.parent / file, copy / file)
+        for name in ran("git", "ls-files", "-co", "--exclude-standard", *COPIED, folder=TOOLS.parent).stdout.splitlines():
+            (copy / name).parent.mkdir(parents=True, exist_ok=True)
+            shutil.copy(TOOLS.parent / name, copy / name)
         commit = "git init -q && git add -A && git -c user.name=A -c user.email=a@example.org commit -qm all"
         self.assertEqual(ran("sh", "-c", commit, folder=copy).returncode, 0)
         rt.parent.mkdir()
@@ -110,7 +116,7 @@ class Package(unittest.TestCase):
         self.assertEqual(file.name.rpartition("_")[0], f"recon_{__version__}", ended.stderr)
         ran("dpkg-deb", "-x", file, self.room / "tree")
         told = (self.room / "tree/usr/share/doc/recon/PROVED").read_text()
-        for said in ("rt version): a kit", "rt: ok / 9 passed, 0 failed", "functions=3 sum=5eed", ran("git", "rev-parse", "HEAD", folder=copy).stdout):
+        for said in ("rt version): a kit", "rt: ok / 9 passed, 0 failed", "  crates/recon_run/src/command.rt\n", "  crates/solid_model/specs/", ran("git", "rev-parse", "HEAD", folder=copy).stdout):
             self.assertIn(said, told)
 
 
@@ -124,6 +130,35 @@ class Packages(unittest.TestCase):
         fields = {name.split()[0] for name in (*deb.RECOMMENDS, *deb.SUGGESTS)} - {"python3", "openssh-client"}
         self.assertEqual(fields, table)
         self.assertLessEqual(table, listed)
+
+    def installed(self, apt: str, seconds: int = 600) -> tuple[int, str, list[str]]:
+        """How --install ends with this apt-get, whose words are noted, where one package lacks until a file `there` is; and what is said."""
+        with tempfile.TemporaryDirectory() as folder:
+            room = pathlib.Path(folder)
+            for name, body in (("apt-get", f'echo "$*" >> {room}/asked; {apt}'), ("id", "echo 0"),
+                               ("dpkg-query", f'case $4 in gringo) [ -f {room}/there ];; esac && echo install ok installed')):
+                (room / name).write_text(f"#!/bin/sh\ncd {room}\n{body}\n")
+                (room / name).chmod(0o755)
+            ended = ran(TOOLS / "packages", "--install", PATH=f"{room}:{os.environ['PATH']}", PACKAGES_PAUSE="0", PACKAGES_SECONDS=str(seconds))
+            asked = (room / "asked").read_text().splitlines() if (room / "asked").exists() else []
+            return ended.returncode, ended.stderr, [line.partition("Error-Mode=any ")[2] for line in asked]
+
+    def test_packages_are_installed_where_their_registry_answers(self) -> None:
+        self.assertEqual(self.installed('case $* in *only*|*simulate*|*update*) ;; *) touch there ;; esac'),
+                         (0, "", ["update", "install --simulate gringo", "install --download-only gringo", "install gringo"]))
+        status, said, asked = self.installed("exit 100")
+        self.assertEqual((status, asked), (3, ["update"] * 3))
+        self.assertIn("the registry can't be reached, asked three times; not installed: gringo", said)
+        status, said, asked = self.installed("case $* in *only*) exit 100 ;; esac")
+        self.assertEqual((status, len(asked)), (3, 9))
+        status, said, asked = self.installed("case $* in *simulate*) exit 100 ;; esac")
+        self.assertEqual((status, asked, said), (1, ["update", "install --simulate gringo"], "packages: apt-get can't install gringo\n"))
+
+    def test_a_slow_registry_holds_nothing_up(self) -> None:
+        began = time.monotonic()
+        status, _, asked = self.installed("exec sleep 60", 2)
+        self.assertEqual((status, asked), (3, ["update"]))
+        self.assertLess(time.monotonic() - began, 30)
 
     def test_words_that_are_not_taken(self) -> None:
         ended = ran(TOOLS / "packages", "--instal")

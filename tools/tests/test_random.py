@@ -3,7 +3,9 @@ import pathlib
 import random
 import tempfile
 import unittest
+from collections.abc import Callable
 from fractions import Fraction
+from typing import Any
 
 from drafting import program, sheet
 from drafting.drawing import FURTHER, lines_within, views_of, written
@@ -24,8 +26,9 @@ NAMES = ("bracket", "clevis", "pierced_plate", "quartered_cube", "untidy_redrawn
 SCALES = (1.0, 0.5, 0.0625, 1 / 3, 0.1, 2.5)
 
 
-def whole(ends: "sheets.Ends") -> list[tuple[int, int]]:
-    return [(round(x), round(y)) for x, y in ends]
+def whole(ends: "sheets.Ends") -> tuple[tuple[int, int], tuple[int, int]]:
+    (a, b), (c, d) = ends
+    return (round(a), round(b)), (round(c), round(d))
 
 
 @needs_module("ezdxf", "python3-ezdxf")
@@ -83,18 +86,18 @@ class RandomSheets(unittest.TestCase):
         else:
             sheets.draw(space, its, places, look, scale)
         scaled = {view: (scale * x, scale * y) for view, (x, y) in places.items()}
-        sized = {view: [(dashed, tuple((scale * x, scale * y) for x, y in ends)) for dashed, ends in strokes] for view, strokes in views.items()}
+        sized = {view: [(dashed, moved_ends(ends, lambda at: scale * at)) for dashed, ends in strokes] for view, strokes in views.items()}
         if chance.random() < 0.5:
             sheets.dimensions(space, sized, scaled, chance.random() < 0.5, scale=scale)
         if chance.random() < 0.5:
-            reach = scale * max(abs(x) + abs(y) for x, y in places.values()) + sum(map(max, map(sheets.size_of, sized.values()))) + 150
+            reach = scale * max(abs(x) + abs(y) for x, y in places.values()) + sum(max(sheets.size_of(its)) for its in sized.values()) + 150
             for margin in (0, 10):
                 sheets.rectangle(space, -reach + margin, -reach + margin, reach - margin, reach - margin)
         file = folder / "sheet.dxf"
         doc.saveas(file)
         return file, words
 
-    def look(self, chance: random.Random, doc: object, any_hidden: bool) -> tuple["sheets.Look", list[str]]:
+    def look(self, chance: random.Random, doc: Any, any_hidden: bool) -> tuple["sheets.Look", list[str]]:
         kind = chance.randrange(4)
         if kind == 0:
             return sheets.by_linetype, []
@@ -104,13 +107,13 @@ class RandomSheets(unittest.TestCase):
             return lambda view, dashed: {"color": 5 if dashed else 2}, ["--hidden", "color=5"]
         return lambda view, dashed: {"linetype": "ACAD_ISO02W100" if dashed else "CONTINUOUS", "layer": "A"}, []
 
-    def blocks(self, doc: object, views: "sheets.Views", places: dict[str, tuple[float, float]], look: "sheets.Look", scale: float) -> None:
+    def blocks(self, doc: Any, views: "sheets.Views", places: dict[str, tuple[float, float]], look: "sheets.Look", scale: float) -> None:
         for number, (view, strokes) in enumerate(views.items()):
-            block = doc.blocks.new(f"B{number}")  # type: ignore[attr-defined]
+            block = doc.blocks.new(f"B{number}")
             for dashed, ends in strokes:
                 block.add_line(*ends, dxfattribs=look(view, dashed))
             x, y = places[view]
-            doc.modelspace().add_blockref(  # type: ignore[attr-defined]
+            doc.modelspace().add_blockref(
                 f"B{number}", (scale * x, scale * y), dxfattribs={"xscale": scale, "yscale": scale, "zscale": scale})
 
 
@@ -120,10 +123,17 @@ def plain_views(data: bytes, decimals: int) -> dict[str, list[sheet.Whole]]:
     for view, lines in views_of(lines_within(data)).items():
         whole = [(line.dashed, *(round(it * 10**decimals) for it in (*line.start, *line.end))) for line in lines]
         x, y = min(min(a, c) for _, a, _, c, _ in whole), min(min(b, d) for _, _, b, _, d in whole)
-        runs = [(dashed, a == c, *((a - x, *sorted((b - y, d - y))) if a == c else (b - y, *sorted((a - x, c - x)))))
-                for dashed, a, b, c, d in whole if (a, b) != (c, d)]
+        runs: list[sheet.Whole] = []
+        for dashed, a, b, c, d in whole:
+            at, low, high = (a - x, *sorted((b - y, d - y))) if a == c else (b - y, *sorted((a - x, c - x)))
+            runs += [(bool(dashed), a == c, at, low, high)] if low < high else []
         views[view] = sheet.plain(runs)
     return views
+
+
+def moved_ends(ends: "sheets.Ends", move: Callable[[float], float]) -> "sheets.Ends":
+    (a, b), (c, d) = ends
+    return (move(a), move(b)), (move(c), move(d))
 
 
 def in_pieces(chance: random.Random, views: "sheets.Views") -> "sheets.Views":
@@ -133,8 +143,7 @@ def in_pieces(chance: random.Random, views: "sheets.Views") -> "sheets.Views":
         pieces[view] = []
         for dashed, (start, end) in strokes:
             at = chance.uniform(0.2, 0.8)
-            middle = tuple(a + at * (b - a) for a, b in zip(start, end))
+            middle = start[0] + at * (end[0] - start[0]), start[1] + at * (end[1] - start[1])
             for ends in ((start, middle), (end, middle)):
-                noisy = tuple(tuple(it + chance.uniform(-1e-9, 1e-9) for it in point) for point in ends)
-                pieces[view].append((dashed, noisy))  # type: ignore[arg-type]
+                pieces[view].append((dashed, moved_ends(ends, lambda at: at + chance.uniform(-1e-9, 1e-9))))
     return pieces

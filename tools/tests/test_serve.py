@@ -108,7 +108,8 @@ class Serving(unittest.TestCase):
         with self.assertRaises(OSError):
             served.ask("/drawing", form(b"0" * (40 * MIB)))
         solid = {"job": "../x", "number": 1, "form": "dxf"}
-        for path, told in (("/stop", {"job": "x"}), ("/solid", solid), ("/page", {"job": None}), ("/settle", {})):
+        asked: list[tuple[str, dict[str, Any]]] = [("/stop", {"job": "x"}), ("/solid", solid), ("/page", {"job": None}), ("/settle", {})]
+        for path, told in asked:
             rows.append((f"{path} of no drawing", 404, "no such drawing", served.tell(path, **told)))
         row("a request that is no JSON", 400, "no JSON", "/stop", b"{", Content_Type="application/json")
         for name, status, words, answered in rows:

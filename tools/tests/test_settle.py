@@ -8,6 +8,7 @@ from drafting import program
 from drafting.drawing import VIEWS, entries_of, lines_of, views_of, written
 from drafting.panels import panels_of
 
+from .made import in_space
 from .support import EXAMPLES, draft, needs_program
 
 # The eight voids, not as deep: 35 solids, of which a view from behind tells some apart.
@@ -52,7 +53,7 @@ class Views(unittest.TestCase):
             sizes = (rng.randint(1, 4), rng.randint(1, 4), rng.randint(1, 4))
             cells = [(x, y, z) for x in range(sizes[0]) for y in range(sizes[1]) for z in range(sizes[2]) if rng.random() < 0.5]
             for view, (other, axes) in turned.items():
-                round_ = [tuple(sizes[at] - 1 - it if at in axes else it for at, it in enumerate(cell)) for cell in cells]
+                round_ = [in_space(sizes[at] - 1 - it if at in axes else it for at, it in enumerate(cell)) for cell in cells]
                 wanted = {(row.upright, row.number): styles for row, styles in panels_of(round_, sizes, other).items()}
                 found = {(row.upright, row.number): styles for row, styles in panels_of(cells, sizes, view).items()}
                 self.assertEqual(found, wanted, (view, sizes, cells))

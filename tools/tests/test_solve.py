@@ -91,7 +91,8 @@ class Files(unittest.TestCase):
             ended = draft("solve", *words)
             self.assertEqual(ended.status, 0, ended.said)
             self.assertIn("solid 1: 6 mm by 4 mm by 4 mm, volume 41 mm³", ended.out)
-            for wrong in (words[:2], [*words, EXAMPLES / "clevis.dxf"], []):
+            several: list[list[object]] = [words[:2], [*words, EXAMPLES / "clevis.dxf"], []]
+            for wrong in several:
                 self.assertEqual(draft("solve", *wrong).status, 2, wrong)
 
     def test_what_is_refused_in_one_of_several_files(self) -> None:

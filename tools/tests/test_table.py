@@ -104,7 +104,7 @@ class Tables(unittest.TestCase):
         words = [word for word in words_of("-", "--state", self.room / "rows", "--json") if word != "--csv"]
         text = subprocess.run(words, input=names[0] + b"\n", capture_output=True)
         row = json.loads(text.stdout)
-        self.assertEqual((row["file"], row["status"], row["solids"]), (os.fsdecode(names[0]), 0, 1))
+        self.assertEqual((row["drawing"]["file"], row["status"], row["count"]), (os.fsdecode(names[0]), 0, 1))
         self.assertEqual((text.returncode, text.stderr), (0, b""))
 
     def test_a_drawing_costs_itself_alone(self) -> None:
@@ -175,7 +175,7 @@ class Progress(unittest.TestCase):
     def test_rows_that_are_kept(self) -> None:
         with tempfile.TemporaryDirectory() as room:
             state = pathlib.Path(room)
-            row = {"status": 0, "solids": 1, "rounds": 0, "seconds": 0.5, "message": "volume 1"}
+            row = {"status": 0, "solids": 1, "rounds": 0, "seconds": 0.5, "message": "volume 1", "record": {}}
             (state / "rows").write_bytes(b'no row\n{"key": "a"}\n' + json.dumps({"key": "b", **row}).encode() + b'\n{"key": "c", "st')
             rows = Rows(state)
             self.assertEqual(rows.rows, {"b": row})

@@ -49,7 +49,7 @@ def with_dimensions_and_a_section(doc: Any, page: Any, views: list[Any]) -> None
 
 
 def shape_of(boxes: list[Box]) -> "Part.Shape":
-    shape = None
+    shape: Any = None
     for word, low, high in boxes:
         sides = [SIZE * (b - a) for a, b in zip(low, high)]
         box = Part.makeBox(*sides, FreeCAD.Vector(*(SIZE * it for it in low)))

@@ -119,7 +119,8 @@ class Placed(InAFolder):
         """A circle or a view with a text in it, in line with the two."""
         x, y = self.places["SIDE"]
         with_circle = self.saved(self.two("SIDE"), self.places)
-        doc = sheets.ezdxf.readfile(with_circle)
+        import ezdxf
+        doc = ezdxf.readfile(with_circle)
         doc.modelspace().add_ellipse((x + 2, y + 2), (2, 0), 0.5)
         doc.saveas(with_circle)
         self.assertRegex(self.refusal(with_circle, "--angle", "third"), r"what may be the third one .*--leave-out group=\d")
@@ -207,7 +208,7 @@ class Asked(InAFolder):
     @needs_module("ezdxf", "python3-ezdxf")
     def test_an_angle_in_which_no_solid_has_the_views(self) -> None:
         """It isn't that one; where some solid has them in either, they are refused."""
-        views = {view: [(False, ((a, b), (c, d))) for a, b, c, d in lines] for view, lines in (("FRONT", FRONT), ("TOP", TOP))}
+        views: sheets.Views = {view: [(False, ((a, b), (c, d))) for a, b, c, d in lines] for view, lines in (("FRONT", FRONT), ("TOP", TOP))}
         file = self.saved(views, {"FRONT": (0, 0), "TOP": (0, 10)})
         with self.assertRaisesRegex(Refused, "recon lists in third angle 3 solids; in first angle 3 solids"):
             asking.ask(str(file), arguments("solve", file), lambda text: None)

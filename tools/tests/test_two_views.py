@@ -14,6 +14,7 @@ from drafting.cells import grid_round
 from drafting.drawing import VIEWS, lines_within, strokes_in, views_of, written
 from drafting.panels import BLANK, DASHED, FRAMES, SOLID, Cell, grid_of, sheet_of
 
+from . import made
 from .made import drawn, random_cuts, random_solid, without
 from .parts import boxes_of, cells_of, moved_to_zero
 from .support import EXAMPLES, needs_command, needs_long, needs_program
@@ -70,7 +71,7 @@ def two_of(cells: frozenset[Cell], missing: str) -> tuple[Shown, ...]:
 
 def every_set() -> Iterable[frozenset[Cell]]:
     """All sets of cells of the box but the empty one."""
-    cells = list(itertools.product(*map(range, SIZES)))
+    cells = list(made.cells_of(*map(range, SIZES)))
     return (frozenset(cell for cell, bit in zip(cells, bits) if bit) for bits in itertools.product((0, 1), repeat=len(cells)) if any(bits))
 
 

@@ -7,7 +7,7 @@ import time
 from drafting import controls
 from drafting.answers import answer_of
 from drafting.cells import grid_round
-from drafting.drawing import lines_within, strokes_in
+from drafting.drawing import Stroke, lines_within, strokes_in
 from drafting.panels import DASHED, shown_of
 from drafting.triangles import edges_of, triangles_of, volume_of
 
@@ -336,6 +336,6 @@ class Viewer(Opened):
         self.browser.dark(False)
 
 
-def views_of_voids() -> dict[str, object]:
+def views_of_voids() -> dict[str, list[Stroke]]:
     """The strokes of the drawing of two cubes with voids, one for each run."""
-    return dict(strokes_in(lines_within(file_of(voids(2)).encode()), 0))
+    return strokes_in(lines_within(file_of(voids(2)).encode()), 0)
