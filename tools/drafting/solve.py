@@ -8,7 +8,7 @@ Of a sheet with circles and arcs it says which solids made of boxes and these ro
 """
 import argparse
 
-from . import asking, faults, files, program, visible
+from . import asking, faults, files, left_open, program, visible
 from .answering import Answered, Readings
 from .answers import CUT, FAULT, answer_of, have_views, sizes_of
 from .messages import many, say, write_result
@@ -22,7 +22,7 @@ UNEXPECTED = 12
 
 
 def add_arguments(parser: argparse.ArgumentParser) -> None:
-    parser.add_argument("drawing", metavar="IN.dxf", nargs="?", help="the drawing or sheet; - for standard input")
+    parser.add_argument("drawing", metavar="IN.dxf", nargs="?", help="the drawing, a sheet or a document of FreeCAD; - for standard input")
     parser.add_argument("--answer", metavar="OUT.txt", help="a file for what recon writes of the drawing")
     parser.add_argument("--list", type=int, default=LISTED, metavar="N", help=f"how many solids are told one by one (else {LISTED})")
     parser.add_argument("--expect", type=int, metavar="N", help=f"end with status {UNEXPECTED} where there are more or fewer solids than N")
@@ -104,6 +104,7 @@ def run(arguments: argparse.Namespace) -> int:
         say(f"draft solve: {arguments.answer} has the solids in a mirror, x turned round, as recon read them")
     listed = max(0, arguments.list)
     rows = rounded_told(asked, asked.rounds, listed) if asked.rounds else told(asked, listed)
+    rows += left_open.told(asked, arguments)
     write_result("".join(f"{row}\n" for row in rows), None)
     count = len(asked.kept) if asked.rounds else answer_of(asked.run.text, 0).listed
     if asked.missing and count > 1:
