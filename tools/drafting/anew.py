@@ -38,7 +38,7 @@ class Lines:
             if it.number in SMOOTH:
                 self.smooth += not it.hidden
             elif with_hidden or not it.hidden:
-                self.take(it, Source("EDGE", view.label, "", view=view.name))
+                self.take(it, Source("line", view.label, "", view=view.name))
 
     def take(self, it: Projected, source: Source) -> None:
         """Takes an edge as a line, as a part of a circle, or as what isn't read."""
@@ -46,13 +46,13 @@ class Lines:
         if kind == "Line":
             self.edges.append(Edge(it.hidden, it.places[0], it.places[-1], COLOUR, source))
         elif arc := it.arc():
-            self.arcs.append(arc._replace(source=source))
+            self.arcs.append(arc._replace(source=source._replace(kind="curve")))
         elif (ends := ends_of(it.places)):
             self.edges.append(Edge(it.hidden, *ends, COLOUR, source._replace(kind="SPLINE")))
         elif (bow := curves.through(it.places)):
-            self.arcs.append(Arc(it.hidden, *bow, source))
+            self.arcs.append(Arc(it.hidden, *bow, source._replace(kind="curve")))
         else:
-            self.unread.append(Unread(f"is a {kind}", box_of(it.places), source))
+            self.unread.append(Unread(f"is a {kind}", box_of(it.places), source._replace(kind="curve")))
 
     @property
     def box(self) -> Box:

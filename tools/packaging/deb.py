@@ -74,6 +74,9 @@ def fill(tree: pathlib.Path, source: proved.Source, built: proved.Built) -> None
     for file in sorted((TOP / "tools" / "drafting").rglob("*")):
         if file.is_file() and "__pycache__" not in file.parts:
             write(tree / "usr" / "lib" / "python3" / "dist-packages" / file.relative_to(TOP / "tools"), file.read_bytes())
+    for file in sorted((TOP / "tools" / "freecad" / "Recon").rglob("*")):
+        if file.is_file() and "__pycache__" not in file.parts:
+            write(share / "recon" / file.relative_to(TOP / "tools"), file.read_bytes())
     for name, made in (("recon", pages.of_recon), ("draft", pages.of_draft), ("recon-check-log", pages.of_check_log)):
         write(share / "man" / "man1" / f"{name}.1.gz", packed(made()))
     for name, text in pages.completions().items():

@@ -31,7 +31,7 @@ def box(width: float, depth: float, height: float, x: float = 0, y: float = 0, z
 
 def of_boxes(boxes: Sequence[Box], size: float = 10) -> Any:
     """The part of boxes that are added and cut off, each unit so large."""
-    shape = None
+    shape: Any = None
     for word, low, high in boxes:
         one = Part.makeBox(*(size * (b - a) for a, b in zip(low, high)), vector([size * it for it in low]))
         shape = one if shape is None else shape.fuse(one) if word == "add" else shape.cut(one)
@@ -51,6 +51,13 @@ def corner() -> Any:
     for x, y, z in ((0, 0, 0), (20, 20, 20), (20, 0, 10)):
         shape = shape.cut(box(10, 10, 10, x, y, z))
     return shape
+
+
+def tell(view: Any, told: dict[str, object]) -> None:
+    """Has a view show hidden lines, and be as it is told otherwise."""
+    view.HardHidden = True
+    for name, value in told.items():
+        setattr(view, name, value)
 
 
 class Document:
@@ -86,8 +93,7 @@ class Document:
             group.addProjection(name)
         group.ScaleType, group.Scale = "Custom", scale
         for view in group.Views:
-            for name, value in {"HardHidden": True, **told}.items():
-                setattr(view, name, value)
+            tell(view, told)
         return group
 
     def single(self, page: Any, sources: Sequence[Any], direction: Sequence[float], right: Sequence[float], scale: float = 1.0,
@@ -95,8 +101,7 @@ class Document:
         view = self.add("TechDraw::DrawViewPart", "View")
         page.addView(view)
         view.Source, view.Direction, view.XDirection, view.ScaleType, view.Scale = list(sources), vector(direction), vector(right), "Custom", scale
-        for name, value in {"HardHidden": True, **told}.items():
-            setattr(view, name, value)
+        tell(view, told)
         return view
 
     def saved(self, folder: str, name: str = "made") -> pathlib.Path:

@@ -1,7 +1,6 @@
 """Pages in documents of FreeCAD, as `draft` reads them: the part of the document is listed, where it stands there, and what can't be read is
 refused by its cause. Among them are the traps that such documents set."""
 import argparse
-import math
 import pathlib
 import random
 import tempfile
@@ -38,7 +37,7 @@ class Told(NamedTuple):
 
     said: list[str]
     part: list[int]
-    count: int
+    solids: int
     asked: asking.Asked
 
 
@@ -185,7 +184,7 @@ LISTED: dict[str, tuple[Make, tuple[str, ...], str]] = {
 
 # ---- documents that are refused
 
-def two_parts(one: "Document", words: tuple[str, ...] = ()) -> Any:
+def two_parts(one: "Document") -> Any:
     page = one.page()
     features = [one.feature(shape, label) for shape, label in ((corner(), "Corner"), (box(10, 20, 30), "Block"))]
     for feature in features:
@@ -219,7 +218,7 @@ REFUSED: dict[str, tuple[Make, str]] = {
     "perspective": (lambda one: in_a_group(one, corner(), Perspective=True), "is in perspective"),
     "front and rear alone": (lambda one: in_a_group(one, corner(), ("Rear",)), "views along two axes are needed.*Front, Rear show one"),
     "a part aslant to the page": (
-        lambda one: one.group(one.page(), [one.feature(corner(), placed=placement(degrees=30))]), "EDGE of the page's view .* is oblique"),
+        lambda one: one.group(one.page(), [one.feature(corner(), placed=placement(degrees=30))]), "a line of the page's view .* from its lower left corner on .* is oblique"),
     "a chamfer": (lambda one: in_a_group(one, chamfered()), "it is oblique"),
     "a sphere": (lambda one: in_a_group(one, box(20, 20, 20).fuse(Part.makeSphere(15, documents.vector((10, 10, 20))))), "no line goes on|no line meets|BSpline|oblique|Circle"),
     "a surface": (lambda one: in_a_group(one, Part.makePlane(10, 10)), "has no solid in it"),
@@ -233,7 +232,7 @@ class Pages(unittest.TestCase):
         for name, (make, words, said) in LISTED.items():
             with self.subTest(name):
                 it = of_made(make, *words)
-                self.assertEqual(len(it.part), 1, (it.said, it.count))
+                self.assertEqual(len(it.part), 1, (it.said, it.solids))
                 self.assertIn(said, "\n".join(it.said))
 
     def test_what_cant_be_read_is_refused_by_its_cause(self) -> None:
@@ -243,8 +242,8 @@ class Pages(unittest.TestCase):
             self.assertNotIn("--as-is", str(refused.exception))
 
     def test_pages_and_parts_by_their_names(self) -> None:
-        for make, words in ((two_pages, ("--sheet-page", "Second")), (two_parts, ("--part", "Corner"))):
-            self.assertEqual(len(of_made(make, *words).part), 1)
+        self.assertEqual(len(of_made(two_pages, "--sheet-page", "Second").part), 1)
+        self.assertEqual(len(of_made(two_parts, "--part", "Corner").part), 1)
         with self.assertRaisesRegex(Refused, "no page is called Third: there are First, Second"):
             of_made(two_pages, "--sheet-page", "Third")
         with self.assertRaisesRegex(Refused, "none of a part called Ring"):
@@ -252,9 +251,9 @@ class Pages(unittest.TestCase):
 
     def test_ambiguous_pages_of_the_quartered_cube(self) -> None:
         it = of_made(lambda one: in_a_group(one, quartered()))
-        self.assertEqual((it.count, len(it.part)), (3, 1))
+        self.assertEqual((it.solids, len(it.part)), (3, 1))
         it = of_made(lambda one: in_a_group(one, quartered(), ("Top", "Right", "Left")))
-        self.assertEqual((it.count, len(it.part)), (2, 1))
+        self.assertEqual((it.solids, len(it.part)), (2, 1))
 
     def test_random_parts(self) -> None:
         self.some(RANDOM)
@@ -289,7 +288,7 @@ class Pages(unittest.TestCase):
 class Traps(unittest.TestCase):
     def test_bodies_of_part_design_are_there_without_a_window(self) -> None:
         it = of_made(lambda one: in_a_body(one))
-        self.assertEqual((len(it.part), it.count), (1, 1), it.said)
+        self.assertEqual((len(it.part), it.solids), (1, 1), it.said)
 
     def test_a_page_without_hidden_lines_isnt_unique(self) -> None:
         with tempfile.TemporaryDirectory() as folder:
@@ -320,7 +319,7 @@ class Traps(unittest.TestCase):
     def test_faces_of_one_plane_are_joined(self) -> None:
         unrefined = box(10, 10, 10).fuse(box(10, 10, 20, 10))
         it = of_made(lambda one: in_a_group(one, unrefined))
-        self.assertEqual((len(it.part), it.count), (1, 1), it.said)
+        self.assertEqual((len(it.part), it.solids), (1, 1), it.said)
         self.assertRegex("\n".join(it.said), r"changed: \d faces joined with others in their plane")
 
     def test_the_document_is_as_it_was(self) -> None:
