@@ -45,6 +45,8 @@ def stood(asked: Asked) -> Iterator[Stood]:
         raise Refused("the drawing is of no page of FreeCAD")
     part = own_part(asked.page)
     for shape in shapes_of(asked):
-        its = placed(shape, asked.page)
-        more, less = its.cut(part), part.cut(its)
-        yield Stood(its, *(it if it.Volume > NOISE * part.Volume else None for it in (more, less)))
+        its, noise = placed(shape, asked.page), NOISE * part.Volume
+        if abs(its.Volume - part.Volume) <= noise and its.common(part).Volume >= part.Volume - noise:
+            yield Stood(its)
+            continue
+        yield Stood(its, *(it if it.Volume > noise else None for it in (its.cut(part), part.cut(its))))

@@ -276,10 +276,10 @@ def refuse_oblique(path: str | None, placed: Placed) -> None:
     for view, group in placed.views.items():
         run = next((run for run in group.runs if run.oblique), None)
         if run is not None:
-            x, y, from_where = (*group.box[:2], "from its lower left corner on ") if run.edge.source.is_drawn else (0.0, 0.0, "")
+            x, y, behind = (*group.box[:2], ", from its lower left corner on") if run.edge.source.is_drawn else (0.0, 0.0, "")
             a, b, c, d = (round(it - least, 9) + 0.0 for it, least in zip((*run.edge.start, *run.edge.end), (x, y, x, y)))
             off = min(abs(a - c), abs(b - d))
-            raise Refused(f"in {view} a {where(run.edge.source, path)} goes {from_where}from {a:.9g}, {b:.9g} to {c:.9g}, {d:.9g}: it is oblique, off by "
+            raise Refused(f"in {view} a {where(run.edge.source, path)} goes from {a:.9g}, {b:.9g} to {c:.9g}, {d:.9g}{behind}: it is oblique, off by "
                           f"{off:.3g}, and recon reads level and upright edges alone (what is noise is said by --tolerance)")
 
 

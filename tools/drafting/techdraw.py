@@ -198,8 +198,9 @@ def solids_of(sources: Sequence[Any], tell: Tell) -> Any:
     if not solids:
         raise Refused(f"{labels_of(sources)} has no solid in it")
     faces, edges = (sum(map(count, shapes)) - sum(map(count, solids)) for count in (lambda it: len(it.Faces), lambda it: len(it.Edges)))
-    if faces > 0 or edges > 0:
-        tell(f"left out: {many(max(0, faces), 'face')} and {many(max(0, edges), 'edge')} of {labels_of(sources)} that are of no solid")
+    for count, what in ((faces, "face"), (edges, "edge")):
+        if count > 0:
+            tell(f"left out: {many(count, what)} of {labels_of(sources)}, of no solid")
     return Part.makeCompound(solids)
 
 

@@ -130,6 +130,23 @@ def assembled(one: "Document", *parts: Any) -> Any:
     return parts[0].multiFuse(parts[1:])
 
 
+def linked_often(one: "Document") -> Any:
+    """A link that stands for several of a part."""
+    link = one.add("App::Link", "Link")
+    link.LinkedObject, link.ElementCount, link.ShowElement = one.feature(box(10, 10, 10)), 3, False
+    link.PlacementList = [placement((0, 0, 0)), placement((20, 0, 0)), placement((40, 0, 10))]
+    one.doc.recompute()
+    one.group(one.page(), [link])
+    return Part.getShape(link)
+
+
+def with_rounded_corners(one: "Document") -> Any:
+    """A part whose page draws smooth edges and no hidden ones."""
+    shape = box(40, 30, 20)
+    upright = [edge for edge in shape.Edges if edge.BoundBox.ZLength > 19]
+    return in_a_group(one, shape.makeFillet(5, upright), ("Top", "Right", "Rear"), HardHidden=False)
+
+
 def by_a_spreadsheet(one: "Document") -> Any:
     sheet, made = one.add("Spreadsheet::Sheet", "Sizes"), one.add("Part::Box", "Box")
     for cell, value in (("A1", "12.5"), ("A2", "=A1 * 2"), ("A3", "=A2 - 5")):
@@ -174,6 +191,10 @@ LISTED: dict[str, tuple[Make, tuple[str, ...], str]] = {
     "a link": (linked, (), ""),
     "parts that touch": (lambda one: assembled(one, box(10, 10, 10), box(10, 10, 20, 10)), (), "2 solids are taken as one part"),
     "parts that stand apart": (lambda one: assembled(one, box(10, 10, 10), box(10, 10, 20, 20)), (), "2 solids are taken as one part"),
+    "a link that stands for several": (linked_often, (), "3 solids are taken as one part"),
+    "rounded corners": (with_rounded_corners, (), "left out: 6 smooth edges, which the page draws"),
+    "lengths in thirds, far from the middle": (
+        lambda one: in_a_group(one, box(10, 10 / 3, 20 / 3, 1234.5, -99).cut(box(10 / 3, 10 / 3, 10 / 3, 1234.5, -99))), (), "lengths multiplied by 3"),
     "a spreadsheet": (by_a_spreadsheet, (), ""),
     "a section and a dimension": (with_a_section, (), "left out: 1 section, which isn't read"),
     "coarse lines, isolines and smooth ones": (
@@ -218,9 +239,9 @@ REFUSED: dict[str, tuple[Make, str]] = {
     "perspective": (lambda one: in_a_group(one, corner(), Perspective=True), "is in perspective"),
     "front and rear alone": (lambda one: in_a_group(one, corner(), ("Rear",)), "views along two axes are needed.*Front, Rear show one"),
     "a part aslant to the page": (
-        lambda one: one.group(one.page(), [one.feature(corner(), placed=placement(degrees=30))]), "a line of the page's view .* from its lower left corner on .* is oblique"),
+        lambda one: one.group(one.page(), [one.feature(corner(), placed=placement(degrees=30))]), "a line of the page's view .* from its lower left corner on: it is oblique"),
     "a chamfer": (lambda one: in_a_group(one, chamfered()), "it is oblique"),
-    "a sphere": (lambda one: in_a_group(one, box(20, 20, 20).fuse(Part.makeSphere(15, documents.vector((10, 10, 20))))), "no line goes on|no line meets|BSpline|oblique|Circle"),
+    "a torus": (lambda one: in_a_group(one, Part.makeTorus(20, 5)), "a curve of the page's view Top is a BSplineCurve"),
     "a surface": (lambda one: in_a_group(one, Part.makePlane(10, 10)), "has no solid in it"),
 }
 

@@ -12,9 +12,9 @@ import zipfile
 from collections.abc import Callable
 from typing import Any
 
-import FreeCAD
-import FreeCADGui as Gui
-from PySide import QtCore, QtGui
+import FreeCAD  # type: ignore[import]
+import FreeCADGui as Gui  # type: ignore[import]
+from PySide import QtCore, QtGui  # type: ignore[import]
 
 FOLDER = pathlib.Path(os.environ["RECON_TRIED"])
 PICTURES = os.environ.get("RECON_PICTURES", "")
@@ -83,7 +83,7 @@ def opened(name: str) -> Any:
 
 def asked(doc: Any) -> Any:
     """The panel of a document's page, once it is over."""
-    from recon_addon import commands
+    from recon_addon import commands  # type: ignore[import]
     FreeCAD.setActiveDocument(doc.Name)
     Gui.runCommand("Recon_Ambiguous")
     return ended(commands.Ambiguous.panel)
@@ -264,22 +264,48 @@ def solids_from_drawings() -> None:
         closed(doc)
 
 
-def in_german() -> None:
-    translator = QtCore.QTranslator()
-    from recon_addon import RESOURCES
-    same(translator.load(str(RESOURCES / "translations" / "Recon_de.qm")), True)
-    same(translator.translate("Recon", "AMBIGUOUS"), "MEHRDEUTIG")
-    QtCore.QCoreApplication.installTranslator(translator)
+def gone_meanwhile() -> None:
+    """The solids' document is closed by hand, and then the page's: the panel says so."""
     doc = opened("quartered")
     panel = asked(doc)
-    QtCore.QCoreApplication.removeTranslator(translator)
+    FreeCAD.closeDocument(panel.scene.name)
+    panel.solids.setCurrentRow(1)
+    FreeCAD.closeDocument(doc.Name)
+    buttons(panel)[0].click()
+    ended(panel)
+    same((panel.state, panel.sentence.text()), ("refused", "The page isn't there any more."))
+    panel.reject()
+
+
+def preferences() -> None:
+    """The page of preferences, as FreeCAD makes it of its form."""
+    from recon_addon import RESOURCES
+    form = Gui.PySideUic.loadUi(str(RESOURCES / "ui" / "preferences.ui"))
+    same(sorted(str(it.property("prefEntry").data(), "utf-8") for it in form.children() if it.property("prefEntry")), ["Program", "Python", "Solids", "Tools"])
+
+    def pictured_then_closed() -> None:
+        pictured("preferences")
+        QtGui.QApplication.activeModalWidget().reject()
+
+    if IS_DRAWN:
+        QtCore.QTimer.singleShot(3000, pictured_then_closed)
+        Gui.showPreferences("Recon")
+
+
+def in_german() -> None:
+    """The window is in German once FreeCAD's is."""
+    Gui.setLocale("German")
+    doc = opened("quartered")
+    panel = asked(doc)
+    pictured("german")
+    Gui.setLocale("English")
     same(panel.verdict.text(), "MEHRDEUTIG")
     holds("Teil des Dokuments", listed(panel)[0])
     closed(doc)
 
 
 STEPS = (loads, three_solids_and_the_click, single_views_get_a_further_one, without_hidden_lines, a_hole_and_a_link, refusals,
-         what_it_stands_on_is_missing, cancelled, faults_of_recon, solids_from_drawings, in_german)
+         what_it_stands_on_is_missing, cancelled, faults_of_recon, gone_meanwhile, solids_from_drawings, preferences, in_german)
 
 
 def run() -> None:

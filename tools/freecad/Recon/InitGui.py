@@ -1,17 +1,16 @@
 """The workbench: its two commands, in a menu and a toolbar, and its page of preferences."""
-import FreeCADGui as Gui
+import FreeCADGui as Gui  # type: ignore[import]
 
 
-class ReconWorkbench(Gui.Workbench):
-    """A workbench with the two commands."""
+class ReconWorkbench(Gui.Workbench):  # type: ignore[misc]
+    """A workbench with the two commands. FreeCAD runs this file with no names of its own around: whatever is used is imported where it is."""
 
-    # FreeCAD runs this file with no names of its own around: whatever is used is imported where it is used.
-    from recon_addon import RESOURCES as _resources
-    from recon_addon.words import translate as _translate
-
-    MenuText = "Recon"
-    ToolTip = _translate("Workbench", "Is a drawing ambiguous? Every solid that has its views")
-    Icon = str(_resources / "icons" / "Recon.svg")
+    def __init__(self) -> None:
+        from recon_addon import RESOURCES
+        from recon_addon.words import translate
+        told = type(self)
+        told.MenuText, told.ToolTip = "Recon", translate("Workbench", "Is a drawing ambiguous? Every solid that has its views")
+        told.Icon = str(RESOURCES / "icons" / "Recon.svg")
 
     def Initialize(self) -> None:
         from recon_addon import commands

@@ -68,8 +68,8 @@ class Asking:
         """What the program says: how many solids there are, whether these are all, and of which kind they are."""
         from drafting.answers import WHOLE
         head = asked.run.text.partition("\n")[0]
-        first = asked.rounds and next(iter(asked.rounds.kept), asked.rounds.first)
-        is_whole = bool(WHOLE.fullmatch(head)) if not asked.rounds else first is not None and first.is_whole
+        first = next(iter(asked.rounds.kept), asked.rounds.first) if asked.rounds else None
+        is_whole = first.is_whole if first else not asked.rounds and bool(WHOLE.fullmatch(head))
         for text in [*(first.outcome.told() if first else []), *(asked.rounds.told() if asked.rounds else [])]:
             tell(told=text)
         lacking = [view.label for view in asked.page.lacking] if asked.page else []

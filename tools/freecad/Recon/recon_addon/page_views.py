@@ -2,7 +2,7 @@
 from collections.abc import Mapping, Sequence
 from typing import Any
 
-import FreeCAD
+import FreeCAD  # type: ignore[import]
 
 from .words import translate
 

@@ -4,10 +4,10 @@ import zipfile
 from collections.abc import Callable
 from typing import Any
 
-import FreeCAD
-import FreeCADGui as Gui
-import Part
-from PySide import QtCore, QtGui
+import FreeCAD  # type: ignore[import]
+import FreeCADGui as Gui  # type: ignore[import]
+import Part  # type: ignore[import]
+from PySide import QtCore, QtGui  # type: ignore[import]
 
 from . import page_views, scene, settings
 from .child import Child, Event
@@ -46,7 +46,8 @@ class Panel:
         column.addWidget(self.told)
         self.cancel.clicked.connect(self.stop)
         self.solids.currentRowChanged.connect(lambda row: self.chosen(row + 1))
-        self.state, self.is_told, self.child = "", False, None
+        self.state, self.is_told = "", False
+        self.child: Child | None = None
 
     # ---- asking
 
@@ -235,11 +236,20 @@ class PagePanel(Panel):
 
     def __init__(self, page: Any) -> None:
         super().__init__(translate("Recon", "Recon: {}", page.Label))
-        self.page, self.doc = page, page.Document.Name
+        self.doc, self.name = page.Document.Name, page.Name
         self.scene = scene.Scene()
         self.views: dict[str, Any] = {}
         self.ways: list[Event] = []
         self.part = 0
+
+    @property
+    def page(self) -> Any:
+        """The page; refused where it is gone."""
+        doc = FreeCAD.listDocuments().get(self.doc)
+        page = doc.getObject(self.name) if doc else None
+        if page is None:
+            raise settings.Lacking(translate("Recon", "The page isn't there any more."))
+        return page
 
     def ask(self, child: Child) -> None:
         """Takes the page here, since links to other documents are known here alone; it is drawn by the other process."""
@@ -247,9 +257,7 @@ class PagePanel(Panel):
         from drafting import anew, techdraw
         self.forget()
         self.ways, self.part, told = [], 0, list[str]()
-        if self.doc not in FreeCAD.listDocuments():
-            raise settings.Lacking(translate("Recon", "The document of the page is closed."))
-        page, views = techdraw.taken(self.page.Document, self.page.Name, None, told.append)
+        page, views = techdraw.taken(self.page.Document, self.name, None, told.append)
         self.views = {name: view.of for name, view in views.items()}
         child.begin(anew.saved(page, told, child.folder), [])
 
@@ -306,11 +314,18 @@ class PagePanel(Panel):
 
     def add_views(self) -> None:
         """Adds the views to the page, and asks again."""
-        page_views.add(self.page, next(iter(self.views.values())), self.ways)
-        self.begin()
+        self.change(lambda: page_views.add(self.page, next(iter(self.views.values())), self.ways))
 
     def show_hidden(self) -> None:
-        page_views.show_hidden([view for view in self.views.values() if not view.HardHidden])
+        """Has the page show its hidden lines, and asks again."""
+        self.change(lambda: page_views.show_hidden([view for view in self.views.values() if not view.HardHidden]))
+
+    def change(self, do: Callable[[], Any]) -> None:
+        """Changes the page; what was taken away of it meanwhile is told when it is asked again."""
+        try:
+            do()
+        except (settings.Lacking, ReferenceError):
+            pass
         self.begin()
 
     def save_fault(self, path: str = "") -> None:
@@ -338,7 +353,8 @@ class DrawingPanel(Panel):
 
     def __init__(self, path: str) -> None:
         super().__init__(translate("Recon", "Recon: {}", pathlib.Path(path).name))
-        self.path, self.group = path, None
+        self.path = path
+        self.group: Any = None
         self.shapes: list[Any] = []
 
     def ask(self, child: Child) -> None:

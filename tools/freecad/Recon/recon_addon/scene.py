@@ -2,10 +2,10 @@
 from collections.abc import Mapping
 from typing import Any
 
-import FreeCAD
-import FreeCADGui as Gui
-import Part
-from PySide import QtGui
+import FreeCAD  # type: ignore[import]
+import FreeCADGui as Gui  # type: ignore[import]
+import Part  # type: ignore[import]
+from PySide import QtGui  # type: ignore[import]
 
 from .words import translate
 
@@ -44,13 +44,19 @@ class Scene:
 
     def __init__(self) -> None:
         self.doc: Any = None
+        self.name = ""
         self.before = FreeCAD.ActiveDocument.Name if FreeCAD.ActiveDocument else ""
         self.shown: dict[int, list[Any]] = {}
 
+    def is_open(self) -> bool:
+        """Whether its document is there; whoever closes that doesn't want to see it."""
+        return self.name in FreeCAD.listDocuments()
+
     def put(self, number: int, files: Mapping[str, str]) -> None:
         """Takes in a solid, by the files of its shapes."""
-        if self.doc is None:
-            self.doc = FreeCAD.newDocument("Recon", temp=True)
+        if not self.is_open():
+            self.doc, self.shown = FreeCAD.newDocument("Recon", temp=True), {}
+            self.name = self.doc.Name
             self.doc.Label = translate("Recon", "Solids that recon lists")
         names = {"shape": translate("Recon", "Solid {}", number), "more": translate("Recon", "more than the part"),
                  "less": translate("Recon", "less than the part")}
@@ -66,20 +72,20 @@ class Scene:
 
     def show(self, number: int) -> None:
         """Shows one solid alone."""
-        for other, objects in self.shown.items():
+        for other, objects in self.shown.items() if self.is_open() else ():
             for it in objects:
                 it.ViewObject.Visibility = other == number
 
     def fit(self) -> None:
         """Brings them to the front, and has all of them fit into the window, seen from above a corner."""
-        if self.doc:
+        if self.is_open():
             to_front(self.doc)
 
     def close(self) -> None:
         """Closes the document, and goes back to the one before."""
-        if self.doc and self.doc.Name in FreeCAD.listDocuments():
-            FreeCAD.closeDocument(self.doc.Name)
-        self.doc, self.shown = None, {}
+        if self.is_open():
+            FreeCAD.closeDocument(self.name)
+        self.doc, self.name, self.shown = None, "", {}
         if self.before in FreeCAD.listDocuments():
             FreeCAD.setActiveDocument(self.before)
 

@@ -4,7 +4,7 @@ import pathlib
 import shutil
 import sys
 
-import FreeCAD
+import FreeCAD  # type: ignore[import]
 
 from . import FOLDER
 from .words import translate

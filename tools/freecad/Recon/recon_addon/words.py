@@ -1,5 +1,5 @@
 """Words in the language of FreeCAD's window, as far as Resources/translations has them; what `draft` and recon say is in English."""
-import FreeCAD
+import FreeCAD  # type: ignore[import]
 
 
 def translate(context: str, text: str, *values: object) -> str:

@@ -138,10 +138,6 @@
       <translation type="unfinished" />
     </message>
     <message>
-      <source>The document of the page is closed.</source>
-      <translation type="unfinished" />
-    </message>
-    <message>
       <source>The document's part has these views, and isn't listed: that is a fault of recon and not of the page. Please send the file that the button saves: it has the part, the drawing, recon's answer and the versions.</source>
       <translation type="unfinished" />
     </message>
@@ -163,6 +159,10 @@
     </message>
     <message>
       <source>The most solids that are listed</source>
+      <translation type="unfinished" />
+    </message>
+    <message>
+      <source>The page isn't there any more.</source>
       <translation type="unfinished" />
     </message>
     <message>

@@ -140,10 +140,6 @@ die es entscheidet: {}</translation>
       <translation>Das Python 3, das fragt</translation>
     </message>
     <message>
-      <source>The document of the page is closed.</source>
-      <translation>Das Dokument des Blatts ist geschlossen.</translation>
-    </message>
-    <message>
       <source>The document's part has these views, and isn't listed: that is a fault of recon and not of the page. Please send the file that the button saves: it has the part, the drawing, recon's answer and the versions.</source>
       <translation>Der Teil des Dokuments hat diese Ansichten und ist nicht genannt: Das ist ein Fehler von recon und nicht des Blatts. Bitte senden Sie die Datei, die der Knopf speichert: Sie enthält den Teil, die Zeichnung, recons Antwort und die Versionen.</translation>
     </message>
@@ -166,6 +162,10 @@ die es entscheidet: {}</translation>
     <message>
       <source>The most solids that are listed</source>
       <translation>So viele Körper werden höchstens genannt</translation>
+    </message>
+    <message>
+      <source>The page isn't there any more.</source>
+      <translation>Das Blatt ist nicht mehr da.</translation>
     </message>
     <message>
       <source>The process that asks ended with status {}: {}</source>
