@@ -32,6 +32,14 @@ TOWARDS = {"FRONT": (1, -1), "TOP": (2, 1), "SIDE": (0, 1), "LEFT": (0, -1), "RE
 Frame = tuple[Any, Any, Any]
 
 
+class SeveralParts(Refused):
+    """Views of several parts, one of which is meant."""
+
+    def __init__(self, text: str, labels: list[str]) -> None:
+        super().__init__(text)
+        self.labels = labels
+
+
 class Looking(NamedTuple):
     """A view of the document, the direction towards its viewer, and its right and upward direction."""
 
@@ -89,6 +97,8 @@ def by_parts(page: Any, tell: Tell) -> dict[tuple[str, ...], list[Any]]:
         if view.TypeId not in VIEW_TYPES:
             kind = view.TypeId.rpartition("::")[2]
             left[OTHERS.get(kind, kind)] += 1
+            if getattr(view, "Arbitrary", False):
+                tell(f"warning: {view.Label} says {view.FormatSpec} in words of its own, which aren't compared with the part")
         elif not sources_of(view):
             raise Refused(f"{view.Label} of page {page.Label} shows nothing: what it showed isn't in the document any more")
         else:
@@ -108,9 +118,11 @@ def views_of_part(page: Any, named: str | None, tell: Tell) -> list[Any]:
     known = {key: {labels_of(sources_of(views[0])), *(it.Name for it in sources_of(views[0]))} for key, views in parts.items()}
     fit = [key for key, views in parts.items() if (named in known[key] if named is not None else len(views) > 1)]
     told = {key: f"{many(len(views), 'view')} of {labels_of(sources_of(views[0]))}" for key, views in parts.items()}
-    if len(fit) != 1:
-        what = "two views of one part are needed, or three" if named is None else f"none of a part called {named}"
-        raise Refused(f"page {page.Label} has {'; '.join(told.values()) or 'no view of a part'}: {'name one by --part' if fit else what}")
+    seen = f"page {page.Label} has {'; '.join(told.values()) or 'no view of a part'}"
+    if len(fit) > 1:
+        raise SeveralParts(f"{seen}: which part is meant has to be said (--part)", [labels_of(sources_of(parts[key][0])) for key in fit])
+    if not fit:
+        raise Refused(f"{seen}: {'two views of one part are needed, or three' if named is None else f'none of a part called {named}'}")
     for key in parts.keys() - fit:
         tell(f"left out: {told[key]}")
     return parts[fit[0]]
@@ -182,18 +194,45 @@ def named(square: Sequence[Looking]) -> tuple[Frame, dict[str, Looking]]:
 # ---- the part
 
 def outer_of(sources: Sequence[Any], tell: Tell) -> Any:
-    """What places the shapes of some objects, as TechDraw draws them, in the document: what holds them."""
+    """What places the shapes of some objects, as they have them, in the document: what holds them."""
     outers = [it.getGlobalPlacement() * it.Placement.inverse() if hasattr(it, "getGlobalPlacement") and hasattr(it, "Placement")
               else FreeCAD.Placement() for it in sources]
-    if any(abs(a - b) > NEAR for it in outers[1:] for a, b in zip(it.toMatrix().A, outers[0].toMatrix().A)):
-        tell(f"warning: {labels_of(sources)} stand in what holds them in different places, and the page draws them without that")
+    if not all(are_same(it, outers[0]) for it in outers):
+        tell(f"warning: {labels_of(sources)} are held in different places, without which they are drawn here")
         return FreeCAD.Placement()
     return outers[0]
 
 
-def solids_of(sources: Sequence[Any], tell: Tell) -> Any:
-    """What the views show, as TechDraw draws it: the solids, in one compound."""
-    shapes = [Part.getShape(it) for it in sources]
+def are_same(one: Any, other: Any) -> bool:
+    return all(abs(a - b) < NEAR for a, b in zip(one.toMatrix().A, other.toMatrix().A))
+
+
+def turns_with_holder() -> bool:
+    """Whether TechDraw draws a part as what holds it turns it, in which FreeCAD's releases differ: seen of a known one, in a document that
+    nobody sees."""
+    active = FreeCAD.ActiveDocument
+    doc = FreeCAD.newDocument("Probe", hidden=True, temp=True)
+    try:
+        holder, part, page, template, view = (doc.addObject(it, "It") for it in (
+            "App::Part", "Part::Feature", PAGE, "TechDraw::DrawSVGTemplate", VIEW_TYPES[0]))
+        holder.addObject(part)
+        holder.Placement = FreeCAD.Placement(FreeCAD.Vector(), FreeCAD.Rotation(FreeCAD.Vector(0, 0, 1), 90))
+        part.Shape, page.Template = Part.makeBox(2, 1, 1), template
+        page.addView(view)
+        view.Source, view.Direction, view.XDirection = [part], FreeCAD.Vector(0, -1, 0), FreeCAD.Vector(1, 0, 0)
+        view.ScaleType, view.Scale = "Custom", 1
+        doc.recompute()
+        ends = [end for edge in view.getVisibleEdges() for end in (edge.BoundBox.XMin, edge.BoundBox.XMax)]
+        return max(ends) - min(ends) < 1.5 if ends else tuple(map(int, FreeCAD.Version()[:2])) > (0, 20)
+    finally:
+        FreeCAD.closeDocument(doc.Name)
+        if active:
+            FreeCAD.setActiveDocument(active.Name)
+
+
+def solids_of(sources: Sequence[Any], tell: Tell) -> tuple[Any, Any]:
+    """What the views show, as TechDraw draws it: the solids, in one compound; and what places that in the document."""
+    shapes, outer = [Part.getShape(it) for it in sources], outer_of(sources, tell)
     solids = [solid for shape in shapes for solid in shape.Solids]
     if not solids:
         raise Refused(f"{labels_of(sources)} has no solid in it")
@@ -201,14 +240,16 @@ def solids_of(sources: Sequence[Any], tell: Tell) -> Any:
     for count, what in ((faces, "face"), (edges, "edge")):
         if count > 0:
             tell(f"left out: {many(count, what)} of {labels_of(sources)}, of no solid")
-    return Part.makeCompound(solids)
+    whole = Part.makeCompound(solids)
+    if not are_same(outer, FreeCAD.Placement()) and turns_with_holder():
+        whole.Placement, outer = outer * whole.Placement, FreeCAD.Placement()
+    return whole, outer
 
 
 # ---- the page
 
-def taken(doc: Any, sheet_page: str | None, part: str | None, tell: Tell) -> tuple[Page, dict[str, Looking]]:
+def taken(page: Any, part: str | None, tell: Tell) -> tuple[Page, dict[str, Looking]]:
     """What is taken of a page, and its views in the document by their names in the drawing. What is left out or changed is told."""
-    page = page_of(doc, sheet_page)
     views = views_of_part(page, part, tell)
     frame, names = named(square_ones(views, tell))
     tell("found: " + ", ".join(f"{name} is {it}" for name, it in names.items()) + f" of page {page.Label}")
@@ -220,7 +261,7 @@ def taken(doc: Any, sheet_page: str | None, part: str | None, tell: Tell) -> tup
             tell(f"left out: {many(count, 'line')} that somebody added to {it}")
         its.append(View(name, str(it), bool(it.of.HardHidden), bool(it.of.SmoothVisible)))
     sources = sources_of(views[0])
-    result = Page(str(page.Label), tuple(its), frame, solids_of(sources, tell), outer_of(sources, tell))
+    result = Page(str(page.Label), tuple(its), frame, *solids_of(sources, tell))
     if result.lacking:
         tell(f"warning: page {page.Label} doesn't show hidden lines in {', '.join(it.label for it in result.lacking)}: what is said is of the "
              "page with them")
@@ -230,5 +271,5 @@ def taken(doc: Any, sheet_page: str | None, part: str | None, tell: Tell) -> tup
 def read(path: str, sheet_page: str | None, part: str | None, tell: Tell) -> Page:
     """What is taken of a page of a document in a file."""
     with opened(path) as doc:
-        page, _ = taken(doc, sheet_page, part, tell)
+        page, _ = taken(page_of(doc, sheet_page), part, tell)
         return page._replace(part=page.part.copy())

@@ -169,6 +169,7 @@ def with_a_section(one: "Document") -> Any:
     section.BaseView, section.Source, section.SectionNormal, section.SectionOrigin = group.Anchor, [feature], documents.vector((1, 0, 0)), documents.vector((15, 15, 15))
     dimension.Type, dimension.References2D = "Distance", [(group.Anchor, "Edge0")]
     page.addView(dimension)
+    dimension.Arbitrary, dimension.FormatSpec = True, "99"
     return feature.Shape
 
 
@@ -196,7 +197,7 @@ LISTED: dict[str, tuple[Make, tuple[str, ...], str]] = {
     "lengths in thirds, far from the middle": (
         lambda one: in_a_group(one, box(10, 10 / 3, 20 / 3, 1234.5, -99).cut(box(10 / 3, 10 / 3, 10 / 3, 1234.5, -99))), (), "lengths multiplied by 3"),
     "a spreadsheet": (by_a_spreadsheet, (), ""),
-    "a section and a dimension": (with_a_section, (), "left out: 1 section, which isn't read"),
+    "a section and a dimension": (with_a_section, (), "left out: 1 section, which isn't read|Dimension says 99 in words of its own"),
     "coarse lines, isolines and smooth ones": (
         lambda one: in_a_group(one, corner(), CoarseView=True, IsoVisible=True, IsoCount=3, SmoothHidden=True), (), ""),
     "a hole": (with_a_hole, (), "1 circle or round squared off"),
@@ -234,7 +235,7 @@ def chamfered() -> Any:
 REFUSED: dict[str, tuple[Make, str]] = {
     "no page": (lambda one: one.feature(corner()), "no page of TechDraw"),
     "two pages": (two_pages, "2 pages in the document: name one of First, Second by --sheet-page"),
-    "two parts": (two_parts, "3 views of Corner; 3 views of Block: name one by --part"),
+    "two parts": (two_parts, "3 views of Corner; 3 views of Block: which part is meant has to be said \\(--part\\)"),
     "a source that is gone": (without_its_source, "shows nothing: what it showed isn't in the document"),
     "perspective": (lambda one: in_a_group(one, corner(), Perspective=True), "is in perspective"),
     "front and rear alone": (lambda one: in_a_group(one, corner(), ("Rear",)), "views along two axes are needed.*Front, Rear show one"),
@@ -254,7 +255,8 @@ class Pages(unittest.TestCase):
             with self.subTest(name):
                 it = of_made(make, *words)
                 self.assertEqual(len(it.part), 1, (it.said, it.solids))
-                self.assertIn(said, "\n".join(it.said))
+                for text in said.split("|"):
+                    self.assertIn(text, "\n".join(it.said))
 
     def test_what_cant_be_read_is_refused_by_its_cause(self) -> None:
         for name, (make, cause) in REFUSED.items():
@@ -351,7 +353,7 @@ class Traps(unittest.TestCase):
             one.doc.recompute()
             before = [(tuple(it.Direction), tuple(it.XDirection), it.HardHidden, it.State) for it in group.Views]
             from drafting import techdraw
-            page, _ = techdraw.taken(one.doc, None, None, lambda text: None)
+            page, _ = techdraw.taken(techdraw.page_of(one.doc, None), None, lambda text: None)
             self.assertEqual([(tuple(it.Direction), tuple(it.XDirection), it.HardHidden, it.State) for it in group.Views], before)
             self.assertEqual(tuple(group.Views[0].Direction), (0.0, -2.0, 0.0))
             names = [it.Name for it in one.doc.Objects]

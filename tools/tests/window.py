@@ -189,13 +189,17 @@ def a_hole_and_a_link() -> None:
 
 
 def refusals() -> None:
-    for name, cause in (("perspective", "is in perspective"), ("chamfer", "it is oblique"), ("two_parts", "name one by --part")):
+    for name, cause in (("perspective", "is in perspective"), ("chamfer", "it is oblique"), ("two_parts", "which part is meant")):
         doc = opened(name)
         panel = asked(doc)
         same((panel.state, panel.verdict.text(), listed(panel)), ("refused", "NOT READ", []))
         holds(cause, panel.sentence.text())
         if name == "chamfer":
             pictured("refused")
+        if name == "two_parts":
+            same([it.text() for it in buttons(panel)], ["Views of Corner", "Views of Block"])
+            buttons(panel)[1].click()
+            same((ended(panel).verdict.text(), listed(panel)), ("UNIQUE", ["Solid 1: 6,000 mm³ - the document's part"]))
         closed(doc)
 
 

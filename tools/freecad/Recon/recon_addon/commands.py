@@ -13,8 +13,11 @@ PAGE = "TechDraw::DrawPage"
 
 
 def page_at_hand() -> Any:
-    """The page that is chosen, or the one on which something is chosen, else the only one of the document."""
+    """The page that is seen, or that is chosen, or on which something is chosen, else the only one of the document."""
     doc = FreeCAD.ActiveDocument
+    view = Gui.ActiveDocument.ActiveView if Gui.ActiveDocument else None
+    if hasattr(view, "getPage"):
+        return view.getPage()
     pages = [it for it in doc.Objects if it.TypeId == PAGE] if doc else []
     chosen = {it.Name for it in Gui.Selection.getSelection()} if doc else set()
     marked = [page for page in pages if page.Name in chosen or any(view.Name in chosen for view in page.Views)]

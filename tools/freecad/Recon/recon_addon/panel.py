@@ -1,4 +1,5 @@
 """The task panel: the verdict in large words, how far it is, the list of solids, what was changed or assumed, and what can be done."""
+import functools
 import pathlib
 import zipfile
 from collections.abc import Callable
@@ -9,7 +10,7 @@ import FreeCADGui as Gui  # type: ignore[import]
 import Part  # type: ignore[import]
 from PySide import QtCore, QtGui  # type: ignore[import]
 
-from . import page_views, scene, settings
+from . import RESOURCES, page_views, scene, settings
 from .child import Child, Event
 from .words import translate
 
@@ -25,7 +26,7 @@ class Panel:
     def __init__(self, title: str) -> None:
         self.form = QtGui.QWidget()
         self.form.setWindowTitle(title)
-        self.form.setWindowIcon(QtGui.QIcon(":/icons/Recon.svg"))
+        self.form.setWindowIcon(QtGui.QIcon(str(RESOURCES / "icons" / "Recon.svg")))
         self.verdict, self.sentence, self.legend = (QtGui.QLabel() for _ in range(3))
         self.bar, self.cancel = QtGui.QProgressBar(), QtGui.QPushButton(translate("Recon", "Cancel"))
         self.solids, self.told = QtGui.QListWidget(), QtGui.QPlainTextEdit()
@@ -82,7 +83,7 @@ class Panel:
     @staticmethod
     def is_refusal(failure: Exception) -> bool:
         """Whether something is refused in words, and is no fault of the addon."""
-        return isinstance(failure, settings.Lacking) or type(failure).__name__ in ("Refused", "Usage")
+        return isinstance(failure, settings.Lacking) or any(it.__name__ == "Refused" for it in type(failure).__mro__)
 
     def head(self, verdict: str, sentence: str, colour: str) -> None:
         self.verdict.setText(verdict)
@@ -241,6 +242,8 @@ class PagePanel(Panel):
         self.views: dict[str, Any] = {}
         self.ways: list[Event] = []
         self.part = 0
+        # Of several parts the one that is meant.
+        self.meant: str | None = None
 
     @property
     def page(self) -> Any:
@@ -257,9 +260,19 @@ class PagePanel(Panel):
         from drafting import anew, techdraw
         self.forget()
         self.ways, self.part, told = [], 0, list[str]()
-        page, views = techdraw.taken(self.page.Document, self.name, None, told.append)
+        try:
+            page, views = techdraw.taken(self.page, self.meant, told.append)
+        except techdraw.SeveralParts as several:
+            for label in several.labels:
+                self.button(translate("Recon", "Views of {}", label), functools.partial(self.choose, label))
+            raise
         self.views = {name: view.of for name, view in views.items()}
         child.begin(anew.saved(page, told, child.folder), [])
+
+    def choose(self, label: str) -> None:
+        """Asks about one of several parts."""
+        self.meant = label
+        self.begin()
 
     def words(self) -> tuple[str, str, str]:
         verdict, sentence, colour = super().words()

@@ -202,6 +202,10 @@
       <translation type="unfinished" />
     </message>
     <message>
+      <source>Views of {}</source>
+      <translation type="unfinished" />
+    </message>
+    <message>
       <source>What is to be sent</source>
       <translation type="unfinished" />
     </message>

@@ -204,6 +204,10 @@ die es entscheidet: {}</translation>
       <translation>EINDEUTIG MIT VERDECKTEN KANTEN</translation>
     </message>
     <message>
+      <source>Views of {}</source>
+      <translation>Ansichten von {}</translation>
+    </message>
+    <message>
       <source>What is to be sent</source>
       <translation>Was zu senden ist</translation>
     </message>
