@@ -11,6 +11,7 @@ from collections.abc import Callable, Sequence
 from typing import Any
 
 from . import curves
+from .bodies import read_back
 from .cad import FreeCAD, load, save
 from .compared import SHARP, SMOOTH, Projected, ends_of, projected
 from .documents import TAKEN, Page, View, check_options
@@ -97,9 +98,12 @@ def turned(shape: Any, matrix: Any) -> Any:
 
 
 def joined(page: Page, tell: Tell) -> Page:
-    """The page with its solids as one part, without edges between faces of one plane, which TechDraw draws as any other."""
+    """The page with its solids as one part, without edges between faces of one plane, which TechDraw draws as any other; and with smooth edges
+    marked, which cuts and unions don't do."""
     solids = page.part.Solids
     part = united(solids)
+    if any(face.Surface.TypeId != "Part::GeomPlane" for face in part.Faces):
+        part = read_back(part)
     if not part.isValid() or not part.Solids:
         raise Refused("what FreeCAD makes of the part is no valid solid: see it by Part, Check geometry")
     if len(solids) > 1:

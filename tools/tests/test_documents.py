@@ -51,9 +51,9 @@ def told(path: pathlib.Path, known: Any, *words: object) -> Told:
     """What comes of a document, of whose solids those are told that are a known shape where that stands."""
     said: list[str] = []
     asked = asking.ask(str(path), arguments(*words), said.append)
-    shapes = [it.shape for it in in_place.stood(asked)]
-    same = [at for at, it in enumerate(shapes, 1) if it.cut(known).Volume + known.cut(it).Volume < 1e-6 * known.Volume]
-    return Told(said, same, len(shapes), asked)
+    its = list(in_place.stood(asked))
+    same = [at for at, it in enumerate(its, 1) if it.is_part and it.shape.cut(known).Volume + known.cut(it.shape).Volume < 1e-6 * known.Volume]
+    return Told(said, same, len(its), asked)
 
 
 def of_made(make: Make, *words: object) -> Told:
@@ -140,6 +140,12 @@ def linked_often(one: "Document") -> Any:
     return Part.getShape(link)
 
 
+def with_a_slot(one: "Document") -> Any:
+    """A slot whose ends go over into its sides: a cut marks no edge as smooth."""
+    ends = [Part.makeCylinder(5, 10, documents.vector((x, 20, 0))) for x in (15, 45)]
+    return in_a_group(one, box(60, 40, 10).cut(box(30, 10, 10, 15, 15).multiFuse(ends)))
+
+
 def with_rounded_corners(one: "Document") -> Any:
     """A part whose page draws smooth edges and no hidden ones."""
     shape = box(40, 30, 20)
@@ -193,6 +199,7 @@ LISTED: dict[str, tuple[Make, tuple[str, ...], str]] = {
     "parts that touch": (lambda one: assembled(one, box(10, 10, 10), box(10, 10, 20, 10)), (), "2 solids are taken as one part"),
     "parts that stand apart": (lambda one: assembled(one, box(10, 10, 10), box(10, 10, 20, 20)), (), "2 solids are taken as one part"),
     "a link that stands for several": (linked_often, (), "3 solids are taken as one part"),
+    "a slot": (with_a_slot, (), "2 circles or rounds squared off"),
     "rounded corners": (with_rounded_corners, (), "left out: 6 smooth edges, which the page draws"),
     "lengths in thirds, far from the middle": (
         lambda one: in_a_group(one, box(10, 10 / 3, 20 / 3, 1234.5, -99).cut(box(10 / 3, 10 / 3, 10 / 3, 1234.5, -99))), (), "lengths multiplied by 3"),

@@ -90,7 +90,7 @@ class Asking:
         from drafting import in_place
         if asked.page:
             for it in in_place.stood(asked):
-                yield {"shape": it.shape, "more": it.more, "less": it.less}
+                yield {"shape": it.shape, "more": it.more, "less": it.less, "is_part": it.is_part}
             return
         times = self.millimetres(asked)
         for shape in in_place.shapes_of(asked):
@@ -98,11 +98,11 @@ class Asking:
 
     def solids(self, asked: "Asked", count: int) -> Iterator[dict[str, object]]:
         for number, shapes in enumerate(self.shapes(asked), 1):
+            is_part = bool(shapes.pop("is_part", False))
             files = {name: str(self.folder / f"{number}_{name}.brep") for name, shape in shapes.items() if shape}
             for name, path in files.items():
                 shapes[name].exportBrep(path)
-            is_part = asked.page is not None and set(files) == {"shape"}
-            self.part = number if is_part and not self.part else self.part
+            self.part = number if is_part else self.part
             yield {"solid": number, "of": count, "files": files, "volume": self.volume(asked, number), "is_part": is_part}
 
     def volume(self, asked: "Asked", number: int) -> str:
