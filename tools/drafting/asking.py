@@ -7,7 +7,7 @@ from collections.abc import Callable
 from fractions import Fraction
 from typing import NamedTuple
 
-from . import answering, faults, files, program, sheet, trials
+from . import answering, documents, faults, files, program, sheet, trials
 from .answering import Readings
 from .answers import Answer, answer_of, turned_back
 from .drawing import Origin, decimals_of, entries_of, lines_within, missing_in, origin_of, passed_over, views_of
@@ -28,7 +28,8 @@ SHEETS = ("Binary", "NotWhole", "Linetype", "Geometry", "EmptyView", "TooManyLin
 
 class Asked(NamedTuple):
     """What was asked, and the answer: the drawing that the program read, the lines of that, with how many decimals, how it stands for
-    the sheet, the run, and where it was made of a sheet the way back to that; where rounds were squared off also what came of it."""
+    the sheet, the run, and where it was made of a sheet the way back to that; where rounds were squared off also what came of it; and of a
+    document of FreeCAD its page."""
 
     data: bytes
     lines: list[str]
@@ -37,6 +38,7 @@ class Asked(NamedTuple):
     run: program.Run
     paper: Paper | None = None
     rounds: Readings | None = None
+    page: documents.Page | None = None
 
     @property
     def kept(self) -> list[Kept]:
@@ -136,9 +138,10 @@ def words_of(arguments: argparse.Namespace) -> list[object]:
 
 def ask(path: str | None, arguments: argparse.Namespace, tell: Tell, command: tuple[object, ...] = ("solve",)) -> Asked:
     """Asks the program about a file: as it is, where that is a drawing of three layers and nothing in its views is passed over, or it is
-    said so; else about what `draft sheet` draws of it, or of a file for each view."""
-    if path is None or files.files_of(arguments, path):
+    said so; else about what `draft sheet` draws of it, of a page of FreeCAD, or of a file for each view."""
+    if path is None or files.files_of(arguments, path) or documents.is_document(path):
         return of_sheet(path, arguments, tell, command)
+    documents.check_options(arguments, False)
     data = pathlib.Path(path).read_bytes()
     lines = lines_within(data)
     decimals = decimals_of(lines) if arguments.decimals is None else arguments.decimals
@@ -268,6 +271,8 @@ def of_sheet(path: str | None, arguments: argparse.Namespace, tell: Tell, comman
     except (Usage, Unreadable):
         raise
     except Refused as refusal:
+        if documents.is_document(path):
+            raise
         raise Refused(f"{refusal}\n  (--as-is has recon read the file as it is)") from None
     if rounds and (chosen := rounds.likeliest):
         drawn = chosen.drawn
@@ -277,4 +282,4 @@ def of_sheet(path: str | None, arguments: argparse.Namespace, tell: Tell, comman
     lines = lines_within(data)
     words = [*command, *views_words(lines), *decimals_words(command, drawn.decimals), *words_of(arguments)]
     run = program.run(program.find(arguments.program), words, data, arguments.seconds)
-    return Asked(data, lines, drawn.decimals, drawn.origin, run, drawn.paper, rounds)
+    return Asked(data, lines, drawn.decimals, drawn.origin, run, drawn.paper, rounds, drawn.page)

@@ -11,6 +11,9 @@ from .messages import Refused
 
 # Where FreeCAD's packages put its modules.
 sys.path += ["/usr/lib/freecad-python3/lib", "/usr/lib/freecad/lib", "/usr/lib64/freecad/lib"]
+# What objects of documents are made by, PartDesign's bodies among them: without these a document opens, and lacks them.
+MODULES = ("/usr/share/freecad/Mod", "/usr/lib/freecad/Mod", "/usr/lib64/freecad/Mod")
+sys.path += [path for root in map(pathlib.Path, MODULES) if root.is_dir() for path in map(str, [root, *sorted(root.glob("*/"))]) if path not in sys.path]
 try:
     import FreeCAD
     import Part

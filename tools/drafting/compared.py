@@ -34,21 +34,45 @@ class View(NamedTuple):
     others: int
 
 
-def drawn(shape: "Part.Shape", view: str, groups: Sequence[int] = SHARP) -> View:
-    """A view of a shape, from the shape's own coordinates on."""
+class Projected(NamedTuple):
+    """An edge of a view as FreeCAD draws it: the number of its group, the edge, nine places along it, and of a circle its centre."""
+
+    number: int
+    edge: "Part.Edge"
+    places: list[Place]
+    centre: Place | None
+
+    @property
+    def hidden(self) -> bool:
+        return self.number >= VISIBLE
+
+    def arc(self) -> Arc | None:
+        """The part of a circle that it is, where it is one."""
+        return arc_of(self.hidden, self.centre, self.edge.Curve.Radius, self.places) if self.centre else None
+
+
+def projected(shape: "Part.Shape", view: str, groups: Sequence[int] = SHARP) -> Iterator[Projected]:
+    """The edges of a view of a shape, of some groups, from the shape's own coordinates on."""
     direction, turned = DIRECTIONS[view]
-    made, result = TechDraw.projectEx(shape, FreeCAD.Vector(*direction)), View([], [], 0)
+    made = TechDraw.projectEx(shape, FreeCAD.Vector(*direction))
     for number in (number for number in groups if not made[number].isNull()):
         for edge in made[number].Edges:
             low, high = edge.ParameterRange
             places = [turned(it.x, it.y) for it in (edge.valueAt(low + (high - low) * at / 8) for at in range(9))]
-            if edge.Curve.TypeId == "Part::GeomCircle":
-                centre = turned(edge.Curve.Center.x, edge.Curve.Center.y)
-                result.arcs.append(arc_of(number >= VISIBLE, centre, edge.Curve.Radius, places))
-            elif (ends := ends_of(places)):
-                result.lines.append(Edge(number >= VISIBLE, *ends, 7, NOWHERE))
-            else:
-                result = result._replace(others=result.others + 1)
+            is_circle = edge.Curve.TypeId == "Part::GeomCircle"
+            yield Projected(number, edge, places, turned(edge.Curve.Center.x, edge.Curve.Center.y) if is_circle else None)
+
+
+def drawn(shape: "Part.Shape", view: str, groups: Sequence[int] = SHARP) -> View:
+    """A view of a shape, from the shape's own coordinates on."""
+    result = View([], [], 0)
+    for it in projected(shape, view, groups):
+        if arc := it.arc():
+            result.arcs.append(arc)
+        elif (ends := ends_of(it.places)):
+            result.lines.append(Edge(it.hidden, *ends, 7, NOWHERE))
+        else:
+            result = result._replace(others=result.others + 1)
     return result
 
 

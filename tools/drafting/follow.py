@@ -20,7 +20,7 @@ import threading
 from collections.abc import Callable, Iterator
 from typing import IO, Any
 
-from . import asking, controls, faults, program, rooms, settle, shown, why
+from . import asking, controls, faults, left_open, program, rooms, settle, shown, why
 from .answering import Readings
 from .answers import CUT, FAULT, SOLID, WHOLE, solid_of
 from .drawing import Line, decimals_of, lines_within, missing_in, origin_of, views_of
@@ -363,6 +363,7 @@ def follow(arguments: argparse.Namespace, search: Search) -> Events:
         search.take_rounds(asked.rounds)
         yield from rounds_events(asked)
         yield from search.events(asked.data, asked.decimals, arguments)
+        yield from map(said, left_open.told(asked, arguments))
         if WHOLE.fullmatch(search.head) and not search.choices:
             known = asked._replace(run=program.Run(program.WHOLE, f"{search.head}\n", 0.0))
             yield from as_it_comes(lambda emit: suggest(known, arguments, emit))

@@ -59,11 +59,11 @@ def names_of(given: list[str], named: BinaryIO | None, by_null: bool) -> Iterato
 
 
 def files_in(folder: str) -> Iterator[str]:
-    """The DXF files in a folder and below it, by their names within it. What can't be looked into is told."""
+    """The DXF files and documents of FreeCAD in a folder and below it, by their names within it. What can't be looked into is told."""
     for within, _, files in os.walk(folder, onerror=left_out):
         for file in files:
             path = os.path.join(within, file)
-            if file.lower().endswith(".dxf") and os.path.isfile(path):
+            if file.lower().endswith((".dxf", ".fcstd")) and os.path.isfile(path):
                 yield os.path.relpath(path, folder)
 
 

@@ -147,8 +147,9 @@ def by_names(views: dict[str, list[Run]], others: list[Run], hints: Hints) -> Pl
         view, group = list(groups.items())[number]
         raise Refused(f"{view}, {group}, is a section, since {why}: a section is no view. Draw {view} uncut too; what makes no section is left "
                       "out by --leave-out layer= or color=")
-    by_what = "files" if every[0].first.view else "layers or blocks"
-    words = [f"the views by the names of {by_what}: {', '.join(sorted(named))}{without_told(groups)}"]
+    by_what = "the names of " + ("files" if every[0].first.file else "layers or blocks")
+    by_what = "the directions in which they look" if every[0].first.is_drawn else by_what
+    words = [f"the views by {by_what}: {', '.join(sorted(named))}{without_told(groups)}"]
     check_extents(groups, tolerance)
     return Placed(groups, is_mirrored(named), words + [f"{count} {what}" for what, count in found.items()],
                   [f"{count} {what}" for what, count in left.items()])

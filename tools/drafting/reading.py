@@ -6,12 +6,15 @@ import re
 import sys
 from collections import Counter
 from collections.abc import Iterable, Sequence
-from typing import Any, NamedTuple
+from typing import TYPE_CHECKING, Any, NamedTuple
 
 from . import curves, kinds
 from .drawing import UNITS, Place, entries_of, lines_of
 from .messages import Refused, many
 from .styles import HATCHED, Choice, Look, Style, style_of
+
+if TYPE_CHECKING:
+    from .documents import Page
 
 # The most bytes of a file, entities that are looked at in it with its blocks taken apart, and blocks within blocks.
 MOST_BYTES, MOST_ENTITIES, DEEPEST = 64 << 20, 1_000_000, 16
@@ -35,7 +38,7 @@ class Unreadable(Refused):
 
 class Source(NamedTuple):
     """Which entity something is of: its kind, its layer, its handle, and the block that it is in; and where each view has a file of its
-    own, that file and its view."""
+    own, that file and its view. What FreeCAD draws of a page is of a view and of no file, and its layer is that view's label."""
 
     kind: str
     layer: str
@@ -44,7 +47,13 @@ class Source(NamedTuple):
     file: str = ""
     view: str = ""
 
+    @property
+    def is_drawn(self) -> bool:
+        return bool(self.view) and not self.file
+
     def __str__(self) -> str:
+        if self.is_drawn:
+            return f"{self.kind} of the page's view {self.layer}"
         handle = f" {self.handle}" if self.handle else ""
         return f"{self.kind}{handle} on layer {self.layer}" + (f" in block {self.block}" if self.block else "")
 
@@ -124,6 +133,8 @@ class Sheet:
         # The same sheet without hidden lines, where that is given, and the edges as they were read before it told which are hidden.
         self.seen: Sheet | None = None
         self.whole: list[Edge] = []
+        # The page of FreeCAD that it was drawn of: with all hidden lines, and without smooth ones.
+        self.page: "Page | None" = None
 
 
 # ---- the file
@@ -221,7 +232,7 @@ def check_lines(path: str, document: Any) -> None:
 def line_of_file(path: str, handle: str) -> str:
     """Where an entity of this handle begins in an ASCII file, in words; nothing where that isn't found."""
     try:
-        found = next((entry.first for entry in entries_of(lines_of(path)) if handle and entry.values.get(5) == handle), None)
+        found = next((entry.first for entry in entries_of(lines_of(path)) if entry.values.get(5) == handle), None) if handle else None
     except OSError:
         return ""
     return f", line {found:,} of {pathlib.Path(path).name}" if found else ""

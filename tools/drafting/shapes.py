@@ -4,7 +4,7 @@ united, and faces of one plane that touch are joined.
 import itertools
 import pathlib
 from collections import defaultdict
-from collections.abc import Callable, Iterable, Iterator
+from collections.abc import Callable, Iterable, Iterator, Sequence
 from decimal import Decimal, InvalidOperation
 from typing import NamedTuple
 
@@ -89,14 +89,18 @@ def are_whole(coordinates: Iterable[float]) -> bool:
     return all(abs(coordinate - round(coordinate)) < 1e-6 for coordinate in coordinates)
 
 
-def part_of(shape: Part.Shape) -> Part.Shape:
-    """The shape's solids as one part, without edges between faces of one plane; refused where it can't be drawn."""
-    solids = shape.Solids
-    if not solids:
-        raise Refused("there is no solid in it")
+def united(solids: Sequence[Part.Shape]) -> Part.Shape:
+    """Some solids as one shape, without edges between faces of one plane."""
     joining = Part.ShapeUpgrade.UnifySameDomain(solids[0].multiFuse(solids[1:]) if len(solids) > 1 else solids[0])
     joining.build()
-    part = joining.shape()
+    return joining.shape()
+
+
+def part_of(shape: Part.Shape) -> Part.Shape:
+    """The shape's solids as one part, without edges between faces of one plane; refused where it can't be drawn."""
+    if not shape.Solids:
+        raise Refused("there is no solid in it")
+    part = united(shape.Solids)
     for face in part.Faces:
         if face.Surface.TypeId != "Part::GeomPlane":
             raise Refused("a face isn't plane")

@@ -17,7 +17,7 @@ from collections.abc import Callable, Iterator, Mapping, Sequence
 from fractions import Fraction
 from typing import NamedTuple, Union
 
-from . import files, pairs, scale
+from . import documents, files, pairs, scale
 from .cutting import Mark, marks_of, without_marks
 from .dimensions import without_dimensions
 from .drawing import Origin, Place, Stroke, places_of, written
@@ -45,7 +45,7 @@ Tell = Callable[[str], None]
 class Drawn(NamedTuple):
     """A drawing of three layers, made of a sheet: its text, how many decimals it has, how it stands for the sheet, and the way back. Of a
     sheet with rounds also what is told of this reading of it, the drawings of the further ones, or why one has none; and why it is refused
-    unless some solid of a reading that changes more than to leave lines out, and isn't plain, is kept."""
+    unless some solid of a reading that changes more than to leave lines out, and isn't plain, is kept. Of a document of FreeCAD, its page."""
 
     text: str
     decimals: int
@@ -55,6 +55,7 @@ class Drawn(NamedTuple):
     others: Iterator[Union["Drawn", Refused]] = iter(())
     refused: Refused | None = None
     is_plain: bool = True
+    page: documents.Page | None = None
 
 
 def add_options(parser: argparse.ArgumentParser) -> None:
@@ -73,12 +74,14 @@ def add_options(parser: argparse.ArgumentParser) -> None:
     group.add_argument("--scale", metavar="A:B", help="drawn to real lengths: 1:2 is half as large as the part (else 1:1)")
     group.add_argument("--as-drawn", action="store_true", help="lengths are as drawn, at this scale, whatever dimensions say")
     group.add_argument("--pairs", action="store_true", help="NAME.visible.dxf is NAME.dxf without hidden lines, as --visible-only")
+    group.add_argument("--sheet-page", metavar="NAME", help="of a document of FreeCAD (.FCStd) with several pages, which one")
+    group.add_argument("--part", metavar="NAME", help="of a page of FreeCAD with views of several parts, whose")
 
 
 def words_of(arguments: argparse.Namespace) -> list[str]:
     """The options of sheets as they were given, for another command."""
     words = [f"--{name.replace('_', '-')}={text}" for name in ("hidden", "visible", "leave_out") for text in getattr(arguments, name)]
-    for name in ("visible_only", "angle", "sheet_decimals", "reading", "scale"):
+    for name in ("visible_only", "angle", "sheet_decimals", "reading", "scale", "sheet_page", "part"):
         if getattr(arguments, name) is not None:
             words.append(f"--{name.replace('_', '-')}={getattr(arguments, name)}")
     words += [f"--tolerance={arguments.tolerance!r}"] if arguments.tolerance != TOLERANCE else []
@@ -86,7 +89,7 @@ def words_of(arguments: argparse.Namespace) -> list[str]:
 
 
 def add_arguments(parser: argparse.ArgumentParser) -> None:
-    parser.add_argument("sheet", metavar="IN.dxf", nargs="?", help="the sheet; - for standard input")
+    parser.add_argument("sheet", metavar="IN.dxf", nargs="?", help="the sheet, or a document of FreeCAD; - for standard input")
     parser.add_argument("-o", "--output", metavar="OUT.dxf", help="the file to write, else standard output")
     add_options(parser)
     files.add_options(parser)
@@ -108,6 +111,10 @@ def scale_of(text: str) -> Fraction:
 
 def edges_of(path: str | None, arguments: argparse.Namespace, tell: Tell) -> tuple[Sheet, list[Mark]]:
     """What was read of a sheet, or of a file for each view, without annotations; and the ends of its cutting-plane lines."""
+    if documents.is_document(path):
+        from . import anew  # which stands on FreeCAD
+        return anew.sheet_of(str(path), arguments, tell), []
+    documents.check_options(arguments, False)
     styles = (("hidden", Style.HIDDEN), ("visible", Style.VISIBLE), ("leave_out", Style.APART))
     choices = [choice_of(text, style) for name, style in styles for text in getattr(arguments, name) if not text.startswith("group=")]
     named = files.files_of(arguments, path)
@@ -269,9 +276,10 @@ def refuse_oblique(path: str | None, placed: Placed) -> None:
     for view, group in placed.views.items():
         run = next((run for run in group.runs if run.oblique), None)
         if run is not None:
-            (a, b), (c, d) = run.edge.start, run.edge.end
+            x, y, behind = (*group.box[:2], ", from its lower left corner on") if run.edge.source.is_drawn else (0.0, 0.0, "")
+            a, b, c, d = (round(it - least, 9) + 0.0 for it, least in zip((*run.edge.start, *run.edge.end), (x, y, x, y)))
             off = min(abs(a - c), abs(b - d))
-            raise Refused(f"in {view} a {where(run.edge.source, path)} goes from {a:.9g}, {b:.9g} to {c:.9g}, {d:.9g}: it is oblique, off by "
+            raise Refused(f"in {view} a {where(run.edge.source, path)} goes from {a:.9g}, {b:.9g} to {c:.9g}, {d:.9g}{behind}: it is oblique, off by "
                           f"{off:.3g}, and recon reads level and upright edges alone (what is noise is said by --tolerance)")
 
 
@@ -448,7 +456,8 @@ def checked_views(path: str | None, sheet: Sheet, edges: Sequence[Edge], marks: 
     placed = found_views(path, sheet, edges, marks, arguments, tell)
     refuse_unread(path, placed, sheet.unread, arguments, tell)
     refuse_oblique(path, placed)
-    check_styles(placed, arguments, tell)
+    if not sheet.page:
+        check_styles(placed, arguments, tell)
     return placed
 
 
@@ -470,7 +479,7 @@ def drawn_views(
     units = 10**measure.decimals
     paper = Paper(placed.views, begins, measure.times * units, origin.times * units, placed.mirrored, arguments.tolerance,
                   lambda source: where(source, path))
-    return Drawn(comments + written(views, measure.decimals, origin), measure.decimals, origin, paper)
+    return Drawn(comments + written(views, measure.decimals, origin), measure.decimals, origin, paper, page=sheet.page)
 
 
 def least_of(strokes: Sequence[Stroke]) -> tuple[int, int]:

@@ -12,7 +12,7 @@ Of a sheet with circles and arcs it says which solids made of boxes and these ro
 import argparse
 import json
 
-from . import asking, faults, files, program, records, visible
+from . import asking, faults, files, left_open, program, records, visible
 from .answering import Answered, Readings
 from .answers import CUT, FAULT, have_views, sizes_of
 from .messages import Refused, Usage, many, say, write_result
@@ -26,7 +26,7 @@ UNEXPECTED = 12
 
 
 def add_arguments(parser: argparse.ArgumentParser) -> None:
-    parser.add_argument("drawing", metavar="IN.dxf", nargs="?", help="the drawing or sheet; - for standard input")
+    parser.add_argument("drawing", metavar="IN.dxf", nargs="?", help="the drawing, a sheet or a document of FreeCAD; - for standard input")
     parser.add_argument("--answer", metavar="OUT.txt", help="a file for what recon writes of the drawing")
     parser.add_argument("--list", type=int, metavar="N", help=f"how many solids are told one by one (else {LISTED}, with --json all)")
     parser.add_argument("--json", action="store_true", help="a record for programs, instead of words")
@@ -135,6 +135,7 @@ def answered(asked: asking.Asked, arguments: argparse.Namespace, listed: int) ->
         say(f"draft solve: {arguments.answer} has the solids in a mirror, x turned round, as recon read them")
     if not arguments.json:
         rows = rounded_told(asked, asked.rounds, listed) if asked.rounds else told(asked, listed)
+        rows += left_open.told(asked, arguments)
         write_result("".join(f"{row}\n" for row in rows), None)
     count = records.count_of(asked)
     if asked.missing and count > 1:

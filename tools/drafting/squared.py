@@ -158,7 +158,7 @@ def read(path: str | None, read_sheet: Sheet, marks: Sequence[Mark], arguments: 
     tolerance, edges, arcs = arguments.tolerance, read_sheet.edges, read_sheet.arcs
     if len(arcs) > MOST_ARCS:
         raise Refused(f"{len(arcs):,} circles and arcs, more than {MOST_ARCS:,}")
-    if apart := next((arc for arc in arcs if arc.source.view), None):
+    if apart := next((arc for arc in arcs if arc.source.file), None):
         raise Refused(f"in {apart.source.view} a {sheet.where(apart.source, path)} is no straight line, and circles and arcs are read where "
                       "all views stand on one sheet")
     if read_sheet.seen:
@@ -315,7 +315,8 @@ def radii_told(circles: Sequence[given.Squared]) -> str:
 def drawings(found: Found) -> Iterator[sheet.Drawn | Refused]:
     """The drawings of a sheet by its readings, the likeliest first, or why one has none."""
     views = found.views(rounds.rounds_of(found.arcs, found.tolerance))
-    its, count = tangent.readings(tangent.candidates(views), tangent.kinds_of(views.rounds))
+    # Of a page no smooth edge is drawn.
+    its, count = tangent.readings([] if found.sheet.page else tangent.candidates(views), tangent.kinds_of(views.rounds))
     only = found.arguments.reading
     if only is not None and not 1 <= only <= len(its):
         raise Refused(f"there is no reading {only}: {many(len(its), 'reading')} of this sheet")

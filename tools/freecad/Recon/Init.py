@@ -1,0 +1,1 @@
+"""Nothing of this addon is needed without FreeCAD's window."""
