@@ -21,6 +21,9 @@ class Grid:
         self.count = x * y * z
         self.every = (1 << self.count) - 1
 
+    def has_cells(self) -> bool:
+        return all(len(cut) > 1 for cut in self.cuts)
+
     def place(self, corner: Point) -> int:
         """The place of the cell whose least corner this is."""
         return sum(rank[at] * stride for rank, at, stride in zip(self.ranks, corner, self.strides))

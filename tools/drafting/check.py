@@ -7,11 +7,10 @@ import pathlib
 import re
 import sys
 
-from . import asking, program, prove
+from . import asking, blocks, program, prove
 from .given import given_in
 from .messages import Refused, many, say, write_result
-from .panels import Row, Sheet, axis_of, grid_of
-from .rooms import thinned
+from .panels import Cuts, Row, Sheet, axis_of
 
 NAME = "check"
 HELP = "see whether a log shows that the solids it lists are all"
@@ -48,21 +47,20 @@ def log_in(path: str) -> bytes:
     return sys.stdin.buffer.read() if path == "-" else pathlib.Path(path).read_bytes()
 
 
-def place_told(line: str, sheet: Sheet) -> str:
+def place_told(line: str, sheet: Sheet, cuts: Cuts) -> str:
     """Where on the drawing the line of the grid lies that a line of the log names, where there is one."""
     named = PLACE.fullmatch(line)
-    grid = thinned(grid_of(sheet))
     if not named:
         return ""
     row, cell = Row(named[1].upper(), named[2] == "u", int(named[3])), int(named[4])
-    across, along = (grid.cuts[axis_of(row.view, way)] for way in (not row.upright, row.upright))
+    across, along = (cuts[axis_of(row.view, way)] for way in (not row.upright, row.upright))
     if row.number >= len(across) or cell >= len(along) - 1:
         return ""
     ends = [(across[row.number], along[at]) if row.upright else (along[at], across[row.number]) for at in (cell, cell + 1)]
     return f"{row.view} " + " to ".join(f"({right}, {up})" for right, up in (sheet.place(row.view, *end) for end in ends))
 
 
-def told(said: str, log: bytes, asked: asking.Asked) -> list[str]:
+def told(said: str, log: bytes, asked: asking.Asked, cuts: Cuts) -> list[str]:
     """What is wrong with a log, in sentences."""
     refused = REFUSED.fullmatch(said)
     if not refused:
@@ -72,7 +70,7 @@ def told(said: str, log: bytes, asked: asking.Asked) -> list[str]:
     line = lines[0].decode(errors="replace") if lines else ""
     rows = [f"line {number:,} of the log is refused ({said})" + (f": {line[:WIDTH]!r}" if line else ""),
             FIRST if (kind, number) == ("G1 BadLine", 1) else WORDS.get(kind, "the line isn't right")]
-    place = place_told(line, asked.sheet())
+    place = place_told(line, asked.sheet(), cuts)
     return [*rows, f"the line of the grid is {place}"] if place else rows
 
 
@@ -84,7 +82,8 @@ def run(arguments: argparse.Namespace) -> int:
     judged = program.run(program.find(arguments.program), ["check", *asking.views_words(asked.lines)], data + log, arguments.seconds)
     head = judged.text.partition("\n")[0]
     if judged.status == program.NO_LOG:
-        for text in told(head, log, asked):
+        grid = blocks.of(arguments, asked.data, asked.lines, asked.decimals).grid
+        for text in told(head, log, asked, grid.cuts):
             say(f"draft check: {text}")
         return program.NO_LOG
     yes = re.fullmatch(r"yes (\d+)", head)

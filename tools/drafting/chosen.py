@@ -1,8 +1,8 @@
 """Saves a solid of a drawing or a sheet that is told by its choice, as it was listed by a search that was cut or stopped: OUT.stl,
 its boundary as triangles, OUT.dxf, its views, or OUT.step, by FreeCAD; in the sheet's unit.
 
-The program writes none of a search that isn't whole. So this solid is made here, from the drawing's blocks: it is drawn by the
-definitions, and refused where it hasn't all views of the drawing.
+The program writes none of a search that isn't whole. So this solid is made here, of the blocks that the program tells: it is drawn by
+the definitions, and refused where it hasn't all views of the drawing.
 """
 import argparse
 import itertools
@@ -11,8 +11,9 @@ from collections.abc import Callable, Iterator
 from fractions import Fraction
 from typing import NamedTuple
 
-from . import asking, faults, rooms
+from . import asking, blocks, faults
 from .answers import FAULT, Face, Point, Solid
+from .blocks import Blocks
 from .cells import Grid as Cells
 from .clean import GAP
 from .drawing import places_of, views_of, written
@@ -35,7 +36,7 @@ class Chosen(NamedTuple):
     """A solid by its choice: what was asked, its grid, and its cells there as bits, as the drawing shows it."""
 
     asked: asking.Asked
-    blocks: rooms.Blocks
+    blocks: Blocks
     choice: str
 
     def cells(self) -> tuple[Cells, int]:
@@ -46,16 +47,15 @@ class Chosen(NamedTuple):
 
 def chosen_by(arguments: argparse.Namespace) -> Chosen:
     """The solid of the choice; refused where it hasn't the drawing's views."""
-    least = argparse.Namespace(**{**vars(arguments), "nodes": 1, "solids": 1})
-    asked = asking.ask(arguments.drawing, least, lambda text: say(f"draft chosen: {text}"))
+    asked = blocks.ask(arguments, lambda text: say(f"draft chosen: {text}"))
     if FAULT.fullmatch(head := asked.run.text.partition("\n")[0]):
         raise Refused("; ".join(faults.told(head, asked.lines)))
     views = views_of(asked.lines)
     sheet = sheet_of(views, asked.decimals)
-    blocks, drawing = rooms.blocks_of(sheet), Drawing(grid_of(sheet), further_of(views, asked.decimals))
-    if set(arguments.choice) - set("01") or not drawing.shows(solid_cells(blocks.grid, blocks.full(arguments.choice), drawing.grid)):
+    its, drawing = blocks.blocks_in(asked.run.text), Drawing(grid_of(sheet), further_of(views, asked.decimals))
+    if set(arguments.choice) - set("01") or not drawing.shows(solid_cells(its.grid, its.full(arguments.choice), drawing.grid)):
         raise Refused("the solid of this choice hasn't the views of the drawing")
-    return Chosen(asked, blocks, arguments.choice)
+    return Chosen(asked, its, arguments.choice)
 
 
 # ---- its boundary

@@ -1,7 +1,7 @@
 """Asks the program about a drawing or a sheet, and tells what comes of it as it comes: an event in JSON a line, which `draft serve` hands
-to its page and `draft page` puts into its file. First what was changed or left out and the views; then the solids page by page,
-while the program still searches; then how it ended; and then what is wrong, where no solid has the views, or what would settle
-it, where several have them.
+to its page and `draft page` puts into its file. First what was changed or left out, the views and where the blocks are; then the solids,
+told by their blocks, page by page, while the program still searches; then how it ended; and then what is wrong, where no solid has
+the views, or what would settle it, where several have them.
 
 With --attended standard input is whoever asked: a line `stop` ends the search, and what is found is told; its end ends everything.
 Words are then for a page, whose controls they name in place of options.
@@ -12,7 +12,6 @@ import json
 import os
 import pathlib
 import queue
-import re
 import signal
 import subprocess
 import sys
@@ -20,14 +19,14 @@ import threading
 from collections.abc import Callable, Iterator
 from typing import IO, Any
 
-from . import asking, controls, faults, left_open, program, rooms, settle, shown, why
+from . import asking, blocks, controls, faults, left_open, program, settle, shown, why
 from .answering import Readings
-from .answers import CUT, FAULT, SOLID, WHOLE, solid_of
+from .answers import CUT, FAULT, WHOLE
+from .blocks import Blocks
 from .drawing import Line, decimals_of, lines_within, missing_in, origin_of, views_of
 from .given import given_in
 from .messages import Refused, many, say
 from .panels import sheet_of
-from .rooms import Blocks
 from .shown import Units
 
 NAME = "follow"
@@ -37,8 +36,6 @@ SQUARED = "changed: solids are shown with their rounds squared off: FreeCAD isn'
 Event = dict[str, Any]
 Events = Iterator[Event]
 
-# Of how many listed solids the volumes, and of how many the faces too, are compared with what is shown; and for how many seconds.
-COMPARED, BY_FACES, COMPARING = 4_096, 64, 2.0
 # Of how many solids what is drawn of them is told, where they are rounded back.
 MOST_ROUNDED = 64
 # How many solids, and how many cells of all of them, are settled.
@@ -67,12 +64,12 @@ def drawing_event(lines: list[str], units: Units, head: str = "") -> Event:
     return {"kind": "drawing", "html": shown.drawing_told(views_of(lines), units, head, given_in(lines))}
 
 
-def grid_event(blocks: Blocks, units: Units) -> Event:
+def grid_event(its: Blocks, units: Units) -> Event:
     """What solids are shown by: the cuts of each axis, in units of the answer; the block of each place, or -1, in runs of (block, how
     many), x fastest, then y, then z, with a place behind the last cell of each axis; and how lengths are told."""
-    told = blocks.turned_round() if units.origin.mirrored else blocks
-    runs = [(block, len(list(run))) for block, run in itertools.groupby(told.numbers())]
-    return {"kind": "grid", "cuts": told.grid.cuts, "cells": runs, "blocks": len(blocks.cells), "units": units.for_script()}
+    told = its.turned_round() if units.origin.mirrored else its
+    runs = [(block, len(list(run))) for block, run in itertools.groupby(told.numbers)]
+    return {"kind": "grid", "cuts": told.grid.cuts, "cells": runs, "blocks": told.count, "units": units.for_script()}
 
 
 def solids_event(choices: list[str]) -> Event:
@@ -109,12 +106,12 @@ def stopped_event(count: int, why_stopped: str = "") -> Event:
     return end_event("stopped", shown.stopped_told(count, why_stopped))
 
 
-def means_event(blocks: Blocks, choices: list[str], lines: list[str], decimals: int) -> Event:
+def means_event(its: Blocks, choices: list[str], lines: list[str], decimals: int) -> Event:
     """What further views and sections show: for each solid, in the stated order, the number of its group. Views, which the program reads,
     come before sections, which it doesn't."""
-    if len(choices) > MOST_SETTLED or len(choices) * blocks.grid.count > MOST_CELLS:
+    if len(choices) > MOST_SETTLED or len(choices) * its.grid.count > MOST_CELLS:
         return {"kind": "means", "rows": [], "text": f"What would settle it isn't looked for among {many(len(choices), 'solid')}."}
-    solids = settle.Solids(blocks.grid, list(map(blocks.full, sorted(choices, reverse=True))))
+    solids = settle.Solids(its.grid, list(map(its.full, sorted(choices, reverse=True))))
     views, sections = settle.all_means(solids, sheet_of(views_of(lines), decimals))
     # What a mirror shows isn't drawn beside solids that are turned back.
     is_drawn = not origin_of(lines).mirrored
@@ -139,11 +136,10 @@ class Search:
         self.head = ""
         self.lines: list[str] = []
         self.decimals = 0
-        self.blocks: Blocks | None = None
+        self.blocks = blocks.NONE
         self.choices: list[str] = []
         self.kept: set[str] | None = None
         self.rounds: Readings | None = None
-        self.rows: Iterator[str] = iter(())
 
     @property
     def shown(self) -> list[str]:
@@ -177,10 +173,10 @@ class Search:
                     stream.close()
             self.process = None
 
-    def events(self, data: bytes, decimals: int, arguments: argparse.Namespace) -> Events:
+    def events(self, data: bytes, decimals: int, its: Blocks, arguments: argparse.Namespace) -> Events:
         """Searches a drawing of three layers that has no fault, as it is: its views, its solids page by page, how it ended, and what would
         settle it."""
-        self.lines, self.decimals = lines_within(data), decimals
+        self.lines, self.decimals, self.blocks = lines_within(data), decimals, its
         words = ["solve", *asking.views_words(self.lines), *asking.decimals_words(("solve",), decimals), *asking.words_of(arguments), "--pages"]
         yield from self.searched(program.find(arguments.program), list(map(str, words)), data, arguments.seconds)
         if self.head:
@@ -189,14 +185,12 @@ class Search:
         else:
             late = f"recon took longer than {arguments.seconds:g} seconds" if self.is_late else ""
             yield stopped_event(len(self.shown), late)
-        if self.blocks and len(self.shown) > 1:
+        if len(self.shown) > 1:
             yield self.means()
-        if self.head:
-            yield from self.compared()
         self.close()
 
     def searched(self, path: pathlib.Path, words: list[str], data: bytes, seconds: float) -> Events:
-        """Runs the program up to the line behind the pages, which is kept; what it lists is left to be compared."""
+        """Runs the program up to the line behind the pages, which is kept."""
         self.process = process = subprocess.Popen([path, *words], stdin=subprocess.PIPE, stdout=subprocess.PIPE, stderr=subprocess.PIPE)
         timer = threading.Timer(seconds, self.late)
         timer.start()
@@ -217,7 +211,7 @@ class Search:
             process.stdin.close()
         except BrokenPipeError:
             pass
-        rows = self.rows = (line.decode("latin-1").rstrip("\n") for line in process.stdout)
+        rows = (line.decode("latin-1").rstrip("\n") for line in process.stdout)
         head = next(rows, "")
         if head.startswith("page ") or WHOLE.fullmatch(head) or CUT.fullmatch(head):
             yield from self.views()
@@ -233,11 +227,8 @@ class Search:
         yield drawing_event(self.lines, units)
         if units.origin.mirrored:
             yield said("found: the side view is the left one: the drawing is shown in a mirror, and the solids as they are")
-        try:
-            self.blocks = rooms.blocks_of(sheet_of(views_of(self.lines), self.decimals))
-        except Refused:
-            return
-        yield grid_event(self.blocks, units)
+        if self.blocks.grid.has_cells():
+            yield grid_event(self.blocks, units)
 
     def page(self, count: int, rows: Iterator[str]) -> tuple[list[str], str]:
         """The choices of one page, up to so many solids in all, and the line behind it."""
@@ -250,49 +241,16 @@ class Search:
         else:
             line = ""
         if self.is_stopped or self.is_late:
-            choices = [choice for choice in choices if self.blocks and len(choice) == len(self.blocks.cells)]
-        if self.blocks is None or any(len(choice) != len(self.blocks.cells) for choice in choices):
-            raise Refused("the program reads this drawing otherwise than it is read here")
+            choices = [choice for choice in choices if len(choice) == self.blocks.count]
+        if any(len(choice) != self.blocks.count for choice in choices):
+            raise Refused("the program tells choices of other blocks than it told")
         return choices, line
 
     def means(self) -> Event:
         """What would settle it; whoever stopped the search doesn't wait for that."""
-        assert self.blocks
         if not self.head:
             return {"kind": "means", "rows": [], "text": "What would settle it isn't looked for, since the search was stopped."}
         return means_event(self.blocks, self.shown, self.lines, self.decimals)
-
-    def compared(self) -> Events:
-        """Compares what is shown with the program's list, as far as that comes in time: its order, its volumes, and of the first ones the
-        faces. Refused where something differs."""
-        if self.blocks is None or not self.choices:
-            return
-        ordered, volumes = sorted(self.choices, reverse=True), self.blocks.volumes()
-        timer = threading.Timer(COMPARING, self.kill)
-        timer.start()
-        count = 0
-        try:
-            for line in self.rows:
-                listed = SOLID.fullmatch(line)
-                if count == COMPARED or listed is None or not self.is_alike(listed, ordered[count:count + 1], volumes, count < BY_FACES):
-                    break
-                count += 1
-        finally:
-            timer.cancel()
-        yield {"kind": "compared", "count": count, "faces": min(count, BY_FACES)}
-
-    def is_alike(self, listed: "re.Match[str]", ordered: list[str], volumes: list[int], by_faces: bool) -> bool:
-        """Whether the listed solid came whole, and is as it is shown; refused where it isn't."""
-        assert self.blocks
-        faces = [(0, face) for face in itertools.islice(self.rows, int(listed[4]))]
-        if len(faces) < int(listed[4]):
-            return False
-        solid = solid_of(listed, faces if by_faces else [])
-        volume = sum(volume for volume, bit in zip(volumes, solid.choice) if bit == "1")
-        differs = by_faces and self.blocks.grid.cells(solid) != self.blocks.full(solid.choice)
-        if ordered != [solid.choice] or solid.volume != volume or differs:
-            raise Refused(f"the program lists solid {listed[1]} otherwise than it is shown")
-        return True
 
 
 # ---- what is wrong, and what would settle it
@@ -347,12 +305,11 @@ def suggest(asked: asking.Asked, arguments: argparse.Namespace, emit: Callable[[
 # ---- one drawing
 
 def follow(arguments: argparse.Namespace, search: Search) -> Events:
-    """All of one drawing. How it is read is found by the least search, and then it is searched as it was asked for."""
+    """All of one drawing. How it is read is found by asking for its blocks, and then it is searched as it was asked for."""
     told: list[str] = []
-    least = argparse.Namespace(**{**vars(arguments), "limits": asking.words_of(arguments), "nodes": 1, "solids": 1})
     try:
         try:
-            asked = asking.ask(arguments.drawing, least, told.append)
+            asked = blocks.ask(arguments, told.append)
         finally:
             yield from map(said, told)
         head = asked.run.text.partition("\n")[0]
@@ -362,7 +319,7 @@ def follow(arguments: argparse.Namespace, search: Search) -> Events:
             return
         search.take_rounds(asked.rounds)
         yield from rounds_events(asked)
-        yield from search.events(asked.data, asked.decimals, arguments)
+        yield from search.events(asked.data, asked.decimals, blocks.blocks_in(asked.run.text), arguments)
         yield from map(said, left_open.told(asked, arguments))
         if WHOLE.fullmatch(search.head) and not search.choices:
             known = asked._replace(run=program.Run(program.WHOLE, f"{search.head}\n", 0.0))

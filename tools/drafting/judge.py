@@ -1,22 +1,24 @@
 """Judges an answer by another program: clingo (apt-get install gringo) lists all solids of the drawing from the column rule, in
 the twenty lines of views.lp beside this file, and knows nothing of blocks, of searches or of the proved program. Each
 solid of the answer is drawn by the definitions too and compared with the drawing, and so are clingo's where there are further views;
-solids have to be the same ones, each once, in the stated order. The answer is read from the file ANSWER (`-` for standard input), or
-else had by running the program.
+solids have to be the same ones, each once, in the stated order, and each has to fill just the blocks of its choice, as the program
+tells them. The answer is read from the file ANSWER (`-` for standard input), or else had by running the program.
 
-Of an answer that was cut it is judged that what it lists is right. The status is 1 where something differs. Nodes, blocks and
-faults aren't judged.
+Of an answer that was cut it is judged that what it lists is right. The status is 1 where something differs. Nodes and faults aren't
+judged.
 """
 import argparse
 import itertools
+import pathlib
 import re
 from collections.abc import Iterator
 from typing import NamedTuple
 
-from . import asking, solver
+from . import asking, blocks, solver
 from .answers import CUT, FAULT, Answer, answer_of, text_of
+from .blocks import Blocks
 from .cells import Grid as Cells, grid_round
-from .drawing import decimals_of, lines_of, views_of
+from .drawing import decimals_of, lines_within, views_of
 from .given import given_in
 from .messages import Progress, Refused, many, say, write_result
 from .panels import Cell, Grid, Shown, further_of, grid_of, panels_of, sheet_of, shown_of
@@ -35,6 +37,7 @@ def add_arguments(parser: argparse.ArgumentParser) -> None:
     parser.add_argument("answer", metavar="ANSWER", nargs="?", help="what recon solve wrote for it; - for standard input")
     parser.add_argument("--most", type=int, default=MOST, help=f"of how many solids at most ({MOST:,})")
     parser.add_argument("--search", type=float, default=SEARCH, metavar="SECONDS", help=f"how long clingo may take ({SEARCH:g} s)")
+    blocks.add_argument(parser)
     asking.add_arguments(parser)
 
 
@@ -110,6 +113,13 @@ def complaints_of(solids: list[tuple[int, Solid | Refused]], drawing: Drawing) -
         last = solid
 
 
+def others(answer: Answer, solids: list[tuple[int, Solid | Refused]], its: Blocks) -> Iterator[str]:
+    """Which solids of an answer aren't those of the blocks of their choices."""
+    for told, (number, solid) in zip(answer.solids, solids):
+        if not isinstance(solid, Refused) and not its.are_of(told):
+            yield f"solid {number} has other blocks than its choice tells"
+
+
 # ---- the solids that clingo finds
 
 def found_solids(drawing: Drawing, most: int, seconds: float) -> set[Solid]:
@@ -138,10 +148,10 @@ def compared(mine: set[Solid], solids: list[tuple[int, Solid | Refused]]) -> Ite
         yield f"{many(missing, 'solid')} that clingo finds {'is' if missing == 1 else 'are'} not in the answer"
 
 
-def judged(answer: Answer, drawing: Drawing, most: int, seconds: float) -> str:
+def judged(answer: Answer, drawing: Drawing, its: Blocks, most: int, seconds: float) -> str:
     """What is found right, in words; refused where something differs, after each such thing was said."""
     solids = list(solids_of(answer, drawing.grid))
-    wrong = list(complaints_of(solids, drawing))
+    wrong = [*complaints_of(solids, drawing), *others(answer, solids, its)]
     count = many(answer.listed, "solid")
     if CUT.fullmatch(answer.head):
         right = f"The answer was cut. What it lists, {count}, has these views, each once, in the stated order."
@@ -159,16 +169,18 @@ def judged(answer: Answer, drawing: Drawing, most: int, seconds: float) -> str:
 def run(arguments: argparse.Namespace) -> int:
     if arguments.answer:
         answer = answer_of(text_of(arguments.answer))
-        lines = lines_of(arguments.drawing)
+        data = pathlib.Path(arguments.drawing).read_bytes()
+        lines = lines_within(data)
         decimals = answer.decimals if answer.solids else decimals_of(lines)
     else:
         asked = asking.ask(arguments.drawing, arguments, lambda text: say(f"draft judge: {text}"))
-        answer, lines, decimals = answer_of(asked.run.text), asked.lines, asked.decimals
+        answer, data, lines, decimals = answer_of(asked.run.text), asked.data, asked.lines, asked.decimals
     if given_in(lines):
         say("draft judge: what is judged are the solids of the drawing with its rounds squared off")
     if FAULT.fullmatch(answer.head):
         raise Refused(f"a fault isn't judged: {answer.head}")
     views = views_of(lines)
     drawing = Drawing(grid_of(sheet_of(views, decimals)), further_of(views, decimals))
-    write_result(judged(answer, drawing, arguments.most, arguments.search) + "\n", None)
+    its = blocks.of(arguments, data, lines, decimals)
+    write_result(judged(answer, drawing, its, arguments.most, arguments.search) + "\n", None)
     return 0

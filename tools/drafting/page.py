@@ -1,5 +1,6 @@
 """Makes a page of a drawing and of what recon writes for it, which is read from the file ANSWER (`-` for standard input), or else
-had by running the program.
+had by running the program. Solids are shown by their blocks: where these are it tells too, or the file BLOCKS. An answer whose faces aren't
+those of its blocks is refused.
 
 The page stands alone and asks the network for nothing. It shows the views as drawn, and the solids in three dimensions, so
 many at a time: turned by mouse, touch and arrow keys, all together, and one large, with sections. What only some of them have is
@@ -18,13 +19,13 @@ import pathlib
 import re
 from collections.abc import Iterator
 
-from . import answering, asking, follow, program, rooms, sheet, shown
+from . import answering, asking, blocks, follow, program, sheet, shown
 from .answers import CUT, FAULT, Answer, answer_of, text_of
-from .drawing import decimals_of, lines_of, lines_within, missing_in, origin_of, views_of
+from .blocks import Blocks
+from .drawing import decimals_of, lines_within, missing_in, origin_of, views_of
 from .follow import Event, Events
 from .given import given_in
 from .messages import Refused, say, write_result
-from .panels import sheet_of
 from .shown import Units
 
 NAME = "page"
@@ -115,12 +116,10 @@ def page(name: str, events: list[Event], tiles: int) -> str:
 
 # ---- what it tells
 
-def checked_choices(answer: Answer, blocks: rooms.Blocks) -> list[str]:
+def checked_choices(answer: Answer, its: Blocks) -> list[str]:
     """The solids' choices; refused where the faces of some solid aren't those of its blocks."""
-    corners = {corner for solid in answer.solids for face in solid.faces for loop in face.loops for corner in loop}
-    are_known = all(at in ranks for corner in corners for at, ranks in zip(corner, blocks.grid.ranks))
     for solid in answer.solids:
-        if not are_known or blocks.grid.cells(solid) != blocks.full(solid.choice):
+        if not its.are_of(solid):
             raise Refused(f"the answer isn't of this drawing: the solid of choice {solid.choice[:60]} has other blocks")
     return [solid.choice for solid in answer.solids]
 
@@ -131,8 +130,8 @@ def rounds_of(lines: list[str], text: str, units: Units) -> answering.Readings |
     return answering.of_drawing(drawn, given, lambda *_: program.Run(program.WHOLE, text, 0.0)) if given else None
 
 
-def answer_told(lines: list[str], text: str) -> Events:
-    """An answer that is given, as it would be told while the program runs."""
+def answer_told(lines: list[str], text: str, its: Blocks | None) -> Events:
+    """An answer that is given, as it would be told while the program runs; of one with solids also where the drawing's blocks are."""
     answer = answer_of(text)
     head = answer.head
     units = Units(answer.decimals if answer.solids else decimals_of(lines), origin_of(lines))
@@ -150,15 +149,14 @@ def answer_told(lines: list[str], text: str) -> Events:
     rounds = rounds_of(lines, text, units)
     yield from follow.rounds_events(asking.Asked(b"", lines, units.decimals, units.origin, program.Run(program.WHOLE, text, 0.0), None, rounds))
     choices: list[str] = []
-    if answer.solids:
-        blocks = rooms.blocks_of(sheet_of(views, units.decimals))
-        choices = [it for it in checked_choices(answer, blocks) if rounds is None or it in rounds.choices]
-        yield follow.grid_event(blocks, units)
+    if its:
+        choices = [it for it in checked_choices(answer, its) if rounds is None or it in rounds.choices]
+        yield follow.grid_event(its, units)
         yield follow.solids_event(choices)
     count = answer.listed if rounds is None else len(choices)
     yield follow.end_event("cut" if CUT.fullmatch(head) else "whole", shown.head_told(head, count, missing_in(views), rounds))
-    if len(choices) > 1:
-        yield follow.means_event(blocks, choices, lines, units.decimals)
+    if its and len(choices) > 1:
+        yield follow.means_event(its, choices, lines, units.decimals)
 
 
 def told_by_program(arguments: argparse.Namespace) -> Events:
@@ -177,7 +175,10 @@ def told_by_program(arguments: argparse.Namespace) -> Events:
 
 def told_of(drawing: str, arguments: argparse.Namespace) -> Events:
     """What the program tells of a drawing that is at hand."""
-    return follow.Search().events(drawing.encode(), decimals_of(lines_within(drawing.encode())), arguments)
+    data = drawing.encode()
+    lines = lines_within(data)
+    decimals = decimals_of(lines)
+    return follow.Search().events(data, decimals, blocks.of(arguments, data, lines, decimals), arguments)
 
 
 def events_of(arguments: argparse.Namespace) -> Iterator[Event]:
@@ -185,12 +186,15 @@ def events_of(arguments: argparse.Namespace) -> Iterator[Event]:
         return map(json.loads, pathlib.Path(arguments.events).read_text().splitlines())
     if not arguments.answer:
         return told_by_program(arguments)
-    return answer_told(lines_of(arguments.drawing), text_of(arguments.answer))
+    data, text = pathlib.Path(arguments.drawing).read_bytes(), text_of(arguments.answer)
+    lines, answer = lines_within(data), answer_of(text)
+    return answer_told(lines, text, blocks.of(arguments, data, lines, answer.decimals) if answer.solids else None)
 
 
 def add_arguments(parser: argparse.ArgumentParser) -> None:
     parser.add_argument("drawing", metavar="FILE.dxf")
     parser.add_argument("answer", metavar="ANSWER", nargs="?", help="what recon solve wrote for it as it is; - for standard input")
+    blocks.add_argument(parser)
     parser.add_argument("-o", "--output", metavar="OUT.html", help="the file to write, else standard output")
     parser.add_argument("--tiles", type=int, default=TILES, help=f"how many solids are shown at a time (else {TILES})")
     parser.add_argument("--events", metavar="EVENTS", help="what `draft follow` told of the drawing")
@@ -199,6 +203,8 @@ def add_arguments(parser: argparse.ArgumentParser) -> None:
 
 
 def run(arguments: argparse.Namespace) -> int:
+    if arguments.blocks and not arguments.answer:
+        raise Refused("--blocks goes with an answer")
     if arguments.tiles < 1:
         raise Refused("not even one solid at a time")
     name = arguments.name or pathlib.Path(arguments.drawing).name

@@ -6,21 +6,23 @@ writes the drawing with these. Where even all three leave others, it says which 
 
 Of two views it says what the third one would show of each solid, and with --meant K completes the drawing by that of solid K.
 
-Views and sections are drawn here, by the definitions, from the solids that the proved program lists. Of the drawing with the added
-lines the program has to list just the solids that are said to be left.
+Views and sections are drawn here, by the definitions, from the solids that the proved program lists; where blocks are it tells too. Of
+the drawing with the added lines the program has to list just the solids that are said to be left.
 """
 import argparse
+import functools
 import itertools
 import json
 import pathlib
 from collections import Counter
-from collections.abc import Hashable, Sequence
+from collections.abc import Callable, Hashable, Sequence
 from typing import NamedTuple
 
-from . import asking, faults, program
+from . import asking, blocks, faults, program
 from .answers import CUT, FAULT, WHOLE, Answer, Face, Solid, answer_of, have_views, text_of
+from .blocks import Blocks
 from .cells import Grid as Cells, grid_round
-from .drawing import FURTHER, VIEWS, lines_of, lines_within, number, pairs_of, views_of
+from .drawing import FURTHER, VIEWS, lines_within, number, pairs_of, views_of
 from .given import given_in
 from .groups import meet
 from .messages import Progress, Refused, many, say, write_result
@@ -40,6 +42,7 @@ MOST_SETTLED = 500
 def add_arguments(parser: argparse.ArgumentParser) -> None:
     parser.add_argument("drawing", metavar="FILE.dxf")
     parser.add_argument("--answer", metavar="ANSWER", help="what recon solve wrote for it; - for standard input")
+    blocks.add_argument(parser)
     parser.add_argument("--meant", type=int, metavar="K", help="the solid that is meant, by its number in the answer")
     parser.add_argument("--write", metavar="OUT.dxf", help="with --meant: write the drawing with the lines to be added")
     parser.add_argument("--by", action="append", choices=(*VIEWS, *FURTHER), default=[], metavar="VIEW", help="with --meant: this view, not the fewest")
@@ -229,26 +232,19 @@ def with_lines(lines: list[str], added: list[Added], decimals: int) -> str:
     return "\n".join([*lines[:end], *more, *lines[end:]]) + "\n"
 
 
-def blocks_told(solids: Solids, answer: Answer, left: list[int], sheet: Sheet) -> list[str]:
-    """The blocks in which the solids that are left differ: where each is, as far as these solids tell it."""
-    here = Solids(solids.cells, [solids.full[number] for number in left])
-    patterns: dict[str, list[Cell]] = {}
-    for cell in here.cells_in(here.varying()):
-        bit = 1 << place_of(solids, cell)
-        patterns.setdefault("".join("1" if full & bit else "0" for full in here.full), []).append(cell)
-    blocks: dict[str, list[int]] = {}
-    for block, bits in enumerate(zip(*(answer.solids[number].choice for number in left))):
+def blocks_told(its: Blocks, choices: list[str], sheet: Sheet) -> list[str]:
+    """The blocks in which the solids of some choices differ: where they are, those together that the same solids have."""
+    alike: dict[tuple[str, ...], list[int]] = {}
+    for block, bits in enumerate(zip(*choices)):
         if len(set(bits)) == 2:
-            blocks.setdefault("".join(bits), []).append(block)
+            alike.setdefault(bits, []).append(block)
     rows = []
-    for pattern, numbers in blocks.items():
-        cells = patterns.get(pattern, [])
-        box = [
-            f"{AXES[axis]} {' to '.join(sheet.between(axis, cut, cut[min(it[axis] for it in cells)], cut[max(it[axis] for it in cells) + 1]))}"
-            for axis, cut in enumerate(solids.cells.cuts)
-        ] if cells else []
+    for bits, numbers in alike.items():
+        cells = [cell for number in numbers for cell in its.grid.all_in(its.cells[number])]
+        box = [f"{AXES[axis]} {' to '.join(sheet.between(axis, cut, cut[min(ats)], cut[max(ats) + 1]))}"
+               for axis, (cut, ats) in enumerate(zip(its.grid.cuts, zip(*cells)))]
         name = f"block{'s' * (len(numbers) > 1)} {', '.join(map(str, numbers))}"
-        rows.append(f"  {name}, within {', '.join(box)}: full in {pattern.count('1')} of {len(left)}")
+        rows.append(f"  {name}, within {', '.join(box)}: full in {bits.count('1')} of {len(choices)}")
     return rows
 
 
@@ -258,6 +254,7 @@ class Case(NamedTuple):
     """A drawing that was read with so many decimals, the answer to it, and its strokes; where the answer is of some of its solids alone,
     also all that the program lists."""
 
+    data: bytes
     lines: list[str]
     decimals: int
     answer: Answer
@@ -278,7 +275,7 @@ def of_first_reading(asked: asking.Asked) -> list[Solid]:
 def of_asked(asked: asking.Asked) -> Case:
     """What is settled of an answer."""
     answer = answer_of(asked.run.text)
-    case = Case(asked.lines, asked.decimals, answer, None if FAULT.fullmatch(answer.head) else asked.sheet())
+    case = Case(asked.data, asked.lines, asked.decimals, answer, None if FAULT.fullmatch(answer.head) else asked.sheet())
     if asked.rounds:
         kept = of_first_reading(asked)
         case = case._replace(answer=answer._replace(solids=kept, listed=len(kept)), listed=answer.solids)
@@ -288,8 +285,8 @@ def of_asked(asked: asking.Asked) -> Case:
 def case_of(arguments: argparse.Namespace) -> Case:
     """What is settled: the answer that is given, or what the program says."""
     if arguments.answer:
-        answer = answer_of(text_of(arguments.answer))
-        case = Case(lines_of(arguments.drawing), answer.decimals, answer, None)
+        answer, data = answer_of(text_of(arguments.answer)), pathlib.Path(arguments.drawing).read_bytes()
+        case = Case(data, lines_within(data), answer.decimals, answer, None)
         if given_in(case.lines):
             say("draft settle: warning: the drawing has its rounds squared off, and of the solids of the answer not all may be kept")
     else:
@@ -372,7 +369,8 @@ def added_told(line: Added, sheet: Sheet, cuts: list[list[int]]) -> str:
 
 
 def told_meant(
-    solids: Solids, answer: Answer, number: int, views: list[Means], sections: list[Means], sheet: Sheet, by: Sequence[str] = ()
+    solids: Solids, answer: Answer, number: int, views: list[Means], sections: list[Means], sheet: Sheet, its: Callable[[], Blocks],
+    by: Sequence[str] = ()
 ) -> tuple[list[str], list[Added], list[list[Face]]]:
     """What is told of the solid that is meant, the lines to be added, and the faces of the solids that are left; by the fewest views,
     or by those that are named."""
@@ -392,7 +390,7 @@ def told_meant(
     rows += [added_told(line, sheet, cuts) for line in added]
     if left != {number}:
         rows.append(f"The solids that are left: {', '.join(str(it + 1) for it in sorted(left))}. They differ in")
-        rows += blocks_told(solids, answer, sorted(left), sheet)
+        rows += blocks_told(its(), [answer.solids[it].choice for it in sorted(left)], sheet)
         settling = sections_for(sections, number, left)
         names = " and a ".join(it.name for it in settling)
         rows.append(f"It would be settled by a {names}." if settling else f"No {MOST_SECTIONS} sections settle it.")
@@ -447,7 +445,8 @@ def run(arguments: argparse.Namespace) -> int:
         rows += third_told(solids, views[0], sheet, len(answer.solids) if arguments.all else SHOWN) if sheet.missing else []
         rows.append("Views and sections are drawn here, from the solids that the program lists.")
     else:
-        more, added, left = told_meant(solids, answer, arguments.meant - 1, views, sections, sheet, arguments.by)
+        its = functools.partial(blocks.of, arguments, case.data, case.lines, case.decimals)
+        more, added, left = told_meant(solids, answer, arguments.meant - 1, views, sections, sheet, its, arguments.by)
         text, said = text_for(arguments, case, added, left) if added else ("", "")
         more = [*more, said] if added else more
         rows = [as_json(more, text, len(left))] if arguments.json else [*rows, *more]

@@ -1,20 +1,22 @@
 """Draws a drawing as one of recon's stages has it, from the front, the left and above: the grid; the pseudo wire frame, the edges that
 a solid may have; the virtual faces, which these edges close off; or the blocks between them, moved apart.
 
-They are found here, by the definitions (rooms.py), and not by the proved program.
+Blocks are those that recon tells; the others are found here, by the definitions (`wire.py`), and not by the proved program.
 """
 import argparse
 import itertools
+import pathlib
 from collections.abc import Iterable, Iterator
 from typing import NamedTuple
 
+from . import blocks, program
 from .answers import Point
-from .drawing import Place, lines_of, views_of
+from .drawing import Place, lines_within, views_of
 from .messages import write_result
-from .panels import grid_of, sheet_of
+from .panels import Grid, grid_of, sheet_of
 from .picture import LABEL, MARGIN, farther_of, flat, sides_of
-from .rooms import Bits, Box, blocks_of, places_of, pseudo_edges, thinned, virtual_faces
 from .svg import label, path
+from .wire import Bits, Box, places_of, pseudo_edges, thinned, virtual_faces
 
 NAME = "stages"
 HELP = "draw a drawing as grid, pseudo wire frame, virtual faces or blocks"
@@ -83,9 +85,16 @@ def every_edge(box: Box) -> Bits:
 
 # ---- the stages
 
-def stage_of(path_of_drawing: str, decimals: int, shown: str) -> Stage:
-    sheet = sheet_of(views_of(lines_of(path_of_drawing)), decimals)
-    grid = thinned(grid_of(sheet))
+def stage_of(arguments: argparse.Namespace) -> Stage:
+    data, shown = pathlib.Path(arguments.drawing).read_bytes(), arguments.shown
+    lines = lines_within(data)
+    if shown == "blocks":
+        return blocks_stage(blocks.of(arguments, data, lines, arguments.decimals))
+    return wire_stage(thinned(grid_of(sheet_of(views_of(lines), arguments.decimals))), shown)
+
+
+def wire_stage(grid: Grid, shown: str) -> Stage:
+    """The grid, the wire frame or the faces."""
     box = Box(grid.cuts)
     lines = edges_drawn(box, grid.cuts, every_edge(box), "grid")
     if shown == "grid":
@@ -95,15 +104,16 @@ def stage_of(path_of_drawing: str, decimals: int, shown: str) -> Stage:
     wire = edges_drawn(box, grid.cuts, edges, "edge")
     if shown == "wire":
         return Stage(lines + wire, f"{len(wire)} pseudo edges of {len(lines)} grid edges")
-    if shown == "faces":
-        faces = virtual_faces(box, edges)
-        axes = ((1, 2), (0, 2), (0, 1))
-        drawn = [Shape("virtual", spanned(grid.cuts, point_of(box, place), axes[axis]), True)
-                 for axis in range(3) for place in places_of(faces[axis])]
-        return Stage(lines + from_back(drawn), f"{len(drawn)} virtual faces")
-    blocks = blocks_of(sheet)
-    drawn = [shape for cells in blocks.cells for shape in block_drawn(grid.cuts, set(blocks.grid.all_in(cells)))]
-    return Stage(from_back(drawn), f"{len(blocks.cells)} blocks")
+    faces = virtual_faces(box, edges)
+    axes = ((1, 2), (0, 2), (0, 1))
+    drawn = [Shape("virtual", spanned(grid.cuts, point_of(box, place), axes[axis]), True)
+             for axis in range(3) for place in places_of(faces[axis])]
+    return Stage(lines + from_back(drawn), f"{len(drawn)} virtual faces")
+
+
+def blocks_stage(told: blocks.Blocks) -> Stage:
+    drawn = [shape for cells in told.cells for shape in block_drawn(told.grid.cuts, set(told.grid.all_in(cells)))]
+    return Stage(from_back(drawn), f"{told.count} blocks")
 
 
 def block_drawn(cuts: list[list[int]], cells: set[Point]) -> Iterator[Shape]:
@@ -144,10 +154,10 @@ def add_arguments(parser: argparse.ArgumentParser) -> None:
     parser.add_argument("drawing", metavar="FILE.dxf", help="a drawing as recon reads it")
     parser.add_argument("shown", choices=SHOWN, help="the stage")
     parser.add_argument("--decimals", type=int, choices=range(7), default=0, help="how many decimals coordinates have, 0 to 6")
+    program.add_arguments(parser)
     parser.add_argument("-o", "--output", metavar="OUT.svg", help="the file to write, else standard output")
 
 
 def run(arguments: argparse.Namespace) -> int:
-    stage = stage_of(arguments.drawing, arguments.decimals, arguments.shown)
-    write_result("".join(f"{line}\n" for line in picture(stage)), arguments.output)
+    write_result("".join(f"{line}\n" for line in picture(stage_of(arguments))), arguments.output)
     return 0

@@ -1,7 +1,7 @@
 """Completeness logs by the plain definitions, for the tests of check_log.py: a writer of them, and what is wrong with one.
 
-What two columns can draw is found from the edges by four cells and what hides them, step by step away from the viewer. The grid
-and its blocks are those of drafting/rooms.py.
+What two columns can draw is found from the edges by four cells and what hides them, step by step away from the viewer. The grid and its
+faces are those of drafting/wire.py, and its blocks what chains that pass no face reach.
 """
 import functools
 import itertools
@@ -10,8 +10,8 @@ from collections.abc import Iterator
 from typing import NamedTuple
 
 from drafting.drawing import VIEWS, lines_within, views_of
-from drafting.panels import BLANK, DASHED, FRAMES, SOLID, axis_of, grid_of, sheet_of
-from drafting.rooms import blocks_of, thinned
+from drafting.panels import BLANK, DASHED, FRAMES, SOLID, Grid, axis_of, grid_of, sheet_of
+from drafting.wire import Box, places_of, pseudo_edges, thinned, virtual_faces
 
 # What is known of a cell: it is empty, full, or still open.
 Cell = int | None
@@ -36,19 +36,34 @@ class Plain(NamedTuple):
     firsts: dict[Demand, str]
 
 
+def blocks_in(grid: Grid) -> dict[tuple[int, ...], int]:
+    """The block of each cell of a grid that is in one: numbered by their first cells, in the order z, y, x."""
+    box = Box(grid.cuts)
+    walls, inside = virtual_faces(box, pseudo_edges(grid, box)), box.inside(box.sizes)
+    left = inside & ~box.reached(box.every & ~inside, box.every, walls)
+    found: dict[tuple[int, ...], int] = {}
+    _, row, layer = box.strides
+    for number in itertools.count():
+        if not left:
+            return found
+        block = box.reached(left & -left, left, walls)
+        left &= ~block
+        found |= {(at % row - 1, at % layer // row - 1, at // layer - 1): number for at in places_of(block)}
+    return found
+
+
 def plain_of(data: bytes) -> Plain:
-    sheet = sheet_of(views_of(lines_within(data)), 0)
-    grid, blocks = thinned(grid_of(sheet)), blocks_of(sheet)
-    at, strides, sizes = blocks.numbers(), blocks.grid.strides, [len(cut) - 1 for cut in grid.cuts]
+    grid = thinned(grid_of(sheet_of(views_of(lines_within(data)), 0)))
+    blocks, sizes = blocks_in(grid), [len(cut) - 1 for cut in grid.cuts]
 
     def column(view: str, right: int, up: int) -> tuple[int | None, ...]:
         frame = FRAMES[view]
         depths = range(sizes[frame.sight])
         if not (0 <= right < sizes[frame.right] and 0 <= up < sizes[frame.up]):
             return (None,) * len(depths)
-        start = right * strides[frame.right] + up * strides[frame.up]
-        found = [at[start + depth * strides[frame.sight]] for depth in depths]
-        return tuple(None if number < 0 else number for number in (found[::-1] if frame.sight_back else found))
+        at = {frame.right: right, frame.up: up}
+        found = [blocks.get(tuple({**at, frame.sight: depth}[axis] for axis in range(3))) for depth in depths]
+        return tuple(found[::-1] if frame.sight_back else found)
 
     lines = {}
     for view, upright in itertools.product(VIEWS, (False, True)):
@@ -60,7 +75,7 @@ def plain_of(data: bytes) -> Plain:
     firsts: dict[Demand, str] = {}
     for name, demand in lines.items():
         firsts.setdefault(demand, name)
-    return Plain(len(blocks.cells), lines, firsts)
+    return Plain(len(set(blocks.values())), lines, firsts)
 
 
 # ---- what columns can draw

@@ -23,6 +23,7 @@ def answer_with(answer: str, solids: list[str]) -> str:
 
 
 @needs_command("clingo", "gringo")
+@needs_program()
 class Judge(unittest.TestCase):
     def setUp(self) -> None:
         folder = tempfile.TemporaryDirectory()
@@ -68,7 +69,6 @@ class Judge(unittest.TestCase):
         ended = draft("judge", EXAMPLES / "quartered_cube_half_hidden.dxf", EXAMPLES / "quartered_cube.txt")
         self.assertEqual((ended.status, ended.out), (1, ""))
 
-    @needs_program()
     def test_random_drawings(self) -> None:
         rng = random.Random(67)
         for number in range(60):
@@ -86,7 +86,6 @@ class Judge(unittest.TestCase):
                 ended = self.judged(drawing, answer_with(answer, solids[:lost] + solids[lost + 1:]))
                 self.assertEqual(ended.status, 1, (number, sorted(cells)))
 
-    @needs_program()
     def test_an_answer_that_was_cut(self) -> None:
         answer = program.run(program.find(), ["solve", "--solids", 5], (EXAMPLES / "eight_voids.dxf").read_bytes()).text
         ended = self.judged((EXAMPLES / "eight_voids.dxf").read_text(), answer)

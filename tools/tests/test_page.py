@@ -7,12 +7,11 @@ import tempfile
 import unittest
 from collections import Counter
 
-from drafting import page, rooms
-from drafting.answers import answer_of
-from drafting.drawing import Origin, decimals_of, lines_of, lines_within, origin_of, passed_over, views_of, written
+from drafting import page
+from drafting.blocks import Blocks, blocks_in
+from drafting.drawing import Origin, lines_of, lines_within, origin_of, passed_over, written
 from drafting.follow import Event, solids_event
 from drafting.messages import Refused
-from drafting.panels import sheet_of
 
 from .made import lines_of_runs, runs, voids
 from .support import EXAMPLES, TOOLS, draft, needs_module, needs_program
@@ -34,27 +33,16 @@ CUBE = [rectangle("FRONT", 0, 0, 3), rectangle("TOP", 0, 9, 3), rectangle("SIDE"
 
 
 class Pages(unittest.TestCase):
-    def told(self, lines: list[str], text: str) -> list[Event]:
-        return list(page.answer_told(lines, text))
+    def told(self, lines: list[str], text: str, its: Blocks | None = None) -> list[Event]:
+        return list(page.answer_told(lines, text, its))
 
-    def made(self, lines: list[str], text: str) -> str:
-        return page.page("part.dxf", self.told(lines, text), 64)
-
-    def test_blocks_are_those_of_the_program(self) -> None:
-        for name in ("quartered_cube", "eight_voids", "bracket", "row_of_three_pieces", "clevis", "pierced_plate", "two_cubes_along_an_edge"):
-            lines = lines_of(str(EXAMPLES / f"{name}.dxf"))
-            answer = answer_of((EXAMPLES / f"{name}.txt").read_text())
-            blocks = rooms.blocks_of(sheet_of(views_of(lines), decimals_of(lines)))
-            self.assertEqual(len(blocks.cells), int(answer.head.split()[-1]), name)
-            self.assertEqual([solid.choice for solid in answer.solids], sorted((solid.choice for solid in answer.solids), reverse=True))
-            for solid in answer.solids:
-                self.assertEqual(blocks.full(solid.choice), blocks.grid.cells(solid), (name, solid.choice))
-                self.assertEqual(sum(it for it, bit in zip(blocks.volumes(), solid.choice) if bit == "1"), solid.volume)
+    def made(self, lines: list[str], text: str, its: Blocks | None = None) -> str:
+        return page.page("part.dxf", self.told(lines, text, its), 64)
 
     def test_an_answer_of_another_drawing_is_refused(self) -> None:
         lines = lines_of(str(EXAMPLES / "quartered_cube.dxf"))
         with self.assertRaisesRegex(Refused, "drawing"):
-            self.told(lines, (EXAMPLES / "eight_voids.txt").read_text())
+            self.told(lines, (EXAMPLES / "eight_voids.txt").read_text(), blocks_in((EXAMPLES / "quartered_cube_blocks.txt").read_text()))
 
     def test_choices_are_told_by_four_blocks(self) -> None:
         self.assertEqual(solids_event(["10010", "00001"])["choices"], ["90", "08"])
@@ -106,7 +94,7 @@ class Pages(unittest.TestCase):
     @unittest.skipUnless((page.THREE / "three.min.js").exists(), "apt-get install libjs-three")
     def test_sizes_have_units(self) -> None:
         told = self.made(drawing(*CUBE, header="9\n$INSUNITS\n70\n4\n"), (EXAMPLES / "unit_cube.txt").read_text().replace("1", "3").replace(
-            "whole 3 nodes 2 blocks 3", "whole 1 nodes 2 blocks 1").replace("solid 3 choice 3 volume 3 faces 6", "solid 1 choice 1 volume 27 faces 6"))
+            "whole 3 nodes 2 blocks 3", "whole 1 nodes 2 blocks 1").replace("solid 3 choice 3 volume 3 faces 6", "solid 1 choice 1 volume 27 faces 6"), blocks_in("blocks 1\nx 0 3\ny 0 3\nz 0 3\nrow 0\n"))
         self.assertIn("FRONT 3 mm × 3 mm; TOP 3 mm × 3 mm; SIDE 3 mm × 3 mm", told)
         self.assertIn('"units":{"per":["1","1"],"unit":"mm"}', told)
 

@@ -75,6 +75,9 @@ class Settle(unittest.TestCase):
         self.assertRegex(ended.out, r"(?m)^LEFT +1 +35$")
         self.assertIn("No further views tell solid 1 alone: with REAR 4 solids are left.", ended.out)
         self.assertIn("The solids that are left: 1, 3, 25, 27.", ended.out)
+        # Behind the two squares that REAR shows solid, x turned round, lie two voids, which are told by front and section alone.
+        self.assertIn("  block 1, within x 1 to 2, y 1 to 2, z 1 to 2: full in 2 of 4\n", ended.out)
+        self.assertIn("  block 6, within x 3 to 4, y 1 to 2, z 3 to 4: full in 2 of 4\n", ended.out)
         self.assertIn("It would be settled by a section across y between 1 and 2.", ended.out)
         self.assertIn("Checked: of the drawing with these lines the program lists 4 solids, just those.", ended.out)
         rear = [

@@ -52,7 +52,6 @@ const TAKES = {
   suggestion: showSuggestion,
   looked: ({ first, rows }) => showLooking([first, ...rows].join(" ")),
   means: takeMeans,
-  compared: ({ count, faces }) => showCompared(count, faces),
 };
 
 export function take(event) {
@@ -96,13 +95,6 @@ function takeEnd({ html, how }) {
   findFitting();
   showAlike();
   change({ how, picked, meant, large });
-}
-
-/** How many solids were compared with what the program lists, by volume and by faces. */
-function showCompared(count, faces) {
-  const all = count === model.count ? (count === 1 ? "It was" : "All were") : `The first ${count.toLocaleString("en")} were`;
-  const some = faces < count ? `, the first ${faces} by their faces too` : " and faces";
-  if (count) find("footer .figures")?.append(`. ${all} compared with the program's list, by volumes${some}.`);
 }
 
 // ---- what is due

@@ -193,7 +193,6 @@ const TOLD = {
   end: ({ how }) => showEnd(how),
   looking: () => showProgress("Looking for what is wrong"),
   looked: () => finish(),
-  compared: () => finish(),
   over: ({ text }) => finish(text && `It ended: ${text}.`),
 };
 

@@ -1,73 +1,12 @@
-"""The blocks of a drawing, by the definitions (docs/DEFINITIONS.md, "Pseudo edges and virtual faces" and "Blocks"): its grid as the
-program has it, the pseudo edges that all views allow, the virtual faces that these close off, and the rooms between such faces.
-
-`recon solve --pages` tells solids by their blocks while it still searches; what they look like is known by this. What is shown so
-is compared with the faces that the program lists in the end.
+"""The grid of a drawing as the program has it, the pseudo edges that all its views allow, and the virtual faces that these close off, by the
+definitions (docs/DEFINITIONS.md, "Pseudo edges and virtual faces"): for pictures of them alone (`draft stages`). The program tells no edge
+and no face of these, but where blocks are (`blocks.py`).
 """
 import itertools
-import re
-from typing import NamedTuple
 
-from .cells import Grid as Cells
-from .messages import Refused
-from .panels import BLANK, FRAMES, Cuts, Grid, Panels, Sheet, axis_of, grid_of
+from .panels import BLANK, FRAMES, Cuts, Grid, Panels, axis_of
 
-# The most coordinates of an axis, and the most blocks, as the program has them.
-MOST, MOST_BLOCKS = 64, 4_096
 Bits = tuple[int, int, int]
-Walls = tuple[Bits, Bits, Bits]
-
-
-class Blocks(NamedTuple):
-    """A drawing's blocks: the grid, and the cells of each block, in their order, as numbers of bits of that grid."""
-
-    grid: Cells
-    cells: list[int]
-
-    def full(self, choice: str) -> int:
-        """The cells of a solid that is told by its choice."""
-        if len(choice) != len(self.cells):
-            raise Refused(f"a choice of {len(choice)} blocks, and the drawing has {len(self.cells)}")
-        full = 0
-        for cells, bit in zip(self.cells, choice):
-            full |= cells if bit == "1" else 0
-        return full
-
-    def numbers(self) -> list[int]:
-        """For each place of the grid the number of its block, from 0, or -1."""
-        at = [-1] * self.grid.count
-        for number, cells in enumerate(self.cells):
-            for place in places_of(cells):
-                at[place] = number
-        return at
-
-    def volumes(self) -> list[int]:
-        """How many unit cells each block has."""
-        volumes = [0] * len(self.cells)
-        widths = [[high - low for low, high in zip(cut, cut[1:])] for cut in self.grid.cuts]
-        wide, row = self.grid.strides[1], self.grid.strides[2]
-        for place, number in enumerate(self.numbers()):
-            if number >= 0:
-                volumes[number] += widths[0][place % wide] * widths[1][place % row // wide] * widths[2][place // row]
-        return volumes
-
-    def turned_round(self) -> "Blocks":
-        """The blocks in a mirror, x turned round."""
-        x, y, z = self.grid.cuts
-        grid = Cells([[x[-1] - at for at in reversed(x)], y, z])
-        return Blocks(grid, [sum(1 << place for place in map(self.turned, places_of(cells))) for cells in self.cells])
-
-    def turned(self, place: int) -> int:
-        """Where a cell is once x is turned round."""
-        wide = len(self.grid.cuts[0])
-        return place - place % wide + wide - 2 - place % wide
-
-
-def places_of(cells: int) -> list[int]:
-    """The places of some cells; only bytes that have a bit are looked at one by one."""
-    data = cells.to_bytes((cells.bit_length() + 7) // 8, "little")
-    found = ((match.start(), match[0][0]) for match in re.finditer(rb"[^\0]", data))
-    return [8 * at + bit for at, byte in found for bit in range(8) if byte >> bit & 1]
 
 
 # ---- the program's grid
@@ -131,6 +70,11 @@ class Box:
             cells = more
 
 
+def places_of(cells: int) -> list[int]:
+    """The places of some cells."""
+    return [place for place, bit in enumerate(f"{cells:b}"[::-1]) if bit == "1"]
+
+
 # ---- the wire frame, and what it closes off
 
 def pseudo_edges(grid: Grid, box: Box) -> Bits:
@@ -172,43 +116,3 @@ def virtual_faces(box: Box, edges: Bits) -> Bits:
         walls[b], walls[c] = edges[c], edges[b]
         faces.append(inside & ~box.reached(box.every & ~inside, box.every, (walls[0], walls[1], walls[2])))
     return faces[0], faces[1], faces[2]
-
-
-def blocks_of(sheet: Sheet) -> Blocks:
-    """The blocks of a drawing; refused where it has no grid that the program takes."""
-    grid = thinned(grid_of(sheet))
-    if any(not 2 <= len(cut) <= MOST for cut in grid.cuts):
-        raise Refused("the drawing has no grid with cells, or too fine a one")
-    box = Box(grid.cuts)
-    walls = virtual_faces(box, pseudo_edges(grid, box))
-    inside = box.inside(box.sizes)
-    left = inside & ~box.reached(box.every & ~inside, box.every, walls)
-    rooms: list[int] = []
-    while left:
-        if len(rooms) == MOST_BLOCKS:
-            raise Refused(f"the drawing has more than {MOST_BLOCKS:,} blocks")
-        rooms.append(box.reached(left & -left, left, walls))
-        left &= ~rooms[-1]
-    cells = Cells(grid.cuts)
-    return Blocks(cells, [on_grid(box, cells, room) for room in rooms])
-
-
-def on_grid(box: Box, cells: Cells, room: int) -> int:
-    """Cells of the box as cells of the grid. Only layers that the room reaches are looked at: most rooms are small, and there are many."""
-    layer = box.strides[2]
-    low, high = ((room & -room).bit_length() - 1) // layer, (room.bit_length() - 1) // layer
-    room >>= low * layer
-    found = 0
-    for z in range(low - 1, high):
-        found |= rows_on_grid(box, cells, room & (1 << layer) - 1) << z * cells.strides[2]
-        room >>= layer
-    return found
-
-
-def rows_on_grid(box: Box, cells: Cells, layer: int) -> int:
-    """The rows of one layer."""
-    wide, first = (1 << box.sizes[0]) - 1, box.strides[0] + box.strides[1]
-    found = 0
-    for y in range(box.sizes[1]):
-        found |= (layer >> first + y * box.strides[1] & wide) << y * cells.strides[1]
-    return found
