@@ -8,6 +8,7 @@ from typing import NamedTuple
 
 from .answers import Solid
 from .cad import FreeCAD, Part, load
+from .cones import Fitted, volume_by_pi
 from .drawing import Place
 from .messages import Refused
 from .rounded import Drawn, Layer, Strip, by_rounds, spot, volume_of
@@ -113,9 +114,18 @@ def tools_of(found: Sequence[Drawn], unit: int, by_formula: bool) -> tuple[list[
     return wholes, [it for it in corners if it.shape.Solids]
 
 
-def rounded_shape(solid: Solid, found: Sequence[Drawn], unit: int, by_formula: bool) -> "Part.Shape":
+def cone_tools(it: Fitted) -> Iterator[Tool]:
+    """What puts a cone back: where it was squared to a step that is wider than it, that is taken back before."""
+    cone, height = it.cone, abs(it.end - it.neck)
+    foot, way = vector(cone.view, cone.centre, it.neck), vector(cone.view, (0, 0), math.copysign(1, it.end - it.neck))
+    if cone.end_radius > cone.radius:
+        yield Tool(Part.makeCylinder(cone.end_radius, height, foot, way), not it.is_full)
+    yield Tool(Part.makeCone(cone.radius, cone.end_radius, height, foot, way), it.is_full)
+
+
+def rounded_shape(solid: Solid, found: Sequence[Drawn], cones: Sequence[Fitted], unit: int, by_formula: bool) -> "Part.Shape":
     """The shape of a solid rounded back. Squares of whole circles become what is round them, the least ones first; then the cylinders are
-    added or cut, the greatest ones first; before, other corners are cut or filled."""
+    added or cut, the greatest ones first; before, other corners are cut or filled, and in the end cones put back."""
     shape, cylinders = shape_of(solid).scale(1 / unit), []
     wholes, corners = tools_of(found, unit, by_formula)
     for it in sorted(wholes, key=lambda whole: whole.radius):
@@ -125,9 +135,11 @@ def rounded_shape(solid: Solid, found: Sequence[Drawn], unit: int, by_formula: b
             cylinder = cylinder.common(shape) if it.is_full else cylinder.cut(shape)
         shape = applied(shape, Tool(it.square, not it.is_full))
         cylinders.append(Tool(cylinder, it.is_full))
-    for tool in [*corners, *reversed(cylinders)]:
+    for tool in [*corners, *reversed(cylinders), *(tool for cone in cones for tool in cone_tools(cone))]:
         shape = applied(shape, tool)
-    return checked(read_back(shape.removeSplitter()), solid, found, unit, by_formula)
+    plain, by_pi = volume_of(solid, found, unit)
+    volume = float(plain) + float(by_pi + volume_by_pi(cones, unit)) * math.pi
+    return checked(read_back(shape.removeSplitter()), volume if by_formula else None)
 
 
 def turned_round(shape: "Part.Shape") -> "Part.Shape":
@@ -137,10 +149,10 @@ def turned_round(shape: "Part.Shape") -> "Part.Shape":
     return turned
 
 
-def checked(shape: "Part.Shape", solid: Solid, found: Sequence[Drawn], unit: int, by_formula: bool) -> "Part.Shape":
+def checked(shape: "Part.Shape", volume: float | None) -> "Part.Shape":
+    """The shape, where it is valid, and has the volume that the formula tells."""
     if not shape.isValid() or not shape.Solids:
         raise Refused("FreeCAD makes no valid solid of it")
-    plain, by_pi = map(float, volume_of(solid, found, unit))
-    if by_formula and abs(shape.Volume - plain - by_pi * math.pi) > NOISE * shape.Volume:
-        raise Refused(f"FreeCAD's volume of it is {shape.Volume:.9g}, and {plain + by_pi * math.pi:.9g} was to come")
+    if volume is not None and abs(shape.Volume - volume) > NOISE * shape.Volume:
+        raise Refused(f"FreeCAD's volume of it is {shape.Volume:.9g}, and {volume:.9g} was to come")
     return shape

@@ -12,7 +12,7 @@ from .given import NOWHERE, Given, Stretch, times
 from .panels import FRAMES
 from .reading import Arc, Edge
 from .rounded import Drawn
-from .rounds import is_level
+from .rounds import is_level, is_straight
 from .shapes import DIRECTIONS, VISIBLE
 
 # Of TechDraw's ten groups of edges, of which the first five are visible: sharp edges and outlines; and smooth ones and seams.
@@ -20,8 +20,8 @@ SHARP, SMOOTH = (0, 3, 5, 8), (1, 2, 6, 7)
 # How far apart coordinates are that are one, and how long a stretch has to be that counts; of parts that are no less than this.
 NEAR, LEAST, SIZE = 2.5e-3, 3e-3, 10.0
 
-# By line or circle: from where to where it is drawn, and whether hidden. A line is told by its way and its coordinate across; a circle by
-# its centre and radius, and places on it by lengths.
+# By line or circle: from where to where it is drawn, and whether hidden. A line is told by its way and its coordinate across, an oblique
+# one by two places on it; a circle by its centre and radius, and places on it by lengths.
 Span = tuple[float, float, bool]
 Rows = dict[tuple[float, ...], list[Span]]
 
@@ -86,14 +86,41 @@ def arc_of(hidden: bool, centre: Place, radius: float, places: Sequence[Place]) 
 
 def ends_of(places: Sequence[Place]) -> tuple[Place, Place] | None:
     (x0, x1), (y0, y1) = ((min(its), max(its)) for its in zip(*places))
-    return ((x0, y0), (x1, y1)) if min(x1 - x0, y1 - y0) < 1e-6 else None
+    if min(x1 - x0, y1 - y0) < 1e-6:
+        return (x0, y0), (x1, y1)
+    return (places[0], places[-1]) if all(off(it, (places[0], places[-1])) < 1e-6 for it in places) else None
+
+
+def off(place: Place, line: tuple[Place, Place]) -> float:
+    """How far a place lies from a line through two others."""
+    (x, y), (right, up) = line
+    return abs((place[0] - x) * (up - y) - (place[1] - y) * (right - x)) / math.dist(*line)
 
 
 # ---- the comparison
 
-def rows_of(lines: Sequence[Edge], arcs: Sequence[Arc]) -> Rows:
+def slants_of(lines: Sequence[Edge]) -> list[Edge]:
+    """Of the oblique lines one of each that lies in no other's, the longest first."""
+    found: list[Edge] = []
+    for edge in sorted((it for it in lines if not is_straight(it, NEAR)), key=lambda it: -math.dist(it.start, it.end)):
+        if slant_under(edge, found) is None:
+            found.append(edge)
+    return found
+
+
+def slant_under(edge: Edge, slants: Sequence[Edge]) -> Edge | None:
+    """In which oblique line another one lies."""
+    return next((it for it in slants if all(off(end, (it.start, it.end)) < NEAR for end in (edge.start, edge.end))), None)
+
+
+def rows_of(lines: Sequence[Edge], arcs: Sequence[Arc], slants: Sequence[Edge] = ()) -> Rows:
     rows: Rows = defaultdict(list)
     for edge in lines:
+        if not is_straight(edge, NEAR):
+            if under := slant_under(edge, slants):
+                low, high = sorted(along(end, under) for end in (edge.start, edge.end))
+                rows[(*under.start, *under.end)].append((low, high, edge.hidden))
+            continue
         way = 0 if is_level(edge) else 1
         low, high = sorted((edge.start[way], edge.end[way]))
         rows[way, round(edge.start[1 - way], 3) + 0.0].append((low, high, edge.hidden))
@@ -103,6 +130,11 @@ def rows_of(lines: Sequence[Edge], arcs: Sequence[Arc]) -> Rows:
             low, high = (math.radians(at - turn) * arc.radius for at in (arc.start, arc.start + arc.sweep))
             rows[key].append((max(low, 0.0), min(high, 2 * math.pi * arc.radius), arc.hidden))
     return rows
+
+
+def along(place: Place, line: Edge) -> float:
+    """How far along a line a place lies, from its start on."""
+    return sum((b - a) * (it - a) for a, b, it in zip(line.start, line.end, place)) / math.dist(line.start, line.end)
 
 
 def joined_near(given: Rows, made: Rows) -> Rows:
@@ -143,8 +175,10 @@ def differences(shape: "Part.Shape", given: Given) -> Iterator[str]:
     for view in given.lines:
         made = drawn(shape, view)
         least = least_of(given, view)
-        rows = rows_of(*(moved(made.lines, made.arcs, least)))
-        told = joined_near(rows_of(given.lines[view], given.arcs.get(view, [])), rows)
+        lines, arcs = moved(made.lines, made.arcs, least)
+        slants = slants_of([*given.lines[view], *lines])
+        rows = rows_of(lines, arcs, slants)
+        told = joined_near(rows_of(given.lines[view], given.arcs.get(view, []), slants), rows)
         if made.others:
             yield f"{view} has {made.others} curves that are neither lines nor arcs"
         for key in sorted(told.keys() | rows.keys()):
@@ -169,6 +203,8 @@ def moved(lines: Sequence[Edge], arcs: Sequence[Arc], least: Place) -> tuple[lis
 
 
 def place_told(key: tuple[float, ...], low: float, high: float) -> str:
+    if len(key) == 4:
+        return "{:.6g} to {:.6g} along the oblique line from ({:g}, {:g}) to ({:g}, {:g})".format(low, high, *key)
     if len(key) == 2:
         ends = [f"({key[1]:g}, {it:.6g})" if key[0] else f"({it:.6g}, {key[1]:g})" for it in (low, high)]
         return " to ".join(ends)

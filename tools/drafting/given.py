@@ -6,6 +6,7 @@ lines and arcs of each view, with which they are compared. All are from a view's
     draft arc TOP solid 40 25 6 0 360       from an angle on, so many degrees counterclockwise
     draft line FRONT dashed 34 0 34 8
     draft smooth FRONT upright solid 8 0 8  left out as a tangent edge or a seam: at, from, to
+    draft cone TOP 40 25 3 4 0 2.2 sure     a centre, from a radius at a depth on to another, and whether nothing else can stand for it
     draft doubt WORDS
 """
 import re
@@ -23,7 +24,7 @@ VIEW = "|".join((*VIEWS, *FURTHER))
 FORMS = {
     "round": rf"({VIEW}) # # # ([1-4]{{1,4}})( inner)?( cut)?", "arc": rf"({VIEW}) (solid|dashed) # # # # #",
     "line": rf"({VIEW}) (solid|dashed) # # # #", "smooth": rf"({VIEW}) (upright|level) (solid|dashed) # # #",
-    "reading": r"([1-9]\d{0,5}) of ([1-9]\d{0,5})", "doubt": "(.*)",
+    "cone": rf"({VIEW}) # # # # # #( sure)?", "reading": r"([1-9]\d{0,5}) of ([1-9]\d{0,5})", "doubt": "(.*)",
 }
 
 
@@ -62,6 +63,23 @@ class Stretch(NamedTuple):
         return Edge(self.hidden, *ends, 7, NOWHERE)
 
 
+class Cone(NamedTuple):
+    """A cone that was taken off or squared off (`cones.py`): the view along its axis, its centre there, from a radius at its neck's depth
+    along the axis, from the part's least corner on, to its end's, which is 0 at a point; and whether it is one wherever it fits."""
+
+    view: str
+    centre: Place
+    radius: float
+    neck: float
+    end_radius: float
+    end: float
+    is_sure: bool
+
+    def times(self, factor: float) -> "Cone":
+        x, y = self.centre
+        return Cone(self.view, (x * factor, y * factor), *(it * factor for it in self[2:6]), self.is_sure)
+
+
 class Given(NamedTuple):
     """What a drawing's comments say: the rounds, the lines and arcs by their views, what was left out as smooth, where squaring off may be
     wrong, and which reading of the sheet it is, of how many: one of a greater number changes more than to leave lines out."""
@@ -71,6 +89,7 @@ class Given(NamedTuple):
     arcs: dict[str, list[Arc]]
     smooth: list[Stretch]
     doubts: list[str]
+    cones: list[Cone]
     reading: tuple[int, int] = (1, 1)
 
     def extent(self, axis: int) -> float:
@@ -93,6 +112,7 @@ def times(given: Given, factor: int) -> Given:
         lines={view: [it._replace(start=place(it.start), end=place(it.end)) for it in its] for view, its in given.lines.items()},
         arcs={view: [it._replace(centre=place(it.centre), radius=it.radius * factor) for it in its] for view, its in given.arcs.items()},
         smooth=[it._replace(at=it.at * factor, low=it.low * factor, high=it.high * factor) for it in given.smooth],
+        cones=[it.times(factor) for it in given.cones],
     )
 
 
@@ -130,6 +150,8 @@ def rows_of(given: Given) -> Iterator[str]:
     for it in given.smooth:
         way = "upright" if it.is_upright else "level"
         yield f"smooth {it.view} {way} {styled(it.hidden)} {plain(it.at, it.low, it.high)}"
+    for cone in given.cones:
+        yield f"cone {cone.view} {plain(*cone.centre, *cone[2:6])}{' sure' if cone.is_sure else ''}"
     yield from (f"doubt {text}" for text in given.doubts)
 
 
@@ -170,18 +192,25 @@ def take_smooth(given: Given, view: str, way: str, style: str, *told: str) -> No
     given.smooth.append(Stretch(view, way == "upright", at, low, high, style == "dashed"))
 
 
+def take_cone(given: Given, view: str, *told: str) -> None:
+    x, y, radius, neck, end_radius, end = map(float, told[:6])
+    if radius <= 0 or end_radius < 0 or neck == end:
+        raise Refused("a cone without a radius or a height")
+    given.cones.append(Cone(view, (x, y), radius, neck, end_radius, end, bool(told[6])))
+
+
 def take_doubt(given: Given, text: str) -> None:
     given.doubts.append(text)
 
 
 TAKES: dict[str, Callable[..., None]] = {
-    "round": take_round, "arc": take_arc, "line": take_line, "smooth": take_smooth, "doubt": take_doubt,
+    "round": take_round, "arc": take_arc, "line": take_line, "smooth": take_smooth, "cone": take_cone, "doubt": take_doubt,
 }
 
 
 def given_in(lines: list[str]) -> Given | None:
     """What a drawing says of the sheet that it was squared off from; nothing where it wasn't."""
-    given, count = Given([], {}, {}, [], []), 0
+    given, count = Given([], {}, {}, [], [], []), 0
     for number, code, value in pairs_of(lines):
         if (code, value) == (2, "ENTITIES"):
             break

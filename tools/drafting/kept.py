@@ -6,6 +6,7 @@ from collections.abc import Sequence
 from fractions import Fraction
 from typing import Any, NamedTuple
 
+from . import cones
 from .answers import Answer, Solid
 from .given import Given
 from .messages import Progress, Refused, many
@@ -29,6 +30,14 @@ class Kept(NamedTuple):
     def size(self) -> float:
         """The volume, as near as a number tells it."""
         return float(self.volume[0]) + float(self.volume[1]) * math.pi if self.volume else float(self.shape.Volume)
+
+
+class Rounds(NamedTuple):
+    """A way to round a solid back: the layers of its rounds, its cones, and whether the volume's formula holds for it."""
+
+    drawn: Sequence[Drawn]
+    cones: Sequence[cones.Fitted]
+    by_formula: bool
 
 
 class Outcome(NamedTuple):
@@ -96,27 +105,29 @@ def rounded_back(number: int, solid: Solid, given: Given, unit: int, with_shapes
     for way, by_formula in ways_of(solid, given, unit):
         if some and not by_formula:
             break
-        volume = volume_of(solid, way, unit) if by_formula else None
         if with_shapes is None and not by_formula:
             why = why or "cut by walls, which needs FreeCAD"
             continue
-        try:
-            shape, doubt = shape_and_doubt(solid, way, given, unit, by_formula, with_shapes) if with_shapes else (None, "")
-            some.append(Kept(number, solid, volume, shape, doubt))
-        except Refused as refusal:
-            why = why or str(refusal)
+        choices = cones.choices(solid, way, given, unit) if by_formula or not given.cones else []
+        why = why or ("" if choices else "its holes and bosses don't have the places of all cones")
+        for chosen in choices:
+            plain, by_pi = volume_of(solid, way, unit)
+            volume = (plain, by_pi + cones.volume_by_pi(chosen, unit)) if by_formula else None
+            try:
+                shape, doubt = shape_and_doubt(solid, Rounds(way, chosen, by_formula), given, unit, with_shapes) if with_shapes else (None, "")
+                some.append(Kept(number, solid, volume, shape, doubt))
+            except Refused as refusal:
+                why = why or str(refusal)
     return some, why
 
 
-def shape_and_doubt(
-    solid: Solid, way: Sequence[Drawn], given: Given, unit: int, by_formula: bool, with_shapes: tuple[Any, Any]
-) -> tuple[Any, str]:
+def shape_and_doubt(solid: Solid, its: Rounds, given: Given, unit: int, with_shapes: tuple[Any, Any]) -> tuple[Any, str]:
     """The shape, and what of its smooth edges isn't as on the sheet; refused where its views aren't the sheet's."""
     bodies, compared = with_shapes
-    if bare := list(itertools.islice(compared.unexplained(given, way, unit), 1)):
+    if bare := list(itertools.islice(compared.unexplained(given, its.drawn, unit), 1)):
         raise Refused(bare[0])
     try:
-        shape = bodies.rounded_shape(solid, way, unit, by_formula)
+        shape = bodies.rounded_shape(solid, its.drawn, its.cones, unit, its.by_formula)
         large = compared.enlarged(shape, given)
         differing = list(itertools.islice(compared.differences(*large), 1))
         other, lacking = compared.smooth_doubts(*large) if given.smooth and not differing else (0, 0)

@@ -13,7 +13,7 @@ Each thing that is changed or left out is one line on standard error, and what c
 import argparse
 import itertools
 from collections import Counter
-from collections.abc import Callable, Iterator, Mapping, Sequence
+from collections.abc import Callable, Collection, Iterator, Mapping, Sequence
 from fractions import Fraction
 from typing import NamedTuple, Union
 
@@ -272,15 +272,16 @@ def gets_further(path: str | None, arguments: argparse.Namespace, source: Source
     return True
 
 
-def refuse_oblique(path: str | None, placed: Placed) -> None:
+def refuse_oblique(path: str | None, placed: Placed, taken: Collection[Edge] = (), why: str = "") -> None:
+    """Refuses a view with an oblique edge, but for those that are taken."""
     for view, group in placed.views.items():
-        run = next((run for run in group.runs if run.oblique), None)
+        run = next((run for run in group.runs if run.oblique and run.edge not in taken), None)
         if run is not None:
             x, y, behind = (*group.box[:2], ", from its lower left corner on") if run.edge.source.is_drawn else (0.0, 0.0, "")
             a, b, c, d = (round(it - least, 9) + 0.0 for it, least in zip((*run.edge.start, *run.edge.end), (x, y, x, y)))
             off = min(abs(a - c), abs(b - d))
             raise Refused(f"in {view} a {where(run.edge.source, path)} goes from {a:.9g}, {b:.9g} to {c:.9g}, {d:.9g}{behind}: it is oblique, off by "
-                          f"{off:.3g}, and recon reads level and upright edges alone (what is noise is said by --tolerance)")
+                          f"{off:.3g}, and recon reads level and upright edges alone{why} (what is noise is said by --tolerance)")
 
 
 def check_styles(placed: Placed, arguments: argparse.Namespace, tell: Tell) -> None:

@@ -5,14 +5,14 @@ import argparse
 import itertools
 import math
 from collections import Counter, defaultdict
-from collections.abc import Iterator, Sequence
+from collections.abc import Iterator, Mapping, Sequence
 from fractions import Fraction
 from typing import NamedTuple
 
-from . import given, rounds, sheet, tangent
+from . import cones, given, rounds, sheet, tangent
 from .cutting import Mark
 from .drawing import VIEWS, Place
-from .given import Given, Stretch
+from .given import Cone, Given, Stretch
 from .groups import Group, frames, holds, merged, pieces_of
 from .messages import Refused, many
 from .panels import FRAMES
@@ -24,6 +24,8 @@ from .tangent import Reading, Views
 
 # The decimals of coordinates that have no end, as on a bolt circle: solids go by their order alone.
 ROUNDED = 4
+# What is added where an oblique edge is refused on a sheet with rounds.
+NO_CONE = ", and of cones those at the ends of whole circles' holes and bosses, which both views from the side draw"
 # How far curves end from the lines that they meet, in files with three decimals, and by what share of the sheet.
 ENDS, SHARE = 6e-4, 1e-5
 # The most circles and arcs of a sheet, and how many warnings of one kind are told.
@@ -33,7 +35,8 @@ IN_LINE = 2e-3
 
 
 class Found(NamedTuple):
-    """What is read of a sheet, and its cutting-plane lines: its lines, its arcs within the views, and where these are."""
+    """What is read of a sheet, and its cutting-plane lines: its lines, its arcs within the views, and where these are;
+    its cones, from the views' least corners on, and what their oblique edges become."""
 
     path: str | None
     sheet: Sheet
@@ -42,6 +45,8 @@ class Found(NamedTuple):
     arcs: list[Arc]
     placed: Placed
     arguments: argparse.Namespace
+    cones: Sequence[Cone] = ()
+    flanks: Mapping[Edge, tuple[Edge, ...]] = {}
 
     @property
     def tolerance(self) -> float:
@@ -173,14 +178,31 @@ def read(path: str | None, read_sheet: Sheet, marks: Sequence[Mark], arguments: 
         raise Refused(f"{missing[0]} isn't drawn, and a sheet with circles or arcs is read where all three main views are there: draw it too")
     # What no reading changes is refused at once.
     sheet.refuse_unread(path, placed, read_sheet.unread, arguments, lambda text: None)
-    sheet.refuse_oblique(path, placed)
+    found, flanks = cones_in(placed, edges, rounds.rounds_of(kept, tolerance), tolerance)
+    sheet.refuse_oblique(path, placed, flanks, NO_CONE)
     for arc in kept:
         if not any(holds(group.box, arc_box(arc), OF_ONE * tolerance) for group in placed.views.values()):
             left.append(arc)
     counts = Counter(f"{arc.source.kind} on layer {arc.source.layer}, outside the views" for arc in left)
     sheet.tell_counted(tell, "left out", counts)
     within = [arc for arc in kept if not any(arc is it for it in left)]
-    return Found(path, read_sheet, marks, edges, within, placed, arguments)
+    return Found(path, read_sheet, marks, edges, within, placed, arguments, found, flanks)
+
+
+def cones_in(placed: Placed, edges: Sequence[Edge], its: Sequence[Round], tolerance: float) -> tuple[list[Cone], dict[Edge, tuple[Edge, ...]]]:
+    """The cones of a sheet, and what their oblique edges become."""
+    panels: dict[str, cones.Panel] = {}
+    places: dict[tuple[str, Edge], list[Edge]] = defaultdict(list)
+    for view, group in placed.views.items():
+        frame, box, noise = Frame(group, 1.0, placed.mirrored), group.box, OF_ONE * tolerance
+        circles = [one._replace(centre=frame.place(one.centre)) for one in its if len(one.numbers) == 4 and holds(box, one.box, noise)]
+        for edge in edges:
+            if holds(box, box_of([edge.start, edge.end]), noise):
+                places[view, frame.edge(edge)].append(edge)
+        panels[view] = cones.Panel((box[2] - box[0], box[3] - box[1]), [edge for at, edge in places if at == view], circles)
+    found = cones.cones_of(panels, tolerance)
+    flanks = list(cones.flanks_of(panels, found, tolerance))
+    return found, {edge: it.steps(edge) for it in flanks for edge in places[it.view, it.edge]}
 
 
 # ---- one reading
@@ -214,7 +236,8 @@ def squared(found: Found, reading: Reading) -> tuple[list[Edge], Squares]:
     """The lines that a reading leaves, and the sheet squared off."""
     views = found.views(rounds.rounds_of(found.arcs, found.tolerance))
     lines = tangent.without(found.lines, reading.left, found.tolerance)
-    given_edges = [*lines, *tangent.added(views, reading)]
+    stepped = [it for edge in lines for it in found.flanks.get(edge, (edge,))]
+    given_edges = [*stepped, *tangent.added(views, reading)]
     inner = [one.centre for view, one in views.rounds if (view, round(one.radius, 2)) in reading.inner]
     its = [one._replace(is_inner=len(one.numbers) == 1 and not one.cuts and one.centre in inner) for _, one in views.rounds]
     squares = rounds.Squaring(given_edges, its, found.tolerance, reading.is_eager).done()
@@ -265,7 +288,7 @@ class Frame(NamedTuple):
 
 def given_by(found: Found, placed: Placed, lines: Sequence[Edge], squares: Squares, left: tangent.Left, times: float) -> Given:
     """What the drawing says of its sheet."""
-    result, noise = Given([], {}, {}, [], squares.doubts), OF_ONE * found.tolerance
+    result, noise = Given([], {}, {}, [], squares.doubts, [it.times(times) for it in found.cones]), OF_ONE * found.tolerance
     for view, group in placed.views.items():
         frame = Frame(group, times, placed.mirrored)
         for one in squares.rounds:
@@ -279,10 +302,36 @@ def given_by(found: Found, placed: Placed, lines: Sequence[Edge], squares: Squar
     return result
 
 
+def check_within(found: Found, placed: Placed) -> None:
+    """Refuses a cone that reaches farther than all else of its view: without it the views are smaller."""
+    for view, group in placed.views.items():
+        if found.cones and any(abs(a - b) > OF_ONE * found.tolerance for a, b in zip(group.box, found.placed.views[view].box)):
+            raise Refused(f"in {view} the oblique edges of a cone reach farther than all other lines: recon reads level and upright edges alone, and "
+                          "cones within them")
+
+
+def tell_cones(found: Found, tell: sheet.Tell) -> None:
+    for view in VIEWS:
+        points = sum(it.end_radius == 0 for it in found.cones if it.view == view)
+        steps = sum(it.end_radius > 0 for it in found.cones if it.view == view)
+        if points:
+            tell(f"left out: of {view} {many(points, 'place')} where a hole may end in a cone to a point, which is put back")
+        if steps:
+            tell(f"changed: of {view} {many(steps, 'cone')} between two circles squared off to {'a step' if steps == 1 else 'steps'}")
+
+
+def doubts_of_cones(found: Found) -> list[str]:
+    """Where the edges of cones leave more choices than are tried."""
+    count = len(cones.covering(found.cones, found.cones, 1000))
+    return [f"{many(len(found.cones), 'place')} of cones in line may have them in more than {count} ways"] if count >= cones.MOST else []
+
+
 def drawn(found: Found, reading: Reading, number: tuple[int, int], tell: sheet.Tell) -> sheet.Drawn:
     """The drawing of one reading of a sheet."""
     lines, squares = squared(found, reading)
+    squares.doubts.extend(doubts_of_cones(found))
     placed = sheet.checked_views(found.path, found.sheet, squares.edges, found.marks, found.arguments, tell)
+    check_within(found, placed)
     times = sheet.scale_in_use(found.path, found.sheet, placed, found.arguments, tell)
     measure = measured(found.path, placed, times, found.arguments, tell)
     left = list(reading.left)
@@ -295,6 +344,7 @@ def drawn(found: Found, reading: Reading, number: tuple[int, int], tell: sheet.T
         circles = [it for it in told.rounds if it.view == view]
         if circles:
             tell(f"changed: in {view} {many(len(circles), 'circle or round', 'circles or rounds')} squared off, of {radii_told(circles)}")
+    tell_cones(found, tell)
     for stretch in told.smooth:
         way = "upright" if stretch.is_upright else "level"
         tell(f"left out: in {stretch.view} the {way} line at {stretch.at:.6g} from {stretch.low:.6g} to {stretch.high:.6g}, taken as a tangent edge")

@@ -106,7 +106,7 @@ def hidden_by(whole: Sequence[Edge], visible: Sequence[Edge], tolerance: float) 
     covered: set[int] = set()
     for run in runs_of(plain, tolerance)[0]:
         if run.oblique:
-            edges.append(run.edge)
+            edges.append(run.edge._replace(hidden=not any(it.oblique and are_one(it.edge, run.edge, tolerance) for it in seen)))
             continue
         beside = [it for it in lines[run.upright] if abs(it.at - run.at) <= 2 * tolerance and it.low < run.high - tolerance
                   and it.high > run.low + tolerance]
@@ -122,6 +122,12 @@ def hidden_by(whole: Sequence[Edge], visible: Sequence[Edge], tolerance: float) 
         raise Refused(f"the sheets aren't two exports of one drawing: the one without hidden lines has {lost[0].edge.source} at "
                       f"{lost[0].edge.start}, which the other lacks")
     return edges
+
+
+def are_one(one: Edge, other: Edge, tolerance: float) -> bool:
+    """Whether two edges have the same ends."""
+    return any(max(math.dist(one.start, a), math.dist(one.end, b)) <= 2 * tolerance
+               for a, b in ((other.start, other.end), (other.end, other.start)))
 
 
 # ---- whole coordinates

@@ -38,6 +38,24 @@ def cylinder(axis: int, plan: tuple[float, float], low: float, high: float, radi
     return Part.makeCylinder(radius, high - low, FreeCAD.Vector(*spot(axis, plan, low)), AXES[axis])
 
 
+def cone(axis: int, plan: tuple[float, float], at: float, end: float, radius: float, end_radius: float) -> Any:
+    """A cone along an axis, from a radius at one place to another radius, or a point, at another one."""
+    way = AXES[axis] * math.copysign(1, end - at)
+    return Part.makeCone(radius, end_radius, abs(end - at), FreeCAD.Vector(*spot(axis, plan, at)), way)
+
+
+def drilled(axis: int, plan: tuple[float, float], top: float, bottom: float, radius: float, angle: float = 118) -> Any:
+    """What a drill takes away, down to a bottom and on to a point of an angle."""
+    height = math.copysign(radius / math.tan(math.radians(angle / 2)), bottom - top)
+    return cylinder(axis, plan, min(top, bottom), max(top, bottom), radius).fuse(cone(axis, plan, bottom, bottom + height, radius, 0))
+
+
+def sunk(axis: int, plan: tuple[float, float], top: float, bottom: float, radius: float, wide: float) -> Any:
+    """A hole with a countersink of 90 degrees at its top."""
+    depth = math.copysign(wide - radius, bottom - top)
+    return cylinder(axis, plan, min(top, bottom), max(top, bottom), radius).fuse(cone(axis, plan, top, top + depth, wide, radius))
+
+
 def filleted(shape: Any, radius: float, axis: int, chosen: Callable[[Any], Any] = lambda point: True) -> Any:
     """The shape with its edges along an axis rounded, all or those whose first point is chosen."""
     others = [it for it in range(3) if it != axis]
