@@ -69,7 +69,7 @@ def are_alike(one: Any, other: Any) -> bool:
     """Whether two shapes have one size, surface and middle."""
     far = NOISE * math.dist(*((box.XMin, box.YMin, box.ZMin) if at == 0 else (box.XMax, box.YMax, box.ZMax) for box in [other.BoundBox] for at in (0, 1)))
     same = abs(one.Volume - other.Volume) <= NOISE * other.Volume and abs(one.Area - other.Area) <= NOISE * other.Area
-    return same and (middle_of(one) - middle_of(other)).Length <= far
+    return bool(same and (middle_of(one) - middle_of(other)).Length <= far)
 
 
 def is_within(shape: Any, place: Any) -> bool:

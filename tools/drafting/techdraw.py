@@ -223,7 +223,7 @@ def turns_with_holder() -> bool:
         view.ScaleType, view.Scale = "Custom", 1
         doc.recompute()
         ends = [end for edge in view.getVisibleEdges() for end in (edge.BoundBox.XMin, edge.BoundBox.XMax)]
-        return max(ends) - min(ends) < 1.5 if ends else tuple(map(int, FreeCAD.Version()[:2])) > (0, 20)
+        return bool(max(ends) - min(ends) < 1.5) if ends else tuple(map(int, FreeCAD.Version()[:2])) > (0, 20)
     finally:
         FreeCAD.closeDocument(doc.Name)
         if active:

@@ -1,12 +1,13 @@
 """An answer and its solids."""
 import argparse
+import functools
 import io
 import pathlib
 from collections.abc import Iterator, Sequence
 from fractions import Fraction
 from typing import TYPE_CHECKING, Any, overload
 
-from drafting import asking, clean, cells, chosen, program, records, settle as settling, step, stl, why as looking
+from drafting import asking, blocks, clean, cells, chosen, program, records, settle as settling, step, stl, why as looking
 from drafting.drawing import written
 from drafting.messages import write_result
 
@@ -217,7 +218,8 @@ class Answer:
             groups = groups_of([*views, *sections])
             if meant is None:
                 return Settling(groups)
-            rows, added, left = settling.told_meant(solids, case.answer, meant - 1, views, sections, sheet, by)
+            its = functools.partial(blocks.of, self._arguments, case.data, case.lines, case.decimals)
+            rows, added, left = settling.told_meant(solids, case.answer, meant - 1, views, sections, sheet, its, by)
             text, said = settling.text_for(self._arguments, case, added, left) if added else ("", "")
         faces = [solid.faces for solid in case.answer.solids]
         numbers = tuple(at for at, one in enumerate(faces, 1) if one in left)

@@ -12,9 +12,10 @@ from drafting.messages import Refused
 from .support import EXAMPLES, needs_module, needs_program
 
 try:
+    import ezdxf
     from . import sheets, test_causes, test_scale, test_sections
 except ImportError:
-    sheets = test_causes = test_scale = test_sections = None  # type: ignore[assignment]
+    ezdxf = sheets = test_causes = test_scale = test_sections = None  # type: ignore[assignment]
 
 PARSER = command.parser_of(command.commands("solve"))
 # What is said of the clevis, 6 by 4 by 4, at full size; and of a sheet without its side view.
@@ -85,7 +86,7 @@ class Maker:
         kind, _, how = form.partition(" ")
         getattr(self, kind)(how, file)
 
-    def sheet(self, file: pathlib.Path, *more: Callable[[Any], None], version: str = "R2010", **drawn: Any) -> None:
+    def sheet(self, file: pathlib.Path, *more: Callable[[Any], object], version: str = "R2010", **drawn: Any) -> None:
         """A sheet with something more on it."""
         doc = sheets.new(version)
         sheets.draw(doc.modelspace(), drawn.pop("views", self.views), drawn.pop("places", self.places), **drawn)
@@ -119,7 +120,7 @@ class Maker:
             doc.saveas(file, fmt="bin")
         elif how == "polylines":
             self.sheet(file, views={}, places=self.places)
-            doc = sheets.ezdxf.readfile(file)
+            doc = ezdxf.readfile(file)
             for view, strokes in self.views.items():
                 x, y = self.places[view]
                 for dashed, ends in strokes:
@@ -137,8 +138,8 @@ class Maker:
         views = {view: self.views[view] for view in ("FRONT", "TOP")}
         x, y = self.places["TOP"]
         places = {**self.places, "TOP": (x + 1.5, y)} if how == "out of line" else self.places
-        layers = {"look": lambda view, dashed: {**sheets.by_linetype(view, dashed), "layer": view}} if how == "layers" else {}
-        self.sheet(file, views=views, places=places, **layers)
+        look = (lambda view, dashed: {**sheets.by_linetype(view, dashed), "layer": view}) if how == "layers" else sheets.by_linetype
+        self.sheet(file, views=views, places=places, look=look)
 
     def half(self, how: str, file: pathlib.Path) -> None:
         self.sheet(file, test_causes.half(how, how == "TOP"), views={})

@@ -10,6 +10,7 @@ from collections.abc import Iterable
 
 from drafting import judge, program
 from drafting.answers import WHOLE, Answer, Solid, answer_of
+from drafting.blocks import blocks_in
 from drafting.cells import grid_round
 from drafting.drawing import VIEWS, lines_within, strokes_in, views_of, written
 from drafting.panels import BLANK, DASHED, FRAMES, SOLID, Cell, grid_of, sheet_of
@@ -159,7 +160,7 @@ class Judged(unittest.TestCase):
             answer = answer_of(two_views(data, "--solids", MOST_SOLIDS))
             drawing = judge.Drawing(grid_of(sheet_of(views_of(lines_within(data.encode())), 0)), {})
             with self.subTest(number):
-                judge.judged(answer, drawing, MOST_SOLIDS, 600)
+                judge.judged(answer, drawing, blocks_in(two_views(data, command="blocks")), MOST_SOLIDS, 600)
             whole += bool(WHOLE.fullmatch(answer.head))
         self.assertGreater(whole, count * 3 // 4)
 

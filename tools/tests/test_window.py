@@ -19,6 +19,7 @@ from drafting.messages import Refused
 from .support import EXAMPLES, TOOLS, needs_command, needs_long, needs_module, needs_program
 
 try:
+    from drafting.cad import Part
     from . import documents
     from .documents import Document, box, corner, quartered
     missing = ""
@@ -51,7 +52,7 @@ def make_documents(folder: str) -> None:
 
     group("quartered", quartered("10110110"))
     group("no_hidden", corner(), HardHidden=False)
-    group("hole", box(40, 30, 10).fuse(box(10, 30, 20)).cut(documents.Part.makeCylinder(5, 10, documents.vector((25, 15, 0)))).removeSplitter())
+    group("hole", box(40, 30, 10).fuse(box(10, 30, 20)).cut(Part.makeCylinder(5, 10, documents.vector((25, 15, 0)))).removeSplitter())
     group("perspective", corner(), Perspective=True)
     chamfer = box(20, 20, 20)
     group("chamfer", chamfer.makeChamfer(3, chamfer.Edges[:1]))

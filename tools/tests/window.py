@@ -12,7 +12,7 @@ import zipfile
 from collections.abc import Callable
 from typing import Any
 
-import FreeCAD  # type: ignore[import]
+import FreeCAD
 import FreeCADGui as Gui  # type: ignore[import]
 from PySide import QtCore, QtGui  # type: ignore[import]
 
@@ -83,7 +83,7 @@ def opened(name: str) -> Any:
 
 def asked(doc: Any) -> Any:
     """The panel of a document's page, once it is over."""
-    from recon_addon import commands  # type: ignore[import]
+    from recon_addon import commands
     FreeCAD.setActiveDocument(doc.Name)
     Gui.runCommand("Recon_Ambiguous")
     return ended(commands.Ambiguous.panel)
@@ -223,7 +223,7 @@ def cancelled() -> None:
     doc, begun = opened("quartered"), FOLDER / "begun"
     PREFERENCES.SetString("Program", str(FOLDER / "waits"))
     Gui.runCommand("Recon_Ambiguous")
-    panel = commands.Ambiguous.panel
+    panel: Any = commands.Ambiguous.panel
     until(lambda: begun.exists() and begun.read_text().endswith("\n"), "the program")
     pictured("running")
     process = int(begun.read_text())

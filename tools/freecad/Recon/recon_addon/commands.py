@@ -1,9 +1,9 @@
 """The two commands."""
 from typing import Any
 
-import FreeCAD  # type: ignore[import]
-import FreeCADGui as Gui  # type: ignore[import]
-from PySide import QtGui  # type: ignore[import]
+import FreeCAD
+import FreeCADGui as Gui
+from PySide import QtGui
 
 from . import RESOURCES
 from .panel import DrawingPanel, PagePanel, Panel

@@ -2,7 +2,7 @@
 from collections.abc import Mapping, Sequence
 from typing import Any
 
-import FreeCAD  # type: ignore[import]
+import FreeCAD
 
 from .words import translate
 

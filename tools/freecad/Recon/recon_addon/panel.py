@@ -5,10 +5,10 @@ import zipfile
 from collections.abc import Callable
 from typing import Any
 
-import FreeCAD  # type: ignore[import]
-import FreeCADGui as Gui  # type: ignore[import]
-import Part  # type: ignore[import]
-from PySide import QtCore, QtGui  # type: ignore[import]
+import FreeCAD
+import FreeCADGui as Gui
+import Part
+from PySide import QtCore, QtGui
 
 from . import RESOURCES, page_views, scene, settings
 from .child import Child, Event

@@ -2,10 +2,10 @@
 from collections.abc import Mapping
 from typing import Any
 
-import FreeCAD  # type: ignore[import]
-import FreeCADGui as Gui  # type: ignore[import]
-import Part  # type: ignore[import]
-from PySide import QtGui  # type: ignore[import]
+import FreeCAD
+import FreeCADGui as Gui
+import Part
+from PySide import QtGui
 
 from .words import translate
 

@@ -4,7 +4,7 @@ import pathlib
 import shutil
 import sys
 
-import FreeCAD  # type: ignore[import]
+import FreeCAD
 
 from . import FOLDER
 from .words import translate

@@ -1,5 +1,5 @@
 """Words in the language of FreeCAD's window, as far as Resources/translations has them; what `draft` and recon say is in English."""
-import FreeCAD  # type: ignore[import]
+import FreeCAD
 
 
 def translate(context: str, text: str, *values: object) -> str:
