@@ -77,7 +77,8 @@ class Cone(NamedTuple):
 
     def times(self, factor: float) -> "Cone":
         x, y = self.centre
-        return Cone(self.view, (x * factor, y * factor), *(it * factor for it in self[2:6]), self.is_sure)
+        return self._replace(centre=(x * factor, y * factor), radius=self.radius * factor, neck=self.neck * factor,
+                             end_radius=self.end_radius * factor, end=self.end * factor)
 
 
 class Given(NamedTuple):
