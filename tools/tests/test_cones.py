@@ -58,6 +58,19 @@ class Cones(test_rounds.InAFolder):
         self.assertIn("999\ndraft cone TOP 45 12 5 20 0 16.995696905\n", drawing.read_text())
         self.assertEqual(draft("solve", drawing).out, draft("solve", self.file).out)
 
+    def test_two_exports_of_a_sheet_without_linetypes(self) -> None:
+        def only_visible(space: Any, places: Any) -> None:
+            for entity in [it for it in space if it.dxf.linetype == "HIDDEN"]:
+                space.delete_entity(entity)
+
+        def all_solid(space: Any, places: Any) -> None:
+            for entity in space:
+                entity.dxf.linetype = "CONTINUOUS"
+
+        parts.sheet_of(drilled_plate(), self.file.with_name("part.visible.dxf"), only_visible)
+        parts.sheet_of(drilled_plate(), self.file, all_solid)
+        self.exact(drilled_plate(), self.asked("--pairs"))
+
     def test_holes_in_line_that_may_have_points(self) -> None:
         shape = box(0, 0, 0, 60, 60, 20).cut(cylinder(2, (15, 15), 12, 20, 4))
         for plan in ((15, 45), (45, 15)):
