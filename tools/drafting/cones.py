@@ -29,6 +29,8 @@ from .tangent import place_along, shared_axis
 
 # How far from a plane of a solid a cone may end, in units.
 NEAR = 0.6
+# How far apart cones in line may end that are drawn as one.
+ALIKE = 2.5e-3
 # The most choices of cones of one solid that are compared with the sheet, and that are looked at.
 MOST, MOST_TRIED = 32, 4096
 
@@ -106,9 +108,14 @@ def cones_of(panels: Mapping[str, Panel], tolerance: float) -> list[Cone]:
     for view in (it for it in VIEWS if it in panels):
         for one in panels[view].circles:
             for cone in cones_at(panels, view, one, noise):
-                if cone not in found:
+                if not any(are_one(cone, other, noise) for other in found):
                     found.append(cone)
     return found
+
+
+def are_one(one: Cone, other: Cone, noise: float) -> bool:
+    its = zip((*one.centre, *one[2:6]), (*other.centre, *other[2:6]))
+    return one.view == other.view and all(abs(a - b) <= noise for a, b in its)
 
 
 def cones_at(panels: Mapping[str, Panel], view: str, one: Round, noise: float) -> Iterator[Cone]:
@@ -208,11 +215,24 @@ def goes_on(cone: Cone, radius: float, found: Sequence[Drawn], at: float, way: i
     return len(its) == 4 and all(any(layer.is_full == body and (layer.low if way > 0 else layer.high) == at for layer in it.layers) for it in its)
 
 
-def profiles_of(cone: Cone, unit: int) -> set[tuple[object, ...]]:
-    """How a cone looks from its sides: what other cones in line with it look like too."""
+def profiles_of(cone: Cone) -> list[tuple[float, ...]]:
+    """How a cone looks from its two sides: by its axis, the one across it, where it lies along that, and its radii and depths."""
     frame = FRAMES[cone.view]
-    rest = tuple(round(it * unit) for it in (cone.radius, cone.neck, cone.end_radius, cone.end))
-    return {(frame.sight, axis, round(at * unit), rest) for axis, at in zip((frame.right, frame.up), cone.centre)}
+    return [(frame.sight, axis, at, *cone[2:6]) for axis, at in zip((frame.right, frame.up), cone.centre)]
+
+
+def looks_of(cones: Sequence[Cone]) -> dict[Cone, frozenset[int]]:
+    """By numbers how cones look from their sides: those in line look the same, but for noise."""
+    known: list[tuple[float, ...]] = []
+    looks: dict[Cone, frozenset[int]] = {}
+    for cone in cones:
+        numbers = set()
+        for profile in profiles_of(cone):
+            number = next((at for at, it in enumerate(known) if all(abs(a - b) <= ALIKE for a, b in zip(it, profile))), len(known))
+            known += [profile] if number == len(known) else []
+            numbers.add(number)
+        looks[cone] = frozenset(numbers)
+    return looks
 
 
 def choices(solid: Solid, found: Sequence[Drawn], given: Given, unit: int) -> list[tuple[Fitted, ...]]:
@@ -221,18 +241,18 @@ def choices(solid: Solid, found: Sequence[Drawn], given: Given, unit: int) -> li
         return [()]
     cuts, is_full = is_full_in(solid)
     its = {cone: one for cone in given.cones if (one := fitted(cone, found, cuts, is_full, unit))}
-    return [tuple(its[cone] for cone in chosen) for chosen in covering(list(its), given.cones, unit)]
+    return [tuple(its[cone] for cone in chosen) for chosen in covering(list(its), given.cones)]
 
 
-def covering(its: Sequence[Cone], owed: Sequence[Cone], unit: int) -> list[tuple[Cone, ...]]:
+def covering(its: Sequence[Cone], owed: Sequence[Cone]) -> list[tuple[Cone, ...]]:
     """The choices of some cones that look from their sides as all that are owed do, the most first, as many as are tried at most."""
-    looks = {cone: profiles_of(cone, unit) for cone in owed}
+    looks = looks_of(owed)
     counts = Counter(look for cone in its for look in looks[cone])
     sure = [cone for cone in its if cone.is_sure or any(counts[look] == 1 for look in looks[cone])]
     rest = [cone for cone in its if cone not in sure]
     every = ((*sure, *some) for size in range(len(rest), -1, -1) for some in itertools.combinations(rest, size))
-    all_looks = set().union(*looks.values())
-    found = (some for some in itertools.islice(every, MOST_TRIED) if all_looks == set().union(*(looks[cone] for cone in some)))
+    all_looks: frozenset[int] = frozenset().union(*looks.values())
+    found = (some for some in itertools.islice(every, MOST_TRIED) if all_looks == frozenset().union(*(looks[cone] for cone in some)))
     return list(itertools.islice(found, MOST))
 
 

@@ -6,8 +6,8 @@ from collections.abc import Sequence
 from fractions import Fraction
 from typing import Any, NamedTuple
 
-from . import cones
 from .answers import Answer, Solid
+from .cones import Fitted, choices, volume_by_pi
 from .given import Given
 from .messages import Progress, Refused, many
 from .rounded import Drawn, volume_of, ways_of
@@ -36,7 +36,7 @@ class Rounds(NamedTuple):
     """A way to round a solid back: the layers of its rounds, its cones, and whether the volume's formula holds for it."""
 
     drawn: Sequence[Drawn]
-    cones: Sequence[cones.Fitted]
+    cones: Sequence[Fitted]
     by_formula: bool
 
 
@@ -108,11 +108,11 @@ def rounded_back(number: int, solid: Solid, given: Given, unit: int, with_shapes
         if with_shapes is None and not by_formula:
             why = why or "cut by walls, which needs FreeCAD"
             continue
-        choices = cones.choices(solid, way, given, unit) if by_formula or not given.cones else []
-        why = why or ("" if choices else "its holes and bosses don't have the places of all cones")
-        for chosen in choices:
+        every = choices(solid, way, given, unit) if by_formula or not given.cones else []
+        why = why or ("" if every else "its holes and bosses don't have the places of all cones")
+        for chosen in every:
             plain, by_pi = volume_of(solid, way, unit)
-            volume = (plain, by_pi + cones.volume_by_pi(chosen, unit)) if by_formula else None
+            volume = (plain, by_pi + volume_by_pi(chosen, unit)) if by_formula else None
             try:
                 shape, doubt = shape_and_doubt(solid, Rounds(way, chosen, by_formula), given, unit, with_shapes) if with_shapes else (None, "")
                 some.append(Kept(number, solid, volume, shape, doubt))

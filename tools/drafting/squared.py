@@ -322,7 +322,7 @@ def tell_cones(found: Found, tell: sheet.Tell) -> None:
 
 def doubts_of_cones(found: Found) -> list[str]:
     """Where the edges of cones leave more choices than are tried."""
-    count = len(cones.covering(found.cones, found.cones, 1000))
+    count = len(cones.covering(found.cones, found.cones))
     return [f"{many(len(found.cones), 'place')} of cones in line may have them in more than {count} ways"] if count >= cones.MOST else []
 
 

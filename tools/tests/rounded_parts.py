@@ -151,9 +151,10 @@ class Maker:
 
 
 def random_part(seed: int) -> Any:
-    """A random part of one solid, or nothing."""
+    """A random part of one solid with some round, or nothing."""
     shape = Maker(random.Random(seed)).made()
-    return shape if shape.isValid() and len(shape.Solids) == 1 else None
+    is_round = any(face.Surface.TypeId == "Part::GeomCylinder" for face in shape.Faces)
+    return shape if is_round and shape.isValid() and len(shape.Solids) == 1 else None
 
 
 # ---- sheets

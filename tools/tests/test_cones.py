@@ -2,6 +2,7 @@
 import unittest
 from typing import Any
 
+from drafting import cones
 from drafting.given import Cone, Given, comments, given_in
 from drafting.messages import Refused
 from drafting.solve import rounded_told
@@ -56,6 +57,19 @@ class Cones(test_rounds.InAFolder):
         self.assertEqual(draft("sheet", self.file, "-o", drawing).status, 0)
         self.assertIn("999\ndraft cone TOP 45 12 5 20 0 16.995696905\n", drawing.read_text())
         self.assertEqual(draft("solve", drawing).out, draft("solve", self.file).out)
+
+    def test_two_exports_of_a_sheet_without_linetypes(self) -> None:
+        def only_visible(space: Any, places: Any) -> None:
+            for entity in [it for it in space if it.dxf.linetype == "HIDDEN"]:
+                space.delete_entity(entity)
+
+        def all_solid(space: Any, places: Any) -> None:
+            for entity in space:
+                entity.dxf.linetype = "CONTINUOUS"
+
+        parts.sheet_of(drilled_plate(), self.file.with_name("part.visible.dxf"), only_visible)
+        parts.sheet_of(drilled_plate(), self.file, all_solid)
+        self.exact(drilled_plate(), self.asked("--pairs"))
 
     def test_holes_in_line_that_may_have_points(self) -> None:
         shape = box(0, 0, 0, 60, 60, 20).cut(cylinder(2, (15, 15), 12, 20, 4))
@@ -134,6 +148,15 @@ class Changes(test_rounds.InAFolder):
 
 
 class Rows(unittest.TestCase):
+    def test_choices_of_cones_in_line(self) -> None:
+        # Fillings of a table without an empty row or column: 7 of two by two, 25 of three by two; noise makes no other look.
+        for across, along, count in ((1, 3, 1), (2, 2, 7), (3, 2, 25)):
+            its = [Cone("TOP", (10.0 * x + y * 1e-4, 10.0 * y), 2.5 - y * 1e-6, 9.0, 0.0, 7.5, False) for x in range(across) for y in range(along)]
+            found = cones.covering(its, its)
+            with self.subTest(across=across, along=along):
+                self.assertEqual((len(found), found[0]), (count, tuple(its)))
+                self.assertEqual(len(cones.covering([it._replace(is_sure=True) for it in its], [it._replace(is_sure=True) for it in its])), 1)
+
     def test_a_cone_is_written_and_read(self) -> None:
         one = Cone("TOP", (15.0, 12.0), 5.0, 20.0, 0.0, 16.995696905, False)
         given = Given([], {}, {}, [], [], [one, one._replace(end_radius=6.0, is_sure=True)])
