@@ -20,19 +20,18 @@ pub fn one_first_fault()
     ensures { (input : Input) (a b : Fault) → IsFileFault input a → IsFileFault input b → a ≡ b }
 {}
 
-/// Arguments and an input have at most one right answer, and one text that goes with it; but where
-/// both limits of a search are passed either cut is right, and a cut leaves open which of the
-/// solids are listed; and where pages are asked for they may tell the same solids in another order,
-/// so many in a page or so many.
+/// Of arguments and an input two right answers are one, and their texts count as one: so they do
+/// where both are whole searches, behind what readers tell, and behind pages, which may tell the
+/// same solids in another order, so many in a page or so many. Only of an input without a fault two
+/// are left open: cuts, since where both limits of a search are passed either is right, with
+/// whichever solids were found; and, where some reader asks to stop, two of which one is that the
+/// search was stopped.
 pub fn one_answer()
-    ensures answer { (words : List (List ℕ)) (input : List ℕ) (rest left : Option (List ℕ))
+    ensures { (words : List (List ℕ)) (input : List ℕ) (rest left : Option (List ℕ))
         (a b : Answer) (text other : List ℕ) → Answers words (Some input) rest a text
-        → Answers words (Some input) left b other → (a ≡ b)
-        ⊎ (LeavesOpen (owed_to words) input a × LeavesOpen (owed_to words) input b) }
-    ensures text { (words : List (List ℕ)) (input : List ℕ) (rest left : Option (List ℕ))
-        (a b : Answer) (text other : List ℕ) → Answers words (Some input) rest a text
-        → Answers words (Some input) left b other → (LeavesOpen (owed_to words) input a → ⊥)
-        → AreAlike (owed_to words) input text other }
+        → Answers words (Some input) left b other
+        → ((a ≡ b) × AreAlike (owed_to words) input text other)
+        ⊎ LeavesOpen (owed_to words) input a b }
 {}
 
 /// Arguments and an input never lack a right answer: it can't be that no answer goes with a text.

@@ -22,7 +22,7 @@ mod telling;
 mod trial;
 
 pub use command::run;
-pub use file_problem::{problem_and_rest, problem_of};
+pub use file_problem::{problem_and_rest, problem_of, problem_of_six};
 pub use laws::{
     begun_texts_go_on, made_files_have_no_fault, one_answer, one_first_fault, some_answer,
 };
