@@ -1,11 +1,13 @@
 //! Laws of what is answered.
 
-ghost use Rattle.std.specs.Prelude.{◌≡◌, ◌⊎◌, ◌++◌, false, ℕ, List, Option, Some};
+ghost use Rattle.std.specs.Prelude.{◌≡◌, ◌⊎◌, ◌++◌, Bool, false, ℕ, List, Option, Some};
 ghost use Rattle.replies.specs.declared.status.Answer.{Answer};
+ghost use Rattle.replies.specs.declared.status.Answer.TheVariants as answers;
 ghost use Rattle.file_problem.specs.Inputs.{HasNoFault, Input, IsFileFault};
-ghost use Rattle.recon_run.specs.Endings.{Answers, AreAlike, LeavesOpen, owed_to};
-ghost use Rattle.recon_run.specs.Owed.{AnswersOwed, BeginsOwed, drawing_profile, input_of, owed_for};
+ghost use Rattle.recon_run.specs.Endings.{Answers, AreAlike, LeavesOpen, OfInput, owed_to};
+ghost use Rattle.recon_run.specs.Owed.{AnswersOwed, BeginsOwed, drawing_profile, input_of, judgement_of, owed_for, search_for_all, searched, session_judgement};
 ghost use Rattle.solid_model.specs.declared.fault.Fault.{Fault};
+ghost use Rattle.solid_model.specs.Search.{SearchLimits};
 ghost use Rattle.words.specs.declared.job.Job.TheVariants as job;
 
 /// What `make` owes has no fault: whatever is made from a number can be searched.
@@ -32,6 +34,19 @@ pub fn one_answer()
         → Answers words (Some input) left b other
         → ((a ≡ b) × AreAlike (owed_to words) input text other)
         ⊎ LeavesOpen (owed_to words) input a b }
+{}
+
+/// No more is left open: nothing of an input that has a fault, and no two whole searches, whether
+/// or not some reader asks to stop.
+pub fn little_is_left_open()
+    ensures faulty { (words : List (List ℕ)) (input : List ℕ) (a b : Answer)
+        → OfInput (owed_to words) (Some input) (λ t. (fault : Fault) → IsFileFault t fault
+        → LeavesOpen (owed_to words) input a b → ⊥) }
+    ensures searched { (paged : Bool) (limits : SearchLimits) (t : Input)
+        → (judgement_of (searched (search_for_all paged limits))).leaves_open t
+        answers.Done answers.Done → ⊥ }
+    ensures asked { (limits : SearchLimits) (t : Input)
+        → (session_judgement limits).leaves_open t answers.Done answers.Done → ⊥ }
 {}
 
 /// Arguments and an input never lack a right answer: it can't be that no answer goes with a text.
