@@ -4,6 +4,7 @@ use Rattle.lemmas.specs.Lists.{Each}
 use Rattle.solid_model.specs.declared.frame.View.{View}
 use Rattle.solid_model.specs.declared.frame.View.TheVariants.{Front, Top, Side}
 use Rattle.solid_model.specs.Blocks.{ProblemParts}
+use Rattle.solid_model.specs.Limits.{most_solid_limit}
 use Rattle.dxf_groups.specs.TextLines.{text_lines}
 use Rattle.text_lines.specs.Numbers.{has_ten_digits}
 use Rattle.text_lines.specs.Words.{joined}
@@ -68,9 +69,9 @@ is_short_entry (Split block) = has_ten_digits block
 
 -- ---- texts
 
--- at most so many solids may be listed
+-- at most so many solids may be listed: as many as a search may be asked for
 abbrev pub most_listed : ℕ
-most_listed = 65536
+most_listed = most_solid_limit
 
 -- THE LOG of a problem, with the choices that it lists: the lines of the text are the first one, those of a tree where nothing is
 -- known, and the last one, which tells how many choices there are.

@@ -8,17 +8,17 @@ use Rattle.query_session.specs.declared.ask.AskFault.{AskFault}
 use Rattle.query_session.specs.declared.ask.Ask.{Ask}
 use Rattle.dxf_groups.specs.TextLines.{text_lines}
 use Rattle.dxf_groups.specs.Pairs.{rest_of_text}
-use Rattle.std.proofs.Common.{◌≡◌, ◌⊎◌, inl, inr, refl, Bool, true, false, IsPermutation, ℕ, ◌+◌, ◌-◌, List, [], ◌∷◌, ◌++◌, length, Option, Some, None, sym, subst, ap, ◌∙◌, arith, true≢false, Result, Ok, Err}
+use Rattle.std.proofs.Common.{◌≡◌, ◌⊎◌, ⊎_elim, inl, inr, refl, Bool, true, false, IsPermutation, ℕ, ◌+◌, ◌-◌, List, [], ◌∷◌, ◌++◌, length, Option, Some, None, sym, subst, ap, ◌∙◌, arith, Result, Ok, Err}
 use Rattle.std.proofs.Math.Path.{transport}
 use Rattle.std.proofs.lemmas.List.Sorted.{IsPermutation-refl, IsPermutation-sym, IsPermutation-trans}
 use Rattle.std.proofs.lemmas.Option.{slice_get_within}
 use Rattle.std.specs.List.{slice_get}
 use Rattle.drawing_maker.specs.Made.{made_solid}
 use Rattle.replies.specs.declared.status.Answer.{Answer}
-use Rattle.file_problem.specs.Inputs.{HasProblem, Input}
+use Rattle.file_problem.specs.Inputs.{HasNoFault, HasProblem, Input}
 use Rattle.recon_run.specs.Answers.{node_count, CanEnd, IsSomeLog, TellsNumbered, TellsSolids, IsTried, first_volume, made_drawing, TellsAll, head_of}
 use Rattle.recon_run.specs.Endings.{Answers, AreAlike, LeavesOpen, owed_to}
-use Rattle.recon_run.specs.Owed.{AnswersInput, AnswersOwed, IsCut, Judgement, Owed, Search, alone, answer_at, input_of, judgement_of, owed, read, search_for_all, search_for_log, search_for_one, searched, session_judgement}
+use Rattle.recon_run.specs.Owed.{AnswersInput, AnswersOwed, AreCuts, IsCut, Judgement, Owed, Search, alone, answer_at, input_of, judgement_of, owed, read, search_for_all, search_for_log, search_for_one, searched, session_judgement}
 use Rattle.recon_run.specs.Pages.{ArePagesOf, SameButPages}
 use Rattle.sink_pages.specs.PageTexts.{Page, choices_on, pages_text}
 use Rattle.file_problem.proofs.Faults.{one_fault}
@@ -147,9 +147,9 @@ one_figures n text other a b =
 
 -- ---- one answer to an input
 
--- an answer and another one, with their texts: one answer or two that are left open, and texts that count as one unless the first is
-abbrev pub AreOne : (Answer → Type 0) → (List ℕ → List ℕ → Type 0) → Answer → Answer → List ℕ → List ℕ → Type 0
-AreOne leaves_open alike a b text other = ((a ≡ b) ⊎ (leaves_open a × leaves_open b)) × ((leaves_open a → ⊥) → alike text other)
+-- an answer and another one, with their texts: one answer, and texts that count as one; or two that are left open
+abbrev pub AreOne : (Answer → Answer → Type 0) → (List ℕ → List ℕ → Type 0) → Answer → Answer → List ℕ → List ℕ → Type 0
+AreOne leaves_open alike a b text other = ((a ≡ b) × alike text other) ⊎ leaves_open a b
 
 -- one text counts as one
 abbrev CountsOne : Judgement → Type 0
@@ -162,8 +162,8 @@ JudgesOne j = CountsOne j × ((t : Input) (a b : Answer) (text other : List ℕ)
 
 module _ (s : Search) (t : Input) (a b : Answer) (text other : List ℕ) where
   -- two cuts
-  cuts : IsCut a → IsCut b → AreOne IsCut (s.alike t) a b text other
-  cuts cut cut_too = (inr (cut, cut_too), λ none. absurd (none cut))
+  cuts : IsCut a → IsCut b → AreOne AreCuts (s.alike t) a b text other
+  cuts cut cut_too = inr (cut, cut_too)
 
   passed : (kind : EndKind) (c : CanEnd s.limits t Whole) (d : CanEnd s.limits t kind) → (kind ≡ Whole → ⊥) → ⊥
   passed kind c d cut = cut (kept_or_passed s.limits t kind c d)
@@ -171,9 +171,9 @@ module _ (s : Search) (t : Input) (a b : Answer) (text other : List ℕ) where
   -- two ends
   one_end : TellsOne s → (kind other_kind : EndKind) (c : CanEnd s.limits t kind) (d : CanEnd s.limits t other_kind)
       → a ≡ answer_at s t kind c → b ≡ answer_at s t other_kind d → s.tells t kind c text → s.tells t other_kind d other
-      → AreOne IsCut (s.alike t) a b text other
+      → AreOne AreCuts (s.alike t) a b text other
   one_end one Whole Whole c d is is_too tells tells_too =
-      (inl (is ∙ ap (s.whole t) (one_count s.limits t c d) ∙ sym is_too), λ none. one t c d text other tells tells_too)
+      inl (is ∙ ap (s.whole t) (one_count s.limits t c d) ∙ sym is_too, one t c d text other tells tells_too)
   one_end one Whole CutNodes c d is is_too tells tells_too = absurd (passed CutNodes c d (λ e. cc))
   one_end one Whole CutSolids c d is is_too tells tells_too = absurd (passed CutSolids c d (λ e. cc))
   one_end one CutNodes Whole c d is is_too tells tells_too = absurd (passed CutNodes d c (λ e. cc))
@@ -197,16 +197,16 @@ text_alike : (paged : Bool) (text other : List ℕ) → text ≡ other → SameB
 text_alike false text other is = is
 text_alike true text other is = ([], [], IsPermutation-refl [], text, refl, sym is)
 
--- what readers tell is one answer, where none asks to stop
+-- what readers tell is one answer, unless the search was stopped as some reader asks
 module _ (limits : SearchLimits) (t : Input) (a b : Answer) (text other : List ℕ) where
-  abbrev Open : Answer → Type 0
+  abbrev Open : Answer → Answer → Type 0
   Open = (session_judgement limits).leaves_open t
 
   abbrev One : Type 0
   One = AreOne Open (SameBehindReaders t) a b text other
 
   two_cuts : IsCut a → IsCut b → One
-  two_cuts cut cut_too = (inr (inr cut, inr cut_too), λ none. absurd (none (inr cut)))
+  two_cuts cut cut_too = inr (inl (cut, cut_too))
 
   module _ (scripts : List (List Ask)) (before before_too rest rest_too : List ℕ) (told : text ≡ before ++ rest) (told_too : other ≡ before_too ++ rest_too)
       (s : TellsSession TellsAll limits t scripts a before rest) (u : TellsSession TellsAll limits t scripts b before_too rest_too) where
@@ -231,9 +231,9 @@ module _ (limits : SearchLimits) (t : Input) (a b : Answer) (text other : List �
     one_end_asked : (kind other_kind : EndKind) (m n : SomeMatching limits t) (e : EndsListing limits t kind m) (f : EndsListing limits t other_kind n)
         → a ≡ end_answer kind → b ≡ end_answer other_kind
         → TellsAll (listing_head e) t.decimals m.choices m.solids rest → TellsAll (listing_head f) t.decimals n.choices n.solids rest_too → One
-    one_end_asked Whole Whole m n e f is is_too tells tells_too = (
-      inl (is ∙ sym is_too),
-      λ none. inr (
+    one_end_asked Whole Whole m n e f is is_too tells tells_too = inl (
+      is ∙ sym is_too,
+      inr (
         s.problem,
         s.has,
         scripts,
@@ -256,24 +256,20 @@ module _ (limits : SearchLimits) (t : Input) (a b : Answer) (text other : List �
     one_end_asked CutSolids CutNodes m n e f is is_too tells tells_too = two_cuts (subst IsCut (sym is) tt) (subst IsCut (sym is_too) tt)
     one_end_asked CutSolids CutSolids m n e f is is_too tells tells_too = two_cuts (subst IsCut (sym is) tt) (subst IsCut (sym is_too) tt)
 
-    one_unstopped : asks_stop scripts ≡ false → One
-    one_unstopped none = by s.ends u.ends
-      where
-        by : EndsAsked TellsAll limits t s.lasts a rest ⊎ StopsAsked TellsAll limits t scripts s.lasts a rest
-            → EndsAsked TellsAll limits t u.lasts b rest_too ⊎ StopsAsked TellsAll limits t scripts u.lasts b rest_too → One
-        by (inl (kind, m, e, among, is, tells)) (inl (other_kind, n, f, among_too, is_too, tells_too)) =
-            one_end_asked kind other_kind m n e f is is_too tells tells_too
-        by (inl ends) (inr stops) = absurd (true≢false (sym stops.0 ∙ none))
-        by (inr stops) ends = absurd (true≢false (sym stops.0 ∙ none))
+    -- scripts that stop are read behind the drawing
+    one_by_ends : (asks_stop scripts ≡ true → AsksToStop t)
+        → EndsAsked TellsAll limits t s.lasts a rest ⊎ StopsAsked TellsAll limits t scripts s.lasts a rest
+        → EndsAsked TellsAll limits t u.lasts b rest_too ⊎ StopsAsked TellsAll limits t scripts u.lasts b rest_too → One
+    one_by_ends asks (inl (kind, m, e, among, is, tells)) (inl (other_kind, n, f, among_too, is_too, tells_too)) =
+        one_end_asked kind other_kind m n e f is is_too tells tells_too
+    one_by_ends asks (inl ends) (inr (stops, m, many, among, is, tells)) = inr (inr (asks stops, inr is))
+    one_by_ends asks (inr (stops, m, many, among, is, tells)) ends = inr (inr (asks stops, inl is))
 
   one_by_scripts : (asked : List ℕ) → rest_of_text t.bytes ≡ Some asked → (r : Result (List (List Ask)) AskFault) → read_session (text_lines asked) ≡ r
       → AnswersScripts limits t r a text → AnswersScripts limits t r b other → One
-  one_by_scripts asked behind (Err fault) reads (is, told) (is_too, told_too) = (inl (is ∙ sym is_too), λ none. inl (told ∙ sym told_too))
-  one_by_scripts asked behind (Ok scripts) reads (before, rest, s, told) (before_too, rest_too, u, told_too) = by (asks_stop scripts) refl
-    where
-      by : (stops : Bool) → asks_stop scripts ≡ stops → One
-      by true stops = let stop : AsksToStop t = (asked, behind, scripts, reads, stops) in (inr (inl stop, inl stop), λ none. absurd (none (inl stop)))
-      by false none = one_unstopped scripts before before_too rest rest_too told told_too s u none
+  one_by_scripts asked behind (Err fault) reads (is, told) (is_too, told_too) = inl (is ∙ sym is_too, inl (told ∙ sym told_too))
+  one_by_scripts asked behind (Ok scripts) reads (before, rest, s, told) (before_too, rest_too, u, told_too) =
+      one_by_ends scripts before before_too rest rest_too told told_too s u (λ stops. (asked, behind, scripts, reads, stops)) s.ends u.ends
 
   one_asked : TellsAsked limits t a text → TellsAsked limits t b other → One
   one_asked (asked, behind, said) (asked_too, behind_too, said_too) =
@@ -299,13 +295,13 @@ one_owed (Some (job.Stl which workers limits two)) =
 one_owed (Some (job.Prove workers limits two)) = one_search (search_for_log limits) (λ t text other is. inl is) (one_logs limits)
 one_owed (Some (job.Check two)) = (
   λ t text other is. is,
-  λ t a b text other told told_too. let one = one_checked t a b text other told told_too in (inl one.0, λ none. one.1),
+  λ t a b text other told told_too. inl (one_checked t a b text other told told_too),
 )
 one_owed (Some (job.Ask workers limits two)) = one_session limits
 one_owed (Some (job.Blocks decimals two)) = (
   λ t text other is. is,
   λ t a b text other (is, p, has, told) (is_too, q, has_too, told_too).
-      (inl (is ∙ sym is_too), λ none. told ∙ ap (blocks_text t.decimals) (one_problem has has_too).problem ∙ sym told_too),
+      inl (is ∙ sym is_too, told ∙ ap (blocks_text t.decimals) (one_problem has has_too).problem ∙ sym told_too),
 )
 one_owed (Some (job.Make n)) = one_made_file n
 one_owed (Some (job.Trial n workers)) = one_figures n
@@ -315,12 +311,13 @@ one_owed None = λ text other is is_too. is ∙ sym is_too
 
 module _ (a b : Answer) (text other : List ℕ) where
   one_input : (j : Judgement) → JudgesOne j → (t : Input) → AnswersInput j.tells t a text → AnswersInput j.tells t b other
-      → AreOne (j.leaves_open t) (j.alike t) a b text other
+      → AreOne (λ x y. HasNoFault t × j.leaves_open t x y) (j.alike t) a b text other
   one_input j one t (inl (is, (fault, at, told))) (inl (is_too, (fault_too, at_too, told_too))) =
-      (inl (is ∙ sym is_too), λ none. one.0 t text other (told ∙ ap fault_text (one_fault t fault fault_too at at_too) ∙ sym told_too))
+      inl (is ∙ sym is_too, one.0 t text other (told ∙ ap fault_text (one_fault t fault fault_too at at_too) ∙ sym told_too))
   one_input j one t (inl (is, (fault, at, told))) (inr (none, told_too)) = absurd (none fault at)
   one_input j one t (inr (none, told)) (inl (is, (fault, at, told_too))) = absurd (none fault at)
-  one_input j one t (inr (none, told)) (inr (none_too, told_too)) = one.1 t a b text other told told_too
+  one_input j one t (inr (none, told)) (inr (none_too, told_too)) =
+      ⊎_elim inl (λ (both : j.leaves_open t a b). inr (none, both)) (one.1 t a b text other told told_too)
 
   one_answer_owed : (o : Owed) → OwesOne o → (t : List ℕ) (rest left : Option (List ℕ)) → AnswersOwed o (Some t) rest a text
       → AnswersOwed o (Some t) left b other → AreOne (LeavesOpen o t) (AreAlike o t) a b text other
@@ -329,7 +326,7 @@ module _ (a b : Answer) (text other : List ℕ) where
       (subst (λ u. AnswersInput (judgement_of asked).tells (input_of profile u) a text) (sym same) told)
       (subst (λ u. AnswersInput (judgement_of asked).tells (input_of profile u) b other) (sym same_too) told_too)
   one_answer_owed (alone right tells) one t rest left (reads, is, told) (reads_too, is_too, told_too) =
-      (inl (is ∙ sym is_too), λ none. one text other told told_too)
+      inl (is ∙ sym is_too, one text other told told_too)
 
 pub same_answer : (words : List (List ℕ)) (t : List ℕ) (rest left : Option (List ℕ)) (a b : Answer) (text other : List ℕ)
     → Answers words (Some t) rest a text → Answers words (Some t) left b other

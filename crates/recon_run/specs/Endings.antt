@@ -4,7 +4,7 @@ use Rattle.std.specs.Io.KnownBytes.{Appends, Keeps}
 use Rattle.replies.specs.declared.status.Answer.{Answer}
 use Rattle.replies.specs.declared.status.Failure.{Failure}
 use Rattle.replies.specs.declared.status.Failure.TheVariants.{ReadFault, WriteFault, Memory}
-use Rattle.file_problem.specs.Inputs.{Input}
+use Rattle.file_problem.specs.Inputs.{HasNoFault, Input}
 use Rattle.recon_run.specs.Answers.{CanEnd}
 use Rattle.recon_run.specs.Owed.{AnswersOwed, Asked, BeginsOwed, Owed, Search, alone, answer_at, input_of, judged, judgement_of, owed, read, reads_source, searched}
 use Rattle.replies.specs.Status.{Status, answer_code, failure_code}
@@ -22,10 +22,10 @@ owed_to words = owed (job_said words)
 abbrev pub Answers : List (List ℕ) → Option (List ℕ) → Option (List ℕ) → Answer → List ℕ → Type 0
 Answers words = AnswersOwed (owed_to words)
 
--- an answer to these bytes leaves open which of some answers comes, and with which text
-abbrev pub LeavesOpen : Owed → List ℕ → Answer → Type 0
-LeavesOpen (read profile asked) t answer = (judgement_of asked).leaves_open (input_of profile t) answer
-LeavesOpen (alone right tells) t answer = ⊥
+-- of these bytes, which have no fault, two answers are left open: either may come, and with any of its texts
+abbrev pub LeavesOpen : Owed → List ℕ → Answer → Answer → Type 0
+LeavesOpen (read profile asked) t a b = HasNoFault (input_of profile t) × (judgement_of asked).leaves_open (input_of profile t) a b
+LeavesOpen (alone right tells) t a b = ⊥
 
 -- two texts that answer them count as one
 abbrev pub AreAlike : Owed → List ℕ → List ℕ → List ℕ → Type 0

@@ -98,12 +98,12 @@ search_for_log limits = in_one_piece limits (λ t solids. answers.Done) (λ t c.
 
 -- ---- judgements
 
--- What is judged of an input without a fault: the right answers, with their texts; those that begin one; the answers that leave
--- open which of them comes, and with which text; and which texts count as one.
+-- What is judged of an input without a fault: the right answers, with their texts; those that begin one; which two answers are left
+-- open, so that either may come, and with any of its texts; and which texts count as one.
 pub record Judgement : Type 1 where
   pub tells : Input → Answer → List ℕ → Type 0
   pub begins : Input → Answer → List ℕ → Type 0
-  pub leaves_open : Input → Answer → Type 0
+  pub leaves_open : Input → Answer → Answer → Type 0
   pub alike : Input → List ℕ → List ℕ → Type 0
 
 -- the search of an input can end so, and the text is one of these of that end
@@ -124,12 +124,20 @@ IsCut answers.Refused = ⊥
 IsCut answers.Stopped = ⊥
 IsCut answers.NotAsked = ⊥
 
+-- both answers are cuts: either may be right where both limits are passed, and which of the solids are told is open
+abbrev pub AreCuts : Answer → Answer → Type 0
+AreCuts a b = IsCut a × IsCut b
+
+-- some reader asks to stop, and one of both answers is that the search was stopped
+abbrev pub IsStopOpen : Input → Answer → Answer → Type 0
+IsStopOpen t a b = AsksToStop t × ((a ≡ answers.Stopped) ⊎ (b ≡ answers.Stopped))
+
 -- what is judged of a log behind a drawing
 abbrev pub log_judgement : Judgement
 log_judgement = record {
   tells = TellsChecked;
   begins = TellsChecked;
-  leaves_open = λ t answer. ⊥;
+  leaves_open = λ t a b. ⊥;
   alike = λ t text other. text ≡ other;
 }
 
@@ -138,7 +146,7 @@ abbrev pub blocks_judgement : Judgement
 blocks_judgement = record {
   tells = TellsBlocks;
   begins = TellsBlocks;
-  leaves_open = λ t answer. ⊥;
+  leaves_open = λ t a b. ⊥;
   alike = λ t text other. text ≡ other;
 }
 
@@ -147,7 +155,7 @@ abbrev pub session_judgement : SearchLimits → Judgement
 session_judgement limits = record {
   tells = TellsAsked limits;
   begins = BeginsAsked limits;
-  leaves_open = λ t answer. AsksToStop t ⊎ IsCut answer;
+  leaves_open = λ t a b. AreCuts a b ⊎ IsStopOpen t a b;
   alike = SameBehindReaders;
 }
 
@@ -156,12 +164,12 @@ pub data Asked : Type 1 where
   searched : Search → Asked
   judged : Judgement → Asked
 
--- the judgement that is asked for: of a search its ends; a cut leaves open which of the solids are told
+-- the judgement that is asked for: of a search its ends; two cuts are left open
 abbrev pub judgement_of : Asked → Judgement
 judgement_of (searched s) = record {
   tells = IsAnEnd s s.tells;
   begins = IsAnEnd s s.begins;
-  leaves_open = λ t. IsCut;
+  leaves_open = λ t. AreCuts;
   alike = s.alike;
 }
 judgement_of (judged j) = j

@@ -100,7 +100,8 @@ abbrev pub EndsAsked : TellsListed → SearchLimits → Input → List (List (Li
 EndsAsked tells limits t lasts answer text = (kind : EndKind) × (m : SomeMatching limits t) × (e : EndsListing limits t kind m)
     × Each (AreAmong limits.solids m.choices) lasts × (answer ≡ end_answer kind) × tells (listing_head e) t.decimals m.choices m.solids text
 
--- or that it was stopped, as some script asks, before all live prefixes were opened; and some solids
+-- Or that it was stopped, as some script asks, and some solids. Of how far the search had come that says only that some prefix is
+-- live.
 abbrev pub StopsAsked : TellsListed → SearchLimits → Input → List (List Ask) → List (List (List Bool)) → Answer → List ℕ → Type 0
 StopsAsked tells limits t scripts lasts answer text = (asks_stop scripts ≡ true) × (m : SomeMatching limits t) × (1 ≤ node_count m.problem)
     × Each (AreAmong limits.solids m.choices) lasts × (answer ≡ answers.Stopped)

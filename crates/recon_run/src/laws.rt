@@ -1,11 +1,13 @@
 //! Laws of what is answered.
 
-ghost use Rattle.std.specs.Prelude.{◌≡◌, ◌⊎◌, ◌++◌, false, ℕ, List, Option, Some};
+ghost use Rattle.std.specs.Prelude.{◌≡◌, ◌⊎◌, ◌++◌, Bool, false, ℕ, List, Option, Some};
 ghost use Rattle.replies.specs.declared.status.Answer.{Answer};
+ghost use Rattle.replies.specs.declared.status.Answer.TheVariants as answers;
 ghost use Rattle.file_problem.specs.Inputs.{HasNoFault, Input, IsFileFault};
-ghost use Rattle.recon_run.specs.Endings.{Answers, AreAlike, LeavesOpen, owed_to};
-ghost use Rattle.recon_run.specs.Owed.{AnswersOwed, BeginsOwed, drawing_profile, input_of, owed_for};
+ghost use Rattle.recon_run.specs.Endings.{Answers, AreAlike, LeavesOpen, OfInput, owed_to};
+ghost use Rattle.recon_run.specs.Owed.{AnswersOwed, BeginsOwed, drawing_profile, input_of, judgement_of, owed_for, search_for_all, searched, session_judgement};
 ghost use Rattle.solid_model.specs.declared.fault.Fault.{Fault};
+ghost use Rattle.solid_model.specs.Search.{SearchLimits};
 ghost use Rattle.words.specs.declared.job.Job.TheVariants as job;
 
 /// What `make` owes has no fault: whatever is made from a number can be searched.
@@ -20,19 +22,31 @@ pub fn one_first_fault()
     ensures { (input : Input) (a b : Fault) → IsFileFault input a → IsFileFault input b → a ≡ b }
 {}
 
-/// Arguments and an input have at most one right answer, and one text that goes with it; but where
-/// both limits of a search are passed either cut is right, and a cut leaves open which of the
-/// solids are listed; and where pages are asked for they may tell the same solids in another order,
-/// so many in a page or so many.
+/// Of arguments and an input two right answers are one, and their texts count as one: so they do
+/// where both are whole searches, behind what readers tell, and behind pages, which may tell the
+/// same solids in another order, so many in a page or so many. Only of an input without a fault two
+/// are left open: cuts, since where both limits of a search are passed either is right, with
+/// whichever solids were found; and, where some reader asks to stop, two of which one is that the
+/// search was stopped.
 pub fn one_answer()
-    ensures answer { (words : List (List ℕ)) (input : List ℕ) (rest left : Option (List ℕ))
+    ensures { (words : List (List ℕ)) (input : List ℕ) (rest left : Option (List ℕ))
         (a b : Answer) (text other : List ℕ) → Answers words (Some input) rest a text
-        → Answers words (Some input) left b other → (a ≡ b)
-        ⊎ (LeavesOpen (owed_to words) input a × LeavesOpen (owed_to words) input b) }
-    ensures text { (words : List (List ℕ)) (input : List ℕ) (rest left : Option (List ℕ))
-        (a b : Answer) (text other : List ℕ) → Answers words (Some input) rest a text
-        → Answers words (Some input) left b other → (LeavesOpen (owed_to words) input a → ⊥)
-        → AreAlike (owed_to words) input text other }
+        → Answers words (Some input) left b other
+        → ((a ≡ b) × AreAlike (owed_to words) input text other)
+        ⊎ LeavesOpen (owed_to words) input a b }
+{}
+
+/// No more is left open: nothing of an input that has a fault, and no two whole searches, whether
+/// or not some reader asks to stop.
+pub fn little_is_left_open()
+    ensures faulty { (words : List (List ℕ)) (input : List ℕ) (a b : Answer)
+        → OfInput (owed_to words) (Some input) (λ t. (fault : Fault) → IsFileFault t fault
+        → LeavesOpen (owed_to words) input a b → ⊥) }
+    ensures searched { (paged : Bool) (limits : SearchLimits) (t : Input)
+        → (judgement_of (searched (search_for_all paged limits))).leaves_open t
+        answers.Done answers.Done → ⊥ }
+    ensures asked { (limits : SearchLimits) (t : Input)
+        → (session_judgement limits).leaves_open t answers.Done answers.Done → ⊥ }
 {}
 
 /// Arguments and an input never lack a right answer: it can't be that no answer goes with a text.

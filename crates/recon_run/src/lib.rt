@@ -22,9 +22,10 @@ mod telling;
 mod trial;
 
 pub use command::run;
-pub use file_problem::{problem_and_rest, problem_of};
+pub use file_problem::{problem_and_rest, problem_of, problem_of_six};
 pub use laws::{
-    begun_texts_go_on, made_files_have_no_fault, one_answer, one_first_fault, some_answer,
+    begun_texts_go_on, little_is_left_open, made_files_have_no_fault, one_answer, one_first_fault,
+    some_answer,
 };
 pub use replies::{Answer, Failure, Status, status_numbers};
 pub use words::{Job, WordFault, job_of};
