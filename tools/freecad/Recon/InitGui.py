@@ -1,5 +1,5 @@
 """The workbench: its two commands, in a menu and a toolbar, and its page of preferences."""
-import FreeCADGui as Gui  # type: ignore[import]
+import FreeCADGui as Gui
 
 
 class ReconWorkbench(Gui.Workbench):  # type: ignore[misc]
