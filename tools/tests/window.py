@@ -13,8 +13,8 @@ from collections.abc import Callable
 from typing import Any
 
 import FreeCAD
-import FreeCADGui as Gui  # type: ignore[import]
-from PySide import QtCore, QtGui  # type: ignore[import]
+import FreeCADGui as Gui
+from PySide import QtCore, QtGui
 
 FOLDER = pathlib.Path(os.environ["RECON_TRIED"])
 PICTURES = os.environ.get("RECON_PICTURES", "")
