@@ -29,12 +29,13 @@ MOST_CUTS = 20_000
 
 class Placed(NamedTuple):
     """The three views and those beside them, whether the part is seen in a mirror (the side view is the left one, and there is no right
-    one), and what was found, in words."""
+    one), what was found, in words, and whether names told the views, and not their places."""
 
     views: dict[str, Group]
     mirrored: bool
     found: list[str]
     left: list[str]
+    by_names: bool = False
 
 
 # What tells which of all groups are sections, by their numbers from 0 on, and why; it knows which ones the user leaves out.
@@ -152,7 +153,7 @@ def by_names(views: dict[str, list[Run]], others: list[Run], hints: Hints) -> Pl
     words = [f"the views by {by_what}: {', '.join(sorted(named))}{without_told(groups)}"]
     check_extents(groups, tolerance)
     return Placed(groups, is_mirrored(named), words + [f"{count} {what}" for what, count in found.items()],
-                  [f"{count} {what}" for what, count in left.items()])
+                  [f"{count} {what}" for what, count in left.items()], True)
 
 
 def extents_of(view: str, group: Group) -> list[tuple[int, str, float]]:

@@ -20,11 +20,11 @@ from typing import NamedTuple, Union
 from . import documents, files, pairs, scale
 from .cutting import Mark, marks_of, without_marks
 from .dimensions import without_dimensions
-from .drawing import Origin, Place, Stroke, places_of, written
+from .drawing import VIEWS, Origin, Place, Stroke, places_of, written
 from .messages import Refused, many, say, write_result
 from .groups import Group, meet
 from .paper import Paper
-from .placing import Hints, Placed, by_names, extents_of, named_views, numbers_of, view_named
+from .placing import Hints, Placed, by_names, extents_of, main_named, named_views, numbers_of, view_named
 from .reading import Box, Edge, Sheet, Source, Unread, line_of_file, read_sheet
 from .sections import sections_of
 from .straight import MOST_DECIMALS, At, Measure, Run, apart, fits, hidden_by, measure_of, runs_of
@@ -237,8 +237,20 @@ def refuse_unread(path: str | None, placed: Placed, unread: Sequence[Unread], ar
         views = [view for view, group in placed.views.items() if it.source.view in ("", view) and meet(group.box, it.box, reach)]
         if views:
             raise Refused(f"in {views[0]} a {where(it.source, path)} {it.why}{ways_out(path, it, placed.views[views[0]], placed, arguments)}")
+        if near := view_in_line(it, placed, arguments.tolerance):
+            raise Refused(f"a {where(it.source, path)} {it.why}, and stands in line with {near}, where the view that lacks may be"
+                          f"{ways_out(path, it, placed.views[near], placed, arguments)}")
         left[f"{it.source.kind} on layer {it.source.layer}, outside the views, which {it.why}"] += 1
     tell_counted(tell, "left out", left)
+
+
+def view_in_line(it: Unread, placed: Placed, tolerance: float) -> str:
+    """Where names tell the views and a main one lacks, the view beside which something that can't be read may be of it: it reaches no farther
+    to both sides, or upwards and downwards. So no view is lost that has nothing else; of views by their places `placing.py` sees to that."""
+    if not it.box or not placed.by_names or len(main_named(placed.views)) == len(VIEWS):
+        return ""
+    return next((view for view, group in placed.views.items() for axis in (0, 1)
+                 if group.box[axis] - tolerance <= it.box[axis] and it.box[axis + 2] <= group.box[axis + 2] + tolerance), "")
 
 
 def ways_out(path: str | None, it: Unread, group: Group, placed: Placed, arguments: argparse.Namespace) -> str:

@@ -97,7 +97,7 @@ def run(arguments: argparse.Namespace) -> int:
     if arguments.visible_edges_alone:
         if arguments.json:
             raise Usage("--visible-edges-alone lists some solids, and --json all")
-        return visible.run(arguments)
+        return visible.run(arguments, LISTED if arguments.list is None else max(0, arguments.list))
     notes = records.Notes()
 
     def tell(text: str) -> None:

@@ -77,7 +77,7 @@ def solid_told(number: int, solid: Found, grid: Grid, asked: asking.Asked) -> st
     return f"solid {number}: {sizes}, volume {asked.volume(volume)}, {many(len(solid.hidden), 'hidden line')}"
 
 
-def settling_told(solids: list[Found], grid: Grid, asked: asking.Asked, arguments: argparse.Namespace) -> list[str]:
+def settling_told(solids: list[Found], grid: Grid, asked: asking.Asked, arguments: argparse.Namespace, listed: int) -> list[str]:
     """The hidden lines that would settle it: of each solid or of those that have the same ones, with what the program lists so drawn."""
     groups: dict[frozenset[Hidden], list[int]] = {}
     for number, solid in enumerate(solids, 1):
@@ -85,7 +85,7 @@ def settling_told(solids: list[Found], grid: Grid, asked: asking.Asked, argument
     every = frozenset.intersection(*groups) if len(groups) > 1 else frozenset()
     path, sheet = program.find(arguments.program), asked.sheet()
     rows = ["hidden lines of all of them", *(line_told(line, grid, sheet) for line in sorted(every))] if every else []
-    for hidden, its in list(groups.items())[:max(0, arguments.list)]:
+    for hidden, its in list(groups.items())[:listed]:
         tried = trials.Tried(grid._replace(panels=solids[its[0] - 1].panels))
         outcome = trials.outcome(path, tried.words, tried.changed(()))
         numbers = f"solid{'s' * (len(its) > 1)} {', '.join(map(str, its))}"
@@ -96,19 +96,19 @@ def settling_told(solids: list[Found], grid: Grid, asked: asking.Asked, argument
     return rows
 
 
-def told(solids: list[Found], is_done: bool, grid: Grid, asked: asking.Asked, arguments: argparse.Namespace) -> list[str]:
-    """The solids in words, and the hidden lines by which they would be told apart."""
+def told(solids: list[Found], is_done: bool, grid: Grid, asked: asking.Asked, arguments: argparse.Namespace, listed: int) -> list[str]:
+    """The solids in words, so many one by one, and the hidden lines by which they would be told apart."""
     have = "solid has" if len(solids) == 1 else "solids have"
     rows = [f"At least {len(solids):,} {have} these visible edges; that there is no other isn't proved." if solids
             else "No solid was found that has these visible edges; that there is none isn't proved."]
     end = "it knows no more of them" if is_done else "it was cut there"
     rows.append(f"clingo looked for {arguments.most:,} solids, for {arguments.search:g} seconds, whose corners lie where visible lines do: {end}.")
-    rows += [solid_told(number, solid, grid, asked) for number, solid in enumerate(solids[:max(0, arguments.list)], 1)]
-    rows += [f".. and {len(solids) - arguments.list:,} more"] if len(solids) > arguments.list else []
-    return rows + settling_told(solids, grid, asked, arguments)
+    rows += [solid_told(number, solid, grid, asked) for number, solid in enumerate(solids[:listed], 1)]
+    rows += [f".. and {len(solids) - listed:,} more"] if len(solids) > listed else []
+    return rows + settling_told(solids, grid, asked, arguments, listed)
 
 
-def run(arguments: argparse.Namespace) -> int:
+def run(arguments: argparse.Namespace, listed: int) -> int:
     if arguments.answer or arguments.expect is not None:
         raise Usage("--answer and --expect are of what recon lists, and --visible-edges-alone asks clingo")
     least = argparse.Namespace(**{**vars(arguments), "nodes": 1, "solids": 1})
@@ -122,5 +122,5 @@ def run(arguments: argparse.Namespace) -> int:
     if hidden := sum(style == DASHED for styles in grid.panels.values() for style, *_ in runs_of(styles)):
         raise Usage(f"{many(hidden, 'hidden line')} of the drawing: --visible-edges-alone is of drawings without them")
     solids, is_done = some_solids(grid, max(1, arguments.most), arguments.search)
-    write_result("".join(f"{row}\n" for row in told(solids, is_done, grid, asked, arguments)), None)
+    write_result("".join(f"{row}\n" for row in told(solids, is_done, grid, asked, arguments, listed)), None)
     return UNPROVED

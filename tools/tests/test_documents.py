@@ -239,6 +239,11 @@ def chamfered() -> Any:
     return shape.makeChamfer(3, shape.Edges[:1])
 
 
+def elliptic() -> Any:
+    rim = Part.Ellipse(FreeCAD.Vector(), 20, 10).toShape()
+    return Part.Face(Part.Wire([rim])).extrude(FreeCAD.Vector(0, 0, 5))
+
+
 REFUSED: dict[str, tuple[Make, str]] = {
     "no page": (lambda one: one.feature(corner()), "no page of TechDraw"),
     "two pages": (two_pages, "2 pages in the document: name one of First, Second by --sheet-page"),
@@ -249,7 +254,8 @@ REFUSED: dict[str, tuple[Make, str]] = {
     "a part aslant to the page": (
         lambda one: one.group(one.page(), [one.feature(corner(), placed=placement(degrees=30))]), "a line of the page's view .* from its lower left corner on: it is oblique"),
     "a chamfer": (lambda one: in_a_group(one, chamfered()), "it is oblique"),
-    "a torus": (lambda one: in_a_group(one, Part.makeTorus(20, 5)), "a curve of the page's view Top is a BSplineCurve"),
+    "an ellipse, all that is drawn in Top": (
+        lambda one: in_a_group(one, elliptic()), "a curve of the page's view Top is a Ellipse, and stands in line with FRONT, where the view that lacks may be"),
     "a surface": (lambda one: in_a_group(one, Part.makePlane(10, 10)), "has no solid in it"),
 }
 
@@ -267,9 +273,13 @@ class Pages(unittest.TestCase):
 
     def test_what_cant_be_read_is_refused_by_its_cause(self) -> None:
         for name, (make, cause) in REFUSED.items():
-            with self.subTest(name), self.assertRaisesRegex(Refused, cause) as refused:
-                of_made(make)
-            self.assertNotIn("--as-is", str(refused.exception))
+            with self.subTest(name):
+                with self.assertRaisesRegex(Refused, cause) as refused:
+                    of_made(make)
+                self.assertNotIn("--as-is", str(refused.exception))
+
+    def test_a_torus_comes_to_no_solid(self) -> None:
+        self.assertEqual(of_made(lambda one: in_a_group(one, Part.makeTorus(20, 5))).solids, 0)
 
     def test_pages_and_parts_by_their_names(self) -> None:
         self.assertEqual(len(of_made(two_pages, "--sheet-page", "Second").part), 1)

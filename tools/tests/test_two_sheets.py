@@ -128,6 +128,17 @@ class Placed(InAFolder):
         written_in = self.saved(self.two("SIDE"), self.places, (x, y, x + 9, y + 4), texts=((x + 1, y + 1),))
         self.assertRegex(self.refusal(written_in, "--angle", "third"), r"what may be the third one .*--leave-out group=\d")
 
+    def test_a_view_of_curves_alone_is_none_that_lacks(self) -> None:
+        """Of two views by names the third one has nothing but a curve that isn't read."""
+        import ezdxf
+        for view in VIEWS:
+            file = self.saved(self.two(view), self.places, layers=True)
+            x, y = self.places[view]
+            doc = ezdxf.readfile(file)
+            doc.modelspace().add_ellipse((x + 1, y + 1), (1, 0), 0.5, dxfattribs={"layer": view})
+            doc.saveas(file)
+            self.assertRegex(self.refusal(file), rf"a ELLIPSE .* on layer {view}.* stands in line with .*, where the view that lacks may be")
+
     def test_two_views_out_of_line(self) -> None:
         file = self.saved(self.two("SIDE"), {**self.places, "TOP": (self.places["TOP"][0] + 1, self.places["TOP"][1])})
         self.assertIn("fewer than three, and the two don't stand in line", self.refusal(file))
