@@ -17,6 +17,8 @@ mod entities;
 #[cfg(test)]
 mod further;
 #[cfg(test)]
+mod held;
+#[cfg(test)]
 mod hostile;
 #[cfg(test)]
 mod logs;

@@ -16,12 +16,20 @@ rect S 0 0 3 3, rect D 1 1 2 2; rect S 0 0 3 3, rect D 1 1 2 2; rect S 0 0 3 3, 
 rect S 0 0 3 3, rect D 1 1 2 2; rect S 0 0 3 3, rect D 1 1 2 2; rect S 0 0 3 3, rect D 1 1 2 2; \
     prove|--nodes|2| -> 3 cut nodes 2
 lattice 2 2; lattice 2 2; lattice 2 2; prove|--solids=34| -> 4 cut solids 34
+rect S 0 0 2 2; rect S 0 0 2 2; rect S 0 0 2 2, line S 0 1 1 1; prove| -> \
+    0 log 1 blocks 1 / force 0 1 side l 0 0 / fail side l 1 0 / end 0
 rect S 0 0 2 1; rect S 0 0 1 1; rect S 0 0 1 1; prove| -> 0 log 1 blocks 0 / fail front l 0 0 / end 0
 rect S 0 0 1 1; rect S 0 0 1 1; line S 3 3 3 3; prove| -> 1 fault F14 EmptyView view SIDE
 rect S 0 0 1 1; rect S 0 0 1 1; line S 3 3 3 3; prove|--two-views| -> \
-    0 log 1 blocks 1 / force 0 1 front l 0 0 / solid / end 1";
+    0 log 1 blocks 1 / force 0 1 front l 0 0 / solid / end 1
+line S 3 3 3 3; rect S 0 0 1 1; rect S 0 0 1 1; prove|--two-views| -> \
+    0 log 1 blocks 1 / force 0 1 top l 0 0 / solid / end 1";
 
-/// A row a run of `check`: the strokes, the log, and further words; and then what is written.
+/// A row a run of `check`: the strokes, the log, and further words; and then what is written. In the
+/// last row a bar of 5 by 6 cells shows all strokes in front and from the top, once its nearest
+/// cells are full by turns, and one in each row and column that begins with an empty one. The other
+/// 17 may be full or empty: 131,072 solids, of which the log lists one more than it may, each in a
+/// line, after 14 other lines and 65,552 more splits.
 const CHECKS: &str = "\
 rect S 0 0 1 1; rect S 0 0 1 1; rect S 0 0 1 1; \
     log 1 blocks 1 / force 0 1 front l 0 0 / solid / end 1 -> 0 yes 1 / choice 1
@@ -50,14 +58,61 @@ rect S 0 0 1 1; rect S 0 0 1 1; line S 3 3 3 3; \
 rect S 0 0 1 1; rect S 0 0 1 1; line S 3 3 3 3; \
     log 1 blocks 1 / force 0 1 front l 0 0 / solid / end 1; --two-views| -> 0 yes 1 / choice 1
 rect S 0 0 1 1; rect S 0 0 1 1; line S 3 3 3 3; \
-    log 1 blocks 1 / force 0 1 side l 0 0 / solid / end 1; --two-views| -> 9 log G3 Unproved line 2";
+    log 1 blocks 1 / force 0 1 side l 0 0 / solid / end 1; --two-views| -> 9 log G3 Unproved line 2
+rect S 0 0 1 1; rect S 0 0 1 1; line S 3 3 3 3; \
+    log 1 blocks 1 / force 0 1 top l 0 0 / solid / end 1; --two-views| -> 0 yes 1 / choice 1
+rect S 0 0 1 1; line S 3 3 3 3; rect S 0 0 1 1; \
+    log 1 blocks 1 / force 0 1 side l 0 0 / solid / end 1; --two-views| -> 0 yes 1 / choice 1
+rect S 0 0 2 2; rect S 0 0 2 2; rect S 0 0 2 2, line S 0 1 1 1; \
+    log 1 blocks 1 / force 0 1 side l 0 0 / fail side l 1 0 / end 0 -> 0 yes 0
+rect S 0 0 1 6, line S 0 1 1 1, line S 0 2 1 2, line S 0 3 1 3, line S 0 4 1 4, line S 0 5 1 5; \
+    rect S 0 0 1 5, line S 0 1 1 1, line S 0 2 1 2, line S 0 3 1 3, line S 0 4 1 4; \
+    line S 3 3 3 3; log 1 blocks 30 / split 5 / split 15 / split 25 / split 27 / split 29 / \
+    force 0 0 front l 1 0 / force 10 0 front l 2 0 / force 20 0 front l 4 0 / \
+    force 26 0 top l 1 0 / force 28 0 top l 3 0 / split 1 / split 13 / split 21 / \
+    65537 solids by 2 3 4 6 7 8 9 11 12 14 16 17 18 19 22 23 24; --two-views| -> \
+    9 log G5 TooMany line 131103";
+
+/// Adds a line.
+fn push_line(lines: &mut String, line: &str) -> Result<(), AllocError> {
+    lines.push_str(line)?;
+    lines.push_str("\n")
+}
+
+/// Adds a line that splits each of some blocks, but for so many of the first ones.
+fn push_splits(lines: &mut String, blocks: &str, decided: usize) -> Result<(), AllocError> {
+    for block in blocks.split(' ').skip(decided) {
+        lines.push_str("split ")?;
+        push_line(lines, block)?;
+    }
+    Ok(())
+}
+
+/// Adds the lines of a tree that splits some blocks one after another, up to so many solids. Before
+/// each solid those blocks are split anew behind the last one that was full.
+fn push_solids(lines: &mut String, blocks: &str, count: u32) -> Result<(), AllocError> {
+    let all = blocks.split(' ').count();
+    for solid in 0..count {
+        let anew = solid.trailing_zeros() as usize;
+        push_splits(lines, blocks, all.saturating_sub(anew))?;
+        push_line(lines, "solid")?;
+    }
+    Ok(())
+}
+
+/// Adds a line, or those of so many solids.
+fn push_step(lines: &mut String, step: &str) -> Result<(), AllocError> {
+    match step.split_once(" solids by ") {
+        Some((count, blocks)) => push_solids(lines, blocks, count.parse::<u32>().unwrap_or(0)),
+        None => push_line(lines, step),
+    }
+}
 
 /// The lines that are told with ` / ` between them.
 fn lines_of(alloc: Global, told: &str) -> Result<String, AllocError> {
     let mut lines = String::new(alloc);
-    for line in told.split(" / ") {
-        lines.push_str(line)?;
-        lines.push_str("\n")?;
+    for step in told.split(" / ") {
+        push_step(&mut lines, step)?;
     }
     Ok(lines)
 }

@@ -24,7 +24,7 @@ fn run_over<R: Runtime>(
 }
 
 /// The words of a command.
-fn command_of(alloc: Global, words: &str) -> Result<Vec<String>, AllocError> {
+pub fn command_of(alloc: Global, words: &str) -> Result<Vec<String>, AllocError> {
     let mut command = Vec::new(alloc);
     for word in words.split_terminator('|') {
         command.push(String::from_str(alloc, word)?)?;
