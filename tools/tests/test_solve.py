@@ -25,7 +25,8 @@ KINDS = {
     "a.step": (b"ISO-10303-21;\nHEADER;", "is a STEP file, a solid and no drawing.*`draft views`"),
     "a.stl": (b"solid part\nfacet normal 0 0 1\n", "is an STL file"), "a.jpg": (b"\xff\xd8\xff\xe0\0\x10JFIF", "is a JPEG picture"),
     "a.png": (b"\x89PNG\r\n\x1a\n\0\0", "is a PNG picture"), "a.tif": (b"II*\0\x08\0", "is a TIFF picture"),
-    "a.FCStd": (b"PK\x03\x04" + bytes(26) + b"Document.xml", "is a document of FreeCAD.*TechDraw"), "a.zip": (b"PK\x03\x04" + bytes(80), "is a ZIP"),
+    "a.FCStd": (b"PK\x03\x04" + bytes(26) + b"Document.xml", "is no document of FreeCAD, or is cut"),
+    "a.zip": (b"PK\x03\x04" + bytes(80), "is a ZIP"),
     "a.txt": (b"a letter\n" * 9, "is no DXF file: no section begins in it"),
 }
 
