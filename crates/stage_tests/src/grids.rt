@@ -35,13 +35,13 @@ line S 0 0 5 0, line D 0 3 2 3, line S 2 3 5 3, line S 0 4 2 4, line S 0 0 0 4, 
     -> [0, 2, 5] [0, 1, 5] [0, 3, 4] front ==-==./==.==. top ===.==/===.== side ....../......";
 
 /// The lines of a drawing by its strokes in front, from the top and from the side.
-fn lines_in(alloc: Global, views: [&str; 3]) -> Result<Vec<SheetLine>, Fail> {
+pub fn lines_in(alloc: Global, views: [&str; 3]) -> Result<Vec<SheetLine>, Fail> {
     let file = file_bytes(drawing_file(alloc, views)?)?;
     Ok(entities(alloc, &mut Groups::new(file), 0)?)
 }
 
 /// The drawing, of which one view may be missing.
-pub fn drawing_in(alloc: Global, views: [&str; 3]) -> Result<Drawing, Fail> {
+fn drawing_in(alloc: Global, views: [&str; 3]) -> Result<Drawing, Fail> {
     let lines = lines_in(alloc, views)?;
     Ok(drawing_of_views(alloc, lines.as_slice(), true)?)
 }

@@ -1,10 +1,11 @@
 //! Runs that were found by hand.
 
-use crate::grids::drawing_in;
+use crate::grids::lines_in;
 use solid_model::{Run, Style, View, ViewLines};
 use std::alloc::Global;
 use std::test::Fail;
 use test_files::{Row, rows_tell};
+use views::drawing;
 
 /// What it is, the strokes of each view, and the runs that it has then. Each is told by its style,
 /// its kind, where it lies across, and where it begins and ends along.
@@ -78,8 +79,9 @@ fn told_view(alloc: Global, view: &ViewLines) -> Result<String, Fail> {
 /// The runs of the top view, where all views have a row's strokes, as the row has them.
 fn told_runs(alloc: Global, row: Row<'_>) -> Result<String, Fail> {
     let [_, strokes, ..] = row.parts;
-    let drawing = drawing_in(alloc, [strokes; 3])?;
-    told_view(alloc, drawing.view(View::Top))
+    let lines = lines_in(alloc, [strokes; 3])?;
+    let drawn = drawing(alloc, lines.as_slice())?;
+    told_view(alloc, drawn.view(View::Top))
 }
 
 #[test]
