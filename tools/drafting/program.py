@@ -13,7 +13,7 @@ from .messages import Refused
 TOP = pathlib.Path(__file__).resolve().parent.parent.parent
 BUILT = TOP / "crates" / "recon" / "out" / "recon"
 # How it is built, and what that costs.
-BUILD = "(cd crates/recon && rt run -- solve < ../../examples/unit_cube.dxf) builds it, once it has proved everything, for about an hour"
+BUILD = "(cd crates/recon && rt run -- solve < ../../examples/unit_cube.dxf) builds it, once it has proved everything, for an hour or two"
 # The most seconds that one run may take, unless the caller says otherwise.
 SECONDS = 3600.0
 

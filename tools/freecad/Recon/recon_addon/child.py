@@ -6,8 +6,8 @@ import tempfile
 from collections.abc import Sequence
 from typing import Any
 
-import FreeCADGui as Gui  # type: ignore[import]
-from PySide import QtCore  # type: ignore[import]
+import FreeCADGui as Gui
+from PySide import QtCore
 
 from . import FOLDER, settings
 from .words import translate
