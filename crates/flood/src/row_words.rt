@@ -7,7 +7,7 @@ ghost use Rattle.lemmas.specs.Bits.{is_set};
 ghost use Rattle.solid_model.specs.Cells.{cell_before, cell_after};
 ghost use Rattle.solid_model.specs.declared.cell.Axis.TheVariants.{X};
 ghost use Rattle.solid_model.specs.PerAxis.{numbers_of, cell_of, AreFew};
-ghost use Rattle.solid_model.specs.Rooms.{is_within};
+ghost use Rattle.solid_model.specs.WalledBoxes.{is_within};
 
 use crate::walls::Walls;
 use solid_model::{Axis, Memory, PerAxis};

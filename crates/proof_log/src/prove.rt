@@ -18,7 +18,7 @@ use crate::walk::Walk;
 use completeness_logs::LogEntry;
 use solid_model::{Axis, Problem};
 use std::alloc::Global;
-use text_pieces::{PIECE, make_room, write_piece};
+use text_pieces::{PIECE, write_if_full, write_piece};
 use tv_base::{Sink, SinkError};
 
 /// How many blocks a problem has: their number has 16 bits.
@@ -41,7 +41,7 @@ fn write_entry<K: Sink>(piece: &mut Vec<u8>, entry: LogEntry, sink: &mut K) -> R
     ensures failed { IsErrOf result SinkError.Failed →
         Rose (K.faults sink.old) (K.faults sink.new) }
 {
-    make_room(piece, sink)?;
+    write_if_full(piece, sink)?;
     push_entry(piece, entry)?;
     Ok(())
 }

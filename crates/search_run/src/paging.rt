@@ -86,7 +86,7 @@ fn page_on<B: Wait + Drop, R: Wait, G: Gate, P: PageOut>(
                 if last {
                     return Ok(handed);
                 }
-                let news = shop.room.wait_for_news(rt, seen);
+                let news = shop.monitor.wait_for_news(rt, seen);
                 seen = news.published;
                 last = news.last;
             }

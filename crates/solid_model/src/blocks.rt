@@ -36,7 +36,7 @@ impl Blocks {
     ghost use Rattle.solid_model.specs.Blocks.{block_at};
     ghost use Rattle.lemmas.specs.Lists.{Each};
     ghost use Rattle.solid_model.specs.PerAxis.{numbers_of, cell_of};
-    ghost use Rattle.solid_model.specs.Rooms.{box_count, IsEarlier};
+    ghost use Rattle.solid_model.specs.WalledBoxes.{box_count, IsEarlier};
     ghost use Rattle.solid_model.specs.GridBox.{grid_sizes};
 
     /// The blocks of a grid: so many, one number or none for each grid cell.

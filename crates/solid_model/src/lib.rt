@@ -54,11 +54,11 @@ pub use laws::{
     lines_have_a_drawing, matching_is_seen_on_the_grid, matching_solids_are_constant_on_blocks,
     matching_solids_begin_at_zero, matching_solids_lie_in_the_grid, maximal_stretches,
     moved_drawings_begin_at_zero, one_drawing_of_a_grid, one_list_of_grid_coordinates,
-    one_list_of_runs, one_numbering_of_rooms, one_stated_form, order_and_repeats_do_not_matter,
-    quartered_cube, runs_are_maximal_stretches, small_drawings, small_orders, small_runs,
-    small_sheet, small_tree, solids_are_ordered, solids_begin_where_their_views_do,
-    solids_lie_within_their_views, the_tree_is_complete, views_are_seen_from_their_sides,
-    views_begin_at_the_least_lines, volumes_count_unit_cells,
+    one_list_of_runs, one_numbering_of_components, one_stated_form,
+    order_and_repeats_do_not_matter, quartered_cube, runs_are_maximal_stretches, small_drawings,
+    small_orders, small_runs, small_sheet, small_tree, solids_are_ordered,
+    solids_begin_where_their_views_do, solids_lie_within_their_views, the_tree_is_complete,
+    views_are_seen_from_their_sides, views_begin_at_the_least_lines, volumes_count_unit_cells,
 };
 pub use limits::Limits;
 pub use line::SheetLine;

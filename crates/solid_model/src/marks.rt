@@ -31,7 +31,7 @@ pub trait CellTest {
     ghost use Rattle.std.specs.Prelude.{◌≡◌, Bool, IsTrue};
     ghost use Rattle.solid_model.specs.declared.cell.Cell.{Cell};
     ghost use Rattle.solid_model.specs.PerAxis.{numbers_of, cell_of, AreFew};
-    ghost use Rattle.solid_model.specs.Rooms.{Sizes, is_within};
+    ghost use Rattle.solid_model.specs.WalledBoxes.{Sizes, is_within};
 
     /// The sizes of the box.
     ghost sizes: { Self → Sizes };
@@ -54,7 +54,7 @@ impl Marks {
     ghost use Rattle.std.specs.Prelude.{◌≡◌, length, IsTrue, IfOk};
     ghost use Rattle.solid_model.specs.Marks.{BoxMarks, IsFull, is_marked, AreMarksOf};
     ghost use Rattle.solid_model.specs.PerAxis.{numbers_of, cell_of, AreFew};
-    ghost use Rattle.solid_model.specs.Rooms.{is_within, box_count};
+    ghost use Rattle.solid_model.specs.WalledBoxes.{is_within, box_count};
 
     /// The marks with these values, one for each cell of a box of these sizes.
     pub fn new(sizes: PerAxis, values: Vec<bool>) -> Marks

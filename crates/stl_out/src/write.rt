@@ -24,7 +24,7 @@ use crate::surface::rectangles_of;
 use crate::text::push_rectangle;
 use solid_model::{Choice, Grid, Problem};
 use std::alloc::Global;
-use text_pieces::{PIECE, make_room, write_piece};
+use text_pieces::{PIECE, write_if_full, write_piece};
 use tv_base::{Sink, SinkError};
 
 /// Adds a rectangle's two triangles to the piece, after it was written where it was full.
@@ -47,7 +47,7 @@ fn write_rectangle<K: Sink>(
     ensures failed { IsErrOf result SinkError.Failed →
         Rose (K.faults sink.old) (K.faults sink.new) }
 {
-    make_room(piece, sink)?;
+    write_if_full(piece, sink)?;
     push_rectangle(piece, parts, rectangle)?;
     Ok(())
 }

@@ -29,7 +29,7 @@ pub fn write_piece<K: Sink>(sink: &mut K, piece: &[u8]) -> Result<(), SinkError>
 }
 
 /// Makes room for 1,536 bytes: writes the piece where it is full, and begins another one.
-pub fn make_room<K: Sink>(piece: &mut Vec<u8>, sink: &mut K) -> Result<(), SinkError>
+pub fn write_if_full<K: Sink>(piece: &mut Vec<u8>, sink: &mut K) -> Result<(), SinkError>
     requires { length piece.old.items ≤ 65536 }
     ensures later { K.faults sink.old ≤ K.faults sink.new }
     ensures ok { OnOk result (WritesOn (K.held sink.old) (K.held sink.new)

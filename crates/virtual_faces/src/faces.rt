@@ -3,7 +3,7 @@
 ghost use Rattle.std.specs.Prelude.{◌≡◌, ◌||◌, not, map, IsTrue, IfOk};
 ghost use Rattle.solid_model.specs.Marks.{marks_along, is_marked, AreMarksOf};
 ghost use Rattle.solid_model.specs.PerAxis.{numbers_of};
-ghost use Rattle.solid_model.specs.Rooms.{same_axis, face_sizes};
+ghost use Rattle.solid_model.specs.WalledBoxes.{same_axis, face_sizes};
 ghost use Rattle.solid_model.specs.VirtualFaces.{axis_across_both, IsVirtual};
 ghost use Rattle.solid_model.specs.Kept.{IsFaceMapOf, IsWireOf};
 ghost use Rattle.solid_model.specs.GridBox.{grid_sizes};

@@ -7,7 +7,7 @@ use Rattle.face_laws.specs.GridFaces.{numbered_fullness, face_in_space, grid_pla
 use Rattle.lemmas.specs.Lists.{Each}
 use Rattle.solid_model.specs.Marks.{is_marked}
 use Rattle.solid_model.specs.Panels.{coordinates_of}
-use Rattle.solid_model.specs.Rooms.{is_within, box_place}
+use Rattle.solid_model.specs.WalledBoxes.{is_within, box_place}
 use Rattle.face_laws.proofs.GridPlanes.{union_faces}
 use Rattle.faces.specs.GridPoints.{HasFace}
 use Rattle.faces.proofs.FacesOnGrid.{faces_on_grid}

@@ -9,7 +9,7 @@ use Rattle.line_demands.proofs.CellPlaces.{block_told}
 use Rattle.line_demands.proofs.Gathering.{block_below}
 use Rattle.line_demands.proofs.gather.block_at_depth.Goals as goal
 use Rattle.solid_model.specs.Frames.{frame_of}
-use Rattle.solid_model.specs.Rooms.{Sizes}
+use Rattle.solid_model.specs.WalledBoxes.{Sizes}
 use Rattle.solid_model.specs.GridBox.{grid_sizes}
 
 pub overflow_add-cells : goal.overflow_add-cells

@@ -2,7 +2,7 @@
 use Rattle.std.proofs.Common.{◌≤◌, ap, subst, ◌∙◌, inl, inr}
 use Rattle.solid_model.specs.declared.cell.Axis.{Axis}
 use Rattle.solid_model.specs.GridBox.{grid_sizes}
-use Rattle.solid_model.specs.Rooms.{Sizes}
+use Rattle.solid_model.specs.WalledBoxes.{Sizes}
 use Rattle.proof_check.proofs.Asked.{far}
 use Rattle.proof_check.proofs.asking.line_at.Goals as goal
 

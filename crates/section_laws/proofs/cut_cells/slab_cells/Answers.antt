@@ -3,7 +3,7 @@ use Rattle.std.proofs.Common.{◌≡◌, ◌∙◌, arith}
 use Rattle.lemmas.proofs.Pushed.{holds_more}
 use Rattle.solid_model.specs.Panels.{coordinates_of}
 use Rattle.solid_model.specs.PerAxis.{numbers_of}
-use Rattle.solid_model.specs.Rooms.{box_count}
+use Rattle.solid_model.specs.WalledBoxes.{box_count}
 use Rattle.section_laws.specs.Shaded.{IsInSlab}
 use Rattle.section_laws.proofs.ChosenPlaces.{TellsAt, told_at, all_told, few_cell}
 use Rattle.section_laws.proofs.cut_cells.slab_cells.Goals as goal

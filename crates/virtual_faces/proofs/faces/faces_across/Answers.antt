@@ -3,7 +3,7 @@ use Rattle.std.proofs.Common.{◌≤◌, subst}
 use Rattle.solid_model.specs.declared.cell.Axis.{Axis}
 use Rattle.solid_model.specs.declared.cell.Axis.TheVariants.{X}
 use Rattle.solid_model.specs.GridBox.{grid_sizes}
-use Rattle.solid_model.specs.Rooms.{Sizes}
+use Rattle.solid_model.specs.WalledBoxes.{Sizes}
 use Rattle.solid_model.proofs.BoxPlaces.{few_faces}
 use Rattle.virtual_faces.proofs.EnclosedFaces.{enclosed_virtual}
 use Rattle.virtual_faces.proofs.faces.faces_across.Goals as goal

@@ -1,6 +1,6 @@
 -- Across each axis the marks are the virtual faces.
 use Rattle.solid_model.specs.Marks.{AreMarksOf}
-use Rattle.solid_model.specs.Rooms.{face_sizes}
+use Rattle.solid_model.specs.WalledBoxes.{face_sizes}
 use Rattle.solid_model.specs.VirtualFaces.{IsVirtual}
 use Rattle.solid_model.specs.GridBox.{grid_sizes}
 use Rattle.solid_model.proofs.MarkedCells.{marks_by_axis}

@@ -1,10 +1,10 @@
--- The rooms of a box: of walls that stand in the same places, and their numbers.
+-- The enclosed components of a box: of walls that stand in the same places, and their numbers.
 use Rattle.std.proofs.Common.{◌≡◌, ◌↔◌, ℕ, ◌<◌, List, get_or, Option, Some, None, IsTrue, ap, subst, ◌∙◌}
 use Rattle.solid_model.specs.declared.cell.Axis.{Axis}
 use Rattle.solid_model.specs.declared.cell.Cell.{Cell}
 use Rattle.lemmas.specs.Chains.{Reaches}
 use Rattle.lemmas.specs.Lists.{Each}
-use Rattle.solid_model.specs.Rooms.{Sizes, is_within, Walls, Passes, LeadsOut, number_at, AreRooms, IsEarlier}
+use Rattle.solid_model.specs.WalledBoxes.{Sizes, is_within, Walls, Passes, LeadsOut, number_at, AreEnclosed, IsEarlier}
 use Rattle.solid_model.proofs.BoxPlaces.{cell_of_place, cell_of_place-within, cell_of_place-there}
 use Rattle.lemmas.proofs.Chains.{same_chains}
 use Rattle.lemmas.proofs.ListPlaces.{member-place}
@@ -25,9 +25,9 @@ module _ (sizes : Sizes) (v w : Walls) (same : (a : Axis) (n : Cell) → v a n �
     λ (m, chain, out). (m, (same_passages n m).1 chain, out),
   )
 
-  -- so the rooms are the same
-  pub rooms_between_same : (numbers : List (Option ℕ)) (count : ℕ) → AreRooms sizes v numbers count → AreRooms sizes w numbers count
-  rooms_between_same numbers count are = record {
+  -- so the enclosed components are the same
+  pub enclosed_between_same : (numbers : List (Option ℕ)) (count : ℕ) → AreEnclosed sizes v numbers count → AreEnclosed sizes w numbers count
+  enclosed_between_same numbers count are = record {
     listed = are.listed;
     outside = λ n n_in. let own = are.outside n n_in in let leads = same_lead_out n in
         (λ none. leads.0 (own.0 none), λ out. own.1 (leads.1 out));
@@ -39,9 +39,9 @@ module _ (sizes : Sizes) (v w : Walls) (same : (a : Axis) (n : Cell) → v a n �
   }
 
 -- all numbers are below their count
-pub room_numbers-below : (sizes : Sizes) (wall : Walls) (numbers : List (Option ℕ)) (count : ℕ) → AreRooms sizes wall numbers count
+pub enclosed_numbers-below : (sizes : Sizes) (wall : Walls) (numbers : List (Option ℕ)) (count : ℕ) → AreEnclosed sizes wall numbers count
     → Each (IsEarlier count) numbers
-room_numbers-below sizes wall numbers count are = each-from (IsEarlier count) numbers (λ x member.
+enclosed_numbers-below sizes wall numbers count are = each-from (IsEarlier count) numbers (λ x member.
     let (p, p_in, there) = member-place numbers x member in
     at p (cell_of_place-within sizes p (subst (λ c. p < c) are.listed p_in)) x
     (ap (λ q. get_or numbers q None) (cell_of_place-there sizes p) ∙ there None))

@@ -2,7 +2,7 @@
 use Rattle.std.proofs.Common.{◌≡◌, ◌++◌, sym, ◌∙◌, ap}
 use Rattle.std.specs.Arc.{arc_value}
 use Rattle.solution_book.specs.Editions.{BookParts}
-use Rattle.search_run.proofs.opening.room_for.Goals as goal
+use Rattle.search_run.proofs.opening.monitor_for.Goals as goal
 
 pub new-requires : goal.new-requires
 new-requires g c =

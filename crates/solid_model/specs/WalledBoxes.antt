@@ -1,6 +1,6 @@
--- Boxes of cells with walls between them, and their rooms. Cells beyond a box have numbers too, those below 0 and those from
--- its size on: so a chain that leads out simply ends at a cell that isn't of the box. The faces across an axis are counted
--- as the cells of a box likewise, so that what leads out is one definition for faces and cells.
+-- Boxes of cells with walls between them, and their enclosed components. Cells beyond a box have numbers too, those below 0
+-- and those from its size on: so a chain that leads out simply ends at a cell that isn't of the box. The faces across an axis
+-- are counted as the cells of a box likewise, so that what leads out is one definition for faces and cells.
 use Rattle.std.specs.Prelude.{◌≡◌, ◌⊎◌, ◌↔◌, Bool, true, false, ◌&&◌, ℕ, suc, nat_lt, ◌+◌, ◌*◌, ◌<◌, List, length, slice_index_or, Option, Some, None, ℤ, pos, negsuc, IsTrue, if◌then◌else◌}
 use Rattle.solid_model.specs.declared.cell.Axis.{Axis}
 use Rattle.solid_model.specs.declared.cell.Axis.TheVariants.{X, Y, Z}
@@ -64,21 +64,21 @@ Passes wall n m = (a : Axis)
 abbrev pub LeadsOut : Sizes → Walls → Cell → Type 0
 LeadsOut sizes wall n = (m : Cell) × Reaches (Passes wall) n m × (is_within sizes m ≡ false)
 
--- ---- rooms
+-- ---- enclosed components
 
 -- the number that a list of all cells of the box has for a cell
 abbrev pub number_at : Sizes → List (Option ℕ) → Cell → Option ℕ
 number_at sizes numbers n = slice_index_or numbers (box_place sizes n) None
 
--- a cell has no number, or one below this: it is in no room, or in an earlier one
+-- a cell has no number, or one below this: it is in no enclosed component, or in an earlier one
 abbrev pub IsEarlier : ℕ → Option ℕ → Type 0
 IsEarlier k None = Unit {0}
 IsEarlier k (Some l) = l < k
 
--- Cells from which no chain leads out, and which chains join with one another, are a room. Each cell has the number of its
--- room, or none. The rooms are numbered from 0 by their first cells: what stands before such a cell is in no room, or in an
--- earlier one.
-pub record AreRooms (sizes : Sizes) (wall : Walls) (numbers : List (Option ℕ)) (count : ℕ) : Type 0 where
+-- Cells from which no chain leads out, and which chains join with one another, are an enclosed component. Each cell has the
+-- number of its own, or none. They are numbered from 0 by their first cells: what stands before such a cell is in none, or in
+-- an earlier one.
+pub record AreEnclosed (sizes : Sizes) (wall : Walls) (numbers : List (Option ℕ)) (count : ℕ) : Type 0 where
   pub listed : length numbers ≡ box_count sizes
   pub outside : (n : Cell) → IsTrue (is_within sizes n) → (number_at sizes numbers n ≡ None) ↔ LeadsOut sizes wall n
   pub joined : (n m : Cell) → IsTrue (is_within sizes n) → IsTrue (is_within sizes m) → (LeadsOut sizes wall n → ⊥)

@@ -1,11 +1,11 @@
 -- A cell's place in the ringed box.
 use Rattle.std.proofs.Common.{◌∙◌, arith}
 use Rattle.solid_model.specs.PerAxis.{numbers_of, cell_of}
-use Rattle.solid_model.specs.Rooms.{is_within, box_place}
+use Rattle.solid_model.specs.WalledBoxes.{is_within, box_place}
 use Rattle.solid_model.proofs.BoxPlaces.{few_numbers}
 use Rattle.flood.proofs.RingPlaces.{outer-within}
 use Rattle.flood.proofs.RingPlaces.{within-ringed}
-use Rattle.flood.proofs.rooms.node_of.Goals as goal
+use Rattle.flood.proofs.enclosed.node_of.Goals as goal
 
 pub outer-requires : goal.outer-requires
 outer-requires c = few_numbers (numbers_of c.args.sizes) (λ a. omega (arith, c.requires.few a)) c.args.cell c.requires.within

@@ -1,14 +1,14 @@
--- The rooms of a box are the components of its ringed graph but the first, which holds all that leads out.
+-- The enclosed components of a box are the components of its ringed graph but the first, which holds all that leads out.
 use Rattle.std.proofs.Common.{◌≡◌, ◌↔◌, ℕ, zero, suc, ◌-◌, ◌<◌, List, length, Option, Some, None, IsTrue, refl, sym, ◌∙◌, ap, subst, arith}
 use Rattle.std.proofs.lemmas.Int.{ints}
 use Rattle.solid_model.specs.declared.cell.Axis.TheVariants.{X, Y, Z}
 use Rattle.solid_model.specs.declared.cell.Cell.{Cell}
 use Rattle.lemmas.specs.Chains.{Reaches}
 use Rattle.solid_model.specs.Orders.{ComesBefore}
-use Rattle.solid_model.specs.Rooms.{Sizes, box_count, is_within, Walls, Passes, LeadsOut, number_at, IsEarlier, AreRooms}
+use Rattle.solid_model.specs.WalledBoxes.{Sizes, box_count, is_within, Walls, Passes, LeadsOut, number_at, IsEarlier, AreEnclosed}
 use Rattle.lemmas.proofs.Chains.{reaches-onward}
 use Rattle.flood.specs.Graph.{component, AreComponents}
-use Rattle.flood.specs.Ring.{ring_count, ring_place, ring_cell, OwnWalls, RingStep, room_of, IsRinged}
+use Rattle.flood.specs.Ring.{ring_count, ring_place, ring_cell, OwnWalls, RingStep, enclosed_of, IsRinged}
 use Rattle.flood.proofs.RingPlaces.{within-ringed, ring_place-below, ring_cell-ringed, ring_place-ring_cell, before-earlier}
 use Rattle.flood.proofs.Outside.{first_corner, outside-first_corner}
 use Rattle.flood.proofs.RingChains.{ring_chain-back, places_chain_iff_cells}
@@ -56,27 +56,27 @@ module _ (sizes : Sizes) (wall : Walls) where
       subst (λ q. Reaches (RingStep sizes wall) 0 q ↔ LeadsOut sizes wall (ring_cell sizes p)) (ring_place-ring_cell sizes p)
       (first_node_iff_leads_out (ring_cell sizes p) (ring_cell-ringed sizes p below))
 
--- ---- the room of a component
+-- ---- the number of a component among the enclosed ones
 
--- no room is the first component
-room_of-none : (k : ℕ) → room_of k ≡ None → k ≡ 0
-room_of-none zero e = refl
-room_of-none (suc k) e = cc
+-- the first component isn't enclosed
+enclosed_of-none : (k : ℕ) → enclosed_of k ≡ None → k ≡ 0
+enclosed_of-none zero e = refl
+enclosed_of-none (suc k) e = cc
 
--- a room is the component after its number
-room_of-some : (j k : ℕ) → room_of j ≡ Some k → j ≡ suc k
-room_of-some zero k e = cc
-room_of-some (suc j) k e = cc
+-- an enclosed component is the component after its number
+enclosed_of-some : (j k : ℕ) → enclosed_of j ≡ Some k → j ≡ suc k
+enclosed_of-some zero k e = cc
+enclosed_of-some (suc j) k e = cc
 
--- components of one room are one
-room_of-one : (j k : ℕ) → room_of j ≡ room_of k → j ≡ k
-room_of-one zero k e = sym (room_of-none k (sym e))
-room_of-one (suc j) k e = sym (room_of-some k j (sym e))
+-- components of one such number are one
+enclosed_of-one : (j k : ℕ) → enclosed_of j ≡ enclosed_of k → j ≡ k
+enclosed_of-one zero k e = sym (enclosed_of-none k (sym e))
+enclosed_of-one (suc j) k e = sym (enclosed_of-some k j (sym e))
 
--- an earlier component is no room or an earlier one
-room_of-earlier : (j k : ℕ) → j < suc k → IsEarlier k (room_of j)
-room_of-earlier zero k l = tt
-room_of-earlier (suc j) k l = omega arith
+-- an earlier component isn't enclosed, or is an earlier one
+enclosed_of-earlier : (j k : ℕ) → j < suc k → IsEarlier k (enclosed_of j)
+enclosed_of-earlier zero k l = tt
+enclosed_of-earlier (suc j) k l = omega arith
 
 module _ (sizes : Sizes) (wall : Walls) (numbers : List ℕ) (count : ℕ)
     (are : AreComponents (RingStep sizes wall) (ring_count sizes) numbers count) where
@@ -101,12 +101,12 @@ module _ (sizes : Sizes) (wall : Walls) (numbers : List ℕ) (count : ℕ)
       let leads = first_node_iff_leads_out sizes wall n ring in
       (λ e. leads.0 (joined.0 (first_component ∙ sym e)), λ out. sym (joined.1 (leads.1 out)) ∙ first_component)
 
-  module _ (rooms : List (Option ℕ)) (listed : length rooms ≡ box_count sizes)
-      (at : (n : Cell) → IsTrue (is_within sizes n) → number_at sizes rooms n ≡ room_of (component numbers (ring_place sizes n))) where
-    -- the first cell of a room, by the first node of its component
-    first_of_room : (k : ℕ) → k < count - 1 → (n : Cell) × IsTrue (is_within sizes n) × (number_at sizes rooms n ≡ Some k)
-        × ((m : Cell) → IsTrue (is_within sizes m) → ComesBefore m n → IsEarlier k (number_at sizes rooms m))
-    first_of_room k below =
+  module _ (enclosed : List (Option ℕ)) (listed : length enclosed ≡ box_count sizes)
+      (at : (n : Cell) → IsTrue (is_within sizes n) → number_at sizes enclosed n ≡ enclosed_of (component numbers (ring_place sizes n))) where
+    -- the first cell of an enclosed component, by the first node of its component
+    first_of_enclosed : (k : ℕ) → k < count - 1 → (n : Cell) × IsTrue (is_within sizes n) × (number_at sizes enclosed n ≡ Some k)
+        × ((m : Cell) → IsTrue (is_within sizes m) → ComesBefore m n → IsEarlier k (number_at sizes enclosed m))
+    first_of_enclosed k below =
         let first = are.first (suc k) (omega arith) in
         let p = first.0 in
         let n = ring_cell sizes p in
@@ -117,21 +117,21 @@ module _ (sizes : Sizes) (wall : Walls) (numbers : List ℕ) (count : ℕ)
         let within = enclosed-within sizes wall n (λ leads. let none = leads_out.1 leads in omega arith) in (
           n,
           within,
-          at n within ∙ ap room_of is,
+          at n within ∙ ap enclosed_of is,
           λ m m_within before.
               let earlier = before-earlier sizes m n (within-ringed sizes m m_within) ring before in
               let smaller = first.3 (ring_place sizes m) (omega arith) in
-              subst (IsEarlier k) (sym (at m m_within)) (room_of-earlier (component numbers (ring_place sizes m)) k smaller),
+              subst (IsEarlier k) (sym (at m m_within)) (enclosed_of-earlier (component numbers (ring_place sizes m)) k smaller),
         )
 
-    -- the rooms of a box, by the components of its ringed graph
-    pub rooms_of_components : AreRooms sizes wall rooms (count - 1)
-    rooms_of_components = record {
+    -- the enclosed components of a box, by the components of its ringed graph
+    pub enclosed_of_components : AreEnclosed sizes wall enclosed (count - 1)
+    enclosed_of_components = record {
       listed = listed;
       outside = λ n within.
           let leads = first_component_iff_leads_out n (within-ringed sizes n within) in (
-            λ e. leads.0 (room_of-none (component numbers (ring_place sizes n)) (sym (at n within) ∙ e)),
-            λ out. at n within ∙ ap room_of (leads.1 out),
+            λ e. leads.0 (enclosed_of-none (component numbers (ring_place sizes n)) (sym (at n within) ∙ e)),
+            λ out. at n within ∙ ap enclosed_of (leads.1 out),
           );
       joined = λ n m n_within m_within none.
           let n_ring = within-ringed sizes n n_within in let m_ring = within-ringed sizes m m_within in
@@ -139,11 +139,11 @@ module _ (sizes : Sizes) (wall : Walls) (numbers : List ℕ) (count : ℕ)
           let same = are.joined p q (ring_place-below sizes n n_ring) (ring_place-below sizes m m_ring) in
           let chains = places_chain_iff_cells sizes wall n m n_ring m_ring in
           let own = passages_iff_own sizes wall n m none in (
-            λ e. own.1 (chains.0 (same.0 (room_of-one (component numbers p) (component numbers q) (sym (at n n_within) ∙ e ∙ at m m_within)))),
-            λ chain. at n n_within ∙ ap room_of (same.1 (chains.1 (own.0 chain))) ∙ sym (at m m_within),
+            λ e. own.1 (chains.0 (same.0 (enclosed_of-one (component numbers p) (component numbers q) (sym (at n n_within) ∙ e ∙ at m m_within)))),
+            λ chain. at n n_within ∙ ap enclosed_of (same.1 (chains.1 (own.0 chain))) ∙ sym (at m m_within),
           );
       below = λ n k within e.
-          let is = room_of-some (component numbers (ring_place sizes n)) k (sym (at n within) ∙ e) in
+          let is = enclosed_of-some (component numbers (ring_place sizes n)) k (sym (at n within) ∙ e) in
           let some = are.below (ring_place sizes n) (ring_place-below sizes n (within-ringed sizes n within)) in omega arith;
-      first = first_of_room;
+      first = first_of_enclosed;
     }

@@ -25,7 +25,7 @@ const TRIES: u32 = 1000;
 /// What the workers share, under its lock; where they wait for a change; and where the caller waits
 /// for solids. Nothing is known of the value but what its type keeps.
 #[derive(Drop)]
-pub struct Room<B: Wait + Drop> {
+pub struct Monitor<B: Wait + Drop> {
     shared: Mutex<Shared<B>>,
     changed: Condvar,
     news: Condvar,
@@ -43,10 +43,10 @@ pub struct News {
     pub last: bool,
 }
 
-impl<B: Wait + Drop> Room<B> {
-    /// A room for what is shared.
-    pub fn new(shared: Shared<B>) -> Room<B> {
-        Room {
+impl<B: Wait + Drop> Monitor<B> {
+    /// A monitor for what is shared.
+    pub fn new(shared: Shared<B>) -> Monitor<B> {
+        Monitor {
             shared: Mutex::new(shared),
             changed: Condvar::new(),
             news: Condvar::new(),
@@ -167,14 +167,14 @@ impl<B: Wait + Drop> Room<B> {
 
     /// The desk, once all workers have left, and the marks of its reports.
     pub fn into_desk(self) -> (Desk, Vec<Mark>) {
-        let Room { shared, .. } = self;
+        let Monitor { shared, .. } = self;
         let (desk, book, marks) = shared.into_inner().into_parts();
         book.end();
         (desk, marks)
     }
 }
 
-impl<B: Wait + Drop> Waiter for Room<B> {
+impl<B: Wait + Drop> Waiter for Monitor<B> {
     /// Returns once so many solids are published, or no more will be.
     fn wait_for<R: Wait>(&self, rt: &R, count: usize) {
         let shared = self.enter(rt);
