@@ -1,7 +1,8 @@
 //! Marks on the cells of a box.
 //!
-//! They keep the sizes of their box, so that a wire frame and a map of faces are made of them
-//! without the grid.
+//! They keep the sizes of their box, so that those for each axis, which are a grid's pseudo wire
+//! frame or its virtual faces, need no grid. `has` takes the axis and a cell's three numbers as one
+//! value and asks for nothing: beyond the box there is no mark.
 
 use crate::cell::Axis;
 use crate::memory::Memory;
@@ -103,7 +104,10 @@ impl Marks {
     }
 }
 
-/// Marks for each axis, each on the cells of a box of its own.
+/// Marks for each axis, each on the cells of a box of its own: along it on the edges of a grid, or
+/// across it on the faces. Along its own axis an edge has the number of the grid cell that it is a
+/// side of, across it the numbers of the coordinates at which it stands; with a face it is the other
+/// way round.
 #[derive(Debug, Drop)]
 pub struct MarksByAxis {
     pub x: Marks,
@@ -121,7 +125,8 @@ impl Model for MarksByAxis {
 
 impl MarksByAxis {
     ghost use Rattle.std.specs.Prelude.{◌≡◌};
-    ghost use Rattle.solid_model.specs.Marks.{marks_along};
+    ghost use Rattle.solid_model.specs.Marks.{is_marked, marks_along};
+    ghost use Rattle.solid_model.specs.PerAxis.{cell_of};
 
     /// Those for an axis.
     pub fn along(&self, axis: Axis) -> &Marks
@@ -132,5 +137,12 @@ impl MarksByAxis {
             Axis::Y => &self.y,
             Axis::Z => &self.z,
         }
+    }
+
+    /// A cell of the box for an axis has a mark; one that isn't of the box has none.
+    pub fn has(&self, axis: Axis, cell: PerAxis) -> bool
+        ensures { result ≡ is_marked (marks_along axis self.now) (cell_of cell) }
+    {
+        self.along(axis).has(cell)
     }
 }
