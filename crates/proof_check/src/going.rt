@@ -6,9 +6,8 @@ ghost use Rattle.completeness_logs.specs.Logs.{IsRightEntry, after_entry, listed
 ghost use Rattle.completeness_logs.specs.SplitMarks.{AreSplitMarks, sides_to_come, all_to_come};
 
 use crate::asking::choice_known;
-use completeness_logs::LogEntry;
+use completeness_logs::{LogEntry, close_tree, go_force, go_split};
 use line_demands::Partial;
-use log_trail::{close_tree, go_force, go_split};
 use solid_model::{Choice, Memory};
 use std::alloc::Global;
 

@@ -9,17 +9,15 @@ ghost use Rattle.proof_log.specs.Lines.{fed};
 ghost use Rattle.proof_log.specs.Writing.{WritesLog, Counts};
 ghost use Rattle.solid_model.specs.Blocks.{IsBlocksOf};
 ghost use Rattle.solid_model.specs.Panels.{IsGrid};
-ghost use Rattle.text_pieces.specs.Pieces.{WritesOn};
+ghost use Rattle.tv_base.specs.Pieces.{WritesOn, AppendsPrefix};
 ghost use Rattle.tv_base.specs.Faults.{Rose};
-ghost use Rattle.tv_base.specs.Pieces.{AppendsPrefix};
 
 use crate::line::{push_closing, push_entry, push_opening};
 use crate::walk::Walk;
 use completeness_logs::LogEntry;
 use solid_model::{Axis, Problem};
 use std::alloc::Global;
-use text_pieces::{PIECE, write_if_full, write_piece};
-use tv_base::{Sink, SinkError};
+use tv_base::{PIECE, Sink, SinkError, write_if_full, write_piece};
 
 /// How many blocks a problem has: their number has 16 bits.
 fn block_count(problem: &Problem) -> u16

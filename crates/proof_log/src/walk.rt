@@ -10,9 +10,8 @@ ghost use Rattle.completeness_logs.specs.LogTexts.{is_short_entry};
 ghost use Rattle.completeness_logs.specs.SplitMarks.{all_to_come, sides_to_come};
 ghost use Rattle.solid_model.specs.Decisions.{decided_by};
 
-use completeness_logs::{LinePlace, LogEntry};
+use completeness_logs::{LinePlace, LogEntry, close_tree, go_split};
 use line_demands::Partial;
-use log_trail::{close_tree, go_split};
 use propagate::{DoubtedLines, Forcing, doubt_last, step_doubted};
 use solid_model::{LineId, Memory, Problem};
 use std::alloc::Global;

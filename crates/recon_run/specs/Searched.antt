@@ -1,7 +1,7 @@
 -- Problems that are found in inputs and searched, and what is written of them.
 use Rattle.std.specs.Prelude.{◌≡◌, ◌≤◌, Bool, ℕ, List, length, Option, Some}
 use Rattle.dxf_groups.specs.Pairs.{rest_of_text}
-use Rattle.choice_sieves.specs.Those.{AreThose}
+use Rattle.page_calls.specs.Those.{AreThose}
 use Rattle.file_problem.specs.Inputs.{HasFurther, Input, IsFileFault}
 use Rattle.further_views.specs.Further.{FurtherParts, further_runs}
 use Rattle.six_views.specs.Further.{FitsChoice}

@@ -7,7 +7,7 @@ ghost use Rattle.page_calls.specs.Pages.{CountsFaults, HasAllPaged, HasPaged};
 
 use crate::crew::Crew;
 use crate::sought::Sought;
-use choice_sieves::sift;
+use page_calls::sift;
 use fit_lanes::FurtherSieve;
 use further_views::Further;
 use report::head_text;

@@ -19,8 +19,8 @@ use Rattle.dxf_entities.specs.declared.extra.Extra.{Extra}
 use Rattle.further_views.specs.Further.{seen_as}
 use Rattle.six_views.specs.FurtherFrames.{further_frame}
 use Rattle.six_views.specs.Fits.{AreSolidsThat, AreFittingSolids, Fits}
-use Rattle.choice_sieves.specs.Those.{AreThose}
-use Rattle.choice_sieves.proofs.Those.{from_those, to_those, those_ascend}
+use Rattle.page_calls.specs.Those.{AreThose}
+use Rattle.page_calls.proofs.Those.{from_those, to_those, those_ascend}
 
 -- those that fit, of all that match, are all that match and fit; whether a solid fits doesn't rest on its list's order
 pub fitting_of_all : (drawing : Segment → Style) (F : List Cell → Type 0) → ((s t : List Cell) → SameCells s t → F s → F t)

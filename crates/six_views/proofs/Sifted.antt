@@ -21,7 +21,7 @@ use Rattle.six_views.specs.Fits.{ShowsMoved, Fits, AreFittingSolids}
 use Rattle.further_views.specs.Further.{FurtherRuns, AreFurtherOf, seen_as, view_style}
 use Rattle.six_views.specs.Further.{FitsRuns, FitsChoice}
 use Rattle.six_views.specs.FurtherFrames.{further_frame}
-use Rattle.choice_sieves.specs.Those.{AreThose}
+use Rattle.page_calls.specs.Those.{AreThose}
 use Rattle.six_views.proofs.FittingSolids.{fitting_of_all, filled_those, fits_same}
 
 -- a solid fits the runs of further lines exactly where it fits the lines

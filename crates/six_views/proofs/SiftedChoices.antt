@@ -18,8 +18,8 @@ use Rattle.solid_model.proofs.ChosenSolids.{one_union}
 use Rattle.solid_model.proofs.Styles.{same_drawing}
 use Rattle.lemmas.specs.Lists.{Ascends, Each}
 use Rattle.lemmas.proofs.Lists.{each-at, each-from}
-use Rattle.choice_sieves.specs.Those.{AreThose}
-use Rattle.choice_sieves.proofs.Those.{all_those, from_those, those_alike, those_ascend}
+use Rattle.page_calls.specs.Those.{AreThose}
+use Rattle.page_calls.proofs.Those.{all_those, from_those, those_alike, those_ascend}
 use Rattle.dxf_entities.specs.declared.extra.Extra.{Extra}
 use Rattle.further_views.specs.Further.{AreFurtherOf, AsksForNone, FurtherRuns, HasRuns, seen_as, view_style}
 use Rattle.six_views.specs.Fits.{AreFittingSolids, AreSomeFittingSolids, Fits, ShowsMoved}

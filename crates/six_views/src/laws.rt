@@ -24,7 +24,7 @@ ghost use Rattle.further_views.specs.Further.{FurtherRuns, AreFurtherOf, seen_as
 ghost use Rattle.six_views.specs.Further.{FitsRuns, FitsChoice};
 ghost use Rattle.six_views.specs.FurtherFrames.{further_frame};
 ghost use Rattle.six_views.specs.SmallViews.{bar_from, bar_in};
-ghost use Rattle.choice_sieves.specs.Those.{AreThose};
+ghost use Rattle.page_calls.specs.Those.{AreThose};
 ghost use Rattle.six_views.specs.Turned.{half_turned, turn_axis, turned_cells};
 
 /// Each further view is the view opposite to it, of the solid turned half round: from the left and

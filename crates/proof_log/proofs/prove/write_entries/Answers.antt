@@ -8,7 +8,7 @@ use Rattle.proof_log.proofs.Begun.{IsBegun, begun_first, begun_next, begun_prefi
 use Rattle.proof_log.proofs.Lighter.{lighter_next}
 use Rattle.solid_model.specs.Blocks.{ProblemParts}
 use Rattle.solid_model.specs.Decisions.{decided_by}
-use Rattle.text_pieces.proofs.WrittenPieces.{nothing_written, written_next, prefix_written, left_over, at_error}
+use Rattle.tv_base.proofs.WrittenPieces.{nothing_written, written_next, prefix_written, left_over, at_error}
 use Rattle.proof_log.proofs.prove.write_entries.Goals as goal
 
 pub loop-open-init : goal.loop-open-init

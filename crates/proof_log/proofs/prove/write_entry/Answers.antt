@@ -1,5 +1,5 @@
 -- The piece before, and then a line.
-use Rattle.text_pieces.proofs.WrittenPieces.{left_over, at_error}
+use Rattle.tv_base.proofs.WrittenPieces.{left_over, at_error}
 use Rattle.proof_log.proofs.prove.write_entry.Goals as goal
 
 pub returns-in_err-push_entry-clause-err : goal.returns-in_err-push_entry-clause-err

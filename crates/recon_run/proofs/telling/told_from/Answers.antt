@@ -2,8 +2,8 @@
 use Rattle.std.proofs.Common.{◌↔◌, ◌∙◌, ℕ, List, [], Option, Some, Err, true, ap, subst, subst₂, sym}
 use Rattle.std.specs.Arc.{arc_value}
 use Rattle.std.specs.Io.KnownBytes.{Appends}
-use Rattle.choice_sieves.specs.Those.{AreThose}
-use Rattle.choice_sieves.proofs.Those.{those_alike}
+use Rattle.page_calls.specs.Those.{AreThose}
+use Rattle.page_calls.proofs.Those.{those_alike}
 use Rattle.further_views.specs.Further.{further_runs}
 use Rattle.replies.specs.declared.status.Failure.{Failure}
 use Rattle.recon_run.specs.Pages.{BeginsPages, TellsPages}

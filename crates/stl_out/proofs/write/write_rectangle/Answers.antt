@@ -3,8 +3,8 @@ use Rattle.std.proofs.Common.{◌++◌, sym, subst}
 use Rattle.face_laws.specs.GridFaces.{grid_planes}
 use Rattle.solid_model.specs.Panels.{coordinates_of}
 use Rattle.stl_out.specs.Pieces.{rectangle_text}
-use Rattle.text_pieces.specs.Pieces.{WritesOn}
-use Rattle.text_pieces.proofs.WrittenPieces.{written_more, left_over, at_error}
+use Rattle.tv_base.specs.Pieces.{WritesOn}
+use Rattle.tv_base.proofs.WrittenPieces.{written_more, left_over, at_error}
 use Rattle.stl_out.proofs.write.write_rectangle.Goals as goal
 
 pub returns-in_err-push_rectangle-clause-err : goal.returns-in_err-push_rectangle-clause-err

@@ -2,10 +2,10 @@
 use Rattle.std.proofs.Common.{◌≡◌, ◌↔◌, ◌++◌, ◌∷◌, ◌+◌, Bool, IsTrue, List, [], take, refl, sym, ap, subst, ◌∙◌}
 use Rattle.std.proofs.lemmas.Bool.{both_ways}
 use Rattle.std.proofs.lemmas.List.{take_more, take_all}
-use Rattle.choice_sieves.specs.Those.{AreThose}
-use Rattle.choice_sieves.proofs.Those.{one_more_fits, one_more_lacks}
-use Rattle.choice_sieves.proofs.sieve.sift.Goals as goal
-use Rattle.choice_sieves.proofs.sieve.sift.Goals.{then-branch+in_ok-try_clone+in_ok-push, else-branch}
+use Rattle.page_calls.specs.Those.{AreThose}
+use Rattle.page_calls.proofs.Those.{one_more_fits, one_more_lacks}
+use Rattle.page_calls.proofs.sieve.sift.Goals as goal
+use Rattle.page_calls.proofs.sieve.sift.Goals.{then-branch+in_ok-try_clone+in_ok-push, else-branch}
 
 pub loop-choice-init : goal.loop-choice-init
 loop-choice-init g c = (c.new-kept.ensures.items, refl)

@@ -4,8 +4,7 @@ use Rattle.std.proofs.Math.Seq.{take-append-add}
 use Rattle.std.proofs.lemmas.List.{append-nil, take-append-le}
 use Rattle.std.specs.Io.KnownBytes.{Appends}
 use Rattle.tv_base.proofs.Told.{appends_both}
-use Rattle.tv_base.specs.Pieces.{AppendsPrefix}
-use Rattle.text_pieces.specs.Pieces.{WritesOn}
+use Rattle.tv_base.specs.Pieces.{AppendsPrefix, WritesOn}
 
 appends_nothing : (a : Option (List ℕ)) → Appends a a []
 appends_nothing None = tt

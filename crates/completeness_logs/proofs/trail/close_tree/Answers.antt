@@ -5,7 +5,7 @@ use Rattle.solid_model.specs.Blocks.{ProblemParts}
 use Rattle.solid_model.specs.Decisions.{PartialParts, decided_by}
 use Rattle.completeness_logs.specs.SplitMarks.{AreSplitMarks, all_to_come}
 use Rattle.completeness_logs.proofs.SplitMarks.{newest_open, newest_marks, newest_standing, reversed}
-use Rattle.log_trail.proofs.trail.close_tree.Goals as goal
+use Rattle.completeness_logs.proofs.trail.close_tree.Goals as goal
 
 pub decide-requires-clause-there : goal.decide-requires-clause-there
 decide-requires-clause-there c =

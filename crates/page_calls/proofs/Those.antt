@@ -2,7 +2,7 @@
 use Rattle.std.proofs.Common.{◌≡◌, ◌↔◌, ◌⊎◌, inl, inr, ⊎_elim, ℕ, ◌≤◌, List, [], ◌∷◌, ◌++◌, length, refl, sym, ap, subst, ◌∙◌, append-nil, arith}
 use Rattle.lemmas.specs.Lists.{Member, Each, Ascends}
 use Rattle.lemmas.proofs.Lists.{IsWithin, each-from, each-at}
-use Rattle.choice_sieves.specs.Those.{AreThose, AreThoseOfEach}
+use Rattle.page_calls.specs.Those.{AreThose, AreThoseOfEach}
 
 module _ {A : Type 0} (P : A → Type 0) where
   -- they are members, and have it,

@@ -3,7 +3,7 @@ use Rattle.solid_model.specs.Decisions.{PartialParts, decided_by}
 use Rattle.completeness_logs.specs.Logs.{with_block}
 use Rattle.completeness_logs.specs.SplitMarks.{AreSplitMarks, sides_to_come, all_to_come}
 use Rattle.completeness_logs.proofs.SplitMarks.{marks_more, standing_decided}
-use Rattle.log_trail.proofs.trail.go_force.Goals as goal
+use Rattle.completeness_logs.proofs.trail.go_force.Goals as goal
 
 pub returns-clause-marks : goal.returns-clause-marks
 returns-clause-marks c =

@@ -1,7 +1,7 @@
 //! Choices of which those are kept that fit.
 
 ghost use Rattle.std.specs.Prelude.{◌≡◌, ◌↔◌, Bool, List, IsTrue, IfOk};
-ghost use Rattle.choice_sieves.specs.Those.{AreThose};
+ghost use Rattle.page_calls.specs.Those.{AreThose};
 
 use solid_model::{Choice, Memory};
 use std::alloc::Global;

@@ -3,7 +3,7 @@ use Rattle.std.proofs.lemmas.List.{reverse-append}
 use Rattle.solid_model.specs.Decisions.{PartialParts}
 use Rattle.completeness_logs.specs.SplitMarks.{all_to_come}
 use Rattle.completeness_logs.proofs.SplitMarks.{standing_split}
-use Rattle.log_trail.proofs.trail.go_split.Goals as goal
+use Rattle.completeness_logs.proofs.trail.go_split.Goals as goal
 
 pub returns-clause-coming : goal.returns-clause-coming
 returns-clause-coming c =

@@ -1,14 +1,15 @@
-//! Pieces of at most 65,536 bytes.
+//! Texts that go to a sink piece by piece, so that of each only a piece is held.
 //!
-//! That no piece is longer is what `write_piece` asks for, so that each call keeps it.
+//! What is put together stands in a piece, a `Vec`; `write_if_full` writes it once it is nearly
+//! full, and `write_piece`, at the end, what is left. That no piece is longer than 65,536 bytes is
+//! what `write_piece` asks for, so that each call keeps it.
 
 ghost use Rattle.std.specs.Prelude.{◌≤◌, length, OnOk, OnErr, IsErrOf};
 ghost use Rattle.std.specs.Io.KnownBytes.{Appends};
-ghost use Rattle.text_pieces.specs.Pieces.{WritesOn};
 ghost use Rattle.tv_base.specs.Faults.{Rose};
-ghost use Rattle.tv_base.specs.Pieces.{AppendsPrefix};
+ghost use Rattle.tv_base.specs.Pieces.{AppendsPrefix, WritesOn};
 
-use tv_base::{Sink, SinkError};
+use crate::sink::{Sink, SinkError};
 
 /// The most bytes that are written at once.
 pub const PIECE: usize = 65_536;
@@ -28,7 +29,7 @@ pub fn write_piece<K: Sink>(sink: &mut K, piece: &[u8]) -> Result<(), SinkError>
     sink.write_all(piece)
 }
 
-/// Makes room for 1,536 bytes: writes the piece where it is full, and begins another one.
+/// Has 1,536 bytes free then: writes the piece where it is full, and begins another one.
 pub fn write_if_full<K: Sink>(piece: &mut Vec<u8>, sink: &mut K) -> Result<(), SinkError>
     requires { length piece.old.items ≤ 65536 }
     ensures later { K.faults sink.old ≤ K.faults sink.new }
