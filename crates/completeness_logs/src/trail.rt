@@ -6,19 +6,8 @@ ghost use Rattle.solid_model.specs.Decisions.{decided_by};
 ghost use Rattle.completeness_logs.specs.Logs.{with_block};
 ghost use Rattle.completeness_logs.specs.SplitMarks.{AreSplitMarks, no_decision, sides_to_come, all_to_come};
 
-use line_demands::Partial;
+use line_demands::{Partial, undo_to};
 use solid_model::Memory;
-
-/// Takes back all decisions but the first, so many.
-fn undo_to(partial: &mut Partial<'_>, mark: u16)
-    requires { mark ≤ length partial.old.decisions }
-    ensures problem { partial.new.problem ≡ partial.old.problem }
-    ensures undone { partial.new.decisions ≡ take mark partial.old.decisions }
-{
-    while partial.decided() > mark {
-        partial.undo();
-    }
-}
 
 /// The block of a decision.
 fn decided_block(partial: &Partial<'_>, at: u16) -> u16
@@ -43,7 +32,7 @@ pub fn close_tree(partial: &mut Partial<'_>, marks: &mut Vec<u16>) -> bool
     ensures end { result ≡ false → (partial.new ≡ partial.old)
         × (marks.new.items ≡ marks.old.items) }
 {
-    let _count = partial.decided();
+    partial.known();
     match marks.pop() {
         None => false,
         Some(mark) => {

@@ -30,8 +30,7 @@ pub fn take_entry(
     ensures listed { OnOk result (listed.new.items ≡ listed.old.items
         ++ listed_at partial.old.problem (decided_by partial.old.decisions) entry) }
 {
-    // A look at the blocks tells that their number has 16 bits.
-    let _count = partial.problem().blocks().count();
+    partial.known();
     match entry {
         LogEntry::Fail(_) => Ok(close_tree(partial, marks)),
         LogEntry::Whole => {

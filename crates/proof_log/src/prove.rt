@@ -15,7 +15,7 @@ ghost use Rattle.tv_base.specs.Faults.{Rose};
 use crate::line::{push_closing, push_entry, push_opening};
 use crate::walk::Walk;
 use completeness_logs::LogEntry;
-use solid_model::{Axis, Problem};
+use solid_model::Problem;
 use std::alloc::Global;
 use tv_base::{PIECE, Sink, SinkError, write_if_full, write_piece};
 
@@ -79,8 +79,7 @@ fn write_entries<K: Sink>(
     ensures failed { IsErrOf result SinkError.Failed →
         Rose (K.faults sink.old) (K.faults sink.new) }
 {
-    // A look at the blocks tells that their number has 16 bits.
-    let _count = block_count(walk.problem());
+    walk.problem().known();
     let mut solids = 0;
     let mut open = true;
     while open {
@@ -139,10 +138,7 @@ pub fn prove_log<K: Sink>(alloc: Global, problem: &Problem, sink: &mut K) -> Res
     ensures failed { IsErrOf result SinkError.Failed →
         Rose (K.faults sink.old) (K.faults sink.new) }
 {
-    // Looks at the problem tell that its blocks are those of its grid, that its grid is a
-    // drawing's, and that the number of its blocks has 16 bits.
-    let _coordinates = problem.grid().coordinates(Axis::X);
-    let _count = block_count(problem);
+    problem.known();
     match Walk::new(alloc, problem) {
         Ok(walk) => {
             let mut walk = walk;

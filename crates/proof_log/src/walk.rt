@@ -157,8 +157,7 @@ impl<'p> Walk<'p> {
     {
         match step_doubted(&mut self.partial, &mut self.doubted) {
             Forcing::Forced { block, full, line } => {
-                // A look at the decisions tells that each is on a block that is there.
-                let _count = self.partial.decided();
+                self.partial.known();
                 Ok(NextEntry {
                     entry: LogEntry::Force(u64::from(block), full, place_of(line)),
                     goes_on: true,

@@ -180,6 +180,13 @@ impl Desk {
         self.answer(expansion, Some(copies), by)
     }
 
+    /// It stands as its history leaves it.
+    pub fn known(&self)
+        ensures { IsDesk self.now }
+    {
+        let _ = &self.end;
+    }
+
     /// How the search has ended, if it has.
     pub fn end(&self) -> Option<EndKind>
         ensures end { result ≡ self.now.end }

@@ -125,8 +125,7 @@ impl Ledger {
             (λ k. StandsAt self.now.prefixes piece.now k
             × (0 < count_of self.now.frontier.counts k)) }
     {
-        // A look at the prefixes tells that each is stored once.
-        let _count = self.prefixes.len();
+        self.prefixes.known();
         let place = self.prefixes.place(piece, by)?;
         if self.frontier.holds(place) {
             Some(place)
@@ -180,8 +179,7 @@ impl Ledger {
         ensures first { KnowsFirst self.new }
         ensures posting { IfOk result (IsPosting self.new piece found.now rest.now) }
     {
-        // A look at the prefixes tells that each is stored once.
-        let _count = self.prefixes.len();
+        self.prefixes.known();
         let alloc = *self.notes.allocator();
         let Copies {
             found,

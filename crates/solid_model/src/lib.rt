@@ -1,5 +1,8 @@
 //! The plain types of the project, the definitions of solids and their drawings, and the laws over
 //! them.
+//!
+//! A proof sees what a value's type keeps only where a call on the value says it. A type's `known`
+//! says it and does nothing: who needs no more of the value calls it for the proof alone.
 #![tactic(auto)]
 
 mod bits;

@@ -65,6 +65,13 @@ impl Marks {
         Marks { sizes, values }
     }
 
+    /// There is a value for each cell of the box.
+    pub fn known(&self)
+        ensures { IsFull self.now }
+    {
+        let _ = &self.sizes;
+    }
+
     /// Marks on the cells of which the answer is yes.
     pub fn of<T: CellTest>(alloc: Global, test: &T) -> Result<Marks, Memory>
         ensures { IfOk result (λ marks. AreMarksOf (T.sizes test.now)

@@ -76,8 +76,7 @@ fn faces_across(alloc: Global, grid: &Grid, wire: &MarksByAxis, axis: Axis) -> R
     ensures { IfOk result (λ marks. AreMarksOf (face_sizes (grid_sizes grid.now) axis)
         (IsVirtual grid.now axis) marks) }
 {
-    // A look at the sizes tells that no row is longer than a word.
-    let _ = grid.sizes();
+    grid.known();
     let leading = leading_out(alloc, &FacesAcross { grid, wire, axis })?;
     let marks = others(alloc, &leading)?;
     Ok(marks)

@@ -11,34 +11,34 @@ pub decide-requires-clause-there : goal.decide-requires-clause-there
 decide-requires-clause-there c =
     let p = c.args.partial.now.problem in
     let ds = c.args.partial.now.decisions in
-    let open_ = newest_open p.blocks.count ds c.decided-count.ensures.each c.args.marks.now.items c.pop.new.self.items c.in-Some.mark c.in-Some.ensures.items c.requires in
-    subst (λ n. c.decided_block-block.result < n) (ap (λ (q : ProblemParts). q.blocks.count) (sym c.undo_to.ensures.problem))
+    let open_ = newest_open p.blocks.count ds c.known.ensures.decided c.args.marks.now.items c.pop.new.self.items c.in-Some.mark c.in-Some.ensures.items c.requires in
+    subst (λ n. c.decided_block-block.result < n) (ap (λ (q : ProblemParts). q.blocks.count) (sym (ap (λ (v : PartialParts). v.problem) c.undo_to.ensures)))
     (subst (λ b. b < p.blocks.count) (sym c.decided_block-block.ensures) open_.0)
 
 pub decide-requires-clause-open : goal.decide-requires-clause-open
 decide-requires-clause-open c =
     let p = c.args.partial.now.problem in
     let ds = c.args.partial.now.decisions in
-    let open_ = newest_open p.blocks.count ds c.decided-count.ensures.each c.args.marks.now.items c.pop.new.self.items c.in-Some.mark c.in-Some.ensures.items c.requires in
-    ap₂ (λ (xs : List Decision) (b : ℕ). decided_by xs b) c.undo_to.ensures.undone c.decided_block-block.ensures ∙ open_.1
+    let open_ = newest_open p.blocks.count ds c.known.ensures.decided c.args.marks.now.items c.pop.new.self.items c.in-Some.mark c.in-Some.ensures.items c.requires in
+    ap₂ (λ (xs : List Decision) (b : ℕ). decided_by xs b) (ap (λ (v : PartialParts). v.decisions) c.undo_to.ensures) c.decided_block-block.ensures ∙ open_.1
 
 pub returns-in-Some-clause-marks : goal.returns-in-Some-clause-marks
 returns-in-Some-clause-marks c =
     let p = c.args.partial.now.problem in
     let ds = c.args.partial.now.decisions in
     let now = ap (λ (v : PartialParts). v.decisions) c.decide.ensures.decided
-    ∙ ap₂ (λ (xs : List Decision) (b : ℕ). xs ++ record { block = b; full = false } ∷ []) c.undo_to.ensures.undone c.decided_block-block.ensures in
+    ∙ ap₂ (λ (xs : List Decision) (b : ℕ). xs ++ record { block = b; full = false } ∷ []) (ap (λ (v : PartialParts). v.decisions) c.undo_to.ensures) c.decided_block-block.ensures in
     subst (λ xs. AreSplitMarks xs (reverse c.pop.new.self.items)) (sym now)
-    (newest_marks p.blocks.count ds c.decided-count.ensures.each c.args.marks.now.items c.pop.new.self.items c.in-Some.mark c.in-Some.ensures.items c.requires)
+    (newest_marks p.blocks.count ds c.known.ensures.decided c.args.marks.now.items c.pop.new.self.items c.in-Some.mark c.in-Some.ensures.items c.requires)
 
 pub returns-in-Some-clause-coming : goal.returns-in-Some-clause-coming
 returns-in-Some-clause-coming c =
     let p = c.args.partial.now.problem in
     let ds = c.args.partial.now.decisions in
     let now = ap (λ (v : PartialParts). v.decisions) c.decide.ensures.decided
-    ∙ ap₂ (λ (xs : List Decision) (b : ℕ). xs ++ record { block = b; full = false } ∷ []) c.undo_to.ensures.undone c.decided_block-block.ensures in
+    ∙ ap₂ (λ (xs : List Decision) (b : ℕ). xs ++ record { block = b; full = false } ∷ []) (ap (λ (v : PartialParts). v.decisions) c.undo_to.ensures) c.decided_block-block.ensures in
     ap (λ xs. all_to_come true xs (reverse c.pop.new.self.items)) now
-    ∙ newest_standing p.blocks.count ds c.decided-count.ensures.each c.args.marks.now.items c.pop.new.self.items c.in-Some.mark c.in-Some.ensures.items c.requires
+    ∙ newest_standing p.blocks.count ds c.known.ensures.decided c.args.marks.now.items c.pop.new.self.items c.in-Some.mark c.in-Some.ensures.items c.requires
 
 pub returns-in-Some-clause-back : goal.returns-in-Some-clause-back
 returns-in-Some-clause-back c = λ _. (
@@ -46,5 +46,5 @@ returns-in-Some-clause-back c = λ _. (
   _,
   reversed c.args.marks.now.items c.pop.new.self.items c.in-Some.mark c.in-Some.ensures.items,
   ap (λ (v : PartialParts). v.decisions) c.decide.ensures.decided
-      ∙ ap₂ (λ (xs : List Decision) (b : ℕ). xs ++ record { block = b; full = false } ∷ []) c.undo_to.ensures.undone c.decided_block-block.ensures,
+      ∙ ap₂ (λ (xs : List Decision) (b : ℕ). xs ++ record { block = b; full = false } ∷ []) (ap (λ (v : PartialParts). v.decisions) c.undo_to.ensures) c.decided_block-block.ensures,
 )

@@ -24,7 +24,7 @@ returns c = λ full is_union.
     let coordinates = coordinates_of c.args.grid.now in
     let marked = c.args.rows.now in
     let faces : List FaceParts = c.put_faces.new.faces in
-    let (drawing, is_drawing, is_grid) = c.coordinates.ensures.kept in
+    let (drawing, is_drawing, is_grid) = c.known.ensures.kept in
     let same : is_marked marked ≡ numbered_fullness coordinates marked.values =
     λ t n. is_within (c.requires t) n && slice_index_or marked.values (box_place (c.requires t) n) false in
     let numbered = subst (λ (f : Cell → Bool). AreFacesOf f c.in_ok-faces.faces.items) same c.in_ok-faces.ensures in

@@ -1,6 +1,6 @@
 -- The first decisions are left as they were. Each turn takes one back.
 use Rattle.std.proofs.Common.{◌≡◌, ◌≤◌, length, take}
-use Rattle.completeness_logs.proofs.trail.undo_to.Given as goal
+use Rattle.line_demands.proofs.partial.undo_to.Given as goal
 
 abbrev pub invariant-loop-partial : goal.invariant-loop-partial
 invariant-loop-partial l = record {
