@@ -1,19 +1,19 @@
-//! The form that lists all solids: the one answer that is written text by text.
+//! The answer that lists all solids, the one that is written text by text.
 //!
 //! Each solid's text is a call of the output of its own: so one is held at a time, and memory goes
 //! with the list of choices.
 
 ghost use Rattle.std.specs.Prelude.{◌≡◌, ◌≤◌, ℕ, List, [], ◌∷◌, length, take};
 ghost use Rattle.recon_run.specs.Answers.{BeginsAll, TellsAll, TellsSolid, TellsSolids};
-ghost use Rattle.recon_run.specs.Searched.{AnswersForm, FillSolids, search_head};
-ghost use Rattle.recon_run.specs.declared.form.Form.TheVariants as form;
+ghost use Rattle.recon_run.specs.Searched.{AnswersQuestion, FillSolids, search_head};
+ghost use Rattle.recon_run.specs.declared.question.Question.TheVariants as question;
 ghost use Rattle.replies.specs.Writings.{EndsText};
 ghost use Rattle.solid_model.specs.declared.cell.Cell.{Cell};
 ghost use Rattle.solid_model.specs.Limits.{most_decimals, most_solid_limit};
 ghost use Rattle.tv_base.specs.Faults.{Rose};
 
 use crate::crew::Crew;
-use crate::form::AllSolids;
+use crate::question::AllSolids;
 use crate::profile::Profile;
 use crate::searched::Searched;
 use crate::sought::Sought;
@@ -129,7 +129,7 @@ pub fn answer_all<R: Threads + Wait + Sync, G: Gate, K: Sink>(
     sought: Sought,
     sink: &mut K,
 ) -> Status
-    ensures { AnswersForm (form.AllSolids all.now) profile.now sought (K.held sink.old)
+    ensures { AnswersQuestion (question.AllSolids all.now) profile.now sought (K.held sink.old)
         (K.held sink.new) (Rose (K.faults sink.old) (K.faults sink.new)) result }
 {
     let limits = all.limits;

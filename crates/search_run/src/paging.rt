@@ -4,7 +4,7 @@ ghost use Rattle.std.specs.Prelude.{◌≡◌, ◌≤◌, [], length, IsTrue, On
 ghost use Rattle.std.specs.Arc.{arc_value};
 ghost use Rattle.search_end.specs.Handed.{BreaksOff, HandsOn, PagesOn};
 ghost use Rattle.page_calls.specs.Pages.{CountsFaults};
-ghost use Rattle.search_run.specs.Reading.{IsReadUpTo};
+ghost use Rattle.search_run.specs.HandedOut.{IsReadUpTo};
 
 use crate::workshop::Workshop;
 use page_calls::{PageOut, RunFault};

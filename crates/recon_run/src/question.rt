@@ -1,4 +1,4 @@
-//! Forms of answer.
+//! What is asked of an input.
 
 ghost use Rattle.std.specs.Prelude.{◌≤◌};
 
@@ -12,7 +12,7 @@ pub struct AllSolids {
     pub pages: bool,
 }
 
-/// One of all solids, by its number, counted from 1, in the form that it is exported in.
+/// One of all solids, by its number, counted from 1, as it is exported.
 #[derive(Clone, Copy)]
 pub struct OneSolid {
     pub export: Export,
@@ -21,9 +21,9 @@ pub struct OneSolid {
     ghost some: { 1 ≤ which },
 }
 
-/// A form of answer: what is asked of an input that has no fault.
+/// What is asked of an input that has no fault.
 #[derive(Clone, Copy)]
-pub enum Form {
+pub enum Question {
     /// Its solids, all of them.
     AllSolids(AllSolids),
     /// One of its solids.
