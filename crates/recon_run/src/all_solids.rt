@@ -13,8 +13,8 @@ ghost use Rattle.solid_model.specs.Limits.{most_decimals, most_solid_limit};
 ghost use Rattle.tv_base.specs.Faults.{Rose};
 
 use crate::crew::Crew;
-use crate::question::AllSolids;
 use crate::profile::Profile;
+use crate::question::AllSolids;
 use crate::searched::Searched;
 use crate::sought::Sought;
 use crate::telling::search_telling;

@@ -118,7 +118,14 @@ fn do_job<R: Threads + Wait + Sync, S: Source, K: Sink, G: Gate>(
         } => {
             let crew = Crew { rt, workers, gate };
             let profile = Profile::three_views(0, two_views);
-            answer_source(alloc, &crew, &profile, &Question::Session(limits), source, sink)
+            answer_source(
+                alloc,
+                &crew,
+                &profile,
+                &Question::Session(limits),
+                source,
+                sink,
+            )
         }
         Job::Blocks {
             decimals,

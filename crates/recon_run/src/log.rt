@@ -52,8 +52,7 @@ pub fn answer_log<R: Threads + Wait + Sync, G: Gate, K: Sink>(
     let searched = found.fitting(alloc, &further)?;
     match searched.ended().kind {
         EndKind::Whole => {
-            // A look at the problem tells that its blocks are those of its grid.
-            let _grid = searched.problem().grid();
+            searched.problem().known();
             write_log(alloc, searched.problem(), sink)?;
             Ok(Answer::Done)
         }

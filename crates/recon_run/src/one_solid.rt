@@ -9,8 +9,8 @@ ghost use Rattle.solid_model.specs.Limits.{most_decimals};
 ghost use Rattle.tv_base.specs.Faults.{Rose};
 
 use crate::crew::Crew;
-use crate::question::OneSolid;
 use crate::profile::Profile;
+use crate::question::OneSolid;
 use crate::searched::{Searched, search_fitting};
 use crate::sought::Sought;
 use replies::{Answer, Status, write_reply};
