@@ -13,7 +13,7 @@ ghost use Rattle.solid_model.specs.Limits.{most_blocks};
 ghost use Rattle.lemmas.specs.Lists.{Each};
 
 use flood::{Walls, enclosed_components};
-use solid_model::{Axis, Blocks, Fault, Grid, MarksByAxis, Memory, PerAxis, Refused};
+use solid_model::{Axis, Blocks, FaceMap, Fault, Grid, Memory, PerAxis, Refused};
 use std::alloc::Global;
 
 /// The most blocks of a grid.
@@ -23,7 +23,7 @@ const MOST_BLOCKS: u32 = 4096;
 #[derive(Clone, Copy)]
 struct FaceWalls<'a> {
     grid: &'a Grid,
-    faces: &'a MarksByAxis,
+    faces: &'a FaceMap,
 }
 
 impl Walls for FaceWalls<'_> {
@@ -70,7 +70,7 @@ fn short_numbers(alloc: Global, numbers: &[Option<u32>]) -> Result<Vec<Option<u1
 /// chains join which cross no virtual face, numbered by their first cells; those that such a chain
 /// joins with the outside of the box are in none. There is a fault where there are more than 4,096,
 /// and it carries their number; Memory comes when out of memory.
-pub fn blocks_of(alloc: Global, grid: &Grid, faces: &MarksByAxis) -> Result<Blocks, Refused>
+pub fn blocks_of(alloc: Global, grid: &Grid, faces: &FaceMap) -> Result<Blocks, Refused>
     requires { IsFaceMapOf grid.now faces.now }
     ensures blocks { IfOk result (λ blocks. IsBlocksOf grid.now blocks) }
     ensures few { IfOk result (λ blocks. blocks.count ≤ most_blocks) }

@@ -18,7 +18,7 @@ ghost use Rattle.column_laws.specs.GridPanels.{HasCounts, ArePanels, AreStylesAl
 use crate::grid_columns::view_columns;
 use crate::segment_styles::styles_along;
 use column_lanes::Column;
-use solid_model::{Axis, Grid, Memory, Panel, PerAxis, PerView, View};
+use solid_model::{Axis, Grid, Memory, Panel, Panels, PerAxis, PerView, View};
 use std::alloc::Global;
 use std::marker::Model;
 
@@ -99,7 +99,7 @@ fn panel(alloc: Global, view: View, counts: PerAxis, columns: &[Column]) -> Resu
 }
 
 /// What the chosen cells draw on a grid that has so many coordinates along each axis.
-pub fn draw_in(alloc: Global, counts: PerAxis, cells: &[bool]) -> Result<PerView<Panel>, Memory>
+pub fn draw_in(alloc: Global, counts: PerAxis, cells: &[bool]) -> Result<Panels, Memory>
     requires { (a : Axis) → numbers_of counts a ≤ most_grid_coordinates }
     ensures { IfOk result (λ panels. ArePanels (numbers_of counts) cells.now panels) }
 {
@@ -124,7 +124,7 @@ pub fn columns_of(alloc: Global, grid: &Grid, cells: &[bool]) -> Result<ColumnSe
 
 /// What the union of the chosen cells of a grid draws on the grid's segments. Cells are listed with
 /// z slowest and x fastest; one that isn't in the list counts as not chosen.
-pub fn draw_cells(alloc: Global, grid: &Grid, cells: &[bool]) -> Result<PerView<Panel>, Memory>
+pub fn draw_cells(alloc: Global, grid: &Grid, cells: &[bool]) -> Result<Panels, Memory>
     ensures { IfOk result (λ panels. (s : List Cell)
         → IsUnionOf (coordinates_of grid.now) cells.now (is_full s)
         → AreGridStyles (solid_drawing s) (coordinates_of grid.now) panels) }

@@ -9,11 +9,11 @@ use crate::cells::cells_between;
 use crate::cubes::made_cubes;
 use crate::ticks::{Tick, coordinates_of, ticks_of};
 use columns::draw_in;
-use solid_model::{Grid, Memory, Panel, PerAxis, PerView};
+use solid_model::{Grid, Memory, Panels, PerAxis};
 use std::alloc::Global;
 
 /// The grid with the coordinates of these ticks along each axis, whose segments have these styles.
-fn grid_over(alloc: Global, ticks: &[Tick], panels: PerView<Panel>) -> Result<Grid, Memory>
+fn grid_over(alloc: Global, ticks: &[Tick], panels: Panels) -> Result<Grid, Memory>
     requires { IsGrid (grid_over ticks.now panels) }
     ensures { IfOk result (λ grid. grid ≡ grid_over ticks.now panels) }
 {

@@ -9,7 +9,7 @@ ghost use Rattle.grid.specs.AxisCoordinates.{coordinates_in};
 ghost use Rattle.grid.specs.Positions.{begins_by};
 
 use crate::coordinates::Coordinates;
-use solid_model::{Drawing, Panel, PerView, Run, Runs, Style, View};
+use solid_model::{Drawing, Panel, Panels, PerView, Run, Runs, Style, View};
 use std::alloc::{AllocError, Global};
 
 /// The run lies on an earlier line, or begins no later than the place on this one.
@@ -122,7 +122,7 @@ pub fn panels_of(
     alloc: Global,
     drawing: &Drawing,
     coordinates: &Coordinates,
-) -> Result<PerView<Panel>, AllocError>
+) -> Result<Panels, AllocError>
     ensures { IfOk result (AreGridStyles (style_in drawing.now) (coordinates_in coordinates.now)) }
 {
     Ok(PerView {

@@ -9,7 +9,7 @@ ghost use Rattle.pseudo_wire.specs.DrawnPoints.{AreDrawnPoints};
 
 use crate::drawn_points::drawn_points;
 use crate::edges::is_marked_edge;
-use solid_model::{Axis, CellTest, Grid, Marks, MarksByAxis, Memory, PerAxis, PerView};
+use solid_model::{Axis, CellTest, Grid, Marks, MarksByAxis, Memory, PerAxis, PerView, Wire};
 use std::alloc::Global;
 
 /// The edges of a grid along an axis, asked whether they are drawn and their ends have marks.
@@ -57,7 +57,7 @@ fn edges_along(
 /// The pseudo edges of a grid (Wesley and Markowsky 1981): its edges that are drawn in each of the
 /// two views that show them as segments, and whose ends lie on something in all three views. A
 /// missing view is asked for nothing. An `Err` is out of memory.
-pub fn wire_of(alloc: Global, grid: &Grid) -> Result<MarksByAxis, Memory>
+pub fn wire_of(alloc: Global, grid: &Grid) -> Result<Wire, Memory>
     ensures { IfOk result (λ wire. IsWireOf grid.now wire) }
 {
     let points = drawn_points(alloc, grid)?;

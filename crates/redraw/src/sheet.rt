@@ -10,7 +10,7 @@ ghost use Rattle.solid_model.specs.PerView.{of_view};
 ghost use Rattle.redraw.specs.GridRuns.{HasDrawing, AreRunsAlong, last_line};
 
 use crate::runs::runs_on;
-use solid_model::{Grid, Panel, PerView, Runs, View, ViewLines};
+use solid_model::{Grid, Panels, PerView, Runs, View, ViewLines};
 use std::alloc::{AllocError, Global};
 
 /// The line of the last run, which is the farthest one; 0 where there is no run.
@@ -27,7 +27,7 @@ pub fn last_line(runs: &Runs) -> i64
 fn runs_along(
     alloc: Global,
     grid: &Grid,
-    panels: &PerView<Panel>,
+    panels: &Panels,
     view: View,
     upright: bool,
 ) -> Result<Runs, AllocError>
@@ -45,7 +45,7 @@ fn runs_along(
 fn view_lines(
     alloc: Global,
     grid: &Grid,
-    panels: &PerView<Panel>,
+    panels: &Panels,
     view: View,
 ) -> Result<ViewLines, AllocError>
     requires { HasDrawing grid.now panels.now }
@@ -63,7 +63,7 @@ fn view_lines(
 pub fn sheet_of(
     alloc: Global,
     grid: &Grid,
-    panels: &PerView<Panel>,
+    panels: &Panels,
 ) -> Result<PerView<ViewLines>, AllocError>
     requires { HasDrawing grid.now panels.now }
     ensures { IfOk result (λ sheet. (v : View) (upright : Bool)

@@ -9,7 +9,7 @@ ghost use Rattle.solid_model.specs.declared.segment.Style.TheVariants.{Blank};
 use crate::cell::Axis;
 use crate::frame::View;
 use crate::line_id::LineId;
-use crate::panels::Panel;
+use crate::panels::Panels;
 use crate::per_axis::PerAxis;
 use crate::per_view::PerView;
 use crate::segment::Style;
@@ -23,7 +23,7 @@ pub struct Grid {
     xs: Vec<i64>,
     ys: Vec<i64>,
     zs: Vec<i64>,
-    panels: PerView<Panel>,
+    panels: Panels,
     shows: PerView<bool>,
 }
 
@@ -81,7 +81,7 @@ impl Grid {
     ghost use Rattle.solid_model.specs.GridBox.{grid_sizes, axis_along, axis_across, grid_style};
 
     /// The grid with these coordinates, whose segments have these styles: those of a drawing.
-    pub fn new(xs: Vec<i64>, ys: Vec<i64>, zs: Vec<i64>, panels: PerView<Panel>) -> Grid
+    pub fn new(xs: Vec<i64>, ys: Vec<i64>, zs: Vec<i64>, panels: Panels) -> Grid
         requires { IsGrid record { xs = xs.items; ys = ys.items; zs = zs.items; panels = panels } }
         ensures { result ≡ record { xs = xs.items; ys = ys.items; zs = zs.items; panels = panels } }
     {
@@ -152,7 +152,7 @@ impl Grid {
     }
 
     /// The styles of its segments.
-    pub fn panels(&self) -> &PerView<Panel>
+    pub fn panels(&self) -> &Panels
         ensures { result.now ≡ self.now.panels }
     {
         &self.panels

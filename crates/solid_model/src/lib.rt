@@ -63,9 +63,9 @@ pub use laws::{
 pub use limits::Limits;
 pub use line::SheetLine;
 pub use line_id::LineId;
-pub use marks::{CellTest, Marks, MarksByAxis};
+pub use marks::{CellTest, FaceMap, Marks, MarksByAxis, Wire};
 pub use memory::Memory;
-pub use panels::Panel;
+pub use panels::{Panel, Panels};
 pub use per_axis::PerAxis;
 pub use per_view::PerView;
 pub use prefix::Prefix;

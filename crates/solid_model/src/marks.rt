@@ -122,6 +122,13 @@ pub struct MarksByAxis {
     pub z: Marks,
 }
 
+/// The pseudo wire frame of a grid (Wesley and Markowsky 1981): its edges that are pseudo edges.
+pub type Wire = MarksByAxis;
+
+/// Which faces of a grid are virtual: those that the pseudo wire frame closes off and that may be
+/// faces of a solid.
+pub type FaceMap = MarksByAxis;
+
 impl Model for MarksByAxis {
     ghost use Rattle.solid_model.specs.Marks.{AxisMarks};
 

@@ -76,11 +76,14 @@ impl Panel {
     }
 }
 
+/// The styles of the grid segments of three views.
+pub type Panels = PerView<Panel>;
+
 impl PerView<Panel> {
     ghost use Rattle.std.specs.Prelude.{◌≡◌, ◌↔◌, IsTrue};
 
     /// Both have the same styles in each view.
-    pub fn same(&self, other: &PerView<Panel>) -> bool
+    pub fn same(&self, other: &Panels) -> bool
         ensures { IsTrue result ↔ (self.now ≡ other.now) }
     {
         self.front.same(&other.front) && self.top.same(&other.top) && self.side.same(&other.side)

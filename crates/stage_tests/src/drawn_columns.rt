@@ -10,7 +10,7 @@ use crate::grids::grid_in;
 use column_lanes::{Column, style_of};
 use columns::{ColumnSet, columns_in, columns_of, draw_cells, draw_in};
 use line_demands::{KnownColumn, can_draw};
-use solid_model::{Grid, Panel, PerAxis, PerView, Style, View};
+use solid_model::{Grid, Panel, Panels, PerAxis, Style, View};
 use std::alloc::Global;
 use std::fmt::Write;
 use std::test::Fail;
@@ -93,7 +93,7 @@ fn told_views(
     alloc: Global,
     counts: PerAxis,
     columns: &ColumnSet,
-    panels: &PerView<Panel>,
+    panels: &Panels,
 ) -> Result<String, Fail>
     requires { (a : Axis) → numbers_of counts a ≤ most_grid_coordinates }
 {

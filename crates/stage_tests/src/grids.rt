@@ -5,7 +5,7 @@ use dxf_groups::Groups;
 use grid::grid_of;
 use pseudo_wire::wire_of;
 use solid_model::{
-    Axis, Drawing, Grid, MarksByAxis, Panel, PerAxis, PerView, SheetLine, Style, View,
+    Axis, Drawing, FaceMap, Grid, Panel, Panels, PerAxis, SheetLine, Style, View, Wire,
 };
 use std::alloc::{AllocError, Global};
 use std::test::Fail;
@@ -77,7 +77,7 @@ fn push_view(text: &mut String, name: &str, panel: &Panel) -> Result<(), Fail> {
 }
 
 /// Adds the three views of a grid, as in the table.
-fn push_views(text: &mut String, panels: &PerView<Panel>) -> Result<(), Fail> {
+fn push_views(text: &mut String, panels: &Panels) -> Result<(), Fail> {
     push_view(text, " front ", panels.view(View::Front))?;
     push_view(text, " top ", panels.view(View::Top))?;
     push_view(text, " side ", panels.view(View::Side))
@@ -134,7 +134,7 @@ line S 3 3 3 3; rect S 0 0 2 3; rect S 0 0 3 1, line S 1 0 1 1 -> 4 8 6 4 2 4";
 
 /// How many edges along an axis are pseudo edges, and how many faces across it are virtual: of
 /// those whose numbers are below 64, as all of a grid's are.
-fn counted(wire: &MarksByAxis, faces: &MarksByAxis, axis: Axis) -> (u32, u32) {
+fn counted(wire: &Wire, faces: &FaceMap, axis: Axis) -> (u32, u32) {
     let (mut edges, mut virtual_faces) = (0u32, 0u32);
     for place in 0..262_144 {
         let cell = PerAxis {
@@ -149,7 +149,7 @@ fn counted(wire: &MarksByAxis, faces: &MarksByAxis, axis: Axis) -> (u32, u32) {
 }
 
 /// The counts along x, y and z, as a row has them.
-fn told_counts(alloc: Global, wire: &MarksByAxis, faces: &MarksByAxis) -> Result<String, Fail> {
+fn told_counts(alloc: Global, wire: &Wire, faces: &FaceMap) -> Result<String, Fail> {
     let (x_edges, x_faces) = counted(wire, faces, Axis::X);
     let (y_edges, y_faces) = counted(wire, faces, Axis::Y);
     let (z_edges, z_faces) = counted(wire, faces, Axis::Z);

@@ -9,7 +9,7 @@ ghost use Rattle.solid_model.specs.Kept.{IsFaceMapOf, IsWireOf};
 ghost use Rattle.solid_model.specs.GridBox.{grid_sizes};
 
 use flood::{Walls, leading_out};
-use solid_model::{Axis, Grid, Marks, MarksByAxis, Memory, PerAxis};
+use solid_model::{Axis, FaceMap, Grid, Marks, MarksByAxis, Memory, PerAxis, Wire};
 use std::alloc::Global;
 
 /// The axis across two different ones.
@@ -31,7 +31,7 @@ fn axis_across_both(axis: Axis, other: Axis) -> Axis
 #[derive(Clone, Copy)]
 struct FacesAcross<'a> {
     grid: &'a Grid,
-    wire: &'a MarksByAxis,
+    wire: &'a Wire,
     axis: Axis,
 }
 
@@ -71,7 +71,7 @@ fn others(alloc: Global, marks: &Marks) -> Result<Marks, Memory>
 }
 
 /// The virtual faces across an axis.
-fn faces_across(alloc: Global, grid: &Grid, wire: &MarksByAxis, axis: Axis) -> Result<Marks, Memory>
+fn faces_across(alloc: Global, grid: &Grid, wire: &Wire, axis: Axis) -> Result<Marks, Memory>
     requires { IsWireOf grid.now wire.now }
     ensures { IfOk result (λ marks. AreMarksOf (face_sizes (grid_sizes grid.now) axis)
         (IsVirtual grid.now axis) marks) }
@@ -85,7 +85,7 @@ fn faces_across(alloc: Global, grid: &Grid, wire: &MarksByAxis, axis: Axis) -> R
 /// The virtual faces of a grid (Wesley and Markowsky 1981), of which this is the pseudo wire frame:
 /// its faces from which no chain of neighbours in their plane, each step crossing an edge that is
 /// no pseudo edge, leads out of the box. An `Err` is out of memory.
-pub fn faces_of(alloc: Global, grid: &Grid, wire: &MarksByAxis) -> Result<MarksByAxis, Memory>
+pub fn faces_of(alloc: Global, grid: &Grid, wire: &Wire) -> Result<FaceMap, Memory>
     requires { IsWireOf grid.now wire.now }
     ensures { IfOk result (λ faces. IsFaceMapOf grid.now faces) }
 {
