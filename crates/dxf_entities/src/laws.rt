@@ -8,10 +8,10 @@ ghost use Rattle.solid_model.specs.declared.segment.Style.TheVariants.{Dashed, S
 ghost use Rattle.solid_model.specs.Line.{Line, IsKept};
 ghost use Rattle.lemmas.specs.Lists.{Each};
 ghost use Rattle.dxf_groups.specs.SmallTexts.{pair_on};
-ghost use Rattle.dxf_entities.specs.declared.extra.Extra.TheVariants.{Left, Rear, Bottom};
-ghost use Rattle.dxf_entities.specs.declared.extra.ExtraLine.{ExtraLine};
-ghost use Rattle.dxf_entities.specs.Extras.{apart_read, lines_read};
+ghost use Rattle.dxf_entities.specs.declared.layer_line.LayerLine.{LayerLine};
+ghost use Rattle.dxf_entities.specs.Apart.{apart_read, lines_read};
 ghost use Rattle.dxf_entities.specs.Forms.{six_views, three_views};
+ghost use Rattle.dxf_entities.specs.Names.{further_layer};
 ghost use Rattle.dxf_entities.specs.Reading.{main_read, read_of};
 ghost use Rattle.dxf_entities.specs.SmallFiles.{line_from, section_at, end_of_section, hidden_layer, unit_line, file_of_polyline, vertex_at, line_to, line_in, lines_of_further_views, arc_on};
 
@@ -94,15 +94,15 @@ pub fn small_polylines()
 {}
 
 /// Small files that are read in six views, written out by hand. A line on a further view's layer is
-/// told as one of the view opposite to it, and has the linetype of its own layer; where three views
-/// are read, it is passed over. So is an arc there, which is a fault where six are.
+/// one of the view opposite to it, and has the linetype of its own layer; where three views are read,
+/// it is passed over. So is an arc there, which is a fault where six are.
 pub fn small_files_of_six_views()
     ensures kept { apart_read (six_views 0) lines_of_further_views
         ≡ Ok (
           line_in Front 53 Solid 0 4 ∷ [],
-          (record { of = Left; line = line_in Side 17 Solid 1 0 })
-              ∷ (record { of = Rear; line = line_in Front 35 Dashed 0 2 })
-              ∷ (record { of = Bottom; line = line_in Top 71 Solid 3 0 }) ∷ [],
+          (record { layer = further_layer Side; line = line_in Side 17 Solid 1 0 })
+              ∷ (record { layer = further_layer Front; line = line_in Front 35 Dashed 0 2 })
+              ∷ (record { layer = further_layer Top; line = line_in Top 71 Solid 3 0 }) ∷ [],
         ) }
     ensures passed_over { main_read 0 lines_of_further_views
         ≡ Ok (line_in Front 53 Solid 0 4 ∷ []) }
@@ -114,7 +114,7 @@ pub fn small_files_of_six_views()
 pub fn three_views_have_no_further_line()
     ensures lines { (decimals : ℕ) (text : List ℕ) (ls : List Line)
         → read_of decimals text ≡ Ok ls → lines_read (three_views decimals) text ≡ Ok (ls, []) }
-    ensures alone { (decimals : ℕ) (text : List ℕ) (ls : List Line) (more : List ExtraLine)
+    ensures alone { (decimals : ℕ) (text : List ℕ) (ls : List Line) (more : List LayerLine)
         → lines_read (three_views decimals) text ≡ Ok (ls, more)
         → (read_of decimals text ≡ Ok ls) × (more ≡ []) }
     ensures fault { (decimals : ℕ) (text : List ℕ) (fault : Fault)
