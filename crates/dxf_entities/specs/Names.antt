@@ -1,6 +1,7 @@
 -- Names that have a meaning in a file. They are compared with ASCII case ignored.
-use Rattle.std.specs.Prelude.{ℕ, ◌==◌, ℤ, Bool, true, false, not, ◌&&◌, ◌||◌, List, [], ◌∷◌, length, take, drop, Option, Some, None, Result, Ok, Err, codes, if◌then◌else◌}
-use Rattle.std.specs.Option.{option_or}
+use Rattle.std.specs.Prelude.{ℕ, ◌+◌, ◌==◌, ℤ, Bool, true, false, not, ◌&&◌, ◌||◌, List, [], ◌∷◌, length, take, drop, Option, Some, None, Result, Ok, Err, codes, if◌then◌else◌}
+use Rattle.std.specs.List.{position}
+use Rattle.std.specs.Option.{option_or, unwrap_or}
 use Rattle.std.specs.Str.{str_eq_ignore_ascii_case}
 use Rattle.solid_model.specs.declared.frame.View.{View}
 use Rattle.solid_model.specs.declared.frame.View.TheVariants.{Front, Top, Side}
@@ -54,14 +55,15 @@ further_on value = if is_name (codes "LEFT") value then Some (further_layer Side
     else (if is_name (codes "REAR") value then Some (further_layer Front)
     else (if is_name (codes "BOTTOM") value then Some (further_layer Top) else None))
 
--- what stands before the first `_`, and what behind it
+-- where the first `_` of a text stands, or its end; what stands before it, and what behind it
+abbrev pub bar_in : List ℕ → ℕ
+bar_in text = unwrap_or (position (λ b. b == 95) text) (length text)
+
 abbrev pub before_bar : List ℕ → List ℕ
-before_bar [] = []
-before_bar (b ∷ bs) = if b == 95 then [] else b ∷ before_bar bs
+before_bar text = take (bar_in text) text
 
 abbrev pub behind_bar : List ℕ → List ℕ
-behind_bar [] = []
-behind_bar (b ∷ bs) = if b == 95 then bs else behind_bar bs
+behind_bar text = drop (bar_in text + 1) text
 
 -- a view that is cut by a plane there, where both are told
 abbrev pub cut_at : Bool → Option Layer → Result ℤ NumeralFault → Named
