@@ -36,7 +36,7 @@ use Rattle.dxf_groups.specs.Pairs.{TextPair, Pairs, pairs_of}
 use Rattle.solid_model.specs.declared.fault.Fault.{Fault}
 use Rattle.solid_model.specs.declared.frame.View.TheVariants.{Front, Side, Top}
 use Rattle.solid_model.specs.declared.segment.Style.{Style}
-use Rattle.solid_model.specs.declared.segment.Style.TheVariants.{Blank, Dashed, Solid}
+use Rattle.solid_model.specs.declared.segment.Style.TheVariants.{Blank, Solid}
 use Rattle.solid_model.specs.Line.{Line, IsKept}
 use Rattle.lemmas.specs.Lists.{Each}
 use Rattle.lemmas.proofs.Lists.{each-append}

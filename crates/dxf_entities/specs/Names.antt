@@ -1,5 +1,5 @@
 -- Names that have a meaning in a file. They are compared with ASCII case ignored.
-use Rattle.std.specs.Prelude.{ℕ, ◌+◌, ◌==◌, ℤ, Bool, true, false, not, ◌&&◌, ◌||◌, List, [], ◌∷◌, length, take, drop, Option, Some, None, Result, Ok, Err, codes, if◌then◌else◌}
+use Rattle.std.specs.Prelude.{ℕ, ◌+◌, ◌==◌, ℤ, Bool, true, false, not, ◌&&◌, ◌||◌, List, length, take, drop, Option, Some, None, Result, Ok, Err, codes, if◌then◌else◌}
 use Rattle.std.specs.List.{position}
 use Rattle.std.specs.Option.{option_or, unwrap_or}
 use Rattle.std.specs.Str.{str_eq_ignore_ascii_case}
@@ -42,6 +42,10 @@ main_layer v = record { view = v; opposite = false; cut = None }
 abbrev pub further_layer : View → Layer
 further_layer v = record { view = v; opposite = true; cut = None }
 
+-- that of a layer's view where it is cut by a plane there
+abbrev pub cut_layer : Layer → ℤ → Bool → Layer
+cut_layer l n area = record l { cut = Some (record { at = n; area = area }) }
+
 -- the layer of a main view that has this name
 abbrev pub main_on : List ℕ → Option Layer
 main_on value = if is_name (codes "FRONT") value then Some (main_layer Front)
@@ -67,7 +71,7 @@ behind_bar text = drop (bar_in text + 1) text
 
 -- a view that is cut by a plane there, where both are told
 abbrev pub cut_at : Bool → Option Layer → Result ℤ NumeralFault → Named
-cut_at area (Some l) (Ok n) = Shows (record l { cut = Some (record { at = n; area = area }) })
+cut_at area (Some l) (Ok n) = Shows (cut_layer l n area)
 cut_at area (Some l) (Err e) = Misnamed
 cut_at area None at = Misnamed
 

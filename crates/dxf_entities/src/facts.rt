@@ -113,7 +113,9 @@ impl Facts {
         }
         match name {
             Named::Unread => Ok(None),
-            Named::Shows(layer) if self.kind == Kind::Geometry => Err(Fault::Geometry { line: self.line }),
+            Named::Shows(layer) if self.kind == Kind::Geometry => Err(Fault::Geometry {
+                line: self.line,
+            }),
             Named::Shows(layer) => self.pen_in(layer, layers.of(layer)),
             Named::Misnamed => Err(Fault::SectionName { line: self.line }),
         }

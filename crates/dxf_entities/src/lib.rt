@@ -30,12 +30,13 @@ mod values;
 mod vertex;
 
 pub use form::ReadingForm;
+pub use laws::{
+    read_lines_are_kept, six_views_have_no_cut, small_files, small_files_of_sections,
+    small_files_of_six_views, small_names_of_sections, small_polylines,
+    three_views_have_no_further_line,
+};
 pub use layer::{Cut, Layer};
 pub use layer_line::LayerLine;
 pub use layer_set::LayerSet;
-pub use laws::{
-    read_lines_are_kept, small_files, small_files_of_six_views, small_polylines,
-    three_views_have_no_further_line,
-};
 pub use reading::{entities, entities_in, entities_six};
 pub use solid_model::SheetLine;

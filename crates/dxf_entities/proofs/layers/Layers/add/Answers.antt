@@ -1,5 +1,5 @@
 -- A layer that has a linetype keeps it, and another gets one.
-use Rattle.std.proofs.Common.{rules, ◌≡◌, not, Option, Some, None, if◌then◌else◌, sym, ap, ◌∙◌}
+use Rattle.std.proofs.Common.{rules, ◌≡◌, not, Some, None, if◌then◌else◌, sym, ap, ◌∙◌}
 use Rattle.std.specs.Option.{option_or}
 use Rattle.dxf_entities.specs.declared.named.Named.TheVariants.{Shows}
 use Rattle.dxf_entities.specs.Reading.{layers_with, same_layer}

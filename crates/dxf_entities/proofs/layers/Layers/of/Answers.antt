@@ -1,6 +1,5 @@
 -- The entry is the layer's first.
-use Rattle.std.proofs.Common.{rules, ◌≡◌, true, drop, sym, ap, subst, ◌∙◌}
-use Rattle.dxf_entities.specs.Reading.{same_layer}
+use Rattle.std.proofs.Common.{rules, ◌≡◌, drop, sym, ap, subst, ◌∙◌}
 use Rattle.dxf_entities.specs.Resuming.{entry_linetype}
 use Rattle.dxf_entities.proofs.LayerEntries.{entry_found}
 use Rattle.dxf_entities.proofs.layers.Layers.of.Goals as goal
