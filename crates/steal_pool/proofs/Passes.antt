@@ -171,7 +171,7 @@ pub seen : (now : OwnerState) (d : Deque) (r : ℕ) (v : Account) (more : List P
     → ◌≡◌ {A = OwnerState} (record { deque = d; capacity = r; parts = v.parts; put = v.put; taken = v.taken }) (record { deque = now.deque; capacity = now.capacity; parts = now.parts; put = now.put; taken = now.taken ++ more })
 seen now d r v more p q e = λ i. record { deque = p i; capacity = q i; parts = (e i).parts; put = (e i).put; taken = (e i).taken }
 
--- there is capacity for one more
+-- one more fits
 pub has_room : (v : Account) (items : List Piece) (taken more : List Piece) → IsSettled v items → 0 < length items → v.taken ≡ taken ++ more → length more < length v.put
 has_room v items taken more s more_than_none e = let l = settled_length v items s in let q = ap length e in omega (arith, length-append taken more)
 

@@ -29,7 +29,7 @@ push_reserved-requires c =
     let l = has_room (worker_view c.loop-self.self-inside.worker) rule.0 c.args.self.now.taken inv.moved.0 rule.2 (omega (arith, rule.1, c.loop-self-test.true)) (ap (λ (v : Account). v.taken) knows) in
     let put = ap (λ (v : Account). length v.put) knows in
     let grown = ap length inv.moved.1 ∙ length-append c.args.left.now.items inv.moved.0 in
-    omega (arith, l, put, grown, inv.capacity, c.requires.capacity, c.loop-self.left.ok, c.args.left.now.ok)
+    omega (arith, l, put, grown, inv.reserved, c.requires.capacity, c.loop-self.left.ok, c.args.left.now.ok)
 
 pub loop-self-smaller : goal.loop-self-smaller
 loop-self-smaller c =

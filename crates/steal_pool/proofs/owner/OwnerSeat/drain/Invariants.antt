@@ -9,7 +9,7 @@ invariant-loop-self l = record {
   index : worker_index l.self-inside.worker ≤ worker_index l.initial.self-inside.worker;
   capacity : l.self-inside.capacity ≡ l.initial.self-inside.capacity;
   count : l.self-inside.count ≡ l.initial.self-inside.count;
-  capacity : vec_capacity l.left ≡ vec_capacity l.initial.left;
+  reserved : vec_capacity l.left ≡ vec_capacity l.initial.left;
   moved : (more : List Piece) × (l.left.items ≡ l.initial.left.items ++ more)
       × (worker_view l.self-inside.worker ≡ account (worker_view l.initial.self-inside.worker).parts (worker_view l.initial.self-inside.worker).put ((worker_view l.initial.self-inside.worker).taken ++ more));
 }
