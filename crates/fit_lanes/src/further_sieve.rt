@@ -5,8 +5,8 @@ ghost use Rattle.fit_lanes.specs.Tests.{view_asked, TellsIfAsked, TellsFit};
 
 use crate::view_test::ViewTest;
 use cell_rows::BlockRows;
-use choice_sieves::Sieve;
 use further_views::{Extra, Further};
+use page_calls::Sieve;
 use six_views::fits;
 use solid_model::{Axis, Choice, Memory, Problem, ViewLines};
 use std::alloc::Global;

@@ -1,9 +1,9 @@
-//! The form that judges what stands behind a drawing, without a search.
+//! The answer that judges what stands behind a drawing, without a search.
 
 ghost use Rattle.std.specs.Prelude.{◌≡◌, ◌≤◌, length};
 ghost use Rattle.recon_run.specs.Answers.{log_kind_name};
 ghost use Rattle.recon_run.specs.Searched.{AnswersBehind};
-ghost use Rattle.recon_run.specs.declared.form.Form.TheVariants as form;
+ghost use Rattle.recon_run.specs.declared.question.Question.TheVariants as question;
 ghost use Rattle.solid_model.specs.Limits.{most_text_bytes};
 ghost use Rattle.tv_base.specs.Faults.{Rose};
 
@@ -41,7 +41,7 @@ pub fn answer_check<K: Sink>(
     sink: &mut K,
 ) -> Status
     requires { length rest.now ≤ most_text_bytes }
-    ensures { AnswersBehind form.Check profile.now sought.now rest.now (K.held sink.old)
+    ensures { AnswersBehind question.Check profile.now sought.now rest.now (K.held sink.old)
         (K.held sink.new) (Rose (K.faults sink.old) (K.faults sink.new)) result }
 {
     match check_log(alloc, &sought.problem, rest) {

@@ -17,8 +17,8 @@ ghost use Rattle.words.specs.Jobs.{IsCounted};
 use crate::answering::answer_source;
 use crate::crew::Crew;
 use crate::export::Export;
-use crate::form::{AllSolids, Form, OneSolid};
 use crate::profile::Profile;
+use crate::question::{AllSolids, OneSolid, Question};
 use crate::trial::{made_file, trial};
 use replies::{Answer, Failure, Status, code, write_reply};
 use std::alloc::Global;
@@ -59,8 +59,8 @@ fn do_job<R: Threads + Wait + Sync, S: Source, K: Sink, G: Gate>(
         } => {
             let crew = Crew { rt, workers, gate };
             let profile = Profile::six_views(decimals, two_views);
-            let form = Form::AllSolids(AllSolids { limits, pages });
-            answer_source(alloc, &crew, &profile, &form, source, sink)
+            let question = Question::AllSolids(AllSolids { limits, pages });
+            answer_source(alloc, &crew, &profile, &question, source, sink)
         }
         Job::Redraw {
             which,
@@ -71,12 +71,12 @@ fn do_job<R: Threads + Wait + Sync, S: Source, K: Sink, G: Gate>(
         } => {
             let crew = Crew { rt, workers, gate };
             let profile = Profile::six_views(decimals, two_views);
-            let form = Form::OneSolid(OneSolid {
+            let question = Question::OneSolid(OneSolid {
                 export: Export::Drawing,
                 which,
                 limits,
             });
-            answer_source(alloc, &crew, &profile, &form, source, sink)
+            answer_source(alloc, &crew, &profile, &question, source, sink)
         }
         Job::Stl {
             which,
@@ -86,12 +86,12 @@ fn do_job<R: Threads + Wait + Sync, S: Source, K: Sink, G: Gate>(
         } => {
             let crew = Crew { rt, workers, gate };
             let profile = Profile::three_views(0, two_views);
-            let form = Form::OneSolid(OneSolid {
+            let question = Question::OneSolid(OneSolid {
                 export: Export::Triangles,
                 which,
                 limits,
             });
-            answer_source(alloc, &crew, &profile, &form, source, sink)
+            answer_source(alloc, &crew, &profile, &question, source, sink)
         }
         Job::Prove {
             workers,
@@ -100,7 +100,7 @@ fn do_job<R: Threads + Wait + Sync, S: Source, K: Sink, G: Gate>(
         } => {
             let crew = Crew { rt, workers, gate };
             let profile = Profile::three_views(0, two_views);
-            answer_source(alloc, &crew, &profile, &Form::Log(limits), source, sink)
+            answer_source(alloc, &crew, &profile, &Question::Log(limits), source, sink)
         }
         Job::Check { two_views } => {
             let crew = Crew {
@@ -109,7 +109,7 @@ fn do_job<R: Threads + Wait + Sync, S: Source, K: Sink, G: Gate>(
                 gate,
             };
             let profile = Profile::with_log(two_views);
-            answer_source(alloc, &crew, &profile, &Form::Check, source, sink)
+            answer_source(alloc, &crew, &profile, &Question::Check, source, sink)
         }
         Job::Ask {
             workers,
@@ -118,7 +118,14 @@ fn do_job<R: Threads + Wait + Sync, S: Source, K: Sink, G: Gate>(
         } => {
             let crew = Crew { rt, workers, gate };
             let profile = Profile::three_views(0, two_views);
-            answer_source(alloc, &crew, &profile, &Form::Session(limits), source, sink)
+            answer_source(
+                alloc,
+                &crew,
+                &profile,
+                &Question::Session(limits),
+                source,
+                sink,
+            )
         }
         Job::Blocks {
             decimals,
@@ -130,7 +137,7 @@ fn do_job<R: Threads + Wait + Sync, S: Source, K: Sink, G: Gate>(
                 gate,
             };
             let profile = Profile::three_views(decimals, two_views);
-            answer_source(alloc, &crew, &profile, &Form::Blocks, source, sink)
+            answer_source(alloc, &crew, &profile, &Question::Blocks, source, sink)
         }
         Job::Make { n } => write_reply(Answer::Done, made_file(alloc, n)?.as_slice(), sink),
         Job::Trial { n, workers } => {

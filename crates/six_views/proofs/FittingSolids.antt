@@ -16,8 +16,8 @@ use Rattle.solid_model.proofs.CellOrder.{one_list}
 use Rattle.solid_model.proofs.SolidOrder.{precedes_one_way}
 use Rattle.dxf_entities.specs.declared.layer.Layer.{Layer}
 use Rattle.six_views.specs.Fits.{AreSolidsThat, AreFittingSolids, Fits}
-use Rattle.choice_sieves.specs.Those.{AreThose}
-use Rattle.choice_sieves.proofs.Those.{from_those, to_those, those_ascend}
+use Rattle.page_calls.specs.Those.{AreThose}
+use Rattle.page_calls.proofs.Those.{from_those, to_those, those_ascend}
 use Rattle.six_views.proofs.ShownCuts.{layer_same}
 
 -- those that fit, of all that match, are all that match and fit; whether a solid fits doesn't rest on its list's order

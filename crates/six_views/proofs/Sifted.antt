@@ -19,7 +19,7 @@ use Rattle.dxf_entities.specs.declared.layer.Layer.{Layer}
 use Rattle.six_views.specs.Fits.{AreFittingSolids, Fits, ShowsLayer}
 use Rattle.further_views.specs.Further.{AreFurtherOf, FurtherRuns, IsAskedOf, view_style}
 use Rattle.six_views.specs.Further.{FitsChoice, FitsRuns, ShowsAsked}
-use Rattle.choice_sieves.specs.Those.{AreThose}
+use Rattle.page_calls.specs.Those.{AreThose}
 use Rattle.six_views.proofs.FittingSolids.{fitting_of_all, filled_those, fits_same}
 use Rattle.six_views.proofs.ShownCuts.{shown_alike}
 

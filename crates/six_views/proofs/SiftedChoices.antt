@@ -16,8 +16,8 @@ use Rattle.solid_model.specs.Panels.{coordinates_of}
 use Rattle.solid_model.proofs.ChosenSolids.{one_union}
 use Rattle.lemmas.specs.Lists.{Ascends}
 use Rattle.lemmas.proofs.Lists.{each-at, each-from, each-weaker}
-use Rattle.choice_sieves.specs.Those.{AreThose}
-use Rattle.choice_sieves.proofs.Those.{all_those, from_those, those_alike, those_ascend}
+use Rattle.page_calls.specs.Those.{AreThose}
+use Rattle.page_calls.proofs.Those.{all_those, from_those, those_alike, those_ascend}
 use Rattle.dxf_entities.specs.declared.layer.Layer.{Layer}
 use Rattle.further_views.specs.Further.{AreFurtherOf, AsksForNone, FurtherRuns, HasRuns, view_style}
 use Rattle.six_views.specs.Fits.{AreFittingSolids, AreSomeFittingSolids, Fits}

@@ -1,6 +1,6 @@
 -- Of each union of grid cells it is decided what a plane leaves: nothing, or what the solid of some grid cells draws.
-use Rattle.std.proofs.Common.{◌≡◌, ◌⊎◌, inl, inr, Bool, true, false, ℕ, zero, suc, ◌+◌, ◌-◌, ◌<◌, ◌≤◌, List, length, slice_index_or, ℤ, pos, ◌<ℤ◌, sym, subst, ◌∙◌, arith}
-use Rattle.std.proofs.lemmas.Bool.{cases_lt}
+use Rattle.std.proofs.Common.{◌≡◌, ◌⊎◌, inl, inr, Bool, true, false, ℕ, zero, suc, ◌+◌, ◌-◌, ◌<◌, ◌≤◌, List, length, slice_index_or, ℤ, pos, ◌<ℤ◌, IsTrue, refl, sym, subst, ◌∙◌, arith}
+use Rattle.std.proofs.lemmas.Bool.{cases_lt, false≢true}
 use Rattle.std.proofs.lemmas.Int.{ints, by_lt_z}
 use Rattle.lemmas.specs.Lists.{Ascends}
 use Rattle.lemmas.proofs.Decisions.{IsDecided, below_next, some_or_none}
@@ -13,8 +13,8 @@ use Rattle.solid_model.specs.GridPlaces.{place_in}
 use Rattle.solid_model.specs.PerAxis.{numbered}
 use Rattle.section_laws.specs.CutGaps.{EndsBehind, IsFirstGap, ReachesPlane}
 use Rattle.section_laws.specs.LeftCells.{DrawsWhatIsLeft, LeavesNothing}
-use Rattle.section_laws.specs.Shaded.{ChoosesWhere, IsInSlab, IsNoFarther, IsShaded}
-use Rattle.section_laws.proofs.LeftCells.{no_rest, no_area, none_cut, shaded_draw, slab_draws}
+use Rattle.section_laws.specs.Shaded.{ChoosesWhere, IsInSlab, IsLeftCell, IsNoFarther, IsShaded}
+use Rattle.section_laws.proofs.LeftCells.{kept_draw, none_kept, nothing_left}
 use Rattle.six_views.proofs.Decided.{as_decided, both_decided, test_decided, told, told_is}
 use Rattle.six_views.proofs.SeenTurned.{some_list}
 
@@ -119,6 +119,10 @@ module _ (d : Direction) (sizes : Axis → ℕ) (chosen : List Bool) (first : �
   slab_decided : IsDecided (IsInSlab d sizes first chosen n)
   slab_decided = both_decided (n d.axis ≡ first) _ (same_number_decided (n d.axis) first) (test_decided _)
 
+  left_decided : (area : Bool) → IsDecided (IsLeftCell area d sizes first chosen n)
+  left_decided true = slab_decided
+  left_decided false = shaded_decided
+
 -- ---- what is left
 
 module _ (f : Frame) (is : IsFrame f) (coordinates : Coordinates) (ascends : (a : Axis) → Ascends ◌<ℤ◌ (coordinates a)) (chosen : List Bool) (plane : ℤ) where
@@ -134,27 +138,28 @@ module _ (f : Frame) (is : IsFrame f) (coordinates : Coordinates) (ascends : (a 
   abbrev Ends : ℕ → Type 0
   Ends = EndsBehind forward zs plane
 
-  -- where a gap is the first one behind the plane
-  rest_by : (n : ℕ) → IsFirstGap forward zs plane n → Left false
-  rest_by n first =
-      let lit = some_chosen coordinates (IsShaded f.away (gaps_along coordinates) n chosen) (shaded_decided f.away (gaps_along coordinates) chosen n) in
-      inl (lit.0, shaded_draw f is coordinates ascends chosen plane n first lit.0 lit.1)
+  -- the first gap behind the plane holds something of what is left
+  abbrev Holds : Bool → ℕ → Type 0
+  Holds area n = IsTrue area → ReachesPlane forward zs plane n
 
-  area_by : (n : ℕ) → IsFirstGap forward zs plane n → IsDecided (ReachesPlane forward zs plane n) → Left true
-  area_by n first (inl near) =
-      let slab = some_chosen coordinates (IsInSlab f.away (gaps_along coordinates) n chosen) (slab_decided f.away (gaps_along coordinates) chosen n) in
-      inl (slab.0, slab_draws f is coordinates ascends chosen plane n first near slab.0 slab.1)
-  area_by n first (inr begins) = inr (none_cut f is coordinates ascends chosen plane n first begins)
+  holds_decided : (area : Bool) (n : ℕ) → IsDecided (Holds area n)
+  holds_decided true n = as_decided (ReachesPlane forward zs plane n) (Holds true n) (λ near e. near) (λ holds. holds refl) (reaches_decided forward zs plane n)
+  holds_decided false n = inl (λ e. absurd (false≢true e))
+
+  left_by_gap : (area : Bool) (n : ℕ) → IsFirstGap forward zs plane n → IsDecided (Holds area n) → Left area
+  left_by_gap area n first (inl holds) =
+      let made = some_chosen coordinates (IsLeftCell area f.away (gaps_along coordinates) n chosen)
+      (λ cell. left_decided f.away (gaps_along coordinates) chosen n cell area) in
+      inl (made.0, kept_draw f is coordinates ascends chosen plane n first area holds made.0 made.1)
+  left_by_gap area n first (inr none) = inr (none_kept f is coordinates ascends chosen plane n first area none)
 
   pub some_left : (area : Bool) → Left area
-  some_left area = by area (some_first Ends (ends_decided forward zs plane) forward (length zs - 1))
+  some_left area = by (some_first Ends (ends_decided forward zs plane) forward (length zs - 1))
     where
       first_gap : (n : ℕ) → (n < length zs - 1) × Ends n × ((m : ℕ) → m < length zs - 1 → Ends m → IsNoFarther forward n m) → IsFirstGap forward zs plane n
       first_gap n (l, ends, first) = record { within = omega arith; behind = ends; first = λ m k e. first m (omega arith) e }
 
-      by : (area : Bool) → ((n : ℕ) × ((n < length zs - 1) × Ends n × ((m : ℕ) → m < length zs - 1 → Ends m → IsNoFarther forward n m)))
+      by : ((n : ℕ) × ((n < length zs - 1) × Ends n × ((m : ℕ) → m < length zs - 1 → Ends m → IsNoFarther forward n m)))
           ⊎ ((m : ℕ) → m < length zs - 1 → Ends m → ⊥) → Left area
-      by false (inl (n, is_first)) = rest_by n (first_gap n is_first)
-      by true (inl (n, is_first)) = area_by n (first_gap n is_first) (reaches_decided forward zs plane n)
-      by false (inr none) = inr (no_rest f is coordinates ascends chosen plane (λ m l e. none m (omega arith) e))
-      by true (inr none) = inr (no_area f is coordinates ascends chosen plane (λ m l e. none m (omega arith) e))
+      by (inl (n, is_first)) = left_by_gap area n (first_gap n is_first) (holds_decided area n)
+      by (inr none) = inr (nothing_left f is coordinates ascends chosen plane (λ m l e. none m (omega arith) e) area)

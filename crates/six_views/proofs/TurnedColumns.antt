@@ -9,7 +9,7 @@ use Rattle.solid_model.specs.declared.frame.View.TheVariants.{Front, Top, Side}
 use Rattle.lemmas.specs.Bits.{bits}
 use Rattle.solid_model.specs.Frames.{frame_of}
 use Rattle.solid_model.specs.Grid.{GridCell}
-use Rattle.solid_model.specs.Rooms.{same_axis}
+use Rattle.solid_model.specs.WalledBoxes.{same_axis}
 use Rattle.column_lanes.specs.declared.column.Column.{Column}
 use Rattle.solid_model.specs.GridPlaces.{place_in, grid_cell_in}
 use Rattle.column_laws.specs.GridColumns.{grid_column}

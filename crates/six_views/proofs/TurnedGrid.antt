@@ -10,7 +10,7 @@ use Rattle.solid_model.specs.declared.cell.Cell.{Cell}
 use Rattle.solid_model.specs.Cells.{coordinate}
 use Rattle.solid_model.specs.Grid.{Coordinates, GridCell, is_in_gap, IsInSomeGap, LiesInGridCell, gaps_along, IsUnionOf}
 use Rattle.lemmas.specs.Lists.{Each, Ascends}
-use Rattle.solid_model.specs.Rooms.{same_axis}
+use Rattle.solid_model.specs.WalledBoxes.{same_axis}
 use Rattle.solid_model.proofs.Gaps.{member, lies_in, in_gap}
 use Rattle.lemmas.proofs.Lists.{each-append, ascends-append}
 use Rattle.solid_model.specs.GridPlaces.{place_in}

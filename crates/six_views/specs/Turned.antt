@@ -6,7 +6,7 @@ use Rattle.solid_model.specs.declared.cell.Cell.{Cell}
 use Rattle.solid_model.specs.Cells.{coordinate, placed}
 use Rattle.solid_model.specs.Edges.{second_axis, third_axis}
 use Rattle.solid_model.specs.Grid.{Coordinates, GridCell, gaps_along}
-use Rattle.solid_model.specs.Rooms.{same_axis}
+use Rattle.solid_model.specs.WalledBoxes.{same_axis}
 use Rattle.solid_model.specs.GridPlaces.{place_in}
 use Rattle.column_lanes.specs.declared.column.Column.{Column}
 use Rattle.columns.specs.ColumnLists.{AreColumns}

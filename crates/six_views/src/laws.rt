@@ -24,7 +24,7 @@ ghost use Rattle.six_views.specs.Fits.{AreFittingSolids, AreSolidsThat, Fits, Sh
 ghost use Rattle.six_views.specs.Further.{FitsChoice, FitsRuns};
 ghost use Rattle.six_views.specs.SightFrames.{sight_frame};
 ghost use Rattle.six_views.specs.SmallViews.{bar_from, bar_in, bar_left_from};
-ghost use Rattle.choice_sieves.specs.Those.{AreThose};
+ghost use Rattle.page_calls.specs.Those.{AreThose};
 ghost use Rattle.six_views.specs.Turned.{turned_cell, turned_cells};
 
 /// What a layer shows whole its view shows of the solid, turned half round where it is seen from the

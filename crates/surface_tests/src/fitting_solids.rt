@@ -1,11 +1,11 @@
 //! Solids, and the further views that they fit.
 
 use crate::surfaces::{choice_of, problem_at};
-use choice_sieves::Sieve;
 use dxf_entities::entities;
 use dxf_groups::Groups;
 use fit_lanes::FurtherSieve;
 use further_views::Further;
+use page_calls::Sieve;
 use six_views::fits;
 use solid_model::{Problem, View, ViewLines};
 use std::alloc::Global;
