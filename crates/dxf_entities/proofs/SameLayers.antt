@@ -2,23 +2,11 @@
 use Rattle.std.proofs.Common.{◌≡◌, Bool, true, false, Option, Some, None, refl, int_eq}
 use Rattle.std.proofs.lemmas.Bool.{and_parts}
 use Rattle.std.proofs.lemmas.Bool.Decides.{Decides-int_eq}
-use Rattle.solid_model.specs.declared.frame.View.{View}
-use Rattle.solid_model.specs.declared.frame.View.TheVariants.{Front, Top, Side}
 use Rattle.solid_model.specs.Drawings.{same_view}
+use Rattle.solid_model.proofs.Sheets.{same_view-itself, same_view-true}
 use Rattle.dxf_entities.specs.declared.layer.Cut.{Cut}
 use Rattle.dxf_entities.specs.declared.layer.Layer.{Layer}
 use Rattle.dxf_entities.specs.Reading.{same_cut, same_layer, same_truth}
-
-views_are_one : (v w : View) → same_view v w ≡ true → v ≡ w
-views_are_one Front Front e = refl
-views_are_one Top Top e = refl
-views_are_one Side Side e = refl
-views_are_one Front Top e = absurd cc
-views_are_one Front Side e = absurd cc
-views_are_one Top Front e = absurd cc
-views_are_one Top Side e = absurd cc
-views_are_one Side Front e = absurd cc
-views_are_one Side Top e = absurd cc
 
 truths_are_one : (a b : Bool) → same_truth a b ≡ true → a ≡ b
 truths_are_one true true e = refl
@@ -40,15 +28,10 @@ pub layers_are_one : (l m : Layer) → same_layer l m ≡ true → l ≡ m
 layers_are_one l m e =
     let parts = and_parts (same_view l.view m.view) _ e in
     let sides = and_parts (same_truth l.opposite m.opposite) (same_cut l.cut m.cut) parts.1 in
-    let view = views_are_one l.view m.view parts.0 in
+    let view = same_view-true l.view m.view parts.0 in
     let opposite = truths_are_one l.opposite m.opposite sides.0 in
     let cut = cuts_are_one l.cut m.cut sides.1 in
     λ i. record { view = view i; opposite = opposite i; cut = cut i }
-
-same_view_as : (v : View) → same_view v v ≡ true
-same_view_as Front = refl
-same_view_as Top = refl
-same_view_as Side = refl
 
 same_truth_as : (b : Bool) → same_truth b b ≡ true
 same_truth_as true = refl
@@ -59,4 +42,4 @@ same_cut_as None = refl
 same_cut_as (Some c) = rw ((Decides-int_eq c.at c.at).1 refl) (same_truth_as c.area)
 
 pub same_as_itself : (l : Layer) → same_layer l l ≡ true
-same_as_itself l = rw (same_view_as l.view, same_truth_as l.opposite) (same_cut_as l.cut)
+same_as_itself l = rw (same_view-itself l.view, same_truth_as l.opposite) (same_cut_as l.cut)

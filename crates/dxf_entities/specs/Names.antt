@@ -28,12 +28,12 @@ is_name name value = str_eq_ignore_ascii_case value name
 -- ---- layers
 
 -- a layer is that of one of the three main views
-abbrev pub is_whole : Option Cut → Bool
-is_whole None = true
-is_whole (Some c) = false
+abbrev pub is_uncut : Option Cut → Bool
+is_uncut None = true
+is_uncut (Some c) = false
 
 abbrev pub is_main : Layer → Bool
-is_main l = not l.opposite && is_whole l.cut
+is_main l = not l.opposite && is_uncut l.cut
 
 -- the layer of a view, and that of the further view opposite to it
 abbrev pub main_layer : View → Layer
@@ -60,14 +60,14 @@ further_on value = if is_name (codes "LEFT") value then Some (further_layer Side
     else (if is_name (codes "BOTTOM") value then Some (further_layer Top) else None))
 
 -- where the first `_` of a text stands, or its end; what stands before it, and what behind it
-abbrev pub bar_in : List ℕ → ℕ
-bar_in text = unwrap_or (position (λ b. b == 95) text) (length text)
+abbrev pub bar_place : List ℕ → ℕ
+bar_place text = unwrap_or (position (λ b. b == 95) text) (length text)
 
 abbrev pub before_bar : List ℕ → List ℕ
-before_bar text = take (bar_in text) text
+before_bar text = take (bar_place text) text
 
 abbrev pub behind_bar : List ℕ → List ℕ
-behind_bar text = drop (bar_in text + 1) text
+behind_bar text = drop (bar_place text + 1) text
 
 -- a view that is cut by a plane there, where both are told
 abbrev pub cut_at : Bool → Option Layer → Result ℤ NumeralFault → Named

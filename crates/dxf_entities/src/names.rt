@@ -3,7 +3,7 @@
 ghost use Rattle.std.specs.Prelude.{◌≡◌, ◌≤◌, option_map};
 ghost use Rattle.solid_model.specs.Limits.{most_decimals};
 ghost use Rattle.dxf_groups.specs.Pairs.{text_pair};
-ghost use Rattle.dxf_entities.specs.Names.{bar_in, before_bar, behind, behind_bar, cut_named, further_on, is_name, layer_on, main_on, other_on, section_on};
+ghost use Rattle.dxf_entities.specs.Names.{bar_place, before_bar, behind, behind_bar, cut_named, further_on, is_name, layer_on, main_on, other_on, section_on};
 ghost use Rattle.dxf_entities.specs.Resuming.{or_first};
 
 use crate::codes::has_code;
@@ -62,8 +62,8 @@ fn further_on(value: &[u8]) -> Option<Layer>
 }
 
 /// Where the first `_` of a text stands, or its end.
-fn bar_in(text: &[u8]) -> usize
-    ensures { result ≡ bar_in text.now }
+fn bar_place(text: &[u8]) -> usize
+    ensures { result ≡ bar_place text.now }
 {
     text.iter().position(|b| *b == b'_').unwrap_or(text.len())
 }
@@ -73,7 +73,7 @@ fn split_at_bar(text: &[u8]) -> (&[u8], &[u8])
     ensures before { result.0.now ≡ before_bar text.now }
     ensures behind { result.1.now ≡ behind_bar text.now }
 {
-    let end = bar_in(text);
+    let end = bar_place(text);
     let (before, rest) = text.split_at(end);
     match rest {
         [_, behind @ ..] => (before, behind),

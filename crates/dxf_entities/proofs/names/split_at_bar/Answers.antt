@@ -7,5 +7,5 @@ pub returns-in-len1-up-clause-behind : goal.returns-in-len1-up-clause-behind
 returns-in-len1-up-clause-behind c =
     take_rest c.split_at.result.1.now 1
     ∙ (ap (drop 1) c.split_at.ensures.back
-    ∙ (drop-drop 1 c.bar_in-end.result c.args.text.now
-    ∙ ap (λ n. drop (n + 1) c.args.text.now) c.bar_in-end.ensures))
+    ∙ (drop-drop 1 c.bar_place-end.result c.args.text.now
+    ∙ ap (λ n. drop (n + 1) c.args.text.now) c.bar_place-end.ensures))

@@ -4,7 +4,7 @@ use Rattle.std.specs.List.{position}
 use Rattle.std.specs.Option.{unwrap_or}
 use Rattle.std.proofs.lemmas.Iterator.{YieldsList-from_slice}
 use Rattle.std.proofs.lemmas.Iterator.Search.{position_from_yields_List}
-use Rattle.dxf_entities.proofs.names.bar_in.Goals as goal
+use Rattle.dxf_entities.proofs.names.bar_place.Goals as goal
 
 abbrev is_bar : ℕ → Bool
 is_bar b = b == 95
