@@ -129,39 +129,11 @@ fn take_step(file: &mut String, layer: &str, step: &str) -> Result<(), AllocErro
     }
 }
 
-/// A layer of strokes.
-#[derive(Clone, Copy)]
-enum Layer {
-    Front,
-    Top,
-    Side,
-    Left,
-    Rear,
-    Bottom,
-}
-
-/// The layer that has this name.
-fn layer_on(step: &str) -> Option<Layer> {
+/// A step names a layer: that of one of the six views, of a section or of an area.
+fn is_layer(step: &str) -> bool {
     match step {
-        "FRONT" => Some(Layer::Front),
-        "TOP" => Some(Layer::Top),
-        "SIDE" => Some(Layer::Side),
-        "LEFT" => Some(Layer::Left),
-        "REAR" => Some(Layer::Rear),
-        "BOTTOM" => Some(Layer::Bottom),
-        _ => None,
-    }
-}
-
-/// The name of a layer.
-fn name_of(layer: Layer) -> &'static str {
-    match layer {
-        Layer::Front => "FRONT",
-        Layer::Top => "TOP",
-        Layer::Side => "SIDE",
-        Layer::Left => "LEFT",
-        Layer::Rear => "REAR",
-        Layer::Bottom => "BOTTOM",
+        "FRONT" | "TOP" | "SIDE" | "LEFT" | "REAR" | "BOTTOM" => true,
+        _ => step.starts_with("SECTION_") || step.starts_with("AREA_"),
     }
 }
 
@@ -177,14 +149,15 @@ fn counted(step: &str) -> (usize, &str) {
 pub fn file_of(alloc: Global, steps: &str) -> Result<String, AllocError> {
     let steps = steps.replace(alloc, "cube", CUBE)?;
     let mut file = String::new(alloc);
-    let mut layer = Layer::Front;
+    let mut layer = "FRONT";
     for step in steps.as_str().split(", ") {
         let (count, step) = counted(step);
-        match layer_on(step) {
-            Some(next) => layer = next,
-            None => for _ in 0..count {
-                take_step(&mut file, name_of(layer), step)?;
-            },
+        if is_layer(step) {
+            layer = step;
+        } else {
+            for _ in 0..count {
+                take_step(&mut file, layer, step)?;
+            }
         }
     }
     Ok(file)
