@@ -13,6 +13,7 @@ use Rattle.dxf_entities.specs.declared.open.Open.{Open}
 use Rattle.dxf_entities.specs.declared.open.Open.TheVariants.{Passed, Layer, Entity}
 use Rattle.dxf_entities.specs.declared.shape.Shape.{Shape}
 use Rattle.dxf_entities.specs.declared.shape.Shape.TheVariants as shape
+use Rattle.dxf_entities.specs.declared.named.Named.TheVariants.{Unread}
 use Rattle.dxf_entities.specs.Counting.{counts, is_one_of}
 use Rattle.dxf_entities.specs.Entries.{has_code, closes_application, own_pairs, first_value}
 use Rattle.dxf_entities.specs.Forms.{FormParts}
@@ -42,14 +43,14 @@ passed_tells p entry inside s is = λ ps.
     ap (λ e. entry_closed e inside (p ∷ ps) s) is ∙ sym (ap (λ e. entry_closed e inside ps s) is)
 
 -- nor of a layer that isn't read,
-unread_closes : (f : LayerFacts) (inside : Bool) (ps : List TextPair) (s : Progress) → f.name ≡ Some None
-    → entry_closed (Layer f) inside ps s ≡ Ok (with_layer (Some None) None s)
+unread_closes : (f : LayerFacts) (inside : Bool) (ps : List TextPair) (s : Progress) → f.name ≡ Some Unread
+    → entry_closed (Layer f) inside ps s ≡ Ok (with_layer (Some Unread) None s)
 unread_closes f inside ps s unread =
-    ap (λ (all : LayerFacts). Ok (with_layer all.name all.linetype s)) (own_layer_facts s.form.six inside ps f)
-    ∙ ap (λ name. Ok (with_layer (option_or name (option_map (layer_on s.form.six) (first_value 2 (own_pairs inside ps))))
+    ap (λ (all : LayerFacts). Ok (with_layer all.name all.linetype s)) (own_layer_facts s.form inside ps f)
+    ∙ ap (λ name. Ok (with_layer (option_or name (option_map (layer_on s.form) (first_value 2 (own_pairs inside ps))))
     (option_or f.linetype (option_map linetype_of (first_value 6 (own_pairs inside ps)))) s)) unread
 
-pub unread_tells : (p : TextPair) (entry : Open) (f : LayerFacts) (inside : Bool) (s : Progress) → entry ≡ Layer f → f.name ≡ Some None
+pub unread_tells : (p : TextPair) (entry : Open) (f : LayerFacts) (inside : Bool) (s : Progress) → entry ≡ Layer f → f.name ≡ Some Unread
     → TellsNothing p entry inside s
 unread_tells p entry f inside s is unread = λ ps.
     ap (λ e. entry_closed e inside (p ∷ ps) s) is ∙ unread_closes f inside (p ∷ ps) s unread
@@ -69,9 +70,9 @@ inside_tells p entry inside s is other = λ ps. ap (λ b. entry_closed entry b (
     by (Entity f) ps = ap (λ b. entry_closed (Entity f) (not b) ps s) still
 
 -- nor of a layer, with a code that doesn't count,
-same_layer_facts : (six : Bool) (p : TextPair) (f : LayerFacts) → has_code 2 p ≡ false → has_code 6 p ≡ false
-    → with_layer_fact six p f ≡ f
-same_layer_facts six p f no_name no_linetype =
+same_layer_facts : (form : FormParts) (p : TextPair) (f : LayerFacts) → has_code 2 p ≡ false → has_code 6 p ≡ false
+    → with_layer_fact form p f ≡ f
+same_layer_facts form p f no_name no_linetype =
     rw (no_name, no_linetype) (λ i. record { name = or_nothing f.name i; linetype = or_nothing f.linetype i })
 
 pub layer_tells : (p : TextPair) (entry : Open) (f : LayerFacts) (inside : Bool) (s : Progress) → entry ≡ Layer f → inside ≡ false
@@ -90,8 +91,8 @@ layer_tells p entry f inside s is outside other = λ ps.
     no_application : has_code 102 p ≡ false
     no_application = (none_of p 102 [] no_linetype.1).0
 
-    same : with_layer_fact s.form.six p f ≡ f
-    same = same_layer_facts s.form.six p f no_name.0 no_linetype.0
+    same : with_layer_fact s.form p f ≡ f
+    same = same_layer_facts s.form p f no_name.0 no_linetype.0
 
 -- and nor of an entity
 same_shape : (decimals line : ℕ) (p : TextPair) → has_code 10 p ≡ false → has_code 11 p ≡ false → has_code 20 p ≡ false

@@ -5,3 +5,5 @@ pub mod KeptLines
 pub mod NearPoints
 pub mod NextPoints
 pub mod TextFaults
+pub mod SameLayers
+pub mod LayerEntries

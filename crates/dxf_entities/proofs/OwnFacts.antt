@@ -1,6 +1,6 @@
 -- What counts of an entry, pair by pair and all at once.
 use Rattle.std.proofs.Common.{◌≡◌, ℕ, Bool, true, false, not, List, [], ◌∷◌, Option, Some, None, Result, Ok, Err, if◌then◌else◌, refl, sym, ap, ◌∙◌}
-use Rattle.std.specs.Option.{option_map, option_or, option_flatten}
+use Rattle.std.specs.Option.{option_map, option_or, unwrap_or}
 use Rattle.solid_model.specs.declared.fault.Fault.{Fault}
 use Rattle.dxf_entities.specs.declared.layer.Layer.{Layer}
 use Rattle.dxf_groups.specs.Pairs.{TextPair}
@@ -8,8 +8,10 @@ use Rattle.dxf_entities.specs.declared.facts.Facts.{Facts}
 use Rattle.dxf_entities.specs.declared.layer_facts.LayerFacts.{LayerFacts}
 use Rattle.dxf_entities.specs.declared.kind.Kind.TheVariants.{Other}
 use Rattle.dxf_entities.specs.declared.linetype.Linetype.{Linetype}
+use Rattle.dxf_entities.specs.declared.named.Named.{Named}
+use Rattle.dxf_entities.specs.declared.named.Named.TheVariants.{Unread, Shows, Misnamed}
 use Rattle.dxf_entities.specs.Entries.{has_code, own_pairs, first_value, opens_application, closes_application}
-use Rattle.dxf_entities.specs.Judging.{is_on_paper, is_one, drawn_by, judged, lines_by, pen_of, pen_on}
+use Rattle.dxf_entities.specs.Judging.{is_on_paper, is_one, drawn_by, judged, lines_by, misnamed, pen_of, pen_on}
 use Rattle.dxf_entities.specs.Forms.{FormParts}
 use Rattle.dxf_entities.specs.Names.{layer_on, linetype_of}
 use Rattle.dxf_entities.specs.Resuming.{or_first, with_fact, with_layer_fact, with_own}
@@ -50,7 +52,7 @@ bind_bind (Err e) f g = refl
 -- what counts of an entity with these pairs of its own
 abbrev pub with_facts : FormParts → List TextPair → Facts → Facts
 with_facts form own f = record f {
-  layer = option_or f.layer (option_map (layer_on form.six) (first_value 8 own));
+  layer = option_or f.layer (option_map (layer_on form) (first_value 8 own));
   paper = option_or f.paper (option_map is_one (first_value 67 own));
   linetype = option_or f.linetype (option_map linetype_of (first_value 6 own));
   shape = f.shape >>= known_shape form.decimals f.line own;
@@ -69,28 +71,28 @@ no_facts form f = λ i. record f {
 more_facts : (form : FormParts) (p : TextPair) (own : List TextPair) (f : Facts)
     → with_facts form own (with_fact form p f) ≡ with_facts form (p ∷ own) f
 more_facts form p own f = λ i. record f {
-  layer = first_of_more 8 (layer_on form.six) p own f.layer i;
+  layer = first_of_more 8 (layer_on form) p own f.layer i;
   paper = first_of_more 67 is_one p own f.paper i;
   linetype = first_of_more 6 linetype_of p own f.linetype i;
   shape = bind_bind f.shape (with_shape form.decimals f.line p) (known_shape form.decimals f.line own) i;
 }
 
 -- what counts of a layer's entry with these pairs of its own
-abbrev pub with_layer_facts : Bool → List TextPair → LayerFacts → LayerFacts
-with_layer_facts six own f = record {
-  name = option_or f.name (option_map (layer_on six) (first_value 2 own));
+abbrev pub with_layer_facts : FormParts → List TextPair → LayerFacts → LayerFacts
+with_layer_facts form own f = record {
+  name = option_or f.name (option_map (layer_on form) (first_value 2 own));
   linetype = option_or f.linetype (option_map linetype_of (first_value 6 own));
 }
 
 -- with no pairs nothing more counts
-no_layer_facts : (six : Bool) (f : LayerFacts) → with_layer_facts six [] f ≡ f
-no_layer_facts six f = λ i. record { name = or_nothing f.name i; linetype = or_nothing f.linetype i }
+no_layer_facts : (form : FormParts) (f : LayerFacts) → with_layer_facts form [] f ≡ f
+no_layer_facts form f = λ i. record { name = or_nothing f.name i; linetype = or_nothing f.linetype i }
 
 -- one more pair, and then the others
-more_layer_facts : (six : Bool) (p : TextPair) (own : List TextPair) (f : LayerFacts)
-    → with_layer_facts six own (with_layer_fact six p f) ≡ with_layer_facts six (p ∷ own) f
-more_layer_facts six p own f = λ i. record {
-  name = first_of_more 2 (layer_on six) p own f.name i;
+more_layer_facts : (form : FormParts) (p : TextPair) (own : List TextPair) (f : LayerFacts)
+    → with_layer_facts form own (with_layer_fact form p f) ≡ with_layer_facts form (p ∷ own) f
+more_layer_facts form p own f = λ i. record {
+  name = first_of_more 2 (layer_on form) p own f.name i;
   linetype = first_of_more 6 linetype_of p own f.linetype i;
 }
 
@@ -119,30 +121,35 @@ own_facts form =
     found (with_fact form) (with_facts form) (no_facts form) (more_facts form)
 
 -- and those of a layer's entry
-pub own_layer_facts : (six inside : Bool) (ps : List TextPair) (f : LayerFacts)
-    → with_own (with_layer_fact six) inside ps f ≡ with_layer_facts six (own_pairs inside ps) f
-own_layer_facts six = found (with_layer_fact six) (with_layer_facts six) (no_layer_facts six) (more_layer_facts six)
+pub own_layer_facts : (form : FormParts) (inside : Bool) (ps : List TextPair) (f : LayerFacts)
+    → with_own (with_layer_fact form) inside ps f ≡ with_layer_facts form (own_pairs inside ps) f
+own_layer_facts form = found (with_layer_fact form) (with_layer_facts form) (no_layer_facts form) (more_layer_facts form)
 
 -- an entity that stands on a layer that isn't read is passed over
-pub elsewhere : (layers : Layer → Option Linetype) (lines : List LayerLine) (f : Facts) → f.layer ≡ Some None
+pub elsewhere : (layers : Layer → Option Linetype) (lines : List LayerLine) (f : Facts) → f.layer ≡ Some Unread
     → judged layers lines f ≡ Ok lines
 unfolding drawn_by
 elsewhere layers lines f e =
-    ap (λ layer. pen_on (option_flatten layer) layers f >>= lines_by f lines) e
+    ap (λ layer. pen_on (unwrap_or layer Unread) layers f >>= lines_by f lines) e
 
 -- no layer that is read, or paper space: what is no geometry is passed over in each case
-no_geometry_on : (layer : Option Layer) (layers : Layer → Option Linetype) (f : Facts)
-    → f.kind ≡ Other → pen_on layer layers f ≡ Ok None
-no_geometry_on None layers f e = refl
-no_geometry_on (Some view) layers f e = by (is_on_paper f.paper)
+no_geometry_on : (name : Named) (layers : Layer → Option Linetype) (f : Facts)
+    → f.kind ≡ Other → pen_on name layers f ≡ Ok None
+no_geometry_on Unread layers f e = refl
+no_geometry_on (Shows layer) layers f e = by (is_on_paper f.paper)
   where
-    by : (b : Bool) → (if b then Ok None else pen_of f.kind (layers view) view f) ≡ Ok None
+    by : (b : Bool) → (if b then Ok None else pen_of f.kind (layers layer) layer f) ≡ Ok None
     by true = refl
-    by false = ap (λ kind. pen_of kind (layers view) view f) e
+    by false = ap (λ kind. pen_of kind (layers layer) layer f) e
+no_geometry_on Misnamed layers f e = by (is_on_paper f.paper)
+  where
+    by : (b : Bool) → (if b then Ok None else misnamed f.kind f.line) ≡ Ok None
+    by true = refl
+    by false = ap (λ kind. misnamed kind f.line) e
 
 -- as is one that is no geometry
 pub no_geometry : (layers : Layer → Option Linetype) (lines : List LayerLine) (f : Facts) → f.kind ≡ Other
     → judged layers lines f ≡ Ok lines
 unfolding drawn_by
 no_geometry layers lines f e =
-    ap (λ pen. pen >>= lines_by f lines) (no_geometry_on (option_flatten f.layer) layers f e)
+    ap (λ pen. pen >>= lines_by f lines) (no_geometry_on (unwrap_or f.layer Unread) layers f e)

@@ -12,10 +12,11 @@ use Rattle.dxf_groups.specs.Spans.{span_of}
 use Rattle.dxf_entities.specs.declared.counting.Counting.{Counting}
 use Rattle.dxf_entities.specs.declared.counting.Counting.TheVariants.{Each}
 use Rattle.dxf_entities.specs.declared.facts.Facts.{Facts}
-use Rattle.dxf_entities.specs.declared.layer.Layer.{Layer as ReadLayer}
 use Rattle.dxf_entities.specs.declared.layer_line.LayerLine.{LayerLine}
 use Rattle.dxf_entities.specs.declared.kind.Kind.{Kind}
 use Rattle.dxf_entities.specs.declared.kind.Kind.TheVariants as kind
+use Rattle.dxf_entities.specs.declared.named.Named.{Named}
+use Rattle.dxf_entities.specs.declared.named.Named.TheVariants.{Unread, Shows, Misnamed}
 use Rattle.dxf_entities.specs.declared.section.Section.{Section}
 use Rattle.dxf_entities.specs.declared.section.Section.TheVariants.{Tables, Entities, Other}
 use Rattle.dxf_entities.specs.declared.place.Place.{Place}
@@ -72,32 +73,33 @@ opened_closes Tables p lead s = by (is_name (codes "LAYER") p.value)
         ≡ Ok (if b then layer_added (record { name = codes "LAYER"; line = p.line; pairs = lead }) s
         else s)
     by true =
-        ap (λ f. Ok (with_layer f.name f.linetype s)) (own_layer_facts s.form.six false lead nothing_told)
+        ap (λ f. Ok (with_layer f.name f.linetype s)) (own_layer_facts s.form false lead nothing_told)
     by false = refl
 opened_closes Entities p lead s = entity_opened p lead s (kind_of p.value) refl
 opened_closes Other p lead s = refl
 
 -- an entity goes on as one that is passed over, where it stands on a layer that isn't read
-unless_closes : (layer : Option (Option ReadLayer)) (f : Facts) (ps : List TextPair) (s : Progress)
+unless_closes : (layer : Option Named) (f : Facts) (ps : List TextPair) (s : Progress)
     → f.layer ≡ layer
     → entry_closed (Entity f) false ps s ≡ entry_closed (unless_elsewhere layer f) false ps s
 unless_closes None f ps s e = refl
-unless_closes (Some (Some layer)) f ps s e = refl
-unless_closes (Some None) f ps s e =
+unless_closes (Some (Shows layer)) f ps s e = refl
+unless_closes (Some Misnamed) f ps s e = refl
+unless_closes (Some Unread) f ps s e =
     ap (then_kept s) (elsewhere s.layers s.lines (with_own (with_fact s.form) false ps f) still)
   where
-    still : (with_own (with_fact s.form) false ps f).layer ≡ Some None
+    still : (with_own (with_fact s.form) false ps f).layer ≡ Some Unread
     still =
         ap (λ (g : Facts). g.layer) (own_facts s.form false ps f)
-        ∙ ap (λ layer. option_or layer (option_map (layer_on s.form.six) (first_value 8 (own_pairs false ps)))) e
+        ∙ ap (λ layer. option_or layer (option_map (layer_on s.form) (first_value 8 (own_pairs false ps)))) e
 
 -- an entry is closed with a pair and what follows it; whether that begins what belongs to an
 -- application is told
 abbrev entry_closed_after : Bool → TextPair → List TextPair → Open → Progress → Result Progress Fault
 entry_closed_after b p ps Passed s = Ok s
 entry_closed_after b p ps (Layer f) s =
-    let all = if b then with_own (with_layer_fact s.form.six) true ps f
-    else with_own (with_layer_fact s.form.six) false ps (with_layer_fact s.form.six p f) in
+    let all = if b then with_own (with_layer_fact s.form) true ps f
+    else with_own (with_layer_fact s.form) false ps (with_layer_fact s.form p f) in
     Ok (with_layer all.name all.linetype s)
 entry_closed_after b p ps (Entity f) s =
     entity_read

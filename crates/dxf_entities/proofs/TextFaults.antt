@@ -1,12 +1,15 @@
 -- No fault that is found in a text is that it is too long.
 use Rattle.std.proofs.Common.{◌≡◌, Bool, true, false, cond, if◌then◌else◌, ℕ, ◌+◌, List, [], ◌∷◌, length, ℤ, pos, int_eq, Option, Some, None, Result, Ok, Err, ap}
 use Rattle.dxf_entities.specs.declared.facts.Facts.{Facts}
+use Rattle.dxf_entities.specs.declared.layer.Cut.{Cut}
 use Rattle.dxf_entities.specs.declared.layer.Layer.{Layer}
 use Rattle.dxf_entities.specs.declared.layer_line.LayerLine.{LayerLine}
 use Rattle.dxf_entities.specs.declared.kind.Kind.{Kind}
 use Rattle.dxf_entities.specs.declared.kind.Kind.TheVariants as kind
 use Rattle.dxf_entities.specs.declared.linetype.Linetype.{Linetype}
 use Rattle.dxf_entities.specs.declared.linetype.Linetype.TheVariants.{Continuous, Hidden, Center, ByLayer, Unlisted}
+use Rattle.dxf_entities.specs.declared.named.Named.{Named}
+use Rattle.dxf_entities.specs.declared.named.Named.TheVariants.{Unread, Shows, Misnamed}
 use Rattle.dxf_entities.specs.declared.pen.Pen.{Pen}
 use Rattle.dxf_entities.specs.declared.place.Place.{Place}
 use Rattle.dxf_entities.specs.declared.place.Place.TheVariants.{Outside, Unnamed, Inside}
@@ -17,9 +20,9 @@ use Rattle.dxf_entities.specs.declared.shape.Shape.TheVariants as shape
 use Rattle.dxf_entities.specs.Coordinates.{value_at, coordinate_at, with_coordinate, present, line_ends}
 use Rattle.dxf_entities.specs.DrawnLines.{are_straight, drawn_along, added_along, kept, lines_through}
 use Rattle.dxf_entities.specs.Entries.{Entry, entries_of, before_entries, has_code, own_pairs}
-use Rattle.dxf_entities.specs.Judging.{facts_of, style_of, pen_of, pen_on, drawn_by, lines_by}
+use Rattle.dxf_entities.specs.Judging.{facts_of, misnamed, style_of, pen_of, pen_on, drawn_by, lines_by}
 use Rattle.dxf_entities.specs.Known.{Known, KnownOutline, Point}
-use Rattle.dxf_entities.specs.Extras.{lines_read}
+use Rattle.dxf_entities.specs.Apart.{lines_read}
 use Rattle.dxf_entities.specs.Forms.{FormParts}
 use Rattle.dxf_entities.specs.Names.{kind_of, section_of}
 use Rattle.dxf_entities.specs.Outlines.{first_x, ended_vertex, flat, first_flags, with_vertex, whole_route}
@@ -194,22 +197,29 @@ added : (line : ℕ) (pen : Pen) (lines : List LayerLine) (ps : List Point) → 
 added line pen lines ps =
     after _ _ (along (length lines) line pen ps) (λ more. value _)
 
-style : (line : ℕ) (l : Linetype) → IsNotLong (style_of line l)
-style line Continuous = λ e. cc
-style line Hidden = λ e. cc
-style line Center = λ e. cc
-style line ByLayer = λ e. cc
-style line Unlisted = λ e. cc
+style : (line : ℕ) (cut : Option Cut) (l : Linetype) → IsNotLong (style_of line cut l)
+style line cut Continuous = λ e. cc
+style line cut Hidden = λ e. cc
+style line cut Center = λ e. cc
+style line cut ByLayer = λ e. cc
+style line cut Unlisted = λ e. cc
 
 pen_kind : (k : Kind) (own : Option Linetype) (layer : Layer) (f : Facts) → IsNotLong (pen_of k own layer f)
-pen_kind kind.Line own layer f = after _ _ (style f.line _) (λ s. value _)
-pen_kind kind.Polyline own layer f = after _ _ (style f.line _) (λ s. value _)
+pen_kind kind.Line own layer f = after _ _ (style f.line layer.cut _) (λ s. value _)
+pen_kind kind.Polyline own layer f = after _ _ (style f.line layer.cut _) (λ s. value _)
 pen_kind kind.Geometry own layer f = λ e. cc
 pen_kind kind.Other own layer f = λ e. cc
 
-pen_seen : (layer : Option Layer) (layers : Layer → Option Linetype) (f : Facts) → IsNotLong (pen_on layer layers f)
-pen_seen None layers f = λ e. cc
-pen_seen (Some layer) layers f = either _ _ _ (value None) (pen_kind f.kind (layers layer) layer f)
+no_section : (k : Kind) (line : ℕ) → IsNotLong (misnamed k line)
+no_section kind.Line line = λ e. cc
+no_section kind.Polyline line = λ e. cc
+no_section kind.Geometry line = λ e. cc
+no_section kind.Other line = λ e. cc
+
+pen_seen : (name : Named) (layers : Layer → Option Linetype) (f : Facts) → IsNotLong (pen_on name layers f)
+pen_seen Unread layers f = λ e. cc
+pen_seen Misnamed layers f = either _ _ _ (value None) (no_section f.kind f.line)
+pen_seen (Shows layer) layers f = either _ _ _ (value None) (pen_kind f.kind (layers layer) layer f)
 
 drawn : (layers : Layer → Option Linetype) (f : Facts) → IsNotLong (drawn_by layers f)
 unfolding drawn_by

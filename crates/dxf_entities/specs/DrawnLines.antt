@@ -21,7 +21,7 @@ are_straight (a ∷ ps) = are_straight_from a ps
 -- the line from a point to another, of an entity that begins on this line
 abbrev pub line_between : ℕ → Pen → Point → Point → LayerLine
 line_between line pen a b = record {
-  opposite = pen.layer.opposite;
+  layer = pen.layer;
   line = record {
     of = pen.layer.view;
     style = pen.style;

@@ -9,7 +9,7 @@ pub mod Shapes
 pub mod DrawnLines
 pub mod Judging
 pub mod Reading
-pub mod Extras
+pub mod Apart
 pub mod Counting
 pub mod Resuming
 pub mod SmallFiles

@@ -2,16 +2,20 @@
 use Rattle.std.specs.Prelude.{ℕ, Bool, true, false, not, ◌&&◌, List, [], ◌∷◌, map, Option, Some, None, Result, Ok, Err, codes, if◌then◌else◌}
 use Rattle.std.specs.List.{filter}
 use Rattle.std.specs.Option.{option_map, option_or, unwrap_or}
+use Rattle.std.specs.Ordering.{int_eq}
 use Rattle.solid_model.specs.declared.fault.Fault.{Fault}
 use Rattle.solid_model.specs.declared.fault.Fault.TheVariants.{BadSection}
 use Rattle.solid_model.specs.Drawings.{same_view}
 use Rattle.solid_model.specs.Line.{Line}
 use Rattle.dxf_groups.specs.Pairs.{TextPair, Pairs, pairs_of}
 use Rattle.dxf_entities.specs.declared.facts.Facts.{Facts}
+use Rattle.dxf_entities.specs.declared.layer.Cut.{Cut}
 use Rattle.dxf_entities.specs.declared.layer.Layer.{Layer}
 use Rattle.dxf_entities.specs.declared.layer_line.LayerLine.{LayerLine}
 use Rattle.dxf_entities.specs.declared.linetype.Linetype.{Linetype}
 use Rattle.dxf_entities.specs.declared.linetype.Linetype.TheVariants.{Continuous}
+use Rattle.dxf_entities.specs.declared.named.Named.{Named}
+use Rattle.dxf_entities.specs.declared.named.Named.TheVariants.{Unread, Shows, Misnamed}
 use Rattle.dxf_entities.specs.declared.section.Section.{Section}
 use Rattle.dxf_entities.specs.declared.section.Section.TheVariants.{Tables, Entities, Other}
 use Rattle.dxf_entities.specs.declared.place.Place.{Place}
@@ -20,7 +24,7 @@ use Rattle.dxf_entities.specs.Steps.{◌>>=◌}
 use Rattle.dxf_entities.specs.Entries.{Entry, has_code, before_entries, entries_of, own_pairs, first_value}
 use Rattle.dxf_entities.specs.Judging.{facts_of, judged}
 use Rattle.dxf_entities.specs.Forms.{FormParts, three_views}
-use Rattle.dxf_entities.specs.Names.{is_name, layer_on, linetype_of, section_of}
+use Rattle.dxf_entities.specs.Names.{is_main, is_name, layer_on, linetype_of, section_of}
 
 -- how a file is read, in which form, and how far: where that is, which linetypes the layers have so far,
 -- and the lines kept so far
@@ -47,30 +51,41 @@ opened [] s = Ok (record s { place = Unnamed })
 opened (p ∷ ps) s = if has_code 2 p then Ok (record s { place = Inside (section_of p.value) })
     else Err (BadSection p.line)
 
--- two names of one layer
+-- two layers show the same
+abbrev pub same_truth : Bool → Bool → Bool
+same_truth a b = if a then b else not b
+
+abbrev pub same_cut : Option Cut → Option Cut → Bool
+same_cut None None = true
+same_cut None (Some d) = false
+same_cut (Some c) None = false
+same_cut (Some c) (Some d) = int_eq c.at d.at && same_truth c.area d.area
+
 abbrev pub same_layer : Layer → Layer → Bool
-same_layer a b = same_view a.view b.view && (if a.opposite then b.opposite else not b.opposite)
+same_layer a b = same_view a.view b.view && (same_truth a.opposite b.opposite && same_cut a.cut b.cut)
 
 -- the name of a layer is this one's
-abbrev pub is_layer : Layer → Option (Option Layer) → Bool
-is_layer l (Some (Some m)) = same_layer l m
-is_layer l _ = false
+abbrev pub is_layer : Layer → Option Named → Bool
+is_layer l None = false
+is_layer l (Some Unread) = false
+is_layer l (Some (Shows m)) = same_layer l m
+is_layer l (Some Misnamed) = false
 
 -- the layers, with one of this name and linetype, CONTINUOUS where it has none; the first of its name
 -- counts
-abbrev pub layers_with : Option (Option Layer) → Option Linetype → (Layer → Option Linetype)
+abbrev pub layers_with : Option Named → Option Linetype → (Layer → Option Linetype)
     → Layer → Option Linetype
 layers_with name linetype layers l = option_or (layers l)
     (if is_layer l name then Some (unwrap_or linetype Continuous) else None)
 
-abbrev pub with_layer : Option (Option Layer) → Option Linetype → Progress → Progress
+abbrev pub with_layer : Option Named → Option Linetype → Progress → Progress
 with_layer name linetype s = record s { layers = layers_with name linetype s.layers }
 
 -- the layer that an entry of TABLES gives, where it is one
 abbrev pub layer_added : Entry → Progress → Progress
 layer_added e s = let own = own_pairs false e.pairs in
     if is_name (codes "LAYER") e.name
-    then with_layer (option_map (layer_on s.form.six) (first_value 2 own))
+    then with_layer (option_map (layer_on s.form) (first_value 2 own))
     (option_map linetype_of (first_value 6 own)) s
     else s
 
@@ -121,13 +136,16 @@ pairs_read form ps = between (before_entries ps.pairs) (nothing_read form)
 unfoldable pub text_read : FormParts → List ℕ → Result (List LayerLine) Fault
 text_read form text = pairs_read form (pairs_of text)
 
--- of lines those of the views, or those of the further views opposite to them
-abbrev pub lines_on : Bool → List LayerLine → List Line
-lines_on opposite ls = map (λ l. l.line) (filter (λ l. if opposite then l.opposite else not l.opposite) ls)
+-- of lines those of the three main views, and those of all other layers with these
+abbrev pub main_lines : List LayerLine → List Line
+main_lines ls = map (λ l. l.line) (filter (λ l. is_main l.layer) ls)
+
+abbrev pub other_lines : List LayerLine → List LayerLine
+other_lines ls = filter (λ l. not (is_main l.layer)) ls
 
 -- the lines of the three views alone, pair by pair
 abbrev pub main_read : ℕ → Pairs → Result (List Line) Fault
-main_read decimals ps = pairs_read (three_views decimals) ps >>= λ ls. Ok (lines_on false ls)
+main_read decimals ps = pairs_read (three_views decimals) ps >>= λ ls. Ok (main_lines ls)
 
 -- the lines of the three views that are kept of a text that is read with so many decimals, in its order,
 -- or its first fault

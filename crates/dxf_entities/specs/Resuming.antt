@@ -2,15 +2,15 @@
 use Rattle.std.specs.Prelude.{ℕ, Bool, true, false, not, List, [], ◌∷◌, Option, Some, None, Result, Ok, codes, if◌then◌else◌}
 use Rattle.std.specs.Option.{option_or}
 use Rattle.solid_model.specs.declared.fault.Fault.{Fault}
-use Rattle.solid_model.specs.declared.frame.View.{View}
-use Rattle.solid_model.specs.declared.frame.View.TheVariants.{Front, Top, Side}
 use Rattle.dxf_groups.specs.Pairs.{TextPair}
 use Rattle.dxf_entities.specs.declared.facts.Facts.{Facts}
 use Rattle.dxf_entities.specs.declared.layer_facts.LayerFacts.{LayerFacts}
 use Rattle.dxf_entities.specs.declared.layer.Layer.{Layer as ReadLayer}
 use Rattle.dxf_entities.specs.declared.layer_line.LayerLine.{LayerLine}
+use Rattle.dxf_entities.specs.declared.layers.LayerEntry.{LayerEntry}
 use Rattle.dxf_entities.specs.declared.layers.Layers.{Layers}
-use Rattle.dxf_entities.specs.declared.layers.ViewLayers.{ViewLayers}
+use Rattle.dxf_entities.specs.declared.named.Named.{Named}
+use Rattle.dxf_entities.specs.declared.named.Named.TheVariants.{Unread, Shows, Misnamed}
 use Rattle.dxf_entities.specs.declared.kind.Kind.{Kind}
 use Rattle.dxf_entities.specs.declared.kind.Kind.TheVariants as kind
 use Rattle.dxf_entities.specs.declared.linetype.Linetype.{Linetype}
@@ -27,7 +27,7 @@ use Rattle.dxf_entities.specs.Entries.{has_code, before_entries, entries_of, ope
 use Rattle.dxf_entities.specs.Judging.{is_one}
 use Rattle.dxf_entities.specs.Forms.{FormParts}
 use Rattle.dxf_entities.specs.Names.{is_name, layer_on, linetype_of, kind_of}
-use Rattle.dxf_entities.specs.Reading.{Progress, between, opened, with_layer, entity_read, is_ended, entries_read}
+use Rattle.dxf_entities.specs.Reading.{Progress, between, opened, same_layer, with_layer, entity_read, is_ended, entries_read}
 
 -- what is known, or else what a pair with this code tells
 abbrev pub or_first : {A : Type 0} → ℕ → (List ℕ → A) → TextPair → Option A → Option A
@@ -37,16 +37,16 @@ or_first code meaning p known =
 -- what counts of an entity, with one more pair of its own
 abbrev pub with_fact : FormParts → TextPair → Facts → Facts
 with_fact form p f = record f {
-  layer = or_first 8 (layer_on form.six) p f.layer;
+  layer = or_first 8 (layer_on form) p f.layer;
   paper = or_first 67 is_one p f.paper;
   linetype = or_first 6 linetype_of p f.linetype;
   shape = more_shape form.decimals f.line p f.shape;
 }
 
 -- what counts of a layer's entry, with one more pair of its own
-abbrev pub with_layer_fact : Bool → TextPair → LayerFacts → LayerFacts
-with_layer_fact six p f = record {
-  name = or_first 2 (layer_on six) p f.name;
+abbrev pub with_layer_fact : FormParts → TextPair → LayerFacts → LayerFacts
+with_layer_fact form p f = record {
+  name = or_first 2 (layer_on form) p f.name;
   linetype = or_first 6 linetype_of p f.linetype;
 }
 
@@ -72,21 +72,13 @@ begun_facts p = record {
   shape = Ok (begun_shape (kind_of p.value));
 }
 
--- the linetypes of the views' layers
-abbrev pub view_linetype : ViewLayers → View → Option Linetype
-view_linetype l Front = l.front
-view_linetype l Top = l.top
-view_linetype l Side = l.side
+-- the linetype of a layer: the first entry of the layer counts
+abbrev pub entry_linetype : List LayerEntry → ReadLayer → Option Linetype
+entry_linetype [] l = None
+entry_linetype (e ∷ es) l = if same_layer l e.layer then Some e.linetype else entry_linetype es l
 
--- with one of a view's layer, if that has none
-abbrev pub with_linetype : View → Linetype → ViewLayers → ViewLayers
-with_linetype Front linetype l = record l { front = option_or l.front (Some linetype) }
-with_linetype Top linetype l = record l { top = option_or l.top (Some linetype) }
-with_linetype Side linetype l = record l { side = option_or l.side (Some linetype) }
-
--- the linetypes of the layers
 abbrev pub layer_linetype : Layers → ReadLayer → Option Linetype
-layer_linetype ls l = view_linetype (if l.opposite then ls.further else ls.main) l.view
+layer_linetype ls l = entry_linetype ls.entries.items l
 
 -- how far a reader has read, but for the entry that is open
 abbrev pub progress_of : Reader → Progress
@@ -112,15 +104,16 @@ opened_entry Entities p = opened_entity p (kind_of p.value)
 opened_entry Other p = Passed
 
 -- an entity is passed over where it stands on a layer that isn't read
-abbrev pub unless_elsewhere : Option (Option ReadLayer) → Facts → Open
+abbrev pub unless_elsewhere : Option Named → Facts → Open
 unless_elsewhere None f = Entity f
-unless_elsewhere (Some None) f = Passed
-unless_elsewhere (Some (Some layer)) f = Entity f
+unless_elsewhere (Some Unread) f = Passed
+unless_elsewhere (Some (Shows layer)) f = Entity f
+unless_elsewhere (Some Misnamed) f = Entity f
 
 -- an open entry with one more pair of its own
 abbrev pub with_own_pair : FormParts → TextPair → Open → Open
 with_own_pair form p Passed = Passed
-with_own_pair form p (Layer f) = Layer (with_layer_fact form.six p f)
+with_own_pair form p (Layer f) = Layer (with_layer_fact form p f)
 with_own_pair form p (Entity f) =
     let more = with_fact form p f in unless_elsewhere more.layer more
 
@@ -146,7 +139,7 @@ fact_taken p r = record r {
 abbrev pub entry_closed : Open → Bool → List TextPair → Progress → Result Progress Fault
 entry_closed Passed inside ps s = Ok s
 entry_closed (Layer f) inside ps s =
-    let all = with_own (with_layer_fact s.form.six) inside ps f in Ok (with_layer all.name all.linetype s)
+    let all = with_own (with_layer_fact s.form) inside ps f in Ok (with_layer all.name all.linetype s)
 entry_closed (Entity f) inside ps s = entity_read (with_own (with_fact s.form) inside ps f) s
 
 -- the open entry is closed

@@ -86,10 +86,30 @@ lines_of_further_views = record {
   ending = Ok 91;
 }
 
--- an arc on this layer
-abbrev pub arc_on : List ℕ → Pairs
-arc_on layer = record {
+-- an entity of this kind, without any other pair, on this layer
+abbrev pub entity_on : List ℕ → List ℕ → Pairs
+entity_on kind layer = record {
   pairs = section_at 1 (codes "ENTITIES")
-      ++ (pair_on 5 (pos 0) (codes "ARC") ∷ pair_on 7 (pos 8) layer ∷ end_of_section 9);
+      ++ (pair_on 5 (pos 0) kind ∷ pair_on 7 (pos 8) layer ∷ end_of_section 9);
   ending = Ok 11;
+}
+
+-- a line on this layer that would be oblique, with these pairs more
+abbrev pub oblique_on : List ℕ → List TextPair → Pairs
+oblique_on layer more = record {
+  pairs = section_at 1 (codes "ENTITIES") ++ (line_on layer 5 more (codes "1") (codes "2") ++ end_of_section 23);
+  ending = Ok 25;
+}
+
+-- a line on FRONT, two of one section, one of an area, and one of a section whose linetype is HIDDEN
+abbrev pub lines_of_sections : Pairs
+lines_of_sections = record {
+  pairs = hidden_on (codes "Area_Rear_7.0") 1 ++ (section_at 13 (codes "ENTITIES")
+      ++ (line_from 17 [] (codes "0") (codes "4")
+      ++ (line_on (codes "section_FRONT_1") 35 [] (codes "1") (codes "0")
+      ++ (line_on (codes "Section_Front_1.0") 53 [] (codes "2") (codes "0")
+      ++ (line_on (codes "AREA_LEFT_03") 71 [] (codes "0") (codes "2")
+      ++ (line_on (codes "SECTION_TOP_2") 89 (pair_on 93 (pos 6) (codes "Dashed") ∷ []) (codes "1") (codes "0")
+      ++ (line_on (codes "AREA_REAR_7") 107 [] (codes "1") (codes "0") ++ end_of_section 125)))))));
+  ending = Ok 127;
 }

@@ -43,7 +43,7 @@ fn push_lines(
     let mut from = first;
     for to in rest {
         lines.push(LayerLine {
-            opposite: pen.layer.opposite,
+            layer: pen.layer,
             line: SheetLine {
                 view: pen.layer.view,
                 style: pen.style,

@@ -12,6 +12,7 @@ use crate::layer::Layer;
 use crate::layer_line::LayerLine;
 use crate::layers::Layers;
 use crate::linetype::{Linetype, first_linetype};
+use crate::named::Named;
 use crate::names::first_layer;
 use crate::pen::Pen;
 use crate::shape::{Shape, take_more};
@@ -25,8 +26,8 @@ pub struct Facts {
     /// The number of the line at which it begins.
     pub line: u32,
     pub kind: Kind,
-    /// Its layer, where that is told and is one that is read.
-    pub layer: Option<Option<Layer>>,
+    /// What the name of its layer tells, where there is one.
+    pub layer: Option<Named>,
     /// Whether it stands in paper space, where that is told.
     pub paper: Option<bool>,
     pub linetype: Option<Linetype>,
@@ -75,32 +76,28 @@ impl Facts {
     pub fn take(&mut self, pair: &Pair, value: &[u8], form: ReadingForm) -> Result<(), Memory>
         ensures { OnOk result (self.new ≡ with_fact form (text_pair pair.now value.now) self.old) }
     {
-        self.layer = first_layer(self.layer, 8, form.six(), pair, value);
+        self.layer = first_layer(self.layer, 8, form, pair, value);
         self.paper = first_paper(self.paper, pair, value);
         self.linetype = first_linetype(self.linetype, pair, value);
         take_more(&mut self.shape, self.line, pair, value, form.decimals())
     }
 
     /// How the lines of an entity on this layer are drawn, where that has this linetype; None for
-    /// centre lines.
+    /// centre lines, and for hidden ones of a section or an area.
     fn pen_in(&self, layer: Layer, own: Option<Linetype>) -> Result<Option<Pen>, Fault>
         ensures pen { result ≡ pen_in own layer self.now }
         ensures drawn { IfOk result (λ pen. IfSome pen (λ p. p.style ≢ Blank)) }
     {
         let linetype = self.linetype.unwrap_or(Linetype::ByLayer).or_of_layer(own);
-        match linetype {
+        let style = match linetype {
             // A layer's own BYLAYER counts as CONTINUOUS.
-            Linetype::Continuous | Linetype::ByLayer => Ok(Some(Pen {
-                layer,
-                style: Style::Solid,
-            })),
-            Linetype::Hidden => Ok(Some(Pen {
-                layer,
-                style: Style::Dashed,
-            })),
-            Linetype::Center => Ok(None),
-            Linetype::Unlisted => Err(Fault::Linetype { line: self.line }),
-        }
+            Linetype::Continuous | Linetype::ByLayer => Style::Solid,
+            // A section or an area shows no hidden edge.
+            Linetype::Hidden if layer.cut.is_none() => Style::Dashed,
+            Linetype::Hidden | Linetype::Center => return Ok(None),
+            Linetype::Unlisted => return Err(Fault::Linetype { line: self.line }),
+        };
+        Ok(Some(Pen { layer, style }))
     }
 
     /// How the entity is drawn, where the layers have these linetypes; None where it is passed
@@ -110,16 +107,17 @@ impl Facts {
         ensures pen { result ≡ drawn_by (layer_linetype layers.now) self.now }
         ensures drawn { IfOk result (λ pen. IfSome pen (λ p. p.style ≢ Blank)) }
     {
-        let Some(Some(layer)) = self.layer else {
-            return Ok(None);
-        };
-        if self.paper == Some(true) {
+        let name = self.layer.unwrap_or(Named::Unread);
+        if self.paper == Some(true) || self.kind == Kind::Other {
             return Ok(None);
         }
-        match self.kind {
-            Kind::Line | Kind::Polyline => self.pen_in(layer, layers.of(layer)),
-            Kind::Geometry => Err(Fault::Geometry { line: self.line }),
-            Kind::Other => Ok(None),
+        match name {
+            Named::Unread => Ok(None),
+            Named::Shows(layer) if self.kind == Kind::Geometry => Err(Fault::Geometry {
+                line: self.line,
+            }),
+            Named::Shows(layer) => self.pen_in(layer, layers.of(layer)),
+            Named::Misnamed => Err(Fault::SectionName { line: self.line }),
         }
     }
 

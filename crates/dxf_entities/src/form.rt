@@ -1,17 +1,17 @@
 //! How a file is read.
 
-ghost use Rattle.std.specs.Prelude.{◌≡◌, ◌≤◌, false, true};
+ghost use Rattle.std.specs.Prelude.{◌≡◌, ◌≤◌};
 ghost use Rattle.solid_model.specs.Limits.{most_decimals};
-ghost use Rattle.dxf_entities.specs.Forms.{six_views, three_views};
+ghost use Rattle.dxf_entities.specs.Forms.{six_views, three_views, with_sections};
 
+use crate::layer_set::LayerSet;
 use std::marker::Model;
 
-/// How a file is read: with how many decimals its coordinates are, at most 6, and whether the layers
-/// of the further views are read too.
+/// How a file is read: with how many decimals its coordinates are, at most 6, and which layers.
 #[derive(Clone, Copy)]
 pub struct ReadingForm {
     decimals: u8,
-    six: bool,
+    layers: LayerSet,
 }
 
 impl Model for ReadingForm {
@@ -21,11 +21,11 @@ impl Model for ReadingForm {
 
     ghost Value = { FormParts };
 
-    ghost view = { λ f. record { decimals = f.decimals; six = f.six } };
+    ghost view = { λ f. record { decimals = f.decimals; layers = f.layers } };
 
     ghost invariant = { λ f. f.decimals ≤ most_decimals };
 
-    ghost inverse = { λ f. record { decimals = f.decimals; six = f.six } };
+    ghost inverse = { λ f. record { decimals = f.decimals; layers = f.layers } };
 }
 
 impl ReadingForm {
@@ -36,7 +36,7 @@ impl ReadingForm {
     {
         ReadingForm {
             decimals,
-            six: false,
+            layers: LayerSet::Main,
         }
     }
 
@@ -47,7 +47,18 @@ impl ReadingForm {
     {
         ReadingForm {
             decimals,
-            six: true,
+            layers: LayerSet::Six,
+        }
+    }
+
+    /// With those of all six views, and of sections and areas. At most 6 decimals can be read.
+    pub fn with_sections(decimals: u8) -> ReadingForm
+        requires { decimals ≤ most_decimals }
+        ensures { result ≡ with_sections decimals }
+    {
+        ReadingForm {
+            decimals,
+            layers: LayerSet::Sections,
         }
     }
 
@@ -59,10 +70,10 @@ impl ReadingForm {
         self.decimals
     }
 
-    /// Whether the layers of the further views are read too.
-    pub fn six(self) -> bool
-        ensures { result ≡ self.six }
+    /// Which layers are read.
+    pub fn layers(self) -> LayerSet
+        ensures { result ≡ self.layers }
     {
-        self.six
+        self.layers
     }
 }

@@ -1,100 +1,64 @@
-//! The layers of the views.
+//! The linetypes of layers.
 
-ghost use Rattle.std.specs.Prelude.{◌≡◌};
+ghost use Rattle.std.specs.Prelude.{◌≡◌, OnOk};
 ghost use Rattle.dxf_entities.specs.declared.layer.Layer.{Layer};
 ghost use Rattle.dxf_entities.specs.Reading.{layers_with};
-ghost use Rattle.dxf_entities.specs.Resuming.{layer_linetype, view_linetype, with_linetype};
+ghost use Rattle.dxf_entities.specs.Resuming.{layer_linetype};
 
 use crate::layer::Layer;
 use crate::layer_facts::LayerFacts;
 use crate::linetype::Linetype;
-use solid_model::View;
+use crate::named::Named;
+use solid_model::Memory;
+use std::alloc::Global;
 
-/// The linetypes that the entries so far give the layers of three views.
+/// The linetype that an entry gives a layer.
 #[derive(Clone, Copy)]
-pub struct ViewLayers {
-    pub front: Option<Linetype>,
-    pub top: Option<Linetype>,
-    pub side: Option<Linetype>,
+pub struct LayerEntry {
+    pub layer: Layer,
+    pub linetype: Linetype,
 }
 
-/// The same of the main views, and of the further views opposite to them.
-#[derive(Clone, Copy)]
+/// The linetypes that the entries so far give layers; each layer has one.
+#[derive(Drop)]
 pub struct Layers {
-    pub main: ViewLayers,
-    pub further: ViewLayers,
-}
-
-impl ViewLayers {
-    /// None has one.
-    pub const NONE: ViewLayers = ViewLayers {
-        front: None,
-        top: None,
-        side: None,
-    };
-
-    /// The linetype of a view's layer.
-    pub fn of(&self, view: View) -> Option<Linetype>
-        ensures { result ≡ view_linetype self.now view }
-    {
-        match view {
-            View::Front => self.front,
-            View::Top => self.top,
-            View::Side => self.side,
-        }
-    }
-
-    /// These with one of a view's layer, if that has none.
-    pub fn with(self, view: View, linetype: Linetype) -> ViewLayers
-        ensures { result ≡ with_linetype view linetype self }
-    {
-        let mut layers = self;
-        match view {
-            View::Front => layers.front = layers.front.or(Some(linetype)),
-            View::Top => layers.top = layers.top.or(Some(linetype)),
-            View::Side => layers.side = layers.side.or(Some(linetype)),
-        }
-        layers
-    }
+    pub entries: Vec<LayerEntry>,
 }
 
 impl Layers {
     /// None has one.
-    pub const NONE: Layers = Layers {
-        main: ViewLayers::NONE,
-        further: ViewLayers::NONE,
-    };
+    pub fn new(alloc: Global) -> Layers
+        ensures { (l : Layer) → layer_linetype result l ≡ None }
+    {
+        Layers {
+            entries: Vec::new(alloc),
+        }
+    }
 
     /// The linetype of a layer.
     pub fn of(&self, layer: Layer) -> Option<Linetype>
         ensures { result ≡ layer_linetype self.now layer }
     {
-        if layer.opposite {
-            self.further.of(layer.view)
-        } else {
-            self.main.of(layer.view)
+        for entry in &self.entries {
+            if entry.layer == layer {
+                return Some(entry.linetype);
+            }
         }
+        None
     }
 
-    /// These with what a layer's entry tells; the first entry of a layer counts.
-    pub fn with(self, entry: LayerFacts) -> Layers
-        ensures { (l : Layer) → layer_linetype result l
-            ≡ layers_with entry.name entry.linetype (layer_linetype self) l }
+    /// Adds what a layer's entry tells; the first entry of a layer counts.
+    pub fn add(&mut self, entry: LayerFacts) -> Result<(), Memory>
+        ensures { OnOk result ((l : Layer) → layer_linetype self.new l
+            ≡ layers_with entry.name entry.linetype (layer_linetype self.old) l) }
     {
-        let Some(layer) = entry.name.flatten() else {
-            return self;
+        let Some(Named::Shows(layer)) = entry.name else {
+            return Ok(());
         };
-        let linetype = entry.linetype.unwrap_or(Linetype::Continuous);
-        if layer.opposite {
-            Layers {
-                further: self.further.with(layer.view, linetype),
-                ..self
-            }
-        } else {
-            Layers {
-                main: self.main.with(layer.view, linetype),
-                ..self
-            }
+        if self.of(layer).is_none() {
+            let linetype = entry.linetype.unwrap_or(Linetype::Continuous);
+            self.entries.push(LayerEntry { layer, linetype })?;
         }
+        Ok(())
     }
 }

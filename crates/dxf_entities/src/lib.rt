@@ -6,7 +6,6 @@ mod codes;
 mod coordinates;
 mod counting;
 mod drawn_lines;
-mod extra;
 mod facts;
 mod form;
 mod kind;
@@ -14,8 +13,10 @@ mod laws;
 mod layer;
 mod layer_facts;
 mod layer_line;
+mod layer_set;
 mod layers;
 mod linetype;
+mod named;
 mod names;
 mod open;
 mod outline;
@@ -28,11 +29,14 @@ mod shape;
 mod values;
 mod vertex;
 
-pub use extra::{Extra, ExtraLine};
 pub use form::ReadingForm;
 pub use laws::{
-    read_lines_are_kept, small_files, small_files_of_six_views, small_polylines,
+    read_lines_are_kept, six_views_have_no_cut, small_files, small_files_of_sections,
+    small_files_of_six_views, small_names_of_sections, small_polylines,
     three_views_have_no_further_line,
 };
+pub use layer::{Cut, Layer};
+pub use layer_line::LayerLine;
+pub use layer_set::LayerSet;
 pub use reading::{entities, entities_in, entities_six};
 pub use solid_model::SheetLine;

@@ -8,6 +8,7 @@ use crate::facts::Facts;
 use crate::form::ReadingForm;
 use crate::kind::{Kind, kind_of};
 use crate::layer_facts::LayerFacts;
+use crate::named::Named;
 use crate::names::is_name;
 use crate::section::Section;
 use dxf_groups::Pair;
@@ -47,10 +48,10 @@ impl Open {
     {
         match self {
             Open::Passed => (),
-            Open::Layer(facts) => *facts = facts.with(form.six(), pair, value),
+            Open::Layer(facts) => *facts = facts.with(form, pair, value),
             Open::Entity(facts) => {
                 facts.take(pair, value, form)?;
-                if let Some(None) = facts.layer {
+                if let Some(Named::Unread) = facts.layer {
                     *self = Open::Passed;
                 }
             }

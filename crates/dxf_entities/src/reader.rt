@@ -66,7 +66,7 @@ impl Reader {
             alloc,
             form,
             place: Place::Outside,
-            layers: Layers::NONE,
+            layers: Layers::new(alloc),
             lines: Vec::new(alloc),
             entry: Open::Passed,
             in_application: false,
@@ -82,7 +82,7 @@ impl Reader {
     {
         match &mut self.entry {
             Open::Passed => (),
-            Open::Layer(layer) => self.layers = self.layers.with(*layer),
+            Open::Layer(layer) => self.layers.add(*layer)?,
             Open::Entity(facts) => {
                 if let Some(pen) = facts.pen(&self.layers)? {
                     facts.add_lines(pen, &mut self.lines)?;

@@ -1,16 +1,15 @@
 //! The lines that a file keeps.
 
-ghost use Rattle.std.specs.Prelude.{◌≡◌, ◌≤◌, false, map, Ok, Err, IfOk, OnOk, IsErrOf};
+ghost use Rattle.std.specs.Prelude.{◌≡◌, ◌≤◌, Ok, Err, IfOk, OnOk, IsErrOf};
 ghost use Rattle.solid_model.specs.declared.fault.Fault.{Fault};
 ghost use Rattle.solid_model.specs.declared.fault.Refused.TheVariants as refused;
 ghost use Rattle.solid_model.specs.Limits.{most_decimals};
 ghost use Rattle.dxf_groups.specs.Groups.{IsReadThrough};
 ghost use Rattle.dxf_groups.specs.Pairs.{pairs_of};
-ghost use Rattle.dxf_entities.specs.Extras.{extra_line, extra_lines, lines_read};
+ghost use Rattle.dxf_entities.specs.Apart.{lines_read};
 ghost use Rattle.dxf_entities.specs.Forms.{six_views};
-ghost use Rattle.dxf_entities.specs.Reading.{lines_on, read_of, text_read};
+ghost use Rattle.dxf_entities.specs.Reading.{main_lines, other_lines, read_of, text_read};
 
-use crate::extra::{ExtraLine, opposite_to};
 use crate::form::ReadingForm;
 use crate::layer_line::LayerLine;
 use crate::reader::Reader;
@@ -53,15 +52,18 @@ pub fn entities(alloc: Global, groups: &mut Groups, decimals: u8) -> Result<Vec<
     Ok(own)
 }
 
-/// The same of a file that is read in this form: the lines of the three views and those of the
-/// further ones, each in the file's order. Where six views are read, an entity counts on the layers
-/// LEFT, REAR and BOTTOM too, and `TooManyLines` counts the lines of all six; else there is no line
-/// of a further view.
+/// The same of a file that is read in this form: the lines of the three main views and those of all
+/// other layers, each in the file's order; `TooManyLines` counts both. Where six views are read, an
+/// entity counts on the layers LEFT, REAR and BOTTOM too. Where sections are too, it counts on
+/// SECTION_VIEW_N and AREA_VIEW_N, where VIEW is one of the six layers and N a coordinate that is
+/// read as one of a line is; there an entity of HIDDEN or DASHED lines is passed over. One that
+/// stands on another layer which begins with SECTION_ or AREA_ has the fault `SectionName`, before
+/// its others.
 pub fn entities_in(
     alloc: Global,
     groups: &mut Groups,
     form: ReadingForm,
-) -> Result<(Vec<SheetLine>, Vec<ExtraLine>), Refused>
+) -> Result<(Vec<SheetLine>, Vec<LayerLine>), Refused>
     requires { groups.old.left ≡ pairs_of groups.old.text }
     ensures lines { IfOk result (λ lines. lines_read form groups.old.text
         ≡ Ok (lines.0.items, lines.1.items)) }
@@ -71,8 +73,8 @@ pub fn entities_in(
 {
     let lines = layer_lines(alloc, groups, form)?;
     let main = main_lines(alloc, &lines)?;
-    let further = extra_lines(alloc, &lines)?;
-    Ok((main, further))
+    let other = other_lines(alloc, &lines)?;
+    Ok((main, other))
 }
 
 /// The same where all six views are read.
@@ -80,7 +82,7 @@ pub fn entities_six(
     alloc: Global,
     groups: &mut Groups,
     decimals: u8,
-) -> Result<(Vec<SheetLine>, Vec<ExtraLine>), Refused>
+) -> Result<(Vec<SheetLine>, Vec<LayerLine>), Refused>
     requires fresh { groups.old.left ≡ pairs_of groups.old.text }
     requires decimals { decimals ≤ most_decimals }
     ensures lines { IfOk result (λ lines. lines_read (six_views decimals) groups.old.text
@@ -112,38 +114,28 @@ fn layer_lines(
     reader.finish(end)
 }
 
-/// Of lines those of the three views.
+/// Of lines those of the three main views.
 fn main_lines(alloc: Global, lines: &[LayerLine]) -> Result<Vec<SheetLine>, Memory>
-    ensures { IfOk result (λ own. own.items ≡ lines_on false lines.now) }
+    ensures { IfOk result (λ own. own.items ≡ main_lines lines.now) }
 {
     let mut own = Vec::new(alloc);
     for line in lines {
-        if !line.opposite {
+        if line.layer.is_main() {
             own.push(line.line)?;
         }
     }
     Ok(own)
 }
 
-/// A line of a further view, told as one of the view opposite to it.
-fn extra_line(line: SheetLine) -> ExtraLine
-    ensures { result ≡ extra_line line }
+/// Of lines those of all other layers.
+fn other_lines(alloc: Global, lines: &[LayerLine]) -> Result<Vec<LayerLine>, Memory>
+    ensures { IfOk result (λ other. other.items ≡ other_lines lines.now) }
 {
-    ExtraLine {
-        of: opposite_to(line.view),
-        line,
-    }
-}
-
-/// Of lines those of further views.
-fn extra_lines(alloc: Global, lines: &[LayerLine]) -> Result<Vec<ExtraLine>, Memory>
-    ensures { IfOk result (λ extra. extra.items ≡ extra_lines lines.now) }
-{
-    let mut extra = Vec::new(alloc);
+    let mut other = Vec::new(alloc);
     for line in lines {
-        if line.opposite {
-            extra.push(extra_line(line.line))?;
+        if !line.layer.is_main() {
+            other.push(*line)?;
         }
     }
-    Ok(extra)
+    Ok(other)
 }

@@ -1,18 +1,20 @@
 -- When an input has a fault, and when it has none.
-use Rattle.std.proofs.Common.{◌≡◌, refl, inl, inr, ◌≤◌, Bool, true, false, List, length, Result, Ok, Err, sym, subst, ap, ◌∙◌, arith}
-use Rattle.dxf_entities.specs.declared.extra.ExtraLine.{ExtraLine}
-use Rattle.dxf_entities.specs.Extras.{lines_read}
+use Rattle.std.proofs.Common.{◌≡◌, refl, inl, inr, ◌≤◌, Bool, true, false, List, length, Some, None, Result, Ok, Err, sym, subst, ap, ◌∙◌, arith}
+use Rattle.dxf_entities.specs.declared.layer_line.LayerLine.{LayerLine}
+use Rattle.dxf_entities.specs.Apart.{lines_read}
 use Rattle.dxf_entities.proofs.TextFaults.{reads_are_not_long}
-use Rattle.file_problem.specs.Inputs.{HasFineAxis, Input, IsFaultAfter, IsFaultOfLines, IsFileFault, HasNoFault, HasProblem, form_of}
+use Rattle.file_problem.specs.Inputs.{HasFineAxis, HasNoCut, Input, IsFaultAfter, IsFaultOfLines, IsFileFault, HasNoFault, HasProblem, form_of}
+use Rattle.file_problem.specs.Cuts.{first_uncut}
 use Rattle.file_problem.proofs.Grids.{one_too_fine, none_too_fine, one_grid, coordinates_from_grid}
 use Rattle.file_problem.proofs.Problems.{one_block_count}
 use Rattle.solid_model.specs.declared.fault.Fault.{Fault}
-use Rattle.solid_model.specs.declared.fault.Fault.TheVariants.{EmptyView, TooFine, TooLong, TooManyBlocks}
+use Rattle.solid_model.specs.declared.fault.Fault.TheVariants.{EmptyView, NoCut, TooFine, TooLong, TooManyBlocks}
 use Rattle.solid_model.specs.declared.frame.View.{View}
 use Rattle.solid_model.specs.declared.frame.View.TheVariants.{Front, Top, Side}
-use Rattle.solid_model.specs.Blocks.{ProblemParts}
+use Rattle.solid_model.specs.Blocks.{IsBlocksOf, ProblemParts}
 use Rattle.solid_model.specs.Drawings.{drawing_of, IsEmptyView, IsShown, IsFirstEmptyView, LacksView}
 use Rattle.solid_model.specs.Line.{Line}
+use Rattle.solid_model.specs.Limits.{most_blocks}
 use Rattle.solid_model.specs.Panels.{GridParts, coordinates_of, IsGridOf}
 
 -- the first empty view is empty
@@ -64,10 +66,38 @@ one_lines_fault two ls f g (inr (inr (shown, grid, is_grid, count, (numbers, are
     let same = one_grid (drawing_of ls) grid other is_grid is_other in
     is ∙ ap TooManyBlocks (one_block_count grid other same numbers others count count_too are are_too).1 ∙ sym is_too
 
+-- lines with a problem have no fault
+module _ (two : Bool) (ls : List Line) (p : ProblemParts) (shown : IsShown two ls) (grid : IsGridOf (drawing_of ls) p.grid)
+    (blocks : IsBlocksOf p.grid p.blocks) (few : p.blocks.count ≤ most_blocks) where
+  no_lines_fault : (f : Fault) → IsFaultOfLines two ls f → ⊥
+  no_lines_fault f (inl empty) = shown_not_lacked two ls empty.0 shown empty.1
+  no_lines_fault f (inr (inl fine)) = not_fine two ls p.grid grid f fine
+  no_lines_fault f (inr (inr (shown_too, other, is_other, many, (others, are, above), is))) =
+      let same = one_grid (drawing_of ls) other p.grid is_other grid in
+      let counted = (one_block_count other p.grid same others p.blocks.numbers many p.blocks.count are blocks.blocks).1 in
+      omega (arith, above, few, counted)
+
+-- where a plane doesn't cut they have none
+cut_no_lines_fault : (two : Bool) (ls : List Line) (others : List LayerLine) (f g : Fault) → HasNoCut two ls others g → IsFaultOfLines two ls f → ⊥
+cut_no_lines_fault two ls others f g has fault = no_lines_fault two ls has.problem has.shown has.grid has.blocks has.few f fault
+
+-- a plane of two grids of a drawing is one
+one_uncut : {A : Type 0} (m n : A) → Some m ≡ Some n → m ≡ n
+one_uncut m n e = cc
+
+one_no_cut : (two : Bool) (ls : List Line) (others : List LayerLine) (f g : Fault) → HasNoCut two ls others f → HasNoCut two ls others g → f ≡ g
+one_no_cut two ls others f g has has_too =
+    let same = one_grid (drawing_of ls) has.problem.grid has_too.problem.grid has.grid has_too.grid in
+    let line = one_uncut has.line has_too.line (sym has.first ∙ (ap (λ g. first_uncut g others) same ∙ has_too.first)) in
+    has.is ∙ (ap NoCut line ∙ sym has_too.is)
+
 -- the fault of what a file reads as is one
-one_fault_after : (two : Bool) (r : Result (List Line × List ExtraLine) Fault) (f g : Fault) → IsFaultAfter two r f → IsFaultAfter two r g → f ≡ g
+one_fault_after : (two : Bool) (r : Result (List Line × List LayerLine) Fault) (f g : Fault) → IsFaultAfter two r f → IsFaultAfter two r g → f ≡ g
 one_fault_after two (Err found) f g p q = p ∙ sym q
-one_fault_after two (Ok read) f g p q = one_lines_fault two read.0 f g p q
+one_fault_after two (Ok read) f g (inl p) (inl q) = one_lines_fault two read.0 f g p q
+one_fault_after two (Ok read) f g (inl p) (inr q) = absurd (cut_no_lines_fault two read.0 read.1 f g q p)
+one_fault_after two (Ok read) f g (inr p) (inl q) = absurd (cut_no_lines_fault two read.0 read.1 g f p q)
+one_fault_after two (Ok read) f g (inr p) (inr q) = one_no_cut two read.0 read.1 f g p q
 
 -- an input has at most one first fault
 pub one_fault : (t : Input) (f g : Fault) → IsFileFault t f → IsFileFault t g → f ≡ g
@@ -77,7 +107,7 @@ one_fault t f g (inr p) (inl q) = absurd (omega (arith, p.0, q.0))
 one_fault t f g (inr p) (inr q) = one_fault_after t.two (lines_read (form_of t) t.bytes) f g p.1 q.1
 
 -- a file that isn't too long has the fault of what it reads as
-pub file_fault : (t : Input) (r : Result (List Line × List ExtraLine) Fault) (f : Fault) → length t.bytes ≤ t.most → lines_read (form_of t) t.bytes ≡ r → IsFaultAfter t.two r f → IsFileFault t f
+pub file_fault : (t : Input) (r : Result (List Line × List LayerLine) Fault) (f : Fault) → length t.bytes ≤ t.most → lines_read (form_of t) t.bytes ≡ r → IsFaultAfter t.two r f → IsFileFault t f
 file_fault t r f short reads after = inr (short, subst (λ r. IsFaultAfter t.two r f) (sym reads) after)
 
 -- an input with a problem has no fault
@@ -85,13 +115,11 @@ pub no_fault : {t : Input} {p : ProblemParts} → HasProblem t p → HasNoFault 
 no_fault has f (inl long) = let short = has.short in absurd (omega (arith, long.0))
 no_fault {t} {p} has f (inr read) = by (subst (λ r. IsFaultAfter t.two r f) has.reads read.1)
   where
-    by : IsFaultOfLines t.two has.lines f → ⊥
-    by (inl empty) = shown_not_lacked t.two has.lines empty.0 has.shown empty.1
-    by (inr (inl fine)) = not_fine t.two has.lines p.grid has.grid f fine
-    by (inr (inr (shown, other, is_other, many, (others, are, above), is))) =
-        let same = one_grid (drawing_of has.lines) other p.grid is_other has.grid in
-        let counted = (one_block_count other p.grid same others p.blocks.numbers many p.blocks.count are has.blocks.blocks).1 in
-        let few = has.few in omega (arith, above)
+    by : IsFaultAfter t.two (Ok (has.lines, has.further)) f → ⊥
+    by (inl fault) = no_lines_fault t.two has.lines p has.shown has.grid has.blocks has.few f fault
+    by (inr uncut) =
+        let same = one_grid (drawing_of has.lines) uncut.problem.grid p.grid uncut.grid has.grid in
+        let none : Some uncut.line ≡ None = sym uncut.first ∙ (ap (λ g. first_uncut g has.further) same ∙ has.cuts) in cc
 
 -- no fault of lines is that their file is too long,
 lines_are_not_long : (two : Bool) (ls : List Line) → IsFaultOfLines two ls TooLong → ⊥
@@ -104,6 +132,7 @@ pub short_is_not_long : (t : Input) → length t.bytes ≤ t.most → IsFileFaul
 short_is_not_long t short (inl long) = absurd (omega (arith, long.0))
 short_is_not_long t short (inr read) = by (lines_read (form_of t) t.bytes) refl read.1
   where
-    by : (r : Result (List Line × List ExtraLine) Fault) → lines_read (form_of t) t.bytes ≡ r → IsFaultAfter t.two r TooLong → ⊥
+    by : (r : Result (List Line × List LayerLine) Fault) → lines_read (form_of t) t.bytes ≡ r → IsFaultAfter t.two r TooLong → ⊥
     by (Err found) is after = reads_are_not_long (form_of t) t.bytes (is ∙ ap Err (sym after))
-    by (Ok read) is after = lines_are_not_long t.two read.0 after
+    by (Ok read) is (inl lines) = lines_are_not_long t.two read.0 lines
+    by (Ok read) is (inr uncut) = let no : TooLong ≡ NoCut uncut.line = uncut.is in cc

@@ -1,6 +1,6 @@
 -- An input has one problem.
 use Rattle.std.proofs.Common.{◌≡◌, ℕ, List, Option, ap, sym, subst, ◌∙◌}
-use Rattle.dxf_entities.specs.declared.extra.ExtraLine.{ExtraLine}
+use Rattle.dxf_entities.specs.declared.layer_line.LayerLine.{LayerLine}
 use Rattle.dxf_entities.proofs.KeptLines.{lines_read_are_kept}
 use Rattle.dxf_entities.proofs.NearPoints.{ok_value}
 use Rattle.file_problem.specs.Inputs.{HasProblem, Input, form_of}
@@ -51,7 +51,7 @@ pub record AreOneProblem {t : Input} {p q : ProblemParts} (has : HasProblem t p)
 pub one_problem : {t : Input} {p q : ProblemParts} (has : HasProblem t p) (has_too : HasProblem t q) → AreOneProblem has has_too
 one_problem {t} {p} {q} has has_too =
     let read = ok_value (has.lines, has.further) (has_too.lines, has_too.further) (sym has.reads ∙ has_too.reads) in
-    let lines : has.lines ≡ has_too.lines = ap (λ (r : List Line × List ExtraLine). r.0) read in
+    let lines : has.lines ≡ has_too.lines = ap (λ (r : List Line × List LayerLine). r.0) read in
     let grid = one_grid (drawing_of has_too.lines) p.grid q.grid (subst (λ ls. IsGridOf (drawing_of ls) p.grid) lines has.grid) has_too.grid in
     let blocks = one_blocks p.grid q.grid grid p.blocks q.blocks has.blocks has_too.blocks in
-    record { lines = lines; further = ap (λ (r : List Line × List ExtraLine). r.1) read; problem = λ i. record { grid = grid i; blocks = blocks i } }
+    record { lines = lines; further = ap (λ (r : List Line × List LayerLine). r.1) read; problem = λ i. record { grid = grid i; blocks = blocks i } }

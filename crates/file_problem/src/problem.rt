@@ -15,13 +15,14 @@ ghost use Rattle.solid_model.specs.Drawings.{drawing_of, IsShown};
 ghost use Rattle.solid_model.specs.Limits.{most_blocks, most_decimals, most_file_bytes, most_text_bytes};
 ghost use Rattle.solid_model.specs.Panels.{IsGridOf};
 
+use crate::cuts::first_uncut;
 use blocks::blocks_of;
 use dxf_entities::{ReadingForm, entities_in};
 use dxf_groups::Groups;
 use further_views::{Further, further_of};
 use grid::grid_of;
 use pseudo_wire::wire_of;
-use solid_model::{Blocks, Grid, Problem, Refused, SheetLine};
+use solid_model::{Blocks, Fault, Grid, Problem, Refused, SheetLine};
 use std::alloc::Global;
 use views::drawing_of_views;
 use virtual_faces::faces_of;
@@ -63,8 +64,8 @@ fn problem_of_lines(alloc: Global, lines: &[SheetLine], two_views: bool) -> Resu
     Ok(Problem::new(grid, blocks))
 }
 
-/// The grid and the blocks of the drawing of a reader's text, which is read in this form, and its
-/// further views; or the text's first fault.
+/// The grid and the blocks of the drawing of a reader's text, which is read in this form, and what
+/// its other layers ask for; or the text's first fault. `NoCut` comes last.
 fn read(
     alloc: Global,
     groups: &mut Groups,
@@ -80,9 +81,12 @@ fn read(
         → IsFileFault (input_in form two_views most groups.old.text) fault }
     ensures through { OnOk result (IsReadThrough groups.old groups.new) }
 {
-    let (lines, extra_lines) = entities_in(alloc, groups, form)?;
+    let (lines, others) = entities_in(alloc, groups, form)?;
     let problem = problem_of_lines(alloc, lines.as_slice(), two_views)?;
-    let further = further_of(alloc, extra_lines.as_slice())?;
+    if let Some(line) = first_uncut(problem.grid(), others.as_slice()) {
+        return Err(Refused::Fault(Fault::NoCut { line }));
+    }
+    let further = further_of(alloc, others.as_slice())?;
     Ok((problem, further))
 }
 

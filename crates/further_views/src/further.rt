@@ -1,68 +1,80 @@
-//! The further views that are asked for.
+//! The views and sections that are asked for.
 
-ghost use Rattle.std.specs.Prelude.{◌≡◌, Bool, false, None, IfSome};
+ghost use Rattle.std.specs.Prelude.{Bool, IsTrue};
 ghost use Rattle.solid_model.specs.Runs.{AreRuns, runs_along};
 
-use dxf_entities::Extra;
+use dxf_entities::Layer;
 use solid_model::ViewLines;
 use std::marker::Model;
 
-/// Whether a view is asked for.
-fn is_asked(view: &Option<ViewLines>) -> bool
-    ensures none { result ≡ false → view.now ≡ None }
-    ensures runs { IfSome view.now (λ v. (upright : Bool) → AreRuns (runs_along upright v)) }
-{
-    match view {
-        Some(lines) => {
-            // Looks at its lists tell that they are lists of runs.
-            let _level = lines.level.as_slice();
-            let _upright = lines.upright.as_slice();
-            true
-        }
-        None => false,
-    }
+/// What a layer shows: the runs of its view, shifted so that its least right and its least up
+/// coordinate are 0.
+#[derive(Debug, Drop)]
+pub struct AskedView {
+    pub layer: Layer,
+    pub lines: ViewLines,
 }
 
-/// The runs of each further view that is asked for: those of the view opposite to it, shifted so
-/// that its least right and its least up coordinate are 0.
+impl Model for AskedView {
+    ghost use Rattle.further_views.specs.Further.{AskedRuns};
+
+    ghost Value = { AskedRuns };
+
+    ghost view = { λ s. record { layer = s.layer; runs = s.lines } };
+}
+
+/// It is asked for.
+fn is_asked(view: &AskedView) -> bool
+    ensures asked { IsTrue result }
+    ensures runs { (upright : Bool) → AreRuns (runs_along upright view.now.runs) }
+{
+    // Looks at its lists tell that they are lists of runs.
+    let _level = view.lines.level.as_slice();
+    let _upright = view.lines.upright.as_slice();
+    true
+}
+
+/// The layers that ask for something, each once, in the order of their first lines.
 #[derive(Debug, Drop)]
 pub struct Further {
-    pub left: Option<ViewLines>,
-    pub rear: Option<ViewLines>,
-    pub bottom: Option<ViewLines>,
+    views: Vec<AskedView>,
 }
 
 impl Model for Further {
-    ghost use Rattle.further_views.specs.Further.{FurtherParts};
+    ghost use Rattle.further_views.specs.Further.{FurtherRuns};
 
-    ghost Value = { FurtherParts };
+    ghost Value = { FurtherRuns };
 
-    ghost view = { λ s. record { left = s.left; rear = s.rear; bottom = s.bottom } };
+    ghost view = { λ s. s.views.items };
 }
 
 impl Further {
     ghost use Rattle.std.specs.Prelude.{◌≡◌, false};
-    ghost use Rattle.further_views.specs.Further.{further_runs, AsksForNone, HasRuns};
+    ghost use Rattle.further_views.specs.Further.{AsksForNone, HasRuns};
 
-    /// A further view, if it is asked for.
-    pub fn view(&self, extra: Extra) -> &Option<ViewLines>
-        ensures { result.now ≡ further_runs self.now extra }
+    /// These, for nothing.
+    pub fn new(views: Vec<AskedView>) -> Further
+        ensures { result ≡ views.items }
     {
-        match extra {
-            Extra::Left => &self.left,
-            Extra::Rear => &self.rear,
-            Extra::Bottom => &self.bottom,
-        }
+        Further { views }
     }
 
-    /// Whether some further view is asked for.
-    pub fn asks(&self) -> bool
-        ensures none { result ≡ false → AsksForNone (further_runs self.now) }
-        ensures runs { HasRuns (further_runs self.now) }
+    /// What is asked for.
+    pub fn as_slice(&self) -> &[AskedView]
+        ensures { result.now ≡ self.now }
     {
-        let left = is_asked(&self.left);
-        let rear = is_asked(&self.rear);
-        let bottom = is_asked(&self.bottom);
-        left || rear || bottom
+        self.views.as_slice()
+    }
+
+    /// Whether something is asked for.
+    pub fn asks(&self) -> bool
+        ensures none { result ≡ false → AsksForNone self.now }
+        ensures runs { HasRuns self.now }
+    {
+        let mut asks = false;
+        for view in self.views.as_slice() {
+            asks = is_asked(view);
+        }
+        asks
     }
 }

@@ -1,5 +1,5 @@
 -- The entities of the plain form of lines, and the lines that are read of them.
-use Rattle.std.proofs.Common.{◌≡◌, ◌≢◌, ◌⊎◌, inl, inr, ℕ, ◌+◌, ◌-◌, ◌<◌, ◌≤◌, true, false, ◌||◌, List, [], ◌∷◌, ◌++◌, length, map, ℤ, Some, None, Ok, int_eq, codes, refl, sym, ap, ◌∙◌, append_assoc, append-nil, length-append, le-leb, arith}
+use Rattle.std.proofs.Common.{◌≡◌, ◌≢◌, ◌⊎◌, inl, inr, ℕ, ◌+◌, ◌-◌, ◌<◌, ◌≤◌, true, ◌||◌, List, [], ◌∷◌, ◌++◌, length, map, ℤ, Some, None, Ok, int_eq, codes, refl, sym, ap, ◌∙◌, append_assoc, append-nil, length-append, le-leb, arith}
 use Rattle.std.proofs.lemmas.Bool.{or_left, or_right}
 use Rattle.std.proofs.lemmas.Bool.Decides.{Decides-int_eq}
 use Rattle.solid_model.specs.declared.frame.View.{View}
@@ -15,6 +15,7 @@ use Rattle.dxf_entities.specs.declared.kind.Kind.TheVariants as kind
 use Rattle.dxf_entities.specs.declared.layer_line.LayerLine.{LayerLine}
 use Rattle.dxf_entities.specs.declared.linetype.Linetype.{Linetype}
 use Rattle.dxf_entities.specs.declared.linetype.Linetype.TheVariants as linetype
+use Rattle.dxf_entities.specs.declared.named.Named.TheVariants.{Shows}
 use Rattle.dxf_entities.specs.declared.place.Place.TheVariants.{Inside}
 use Rattle.dxf_entities.specs.declared.section.Section.TheVariants.{Entities}
 use Rattle.dxf_entities.specs.Entries.{Entry, before_entries, entries_of}
@@ -24,7 +25,7 @@ use Rattle.dxf_entities.specs.Judging.{by_layer, drawn_by, facts_of, judged, sty
 use Rattle.dxf_entities.specs.Known.{Known}
 use Rattle.dxf_entities.specs.Forms.{three_views}
 use Rattle.dxf_entities.specs.Names.{kind_of, layer_on, linetype_of, main_layer, section_of}
-use Rattle.dxf_entities.specs.Reading.{Progress, entity_read, entries_read, is_ended, lines_on, main_read, pairs_read, read_of}
+use Rattle.dxf_entities.specs.Reading.{Progress, entity_read, entries_read, is_ended, main_lines, main_read, pairs_read, read_of}
 use Rattle.dxf_entities.specs.Steps.{◌>>=◌}
 use Rattle.redraw.specs.Plain.{linetype_name, plain_file}
 use Rattle.read_back.specs.ReadBack.{numbered_from}
@@ -53,7 +54,7 @@ abbrev facts_for : ℕ → Line → Facts
 facts_for n l = record {
   line = n;
   kind = kind.Line;
-  layer = Some (Some (main_layer l.of));
+  layer = Some (Shows (main_layer l.of));
   paper = None;
   linetype = Some (linetype_for l.style);
   shape = Ok (shape.Line (known_of l));
@@ -61,7 +62,7 @@ facts_for n l = record {
 
 -- a line that stands on its view's layer
 abbrev on_main : Line → LayerLine
-on_main l = record { opposite = false; line = l }
+on_main l = record { layer = main_layer l.of; line = l }
 
 -- the entity of a line that begins on line n, with so many decimals
 abbrev entry_for : ℕ → ℕ → Line → Entry
@@ -69,10 +70,11 @@ entry_for decimals n l =
     record { name = codes "LINE"; line = n; pairs = pairs_on (n + 2) (inner_fields decimals l) }
 
 -- a view's layer is the view's
-layer_read : (v : View) → layer_on false (layer_name v) ≡ Some (main_layer v)
-layer_read Front = refl
-layer_read Top = refl
-layer_read Side = refl
+layer_read : (decimals : ℕ) (v : View) → layer_on (three_views decimals) (layer_name v) ≡ Shows (main_layer v)
+unfolding layer_on
+layer_read decimals Front = refl
+layer_read decimals Top = refl
+layer_read decimals Side = refl
 
 -- the name of a style's linetype means it
 linetype_read : (s : Style) → s ≢ Blank → linetype_of (linetype_name s) ≡ linetype_for s
@@ -87,7 +89,7 @@ facts_read : (decimals n : ℕ) (l : Line) → IsKept l
 unfolding kind_of
 facts_read decimals n l is =
     rw (
-      layer_read l.of,
+      layer_read decimals l.of,
       linetype_read l.style is.drawn,
       printed_is_read decimals l.x0 is.near_x0,
       printed_is_read decimals l.y0 is.near_y0,
@@ -99,7 +101,7 @@ facts_read decimals n l is =
 
 -- the style of a style's linetype is the style
 style_read : (n : ℕ) (s : Style) → s ≢ Blank
-    → style_of n (by_layer (linetype_for s) None) ≡ Ok (Some s)
+    → style_of n None (by_layer (linetype_for s) None) ≡ Ok (Some s)
 style_read n Blank drawn = absurd (drawn refl)
 style_read n Dashed drawn = refl
 style_read n Solid drawn = refl
@@ -194,7 +196,7 @@ unfolding section_of
 begins_with_section decimals lines line = refl
 
 -- those on the views' layers are the lines of the views
-on_main_all : (ls : List Line) → lines_on false (map on_main ls) ≡ ls
+on_main_all : (ls : List Line) → main_lines (map on_main ls) ≡ ls
 on_main_all [] = refl
 on_main_all (l ∷ ls) = ap (λ more. l ∷ more) (on_main_all ls)
 
@@ -206,6 +208,6 @@ unfolding read_of
 plain_is_read decimals lines kept few =
     let line = past 1 (file_fields decimals lines) in
     ap (main_read decimals) (plain_pairs decimals lines kept)
-    ∙ ap (λ read. read >>= λ ls. Ok (lines_on false ls))
+    ∙ ap (λ read. read >>= λ ls. Ok (main_lines ls))
     (begins_with_section decimals lines line ∙ entries_kept decimals 5 line lines [] kept (omega arith))
     ∙ ap (λ ls. Ok ls) (on_main_all (numbered_from 5 lines))

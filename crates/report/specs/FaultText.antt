@@ -61,6 +61,8 @@ names_of fault.TooLong = plain (codes "F16 TooLong")
 names_of (fault.TooFine axis count) = too_many (codes "F17 TooFine") (Some axis) count
 names_of (fault.TooManyBlocks count) = too_many (codes "F18 TooManyBlocks") None count
 names_of (fault.Curved line) = at_line (codes "F19 Curved") line
+names_of (fault.SectionName line) = at_line (codes "F20 SectionName") line
+names_of (fault.NoCut line) = at_line (codes "F21 NoCut") line
 
 -- the letter of an axis
 abbrev pub letter_of : Axis → List ℕ

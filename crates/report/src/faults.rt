@@ -116,6 +116,8 @@ fn names_of(fault: Fault) -> FaultNames
         Fault::TooFine { axis, count } => too_many("F17 TooFine", Some(axis), count),
         Fault::TooManyBlocks { count } => too_many("F18 TooManyBlocks", None, count),
         Fault::Curved { line } => at_line("F19 Curved", line),
+        Fault::SectionName { line } => at_line("F20 SectionName", line),
+        Fault::NoCut { line } => at_line("F21 NoCut", line),
     }
 }
 

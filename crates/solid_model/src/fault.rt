@@ -77,6 +77,14 @@ pub enum Fault {
     /// A side of a polyline is bent: its bulge isn't 0; `line` is that at which its entity begins.
     #[error("line {line}: this polyline has a bent side")]
     Curved { line: u32 },
+    /// An entity's layer begins as that of a section or an area does, and names no view and plane;
+    /// `line` is that at which the entity begins.
+    #[error("line {line}: this entity's layer names no section")]
+    SectionName { line: u32 },
+    /// The plane of a section or an area doesn't lie strictly within the box of the grid; `line` is
+    /// that at which the first entity of such a layer begins.
+    #[error("line {line}: the plane of this entity's layer cuts nothing")]
+    NoCut { line: u32 },
 }
 
 /// Why a file is refused: a fault, or out of memory.

@@ -4,7 +4,7 @@
 //!
 //!     0 LINE              a pair: a line for its code, and one for its value
 //!     10                  a line alone
-//!     FRONT               the layer of the strokes after it
+//!     FRONT               the layer of the strokes after it: of a view, or of a section
 //!     line S 0 0 1 0      the solid line (dashed: D) from a point to another one
 //!     rect S 0 0 1 1      the rectangle between two points: its lower, upper, left and right side
 //!     diagonal 3          so many unit squares on the diagonal from (0,0), each 1 off the next
@@ -129,7 +129,7 @@ fn take_step(file: &mut String, layer: &str, step: &str) -> Result<(), AllocErro
     }
 }
 
-/// A step names a layer: that of one of the six views, of a section or of an area.
+/// The step names the layer of the strokes behind it: one of a view, or of a section.
 fn is_layer(step: &str) -> bool {
     match step {
         "FRONT" | "TOP" | "SIDE" | "LEFT" | "REAR" | "BOTTOM" => true,
@@ -154,10 +154,10 @@ pub fn file_of(alloc: Global, steps: &str) -> Result<String, AllocError> {
         let (count, step) = counted(step);
         if is_layer(step) {
             layer = step;
-        } else {
-            for _ in 0..count {
-                take_step(&mut file, layer, step)?;
-            }
+            continue;
+        }
+        for _ in 0..count {
+            take_step(&mut file, layer, step)?;
         }
     }
     Ok(file)

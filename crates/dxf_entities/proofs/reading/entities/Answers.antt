@@ -1,17 +1,17 @@
 -- The lines that are kept in three views are those of the views.
-use Rattle.std.proofs.Common.{false, List, Result, Ok, Err, IsErrOf, Vec, Global, sym, ap, ◌∙◌}
+use Rattle.std.proofs.Common.{List, Result, Ok, Err, IsErrOf, Vec, Global, sym, ap, ◌∙◌}
 use Rattle.std.proofs.lemmas.Result.{err_from_is_err_and}
 use Rattle.solid_model.specs.declared.fault.Fault.{Fault}
 use Rattle.solid_model.specs.declared.fault.Refused.TheVariants as refused
 use Rattle.solid_model.specs.Line.{Line}
 use Rattle.dxf_entities.specs.declared.layer_line.LayerLine.{LayerLine}
-use Rattle.dxf_entities.specs.Reading.{lines_on, read_of, text_read}
+use Rattle.dxf_entities.specs.Reading.{main_lines, read_of, text_read}
 use Rattle.dxf_entities.specs.Steps.{◌>>=◌}
 use Rattle.dxf_entities.proofs.reading.entities.Goals as goal
 
 -- those of the views, of what is read
 abbrev of_views : Result (List LayerLine) Fault → Result (List Line) Fault
-of_views read = read >>= λ ls. Ok (lines_on false ls)
+of_views read = read >>= λ ls. Ok (main_lines ls)
 
 pub returns-in_err-lines-clause-fault : goal.returns-in_err-lines-clause-fault
 unfolding read_of text_read
@@ -24,4 +24,4 @@ pub returns-clause-lines : goal.returns-clause-lines
 unfolding read_of text_read
 returns-clause-lines c =
     ap of_views (ap (λ form. text_read form c.args.groups.now.text) (sym c.three_views.ensures) ∙ c.in_ok-lines.ensures.lines)
-    ∙ ap Ok (sym (c.in_ok-own.ensures ∙ ap (lines_on false) c.deref.ensures.value))
+    ∙ ap Ok (sym (c.in_ok-own.ensures ∙ ap (main_lines) c.deref.ensures.value))

@@ -3,7 +3,7 @@ use Rattle.std.proofs.Common.{◌≤◌, length, Err, IsErrOf, ap, subst, sym}
 use Rattle.std.proofs.lemmas.Result.{err_from_is_err_and}
 use Rattle.dxf_groups.specs.Groups.{GroupsState}
 use Rattle.file_problem.specs.Inputs.{HasFurther, IsFileFault, input_in}
-use Rattle.further_views.specs.Further.{FurtherParts}
+use Rattle.further_views.specs.Further.{FurtherRuns}
 use Rattle.solid_model.specs.declared.fault.Refused.TheVariants as refused
 use Rattle.solid_model.specs.Blocks.{ProblemParts}
 use Rattle.file_problem.proofs.problem.problem_with_rest.Goals as goal
@@ -11,7 +11,7 @@ use Rattle.file_problem.proofs.problem.problem_with_rest.Goals as goal
 pub returns-in_err-problem-clause-fault : goal.returns-in_err-problem-clause-fault
 returns-in_err-problem-clause-fault c most short fault is =
     let q = err_from_is_err_and c.from_residual.result c.from_residual.ensures.1 in
-    let faulty : IsErrOf {T = ProblemParts × FurtherParts} (Err c.in_err-problem.field-0.0) (refused.Fault fault) = cc in
+    let faulty : IsErrOf {T = ProblemParts × FurtherRuns} (Err c.in_err-problem.field-0.0) (refused.Fault fault) = cc in
     let text = ap (λ (g : GroupsState). g.text) c.new-groups.ensures in
     let within = subst (λ t. length t ≤ most) (sym text) short in
     subst (λ t. IsFileFault (input_in c.args.form c.args.two_views most t) fault) text
