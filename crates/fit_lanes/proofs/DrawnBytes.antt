@@ -17,8 +17,8 @@ use Rattle.column_lanes.specs.Styles.{style_byte}
 use Rattle.column_laws.specs.GridColumns.{grid_column}
 use Rattle.column_laws.specs.GridPanels.{IsColumnBeside, IsStyleBetween}
 use Rattle.column_laws.proofs.GridSegments.{empty_bits}
-use Rattle.dxf_entities.specs.declared.extra.Extra.{Extra}
-use Rattle.six_views.specs.FurtherFrames.{further_frame}
+use Rattle.dxf_entities.specs.declared.layer.Layer.{Layer}
+use Rattle.six_views.specs.SightFrames.{sight_frame}
 use Rattle.fit_lanes.specs.Points.{places_before}
 use Rattle.fit_lanes.specs.Sights.{width, height, AreSights}
 use Rattle.fit_lanes.specs.Tests.{AreDrawn}
@@ -37,10 +37,10 @@ no_bits n none = λ t k. by k t
     by (pos k) = none k ∙ sym (empty_bits (pos k))
     by (negsuc k) = refl
 
-module _ (x : Extra) (sizes : Sizes) (numbers : List (Option ℕ)) (sights : List (List Span)) (are : AreSights x sizes numbers sights)
+module _ (x : Layer) (sizes : Sizes) (numbers : List (Option ℕ)) (sights : List (List Span)) (are : AreSights x sizes numbers sights)
     (choice : List Bool) (columns : List ℕ) (filled : AreFilled choice sights columns) where
   abbrev f : Frame
-  f = further_frame x
+  f = sight_frame x
 
   abbrev w : ℕ
   w = width x sizes

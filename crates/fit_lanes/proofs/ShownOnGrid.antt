@@ -14,6 +14,7 @@ use Rattle.solid_model.specs.declared.cell.Axis.{Axis}
 use Rattle.solid_model.specs.declared.cell.Cell.{Cell}
 use Rattle.solid_model.specs.declared.frame.Frame.{Frame}
 use Rattle.solid_model.specs.declared.frame.View.{View}
+use Rattle.solid_model.specs.declared.frame.View.TheVariants.{Front, Top, Side}
 use Rattle.solid_model.specs.declared.runs.Run.{Run}
 use Rattle.solid_model.specs.declared.segment.Segment.{Segment}
 use Rattle.solid_model.specs.declared.segment.Style.{Style}
@@ -37,16 +38,15 @@ use Rattle.column_laws.specs.GridColumns.{grid_column}
 use Rattle.column_laws.specs.GridPanels.{HasCounts, IsColumnBeside, AreColumnsBeside, IsStyleBetween}
 use Rattle.column_laws.proofs.GridSegments.{segment_drawn}
 use Rattle.redraw.proofs.SomeFile.{some_file}
-use Rattle.dxf_entities.specs.declared.extra.Extra.{Extra}
-use Rattle.dxf_entities.specs.declared.extra.Extra.TheVariants.{Left, Rear, Bottom}
+use Rattle.dxf_entities.specs.declared.layer.Layer.{Layer}
 use Rattle.six_views.specs.Fits.{ShowsMoved}
-use Rattle.further_views.specs.Further.{seen_as, view_style}
-use Rattle.six_views.specs.FurtherFrames.{further_frame}
+use Rattle.further_views.specs.Further.{view_style}
+use Rattle.six_views.specs.SightFrames.{sight_frame}
 use Rattle.six_views.specs.MovedRuns.{AreMovedRuns}
-use Rattle.six_views.specs.Turned.{turn_axis, turned_cells, turned_coordinates, AreTurnedCells}
+use Rattle.six_views.specs.Turned.{turned_cells, turned_coordinates, AreTurnedCells}
 use Rattle.six_views.proofs.MovedRuns.{shows_where_moved}
 use Rattle.six_views.proofs.SeenTurned.{some_turned, turned_union, seen_on_grid}
-use Rattle.six_views.proofs.Turned.{further_drawn}
+use Rattle.six_views.proofs.Turned.{sight_drawn}
 use Rattle.six_views.proofs.TurnedColumns.{column_turned}
 use Rattle.six_views.proofs.TurnedGrid.{count-turned, counts-turned}
 use Rattle.fit_lanes.specs.Points.{point_byte, ArePointBytes}
@@ -55,29 +55,37 @@ use Rattle.fit_lanes.specs.Wanted.{first_coordinate, placed_runs, HaveRuns, turn
 use Rattle.fit_lanes.proofs.WantedBytes.{lines_count, ends_count}
 
 -- both views have the same axes
-same_across : (x : Extra) (upright : Bool) → (across (further_frame x) upright).axis ≡ (across (frame_of (seen_as x)) upright).axis
-same_across Left true = refl
-same_across Left false = refl
-same_across Rear true = refl
-same_across Rear false = refl
-same_across Bottom true = refl
-same_across Bottom false = refl
+same_across : (x : Layer) (upright : Bool) → (across (sight_frame x) upright).axis ≡ (across (frame_of x.view) upright).axis
+same_across x upright = by x.view x.opposite upright
+  where
+    by : (v : View) (opposite upright : Bool) → (across (sight_frame (record x { view = v; opposite = opposite })) upright).axis ≡ (across (frame_of v) upright).axis
+    by v false upright = refl
+    by Front true true = refl
+    by Front true false = refl
+    by Top true true = refl
+    by Top true false = refl
+    by Side true true = refl
+    by Side true false = refl
 
-same_along : (x : Extra) (upright : Bool) → (along (further_frame x) upright).axis ≡ (along (frame_of (seen_as x)) upright).axis
-same_along Left true = refl
-same_along Left false = refl
-same_along Rear true = refl
-same_along Rear false = refl
-same_along Bottom true = refl
-same_along Bottom false = refl
+same_along : (x : Layer) (upright : Bool) → (along (sight_frame x) upright).axis ≡ (along (frame_of x.view) upright).axis
+same_along x upright = by x.view x.opposite upright
+  where
+    by : (v : View) (opposite upright : Bool) → (along (sight_frame (record x { view = v; opposite = opposite })) upright).axis ≡ (along (frame_of v) upright).axis
+    by v false upright = refl
+    by Front true true = refl
+    by Front true false = refl
+    by Top true true = refl
+    by Top true false = refl
+    by Side true true = refl
+    by Side true false = refl
 
-module _ (x : Extra) (coordinates : Coordinates) (ordered : (a : Axis) → Ascends ◌<ℤ◌ (coordinates a)) (some : (a : Axis) → 0 < length (coordinates a))
+module _ (x : Layer) (coordinates : Coordinates) (ordered : (a : Axis) → Ascends ◌<ℤ◌ (coordinates a)) (some : (a : Axis) → 0 < length (coordinates a))
     (chosen : List Bool) (s : List Cell) (union : IsUnionOf coordinates chosen (is_full s)) where
   abbrev f : Frame
-  f = further_frame x
+  f = sight_frame x
 
   abbrev v : View
-  v = seen_as x
+  v = x.view
 
   abbrev main : Frame
   main = frame_of v
@@ -98,7 +106,7 @@ module _ (x : Extra) (coordinates : Coordinates) (ordered : (a : Axis) → Ascen
   has = record { ordered = ordered; count = λ a. refl }
 
   abbrev grid : Coordinates
-  grid = turned_coordinates (turn_axis x) coordinates
+  grid = turned_coordinates x coordinates
 
   abbrev lines : Bool → List ℤ
   lines upright = turned_lines coordinates x upright
@@ -107,10 +115,10 @@ module _ (x : Extra) (coordinates : Coordinates) (ordered : (a : Axis) → Ascen
   ends upright = turned_ends coordinates x upright
 
   abbrev turned : List Bool
-  turned = (some_turned (turn_axis x) sizes chosen).0
+  turned = (some_turned x sizes chosen).0
 
-  are : AreTurnedCells (turn_axis x) sizes chosen turned
-  are = (some_turned (turn_axis x) sizes chosen).1
+  are : AreTurnedCells x sizes chosen turned
+  are = (some_turned x sizes chosen).1
 
   abbrev drawing : Segment → Style
   drawing = solid_drawing (turned_cells x s)
@@ -119,7 +127,7 @@ module _ (x : Extra) (coordinates : Coordinates) (ordered : (a : Axis) → Ascen
   stays = seen_on_grid x counts coordinates has chosen turned are s union
 
   grid_ordered : (a : Axis) → Ascends ◌<ℤ◌ (grid a)
-  grid_ordered = (counts-turned (turn_axis x) coordinates counts has).ordered
+  grid_ordered = (counts-turned x coordinates counts has).ordered
 
   -- ---- the drawing stays on the grid
 
@@ -201,7 +209,7 @@ module _ (x : Extra) (coordinates : Coordinates) (ordered : (a : Axis) → Ascen
   between_drawn upright line cell l m style (after, before, at, draws) =
       let e : length (ends upright) ≡ length (grid (along main upright).axis) = ap (λ (a : Axis). length (grid a)) (same_along x upright) in
       let e_lines : length (lines upright) ≡ length (grid (across main upright).axis) = ap (λ (a : Axis). length (grid a)) (same_across x upright) in
-      let gaps : gaps_along grid ≡ sizes = (λ t b. count-turned (turn_axis x) coordinates b t - 1) in
+      let gaps : gaps_along grid ≡ sizes = (λ t b. count-turned x coordinates b t - 1) in
       let few : cell < sizes (along main upright).axis = subst (λ (n : Axis → ℕ). cell < n (along main upright).axis) gaps (omega arith) in
       let beside : AreColumnsBeside main sizes turned upright cell line after before = record {
         after_is = beside_turned upright cell line after few at.after_is;
@@ -348,5 +356,5 @@ module _ (x : Extra) (coordinates : Coordinates) (ordered : (a : Axis) → Ascen
 
     pub shows_where_placed : (Placed false × Placed true) ↔ ShowsMoved f (is_full s) (view_style shown) v
     shows_where_placed =
-        let both = shows_where_moved f (is_full s) v drawing (further_drawn x s) own_runs.own shown own_runs.runs kept own_runs.show right up begins in
+        let both = shows_where_moved f (is_full s) v drawing (sight_drawn x s) own_runs.own shown own_runs.runs kept own_runs.show right up begins in
         ((λ placed. both.1 (moved_of placed.0 placed.1)), (λ shows. (both.0 shows false, both.0 shows true)))

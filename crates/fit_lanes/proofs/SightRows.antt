@@ -1,5 +1,5 @@
 -- The spans of a row, seen from its near end, are those of a view's column.
-use Rattle.std.proofs.Common.{◌≡◌, ◌≢◌, ◌⊎◌, inl, inr, Bool, true, false, ◌&&◌, ◌||◌, ◌==◌, nat_lt, ℕ, ◌+◌, ◌-◌, ◌*◌, ◌%◌, ◌^◌, ◌<◌, ◌≤◌, List, ◌∷◌, [], ◌++◌, slice_index_or, bit_or, pos, w64, refl, ap, sym, subst, ◌∙◌, arith}
+use Rattle.std.proofs.Common.{◌≡◌, ◌≢◌, ◌⊎◌, inl, inr, Bool, true, false, ◌&&◌, ◌||◌, ◌==◌, nat_lt, ℕ, ◌+◌, ◌-◌, ◌*◌, ◌%◌, ◌^◌, ◌<◌, ◌≤◌, if◌then◌else◌, List, ◌∷◌, [], ◌++◌, slice_index_or, bit_or, pos, w64, refl, ap, sym, subst, ◌∙◌, arith}
 use Rattle.std.proofs.lemmas.Bool.{cases_lt, lt-ltb, ltb-true, and_from}
 use Rattle.std.proofs.Math.Nat.{mul-le-mul}
 use Rattle.std.proofs.lemmas.Nat.Bits.{bit_at_set_same, bit_at_set_other}
@@ -11,17 +11,19 @@ use Rattle.cell_rows.proofs.FilledSpans.{filled-last}
 use Rattle.solid_model.specs.declared.cell.Axis.{Axis}
 use Rattle.solid_model.specs.declared.cell.Axis.TheVariants.{X, Y, Z}
 use Rattle.solid_model.specs.declared.frame.Frame.{Frame}
+use Rattle.solid_model.specs.declared.frame.View.{View}
+use Rattle.solid_model.specs.declared.frame.View.TheVariants.{Front, Top, Side}
 use Rattle.solid_model.specs.declared.per_axis.PerAxis.{PerAxis}
 use Rattle.solid_model.specs.Blocks.{BlockNumbers}
 use Rattle.solid_model.specs.Choices.{is_chosen, cells_of_choice}
+use Rattle.solid_model.specs.Frames.{frame_of}
 use Rattle.solid_model.specs.GridPlaces.{place_in, number_on, grid_cell_in}
 use Rattle.solid_model.specs.Cells.{cell_at}
 use Rattle.solid_model.specs.PerAxis.{numbers_of, cell_of, numbered}
 use Rattle.solid_model.specs.WalledBoxes.{Sizes, is_within, box_place, box_count}
 use Rattle.column_laws.specs.GridColumns.{grid_column}
-use Rattle.dxf_entities.specs.declared.extra.Extra.{Extra}
-use Rattle.dxf_entities.specs.declared.extra.Extra.TheVariants.{Left, Rear, Bottom}
-use Rattle.six_views.specs.FurtherFrames.{further_frame}
+use Rattle.dxf_entities.specs.declared.layer.Layer.{Layer}
+use Rattle.six_views.specs.SightFrames.{opposite_frame, sight_frame}
 
 -- ---- a row, bit by bit
 
@@ -79,9 +81,13 @@ seen_more choice xs ys one seen k n within same cells so_far =
 
 -- ---- the column of a view
 
-module _ (x : Extra) (b : BlockNumbers) (n : PerAxis) (i j : ℕ) where
+-- the frame of a view, from its own side or from the opposite one
+abbrev seen_from : Bool → View → Frame
+seen_from opposite v = if opposite then opposite_frame v else frame_of v
+
+module _ (x : Layer) (b : BlockNumbers) (n : PerAxis) (i j : ℕ) where
   abbrev f : Frame
-  f = further_frame x
+  f = sight_frame x
 
   abbrev sizes : Sizes
   sizes = numbers_of b.sizes
@@ -91,57 +97,80 @@ module _ (x : Extra) (b : BlockNumbers) (n : PerAxis) (i j : ℕ) where
 
   module _ (first : numbers_of n ≡ numbered a 0 (grid_cell_in f sizes i j 0)) where
     -- the cell of the row at a depth of the view is the view's cell there
-    same_place : (x : Extra) → numbers_of n ≡ numbered (further_frame x).away.axis 0 (grid_cell_in (further_frame x) sizes i j 0) → (k : ℕ)
-        → box_place sizes (cell_numbered (further_frame x).away.axis (number_on sizes (further_frame x).away k) n) ≡ place_in sizes (grid_cell_in (further_frame x) sizes i j k)
-    same_place Left e k = λ t. (e t Z * sizes Y + e t Y) * sizes X + k
-    same_place Rear e k = λ t. (e t Z * sizes Y + (sizes Y - (k + 1))) * sizes X + e t X
-    same_place Bottom e k = λ t. (k * sizes Y + e t Y) * sizes X + e t X
+    same_place : (o : Bool) (v : View) → numbers_of n ≡ numbered (seen_from o v).away.axis 0 (grid_cell_in (seen_from o v) sizes i j 0) → (k : ℕ)
+        → box_place sizes (cell_numbered (seen_from o v).away.axis (number_on sizes (seen_from o v).away k) n) ≡ place_in sizes (grid_cell_in (seen_from o v) sizes i j k)
+    same_place true Side e k = λ t. (e t Z * sizes Y + e t Y) * sizes X + k
+    same_place true Front e k = λ t. (e t Z * sizes Y + (sizes Y - (k + 1))) * sizes X + e t X
+    same_place true Top e k = λ t. (k * sizes Y + e t Y) * sizes X + e t X
+    same_place false Side e k = λ t. (e t Z * sizes Y + e t Y) * sizes X + (sizes X - (k + 1))
+    same_place false Front e k = λ t. (e t Z * sizes Y + k) * sizes X + e t X
+    same_place false Top e k = λ t. ((sizes Z - (k + 1)) * sizes Y + e t Y) * sizes X + e t X
 
     -- the row's own cell is its first one
-    own_cell : (x : Extra) → numbers_of n ≡ numbered (further_frame x).away.axis 0 (grid_cell_in (further_frame x) sizes i j 0)
-        → cell_of n ≡ cell_numbered (further_frame x).away.axis 0 n
-    own_cell Left e = λ t. cell_at (e t X) n.y n.z
-    own_cell Rear e = λ t. cell_at n.x (e t Y) n.z
-    own_cell Bottom e = λ t. cell_at n.x n.y (e t Z)
+    own_cell : (o : Bool) (v : View) → numbers_of n ≡ numbered (seen_from o v).away.axis 0 (grid_cell_in (seen_from o v) sizes i j 0)
+        → cell_of n ≡ cell_numbered (seen_from o v).away.axis 0 n
+    own_cell true Side e = λ t. cell_at (e t X) n.y n.z
+    own_cell true Front e = λ t. cell_at n.x (e t Y) n.z
+    own_cell true Top e = λ t. cell_at n.x n.y (e t Z)
+    own_cell false Side e = λ t. cell_at (e t X) n.y n.z
+    own_cell false Front e = λ t. cell_at n.x (e t Y) n.z
+    own_cell false Top e = λ t. cell_at n.x n.y (e t Z)
 
     pub first_cell : cell_of n ≡ cell_numbered a 0 n
-    first_cell = own_cell x first
+    first_cell = own_cell x.opposite x.view first
 
     -- it stands in the box
-    same_within : (x : Extra) → numbers_of n ≡ numbered (further_frame x).away.axis 0 (grid_cell_in (further_frame x) sizes i j 0)
-        → i < sizes (further_frame x).right.axis → j < sizes (further_frame x).up.axis → (k m : ℕ) (others : Sizes) → k < others (further_frame x).away.axis
-        → others (further_frame x).right.axis ≡ sizes (further_frame x).right.axis → others (further_frame x).up.axis ≡ sizes (further_frame x).up.axis
-        → is_within others (cell_numbered (further_frame x).away.axis k n) ≡ true
-    same_within Left e l m k _ o at right up =
-        let y : n.y < o Y = let p : n.y ≡ sizes Y - (i + 1) = (λ t. e t Y) in omega arith in
-        let z : n.z < o Z = let p : n.z ≡ j = (λ t. e t Z) in omega arith in
-        and_from (nat_lt k (o X)) (nat_lt n.y (o Y) && nat_lt n.z (o Z)) (lt-ltb k (o X) at) (and_from (nat_lt n.y (o Y)) (nat_lt n.z (o Z)) (lt-ltb n.y (o Y) y) (lt-ltb n.z (o Z) z))
-    same_within Rear e l m k _ o at right up =
-        let y : n.x < o X = let p : n.x ≡ sizes X - (i + 1) = (λ t. e t X) in omega arith in
-        let z : n.z < o Z = let p : n.z ≡ j = (λ t. e t Z) in omega arith in
-        and_from (nat_lt n.x (o X)) (nat_lt k (o Y) && nat_lt n.z (o Z)) (lt-ltb n.x (o X) y) (and_from (nat_lt k (o Y)) (nat_lt n.z (o Z)) (lt-ltb k (o Y) at) (lt-ltb n.z (o Z) z))
-    same_within Bottom e l m k _ o at right up =
-        let y : n.x < o X = let p : n.x ≡ i = (λ t. e t X) in omega arith in
-        let z : n.y < o Y = let p : n.y ≡ sizes Y - (j + 1) = (λ t. e t Y) in omega arith in
-        and_from (nat_lt n.x (o X)) (nat_lt n.y (o Y) && nat_lt k (o Z)) (lt-ltb n.x (o X) y) (and_from (nat_lt n.y (o Y)) (nat_lt k (o Z)) (lt-ltb n.y (o Y) z) (lt-ltb k (o Z) at))
+    abbrev WithinBox : Bool → View → Type 0
+    WithinBox o v = numbers_of n ≡ numbered (seen_from o v).away.axis 0 (grid_cell_in (seen_from o v) sizes i j 0)
+        → i < sizes (seen_from o v).right.axis → j < sizes (seen_from o v).up.axis → (k : ℕ) (others : Sizes) → k < others (seen_from o v).away.axis
+        → others (seen_from o v).right.axis ≡ sizes (seen_from o v).right.axis → others (seen_from o v).up.axis ≡ sizes (seen_from o v).up.axis
+        → is_within others (cell_numbered (seen_from o v).away.axis k n) ≡ true
+
+    across_x : (k : ℕ) (o : Sizes) → k < o X → n.y < o Y → n.z < o Z → is_within o (cell_numbered X k n) ≡ true
+    across_x k o at y z = and_from (nat_lt k (o X)) (nat_lt n.y (o Y) && nat_lt n.z (o Z)) (lt-ltb k (o X) at)
+        (and_from (nat_lt n.y (o Y)) (nat_lt n.z (o Z)) (lt-ltb n.y (o Y) y) (lt-ltb n.z (o Z) z))
+
+    across_y : (k : ℕ) (o : Sizes) → k < o Y → n.x < o X → n.z < o Z → is_within o (cell_numbered Y k n) ≡ true
+    across_y k o at x z = and_from (nat_lt n.x (o X)) (nat_lt k (o Y) && nat_lt n.z (o Z)) (lt-ltb n.x (o X) x)
+        (and_from (nat_lt k (o Y)) (nat_lt n.z (o Z)) (lt-ltb k (o Y) at) (lt-ltb n.z (o Z) z))
+
+    across_z : (k : ℕ) (o : Sizes) → k < o Z → n.x < o X → n.y < o Y → is_within o (cell_numbered Z k n) ≡ true
+    across_z k o at x y = and_from (nat_lt n.x (o X)) (nat_lt n.y (o Y) && nat_lt k (o Z)) (lt-ltb n.x (o X) x)
+        (and_from (nat_lt n.y (o Y)) (nat_lt k (o Z)) (lt-ltb n.y (o Y) y) (lt-ltb k (o Z) at))
+
+    same_within : (o : Bool) (v : View) → WithinBox o v
+    same_within true Side e l m k o at right up =
+        across_x k o at (let p : n.y ≡ sizes Y - (i + 1) = (λ t. e t Y) in omega arith) (let p : n.z ≡ j = (λ t. e t Z) in omega arith)
+    same_within true Front e l m k o at right up =
+        across_y k o at (let p : n.x ≡ sizes X - (i + 1) = (λ t. e t X) in omega arith) (let p : n.z ≡ j = (λ t. e t Z) in omega arith)
+    same_within true Top e l m k o at right up =
+        across_z k o at (let p : n.x ≡ i = (λ t. e t X) in omega arith) (let p : n.y ≡ sizes Y - (j + 1) = (λ t. e t Y) in omega arith)
+    same_within false Side e l m k o at right up =
+        across_x k o at (let p : n.y ≡ i = (λ t. e t Y) in omega arith) (let p : n.z ≡ j = (λ t. e t Z) in omega arith)
+    same_within false Front e l m k o at right up =
+        across_y k o at (let p : n.x ≡ i = (λ t. e t X) in omega arith) (let p : n.z ≡ j = (λ t. e t Z) in omega arith)
+    same_within false Top e l m k o at right up =
+        across_z k o at (let p : n.x ≡ i = (λ t. e t X) in omega arith) (let p : n.y ≡ j = (λ t. e t Y) in omega arith)
 
     -- a depth of the view is a number of the row
-    number_below : (x : Extra) (k : ℕ) → k < sizes (further_frame x).away.axis → number_on sizes (further_frame x).away k < sizes (further_frame x).away.axis
-    number_below Left k l = l
-    number_below Rear k l = omega arith
-    number_below Bottom k l = l
+    number_below : (forward : Bool) (size k : ℕ) → k < size → (if forward then k else (size - (k + 1))) < size
+    number_below true size k l = l
+    number_below false size k l = omega arith
 
     module _ (l : i < sizes f.right.axis) (m : j < sizes f.up.axis) (few : sizes a ≤ 63) where
       -- the row has a place in the list of all of them,
-      other_sizes : (x : Extra) → (numbered (further_frame x).away.axis 1 sizes (further_frame x).right.axis ≡ sizes (further_frame x).right.axis)
-          × (numbered (further_frame x).away.axis 1 sizes (further_frame x).up.axis ≡ sizes (further_frame x).up.axis)
-          × (0 < numbered (further_frame x).away.axis 1 sizes (further_frame x).away.axis)
-      other_sizes Left = (refl, refl, omega arith)
-      other_sizes Rear = (refl, refl, omega arith)
-      other_sizes Bottom = (refl, refl, omega arith)
+      other_sizes : (o : Bool) (v : View) → (numbered (seen_from o v).away.axis 1 sizes (seen_from o v).right.axis ≡ sizes (seen_from o v).right.axis)
+          × (numbered (seen_from o v).away.axis 1 sizes (seen_from o v).up.axis ≡ sizes (seen_from o v).up.axis)
+          × (0 < numbered (seen_from o v).away.axis 1 sizes (seen_from o v).away.axis)
+      other_sizes true Side = (refl, refl, omega arith)
+      other_sizes true Front = (refl, refl, omega arith)
+      other_sizes true Top = (refl, refl, omega arith)
+      other_sizes false Side = (refl, refl, omega arith)
+      other_sizes false Front = (refl, refl, omega arith)
+      other_sizes false Top = (refl, refl, omega arith)
 
       pub row_within : is_within (numbered a 1 sizes) (cell_numbered a 0 n) ≡ true
-      row_within = let o = other_sizes x in same_within x first l m 0 0 (numbered a 1 sizes) o.2 o.0 o.1
+      row_within = let o = other_sizes x.opposite x.view in same_within x.opposite x.view first l m 0 (numbered a 1 sizes) o.2 o.0 o.1
 
       module _ (rows : List (List Span)) (of : AreRowSpans b a rows) (spans : List Span)
           (seen : (choice : List Bool) (k : ℕ) → is_filled choice spans k
@@ -160,11 +189,11 @@ module _ (x : Extra) (b : BlockNumbers) (n : PerAxis) (i j : ℕ) where
             by false e = ap (λ t. t && is_filled choice row (number_on sizes f.away k)) e ∙ sym (ap (λ t. t && cell) e)
             by true e =
                 let deep : k < sizes a = ltb-true k (sizes a) e in
-                let number = number_below x k deep in
-                let within = same_within x first l m (number_on sizes f.away k) 0 sizes number refl refl in
+                let number = number_below f.away.forward (sizes a) k deep in
+                let within = same_within x.opposite x.view first l m (number_on sizes f.away k) sizes number refl refl in
                 ap (λ t. nat_lt k (sizes a) && t)
                 (of.each choice n row_within (number_on sizes f.away k) (omega arith)
-                ∙ (λ t. within t && slice_index_or (cells_of_choice b.numbers choice) (same_place x first k t) false))
+                ∙ (λ t. within t && slice_index_or (cells_of_choice b.numbers choice) (same_place x.opposite x.view first k t) false))
 
 -- ---- how many rows there are
 

@@ -17,10 +17,10 @@ use Rattle.solid_model.specs.Segments.{along_of, across_of}
 use Rattle.solid_model.specs.Panels.{GridParts, coordinates_of, IsGrid}
 use Rattle.solid_model.specs.WalledBoxes.{Sizes}
 use Rattle.solid_model.specs.Runs.{AreRuns, ViewRuns, runs_along}
-use Rattle.dxf_entities.specs.declared.extra.Extra.{Extra}
+use Rattle.dxf_entities.specs.declared.layer.Layer.{Layer}
 use Rattle.six_views.specs.Fits.{ShowsMoved}
-use Rattle.further_views.specs.Further.{seen_as, view_style}
-use Rattle.six_views.specs.FurtherFrames.{further_frame}
+use Rattle.further_views.specs.Further.{view_style}
+use Rattle.six_views.specs.SightFrames.{sight_frame}
 use Rattle.six_views.specs.Turned.{turned_cells}
 use Rattle.fit_lanes.specs.Points.{ArePointBytes}
 use Rattle.fit_lanes.specs.Sights.{width, height, AreSights}
@@ -36,7 +36,7 @@ rows_more h w =
     let next : h + 2 ≡ suc (h + 1) = omega arith in
     ap (λ n. n * (w + 1)) next ∙ suc-mul (h + 1) (w + 1)
 
-module _ (g : GridParts) (is : IsGrid g) (numbers : List (Option ℕ)) (x : Extra) (sights : List (List Span)) (are : AreSights x (grid_sizes g) numbers sights)
+module _ (g : GridParts) (is : IsGrid g) (numbers : List (Option ℕ)) (x : Layer) (sights : List (List Span)) (are : AreSights x (grid_sizes g) numbers sights)
     (choice : List Bool) (columns : List ℕ) (filled : AreFilled choice sights columns) (s : List Cell)
     (union : IsUnionOf (coordinates_of g) (cells_of_choice numbers choice) (is_full s)) where
   abbrev sizes : Sizes
@@ -70,7 +70,7 @@ module _ (g : GridParts) (is : IsGrid g) (numbers : List (Option ℕ)) (x : Extr
         (byte_none x sizes numbers sights are choice columns filled bytes seen.long upright seen.drawn)
 
   module _ (level_bytes upright_bytes : List ℕ) (level : IsSeen false level_bytes) (upright : IsSeen true upright_bytes) where
-    begin : BeginsAt (solid_drawing (turned_cells x s)) (seen_as x) (first_coordinate (turned_lines (coordinates_of g) x true)) (first_coordinate (turned_lines (coordinates_of g) x false))
+    begin : BeginsAt (solid_drawing (turned_cells x s)) x.view (first_coordinate (turned_lines (coordinates_of g) x true)) (first_coordinate (turned_lines (coordinates_of g) x false))
     begin =
         let (n, l, some_byte) = level.begins in
         let (m, k, other_byte) = upright.begins in
@@ -83,7 +83,7 @@ module _ (g : GridParts) (is : IsGrid g) (numbers : List (Option ℕ)) (x : Extr
         → MatchOption wanted_upright (AreNeverDrawn (coordinates_of g) x true shown) (λ b. AreWantedBytes (coordinates_of g) x true shown (items b))
         → (told_level told_upright : Bool) → (IsTrue told_level ↔ MatchOption wanted_level ⊥ (λ b. level_bytes ≡ items b))
         → (IsTrue told_upright ↔ MatchOption wanted_upright ⊥ (λ b. upright_bytes ≡ items b))
-        → IsTrue (told_level && told_upright) ↔ ShowsMoved (further_frame x) (is_full s) (view_style shown) (seen_as x)
+        → IsTrue (told_level && told_upright) ↔ ShowsMoved (sight_frame x) (is_full s) (view_style shown) x.view
     shows_told shown kept items wanted_level wanted_upright of_level of_upright told_level told_upright is_level is_upright =
         let placed = shows_where_placed x (coordinates_of g) (ordered g is) (some g is) chosen s union shown kept begin in
         let level_placed = told_runs x (coordinates_of g) (ordered g is) (some g is) chosen s union shown kept begin items false level_bytes (tell false level_bytes level) wanted_level of_level in

@@ -5,16 +5,16 @@ use Rattle.solid_model.specs.declared.segment.Style.{Style}
 use Rattle.solid_model.specs.Grid.{Coordinates, gaps_along}
 use Rattle.solid_model.specs.Runs.{ViewRuns, runs_along}
 use Rattle.solid_model.specs.Segments.{along_of, across_of}
-use Rattle.dxf_entities.specs.declared.extra.Extra.{Extra}
-use Rattle.six_views.specs.FurtherFrames.{further_frame}
-use Rattle.six_views.specs.Turned.{turn_axis, turned_coordinates}
+use Rattle.dxf_entities.specs.declared.layer.Layer.{Layer}
+use Rattle.six_views.specs.SightFrames.{sight_frame}
+use Rattle.six_views.specs.Turned.{turned_coordinates}
 use Rattle.six_views.proofs.TurnedGrid.{count-turned}
 use Rattle.fit_lanes.specs.Points.{ArePointBytes}
 use Rattle.fit_lanes.specs.Sights.{width, height}
 use Rattle.fit_lanes.specs.Wanted.{AreWantedStyles, AreNeverShown, turned_lines, turned_ends, AreWantedBytes, AreNeverDrawn}
 use Rattle.fit_lanes.proofs.ByLines.{same_bytes, same_styles}
 
-module _ (x : Extra) (coordinates : Coordinates) (some : (b : Axis) → 0 < length (coordinates b)) (upright : Bool) where
+module _ (x : Layer) (coordinates : Coordinates) (some : (b : Axis) → 0 < length (coordinates b)) (upright : Bool) where
   abbrev w : ℕ
   w = width x (gaps_along coordinates)
 
@@ -27,24 +27,24 @@ module _ (x : Extra) (coordinates : Coordinates) (some : (b : Axis) → 0 < leng
   abbrev ends : List ℤ
   ends = turned_ends coordinates x upright
 
-  counted : (a : Axis) → length (turned_coordinates (turn_axis x) coordinates a) ≡ (length (coordinates a) - 1) + 1
-  counted a = let l = some a in omega (arith, count-turned (turn_axis x) coordinates a)
+  counted : (a : Axis) → length (turned_coordinates x coordinates a) ≡ (length (coordinates a) - 1) + 1
+  counted a = let l = some a in omega (arith, count-turned x coordinates a)
 
   -- there is a line more than cells across,
   pub lines_count : length lines ≡ across_of upright w h + 1
   lines_count = by upright
     where
       by : (u : Bool) → length (turned_lines coordinates x u) ≡ across_of u w h + 1
-      by true = counted (further_frame x).right.axis
-      by false = counted (further_frame x).up.axis
+      by true = counted (sight_frame x).right.axis
+      by false = counted (sight_frame x).up.axis
 
   -- and an end more than cells along
   pub ends_count : length ends - 1 ≡ along_of upright w h
   ends_count = by upright
     where
       by : (u : Bool) → length (turned_ends coordinates x u) - 1 ≡ along_of u w h
-      by true = let e = counted (further_frame x).up.axis in omega arith
-      by false = let e = counted (further_frame x).right.axis in omega arith
+      by true = let e = counted (sight_frame x).up.axis in omega arith
+      by false = let e = counted (sight_frame x).right.axis in omega arith
 
   -- so there are so many styles
   styles_count : (styles : List Style) → length styles ≡ length lines * (length ends - 1) → length styles ≡ (across_of upright w h + 1) * along_of upright w h

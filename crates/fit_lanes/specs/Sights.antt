@@ -5,25 +5,25 @@ use Rattle.cell_rows.specs.Spans.{is_filled}
 use Rattle.column_laws.specs.GridColumns.{grid_column}
 use Rattle.solid_model.specs.Choices.{cells_of_choice}
 use Rattle.solid_model.specs.WalledBoxes.{Sizes}
-use Rattle.dxf_entities.specs.declared.extra.Extra.{Extra}
-use Rattle.six_views.specs.FurtherFrames.{further_frame}
+use Rattle.dxf_entities.specs.declared.layer.Layer.{Layer}
+use Rattle.six_views.specs.SightFrames.{sight_frame}
 
 -- how many grid cells stand side by side in a further view, and how many one above another
-abbrev pub width : Extra → Sizes → ℕ
-width x sizes = sizes (further_frame x).right.axis
+abbrev pub width : Layer → Sizes → ℕ
+width x sizes = sizes (sight_frame x).right.axis
 
-abbrev pub height : Extra → Sizes → ℕ
-height x sizes = sizes (further_frame x).up.axis
+abbrev pub height : Layer → Sizes → ℕ
+height x sizes = sizes (sight_frame x).up.axis
 
 -- The spans of the column beside a place, in rows of one place more than there are cells side by side: of every choice they tell
 -- what it fills. The first row has no column, nor has the last place of each row, nor what follows the rows of cells.
-pub record IsSightAt (x : Extra) (sizes : Sizes) (numbers : List (Option ℕ)) (p : ℕ) (spans : List Span) : Type 0 where
+pub record IsSightAt (x : Layer) (sizes : Sizes) (numbers : List (Option ℕ)) (p : ℕ) (spans : List Span) : Type 0 where
   pub inside : p % (width x sizes + 1) < width x sizes → 1 ≤ p / (width x sizes + 1) → p / (width x sizes + 1) ≤ height x sizes
       → (choice : List Bool) (k : ℕ) → is_filled choice spans k
-      ≡ grid_column (further_frame x) sizes (cells_of_choice numbers choice) (p % (width x sizes + 1)) (p / (width x sizes + 1) - 1) (pos k)
+      ≡ grid_column (sight_frame x) sizes (cells_of_choice numbers choice) (p % (width x sizes + 1)) (p / (width x sizes + 1) - 1) (pos k)
   pub outside : (width x sizes ≤ p % (width x sizes + 1)) ⊎ ((p / (width x sizes + 1) ≡ 0) ⊎ (height x sizes < p / (width x sizes + 1))) → spans ≡ []
 
 -- those beside each point, and beside a row of places before them
-pub record AreSights (x : Extra) (sizes : Sizes) (numbers : List (Option ℕ)) (sights : List (List Span)) : Type 0 where
+pub record AreSights (x : Layer) (sizes : Sizes) (numbers : List (Option ℕ)) (sights : List (List Span)) : Type 0 where
   pub count : length sights ≡ (height x sizes + 2) * (width x sizes + 1)
   pub each : (p : ℕ) → p < length sights → IsSightAt x sizes numbers p (slice_index_or sights p [])

@@ -1,48 +1,44 @@
--- What tests of further views are asked, and tell.
-use Rattle.std.specs.Prelude.{◌≢◌, ◌↔◌, ◌+◌, ◌-◌, ◌*◌, ◌<◌, Bool, ℕ, List, length, slice_index_or, Option, Some, None, IsTrue}
+-- What tests of layers are asked, and tell.
+use Rattle.std.specs.Prelude.{◌≢◌, ◌↔◌, ◌+◌, ◌-◌, ◌*◌, ◌<◌, Bool, ℕ, List, length, map, slice_index_or, IsTrue}
 use Rattle.solid_model.specs.declared.cell.Cell.{Cell}
 use Rattle.solid_model.specs.Blocks.{ProblemParts}
 use Rattle.solid_model.specs.Cells.{is_full}
 use Rattle.solid_model.specs.Choices.{cells_of_choice}
 use Rattle.solid_model.specs.Grid.{IsUnionOf}
 use Rattle.solid_model.specs.Panels.{coordinates_of}
-use Rattle.solid_model.specs.Runs.{ViewRuns}
 use Rattle.column_lanes.specs.Styles.{IsStyleByte}
 use Rattle.lemmas.specs.Bits.{bits}
-use Rattle.dxf_entities.specs.declared.extra.Extra.{Extra}
-use Rattle.further_views.specs.Further.{further_runs, seen_as, view_style}
-use Rattle.six_views.specs.Further.{FitsRuns, SieveParts}
+use Rattle.further_views.specs.Further.{AskedRuns, FurtherRuns, view_style}
+use Rattle.six_views.specs.Further.{ShowsAsked}
 use Rattle.six_views.specs.Fits.{ShowsMoved}
-use Rattle.six_views.specs.FurtherFrames.{further_frame}
+use Rattle.six_views.specs.SightFrames.{sight_frame}
 use Rattle.fit_lanes.specs.Points.{places_before}
 
--- a view of a problem's solids, and the runs that it has to show
-pub record ViewAsked : Type 0 where
+-- a layer of a problem's solids, and what it has to show
+pub record LayerAsked : Type 0 where
   pub problem : ProblemParts
-  pub extra : Extra
-  pub shown : ViewRuns
+  pub asked : AskedRuns
 
--- each solid that a choice fills shows them, or none does
-abbrev pub TellsShown : ViewAsked → List Bool → Bool → Type 0
-TellsShown asked choice told = (s : List Cell)
-    → IsUnionOf (coordinates_of asked.problem.grid) (cells_of_choice asked.problem.blocks.numbers choice) (is_full s)
-    → (IsTrue told ↔ ShowsMoved (further_frame asked.extra) (is_full s) (view_style asked.shown) (seen_as asked.extra))
+-- the layers that are asked for
+abbrev pub layers_asked : ProblemParts → FurtherRuns → List LayerAsked
+layers_asked p e = map (λ v. record { problem = p; asked = v }) e
 
--- a view, if it is asked for
-abbrev pub view_asked : ProblemParts → Extra → Option ViewRuns → Option ViewAsked
-view_asked p x None = None
-view_asked p x (Some v) = Some (record { problem = p; extra = x; shown = v })
+-- a choice fills this solid
+abbrev pub Fills : LayerAsked → List Bool → List Cell → Type 0
+Fills a choice s = IsUnionOf (coordinates_of a.problem.grid) (cells_of_choice a.problem.blocks.numbers choice) (is_full s)
 
--- the same of a view that may be asked for
-abbrev pub TellsIfAsked : Option ViewAsked → List Bool → Bool → Type 0
-TellsIfAsked None choice told = IsTrue told
-TellsIfAsked (Some asked) choice told = TellsShown asked choice told
+-- the solid that a choice fills shows the layer
+abbrev pub ShowsIn : LayerAsked → List Bool → Type 0
+ShowsIn a choice = (s : List Cell) → Fills a choice s → ShowsAsked s a.asked
 
--- each solid that a choice fills fits the further views, or none does
-abbrev pub TellsFit : SieveParts → List Bool → Bool → Type 0
-TellsFit asked choice told = (s : List Cell)
-    → IsUnionOf (coordinates_of asked.problem.grid) (cells_of_choice asked.problem.blocks.numbers choice) (is_full s)
-    → (IsTrue told ↔ FitsRuns (further_runs asked.further) s)
+-- each solid that a choice fills shows the layer, or none does
+abbrev pub TellsAsked : LayerAsked → List Bool → Bool → Type 0
+TellsAsked a choice told = (s : List Cell) → Fills a choice s → (IsTrue told ↔ ShowsAsked s a.asked)
+
+-- the same as if the layer had no cut
+abbrev pub TellsShown : LayerAsked → List Bool → Bool → Type 0
+TellsShown a choice told = (s : List Cell) → Fills a choice s
+    → (IsTrue told ↔ ShowsMoved (sight_frame a.asked.layer) (is_full s) (view_style a.asked.runs) a.asked.layer.view)
 
 -- ---- computed
 

@@ -7,10 +7,10 @@ use Rattle.solid_model.specs.Frames.{along, across}
 use Rattle.solid_model.specs.Grid.{Coordinates, gaps_along}
 use Rattle.solid_model.specs.Runs.{run_style, ViewRuns, runs_along}
 use Rattle.redraw.specs.GridRuns.{AreRunsOn}
-use Rattle.dxf_entities.specs.declared.extra.Extra.{Extra}
-use Rattle.six_views.specs.FurtherFrames.{further_frame}
+use Rattle.dxf_entities.specs.declared.layer.Layer.{Layer}
+use Rattle.six_views.specs.SightFrames.{sight_frame}
 use Rattle.six_views.specs.MovedRuns.{moved_run}
-use Rattle.six_views.specs.Turned.{turn_axis, turned_coordinates}
+use Rattle.six_views.specs.Turned.{turned_coordinates}
 use Rattle.fit_lanes.specs.Points.{ArePointBytes}
 use Rattle.fit_lanes.specs.Sights.{width, height}
 
@@ -45,23 +45,23 @@ AreNeverShown lines ends shown = (styles : List Style) (runs : List Run) → Hav
 -- ---- of a further view
 
 -- the lines of the turned grid on which its level, or its upright, segments lie, and the ends between which they do
-abbrev pub turned_lines : Coordinates → Extra → Bool → List ℤ
-turned_lines coordinates x upright = turned_coordinates (turn_axis x) coordinates (across (further_frame x) upright).axis
+abbrev pub turned_lines : Coordinates → Layer → Bool → List ℤ
+turned_lines coordinates x upright = turned_coordinates x coordinates (across (sight_frame x) upright).axis
 
-abbrev pub turned_ends : Coordinates → Extra → Bool → List ℤ
-turned_ends coordinates x upright = turned_coordinates (turn_axis x) coordinates (along (further_frame x) upright).axis
+abbrev pub turned_ends : Coordinates → Layer → Bool → List ℤ
+turned_ends coordinates x upright = turned_coordinates x coordinates (along (sight_frame x) upright).axis
 
 -- bytes by the points of a view's grid, and the runs of what they tell
-abbrev pub TellRuns : Coordinates → Extra → Bool → List ℕ → List Run → Type 0
+abbrev pub TellRuns : Coordinates → Layer → Bool → List ℕ → List Run → Type 0
 TellRuns coordinates x upright bytes runs = (styles : List Style) × HaveRuns (turned_lines coordinates x upright) (turned_ends coordinates x upright) styles runs
     × ArePointBytes (width x (gaps_along coordinates)) (height x (gaps_along coordinates)) upright styles bytes
 
 -- bytes tell the shown runs exactly where they are these
-abbrev pub AreWantedBytes : Coordinates → Extra → Bool → ViewRuns → List ℕ → Type 0
+abbrev pub AreWantedBytes : Coordinates → Layer → Bool → ViewRuns → List ℕ → Type 0
 AreWantedBytes coordinates x upright shown wanted = (bytes : List ℕ) (runs : List Run) → TellRuns coordinates x upright bytes runs
     → (runs ≡ placed_runs (turned_lines coordinates x upright) (turned_ends coordinates x upright) (runs_along upright shown)) ↔ (bytes ≡ wanted)
 
 -- no bytes tell them
-abbrev pub AreNeverDrawn : Coordinates → Extra → Bool → ViewRuns → Type 0
+abbrev pub AreNeverDrawn : Coordinates → Layer → Bool → ViewRuns → Type 0
 AreNeverDrawn coordinates x upright shown = (bytes : List ℕ) (runs : List Run) → TellRuns coordinates x upright bytes runs
     → runs ≡ placed_runs (turned_lines coordinates x upright) (turned_ends coordinates x upright) (runs_along upright shown) → ⊥

@@ -11,6 +11,7 @@
 
 mod busy_points;
 mod further_sieve;
+mod layer_test;
 mod points;
 mod sights;
 mod view_test;

@@ -9,11 +9,11 @@ ghost use Rattle.solid_model.specs.declared.cell.Axis.{Axis};
 ghost use Rattle.solid_model.specs.Choices.{cells_of_choice};
 ghost use Rattle.solid_model.specs.GridPlaces.{number_on};
 ghost use Rattle.solid_model.specs.PerAxis.{numbers_of};
-ghost use Rattle.six_views.specs.FurtherFrames.{further_frame};
+ghost use Rattle.six_views.specs.SightFrames.{sight_frame};
 
 use cell_rows::{BlockRows, RowSpans, Span, has_bit};
-use further_views::Extra;
-use six_views::frame_of;
+use further_views::Layer;
+use six_views::sight_frame;
 use solid_model::{Direction, Memory, PerAxis, cell_in, number_on};
 use std::alloc::Global;
 
@@ -59,19 +59,19 @@ fn sight(
     alloc: Global,
     rows: &BlockRows<'_>,
     sizes: PerAxis,
-    extra: Extra,
+    layer: Layer,
     right: usize,
     up: usize,
 ) -> Result<Vec<Span>, Memory>
     requires sizes { sizes ≡ rows.now.sizes }
     requires few { (a : Axis) → numbers_of sizes a ≤ 63 }
-    requires right { right < numbers_of sizes (further_frame extra).right.axis }
-    requires up { up < numbers_of sizes (further_frame extra).up.axis }
+    requires right { right < numbers_of sizes (sight_frame layer).right.axis }
+    requires up { up < numbers_of sizes (sight_frame layer).up.axis }
     ensures { IfOk result (λ spans. (choice : List Bool) (k : ℕ) → is_filled choice spans.items k
-        ≡ grid_column (further_frame extra) (numbers_of sizes)
+        ≡ grid_column (sight_frame layer) (numbers_of sizes)
         (cells_of_choice rows.now.numbers choice) right up (pos k)) }
 {
-    let frame = frame_of(extra);
+    let frame = sight_frame(layer);
     let axis = frame.away.axis;
     let cell = cell_in(frame, sizes, right, up, 0).numbered(axis, 0);
     let place = sizes.numbered(axis, 1).place(cell);
@@ -83,19 +83,19 @@ fn sight_at(
     alloc: Global,
     rows: &BlockRows<'_>,
     sizes: PerAxis,
-    extra: Extra,
+    layer: Layer,
     place: usize,
 ) -> Result<Vec<Span>, Memory>
     requires sizes { sizes ≡ rows.now.sizes }
     requires few { (a : Axis) → numbers_of sizes a ≤ 63 }
-    ensures { IfOk result (λ spans. IsSightAt extra (numbers_of sizes) rows.now.numbers place
+    ensures { IfOk result (λ spans. IsSightAt layer (numbers_of sizes) rows.now.numbers place
         spans.items) }
 {
-    let frame = frame_of(extra);
+    let frame = sight_frame(layer);
     let width = sizes.along(frame.right.axis);
     let (right, row) = (place % (width + 1), place / (width + 1));
     if right < width && row > 0 && row <= sizes.along(frame.up.axis) {
-        sight(alloc, rows, sizes, extra, right, row - 1)
+        sight(alloc, rows, sizes, layer, right, row - 1)
     } else {
         Ok(Vec::new(alloc))
     }
@@ -106,18 +106,18 @@ pub fn sights(
     alloc: Global,
     rows: &BlockRows<'_>,
     sizes: PerAxis,
-    extra: Extra,
+    layer: Layer,
 ) -> Result<RowSpans, Memory>
     requires sizes { sizes ≡ rows.now.sizes }
     requires few { (a : Axis) → numbers_of sizes a ≤ 63 }
-    ensures { IfOk result (AreSights extra (numbers_of sizes) rows.now.numbers) }
+    ensures { IfOk result (AreSights layer (numbers_of sizes) rows.now.numbers) }
 {
-    let frame = frame_of(extra);
+    let frame = sight_frame(layer);
     let stride = sizes.along(frame.right.axis) + 1;
     let places = (sizes.along(frame.up.axis) + 2) * stride;
     let mut sights = Vec::with_capacity(alloc, places)?;
     for place in 0..places {
-        sights.push(sight_at(alloc, rows, sizes, extra, place)?)?;
+        sights.push(sight_at(alloc, rows, sizes, layer, place)?)?;
     }
     RowSpans::new(alloc, sights)
 }

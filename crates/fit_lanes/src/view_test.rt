@@ -1,4 +1,4 @@
-//! The test of one further view.
+//! The test of one layer without a cut.
 
 ghost use Rattle.std.specs.Prelude.{◌≡◌, ◌≤◌, ◌<◌, ◌+◌, ◌↔◌, ◌&&◌, length, IsTrue, IfOk, IfSome, MatchOption, if◌then◌else◌};
 ghost use Rattle.fit_lanes.specs.Busy.{AreAlikeBeyond, AreBlankBeyond};
@@ -10,18 +10,18 @@ use crate::points::{begins, draw};
 use crate::sights::sights;
 use crate::wanted::wanted_bytes;
 use cell_rows::{BlockRows, RowSpans};
-use further_views::Extra;
-use six_views::frame_of;
+use further_views::Layer;
+use six_views::sight_frame;
 use solid_model::{Axis, Choice, Memory, Problem, ViewLines};
 use std::alloc::Global;
 use std::marker::Model;
 
-/// A further view that is asked for, what it has to show on a problem's grid, and the room in which
-/// choices are tested. Contracts see the problem, the view and its runs.
+/// A layer that is asked for, what it has to show on a problem's grid where it has no cut, and the
+/// room in which choices are tested. Contracts see the problem and the layer with its runs.
 #[derive(Debug, Drop)]
 pub struct ViewTest<'a> {
     problem: &'a Problem,
-    extra: Extra,
+    layer: Layer,
     shown: &'a ViewLines,
     sights: RowSpans,
     level: Option<Vec<u8>>,
@@ -34,24 +34,27 @@ pub struct ViewTest<'a> {
 impl<'a> Model for ViewTest<'a> {
     ghost use Rattle.std.specs.Prelude.{true, false, MatchOption};
     ghost use Rattle.fit_lanes.specs.Kept.{IsRoomOf};
-    ghost use Rattle.fit_lanes.specs.Tests.{ViewAsked};
+    ghost use Rattle.fit_lanes.specs.Tests.{LayerAsked};
     ghost use Rattle.fit_lanes.specs.Wanted.{AreWantedBytes, AreNeverDrawn};
     ghost use Rattle.solid_model.specs.Panels.{coordinates_of};
 
-    ghost Value = { ViewAsked };
+    ghost Value = { LayerAsked };
 
-    ghost view = { λ s. record { problem = s.problem.now; extra = s.extra; shown = s.shown.now } };
+    ghost view = { λ s. record {
+      problem = s.problem.now;
+      asked = record { layer = s.layer; runs = s.shown.now };
+    } };
 
     ghost invariant = { λ s.
-        IsRoomOf s.problem.now s.extra s.shown.now s.sights s.busy.items s.columns.items
+        IsRoomOf s.problem.now s.layer s.shown.now s.sights s.busy.items s.columns.items
         s.drawn.items
         × MatchOption s.level
-        (AreNeverDrawn (coordinates_of s.problem.now.grid) s.extra false s.shown.now)
-        (λ v. AreWantedBytes (coordinates_of s.problem.now.grid) s.extra false s.shown.now
+        (AreNeverDrawn (coordinates_of s.problem.now.grid) s.layer false s.shown.now)
+        (λ v. AreWantedBytes (coordinates_of s.problem.now.grid) s.layer false s.shown.now
         v.items)
         × MatchOption s.upright
-        (AreNeverDrawn (coordinates_of s.problem.now.grid) s.extra true s.shown.now)
-        (λ v. AreWantedBytes (coordinates_of s.problem.now.grid) s.extra true s.shown.now
+        (AreNeverDrawn (coordinates_of s.problem.now.grid) s.layer true s.shown.now)
+        (λ v. AreWantedBytes (coordinates_of s.problem.now.grid) s.layer true s.shown.now
         v.items) };
 }
 
@@ -107,17 +110,20 @@ fn both(level: bool, upright: bool) -> bool
 impl<'a> ViewTest<'a> {
     ghost use Rattle.std.specs.Prelude.{◌≡◌, IfOk};
 
-    /// The test of a view that has to show these runs. An `Err` is out of memory.
+    /// The test of a layer, as if it had no cut. An `Err` is out of memory.
     pub fn of(
         alloc: Global,
         problem: &'a Problem,
         rows: &BlockRows<'_>,
-        extra: Extra,
+        layer: Layer,
         shown: &'a ViewLines,
     ) -> Result<ViewTest<'a>, Memory>
         requires { rows.now ≡ problem.now.blocks }
         ensures { IfOk result (λ test. test
-            ≡ record { problem = problem.now; extra = extra; shown = shown.now }) }
+            ≡ record {
+              problem = problem.now;
+              asked = record { layer = layer; runs = shown.now };
+            }) }
     {
         let grid = problem.grid();
         // A look at the grid's coordinates tells that they ascend, and one at the runs that they
@@ -126,19 +132,19 @@ impl<'a> ViewTest<'a> {
         let _level = shown.along(false).as_slice();
         let _upright = shown.along(true).as_slice();
         let sizes = grid.sizes();
-        let frame = frame_of(extra);
+        let frame = sight_frame(layer);
         let points = (sizes.along(frame.up.axis) + 1) * (sizes.along(frame.right.axis) + 1);
-        let sights = sights(alloc, rows, sizes, extra)?;
+        let sights = sights(alloc, rows, sizes, layer)?;
         let busy = busy_points(alloc, &sights, sizes.along(frame.right.axis) + 1)?;
         let columns = vec![in alloc; 0; sights.count()]?;
         let drawn = vec![in alloc; 0; points]?;
         Ok(ViewTest {
             problem,
-            extra,
+            layer,
             shown,
             sights,
-            level: wanted_bytes(alloc, grid, extra, shown, false)?,
-            upright: wanted_bytes(alloc, grid, extra, shown, true)?,
+            level: wanted_bytes(alloc, grid, layer, shown, false)?,
+            upright: wanted_bytes(alloc, grid, layer, shown, true)?,
             busy,
             columns,
             drawn,
@@ -150,14 +156,14 @@ impl ViewTest<'_> {
     ghost use Rattle.std.specs.Prelude.{◌≡◌, IfSome};
     ghost use Rattle.fit_lanes.specs.Tests.{TellsShown};
 
-    /// Whether the solid that a choice fills shows the view. It isn't told of a solid that doesn't
+    /// Whether the solid that a choice fills shows the layer, uncut. It isn't told of a solid that doesn't
     /// begin where the grid does: of those that match there is none.
     pub fn shows(&mut self, choice: &Choice) -> Option<bool>
         ensures same { self.new ≡ self.old }
         ensures told { IfSome result (λ yes. TellsShown self.old choice.now yes) }
     {
         self.sights.fill(choice, self.columns.as_mut_slice());
-        let frame = frame_of(self.extra);
+        let frame = sight_frame(self.layer);
         let sizes = self.problem.grid().sizes();
         let (width, height) = (sizes.along(frame.right.axis), sizes.along(frame.up.axis));
         let (columns, drawn) = (self.columns.as_slice(), self.drawn.as_mut_slice());

@@ -8,9 +8,9 @@ ghost use Rattle.solid_model.specs.Runs.{run_covers, run_style};
 ghost use Rattle.six_views.specs.MovedRuns.{moved_run};
 
 use crate::points::point_bytes;
-use further_views::Extra;
+use further_views::Layer;
 use redraw::runs_on;
-use six_views::{are_moved, frame_of, is_farther, turned_places};
+use six_views::{are_moved, is_farther, sight_frame, turned_places};
 use solid_model::{Axis, Grid, Memory, Run, Style, ViewLines};
 use std::alloc::Global;
 
@@ -114,21 +114,21 @@ fn wanted_styles(
 pub fn wanted_bytes(
     alloc: Global,
     grid: &Grid,
-    extra: Extra,
+    layer: Layer,
     shown: &ViewLines,
     upright: bool,
 ) -> Result<Option<Vec<u8>>, Memory>
     ensures { IfOk result (λ wanted. MatchOption wanted
-        (AreNeverDrawn (coordinates_of grid.now) extra upright shown.now)
-        (λ bytes. AreWantedBytes (coordinates_of grid.now) extra upright shown.now bytes.items)) }
+        (AreNeverDrawn (coordinates_of grid.now) layer upright shown.now)
+        (λ bytes. AreWantedBytes (coordinates_of grid.now) layer upright shown.now bytes.items)) }
 {
     // A look at the grid's coordinates tells that they ascend.
     let _xs = grid.coordinates(Axis::X);
-    let frame = frame_of(extra);
+    let frame = sight_frame(layer);
     let sizes = grid.sizes();
     let (width, height) = (sizes.along(frame.right.axis), sizes.along(frame.up.axis));
-    let lines = turned_places(alloc, grid, extra, frame.across(upright).axis)?;
-    let ends = turned_places(alloc, grid, extra, frame.along(upright).axis)?;
+    let lines = turned_places(alloc, grid, layer, frame.across(upright).axis)?;
+    let ends = turned_places(alloc, grid, layer, frame.along(upright).axis)?;
     let shown = shown.along(upright).as_slice();
     match wanted_styles(alloc, &lines, &ends, shown)? {
         Some(styles) => Ok(Some(point_bytes(alloc, &styles, width, height, upright)?)),

@@ -150,12 +150,12 @@ OwesOn (read profile asked) = GoesOn (judgement_of asked)
 OwesOn (alone right tells) = Unit {0}
 
 on_owed : (said : Option Job) → OwesOn (owed said)
-on_owed (Some (job.Solve workers limits pages decimals two)) = search_goes_on (search_for_all pages limits) (listing_goes_on pages limits)
-on_owed (Some (job.Redraw which workers limits decimals two)) = search_goes_on (search_for_one IsFileOf which limits) (piece_goes_on IsFileOf which limits)
-on_owed (Some (job.Stl which workers limits two)) = search_goes_on (search_for_one (λ _. IsSolidStl) which limits) (piece_goes_on (λ _. IsSolidStl) which limits)
+on_owed (Some (job.Solve workers limits pages decimals two sections)) = search_goes_on (search_for_all pages limits) (listing_goes_on pages limits)
+on_owed (Some (job.Redraw which workers limits decimals two sections)) = search_goes_on (search_for_one IsFileOf which limits) (piece_goes_on IsFileOf which limits)
+on_owed (Some (job.Stl which workers limits two sections)) = search_goes_on (search_for_one (λ _. IsSolidStl) which limits) (piece_goes_on (λ _. IsSolidStl) which limits)
 on_owed (Some (job.Prove workers limits two)) =
     search_goes_on (search_for_log limits) (λ t kind c text. whole_goes_on ((search_for_log limits).tells t kind c) text)
-on_owed (Some (job.Check two)) = λ t answer text told never. whole_goes_on (TellsChecked t answer) text told (never answer)
+on_owed (Some (job.Check two sections)) = λ t answer text told never. whole_goes_on (TellsChecked t answer) text told (never answer)
 on_owed (Some (job.Ask workers limits two)) = asked_goes_on limits
 on_owed (Some (job.Blocks decimals two)) = λ t answer text told never. whole_goes_on (TellsBlocks t answer) text told (never answer)
 on_owed (Some (job.Make n)) = tt

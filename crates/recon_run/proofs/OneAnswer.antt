@@ -286,14 +286,14 @@ OwesOne (read profile asked) = JudgesOne (judgement_of asked)
 OwesOne (alone right tells) = (text other : List ℕ) → tells text → tells other → text ≡ other
 
 one_owed : (said : Option Job) → OwesOne (owed said)
-one_owed (Some (job.Solve workers limits pages decimals two)) =
+one_owed (Some (job.Solve workers limits pages decimals two sections)) =
     one_search (search_for_all pages limits) (λ t. text_alike pages) (one_listing pages limits)
-one_owed (Some (job.Redraw which workers limits decimals two)) =
+one_owed (Some (job.Redraw which workers limits decimals two sections)) =
     one_search (search_for_one IsFileOf which limits) (λ t text other is. is) (one_numbered IsFileOf (λ d s. one_file s s (λ g. refl) d) which limits)
-one_owed (Some (job.Stl which workers limits two)) =
+one_owed (Some (job.Stl which workers limits two sections)) =
     one_search (search_for_one (λ _. IsSolidStl) which limits) (λ t text other is. is) (one_numbered (λ _. IsSolidStl) (λ d. one_text) which limits)
 one_owed (Some (job.Prove workers limits two)) = one_search (search_for_log limits) (λ t text other is. inl is) (one_logs limits)
-one_owed (Some (job.Check two)) = (
+one_owed (Some (job.Check two sections)) = (
   λ t text other is. is,
   λ t a b text other told told_too. inl (one_checked t a b text other told told_too),
 )

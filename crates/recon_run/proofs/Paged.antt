@@ -7,7 +7,7 @@ use Rattle.std.specs.Io.KnownBytes.{Appends}
 use Rattle.page_calls.specs.Those.{AreThose}
 use Rattle.page_calls.proofs.Those.{decided_those, few_those, joined, joined_those, those-append, those_alike, those_ascend, those_within}
 use Rattle.column_laws.proofs.LivePrefixes.{live_keeps_matching}
-use Rattle.further_views.specs.Further.{HasRuns, further_runs}
+use Rattle.further_views.specs.Further.{HasRuns}
 use Rattle.replies.specs.Writings.{EndsWriting}
 use Rattle.recon_run.specs.declared.sought.Sought.{Sought}
 use Rattle.recon_run.specs.Pages.{ArePagesOf, BeginsPages, IsPage, TellsPages}
@@ -149,8 +149,8 @@ gained_prefix before now true calls text gained = gained.1
 gained_prefix before now false calls text gained = (length text, omega arith, subst (Appends before now) (sym (take-length text)) gained)
 
 module _ (sought : Sought) (limits : SearchLimits) (blocks : IsBlocksOf sought.problem.grid sought.problem.blocks) (grid : IsGrid sought.problem.grid)
-    (runs : HasRuns (further_runs sought.further)) (Fitting : List Bool → Type 0)
-    (alike : (choice : List Bool) → FitsChoice sought.problem (further_runs sought.further) choice ↔ Fitting choice) where
+    (runs : HasRuns sought.further) (Fitting : List Bool → Type 0)
+    (alike : (choice : List Bool) → FitsChoice sought.problem sought.further choice ↔ Fitting choice) where
   abbrev p : ProblemParts
   p = sought.problem
 
@@ -168,10 +168,9 @@ module _ (sought : Sought) (limits : SearchLimits) (blocks : IsBlocksOf sought.p
   decided (drawing, is, of) choice member =
       let has = each-at (λ c. (length c ≡ p.blocks.count) × IsMatchingChoice drawing (coordinates_of p.grid) p.blocks.numbers c) all choice (matching drawing is of).each member in
       let (solids, match, fill) = some_solids_of_blocks drawing p.grid of p.blocks.numbers p.blocks.count blocks.blocks (choice ∷ []) (has, tt) (tt, tt) in
-      let (kept, left) = sifted p (λ a. (of.coordinates a).ordered) (further_runs sought.further) runs (choice ∷ []) solids fill
-      (each-weaker (λ s. Matches drawing s × IsInStatedForm s) IsSolid solids (λ s h. h.0.0) match.matching) in by kept left
+      let (kept, left) = sifted p (λ a. (of.coordinates a).ordered) sought.further runs (choice ∷ []) solids fill in by kept left
     where
-      by : (kept : List (List Bool)) → AreThose (FitsChoice p (further_runs sought.further)) (choice ∷ []) kept → IsDecided (Fitting choice)
+      by : (kept : List (List Bool)) → AreThose (FitsChoice p sought.further) (choice ∷ []) kept → IsDecided (Fitting choice)
       by kept (inl (none, rest)) = inr (λ fits. none ((alike choice).1 fits))
       by kept (inr (holds, rest)) = inl ((alike choice).0 holds)
 
@@ -209,7 +208,7 @@ module _ (sought : Sought) (limits : SearchLimits) (blocks : IsBlocksOf sought.p
               problem = refl;
               kind = refl;
               opened = refl;
-              those = those_alike Fitting (FitsChoice p (further_runs sought.further)) (λ c. ((alike c).1, (alike c).0)) can.choices kept are;
+              those = those_alike Fitting (FitsChoice p sought.further) (λ c. ((alike c).1, (alike c).0)) can.choices kept are;
             },
           ),
           (

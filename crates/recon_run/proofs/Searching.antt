@@ -4,7 +4,7 @@ use Rattle.std.proofs.Math.Seq.{take-length}
 use Rattle.std.specs.Io.KnownBytes.{Appends}
 use Rattle.page_calls.specs.Those.{AreThose}
 use Rattle.file_problem.specs.Inputs.{HasFurther, HasProblem, Input}
-use Rattle.further_views.specs.Further.{further_lines, further_runs}
+use Rattle.further_views.specs.Further.{further_lines}
 use Rattle.replies.specs.declared.status.Answer.{Answer}
 use Rattle.replies.specs.declared.status.Failure.{Failure}
 use Rattle.replies.specs.Status.{end_answer}
@@ -50,9 +50,9 @@ module _ (limits : SearchLimits) (t : Input) (sought : Sought) (by : IsSoughtBy 
 
   -- of what it found those are left that fit,
   pub searched_left : AreThose (FitsLines s.problem (further_lines searched_problem.further)) found.ended.solids s.ended.solids
-  searched_left = by_lines s.problem (λ a. (searched_problem.grid.coordinates a).ordered) (further_lines searched_problem.further) (further_runs sought.further)
+  searched_left = by_lines s.problem (λ a. (searched_problem.grid.coordinates a).ordered) (further_lines searched_problem.further) sought.further
       searched_sought.1 found.ended.solids s.ended.solids
-      (subst (λ (q : ProblemParts). AreThose (FitsChoice q (further_runs sought.further)) found.ended.solids s.ended.solids) (sym is_of.2.problem) is_of.2.those)
+      (subst (λ (q : ProblemParts). AreThose (FitsChoice q sought.further) found.ended.solids s.ended.solids) (sym is_of.2.problem) is_of.2.those)
 
   -- so it lists solids
   pub searched_listing : (solids : List (List Cell)) × IsListing limits t s.problem searched_problem s.ended.kind s.ended.opened s.ended.solids solids

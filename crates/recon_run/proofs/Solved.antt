@@ -3,7 +3,7 @@ use Rattle.std.proofs.Common.{◌≡◌, ℕ, ◌<◌, ◌≤◌, ◌<ℤ◌, Li
 use Rattle.column_laws.proofs.LivePrefixes.{live_keeps_matching}
 use Rattle.page_calls.specs.Those.{AreThose}
 use Rattle.page_calls.proofs.Those.{no_more_those, some_those}
-use Rattle.dxf_entities.specs.declared.extra.Extra.{Extra}
+use Rattle.dxf_entities.specs.declared.layer.Layer.{Layer}
 use Rattle.file_problem.specs.Inputs.{HasProblem, Input}
 use Rattle.further_views.specs.Further.{further_lines}
 use Rattle.six_views.specs.Fits.{Fits}
@@ -149,7 +149,7 @@ module _ (limits : SearchLimits) (t : Input) (p : ProblemParts) (has : HasProble
 
   -- ---- what is left of it
 
-  abbrev further : Extra → List Line
+  abbrev further : Layer → List Line
   further = further_lines has.further
 
   abbrev pub Left : List (List Bool) → List (List Bool) → Type 0

@@ -13,12 +13,14 @@ use Rattle.dxf_groups.specs.TextLines.{text_lines}
 use Rattle.dxf_groups.specs.Pairs.{rest_of_text}
 use Rattle.std.proofs.Common.{◌≡◌, refl, inl, inr, ⊎_elim, Bool, true, false, ℕ, ◌+◌, ◌-◌, ◌<◌, ◌≤◌, List, [], ◌∷◌, length, drop, Option, Some, None, Result, Ok, Err, ℤ, sym, ap, subst, ◌∙◌, arith, ◌++◌, codes}
 use Rattle.std.proofs.lemmas.Bool.{cases_lt}
-use Rattle.dxf_entities.specs.declared.extra.ExtraLine.{ExtraLine}
-use Rattle.dxf_entities.specs.Extras.{lines_read}
+use Rattle.dxf_entities.specs.declared.layer_line.LayerLine.{LayerLine}
+use Rattle.dxf_entities.specs.declared.layer_set.LayerSet.TheVariants.{Main}
+use Rattle.dxf_entities.specs.Apart.{lines_read}
 use Rattle.dxf_entities.proofs.KeptLines.{lines_read_are_kept}
 use Rattle.replies.specs.declared.status.Answer.{Answer}
 use Rattle.replies.specs.declared.status.Answer.TheVariants as answers
-use Rattle.file_problem.specs.Inputs.{HasNoFault, HasProblem, Input, IsFaultAfter, IsFileFault, form_of}
+use Rattle.file_problem.specs.Cuts.{first_uncut}
+use Rattle.file_problem.specs.Inputs.{HasNoFault, HasProblem, Input, IsFaultOfLines, IsFileFault, form_of}
 use Rattle.recon_run.specs.Answers.{usage_text, AreSomeLogs, CanEnd, IsSomeLog, IsTried, TellsNumbered, head_of, numbered_answer}
 use Rattle.solid_model.specs.Search.{default_limits, SearchLimits}
 use Rattle.recon_run.specs.Endings.{Answers}
@@ -44,12 +46,12 @@ use Rattle.solid_model.specs.declared.cell.Axis.TheVariants.{X, Y, Z}
 use Rattle.solid_model.specs.declared.ended.EndKind.{EndKind}
 use Rattle.solid_model.specs.declared.ended.EndKind.TheVariants.{Whole, CutNodes, CutSolids}
 use Rattle.solid_model.specs.declared.fault.Fault.{Fault}
-use Rattle.solid_model.specs.declared.fault.Fault.TheVariants.{EmptyView, TooFine, TooLong, TooManyBlocks}
+use Rattle.solid_model.specs.declared.fault.Fault.TheVariants.{EmptyView, NoCut, TooFine, TooLong, TooManyBlocks}
 use Rattle.solid_model.specs.declared.frame.View.{View}
 use Rattle.solid_model.specs.declared.frame.View.TheVariants.{Front, Top, Side}
 use Rattle.solid_model.specs.declared.segment.Segment.{Segment}
 use Rattle.solid_model.specs.declared.segment.Style.{Style}
-use Rattle.solid_model.specs.Blocks.{AreBlocksOf, ProblemParts}
+use Rattle.solid_model.specs.Blocks.{AreBlocksOf, IsBlocksOf, ProblemParts}
 use Rattle.solid_model.specs.Cells.{IsSolid}
 use Rattle.solid_model.specs.Choices.{cells_of_choice}
 use Rattle.solid_model.specs.Forcing.{is_live}
@@ -133,12 +135,12 @@ EndlessSearch limits t = (p : ProblemParts) → HasProblem t p → (kind : EndKi
 
 module _ (limits : SearchLimits) (t : Input) (short : length t.bytes ≤ t.most) (faultless : (fault : Fault) → IsFileFault t fault → ⊥)
     (endless : EndlessSearch limits t) where
-  module _ (ls : List Line) (further : List ExtraLine) (reads : lines_read (form_of t) t.bytes ≡ Ok (ls, further)) where
+  module _ (ls : List Line) (further : List LayerLine) (reads : lines_read (form_of t) t.bytes ≡ Ok (ls, further)) where
     abbrev drawing : Segment → Style
     drawing = drawing_of ls
 
-    no_fault_after : (f : Fault) → IsFaultAfter t.two (Ok (ls, further)) f → ⊥
-    no_fault_after f after = faultless f (file_fault t (Ok (ls, further)) f short reads after)
+    no_fault_after : (f : Fault) → IsFaultOfLines t.two ls f → ⊥
+    no_fault_after f after = faultless f (file_fault t (Ok (ls, further)) f short reads (inl after))
 
     shown : IsShown t.two ls
     shown = shown_by_views t.two ls (λ v empty. no_fault_after (EmptyView v) (inl (v, empty, refl)))
@@ -162,11 +164,9 @@ module _ (limits : SearchLimits) (t : Input) (short : length t.bytes ≤ t.most)
     few : (a : Axis) (zs : List ℤ) → AreGridCoordinates drawing a zs → IsFineEnough drawing a → length zs ≤ most_grid_coordinates
     few a zs are fine = ⊎_elim (λ many. absurd (fine (length zs) (zs, are, refl, many))) (λ l. l) (cases_lt most_grid_coordinates (length zs))
 
-    -- with this grid and few blocks, a search ends somehow
+    -- with this grid and few blocks each plane cuts, and a search ends somehow
     with_blocks : (g : GridParts) → IsGridOf drawing g → (numbers : List (Option ℕ)) (count : ℕ) → AreBlocksOf g numbers count → count ≤ most_blocks → ⊥
-    with_blocks g grid numbers count are few_blocks =
-        let end = can_list (is_live problem) count limits (matching limits t problem has).ordered [] tt tt (omega arith) in
-        endless problem has end.kind end.opened end.choices end.ends
+    with_blocks g grid numbers count are few_blocks = by (first_uncut g further) refl
       where
         problem : ProblemParts
         problem = record {
@@ -179,8 +179,26 @@ module _ (limits : SearchLimits) (t : Input) (short : length t.bytes ≤ t.most)
         sized Y = refl
         sized Z = refl
 
-        has : HasProblem t problem
-        has = record { short = short; lines = ls; further = further; reads = reads; shown = shown; grid = grid; blocks = record { sized = sized; blocks = are }; few = few_blocks }
+        blocks : IsBlocksOf g problem.blocks
+        blocks = record { sized = sized; blocks = are }
+
+        by : (uncut : Option ℕ) → first_uncut g further ≡ uncut → ⊥
+        by (Some line) uncut = faultless (NoCut line) (file_fault t (Ok (ls, further)) (NoCut line) short reads
+            (inr (record { problem = problem; shown = shown; grid = grid; blocks = blocks; few = few_blocks; line = line; first = uncut; is = refl })))
+        by None cuts =
+            let has : HasProblem t problem = record {
+              short = short;
+              lines = ls;
+              further = further;
+              reads = reads;
+              shown = shown;
+              grid = grid;
+              blocks = blocks;
+              few = few_blocks;
+              cuts = cuts;
+            } in
+            let end = can_list (is_live problem) count limits (matching limits t problem has).ordered [] tt tt (omega arith) in
+            endless problem has end.kind end.opened end.choices end.ends
 
     -- it has some blocks
     with_grid : (g : GridParts) → IsGridOf drawing g → ⊥
@@ -222,7 +240,7 @@ module _ (limits : SearchLimits) (t : Input) (short : length t.bytes ≤ t.most)
         styles xs ys zs Side true = refl
 
   -- it can't be that an input that isn't too long has no fault and no end of a search
-  short_input : (r : Result (List Line × List ExtraLine) Fault) → lines_read (form_of t) t.bytes ≡ r → ⊥
+  short_input : (r : Result (List Line × List LayerLine) Fault) → lines_read (form_of t) t.bytes ≡ r → ⊥
   short_input (Err found) reads = faultless found (file_fault t (Err found) found short reads refl)
   short_input (Ok (ls, further)) reads = input_with_lines ls further reads
 
@@ -310,7 +328,7 @@ tried_somehow : (n : ℕ) → ((text : List ℕ) → IsTried n text → ⊥) →
 tried_somehow n never =
     let (t, file) = some_file (made_solid n) (made_is_solid n) 0 in
     let p = made_problem n in let has = made_has_problem n t file in
-    let end = can_list (is_live p) p.blocks.count default_limits (matching default_limits (input_of (drawing_profile false 0 false) t) p has).ordered [] tt tt (omega arith) in
+    let end = can_list (is_live p) p.blocks.count default_limits (matching default_limits (input_of (drawing_profile Main 0 false) t) p has).ordered [] tt tt (omega arith) in
     let (volume, first) = some_first p end.choices in
     let line : ℕ → List ℕ = λ v. trial_text n p.blocks.count (length end.choices) end.opened v in
     never (line volume) (figures_are n t file p has end.kind end.opened end.choices end.ends (line volume) (λ solids are. ap line (first solids are)))
@@ -385,14 +403,14 @@ OwesSome (read profile asked) = JudgesSome (judgement_of asked)
 OwesSome (alone right tells) = ((text : List ℕ) → tells text → ⊥) → ⊥
 
 some_owed : (j : Job) → IsCounted j → OwesSome (owed_for j)
-some_owed (job.Solve workers limits pages decimals two) counted =
+some_owed (job.Solve workers limits pages decimals two sections) counted =
     some_search (search_for_all pages limits) (λ t p has. some_listing limits t p has pages)
-some_owed (job.Redraw which workers limits decimals two) counted = some_search (search_for_one IsFileOf which limits)
+some_owed (job.Redraw which workers limits decimals two sections) counted = some_search (search_for_one IsFileOf which limits)
     (some_numbered IsFileOf (λ d p choice s are. some_file s are.matching.0.0.0 d) which counted.0 limits)
-some_owed (job.Stl which workers limits two) counted = some_search (search_for_one (λ _. IsSolidStl) which limits)
+some_owed (job.Stl which workers limits two sections) counted = some_search (search_for_one (λ _. IsSolidStl) which limits)
     (some_numbered (λ _. IsSolidStl) some_stl which counted.0 limits)
 some_owed (job.Prove workers limits two) counted = some_search (search_for_log limits) (some_proof limits counted.1)
-some_owed (job.Check two) counted = λ t none never. searched_somehow default_limits t none (λ p has kind opened choices ends.
+some_owed (job.Check two sections) counted = λ t none never. searched_somehow default_limits t none (λ p has kind opened choices ends.
     some_checked t p has _ (matching default_limits t p has) never)
 some_owed (job.Ask workers limits two) counted = some_session limits
 some_owed (job.Blocks decimals two) counted = λ t none never. searched_somehow default_limits t none (λ p has kind opened choices ends.

@@ -1,6 +1,7 @@
 -- The file that is made from a number has no fault, and its search passes no limit.
-use Rattle.std.proofs.Common.{◌≡◌, false, [], ℕ, ◌≤◌, List, Bool, length, Ok, ap, sym, subst, ◌∙◌, arith}
+use Rattle.std.proofs.Common.{◌≡◌, false, refl, [], ℕ, ◌≤◌, List, Bool, length, Ok, ap, sym, subst, ◌∙◌, arith}
 use Rattle.dxf_entities.specs.Reading.{read_of}
+use Rattle.dxf_entities.specs.declared.layer_set.LayerSet.TheVariants.{Main}
 use Rattle.dxf_entities.proofs.KeptLines.{none_further_in_three_views, three_views_are_read}
 use Rattle.dxf_entities.proofs.NearPoints.{ok_value}
 use Rattle.drawing_maker.specs.Made.{made_solid}
@@ -33,7 +34,7 @@ use Rattle.solid_model.specs.Search.{default_limits}
 
 module _ (n : ℕ) (t : List ℕ) (file : IsFileOf 0 (made_solid n) t) where
   abbrev pub input : Input
-  input = input_of (drawing_profile false 0 false) t
+  input = input_of (drawing_profile Main 0 false) t
 
   -- the lines that are read draw the made drawing
   drawn : (lines : List Line) → read_of 0 t ≡ Ok lines → drawing_of lines ≡ made_drawing n
@@ -61,6 +62,7 @@ module _ (n : ℕ) (t : List ℕ) (file : IsFileOf 0 (made_solid n) t) where
         grid = subst (λ (d : Segment → Style). IsGridOf d (made_problem n).grid) (sym (drawn back.lines back.reads)) (made_grid_is n);
         blocks = made_blocks_are n;
         few = few_made_blocks n (made_problem n).grid (made_grid_is n) (made_problem n).blocks.numbers (made_problem n).blocks.count (made_blocks_are n).blocks;
+        cuts = refl;
       }
 
   -- and no fault

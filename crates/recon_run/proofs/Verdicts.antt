@@ -7,8 +7,7 @@ use Rattle.completeness_logs.specs.Logs.{KnownBlocks, IsRightEntry, IsUndecided,
 use Rattle.completeness_logs.specs.LogTexts.{IsLog, most_listed, opening_line}
 use Rattle.dxf_entities.specs.Entries.{before_entries, entries_of}
 use Rattle.dxf_entities.specs.declared.layer_line.LayerLine.{LayerLine}
-use Rattle.dxf_entities.specs.declared.extra.ExtraLine.{ExtraLine}
-use Rattle.dxf_entities.specs.Extras.{lines_apart, lines_read}
+use Rattle.dxf_entities.specs.Apart.{lines_apart, lines_read}
 use Rattle.dxf_entities.specs.Forms.{FormParts}
 use Rattle.dxf_entities.specs.Reading.{Progress, between, nothing_read, entries_read, pairs_read, text_read}
 use Rattle.dxf_entities.proofs.NearPoints.{HasSteps, after_ok}
@@ -39,7 +38,7 @@ no_lines_at_fault [] f s ls e = cc
 no_lines_at_fault (x ∷ es) f s ls e = never_ok _ (entries_read es (Err f)) (λ t ms. no_lines_at_fault es f t ms) ls e
 
 -- a text that has lines has an end, and something stands behind it
-pub rest_there : (form : FormParts) (text : List ℕ) (read : List Line × List ExtraLine) → lines_read form text ≡ Ok read
+pub rest_there : (form : FormParts) (text : List ℕ) (read : List Line × List LayerLine) → lines_read form text ≡ Ok read
     → (rest : List ℕ) × (rest_of_text text ≡ Some rest)
 unfolding lines_read text_read rest_of_text
 rest_there form text read reads = by (pairs_of text).ending refl

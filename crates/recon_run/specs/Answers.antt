@@ -4,9 +4,11 @@ use Rattle.block_texts.specs.BlockTexts.{blocks_text}
 use Rattle.completeness_logs.specs.LogTexts.{IsLog}
 use Rattle.drawing_maker.specs.Made.{made_solid}
 use Rattle.dxf_groups.specs.Pairs.{rest_of_text}
-use Rattle.dxf_entities.specs.declared.extra.Extra.{Extra}
+use Rattle.dxf_entities.specs.declared.layer.Layer.{Layer}
+use Rattle.dxf_entities.specs.declared.layer_set.LayerSet.{LayerSet}
+use Rattle.dxf_entities.specs.declared.layer_set.LayerSet.TheVariants.{Main, Six, Sections}
 use Rattle.file_problem.specs.Inputs.{HasProblem, Input}
-use Rattle.further_views.specs.Further.{further_lines, seen_as}
+use Rattle.further_views.specs.Further.{further_lines}
 use Rattle.six_views.specs.Fits.{AreFittingSolids, AreSomeFittingSolids}
 use Rattle.proof_check.specs.declared.fault.LogKind.{LogKind}
 use Rattle.proof_check.specs.declared.fault.LogKind.TheVariants.{BadLine, BadBlock, Unproved, Unsolid, TooMany, BadCount, Short, Long}
@@ -14,7 +16,7 @@ use Rattle.proof_check.specs.Refusals.{IsLogRefused}
 use Rattle.replies.specs.declared.status.Answer.{Answer}
 use Rattle.replies.specs.declared.status.Answer.TheVariants as answers
 use Rattle.recon_run.specs.Pages.{BeginsPages, TellsPages}
-use Rattle.report.specs.Texts.{head_text, no_solid_text, refusal_text, solid_text, trial_text, yes_text}
+use Rattle.report.specs.Texts.{fitting_text, head_text, no_solid_text, refusal_text, solid_text, trial_text, yes_text}
 use Rattle.solid_model.specs.declared.cell.Cell.{Cell}
 use Rattle.solid_model.specs.declared.ended.EndKind.{EndKind}
 use Rattle.solid_model.specs.declared.ended.EndKind.TheVariants.{Whole, CutNodes, CutSolids}
@@ -45,7 +47,8 @@ AllowsEnd limits p solids Whole = (node_count p ≤ limits.nodes) × (length sol
 AllowsEnd limits p solids CutNodes = limits.nodes < node_count p
 AllowsEnd limits p solids CutSolids = limits.solids < length solids
 
--- the solids of an input that are told: all that match its drawing in the views that are drawn, and fit the further views it asks for
+-- the solids of an input that are told: all that match its drawing in the views that are drawn, and fit the further views and
+-- sections it asks for
 abbrev pub AreTold : {t : Input} {p : ProblemParts} → HasProblem t p → List (List Cell) → Type 0
 AreTold has solids = AreFittingSolids (drawing_of has.lines) (further_lines has.further) solids
 
@@ -82,12 +85,12 @@ head_of {limits} {t} {kind} c = head_text limits kind (length c.solids) (node_co
 abbrev pub AreSomeTold : SearchLimits → {t : Input} {p : ProblemParts} → HasProblem t p → List (List Cell) → Type 0
 AreSomeTold limits has solids = AreSomeFittingSolids (drawing_of has.lines) (further_lines has.further) solids × (length solids ≤ limits.solids)
 
--- the input asks for no further view
+-- the input asks for no further view or section
 abbrev pub AsksNoView : {t : Input} {p : ProblemParts} → HasProblem t p → Type 0
-AsksNoView has = (x : Extra) → IsEmptyView (further_lines has.further x) (seen_as x)
+AsksNoView has = (l : Layer) → IsEmptyView (further_lines has.further l) l.view
 
--- what is listed at an end: all solids that are told; or, at a cut, some, at a cut at solids as many as the limit where no further
--- view is asked for
+-- what is listed at an end: all solids that are told; or, at a cut, some, at a cut at solids as many as the limit where none of
+-- these is asked for
 abbrev pub AreListed : SearchLimits → {t : Input} {p : ProblemParts} → HasProblem t p → EndKind → List (List Cell) → Type 0
 AreListed limits has Whole solids = AreTold has solids
 AreListed limits has CutNodes solids = AreSomeTold limits has solids
@@ -182,13 +185,27 @@ SaysYes {t} {p} has log text = IsSomeLog p log × (solids : List (List Cell)) ×
     × (choices : List (List Bool)) × AreSolidsOfChoices (coordinates_of p.grid) p.blocks.numbers p.blocks.count choices solids
     × (text ≡ yes_text choices)
 
+-- The same where further views and sections are read: it tells how many of all these solids fit them, and the choices that fill
+-- those that do, all of them.
+abbrev pub SaysWhichFit : {t : Input} {p : ProblemParts} → HasProblem t p → List ℕ → List ℕ → Type 0
+SaysWhichFit {t} {p} has log text = IsSomeLog p log × (solids : List (List Cell)) × AreSolidsOf (drawing_of has.lines) solids
+    × (fitting : List (List Cell)) × AreTold has fitting
+    × (choices : List (List Bool)) × AreSolidsOfChoices (coordinates_of p.grid) p.blocks.numbers p.blocks.count choices fitting
+    × (text ≡ fitting_text (length solids) choices)
+
+-- either, by which layers are read
+abbrev pub SaysRight : LayerSet → {t : Input} {p : ProblemParts} → HasProblem t p → List ℕ → List ℕ → Type 0
+SaysRight Main has log text = SaysYes has log text
+SaysRight Six has log text = SaysWhichFit has log text
+SaysRight Sections has log text = SaysWhichFit has log text
+
 -- or they are none, and it tells the first line that is refused, and why
 abbrev pub SaysRefused : ProblemParts → List ℕ → List ℕ → Type 0
 SaysRefused p log text = (kind : LogKind) × (line : ℕ) × IsLogRefused p log kind line × (text ≡ refusal_text (codes "log") (log_kind_name kind) line)
 
 -- what is answered to an input whose drawing has these bytes behind it
 abbrev pub SaysChecked : {t : Input} {p : ProblemParts} → HasProblem t p → List ℕ → Answer → List ℕ → Type 0
-SaysChecked {t} {p} has log answer text = ((answer ≡ answers.Done) × SaysYes has log text) ⊎ ((answer ≡ answers.Refused) × SaysRefused p log text)
+SaysChecked {t} {p} has log answer text = ((answer ≡ answers.Done) × SaysRight t.layers has log text) ⊎ ((answer ≡ answers.Refused) × SaysRefused p log text)
 
 -- what is answered to an input, by its problem and what stands behind its drawing
 abbrev pub TellsChecked : Input → Answer → List ℕ → Type 0

@@ -1,6 +1,8 @@
 -- What is owed for the words of a run: each command by one line.
 use Rattle.std.specs.Prelude.{◌≡◌, ◌⊎◌, Bool, true, false, ℕ, ◌+◌, ◌≤◌, List, [], length, Option, Some, None, IfSome}
 use Rattle.drawing_maker.specs.Made.{made_solid}
+use Rattle.dxf_entities.specs.declared.layer_set.LayerSet.{LayerSet}
+use Rattle.dxf_entities.specs.declared.layer_set.LayerSet.TheVariants.{Main, Six, Sections}
 use Rattle.replies.specs.declared.status.Answer.{Answer}
 use Rattle.replies.specs.declared.status.Answer.TheVariants as answers
 use Rattle.file_problem.specs.Inputs.{HasNoFault, Input, IsFileFault}
@@ -22,25 +24,31 @@ use Rattle.words.specs.declared.job.Job.TheVariants as job
 
 -- ---- how an input is read
 
--- how an input is read: how many bytes it may have at most, how many decimals its coordinates are read with, whether the layers of
--- the further views are read too, and whether two of the three views are enough: then one of them may show nothing
+-- how an input is read: how many bytes it may have at most, how many decimals its coordinates are read with, which layers are
+-- read, and whether two of the three views are enough: then one of them may show nothing
 pub record ProfileParts : Type 0 where
   pub most : ℕ
   pub decimals : ℕ
-  pub six : Bool
+  pub layers : LayerSet
   pub two : Bool
 
--- a drawing alone, whose coordinates have so many decimals, of all six views or of the three; one of the three may be missing, or none
-abbrev pub drawing_profile : Bool → ℕ → Bool → ProfileParts
-drawing_profile six decimals two = record { most = most_file_bytes; decimals = decimals; six = six; two = two }
+-- a drawing alone, of which these layers are read, whose coordinates have so many decimals; one of the three views may be missing,
+-- or none
+abbrev pub drawing_profile : LayerSet → ℕ → Bool → ProfileParts
+drawing_profile layers decimals two = record { most = most_file_bytes; decimals = decimals; layers = layers; two = two }
 
--- a drawing of the three views, of which one may be missing, whose coordinates have no decimals, and a log behind it
-abbrev pub log_profile : Bool → ProfileParts
-log_profile two = record { most = most_text_bytes; decimals = 0; six = false; two = two }
+-- the same with a log behind it, whose coordinates have no decimals
+abbrev pub log_profile : LayerSet → Bool → ProfileParts
+log_profile layers two = record { most = most_text_bytes; decimals = 0; layers = layers; two = two }
+
+-- the layers that are read where sections are asked for, and else these
+abbrev pub layers_or : Bool → LayerSet → LayerSet
+layers_or true layers = Sections
+layers_or false layers = layers
 
 -- the input that is read so of these bytes
 abbrev pub input_of : ProfileParts → List ℕ → Input
-input_of profile t = record { bytes = t; most = profile.most; decimals = profile.decimals; six = profile.six; two = profile.two }
+input_of profile t = record { bytes = t; most = profile.most; decimals = profile.decimals; layers = profile.layers; two = profile.two }
 
 -- ---- searches
 
@@ -183,13 +191,16 @@ pub data Owed : Type 1 where
 
 -- for each job, however many work at it: a command is one line
 abbrev pub owed_for : Job → Owed
-owed_for (job.Solve workers limits pages decimals two) = read (drawing_profile true decimals two) (searched (search_for_all pages limits))
-owed_for (job.Redraw which workers limits decimals two) = read (drawing_profile true decimals two) (searched (search_for_one IsFileOf which limits))
-owed_for (job.Stl which workers limits two) = read (drawing_profile false 0 two) (searched (search_for_one (λ _. IsSolidStl) which limits))
-owed_for (job.Prove workers limits two) = read (drawing_profile false 0 two) (searched (search_for_log limits))
-owed_for (job.Check two) = read (log_profile two) (judged log_judgement)
-owed_for (job.Ask workers limits two) = read (drawing_profile false 0 two) (judged (session_judgement limits))
-owed_for (job.Blocks decimals two) = read (drawing_profile false decimals two) (judged blocks_judgement)
+owed_for (job.Solve workers limits pages decimals two sections) =
+    read (drawing_profile (layers_or sections Six) decimals two) (searched (search_for_all pages limits))
+owed_for (job.Redraw which workers limits decimals two sections) =
+    read (drawing_profile (layers_or sections Six) decimals two) (searched (search_for_one IsFileOf which limits))
+owed_for (job.Stl which workers limits two sections) =
+    read (drawing_profile (layers_or sections Main) 0 two) (searched (search_for_one (λ _. IsSolidStl) which limits))
+owed_for (job.Prove workers limits two) = read (drawing_profile Main 0 two) (searched (search_for_log limits))
+owed_for (job.Check two sections) = read (log_profile (layers_or sections Main) two) (judged log_judgement)
+owed_for (job.Ask workers limits two) = read (drawing_profile Main 0 two) (judged (session_judgement limits))
+owed_for (job.Blocks decimals two) = read (drawing_profile Main decimals two) (judged blocks_judgement)
 owed_for (job.Make n) = alone answers.Done (IsFileOf 0 (made_solid n))
 owed_for (job.Trial n workers) = alone answers.Done (IsTried n)
 

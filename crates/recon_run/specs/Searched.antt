@@ -2,8 +2,10 @@
 use Rattle.std.specs.Prelude.{◌≡◌, ◌≤◌, Bool, ℕ, List, length, Option, Some}
 use Rattle.dxf_groups.specs.Pairs.{rest_of_text}
 use Rattle.page_calls.specs.Those.{AreThose}
+use Rattle.dxf_entities.specs.declared.layer_set.LayerSet.{LayerSet}
+use Rattle.dxf_entities.specs.declared.layer_set.LayerSet.TheVariants.{Main, Six, Sections}
 use Rattle.file_problem.specs.Inputs.{HasFurther, Input, IsFileFault}
-use Rattle.further_views.specs.Further.{FurtherParts, further_runs}
+use Rattle.further_views.specs.Further.{FurtherRuns}
 use Rattle.six_views.specs.Further.{FitsChoice}
 use Rattle.recon_run.specs.declared.found.Found.{Found}
 use Rattle.recon_run.specs.declared.found.Found.TheVariants.{Problem, Fault}
@@ -26,7 +28,7 @@ use Rattle.stl_out.specs.SolidStl.{IsSolidStl}
 use Rattle.replies.specs.declared.status.Answer.{Answer}
 use Rattle.replies.specs.declared.status.Failure.{Failure}
 use Rattle.replies.specs.declared.status.Failure.TheVariants.{WriteFault, Memory}
-use Rattle.report.specs.Texts.{head_text, stopped_text}
+use Rattle.report.specs.Texts.{fitting_text, head_text, stopped_text, yes_text}
 use Rattle.page_calls.specs.declared.page_out.RunFault.{RunFault}
 use Rattle.page_calls.specs.declared.page_out.RunFault.TheVariants as run_fault
 use Rattle.solid_model.specs.declared.cell.Cell.{Cell}
@@ -43,7 +45,7 @@ use Rattle.solid_model.specs.Panels.{coordinates_of, IsGridOf}
 use Rattle.solid_model.specs.Search.{SearchLimits}
 use Rattle.solid_model.specs.SearchEnds.{EndsSearch, SearchEnd}
 
--- this is sought by an input: its problem, and its further views
+-- this is sought by an input: its problem, and its further views and sections
 abbrev pub IsSoughtBy : Input → Sought → Type 0
 IsSoughtBy t sought = HasFurther t sought.problem sought.further
 
@@ -67,14 +69,14 @@ HasFewSolids s = length s.ended.solids ≤ most_solid_limit
 abbrev pub IsSearchOf : SearchLimits → ProblemParts → SearchedParts → Type 0
 IsSearchOf limits p s = (s.problem ≡ p) × EndsSearch (is_live p) p.blocks.count limits s.ended
 
--- the second one is the first one with those choices alone whose solids show these further views
-pub record IsFittingOf (further : FurtherParts) (all fitting : SearchedParts) : Type 0 where
+-- the second one is the first one with those choices alone whose solids show these further views and sections
+pub record IsFittingOf (further : FurtherRuns) (all fitting : SearchedParts) : Type 0 where
   pub problem : fitting.problem ≡ all.problem
   pub kind : fitting.ended.kind ≡ all.ended.kind
   pub opened : fitting.ended.opened ≡ all.ended.opened
-  pub those : AreThose (FitsChoice all.problem (further_runs further)) all.ended.solids fitting.ended.solids
+  pub those : AreThose (FitsChoice all.problem further) all.ended.solids fitting.ended.solids
 
--- a search for what is sought has ended within limits: of the choices of the problem those are kept that fit the further views
+-- a search for what is sought has ended within limits: of the choices of the problem those are kept that fit these
 abbrev pub IsFittingSearchOf : SearchLimits → Sought → SearchedParts → Type 0
 IsFittingSearchOf limits sought s = (all : SearchedParts) × IsSearchOf limits sought.problem all × IsFittingOf sought.further all s
 
@@ -90,6 +92,19 @@ search_head limits s = head_text limits s.ended.kind (length s.ended.solids) s.e
 abbrev pub run_failure : RunFault → Failure
 run_failure run_fault.PageFault = WriteFault
 run_failure run_fault.Memory = Memory
+
+-- ---- logs
+
+-- how many of these choices fit what is sought, and which
+abbrev pub TellsWhichFit : Sought → List (List Bool) → List ℕ → Type 0
+TellsWhichFit sought choices text = (fitting : List (List Bool)) × AreThose (FitsChoice sought.problem sought.further) choices fitting
+    × (text ≡ fitting_text (length choices) fitting)
+
+-- what is told of the choices that a log shows to be all, by which layers are read: all of them, or those that fit what is sought
+abbrev pub TellsRight : LayerSet → Sought → List (List Bool) → List ℕ → Type 0
+TellsRight Main sought choices text = text ≡ yes_text choices
+TellsRight Six sought choices text = TellsWhichFit sought choices text
+TellsRight Sections sought choices text = TellsWhichFit sought choices text
 
 -- ---- sessions
 

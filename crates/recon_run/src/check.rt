@@ -1,17 +1,21 @@
 //! The answer that judges what stands behind a drawing, without a search.
 
-ghost use Rattle.std.specs.Prelude.{◌≡◌, ◌≤◌, length};
+ghost use Rattle.std.specs.Prelude.{◌≡◌, ◌≤◌, length, IfOk};
 ghost use Rattle.recon_run.specs.Answers.{log_kind_name};
-ghost use Rattle.recon_run.specs.Searched.{AnswersBehind};
+ghost use Rattle.recon_run.specs.Searched.{AnswersBehind, TellsRight, TellsWhichFit};
 ghost use Rattle.recon_run.specs.declared.question.Question.TheVariants as question;
 ghost use Rattle.solid_model.specs.Limits.{most_text_bytes};
 ghost use Rattle.tv_base.specs.Faults.{Rose};
 
 use crate::profile::Profile;
 use crate::sought::Sought;
+use dxf_entities::LayerSet;
+use fit_lanes::FurtherSieve;
+use page_calls::sift;
 use proof_check::{LogKind, LogRefused, check_log};
 use replies::{Answer, Failure, Status, write_reply};
-use report::{refusal_text, yes_text};
+use report::{fitting_text, refusal_text, yes_text};
+use solid_model::{Choice, Memory};
 use std::alloc::Global;
 use tv_base::Sink;
 
@@ -31,8 +35,35 @@ fn log_kind_name(kind: LogKind) -> &'static str
     }
 }
 
+/// What is said of a log that is right, which lists these choices, where further views and sections
+/// are read: how many of them fit, and which.
+fn fitting_part(alloc: Global, sought: &Sought, choices: &[Choice]) -> Result<Vec<u8>, Memory>
+    ensures { IfOk result (λ text. TellsWhichFit sought.now choices.now text.items) }
+{
+    let mut sieve = FurtherSieve::of(alloc, &sought.problem, &sought.further)?;
+    let fitting = sift(alloc, &mut sieve, choices)?;
+    fitting_text(alloc, choices.len(), fitting.as_slice())
+}
+
+/// What is said of a log that is right, which lists these choices, by which layers are read.
+fn right_text(
+    alloc: Global,
+    layers: LayerSet,
+    sought: &Sought,
+    choices: &[Choice],
+) -> Result<Vec<u8>, Memory>
+    ensures { IfOk result (λ text. TellsRight layers sought.now choices.now text.items) }
+{
+    match layers {
+        LayerSet::Main => yes_text(alloc, choices),
+        LayerSet::Six => fitting_part(alloc, sought, choices),
+        LayerSet::Sections => fitting_part(alloc, sought, choices),
+    }
+}
+
 /// Checks the bytes that stand behind a drawing as a log of its problem: writes that these are all
-/// its solids, or why the log is refused.
+/// its solids, or which of these fit further views and sections, where such are read; or why the log
+/// is refused.
 pub fn answer_check<K: Sink>(
     alloc: Global,
     profile: &Profile,
@@ -46,7 +77,8 @@ pub fn answer_check<K: Sink>(
 {
     match check_log(alloc, &sought.problem, rest) {
         Ok(choices) => {
-            let text = yes_text(alloc, choices.as_slice())?;
+            let layers = profile.form().layers();
+            let text = right_text(alloc, layers, sought, choices.as_slice())?;
             write_reply(Answer::Done, text.as_slice(), sink)
         }
         Err(LogRefused::Fault(fault)) => {

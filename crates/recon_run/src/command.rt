@@ -17,9 +17,10 @@ ghost use Rattle.words.specs.Jobs.{IsCounted};
 use crate::answering::answer_source;
 use crate::crew::Crew;
 use crate::export::Export;
-use crate::profile::Profile;
+use crate::profile::{Profile, layers_or};
 use crate::question::{AllSolids, OneSolid, Question};
 use crate::trial::{made_file, trial};
+use dxf_entities::LayerSet;
 use replies::{Answer, Failure, Status, code, write_reply};
 use std::alloc::Global;
 use std::sync::Wait;
@@ -56,9 +57,11 @@ fn do_job<R: Threads + Wait + Sync, S: Source, K: Sink, G: Gate>(
             pages,
             decimals,
             two_views,
+            sections,
         } => {
             let crew = Crew { rt, workers, gate };
-            let profile = Profile::six_views(decimals, two_views);
+            let layers = layers_or(sections, LayerSet::Six);
+            let profile = Profile::drawing(layers, decimals, two_views);
             let question = Question::AllSolids(AllSolids { limits, pages });
             answer_source(alloc, &crew, &profile, &question, source, sink)
         }
@@ -68,9 +71,11 @@ fn do_job<R: Threads + Wait + Sync, S: Source, K: Sink, G: Gate>(
             limits,
             decimals,
             two_views,
+            sections,
         } => {
             let crew = Crew { rt, workers, gate };
-            let profile = Profile::six_views(decimals, two_views);
+            let layers = layers_or(sections, LayerSet::Six);
+            let profile = Profile::drawing(layers, decimals, two_views);
             let question = Question::OneSolid(OneSolid {
                 export: Export::Drawing,
                 which,
@@ -83,9 +88,11 @@ fn do_job<R: Threads + Wait + Sync, S: Source, K: Sink, G: Gate>(
             workers,
             limits,
             two_views,
+            sections,
         } => {
             let crew = Crew { rt, workers, gate };
-            let profile = Profile::three_views(0, two_views);
+            let layers = layers_or(sections, LayerSet::Main);
+            let profile = Profile::drawing(layers, 0, two_views);
             let question = Question::OneSolid(OneSolid {
                 export: Export::Triangles,
                 which,
@@ -99,16 +106,20 @@ fn do_job<R: Threads + Wait + Sync, S: Source, K: Sink, G: Gate>(
             two_views,
         } => {
             let crew = Crew { rt, workers, gate };
-            let profile = Profile::three_views(0, two_views);
+            let profile = Profile::drawing(LayerSet::Main, 0, two_views);
             answer_source(alloc, &crew, &profile, &Question::Log(limits), source, sink)
         }
-        Job::Check { two_views } => {
+        Job::Check {
+            two_views,
+            sections,
+        } => {
             let crew = Crew {
                 rt,
                 workers: 1,
                 gate,
             };
-            let profile = Profile::with_log(two_views);
+            let layers = layers_or(sections, LayerSet::Main);
+            let profile = Profile::with_log(layers, two_views);
             answer_source(alloc, &crew, &profile, &Question::Check, source, sink)
         }
         Job::Ask {
@@ -117,7 +128,7 @@ fn do_job<R: Threads + Wait + Sync, S: Source, K: Sink, G: Gate>(
             two_views,
         } => {
             let crew = Crew { rt, workers, gate };
-            let profile = Profile::three_views(0, two_views);
+            let profile = Profile::drawing(LayerSet::Main, 0, two_views);
             answer_source(
                 alloc,
                 &crew,
@@ -136,7 +147,7 @@ fn do_job<R: Threads + Wait + Sync, S: Source, K: Sink, G: Gate>(
                 workers: 1,
                 gate,
             };
-            let profile = Profile::three_views(decimals, two_views);
+            let profile = Profile::drawing(LayerSet::Main, decimals, two_views);
             answer_source(alloc, &crew, &profile, &Question::Blocks, source, sink)
         }
         Job::Make { n } => write_reply(Answer::Done, made_file(alloc, n)?.as_slice(), sink),
@@ -179,16 +190,22 @@ fn answer<R: Threads + Wait + Sync, S: Source, K: Sink, G: Gate>(
 /// Runs the command that the arguments give, the program's `words`.
 ///
 /// `solve` writes all solids of the drawing that the source's bytes show, within the limits that
-/// the options `--nodes` and `--solids` give, and with `--pages` pages of them while it finds them;
-/// `redraw` writes the drawing of one of them, by its number, and `stl` its boundary as triangles;
-/// `prove` writes a log that shows that these are all, and `check` says whether what stands behind
-/// the drawing is such a log, with the choices that it lists, or which of its lines is the first
-/// that is wrong, and why; `ask` lets readers look at the growing list of solids, as the lines behind
-/// the drawing ask, and writes what they tell and then all solids; `blocks` writes where the
-/// drawing's blocks are, without a search; `make` writes a drawing that is made from a number, and
-/// `trial` what a search of that drawing finds. As many work at a search as `--workers` says, and
-/// they pass the gate at their points; the run waits for them, and what it answers doesn't depend on
-/// their number. Other words give the usage line.
+/// the options `--nodes` and `--solids` give, and with `--pages` pages of them while it finds them:
+/// those that match its three main views and fit its further ones, from the left, the rear and below;
+/// `redraw` writes the drawing of one of these, by its number. Of the solids that match the three main
+/// views `stl` writes the boundary of one as triangles, by its number; `prove` writes a log that
+/// shows that these are all, and `check` says whether what stands behind the drawing is such a log,
+/// with the choices that it lists, or which of its lines is the first that is wrong, and why; `ask`
+/// lets readers look at the growing list of these, as the lines behind the drawing ask, and writes
+/// what they tell and then all solids; `blocks` writes where the drawing's blocks are, without a
+/// search; `make` writes a drawing that is made from a number, and `trial` what a search of that
+/// drawing finds. As many work at a search as `--workers` says, and they pass the gate at their
+/// points; the run waits for them, and what it answers doesn't depend on their number. Other words
+/// give the usage line.
+///
+/// With `--sections` `solve`, `redraw`, `stl` and `check` read further views and sections: the first
+/// three then speak of the solids that match the main views and fit these, and `check` says how many
+/// of those that a right log shows to be all fit them, and which.
 ///
 /// A solid matches a drawing if it shows what is drawn in each view that is drawn: a view that shows
 /// nothing demands nothing. Each of the three views must show something; with `--two-views` one of

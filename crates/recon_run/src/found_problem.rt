@@ -1,4 +1,4 @@
-//! The problem of an input, its further views, and what stands behind its drawing.
+//! The problem of an input, its further views and sections, and what stands behind its drawing.
 
 ghost use Rattle.std.specs.Prelude.{◌≤◌, length};
 ghost use Rattle.solid_model.specs.Limits.{most_text_bytes};

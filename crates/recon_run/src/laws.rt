@@ -8,13 +8,14 @@ ghost use Rattle.recon_run.specs.Endings.{Answers, AreAlike, LeavesOpen, OfInput
 ghost use Rattle.recon_run.specs.Owed.{AnswersOwed, BeginsOwed, drawing_profile, input_of, judgement_of, owed_for, search_for_all, searched, session_judgement};
 ghost use Rattle.solid_model.specs.declared.fault.Fault.{Fault};
 ghost use Rattle.solid_model.specs.Search.{SearchLimits};
+ghost use Rattle.dxf_entities.specs.declared.layer_set.LayerSet.TheVariants.{Main};
 ghost use Rattle.words.specs.declared.job.Job.TheVariants as job;
 
 /// What `make` owes has no fault: whatever is made from a number can be searched.
 pub fn made_files_have_no_fault()
     ensures { (n : ℕ) (left rest : Option (List ℕ)) (answer : Answer) (text : List ℕ)
         → AnswersOwed (owed_for (job.Make n)) left rest answer text
-        → HasNoFault (input_of (drawing_profile false 0 false) text) }
+        → HasNoFault (input_of (drawing_profile Main 0 false) text) }
 {}
 
 /// An input has at most one first fault.

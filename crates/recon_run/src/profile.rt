@@ -1,6 +1,10 @@
 //! How an input is read.
 
-use dxf_entities::ReadingForm;
+ghost use Rattle.std.specs.Prelude.{◌≡◌, ◌≤◌};
+ghost use Rattle.recon_run.specs.Owed.{layers_or};
+ghost use Rattle.solid_model.specs.Limits.{most_decimals};
+
+use dxf_entities::{LayerSet, ReadingForm};
 use std::marker::Model;
 
 /// The most bytes of a drawing.
@@ -9,9 +13,27 @@ const MOST_BYTES: usize = 16_777_216;
 /// The most bytes of a drawing and a log behind it.
 const MOST_WITH_LOG: usize = 134_217_728;
 
+/// The layers that are read where sections are asked for, and else these.
+pub fn layers_or(sections: bool, layers: LayerSet) -> LayerSet
+    ensures { result ≡ layers_or sections layers }
+{
+    if sections { LayerSet::Sections } else { layers }
+}
+
+/// The form in which these layers are read, with so many decimals.
+fn reading_form(layers: LayerSet, decimals: u8) -> ReadingForm
+    requires { decimals ≤ most_decimals }
+    ensures { result ≡ record { decimals = decimals; layers = layers } }
+{
+    match layers {
+        LayerSet::Main => ReadingForm::three_views(decimals),
+        LayerSet::Six => ReadingForm::six_views(decimals),
+        LayerSet::Sections => ReadingForm::with_sections(decimals),
+    }
+}
+
 /// How an input is read: how many bytes it may have at most; in which form: how many decimals its
-/// coordinates have, and whether the layers of the further views are read too; and whether two of
-/// the three views are enough.
+/// coordinates have, and which layers are read; and whether two of the three views are enough.
 #[derive(Drop)]
 pub struct Profile {
     most: usize,
@@ -29,7 +51,7 @@ impl Model for Profile {
     ghost view = { λ p. record {
       most = p.most;
       decimals = p.form.decimals;
-      six = p.form.six;
+      layers = p.form.layers;
       two = p.two_views;
     } };
 
@@ -37,41 +59,30 @@ impl Model for Profile {
 }
 
 impl Profile {
-    ghost use Rattle.std.specs.Prelude.{◌≡◌, ◌≤◌, false, true};
+    ghost use Rattle.std.specs.Prelude.{◌≡◌, ◌≤◌};
     ghost use Rattle.recon_run.specs.Owed.{drawing_profile, log_profile};
     ghost use Rattle.solid_model.specs.Limits.{most_decimals, most_text_bytes};
 
-    /// A drawing alone, of all six views, whose coordinates have so many decimals, at most 6.
-    pub fn six_views(decimals: u8, two_views: bool) -> Profile
+    /// A drawing alone, of which these layers are read, whose coordinates have so many decimals, at
+    /// most 6.
+    pub fn drawing(layers: LayerSet, decimals: u8, two_views: bool) -> Profile
         requires { decimals ≤ most_decimals }
-        ensures { result ≡ drawing_profile true decimals two_views }
+        ensures { result ≡ drawing_profile layers decimals two_views }
     {
         Profile {
             most: MOST_BYTES,
-            form: ReadingForm::six_views(decimals),
+            form: reading_form(layers, decimals),
             two_views,
         }
     }
 
-    /// The same of the three views.
-    pub fn three_views(decimals: u8, two_views: bool) -> Profile
-        requires { decimals ≤ most_decimals }
-        ensures { result ≡ drawing_profile false decimals two_views }
-    {
-        Profile {
-            most: MOST_BYTES,
-            form: ReadingForm::three_views(decimals),
-            two_views,
-        }
-    }
-
-    /// A drawing of the three views, whose coordinates have no decimals, with a log behind it.
-    pub fn with_log(two_views: bool) -> Profile
-        ensures { result ≡ log_profile two_views }
+    /// The same with a log behind it, whose coordinates have no decimals.
+    pub fn with_log(layers: LayerSet, two_views: bool) -> Profile
+        ensures { result ≡ log_profile layers two_views }
     {
         Profile {
             most: MOST_WITH_LOG,
-            form: ReadingForm::three_views(0),
+            form: reading_form(layers, 0),
             two_views,
         }
     }
@@ -87,7 +98,7 @@ impl Profile {
     /// The form in which it is read.
     pub fn form(&self) -> ReadingForm
         ensures decimals { result.decimals ≡ self.now.decimals }
-        ensures six { result.six ≡ self.now.six }
+        ensures layers { result.layers ≡ self.now.layers }
     {
         self.form
     }

@@ -77,8 +77,8 @@ impl Searched {
         head_text(alloc, self.ended(), limits, blocks)
     }
 
-    /// The same with those choices alone whose solids show these further views; where none is asked
-    /// for, nothing is looked at.
+    /// The same with those choices alone whose solids show these further views and sections; where
+    /// none is asked for, nothing is looked at.
     pub fn fitting(self, alloc: Global, further: &Further) -> Result<Searched, Memory>
         ensures { IfOk result (IsFittingOf further.now self) }
     {

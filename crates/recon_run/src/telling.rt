@@ -1,7 +1,6 @@
 //! Searches that tell pages while they go on.
 
 ghost use Rattle.std.specs.Prelude.{◌≡◌, ◌↔◌, ◌≤◌, Bool, List, true};
-ghost use Rattle.further_views.specs.Further.{further_runs};
 ghost use Rattle.six_views.specs.Further.{FitsChoice};
 ghost use Rattle.recon_run.specs.Pages.{BeginsPages, TellsPages};
 ghost use Rattle.recon_run.specs.Searched.{TellsSearch, run_failure};
@@ -44,7 +43,7 @@ fn told_from<R: Threads + Wait + Sync, K: Sink, G: Gate, B: Begun>(
 ) -> (K, Result<Searched, Failure>)
     requires held { K.held sink ≡ B.held }
     requires fits { (choice : List Bool)
-        → FitsChoice sought.problem (further_runs sought.further) choice ↔ B.fits choice }
+        → FitsChoice sought.problem sought.further choice ↔ B.fits choice }
     ensures later { K.faults sink ≤ K.faults result.0 }
     ensures ends { EndsWriting (TellsSearch limits sought (TellsPages true))
         (TellsSearch limits sought (BeginsPages true)) B.held (K.held result.0)

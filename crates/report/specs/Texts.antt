@@ -108,6 +108,10 @@ no_solid_text which solids = codes "none " ++ decimal which ++ codes " of " ++ d
 abbrev pub yes_text : List (List Bool) → List ℕ
 yes_text choices = codes "yes " ++ decimal (length choices) ++ codes "\n" ++ flat_map choice_line choices
 
+-- how many of so many solids that a log shows to be all fit further views and sections, and a line for each of these
+abbrev pub fitting_text : ℕ → List (List Bool) → List ℕ
+fitting_text all choices = codes "yes " ++ decimal (length choices) ++ codes " of " ++ decimal all ++ codes "\n" ++ flat_map choice_line choices
+
 -- why a log is refused: the name of what is wrong, and the number of the line
 abbrev pub refusal_text : List ℕ → List ℕ → ℕ → List ℕ
 refusal_text subject name line = subject ++ codes " " ++ name ++ codes " line " ++ decimal line ++ codes "\n"

@@ -59,6 +59,8 @@ pub fn small_search_texts()
     ensures trial { trial_text 7 12 2 214 148
         ≡ codes "trial 7 pieces 14 blocks 12 solids 2 nodes 214 volume 148\n" }
     ensures none { no_solid_text 3 2 ≡ codes "none 3 of 2\n" }
+    ensures fitting { fitting_text 3 ((true ∷ false ∷ []) ∷ [])
+        ≡ codes "yes 1 of 3\nchoice 10\n" }
 {}
 
 /// The lines of faults, written out by hand: with a line and a code, a line alone, a view, nothing,

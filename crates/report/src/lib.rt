@@ -17,6 +17,6 @@ pub use plane_text::PlaneText;
 pub use plane_texts::PlaneTexts;
 pub use solid_texts::{SolidBuffers, SolidTexts, solid_text};
 pub use text::{
-    head_text, no_solid_text, page_text, reader_text, refusal_text, stopped_text, trial_text,
-    yes_text,
+    fitting_text, head_text, no_solid_text, page_text, reader_text, refusal_text, stopped_text,
+    trial_text, yes_text,
 };

@@ -3,7 +3,7 @@
 ghost use Rattle.std.specs.Prelude.{◌≡◌, ◌++◌, length, IfOk, OnOk};
 ghost use Rattle.std.specs.List.{flat_map};
 ghost use Rattle.report.specs.Texts.{choice_text, head_text, choice_line, page_text};
-ghost use Rattle.report.specs.Texts.{trial_text, no_solid_text, reader_text, refusal_text, stopped_text, yes_text};
+ghost use Rattle.report.specs.Texts.{fitting_text, trial_text, no_solid_text, reader_text, refusal_text, stopped_text, yes_text};
 
 use itoa::{Buffer, Integer};
 use solid_model::{Choice, EndKind, Ended, Limits, Memory};
@@ -109,6 +109,20 @@ pub fn yes_text(alloc: Global, choices: &[Choice]) -> Result<Vec<u8>, Memory>
 {
     let mut text = Vec::from_slice(alloc, b"yes ")?;
     push_number(&mut text, choices.len())?;
+    text.extend_from_slice(b"\n")?;
+    push_choice_lines(&mut text, choices)?;
+    Ok(text)
+}
+
+/// The text that tells how many of all solids, as a log shows them, fit further views and sections:
+/// `yes S of W`, and then for each that fits a line `choice C`. An `Err` is out of memory.
+pub fn fitting_text(alloc: Global, all: usize, choices: &[Choice]) -> Result<Vec<u8>, Memory>
+    ensures { IfOk result (λ text. text.items ≡ fitting_text all choices.now) }
+{
+    let mut text = Vec::from_slice(alloc, b"yes ")?;
+    push_number(&mut text, choices.len())?;
+    text.extend_from_slice(b" of ")?;
+    push_number(&mut text, all)?;
     text.extend_from_slice(b"\n")?;
     push_choice_lines(&mut text, choices)?;
     Ok(text)

@@ -35,6 +35,8 @@ mod rows;
 #[cfg(test)]
 mod runs;
 #[cfg(test)]
+mod sections;
+#[cfg(test)]
 mod sets;
 #[cfg(test)]
 mod texts;

@@ -157,11 +157,19 @@ fn logs_are_checked(rt: HostRuntime) -> Result<(), Fail> {
     lines_hold(CHECKS, |line| is_checked(&rt, row_of(line)))
 }
 
+/// A file with the log behind it that `prove` writes for it.
+pub fn log_behind<R: Runtime>(rt: &R, file: String) -> Result<String, Fail> {
+    let proof = run_words(rt, "prove|", file.try_clone()?)?;
+    let log = proof.as_str().strip_prefix("0 ").ok_or("a log")?;
+    let mut file = file;
+    file.push_str(log)?;
+    Ok(file)
+}
+
 /// What `check` writes for a drawing and the log that `prove` writes for it.
 fn proved_and_checked<R: Runtime>(rt: &R, views: [&str; 3]) -> Result<String, Fail> {
-    let proof = run_words(rt, "prove|", drawing_file(rt.alloc(), views)?)?;
-    let log = proof.as_str().strip_prefix("0 ").ok_or("a log")?;
-    Ok(checked(rt, "", views, log)?)
+    let file = log_behind(rt, drawing_file(rt.alloc(), views)?)?;
+    Ok(run_words(rt, "check|", file)?)
 }
 
 #[test]

@@ -1,11 +1,10 @@
-//! Solids, and the further views that they fit.
+//! Solids, and the further views and sections that they fit.
 
 use crate::surfaces::{choice_of, problem_at};
 use dxf_entities::entities;
 use dxf_groups::Groups;
 use fit_lanes::FurtherSieve;
-use further_views::Further;
-use page_calls::Sieve;
+use further_views::{AskedView, Cut, Further, Layer};
 use six_views::fits;
 use solid_model::{Problem, View, ViewLines};
 use std::alloc::Global;
@@ -50,6 +49,42 @@ bar; ; line S 0 0 2 0, line S 2 0 2 2, line S 1 2 2 2, line S 1 1 1 2, line S 0 
 bar; ; line S 0 0 3 0, line S 3 0 3 2, line S 2 2 3 2, line S 2 1 2 2, line S 0 1 2 1, \
     line S 0 0 0 1, line S 2 0 2 1, line D 2 1 3 1; ; 1111 -> ;";
 
+/// A row the name of a drawing, a layer that is cut, its strokes, and choices; and then which of
+/// these fit. Through the middle of the quartered cube each way of looking leaves four places; of
+/// the bar the part behind a plane shows more than the area that it cuts, which may stand beside
+/// what the whole solid shows.
+const CUTS: &str = "\
+quartered; FRONT 1; rect S 1 0 2 1, rect S 0 1 1 2; 10010110 01101001 10110110 -> 10010110;
+quartered; FRONT 1; rect S 0 0 1 1, rect S 1 1 2 2; 10010110 01101001 10110110 -> 01101001;
+quartered; FRONT 1; line S 0 0 2 0, line S 2 0 2 1, line S 1 1 2 1, line S 1 1 1 2, \
+    line S 0 2 1 2, line S 0 0 0 2; 10010110 01101001 10110110 -> 10110110;
+quartered; FRONT 2; rect S 0 0 1 1; 10010110 01101001 10110110 -> ;
+quartered; REAR 1; rect S 1 0 2 1, rect S 0 1 1 2; 10010110 01101001 10110110 -> \
+    10010110 10110110;
+quartered; REAR 1; rect S 0 0 1 1, rect S 1 1 2 2; 10010110 01101001 10110110 -> 01101001;
+quartered; TOP 1; rect S 0 0 1 1, rect S 1 1 2 2; 10010110 01101001 10110110 -> 10010110;
+quartered; TOP 1; rect S 1 0 2 1, rect S 0 1 1 2; 10010110 01101001 10110110 -> 01101001;
+quartered; BOTTOM 1; rect S 5 5 6 6, rect S 6 6 7 7; 10010110 01101001 10110110 -> \
+    10010110 10110110;
+quartered; BOTTOM 1; rect S 1 0 2 1, rect S 0 1 1 2; 10010110 01101001 10110110 -> 01101001;
+quartered; SIDE 1; rect S 0 0 1 1, rect S 1 1 2 2; 10010110 01101001 10110110 -> 10010110;
+quartered; SIDE 1; rect S 1 0 2 1, rect S 0 1 1 2; 10010110 01101001 10110110 -> 01101001;
+quartered; LEFT 1; rect S 0 0 1 1, rect S 1 1 2 2; 10010110 01101001 10110110 -> \
+    10010110 10110110;
+quartered; LEFT 1; rect S 1 0 2 1, rect S 0 1 1 2; 10010110 01101001 10110110 -> 01101001;
+bar; SIDE 2; line S 0 0 2 0, line S 2 0 2 1, line S 1 1 2 1, line S 1 1 1 2, line S 0 2 1 2, \
+    line S 0 0 0 2, line S 1 0 1 1, line S 0 1 1 1; 1111 -> 1111;
+bar; SIDE 2; line S 0 0 2 0, line S 2 0 2 1, line S 1 1 2 1, line S 1 1 1 2, line S 0 2 1 2, \
+    line S 0 0 0 2; 1111 -> ;
+bar; area SIDE 2; rect S 0 0 1 1; 1111 -> 1111;
+bar; area SIDE 1; rect S 0 0 1 1; 1111 -> ;
+bar; area SIDE 1; line S 0 0 2 0, line S 2 0 2 1, line S 1 1 2 1, line S 1 1 1 2, line S 0 2 1 2, \
+    line S 0 0 0 2; 1111 -> 1111;
+bar; LEFT 1; rect S 3 3 4 4; 1111 -> 1111;
+bar; area LEFT 1; rect S 3 3 4 4; 1111 -> 1111;
+bar; area LEFT 1; rect S 3 3 5 4; 1111 -> ;
+bar; LEFT 1; rect D 3 3 4 4; 1111 -> ;";
+
 /// What a cube shows in any view.
 const CUBE: &str = "rect S 0 0 1 1";
 
@@ -57,6 +92,7 @@ const CUBE: &str = "rect S 0 0 1 1";
 fn drawing_named(name: &str) -> [&'static str; 3] {
     match name {
         "cube" => [CUBE, CUBE, CUBE],
+        "quartered" => ["rect S 0 0 2 2, line S 0 1 2 1, line S 1 0 1 2"; 3],
         "voids" => [
             "lattice 2 2",
             "rect S 0 0 5 4, rect D 1 1 2 2, rect D 3 1 4 2, rect D 1 3 2 4, rect D 3 3 4 4",
@@ -83,14 +119,69 @@ fn asked(alloc: Global, strokes: &str) -> Result<Option<ViewLines>, Fail> {
     Ok(view_of(alloc, lines.as_slice(), View::Front)?)
 }
 
+/// The view that a layer shows, and whether from the opposite side.
+fn side_named(name: &str) -> (View, bool) {
+    match name {
+        "TOP" => (View::Top, false),
+        "SIDE" => (View::Side, false),
+        "REAR" => (View::Front, true),
+        "BOTTOM" => (View::Top, true),
+        "LEFT" => (View::Side, true),
+        _ => (View::Front, false),
+    }
+}
+
+/// The layer of a view that is cut somewhere, or whole.
+fn layer_of(name: &str, cut: Option<Cut>) -> Layer {
+    let (view, opposite) = side_named(name);
+    Layer {
+        view,
+        opposite,
+        cut,
+    }
+}
+
+/// The layer that is told so: a view, the plane's coordinate, and before them whether it is the area
+/// that the plane cuts.
+fn cut_named(told: &str) -> Layer {
+    let (area, told) = match told.strip_prefix("area ") {
+        Some(rest) => (true, rest),
+        None => (false, told),
+    };
+    let (name, at) = told.split_once(' ').unwrap_or((told, ""));
+    let at = at.parse::<i64>().unwrap_or(0);
+    layer_of(name, Some(Cut { at, area }))
+}
+
+/// Adds a layer, where it has strokes.
+fn push_asked(
+    alloc: Global,
+    views: &mut Vec<AskedView>,
+    layer: Layer,
+    strokes: &str,
+) -> Result<(), Fail> {
+    if let Some(lines) = asked(alloc, strokes)? {
+        views.push(AskedView { layer, lines })?;
+    }
+    Ok(())
+}
+
 /// The further views of a row.
 fn further_in(alloc: Global, row: Row<'_>) -> Result<Further, Fail> {
     let [_, left, rear, bottom, _] = row.parts;
-    Ok(Further {
-        left: asked(alloc, left)?,
-        rear: asked(alloc, rear)?,
-        bottom: asked(alloc, bottom)?,
-    })
+    let mut views = Vec::new(alloc);
+    push_asked(alloc, &mut views, layer_of("LEFT", None), left)?;
+    push_asked(alloc, &mut views, layer_of("REAR", None), rear)?;
+    push_asked(alloc, &mut views, layer_of("BOTTOM", None), bottom)?;
+    Ok(Further::new(views))
+}
+
+/// The section of a row.
+fn section_in(alloc: Global, row: Row<'_>) -> Result<Further, Fail> {
+    let [_, layer, strokes, ..] = row.parts;
+    let mut views = Vec::new(alloc);
+    push_asked(alloc, &mut views, cut_named(layer), strokes)?;
+    Ok(Further::new(views))
 }
 
 /// Whether a choice that is told so fits.
@@ -122,16 +213,18 @@ fn fitting(
     Ok(told)
 }
 
-/// Those of a row's choices of a problem's blocks that fit.
-fn fitting_of(alloc: Global, problem: &Problem, row: Row<'_>) -> Result<String, Fail> {
-    let further = further_in(alloc, row)?;
-    fitting(alloc, problem, &further, row.parts[4])
-}
-
-/// Those of a row's choices that fit, as the row has them.
+/// Those of a row's choices that fit its further views, as the row has them.
 fn fitting_in(alloc: Global, row: Row<'_>) -> Result<String, Fail> {
     let problem = problem_at(alloc, drawing_named(row.parts[0]))?;
-    fitting_of(alloc, &problem, row)
+    let further = further_in(alloc, row)?;
+    fitting(alloc, &problem, &further, row.parts[4])
+}
+
+/// The same of its section.
+fn left_in(alloc: Global, row: Row<'_>) -> Result<String, Fail> {
+    let problem = problem_at(alloc, drawing_named(row.parts[0]))?;
+    let section = section_in(alloc, row)?;
+    fitting(alloc, &problem, &section, row.parts[3])
 }
 
 /// Whether a choice that is told so passes a sieve.
@@ -167,16 +260,18 @@ fn all_agree(
     agrees_on(alloc, problem, further, &mut sieve, choices)
 }
 
-/// The same of those of a row, and of its choices of a problem's blocks.
-fn all_agree_of(alloc: Global, problem: &Problem, row: Row<'_>) -> Result<bool, Fail> {
-    let further = further_in(alloc, row)?;
-    all_agree(alloc, problem, &further, row.parts[4])
-}
-
-/// The same of a row.
+/// The same of the further views and the choices of a row.
 fn all_agree_in(alloc: Global, row: Row<'_>) -> Result<bool, Fail> {
     let problem = problem_at(alloc, drawing_named(row.parts[0]))?;
-    all_agree_of(alloc, &problem, row)
+    let further = further_in(alloc, row)?;
+    all_agree(alloc, &problem, &further, row.parts[4])
+}
+
+/// The same of its section.
+fn cuts_agree_in(alloc: Global, row: Row<'_>) -> Result<bool, Fail> {
+    let problem = problem_at(alloc, drawing_named(row.parts[0]))?;
+    let section = section_in(alloc, row)?;
+    all_agree(alloc, &problem, &section, row.parts[3])
 }
 
 #[test]
@@ -187,4 +282,14 @@ fn solids_fit_their_further_views_alone(rt: HostRuntime) -> Result<(), Fail> {
 #[test]
 fn lanes_tell_what_runs_do(rt: HostRuntime) -> Result<(), Fail> {
     lines_hold(FURTHER, |line| all_agree_in(rt.alloc(), row_of(line)))
+}
+
+#[test]
+fn solids_fit_their_sections_alone(rt: HostRuntime) -> Result<(), Fail> {
+    rows_tell(CUTS, |row| left_in(rt.alloc(), row))
+}
+
+#[test]
+fn lanes_tell_sections_as_runs_do(rt: HostRuntime) -> Result<(), Fail> {
+    lines_hold(CUTS, |line| cuts_agree_in(rt.alloc(), row_of(line)))
 }

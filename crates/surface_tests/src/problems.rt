@@ -1,18 +1,18 @@
 //! Problems that are read with what stands beside or behind their drawings: that memory is found.
 
-use dxf_entities::Extra;
 use file_problem::{problem_and_rest, problem_of_six};
 use further_views::Further;
+use solid_model::View;
 use std::alloc::{AllocError, Global};
 use std::test::Fail;
 use test_files::{Row, file_bytes, file_of, rows_tell};
 
 /// A row the strokes of a file; and how many blocks its problem has, and which further views are
-/// asked for. A view that shows nothing isn't.
+/// asked for, in the order of their first lines. A view that shows nothing isn't.
 const SIX: &str = "\
 cube -> 1
 cube, LEFT, rect S 0 0 1 1 -> 1 left
-cube, BOTTOM, rect S 5 5 6 6, LEFT, rect S 0 0 1 1, REAR, rect S 0 0 2 2 -> 1 left rear bottom
+cube, BOTTOM, rect S 5 5 6 6, LEFT, rect S 0 0 1 1, REAR, rect S 0 0 2 2 -> 1 bottom left rear
 cube, REAR, line S 3 3 3 3, BOTTOM, rect D 0 0 1 1 -> 1 bottom";
 
 /// A row the strokes of a file, and what stands behind it, `|` for the end of a line; and how many
@@ -31,14 +31,12 @@ fn file_in(alloc: Global, strokes: &str) -> Result<String, AllocError> {
 
 /// Adds the names of the further views that are asked for.
 fn push_views(told: &mut String, further: &Further) -> Result<(), AllocError> {
-    for (view, name) in [
-        (Extra::Left, " left"),
-        (Extra::Rear, " rear"),
-        (Extra::Bottom, " bottom"),
-    ] {
-        if further.view(view).is_some() {
-            told.push_str(name)?;
-        }
+    for asked in further.as_slice() {
+        told.push_str(match asked.layer.view {
+            View::Front => " rear",
+            View::Top => " bottom",
+            View::Side => " left",
+        })?;
     }
     Ok(())
 }

@@ -39,9 +39,17 @@ decimals_field = record { name = codes "decimals"; range = Some (record { least 
 abbrev pub two_views_field : Field
 two_views_field = record { name = codes "two-views"; range = None }
 
+-- `--sections`, whether further views and sections are read too; it has no value
+abbrev pub sections_field : Field
+sections_field = record { name = codes "sections"; range = None }
+
 -- what each command takes that reads a drawing
 abbrev pub reading_fields : List Field
 reading_fields = two_views_field ∷ []
+
+-- and what those take that can read sections
+abbrev pub sections_fields : List Field
+sections_fields = two_views_field ∷ sections_field ∷ []
 
 -- the options of a search within limits
 abbrev pub search_fields : List Field
@@ -49,7 +57,7 @@ search_fields = workers_field ∷ nodes_field ∷ solids_field ∷ []
 
 -- what `solve` takes: these, pages, decimals and how a drawing is read, and no number
 abbrev pub solve_table : Table
-solve_table = record { options = search_fields ++ pages_field ∷ decimals_field ∷ reading_fields; number = None }
+solve_table = record { options = search_fields ++ pages_field ∷ decimals_field ∷ sections_fields; number = None }
 
 -- what a search for one solid takes: these options, and the number of the solid, counted from 1
 abbrev pub one_table : List Field → Table
@@ -57,11 +65,11 @@ one_table options = record { options = options; number = Some (record { least = 
 
 -- what `redraw` takes: the options of a search, decimals and how a drawing is read
 abbrev pub redraw_table : Table
-redraw_table = one_table (search_fields ++ decimals_field ∷ reading_fields)
+redraw_table = one_table (search_fields ++ decimals_field ∷ sections_fields)
 
 -- what `stl` takes: those of a search, and how a drawing is read
 abbrev pub stl_table : Table
-stl_table = one_table (search_fields ++ reading_fields)
+stl_table = one_table (search_fields ++ sections_fields)
 
 -- what `prove` takes: the same, and no number
 abbrev pub prove_table : Table
@@ -69,7 +77,7 @@ prove_table = record { options = search_fields ++ reading_fields; number = None 
 
 -- what `check` takes: how a drawing is read
 abbrev pub check_table : Table
-check_table = record { options = reading_fields; number = None }
+check_table = record { options = sections_fields; number = None }
 
 -- what `ask` takes: what `prove` does
 abbrev pub ask_table : Table
@@ -105,6 +113,10 @@ pages_in us = is_used (codes "pages") us
 abbrev pub two_views_in : List Use → Bool
 two_views_in us = is_used (codes "two-views") us
 
+-- sections are read
+abbrev pub sections_in : List Use → Bool
+sections_in us = is_used (codes "sections") us
+
 -- the number that stands there
 abbrev pub number_in : List Use → ℕ
 number_in us = number_or us number_name 1
@@ -121,11 +133,11 @@ pub record Command : Type 0 where
 
 -- all of them
 abbrev pub commands : List Command
-commands = record { name = codes "solve"; table = solve_table; job = λ us. job.Solve (workers_in us) (limits_in us) (pages_in us) (decimals_in us) (two_views_in us) }
-    ∷ record { name = codes "redraw"; table = redraw_table; job = λ us. job.Redraw (number_in us) (workers_in us) (limits_in us) (decimals_in us) (two_views_in us) }
-    ∷ record { name = codes "stl"; table = stl_table; job = λ us. job.Stl (number_in us) (workers_in us) (limits_in us) (two_views_in us) }
+commands = record { name = codes "solve"; table = solve_table; job = λ us. job.Solve (workers_in us) (limits_in us) (pages_in us) (decimals_in us) (two_views_in us) (sections_in us) }
+    ∷ record { name = codes "redraw"; table = redraw_table; job = λ us. job.Redraw (number_in us) (workers_in us) (limits_in us) (decimals_in us) (two_views_in us) (sections_in us) }
+    ∷ record { name = codes "stl"; table = stl_table; job = λ us. job.Stl (number_in us) (workers_in us) (limits_in us) (two_views_in us) (sections_in us) }
     ∷ record { name = codes "prove"; table = prove_table; job = λ us. job.Prove (workers_in us) (limits_in us) (two_views_in us) }
-    ∷ record { name = codes "check"; table = check_table; job = λ us. job.Check (two_views_in us) }
+    ∷ record { name = codes "check"; table = check_table; job = λ us. job.Check (two_views_in us) (sections_in us) }
     ∷ record { name = codes "ask"; table = ask_table; job = λ us. job.Ask (workers_in us) (limits_in us) (two_views_in us) }
     ∷ record { name = codes "blocks"; table = blocks_table; job = λ us. job.Blocks (decimals_in us) (two_views_in us) }
     ∷ record { name = codes "make"; table = make_table; job = λ us. job.Make (number_in us) }
@@ -152,11 +164,11 @@ AreWorkers workers = (1 ≤ workers) × (workers ≤ most_workers)
 -- the numbers that a job asks for can be met: it counts solids from 1, as many work at it as may, coordinates have no more
 -- decimals than they may, and a log lists no more solids than it may
 abbrev pub IsCounted : Job → Type 0
-IsCounted (job.Solve workers limits pages decimals two) = AreWorkers workers × (decimals ≤ most_decimals)
-IsCounted (job.Redraw which workers limits decimals two) = (1 ≤ which) × AreWorkers workers × (decimals ≤ most_decimals)
-IsCounted (job.Stl which workers limits two) = (1 ≤ which) × AreWorkers workers
+IsCounted (job.Solve workers limits pages decimals two sections) = AreWorkers workers × (decimals ≤ most_decimals)
+IsCounted (job.Redraw which workers limits decimals two sections) = (1 ≤ which) × AreWorkers workers × (decimals ≤ most_decimals)
+IsCounted (job.Stl which workers limits two sections) = (1 ≤ which) × AreWorkers workers
 IsCounted (job.Prove workers limits two) = AreWorkers workers × (limits.solids ≤ most_solid_limit)
-IsCounted (job.Check two) = Unit {0}
+IsCounted (job.Check two sections) = Unit {0}
 IsCounted (job.Ask workers limits two) = AreWorkers workers
 IsCounted (job.Blocks decimals two) = decimals ≤ most_decimals
 IsCounted (job.Make n) = Unit {0}

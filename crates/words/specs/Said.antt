@@ -6,7 +6,7 @@ use Rattle.std.specs.Option.{option_map_or}
 use Rattle.std.specs.Str.{bytes_eq}
 use Rattle.words.specs.declared.said.Said.{Said}
 use Rattle.words.specs.declared.table.Range.{Range}
-use Rattle.words.specs.Jobs.{decimals_field, decimals_in, limits_in, nodes_field, number_in, pages_field, pages_in, solids_field, two_views_field, two_views_in, workers_field, workers_in}
+use Rattle.words.specs.Jobs.{decimals_field, decimals_in, limits_in, nodes_field, number_in, pages_field, pages_in, solids_field, sections_field, sections_in, two_views_field, two_views_in, workers_field, workers_in}
 use Rattle.words.specs.Rows.{has_flag, is_sound}
 use Rattle.words.specs.Words.{Field, Table, Text, Use, number_field, number_name, option_of, taken}
 
@@ -35,7 +35,7 @@ abbrev pub range_of_number : Table → Range
 range_of_number t = unwrap_or t.number (record { least = 1; most = 1 })
 
 abbrev pub usual_fields : Table → List Field
-usual_fields t = workers_field ∷ nodes_field ∷ solids_field ∷ decimals_field ∷ number_field (range_of_number t) ∷ pages_field ∷ two_views_field ∷ []
+usual_fields t = workers_field ∷ nodes_field ∷ solids_field ∷ decimals_field ∷ number_field (range_of_number t) ∷ pages_field ∷ two_views_field ∷ sections_field ∷ []
 
 -- what the table calls as other commands do means what it means there, and its number may be 1
 unfoldable pub is_usual : Table → Bool
@@ -45,4 +45,4 @@ is_usual t = is_sound t && (list_all (agrees t) (usual_fields t) && (nat_le (ran
 abbrev pub IsSaid : Table → List Text → Said → Type 0
 IsSaid t words said = (us : List Use) × (taken t words ≡ Some us)
     × (said.workers ≡ workers_in us) × (said.limits ≡ limits_in us) × (said.pages ≡ pages_in us)
-    × (said.decimals ≡ decimals_in us) × (said.two_views ≡ two_views_in us) × (said.number ≡ number_in us)
+    × (said.decimals ≡ decimals_in us) × (said.two_views ≡ two_views_in us) × (said.sections ≡ sections_in us) × (said.number ≡ number_in us)

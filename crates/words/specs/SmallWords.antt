@@ -13,16 +13,16 @@ words_in line = slice_split (λ c. c == 32) line
 abbrev pub job_in : Text → Option Job
 job_in line = job_said (words_in line)
 
--- a search by so many workers, within limits, with pages or without, of coordinates with so many decimals, in three views
+-- a search by so many workers, within limits, with pages or without, of coordinates with so many decimals, in three views, without sections
 abbrev pub search_by : ℕ → ℕ → ℕ → Bool → ℕ → Option Job
-search_by workers nodes solids pages decimals = Some (job.Solve workers (record { nodes = nodes; solids = solids }) pages decimals false)
+search_by workers nodes solids pages decimals = Some (job.Solve workers (record { nodes = nodes; solids = solids }) pages decimals false false)
 
 -- by one worker, without pages, of whole coordinates
 abbrev pub search_within : ℕ → ℕ → Option Job
 search_within nodes solids = search_by 1 nodes solids false 0
 
 abbrev pub redrawn : ℕ → ℕ → ℕ → ℕ → ℕ → Option Job
-redrawn which workers nodes solids decimals = Some (job.Redraw which workers (record { nodes = nodes; solids = solids }) decimals false)
+redrawn which workers nodes solids decimals = Some (job.Redraw which workers (record { nodes = nodes; solids = solids }) decimals false false)
 
 -- whether any of the lines is taken
 abbrev pub any_said : List Text → Bool

@@ -15,7 +15,7 @@ use solid_model::Limits;
 use std::alloc::Global;
 
 /// What the words ask for. Where a drawing is read, they say whether two views of it are enough:
-/// then one of the three may show nothing.
+/// then one of the three may show nothing; and whether sections are read too.
 #[derive(Clone, Copy, Debug)]
 pub enum Job {
     /// A search for the solids of a drawing whose coordinates have so many decimals, by so many
@@ -26,6 +26,7 @@ pub enum Job {
         pages: bool,
         decimals: u8,
         two_views: bool,
+        sections: bool,
     },
     /// The drawing of one of these solids, by its number, counted from 1.
     Redraw {
@@ -34,6 +35,7 @@ pub enum Job {
         limits: Limits,
         decimals: u8,
         two_views: bool,
+        sections: bool,
     },
     /// The boundary of one of these solids as triangles, by its number.
     Stl {
@@ -41,6 +43,7 @@ pub enum Job {
         workers: u32,
         limits: Limits,
         two_views: bool,
+        sections: bool,
     },
     /// What shows that a search for all these solids was complete.
     Prove {
@@ -51,6 +54,7 @@ pub enum Job {
     /// The check of what is said to show that, behind a drawing.
     Check {
         two_views: bool,
+        sections: bool,
     },
     /// What readers of the growing list of these solids are asked, behind a drawing.
     Ask {
@@ -118,6 +122,11 @@ const TWO_VIEWS_ROW: Row<'static> = Row {
     range: None,
 };
 
+const SECTIONS_ROW: Row<'static> = Row {
+    name: "sections",
+    range: None,
+};
+
 /// What `solve` takes.
 static SOLVE: Rows<'static> = Rows {
     options: &[
@@ -127,6 +136,7 @@ static SOLVE: Rows<'static> = Rows {
         PAGES_ROW,
         DECIMALS_ROW,
         TWO_VIEWS_ROW,
+        SECTIONS_ROW,
     ],
     number: None,
 };
@@ -139,13 +149,14 @@ static REDRAW: Rows<'static> = Rows {
         SOLIDS_ROW,
         DECIMALS_ROW,
         TWO_VIEWS_ROW,
+        SECTIONS_ROW,
     ],
     number: Some(SOLIDS),
 };
 
 /// What `stl` takes.
 static STL: Rows<'static> = Rows {
-    options: &[WORKERS_ROW, NODES_ROW, SOLIDS_ROW, TWO_VIEWS_ROW],
+    options: &[WORKERS_ROW, NODES_ROW, SOLIDS_ROW, TWO_VIEWS_ROW, SECTIONS_ROW],
     number: Some(SOLIDS),
 };
 
@@ -157,7 +168,7 @@ static PROVE: Rows<'static> = Rows {
 
 /// What `check` takes.
 static CHECK: Rows<'static> = Rows {
-    options: &[TWO_VIEWS_ROW],
+    options: &[TWO_VIEWS_ROW, SECTIONS_ROW],
     number: None,
 };
 
@@ -188,7 +199,8 @@ static TRIAL: Rows<'static> = Rows {
 /// What is said to `solve`.
 fn solve(said: Said) -> Job
     ensures { result
-        ≡ job.Solve said.workers said.limits said.pages said.decimals said.two_views }
+        ≡ job.Solve said.workers said.limits said.pages said.decimals said.two_views
+        said.sections }
 {
     Job::Solve {
         workers: said.workers,
@@ -196,6 +208,7 @@ fn solve(said: Said) -> Job
         pages: said.pages,
         decimals: said.decimals,
         two_views: said.two_views,
+        sections: said.sections,
     }
 }
 
@@ -203,7 +216,8 @@ fn solve(said: Said) -> Job
 fn redraw(said: Said) -> Job
     requires { said.number ≤ most_solid_limit }
     ensures { result
-        ≡ job.Redraw said.number said.workers said.limits said.decimals said.two_views }
+        ≡ job.Redraw said.number said.workers said.limits said.decimals said.two_views
+        said.sections }
 {
     Job::Redraw {
         which: said.number as u32,
@@ -211,19 +225,22 @@ fn redraw(said: Said) -> Job
         limits: said.limits,
         decimals: said.decimals,
         two_views: said.two_views,
+        sections: said.sections,
     }
 }
 
 /// What is said to `stl`.
 fn stl(said: Said) -> Job
     requires { said.number ≤ most_solid_limit }
-    ensures { result ≡ job.Stl said.number said.workers said.limits said.two_views }
+    ensures { result ≡ job.Stl said.number said.workers said.limits said.two_views
+        said.sections }
 {
     Job::Stl {
         which: said.number as u32,
         workers: said.workers,
         limits: said.limits,
         two_views: said.two_views,
+        sections: said.sections,
     }
 }
 
@@ -287,6 +304,7 @@ fn job_by(alloc: Global, command: &str, words: &[String]) -> Result<Job, WordFau
             let said = said_by(alloc, &CHECK, words)?;
             Ok(Job::Check {
                 two_views: said.two_views,
+                sections: said.sections,
             })
         }
         "ask" => Ok(ask(said_by(alloc, &ASK, words)?)),
@@ -306,8 +324,8 @@ fn job_by(alloc: Global, command: &str, words: &[String]) -> Result<Job, WordFau
 /// 1,000,000, `--solids` from 1 to 65,536, by default 4,096, `--decimals` from 0 to 6, by default
 /// 0, and `--pages`, which has no value. `redraw` takes these but `--pages`, `stl` the first three,
 /// and both a number from 1 to 65,536, which must be there. `prove` and `ask` take the first three,
-/// `blocks` `--decimals`. These six and `check`, which takes nothing else, take `--two-views`, which
-/// has no value either.
+/// `blocks` `--decimals`. These six and `check` take `--two-views`, and `solve`, `redraw`, `stl` and
+/// `check` `--sections`, which have no value either.
 /// `make` and `trial` take a number below 2 to the power 64, which must be there, and `trial` takes
 /// `--workers`. Options and the number stand in any order, each at most once; an option is written
 /// as `--name value` or as `--name=value`, and one without a value as `--name`. A value is one or

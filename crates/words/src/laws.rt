@@ -26,21 +26,28 @@ pub fn small_jobs()
         ≡ search_by 1 1000000 4096 true 6 }
     ensures fractions { job_in (codes "redraw --decimals=03 2") ≡ redrawn 2 1 1000000 4096 3 }
     ensures stl { job_in (codes "stl --solids=7 3 --workers 2")
-        ≡ Some (job.Stl 3 2 (record { nodes = 1000000; solids = 7 }) false) }
+        ≡ Some (job.Stl 3 2 (record { nodes = 1000000; solids = 7 }) false false) }
     ensures ask { job_in (codes "ask --workers 2 --nodes=5")
         ≡ Some (job.Ask 2 (record { nodes = 5; solids = 4096 }) false) }
     ensures prove { job_in (codes "prove --solids 3")
         ≡ Some (job.Prove 1 (record { nodes = 1000000; solids = 3 }) false) }
-    ensures check { job_in (codes "check") ≡ Some (job.Check false) }
+    ensures check { job_in (codes "check") ≡ Some (job.Check false false) }
     ensures two_views { job_in (codes "solve --two-views --decimals 2")
-        ≡ Some (job.Solve 1 (record { nodes = 1000000; solids = 4096 }) false 2 true) }
+        ≡ Some (job.Solve 1 (record { nodes = 1000000; solids = 4096 }) false 2 true false) }
     ensures redraw_two { job_in (codes "redraw 2 --two-views")
-        ≡ Some (job.Redraw 2 1 (record { nodes = 1000000; solids = 4096 }) 0 true) }
+        ≡ Some (job.Redraw 2 1 (record { nodes = 1000000; solids = 4096 }) 0 true false) }
     ensures stl_two { job_in (codes "stl --two-views 3")
-        ≡ Some (job.Stl 3 1 (record { nodes = 1000000; solids = 4096 }) true) }
+        ≡ Some (job.Stl 3 1 (record { nodes = 1000000; solids = 4096 }) true false) }
     ensures prove_two { job_in (codes "prove --nodes=9 --two-views --workers 4")
         ≡ Some (job.Prove 4 (record { nodes = 9; solids = 4096 }) true) }
-    ensures check_two { job_in (codes "check --two-views") ≡ Some (job.Check true) }
+    ensures check_two { job_in (codes "check --two-views") ≡ Some (job.Check true false) }
+    ensures sections { job_in (codes "solve --sections --decimals 2")
+        ≡ Some (job.Solve 1 (record { nodes = 1000000; solids = 4096 }) false 2 false true) }
+    ensures redraw_sections { job_in (codes "redraw 2 --two-views --sections")
+        ≡ Some (job.Redraw 2 1 (record { nodes = 1000000; solids = 4096 }) 0 true true) }
+    ensures stl_sections { job_in (codes "stl --sections 3")
+        ≡ Some (job.Stl 3 1 (record { nodes = 1000000; solids = 4096 }) false true) }
+    ensures check_sections { job_in (codes "check --sections") ≡ Some (job.Check false true) }
     ensures ask_two { job_in (codes "ask --two-views --nodes 5")
         ≡ Some (job.Ask 1 (record { nodes = 5; solids = 4096 }) true) }
     ensures blocks { job_in (codes "blocks") ≡ Some (job.Blocks 0 false) }
@@ -82,17 +89,19 @@ pub fn refused_words()
         ∷ codes "solve --solids=3 --nodes 2 --solids 3" ∷ codes "solve --workers 2 --workers 2"
         ∷ codes "solve --pages --pages" ∷ codes "solve --decimals 2 --decimals 2"
         ∷ codes "solve --two-views --two-views" ∷ codes "check --two-views --two-views"
-        ∷ []) ≡ false }
+        ∷ codes "stl 1 --sections --sections" ∷ []) ≡ false }
     ensures flags { any_said (codes "solve --pages=" ∷ codes "solve --pages=1"
         ∷ codes "solve --pages=true" ∷ codes "solve --pages 1" ∷ codes "redraw 1 --pages"
         ∷ codes "solve --two-views=1" ∷ codes "solve --two-views=" ∷ codes "check --two-views true"
         ∷ codes "check --pages" ∷ codes "make --two-views 3" ∷ codes "trial 7 --two-views"
+        ∷ codes "solve --sections=1" ∷ codes "check --sections=" ∷ codes "prove --sections"
+        ∷ codes "ask --sections" ∷ codes "blocks --sections" ∷ codes "trial 7 --sections"
         ∷ []) ≡ false }
     ensures names { any_said (codes "solve --node 3" ∷ codes "solve --nodess 3"
         ∷ codes "solve --Nodes 3" ∷ codes "solve -nodes 3" ∷ codes "solve -n 3"
         ∷ codes "solve --=3" ∷ codes "solve --number 3" ∷ codes "solve -h" ∷ codes "solve --help"
         ∷ codes "solve --two" ∷ codes "solve --two_views" ∷ codes "solve --two-view"
-        ∷ codes "solve -two-views" ∷ codes "check two-views"
+        ∷ codes "solve -two-views" ∷ codes "check two-views" ∷ codes "check --section"
         ∷ codes "solve help" ∷ codes "solve --version" ∷ codes "solve -V" ∷ []) ≡ false }
     ensures barred { any_said (codes "solve --nodes +3" ∷ codes "solve --nodes=+3"
         ∷ codes "solve +3" ∷ codes "solve --" ∷ codes "solve -- --nodes 3"

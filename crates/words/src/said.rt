@@ -22,6 +22,7 @@ pub struct Said {
     pub pages: bool,
     pub decimals: u8,
     pub two_views: bool,
+    pub sections: bool,
     pub number: u64,
 }
 
@@ -60,6 +61,7 @@ pub fn said_by(alloc: Global, table: &Rows<'_>, words: &[String]) -> Result<Said
     let number = number_or(&matches, "number", range.least, range.most, 1);
     let pages = matches.get_flag("pages");
     let two_views = matches.get_flag("two-views");
+    let sections = matches.get_flag("sections");
     Ok(Said {
         workers: workers as u32,
         limits: Limits {
@@ -69,6 +71,7 @@ pub fn said_by(alloc: Global, table: &Rows<'_>, words: &[String]) -> Result<Said
         pages,
         decimals: decimals as u8,
         two_views,
+        sections,
         number,
     })
 }

@@ -1,12 +1,14 @@
 -- What is made from a number is owed.
-use Rattle.std.proofs.Common.{refl, sym, subst}
+use Rattle.std.proofs.Common.{◌≡◌, false, refl, ap, sym, subst, ◌∙◌}
 use Rattle.tv_base.specs.Faults.{Rose}
+use Rattle.dxf_entities.specs.declared.layer_set.LayerSet.{LayerSet}
+use Rattle.dxf_entities.specs.declared.layer_set.LayerSet.TheVariants.{Main}
 use Rattle.drawing_maker.specs.Made.{made_solid}
 use Rattle.replies.specs.declared.status.Answer.TheVariants as answers
 use Rattle.recon_run.specs.Answers.{IsTried}
 use Rattle.recon_run.specs.Endings.{Ends}
 use Rattle.replies.specs.Writings.{IsReply}
-use Rattle.recon_run.specs.Owed.{ProfileParts, owed_for, read, search_for_one, searched}
+use Rattle.recon_run.specs.Owed.{ProfileParts, drawing_profile, layers_or, owed_for, read, search_for_one, searched}
 use Rattle.stl_out.specs.SolidStl.{IsSolidStl}
 use Rattle.recon_run.proofs.Endings.{never_unread, reply_ends}
 use Rattle.redraw.specs.Files.{IsFileOf}
@@ -54,6 +56,9 @@ returns-in-Stl-clause-ends g c =
     let held = g.K.Sink.held c.args.sink.now in let now = g.K.Sink.held c.answer_source-in-Stl.new.sink in
     let source_rose = Rose (g.S.Source.faults c.args.source.now) (g.S.Source.faults c.answer_source-in-Stl.new.source) in
     let sink_rose = Rose (g.K.Sink.faults c.args.sink.now) (g.K.Sink.faults c.answer_source-in-Stl.new.sink) in
+    let two = c.in-Stl.two_views in
+    let profile : c.drawing-profile-in-Stl.result ≡ drawing_profile (layers_or c.in-Stl.sections Main) 0 two =
+    c.drawing-profile-in-Stl.ensures ∙ ap (λ (layers : LayerSet). drawing_profile layers 0 two) c.layers_or-layers-in-Stl.ensures in
     subst (λ j. Ends (owed_for j) left rest held now source_rose sink_rose c.answer_source-in-Stl.result) (sym c.in-Stl.is)
     (subst (λ (profile : ProfileParts). Ends (read profile (searched (search_for_one (λ _. IsSolidStl) c.in-Stl.which c.in-Stl.limits))) left rest held now
-    source_rose sink_rose c.answer_source-in-Stl.result) c.three_views-profile.ensures c.answer_source-in-Stl.ensures.ends)
+    source_rose sink_rose c.answer_source-in-Stl.result) profile c.answer_source-in-Stl.ensures.ends)

@@ -1,7 +1,6 @@
 -- Pages begin to go to the sink that is given, of the choices that fit what is sought.
-use Rattle.further_views.specs.Further.{further_runs}
 use Rattle.six_views.specs.Further.{FitsChoice}
 use Rattle.recon_run.proofs.telling.told.Given as goal
 
 abbrev pub ghosts-told_from : goal.ghosts-told_from
-ghosts-told_from g a = record { held = g.K.Sink.held a.sink; fits = FitsChoice a.sought.problem (further_runs a.sought.further) }
+ghosts-told_from g a = record { held = g.K.Sink.held a.sink; fits = FitsChoice a.sought.problem a.sought.further }

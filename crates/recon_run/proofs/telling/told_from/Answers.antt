@@ -4,7 +4,6 @@ use Rattle.std.specs.Arc.{arc_value}
 use Rattle.std.specs.Io.KnownBytes.{Appends}
 use Rattle.page_calls.specs.Those.{AreThose}
 use Rattle.page_calls.proofs.Those.{those_alike}
-use Rattle.further_views.specs.Further.{further_runs}
 use Rattle.replies.specs.declared.status.Failure.{Failure}
 use Rattle.recon_run.specs.Pages.{BeginsPages, TellsPages}
 use Rattle.recon_run.specs.Searched.{IsSearchOf, TellsSearch, run_failure}
@@ -20,13 +19,13 @@ use Rattle.recon_run.proofs.telling.told_from.Goals as goal
 
 pub begin-pages-requires-clause-fits : goal.begin-pages-requires-clause-fits
 begin-pages-requires-clause-fits g c = λ choice.
-    subst (λ (s : SieveParts). FitsChoice s.problem (further_runs s.further) choice ↔ g.B.Begun.fits choice) (sym c.in-Ok-of.ensures)
-    (subst (λ (q : ProblemParts). FitsChoice q (further_runs c.args.sought.further) choice ↔ g.B.Begun.fits choice) (sym (c.deref.ensures ∙ c.in-Ok.ensures.ok)) (c.requires.fits choice))
+    subst (λ (s : SieveParts). FitsChoice s.problem s.further choice ↔ g.B.Begun.fits choice) (sym c.in-Ok-of.ensures)
+    (subst (λ (q : ProblemParts). FitsChoice q c.args.sought.further choice ↔ g.B.Begun.fits choice) (sym (c.deref.ensures ∙ c.in-Ok.ensures.ok)) (c.requires.fits choice))
 
 pub returns-in-Ok-fitting-clause-ends : goal.returns-in-Ok-fitting-clause-ends
 returns-in-Ok-fitting-clause-ends g c =
     let p = c.args.sought.problem in let all = c.in-Ok-found.searched in let s = c.in-Ok-fitting.fitting in let pages = c.search_by-found.new.pages in
-    let e = further_runs c.args.sought.further in let fits = g.B.Begun.fits in
+    let e = c.args.sought.further in let fits = g.B.Begun.fits in
     let (refused, number, total, kept) = c.into_sink-sink.ensures.told in
     let search : IsSearchOf c.args.limits p all = subst (λ (q : ProblemParts). IsSearchOf c.args.limits q all) c.in-Ok.ensures.ok c.in-Ok-found.ensures.search in
     let paged : HasAllPaged p (Some []) (Some pages.calls) all.ended.solids = subst (λ (q : ProblemParts). HasAllPaged q (Some []) (Some pages.calls) all.ended.solids) c.in-Ok.ensures.ok

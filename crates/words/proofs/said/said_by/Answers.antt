@@ -68,7 +68,9 @@ returns c =
     c.get_flag-pages.ensures.none c.get_flag-pages.ensures.value c.get_flag-pages.ensures.other in
     let two_views = flag_read t words m (codes "two-views") c.get_flag-two_views.result u.sound read u.agreed.1.1.1.1.1.1.0
     c.get_flag-two_views.ensures.none c.get_flag-two_views.ensures.value c.get_flag-two_views.ensures.other in
+    let sections = flag_read t words m (codes "sections") c.get_flag-sections.result u.sound read u.agreed.1.1.1.1.1.1.1.0
+    c.get_flag-sections.ensures.none c.get_flag-sections.ensures.value c.get_flag-sections.ensures.other in
     record {
-      said = (read.0, read.1, workers, rw (nodes, solids) refl, pages, decimals, two_views, number);
+      said = (read.0, read.1, workers, rw (nodes, solids) refl, pages, decimals, two_views, sections, number);
       most = subst (λ (r : Range). c.number_or-number.result ≤ r.most) c.unwrap_or-range.ensures c.number_or-number.ensures.most;
     }

@@ -1,28 +1,20 @@
--- A choice fits where its solid does, and it has one.
-use Rattle.std.proofs.Common.{◌↔◌, IsTrue, sym, subst}
+-- A choice fits where its solid shows each layer.
+use Rattle.std.proofs.Common.{◌≡◌, ◌↔◌, List, IsTrue, ◌∙◌, sym, subst}
 use Rattle.std.specs.Prelude.{IfOk}
 use Rattle.std.proofs.lemmas.Result.{IfOk-weaker}
-use Rattle.solid_model.specs.Panels.{IsGrid}
-use Rattle.further_views.specs.Further.{further_runs}
+use Rattle.lemmas.specs.Lists.{Each}
 use Rattle.six_views.specs.Further.{FitsChoice, SieveParts}
-use Rattle.fit_lanes.specs.Tests.{TellsFit}
-use Rattle.fit_lanes.proofs.AllTold.{of_solids}
+use Rattle.fit_lanes.specs.Tests.{LayerAsked, ShowsIn, layers_asked}
+use Rattle.fit_lanes.proofs.AllTold.{all_shown}
 use Rattle.fit_lanes.proofs.further_sieve.FurtherSieveSieve.fits.Goals as goal
-
-pub returns-in-Some-clause-told : goal.returns-in-Some-clause-told
-returns-in-Some-clause-told c =
-    let p = c.self.inside.problem.now in
-    let e = further_runs c.self.inside.further.now in
-    let choice = c.args.choice.now in
-    let is : IsGrid p.grid = subst IsGrid c.grid.ensures.grid c.coordinates-xs.ensures.kept in
-    let tells = subst (λ (a : SieveParts). TellsFit a choice c.in-Some.told) (sym c.self.view_is) c.in-Some.ensures.told in
-    subst (λ (a : SieveParts). IsTrue c.in-Some.told ↔ FitsChoice a.problem (further_runs a.further) choice) c.self.view_is (of_solids p is e choice c.in-Some.told tells)
 
 pub returns-clause-told : goal.returns-clause-told
 returns-clause-told c =
-    let p = c.self.inside.problem.now in
-    let e = further_runs c.self.inside.further.now in
-    let choice = c.args.choice.now in
-    let is : IsGrid p.grid = subst IsGrid c.grid.ensures.grid c.coordinates-xs.ensures.kept in
-    subst (λ (a : SieveParts). IfOk c.fits.result (λ told. IsTrue told ↔ FitsChoice a.problem (further_runs a.further) choice)) c.self.view_is
-    (IfOk-weaker c.fits.result _ _ (λ told tells. of_solids p is e choice told tells) c.fits.ensures)
+    let p = c.self.inside.problem.now in let e = c.self.inside.further.now in let choice = c.args.choice.now in
+    let both = all_shown p e choice in
+    let tests : c.as_mut_slice.result.now ≡ layers_asked p e = c.as_mut_slice.ensures.value ∙ c.self.invariant in
+    subst (λ (a : SieveParts). IfOk c.show_all.result (λ yes. IsTrue yes ↔ FitsChoice a.problem a.further choice)) c.self.view_is
+    (IfOk-weaker c.show_all.result _ _ (λ yes told. (
+      (λ y. both.0 (subst (λ (ls : List LayerAsked). Each (λ l. ShowsIn l choice) ls) tests (told.0 y))),
+      (λ fits. told.1 (subst (λ (ls : List LayerAsked). Each (λ l. ShowsIn l choice) ls) (sym tests) (both.1 fits))),
+    )) c.show_all.ensures.told)

@@ -13,12 +13,12 @@ use Rattle.solid_model.specs.Choices.{cells_of_choice}
 use Rattle.solid_model.specs.Grid.{IsUnionOf}
 use Rattle.solid_model.specs.Panels.{GridParts, coordinates_of, IsGrid}
 use Rattle.solid_model.specs.PerAxis.{numbers_of}
-use Rattle.dxf_entities.specs.declared.extra.Extra.{Extra}
+use Rattle.dxf_entities.specs.declared.layer.Layer.{Layer}
 use Rattle.six_views.specs.Fits.{ShowsMoved}
-use Rattle.further_views.specs.Further.{seen_as, view_style}
-use Rattle.six_views.specs.FurtherFrames.{further_frame}
+use Rattle.further_views.specs.Further.{view_style}
+use Rattle.six_views.specs.SightFrames.{sight_frame}
 use Rattle.fit_lanes.specs.Sights.{width, height, AreSights}
-use Rattle.fit_lanes.specs.Tests.{ViewAsked, TellsShown, AreDrawn, DrawsFirst}
+use Rattle.fit_lanes.specs.Tests.{LayerAsked, TellsShown, AreDrawn, DrawsFirst}
 use Rattle.lemmas.specs.Lists.{Each}
 use Rattle.solid_model.specs.Blocks.{ProblemParts}
 use Rattle.solid_model.specs.Runs.{ViewRuns}
@@ -29,16 +29,16 @@ use Rattle.fit_lanes.proofs.Told.{IsSeen, rows_more, shows_told}
 use Rattle.fit_lanes.proofs.view_test.ViewTest.shows.Goals as goal
 
 -- how many cells there are along a direction of the view
-size_is : (x : Extra) (which : Frame → Axis) (frame : Frame) (numbers : Axis → ℕ) (g h : GridParts) (n : ℕ) → frame ≡ further_frame x → numbers ≡ grid_sizes g → g ≡ h
-    → n ≡ numbers (which frame) → n ≡ grid_sizes h (which (further_frame x))
-size_is x which frame numbers g h n same sizes grid is = is ∙ (λ t. sizes t (which (same t))) ∙ (λ t. grid_sizes (grid t) (which (further_frame x)))
+size_is : (x : Layer) (which : Frame → Axis) (frame : Frame) (numbers : Axis → ℕ) (g h : GridParts) (n : ℕ) → frame ≡ sight_frame x → numbers ≡ grid_sizes g → g ≡ h
+    → n ≡ numbers (which frame) → n ≡ grid_sizes h (which (sight_frame x))
+size_is x which frame numbers g h n same sizes grid is = is ∙ (λ t. sizes t (which (same t))) ∙ (λ t. grid_sizes (grid t) (which (sight_frame x)))
 
 pub draws-requires-clause-columns : goal.draws-requires-clause-columns
 draws-requires-clause-columns c =
     let room = c.self.invariant.0 in
-    let x = c.self.inside.extra in
+    let x = c.self.inside.layer in
     let g = c.self.inside.problem.now.grid in
-    let wide = size_is x (λ f. f.right.axis) c.frame_of-frame.result (numbers_of c.sizes-sizes.result) _ g _ c.frame_of-frame.ensures c.sizes-sizes.ensures.sizes c.grid.ensures.grid c.along-width.ensures in
+    let wide = size_is x (λ f. f.right.axis) c.sight_frame-frame.result (numbers_of c.sizes-sizes.result) _ g _ c.sight_frame-frame.ensures c.sizes-sizes.ensures.sizes c.grid.ensures.grid c.along-width.ensures in
     omega (
       arith,
       wide,
@@ -55,9 +55,9 @@ draws-requires-clause-columns c =
 pub draws-requires-2-clause-columns : goal.draws-requires-2-clause-columns
 draws-requires-2-clause-columns c =
     let room = c.self.invariant.0 in
-    let x = c.self.inside.extra in
+    let x = c.self.inside.layer in
     let g = c.self.inside.problem.now.grid in
-    let wide = size_is x (λ f. f.right.axis) c.frame_of-frame.result (numbers_of c.sizes-sizes.result) _ g _ c.frame_of-frame.ensures c.sizes-sizes.ensures.sizes c.grid.ensures.grid c.along-width.ensures in
+    let wide = size_is x (λ f. f.right.axis) c.sight_frame-frame.result (numbers_of c.sizes-sizes.result) _ g _ c.sight_frame-frame.ensures c.sizes-sizes.ensures.sizes c.grid.ensures.grid c.along-width.ensures in
     omega (
       arith,
       wide,
@@ -86,9 +86,9 @@ alike_in sights stride choice columns shown_columns filled count n w points show
 pub draws-requires-clause-alike : goal.draws-requires-clause-alike
 draws-requires-clause-alike c =
     let room = c.self.invariant.0 in
-    let x = c.self.inside.extra in
+    let x = c.self.inside.layer in
     let g = c.self.inside.problem.now.grid in
-    let wide = size_is x (λ f. f.right.axis) c.frame_of-frame.result (numbers_of c.sizes-sizes.result) _ g _ c.frame_of-frame.ensures c.sizes-sizes.ensures.sizes c.grid.ensures.grid c.along-width.ensures in
+    let wide = size_is x (λ f. f.right.axis) c.sight_frame-frame.result (numbers_of c.sizes-sizes.result) _ g _ c.sight_frame-frame.ensures c.sizes-sizes.ensures.sizes c.grid.ensures.grid c.along-width.ensures in
     let sights : List (List Span) = c.self.inside.sights in
     let filled : AreFilled c.args.choice.now sights (with_items c.self.inside.columns c.fill.new.rows).items = subst (AreFilled c.args.choice.now sights)
     (sym (with_items_is c.self.inside.columns c.fill.new.rows (c.fill.ensures.count ∙ c.as_mut_slice.ensures.len))) c.fill.ensures.filled in
@@ -99,9 +99,9 @@ draws-requires-clause-alike c =
 pub draws-requires-2-clause-alike : goal.draws-requires-2-clause-alike
 draws-requires-2-clause-alike c =
     let room = c.self.invariant.0 in
-    let x = c.self.inside.extra in
+    let x = c.self.inside.layer in
     let g = c.self.inside.problem.now.grid in
-    let wide = size_is x (λ f. f.right.axis) c.frame_of-frame.result (numbers_of c.sizes-sizes.result) _ g _ c.frame_of-frame.ensures c.sizes-sizes.ensures.sizes c.grid.ensures.grid c.along-width.ensures in
+    let wide = size_is x (λ f. f.right.axis) c.sight_frame-frame.result (numbers_of c.sizes-sizes.result) _ g _ c.sight_frame-frame.ensures c.sizes-sizes.ensures.sizes c.grid.ensures.grid c.along-width.ensures in
     let sights : List (List Span) = c.self.inside.sights in
     let filled : AreFilled c.args.choice.now sights (with_items c.self.inside.columns c.fill.new.rows).items = subst (AreFilled c.args.choice.now sights)
     (sym (with_items_is c.self.inside.columns c.fill.new.rows (c.fill.ensures.count ∙ c.as_mut_slice.ensures.len))) c.fill.ensures.filled in
@@ -114,7 +114,7 @@ draws-requires-2-clause-inside c = subst (λ n. Each (λ p. p < n) c.as_slice-po
     (subst (Each (λ p. p < length c.self.inside.drawn.items)) (sym c.as_slice-points.ensures.value) c.self.invariant.0.busy.inside)
 
 -- the room is for the same after another choice was tested
-room_kept : (p : ProblemParts) (x : Extra) (shown : ViewRuns) (sights : List (List Span)) (points shown_points columns drawn more_columns more_drawn : List ℕ)
+room_kept : (p : ProblemParts) (x : Layer) (shown : ViewRuns) (sights : List (List Span)) (points shown_points columns drawn more_columns more_drawn : List ℕ)
     → IsRoomOf p x shown sights points columns drawn → length more_columns ≡ length columns → length more_drawn ≡ length drawn
     → shown_points ≡ points → AreBlankBeyond shown_points more_drawn → IsRoomOf p x shown sights points more_columns more_drawn
 room_kept p x shown sights points shown_points columns drawn more_columns more_drawn room as_many as_long same blank = record {
@@ -151,7 +151,7 @@ invariant_of-self-2 c =
     )
 
 -- what is told of columns in rows of so many places, of a view's columns
-seen_in : (x : Extra) (g : GridParts) (numbers : List (Option ℕ)) (sights : List (List Span)) (are : AreSights x (grid_sizes g) numbers sights) (is : IsGrid g)
+seen_in : (x : Layer) (g : GridParts) (numbers : List (Option ℕ)) (sights : List (List Span)) (are : AreSights x (grid_sizes g) numbers sights) (is : IsGrid g)
     (choice : List Bool) (columns shown_columns : List ℕ) (filled : AreFilled choice sights columns) (s : List Cell)
     (union : IsUnionOf (coordinates_of g) (cells_of_choice numbers choice) (is_full s)) (upright : Bool) (bytes : List ℕ) (w h : ℕ)
     → w ≡ width x (grid_sizes g) → h ≡ height x (grid_sizes g) → shown_columns ≡ columns → length bytes ≡ (height x (grid_sizes g) + 1) * (width x (grid_sizes g) + 1)
@@ -165,13 +165,13 @@ seen_in x g numbers sights are is choice columns shown_columns filled s union up
 }
 
 pub returns-clause-told : goal.returns-clause-told
-returns-clause-told c = subst (λ (a : ViewAsked). TellsShown a c.args.choice.now c.both.result) c.self.view_is (λ s union.
+returns-clause-told c = subst (λ (a : LayerAsked). TellsShown a c.args.choice.now c.both.result) c.self.view_is (λ s union.
     let room = c.self.invariant.0 in
     let p = c.self.inside.problem.now in
-    let x = c.self.inside.extra in
+    let x = c.self.inside.layer in
     let g = p.grid in
-    let wide = size_is x (λ f. f.right.axis) c.frame_of-frame.result (numbers_of c.sizes-sizes.result) _ g _ c.frame_of-frame.ensures c.sizes-sizes.ensures.sizes c.grid.ensures.grid c.along-width.ensures in
-    let high = size_is x (λ f. f.up.axis) c.frame_of-frame.result (numbers_of c.sizes-sizes.result) _ g _ c.frame_of-frame.ensures c.sizes-sizes.ensures.sizes c.grid.ensures.grid c.along-height.ensures in
+    let wide = size_is x (λ f. f.right.axis) c.sight_frame-frame.result (numbers_of c.sizes-sizes.result) _ g _ c.sight_frame-frame.ensures c.sizes-sizes.ensures.sizes c.grid.ensures.grid c.along-width.ensures in
+    let high = size_is x (λ f. f.up.axis) c.sight_frame-frame.result (numbers_of c.sizes-sizes.result) _ g _ c.sight_frame-frame.ensures c.sizes-sizes.ensures.sizes c.grid.ensures.grid c.along-height.ensures in
     let sights : List (List Span) = c.self.inside.sights in
     let columns = (with_items c.self.inside.columns c.fill.new.rows).items in
     let filled : AreFilled c.args.choice.now sights columns = subst (AreFilled c.args.choice.now sights)
@@ -184,7 +184,7 @@ returns-clause-told c = subst (λ (a : ViewAsked). TellsShown a c.args.choice.no
     wide high c.as_slice-columns.ensures.value long level.0 level.1 in
     let seen_too = seen_in x g p.blocks.numbers sights room.sights_of room.grid c.args.choice.now columns c.as_slice-columns.result.now filled s union true c.draws-2.new.drawn _ _
     wide high c.as_slice-columns.ensures.value long_too upright.0 upright.1 in
-    subst (λ told. IsTrue told ↔ ShowsMoved (further_frame x) (is_full s) (view_style c.self.inside.shown.now) (seen_as x)) (sym c.both.ensures)
+    subst (λ told. IsTrue told ↔ ShowsMoved (sight_frame x) (is_full s) (view_style c.self.inside.shown.now) x.view) (sym c.both.ensures)
     (shows_told g room.grid p.blocks.numbers x sights room.sights_of c.args.choice.now columns filled s union c.draws.new.drawn c.draws-2.new.drawn seen seen_too
     c.self.inside.shown.now room.kept (λ v. v.items) c.self.inside.level c.self.inside.upright c.self.invariant.1 c.self.invariant.2
     c.in_ok-level.level c.in_ok-upright.upright level.2 upright.2))

@@ -3,7 +3,7 @@ use Rattle.std.proofs.Common.{◌≡◌, ◌∙◌, List, Bool, length, refl, ap
 use Rattle.std.specs.Arc.{arc_value}
 use Rattle.page_calls.specs.Those.{AreThose}
 use Rattle.page_calls.proofs.Those.{each_is, no_more_those}
-use Rattle.further_views.specs.Further.{FurtherParts, further_runs}
+use Rattle.further_views.specs.Further.{FurtherRuns}
 use Rattle.lemmas.proofs.Lists.{each-from}
 use Rattle.recon_run.specs.Searched.{IsFittingOf, SearchedParts}
 use Rattle.six_views.specs.Further.{FitsChoice, SieveParts}
@@ -13,19 +13,19 @@ use Rattle.solid_model.specs.SearchEnds.{SearchEnd}
 use Rattle.recon_run.proofs.searched.Searched.fitting.Goals as goal
 
 -- those that a sieve keeps, told by what it is made of
-kept_by : (sieve : SieveParts) (p : ProblemParts) (further : FurtherParts) (choices found kept : List (List Bool)) → sieve ≡ record { problem = p; further = further }
-    → choices ≡ found → AreThose (λ choice. FitsChoice sieve.problem (further_runs sieve.further) choice) choices kept → AreThose (FitsChoice p (further_runs further)) found kept
-kept_by sieve p further choices found kept is same those = subst (λ cs. AreThose (FitsChoice p (further_runs further)) cs kept) same
-    (subst (λ (s : SieveParts). AreThose (λ choice. FitsChoice s.problem (further_runs s.further) choice) choices kept) is those)
+kept_by : (sieve : SieveParts) (p : ProblemParts) (further : FurtherRuns) (choices found kept : List (List Bool)) → sieve ≡ record { problem = p; further = further }
+    → choices ≡ found → AreThose (λ choice. FitsChoice sieve.problem sieve.further choice) choices kept → AreThose (FitsChoice p further) found kept
+kept_by sieve p further choices found kept is same those = subst (λ cs. AreThose (FitsChoice p further) cs kept) same
+    (subst (λ (s : SieveParts). AreThose (λ choice. FitsChoice s.problem s.further choice) choices kept) is those)
 
 pub returns-then-not-asks : goal.returns-then-not-asks
 returns-then-not-asks c =
-    let s = c.args.self in let fits = FitsChoice s.problem (further_runs c.args.further.now) in record {
+    let s = c.args.self in let fits = FitsChoice s.problem c.args.further.now in record {
       problem = refl;
       kind = refl;
       opened = refl;
       those = each_is fits s.ended.solids (each-from fits s.ended.solids (λ choice k.
-          unasked_fit s.problem (further_runs c.args.further.now) (c.if-not-asks.ensures.none refl) choice));
+          unasked_fit s.problem c.args.further.now (c.if-not-asks.ensures.none refl) choice));
     }
 
 pub invariant_of-result : goal.invariant_of-result
@@ -33,7 +33,7 @@ invariant_of-result c =
     let found = c.ended.inside.solids.items in
     let those = kept_by c.in_ok-sieve.sieve c.deref.result.now c.args.further.now c.as_slice.result.now found c.in_ok-solids.solids.items
     c.in_ok-sieve.ensures c.as_slice.ensures.value c.in_ok-solids.ensures.those in
-    let few = no_more_those (FitsChoice c.deref.result.now (further_runs c.args.further.now)) found c.in_ok-solids.solids.items those in
+    let few = no_more_those (FitsChoice c.deref.result.now c.args.further.now) found c.in_ok-solids.solids.items those in
     let same = ap (λ (e : SearchEnd). length e.solids) c.ended.view_is in let most = c.self.invariant in omega (arith, few, same, most)
 
 pub returns : goal.returns
@@ -50,5 +50,5 @@ returns c =
       problem = refl;
       kind = refl;
       opened = refl;
-      those = subst (λ (q : ProblemParts). AreThose (FitsChoice q (further_runs further)) found kept) c.deref.ensures those;
+      those = subst (λ (q : ProblemParts). AreThose (FitsChoice q further) found kept) c.deref.ensures those;
     })
