@@ -168,10 +168,12 @@ impl Prefixes {
         self.nodes.known();
     }
 
-    /// How many there are.
+    /// How many there are. Each stands once.
     pub fn len(&self) -> usize
-        ensures { result ≡ length self.now }
+        ensures count { result ≡ length self.now }
+        ensures distinct { AreDistinct self.now }
     {
+        self.nodes.known();
         self.nodes.len()
     }
 
