@@ -148,7 +148,7 @@ def ask(path: str | None, arguments: argparse.Namespace, tell: Tell, command: tu
     is_sheet = not arguments.as_is and (is_said_of_sheet(arguments) or not is_plain(lines))
     given = given_in(lines)
     if given and (is_sheet or arguments.as_is):
-        tell(f"warning: the drawing has its rounds squared off, and is taken as {'it is' if arguments.as_is else 'a sheet'}: what is told is of "
+        tell(f"warning: the drawing has its {given.kinds} squared off, and is taken as {'it is' if arguments.as_is else 'a sheet'}: what is told is of "
              "squares")
         given = None
     if is_sheet and (asked := of_readable_sheet(path, lines, arguments, tell, command)) is not None:

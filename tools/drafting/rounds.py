@@ -71,6 +71,48 @@ class Quarter(NamedTuple):
         return inside and math.hypot(right, up) > self.radius + tolerance
 
 
+class Slant(NamedTuple):
+    """An oblique edge across a box (`chamfers.py`): the sharp corner that it cuts off, or fills, and the one across from that."""
+
+    centre: Place
+    corner: Place
+
+    @property
+    def is_inner(self) -> bool:
+        return False
+
+    @property
+    def right(self) -> int:
+        return 1 if self.corner[0] > self.centre[0] else -1
+
+    @property
+    def up(self) -> int:
+        return 1 if self.corner[1] > self.centre[1] else -1
+
+    @property
+    def ends(self) -> tuple[Place, Place]:
+        """The edge's ends, on the upright and on the level side of its box at the corner."""
+        return (self.corner[0], self.centre[1]), (self.centre[0], self.corner[1])
+
+    @property
+    def box(self) -> Box:
+        return box_of([self.corner, self.centre])
+
+    def across(self) -> "Slant":
+        """The same edge, which cuts off the other corner."""
+        return Slant(self.corner, self.centre)
+
+    def along(self, share: float) -> Place:
+        (a, b), (c, d) = self.ends
+        return a + share * (c - a), b + share * (d - b)
+
+    def is_before(self, place: Place, tolerance: float) -> bool:
+        """Whether a place lies between the edge and its sharp corner, or on the sides of the corner."""
+        right, up = ((place[at] - self.centre[at]) / (self.corner[at] - self.centre[at]) for at in (0, 1))
+        noise = tolerance / min(abs(a - b) for a, b in zip(self.centre, self.corner))
+        return max(right, up) <= 1 + noise and right + up > 1 + noise
+
+
 class Round(NamedTuple):
     """What is drawn of one circle: the numbers of its quarters, and its pieces of one style, from angle to angle."""
 

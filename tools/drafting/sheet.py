@@ -15,7 +15,7 @@ import itertools
 from collections import Counter
 from collections.abc import Callable, Collection, Iterator, Mapping, Sequence
 from fractions import Fraction
-from typing import NamedTuple, Union
+from typing import NamedTuple
 
 from . import documents, files, pairs, scale
 from .cutting import Mark, marks_of, without_marks
@@ -52,10 +52,18 @@ class Drawn(NamedTuple):
     origin: Origin
     paper: Paper | None = None
     notes: Sequence[str] = ()
-    others: Iterator[Union["Drawn", Refused]] = iter(())
+    others: Iterator["Alike"] = iter(())
     refused: Refused | None = None
     is_plain: bool = True
     page: documents.Page | None = None
+
+
+class Alike(NamedTuple):
+    """Drawings of a sheet that read its lines alike and square its oblique edges to other corners, or why one has none; and as the how many
+    of all the last of them is tried."""
+
+    its: Sequence[Drawn | Refused]
+    last: int
 
 
 def add_options(parser: argparse.ArgumentParser) -> None:
@@ -284,8 +292,8 @@ def gets_further(path: str | None, arguments: argparse.Namespace, source: Source
     return True
 
 
-def refuse_oblique(path: str | None, placed: Placed, taken: Collection[Edge] = (), why: str = "") -> None:
-    """Refuses a view with an oblique edge, but for those that are taken."""
+def refuse_oblique(path: str | None, placed: Placed, taken: Collection[Edge] = (), why: Callable[[Edge], str] = lambda edge: "") -> None:
+    """Refuses a view with an oblique edge, but for those that are taken, and says what else it isn't."""
     for view, group in placed.views.items():
         run = next((run for run in group.runs if run.oblique and run.edge not in taken), None)
         if run is not None:
@@ -293,7 +301,7 @@ def refuse_oblique(path: str | None, placed: Placed, taken: Collection[Edge] = (
             a, b, c, d = (round(it - least, 9) + 0.0 for it, least in zip((*run.edge.start, *run.edge.end), (x, y, x, y)))
             off = min(abs(a - c), abs(b - d))
             raise Refused(f"in {view} a {where(run.edge.source, path)} goes from {a:.9g}, {b:.9g} to {c:.9g}, {d:.9g}{behind}: it is oblique, off by "
-                          f"{off:.3g}, and recon reads level and upright edges alone{why} (what is noise is said by --tolerance)")
+                          f"{off:.3g}, and recon reads level and upright edges alone{why(run.edge)} (what is noise is said by --tolerance)")
 
 
 def check_styles(placed: Placed, arguments: argparse.Namespace, tell: Tell) -> None:
@@ -450,10 +458,21 @@ def draw_readings(path: str | None, arguments: argparse.Namespace, tell: Tell) -
     if not 0 < arguments.tolerance < 1e6:
         raise Refused(f"no tolerance: {arguments.tolerance}")
     sheet, marks = edges_of(path, arguments, tell)
-    if sheet.arcs:
+    if sheet.arcs or has_oblique(path, sheet, marks, arguments):
         from . import squared  # which draws by what stands here
         return squared.first(path, sheet, marks, arguments, tell)
     return draw_straight(path, sheet, marks, arguments, tell)
+
+
+def has_oblique(path: str | None, sheet: Sheet, marks: Sequence[Mark], arguments: argparse.Namespace) -> bool:
+    """Whether views that stand on one sheet have oblique edges."""
+    if all(min(abs(a - b) for a, b in zip(edge.start, edge.end)) <= arguments.tolerance or edge.source.file for edge in sheet.edges):
+        return False
+    try:
+        placed = found_views(path, sheet, sheet.edges, marks, arguments, lambda text: None)
+    except Refused:
+        return False
+    return len(main_named(placed.views)) == len(VIEWS) and any(run.oblique for group in placed.views.values() for run in group.runs)
 
 
 def draw_straight(path: str | None, sheet: Sheet, marks: Sequence[Mark], arguments: argparse.Namespace, tell: Tell) -> Drawn:

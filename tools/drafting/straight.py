@@ -6,6 +6,7 @@ from collections.abc import Callable, Iterable, Sequence
 from fractions import Fraction
 from typing import NamedTuple
 
+from .drawing import Place
 from .messages import Refused
 from .reading import Box, Edge, Source
 
@@ -128,6 +129,19 @@ def are_one(one: Edge, other: Edge, tolerance: float) -> bool:
     """Whether two edges have the same ends."""
     return any(max(math.dist(one.start, a), math.dist(one.end, b)) <= 2 * tolerance
                for a, b in ((other.start, other.end), (other.end, other.start)))
+
+
+# ---- oblique lines
+
+def off(place: Place, line: tuple[Place, Place]) -> float:
+    """How far a place lies from a line through two others."""
+    (x, y), (right, up) = line
+    return abs((place[0] - x) * (up - y) - (place[1] - y) * (right - x)) / math.dist(*line)
+
+
+def along(place: Place, line: Edge) -> float:
+    """How far along a line a place lies, from its start on."""
+    return sum((b - a) * (it - a) for a, b, it in zip(line.start, line.end, place)) / math.dist(line.start, line.end)
 
 
 # ---- whole coordinates

@@ -151,7 +151,7 @@ def without_one(edge: Edge, stretch: Stretch, both: bool, tolerance: float) -> I
     """What is left of an edge."""
     way = 1 if stretch.is_upright else 0
     low, high = span_of(edge, way)
-    is_on = is_level(edge) != stretch.is_upright and abs(edge.start[1 - way] - stretch.at) <= OF_ONE * tolerance
+    is_on = is_level(edge) != stretch.is_upright and all(abs(end[1 - way] - stretch.at) <= OF_ONE * tolerance for end in (edge.start, edge.end))
     is_beside = low >= stretch.high - tolerance or high <= stretch.low + tolerance
     if not is_on or is_beside or not both and edge.hidden != stretch.hidden:
         yield edge
