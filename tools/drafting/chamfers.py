@@ -26,7 +26,7 @@ from .panels import FRAMES
 from .reading import Edge
 from .rounds import BESIDE, OF_ONE, Round, Slant, box_of, covers, is_level, is_straight
 from .straight import along, off
-from .tangent import Views, place_along, shared_axis, span_of, within, without
+from .tangent import Views, shared_axis, span_of, within, without
 
 # The most ways to square the oblique edges of a sheet that are tried, and that are looked at.
 MOST, MOST_TRIED = 64, 4096
@@ -162,15 +162,14 @@ def common_spans(views: Views, one: Chamfer, lines: Mapping[str, list[Edge]]) ->
         for end in (one.start, one.end):
             place = placed_in(views, one.view, other, axis, end)
             on = [it for it in lines[other] if is_level(it) != bool(way) and abs(it.start[1 - way] - place) <= noise]
-            its = [sorted(place_along(other, views.boxes[other], sight, it) for it in span_of(edge, way)) for edge in on]
+            its = [sorted(views.depth(other, sight, it) for it in span_of(edge, way)) for edge in on]
             spans = [(max(a, low), min(b, high)) for a, b in spans for low, high in its]
     return [(low, high) for low, high in spans if high - low > noise and high < math.inf]
 
 
 def placed_in(views: Views, view: str, other: str, axis: int, place: Place) -> float:
     """Where a place of a view lies along an axis in another view."""
-    at = place_along(view, views.boxes[view], axis, place[0 if FRAMES[view].right == axis else 1])
-    return place_along(other, views.boxes[other], axis, at, True)
+    return views.place(other, axis, views.depth(view, axis, place[0 if FRAMES[view].right == axis else 1]))
 
 
 def twin_of(views: Views, one: Chamfer, others: Sequence[Chamfer]) -> Chamfer | None:
@@ -262,7 +261,7 @@ def with_left(views: Views, it: Squared) -> Squared | None:
             if min(abs(place - box[side]) for side in ((0, 2) if is_upright else (1, 3))) < BESIDE * views.tolerance:
                 return None
             for span in common_spans(views, it.one, lines):
-                low, high = sorted(place_along(other, box, sight, stop, True) for stop in span)
+                low, high = sorted(views.place(other, sight, stop) for stop in span)
                 left.append(Stretch(other, is_upright, place, low, high, False))
     return it._replace(left=tuple(left))
 
@@ -285,27 +284,43 @@ def squared_off(edges: Sequence[Edge], chosen: Sequence[Squared], tolerance: flo
     behind = straight
     for it in chosen:
         behind = restyled(behind, it.slant, tolerance)
-    return [*behind, *(side for it in chosen for side in sides_of(it, straight, tolerance))]
+    return [*behind, *(side for it in chosen for side in sides_of(it, straight, chosen, tolerance))]
 
 
-def sides_of(it: Squared, straight: Sequence[Edge], tolerance: float) -> Iterator[Edge]:
+def sides_of(it: Squared, straight: Sequence[Edge], others: Sequence[Squared], tolerance: float) -> Iterator[Edge]:
     """The lines that stand for a chamfer, along the sides of its corner."""
     for low, high, hidden in it.one.pieces:
-        start, end = (image(it, share, straight, tolerance) for share in (low, high))
+        start, end = (image(it, share, straight, others, tolerance) for share in (low, high))
         corner = [it.slant.corner] if all(abs(a - b) > tolerance for a, b in zip(start, end)) else []
         for a, b in itertools.pairwise([start, *corner, end]):
             yield Edge(hidden, a, b, 7, it.one.edges[0].source)
 
 
-def image(it: Squared, share: float, straight: Sequence[Edge], tolerance: float) -> Place:
-    """Where a place on a chamfer comes to lie: its ends stay, and where its style changes it moves along the one line that meets it."""
+def image(it: Squared, share: float, straight: Sequence[Edge], others: Sequence[Squared], tolerance: float) -> Place:
+    """Where a place on a chamfer comes to lie: its ends stay, and where its style changes it moves along the one line that meets it, or to
+    where its sides meet those of another chamfer that meets it."""
     place = it.one.at(share)
     if share in (0.0, 1.0):
         return place
     meeting = {is_level(edge) for edge in straight if covers(edge, place, BESIDE * tolerance)}
+    crossed = [spot for other in others if not meeting and other is not it and is_upon(other.slant, place, tolerance) for spot in crossings(it.slant, other.slant)]
+    if len(crossed) == 1:
+        return crossed[0]
     if len(meeting) != 1:
         raise Refused(f"an {it.one} changes its style at {place[0]:.6g}, {place[1]:.6g}, where {'two lines meet' if meeting else 'no line meets'} it")
     return moved(it.slant, place, meeting.pop())
+
+
+def is_upon(slant: Slant, place: Place, tolerance: float) -> bool:
+    return off(place, slant.ends) <= BESIDE * tolerance and holds(slant.box, (*place, *place), BESIDE * tolerance)
+
+
+def crossings(one: Slant, other: Slant) -> Iterator[Place]:
+    """Where an upright side of one corner crosses a level side of another."""
+    for a, b in ((one, other), (other, one)):
+        (x, low), (right, y) = a.ends[0], b.ends[1]
+        if min(right, b.corner[0]) < x < max(right, b.corner[0]) and min(low, a.corner[1]) < y < max(low, a.corner[1]):
+            yield x, y
 
 
 def moved(slant: Slant, place: Place, is_along_level: bool) -> Place:

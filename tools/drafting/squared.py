@@ -59,7 +59,7 @@ class Found(NamedTuple):
     def views(self, rounds_of: Sequence[Round]) -> Views:
         boxes = {view: group.box for view, group in self.placed.views.items()}
         placed = [(view, one) for one in rounds_of for view, box in boxes.items() if holds(box, one.box, OF_ONE * self.tolerance)]
-        return Views(boxes, self.lines, placed, self.tolerance)
+        return Views(boxes, self.lines, placed, self.tolerance, self.placed.mirrored)
 
 
 # ---- two exports of one sheet
@@ -183,7 +183,7 @@ def read(path: str | None, read_sheet: Sheet, marks: Sequence[Mark], arguments: 
     # What no reading changes is refused at once.
     sheet.refuse_unread(path, placed, read_sheet.unread, arguments, lambda text: None)
     found, flanks = cones_in(placed, edges, rounds.rounds_of(kept, tolerance), tolerance)
-    views = Views({view: group.box for view, group in placed.views.items()}, edges, [], tolerance)
+    views = Views({view: group.box for view, group in placed.views.items()}, edges, [], tolerance, placed.mirrored)
     oblique, causes = chamfers.chamfers_of(views, flanks)
     sheet.refuse_oblique(path, placed, [*flanks, *(edge for one in oblique for edge in one.edges)], lambda edge: not_taken(causes.get(edge)))
     for arc in kept:
@@ -221,15 +221,15 @@ def cones_in(placed: Placed, edges: Sequence[Edge], its: Sequence[Round], tolera
 def remapped(edges: Sequence[Edge], moves: Sequence[Move], found: Found) -> list[Edge]:
     """In the views that see a round from its side, the lines where walls meet it, moved to where they meet its square."""
     noise = OF_ONE * found.tolerance
-    boxes = {view: group.box for view, group in found.placed.views.items()}
+    views = found.views([])
     changes: list[tuple[Box, int, float, float]] = []
     for move in moves:
-        for view in [it for it, box in boxes.items() if holds(box, box_of([move.one.centre]), noise)]:
+        for view in [it for it, box in views.boxes.items() if holds(box, box_of([move.one.centre]), noise)]:
             axis = FRAMES[view].up if move.along else FRAMES[view].right
-            ends = [tangent.place_along(view, boxes[view], axis, it) for it in (move.before, move.after)]
-            for other, box in boxes.items():
+            ends = [views.depth(view, axis, it) for it in (move.before, move.after)]
+            for other, box in views.boxes.items():
                 if other != view and axis in (FRAMES[other].right, FRAMES[other].up):
-                    before, after = (tangent.place_along(other, box, axis, it, True) for it in ends)
+                    before, after = (views.place(other, axis, it) for it in ends)
                     changes.append((box, 0 if FRAMES[other].right == axis else 1, before, after))
     return [moved(edge, changes, noise) for edge in edges]
 

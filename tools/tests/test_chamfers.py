@@ -74,6 +74,10 @@ class Cases(test_rounds.InAFolder):
         self.one(bracket(box(50, 18, 8, 60, 32, 24)), "43,840 mm³")
         self.assertTrue(any("ends in the corner of an oblique edge from" in it and it.endswith("other solids may be missed") for it in self.said), self.said)
 
+    def test_gussets_whose_slopes_cross(self) -> None:
+        self.one(bracket(prism(0, [(18, 8), (32, 8), (32, 44)], 4, 10)), "43,112 mm³")
+        self.assertTrue(any("meets an oblique edge from" in it for it in self.said), self.said)
+
     def test_a_slope_without_an_end(self) -> None:
         # 40 * 30 * 20 less 30 * 10 * 10 / 2 / sqrt(3), to four decimals.
         self.one(box(0, 0, 0, 40, 30, 20).cut(prism(1, [(40, 20), (30, 20), (40, 20 - 10 / 3**0.5)], 0, 30)), "23,133.975 mm³")
