@@ -117,6 +117,20 @@ class Files(unittest.TestCase):
             self.assertEqual(ended.status, 0, ended.said)
             self.assertIn("6 by 4 by 4, volume 41,", ended.out)
 
+    @needs_program()
+    def test_a_fault_of_a_drawing_of_three_layers_is_the_programs(self) -> None:
+        """A coordinate that is no number: the program's own fault is told, with its line, and no sheet is looked for."""
+        lines = (EXAMPLES / "clevis.dxf").read_text().splitlines()
+        at = lines.index("10", lines.index("LINE")) + 1
+        lines[at] = "four"
+        with tempfile.TemporaryDirectory() as folder:
+            file = pathlib.Path(folder) / "spoiled.dxf"
+            file.write_text("\n".join(lines) + "\n")
+            ended = draft("solve", file)
+        self.assertEqual((ended.status, ended.out), (1, ""), ended.said)
+        self.assertIn(f"a coordinate is no number (fault F6 BadNumber line {at + 1} code 10)", ended.said)
+        self.assertNotIn("--as-is", ended.said)
+
     @unittest.skipUnless(LIBRARY.is_dir(), "apt-get install librecad-data")
     def test_sheets_of_librecad(self) -> None:
         """The views within each frame of LibreCAD's, and a symbol of its own library by itself."""
