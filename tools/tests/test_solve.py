@@ -1,7 +1,5 @@
 """What scripts need of `draft solve` and `draft step`: statuses of their own, drawings of several files, standard input; and files of other
 kinds and dialects, which are read or named as what they are."""
-import csv
-import io
 import pathlib
 import tempfile
 import unittest
@@ -10,6 +8,7 @@ from drafting import sheet
 from drafting.messages import Refused
 
 from .support import EXAMPLES, draft, needs_command, needs_module, needs_program
+from .tables import made
 from .test_sheet import arguments
 
 try:
@@ -165,8 +164,8 @@ class Files(unittest.TestCase):
                 drawn = {view: [it for it in its if hidden or not it[0]] for view, its in part.items()}
                 sheets.draw(doc.modelspace(), drawn, sheets.places_of(part), lambda view, dashed: {}, scale=0.5)
                 doc.saveas(pathlib.Path(folder) / name)
-            ended = draft("table", "--csv", "--pairs", "--scale", "1:2", folder, seconds=900)
-        rows = {row["file"]: row for row in csv.DictReader(io.StringIO(ended.out))}
-        self.assertEqual({name: (row["status"], row["solids"]) for name, row in rows.items()}, {"one.dxf": ("0", "1"), "two.dxf": ("refused", "")}, ended)
-        self.assertIn("volume 41 mm³", rows["one.dxf"]["message"])
-        self.assertIn("two.visible.dxf isn't there", rows["two.dxf"]["message"])
+            ended = made("--pairs", "--scale", "1:2", folder)
+        self.assertEqual({name: (row["status"], row["solids"]) for name, row in ended.rows.items()},
+                         {"one.dxf": ("0", "1"), "two.dxf": ("refused", "")}, ended)
+        self.assertIn("volume 41 mm³", ended.rows["one.dxf"]["message"])
+        self.assertIn("two.visible.dxf isn't there", ended.rows["two.dxf"]["message"])
