@@ -20,12 +20,14 @@ from collections.abc import Iterator, Sequence
 from typing import NamedTuple
 
 from . import curves
+from .advice import InTheWay
 from .drawing import Place
-from .messages import Refused
 from .reading import Arc, Box, Edge
 
 # How many times the tolerance arcs of one circle may lie apart, coordinates of lines beside them, and the ends of lines upon them.
 OF_ONE, BESIDE, UPON = 10, 20, 30
+# What comes before the option by which an entity is left out.
+THREAD = "; a thread is left out by"
 # How far from its end a round is looked at, in degrees.
 INTO = 0.02
 
@@ -219,9 +221,8 @@ def check_ends(one: Round, edges: Sequence[Edge], tolerance: float) -> None:
             stop = math.degrees(math.atan2(end[1] - one.centre[1], end[0] - one.centre[0]))
             into = INTO if (at == 0) == (number % 2 == 0) else -INTO
             if one.is_drawn(stop + into) and not one.is_drawn(stop - into) and not goes_on(quarter, at, end, edges, tolerance):
-                raise Refused(f"a {one} ends at {end[0]:.6g}, {end[1]:.6g}, where no line goes on: it is a thread, a circle that is cut, or one of "
-                              "two rounds that bend to different sides without a wall between them; a thread is left out by --leave-out layer=, "
-                              "color= or linetype=")
+                raise InTheWay(f"a {one} ends at {end[0]:.6g}, {end[1]:.6g}, where no line goes on: it is a thread, a circle that is cut, or one "
+                               "of two rounds that bend to different sides without a wall between them", [one.drawn.source], THREAD)
 
 
 def goes_on(quarter: Quarter, at: int, end: Place, edges: Sequence[Edge], tolerance: float) -> bool:
@@ -268,9 +269,8 @@ def image(one: Round, angle: float, edges: Sequence[Edge], tolerance: float) -> 
     meeting = {is_level(edge) for edge in met}
     if len(meeting) != 1:
         what = "ends" if any(abs(angle - it) < 1e-9 for it in one.cuts) else "changes its style"
-        raise Refused(f"a {one} {what} at {x:.6g}, {y:.6g}, where {'two lines meet' if meeting else 'no line meets'} it: it is a thread, "
-                      "is cut by what is no level or upright wall, or meets another round in space; a thread is left out by --leave-out layer=, "
-                      "color= or linetype=")
+        raise InTheWay(f"a {one} {what} at {x:.6g}, {y:.6g}, where {'two lines meet' if meeting else 'no line meets'} it: it is a thread, "
+                       "is cut by what is no level or upright wall, or meets another round in space", [one.drawn.source], THREAD)
     right, up = (one.centre[at] + math.copysign(one.radius, it - one.centre[at]) for at, it in ((0, x), (1, y)))
     return (right, met[0].start[1]) if meeting.pop() else (met[0].start[0], up)
 

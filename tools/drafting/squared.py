@@ -17,10 +17,11 @@ from .groups import Group, frames, holds, merged, pieces_of
 from .messages import Refused, many
 from .panels import FRAMES
 from .placing import Placed
-from .reading import Arc, Box, Edge, Sheet, Unread
+from .reading import Arc, Box, Edge, Sheet, Unread, where
 from .rounds import OF_ONE, Move, Round, Squares, box_of, is_level, is_straight
 from .straight import Measure, Run, runs_of
 from .tangent import Reading, Views
+from .unread import refuse_oblique, refuse_unread
 
 # The decimals of coordinates that have no end, as on a bolt circle: solids go by their order alone.
 ROUNDED = 4
@@ -168,7 +169,7 @@ def read(path: str | None, read_sheet: Sheet, marks: Sequence[Mark], arguments: 
     if len(arcs) > MOST_ARCS:
         raise Refused(f"{len(arcs):,} circles and arcs, more than {MOST_ARCS:,}")
     if apart := next((arc for arc in arcs if arc.source.file), None):  # of oblique edges sheet.py sees to that
-        raise Refused(f"in {apart.source.view} a {sheet.where(apart.source, path)} is no straight line, and circles and arcs are read where "
+        raise Refused(f"in {apart.source.view} a {where(apart.source, path)} is no straight line, and circles and arcs are read where "
                       "all views stand on one sheet")
     if read_sheet.seen:
         arcs = list(arcs_hidden_by(arcs, read_sheet.seen.arcs, tolerance))
@@ -181,11 +182,11 @@ def read(path: str | None, read_sheet: Sheet, marks: Sequence[Mark], arguments: 
     if missing := [view for view in VIEWS if view not in placed.views]:
         raise Refused(f"{missing[0]} isn't drawn, and a sheet with circles or arcs is read where all three main views are there: draw it too")
     # What no reading changes is refused at once.
-    sheet.refuse_unread(path, placed, read_sheet.unread, arguments, lambda text: None)
+    refuse_unread(path, placed, read_sheet.unread, tolerance)
     found, flanks = cones_in(placed, edges, rounds.rounds_of(kept, tolerance), tolerance)
     views = Views({view: group.box for view, group in placed.views.items()}, edges, [], tolerance, placed.mirrored)
     oblique, causes = chamfers.chamfers_of(views, flanks)
-    sheet.refuse_oblique(path, placed, [*flanks, *(edge for one in oblique for edge in one.edges)], lambda edge: not_taken(causes.get(edge)))
+    refuse_oblique(path, placed, [*flanks, *(edge for one in oblique for edge in one.edges)], lambda edge: not_taken(causes.get(edge)))
     for arc in kept:
         if not any(holds(group.box, arc_box(arc), OF_ONE * tolerance) for group in placed.views.values()):
             left.append(arc)

@@ -6,6 +6,7 @@ from collections.abc import Callable, Iterable, Sequence
 from fractions import Fraction
 from typing import NamedTuple
 
+from .advice import Noisy
 from .drawing import Place
 from .messages import Refused
 from .reading import Box, Edge, Source
@@ -163,10 +164,9 @@ def apart(values: Iterable[At], tolerance: float, where: Callable[[Source], str]
     """Refuses coordinates that are farther apart than noise and nearer than edges are."""
     for one, other in itertools.pairwise(sorted(values, key=lambda it: it.length)):
         if tolerance < other.length - one.length < APART * tolerance:
-            raise Refused(
-                f"{one.view} has coordinates {other.length - one.length:.3g} apart, {one.told(where)} and {other.told(where)}: more than noise and "
-                f"less than an edge; say by --tolerance what is noise (now {tolerance:.3g})"
-            )
+            off = other.length - one.length
+            raise Noisy(f"{one.view} has coordinates {off:.3g} apart, {one.told(where)} and {other.told(where)}: more than noise, which is {tolerance:.3g}, "
+                        f"and less than an edge", off, off / APART)
 
 
 class Measure(NamedTuple):
