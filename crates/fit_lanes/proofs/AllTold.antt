@@ -13,7 +13,7 @@ use Rattle.further_views.specs.Further.{AskedRuns, FurtherRuns, view_style}
 use Rattle.six_views.specs.Fits.{ShowsCut}
 use Rattle.six_views.specs.Further.{FitsChoice}
 use Rattle.six_views.specs.SightFrames.{sight_frame}
-use Rattle.fit_lanes.specs.Tests.{LayerAsked, layers_asked, Fills, ShowsIn, TellsAsked, TellsShown}
+use Rattle.fit_lanes.specs.Tests.{LayerAsked, layers_asked, Fills, ShowsIn, TellsLayer, TellsShown}
 
 -- what holds of whatever there is implies what is weaker
 pub if_some_weaker : {A : Type 0} (o : Option A) (P Q : A → Type 0) → ((a : A) → P a → Q a) → IfSome o P → IfSome o Q
@@ -21,12 +21,12 @@ if_some_weaker None P Q weaker held = held
 if_some_weaker (Some a) P Q weaker held = weaker a held
 
 -- of a layer without a cut the whole view is asked
-pub whole_told : (a : LayerAsked) (choice : List Bool) (told : Bool) → a.asked.layer.cut ≡ None → TellsShown a choice told → TellsAsked a choice told
+pub whole_told : (a : LayerAsked) (choice : List Bool) (told : Bool) → a.asked.layer.cut ≡ None → TellsShown a choice told → TellsLayer a choice told
 whole_told a choice told whole tells s fills =
     subst (λ (cut : Option Cut). IsTrue told ↔ ShowsCut cut (sight_frame a.asked.layer) s (view_style a.asked.runs) a.asked.layer.view) (sym whole) (tells s fills)
 
 -- a choice has a solid
-pub of_solids : (a : LayerAsked) → IsGrid a.problem.grid → (choice : List Bool) (told : Bool) → TellsAsked a choice told → IsTrue told ↔ ShowsIn a choice
+pub of_solids : (a : LayerAsked) → IsGrid a.problem.grid → (choice : List Bool) (told : Bool) → TellsLayer a choice told → IsTrue told ↔ ShowsIn a choice
 of_solids a is choice told tells =
     let s = some_union (coordinates_of a.problem.grid) (grid_ascends a.problem.grid is) (cells_of_choice a.problem.blocks.numbers choice) in (
       (λ y t fills. (tells t fills).0 y),

@@ -32,8 +32,8 @@ abbrev pub ShowsIn : LayerAsked → List Bool → Type 0
 ShowsIn a choice = (s : List Cell) → Fills a choice s → ShowsAsked s a.asked
 
 -- each solid that a choice fills shows the layer, or none does
-abbrev pub TellsAsked : LayerAsked → List Bool → Bool → Type 0
-TellsAsked a choice told = (s : List Cell) → Fills a choice s → (IsTrue told ↔ ShowsAsked s a.asked)
+abbrev pub TellsLayer : LayerAsked → List Bool → Bool → Type 0
+TellsLayer a choice told = (s : List Cell) → Fills a choice s → (IsTrue told ↔ ShowsAsked s a.asked)
 
 -- the same as if the layer had no cut
 abbrev pub TellsShown : LayerAsked → List Bool → Bool → Type 0

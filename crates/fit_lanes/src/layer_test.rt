@@ -70,12 +70,12 @@ impl<'a> LayerTest<'a> {
 
 impl LayerTest<'_> {
     ghost use Rattle.std.specs.Prelude.{◌≡◌, ◌↔◌, IsTrue, IfOk, IfSome};
-    ghost use Rattle.fit_lanes.specs.Tests.{ShowsIn, TellsAsked};
+    ghost use Rattle.fit_lanes.specs.Tests.{ShowsIn, TellsLayer};
 
     /// Whether the solid that a choice fills shows the layer, where the fast test tells that.
     fn shows_fast(&mut self, choice: &Choice) -> Option<bool>
         ensures same { self.new ≡ self.old }
-        ensures told { IfSome result (λ yes. TellsAsked self.old choice.now yes) }
+        ensures told { IfSome result (λ yes. TellsLayer self.old choice.now yes) }
     {
         let Some(test) = &mut self.fast else {
             return None;

@@ -6,7 +6,7 @@ use Rattle.solid_model.specs.Cells.{is_full}
 use Rattle.solid_model.specs.Choices.{cells_of_choice}
 use Rattle.solid_model.specs.Grid.{IsUnionOf}
 use Rattle.solid_model.specs.Panels.{GridParts, coordinates_of, IsGrid}
-use Rattle.fit_lanes.specs.Tests.{LayerAsked, ShowsIn, TellsAsked}
+use Rattle.fit_lanes.specs.Tests.{LayerAsked, ShowsIn, TellsLayer}
 use Rattle.fit_lanes.proofs.AllTold.{of_solids}
 use Rattle.fit_lanes.proofs.layer_test.LayerTest.shows.Goals as goal
 
@@ -15,7 +15,7 @@ returns-in-Some-clause-told c =
     let a : LayerAsked = record { problem = c.self.inside.problem.now; asked = record { layer = c.self.inside.layer; runs = c.self.inside.shown.now } } in
     let choice = c.args.choice.now in
     let is : IsGrid a.problem.grid = subst IsGrid c.grid-grid.ensures.grid c.coordinates-xs.ensures.kept in
-    let tells = subst (λ (b : LayerAsked). TellsAsked b choice c.in-Some.told) (sym c.self.view_is) c.in-Some.ensures.told in
+    let tells = subst (λ (b : LayerAsked). TellsLayer b choice c.in-Some.told) (sym c.self.view_is) c.in-Some.ensures.told in
     subst (λ (b : LayerAsked). IsTrue c.in-Some.told ↔ ShowsIn b choice) c.self.view_is (of_solids a is choice c.in-Some.told tells)
 
 pub returns-clause-told : goal.returns-clause-told
